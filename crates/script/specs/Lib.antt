@@ -1,0 +1,5 @@
+pub mod Lines
+pub mod Words
+pub mod Outcome
+pub mod Errors
+pub mod Writing

@@ -1,0 +1,8 @@
+/// How the run of a script ended, where nothing failed.
+#[derive(Clone, Copy, Debug, PartialEq, Eq)]
+pub enum Ending {
+    /// The script was served to its end.
+    Finished,
+    /// A line ended the run.
+    Refused,
+}

@@ -1,0 +1,43 @@
+//! What serves the lines of a script.
+ghost use Rattle.std.specs.Prelude.{◌≡◌, ◌≤◌, ◌<◌, ◌++◌, ℕ, List, [], ◌∷◌, IfOk, Some, None, length, string_bytes, true, false, codes};
+ghost use Rattle.script.specs.declared.ending.Ending.TheVariants.{Finished};
+ghost use Rattle.script.specs.Outcome.{Outcome, Continues, Ends, fault};
+
+use std::alloc::AllocError;
+
+/// How many bytes a line has at most, without its end.
+pub const LONGEST_LINE: usize = 4096;
+
+/// What serves the lines of a script, one after another.
+pub trait Interpreter {
+    /// What lines may come to that are served from here on, the first of them having this number.
+    ghost gives: { Self → ℕ → List (List ℕ) → Outcome → Type 0 };
+
+    /// Serves the line of this number, appends its answer to `reply`, and says whether the run goes on.
+    /// Where memory was wanting the run is over, and neither `self` nor `reply` is of use.
+    fn serve_line(
+        &mut self,
+        number: u64,
+        line: &[u8],
+        reply: &mut String,
+    ) -> Result<bool, AllocError>
+        requires { length line.now ≤ 4096 }
+        ensures goes_on { IfOk result (λ goes_on. goes_on ≡ true
+            → Continues (gives self.old) (gives self.new) number line.now (string_bytes reply.old) (string_bytes reply.new)) }
+        ensures ends { IfOk result (λ goes_on. goes_on ≡ false
+            → Ends (gives self.old) number line.now (string_bytes reply.old) (string_bytes reply.new)) };
+
+    /// Where no line is left the run is at its end.
+    ghost nothing_left: { (s : Self) (n : ℕ) → gives s n [] (record { text = []; ending = Some Finished }) };
+
+    /// A line of more than 4,096 bytes ends the run, whatever it says.
+    ghost long_line: { (s : Self) (n : ℕ) (line : List ℕ) (lines : List (List ℕ)) → 4096 < length line
+        → gives s n (line ∷ lines) (fault n (codes "long line")) };
+
+    /// Nothing is a beginning of what any lines come to.
+    ghost begins: { (s : Self) (n : ℕ) (lines : List (List ℕ)) → gives s n lines (record { text = []; ending = None }) };
+
+    /// So is each beginning of a text that they come to.
+    ghost cut: { (s : Self) (n : ℕ) (lines : List (List ℕ)) (outcome : Outcome) (front rest : List ℕ) → gives s n lines outcome
+        → outcome.text ≡ front ++ rest → gives s n lines (record { text = front; ending = None }) };
+}

@@ -1,0 +1,10 @@
+//! Scripts of lines: they are read from any reader, served line by line, and answered to any writer.
+#![tactic(auto)]
+
+mod ending;
+mod error;
+mod interpreter;
+
+pub use ending::Ending;
+pub use error::ServeError;
+pub use interpreter::{Interpreter, LONGEST_LINE};
