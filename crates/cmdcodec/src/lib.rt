@@ -1,13 +1,21 @@
-// A library with one function.
+//! The commands of the SMMUv3 command queue: words to commands and back, and their texts.
 #![tactic(auto)]
 
-ghost use Rattle.std.specs.Prelude.{◌≡◌};
-ghost use Rattle.cmdcodec.specs.Echo.{echo_of};
+mod bits;
+mod closing;
+mod command;
+mod decoding;
+mod display;
+mod encoding;
+mod fields;
+mod ill;
+mod raw;
 
-// The `ensures` clause is the contract: what `echo` returns is `echo_of` of its argument, a definition
-// in `specs/Echo.antt`, which a caller's clause can cite too.
-pub fn echo(x: usize) -> usize
-    ensures { result ≡ echo_of x }
-{
-    x
-}
+pub use closing::closing_sync;
+pub use command::Command;
+pub use decoding::decode;
+pub use display::text;
+pub use encoding::encode;
+pub use fields::{Attr, Cs, Msh, MsiWord, Sid, StreamRange};
+pub use ill::Ill;
+pub use raw::{Raw, RawList, from_bytes, to_bytes};

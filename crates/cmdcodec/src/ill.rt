@@ -1,0 +1,15 @@
+use thiserror::Error;
+
+/// What is illegal in the words of a command, which stops consumption with CERROR_ILL.
+#[derive(Clone, Copy, Debug, PartialEq, Eq, Error)]
+pub enum Ill {
+    /// ILL1: the opcode isn't one of the profile.
+    #[error("ILL1: unknown opcode")]
+    UnknownOpcode,
+    /// ILL2: bit 10 of lo, for a Secure stream, is set in a command on configurations.
+    #[error("ILL2: a Secure stream")]
+    SecureStream,
+    /// ILL3: the completion signal of a CMD_SYNC is the reserved one.
+    #[error("ILL3: a reserved completion signal")]
+    ReservedSignal,
+}

@@ -1,0 +1,41 @@
+//! The two words of a command, and its sixteen bytes.
+ghost use Rattle.std.specs.Prelude.{◌≡◌};
+ghost use Rattle.cmdcodec.specs.Bytes.{bytes_of, raw_of};
+
+use arrayvec::ArrayVec;
+use byteorder::{ByteOrder, LittleEndian};
+
+/// The two 64-bit words of a command, whatever they say.
+#[derive(Clone, Copy, Debug, Default, PartialEq, Eq)]
+pub struct Raw {
+    /// The low word, which has the opcode in bits 7:0.
+    pub lo: u64,
+    /// The high word.
+    pub hi: u64,
+}
+
+/// At most 64 commands, kept without memory of their own.
+pub type RawList = ArrayVec<Raw, 64>;
+
+/// The bytes of a command as they lie in the queue: lo first, each word with its lowest byte first.
+pub fn to_bytes(raw: Raw) -> [u8; 16]
+    ensures bytes { result ≡ bytes_of raw }
+    ensures read_again { raw_of result ≡ raw }
+{
+    let mut bytes = [0; 16];
+    LittleEndian::write_u64(&mut bytes, raw.lo);
+    LittleEndian::write_u64(&mut bytes[8..], raw.hi);
+    bytes
+}
+
+/// The words of a command from its bytes.
+pub fn from_bytes(bytes: &[u8; 16]) -> Raw
+    ensures words { result ≡ raw_of bytes.now }
+    ensures written_again { bytes_of result ≡ bytes.now }
+{
+    let (low, high) = bytes.split_at(8);
+    Raw {
+        lo: LittleEndian::read_u64(low),
+        hi: LittleEndian::read_u64(high),
+    }
+}
