@@ -1,0 +1,125 @@
+-- What the lines of a script ask for.
+use Rattle.std.specs.Prelude.{ℕ, ◌^◌, nat_lt, nat_le, List, [], ◌∷◌, ◌==◌, ◌||◌, ◌&&◌, Bool, true, false, Option, Some, None, Result, Ok, Err, codes, if◌then◌else◌}
+use Rattle.std.specs.List.{list_all}
+use Rattle.std.specs.Str.{bytes_eq}
+use Rattle.hex.specs.Hex.{decode_sized}
+use Rattle.hex.specs.declared.error.FromHexError.{FromHexError}
+use Rattle.cmdcodec.specs.declared.raw.Raw.{Raw}
+use Rattle.cmdcodec.specs.Bytes.{raw_of}
+use Rattle.cmdcodec.specs.Spelling.{opcode_of}
+use Rattle.cmdcodec.specs.Legality.{first_ill}
+use Rattle.script.specs.Words.{words_of, number_of}
+use Rattle.smmuq.specs.declared.request.Request.{Request}
+use Rattle.smmuq.specs.declared.request.Request.TheVariants.{Nothing, Ring, Fill, Send, Step, Dump}
+use Rattle.smmuq.specs.declared.tag.Tag.{Tag}
+use Rattle.smmuq.specs.declared.tag.Tag.TheVariants.{Ste}
+
+infixl 10 ◌>>=◌
+abbrev pub ◌>>=◌ : {A B : Type 0} → Option A → (A → Option B) → Option B
+None >>= f = None
+(Some x) >>= f = f x
+
+abbrev pub guard : {A : Type 0} → Bool → A → Option A
+guard test x = if test then Some x else None
+
+-- the number that the next word says, where it is below the limit, and the words after it
+unfoldable pub next_below : ℕ → List (List ℕ) → Option (ℕ × List (List ℕ))
+next_below limit [] = None
+next_below limit (word ∷ words) = do
+  number ← number_of word
+  guard (nat_lt number limit) (number, words)
+
+-- no word is left
+abbrev pub ended : {A : Type 0} → A → List (List ℕ) → Option A
+ended x [] = Some x
+ended x (word ∷ words) = None
+
+-- `ring LOG2 SENDERS MAXBATCHES CAPACITY`
+unfoldable pub ring_of : List (List ℕ) → Option Request
+ring_of words = do
+  log2 ← next_below (2 ^ 32) words
+  senders ← next_below (2 ^ 32) log2.1
+  max_batches ← next_below (2 ^ 32) senders.1
+  capacity ← next_below (2 ^ 32) max_batches.1
+  ended (Ring (record { log2 = log2.0; senders = senders.0; max_batches = max_batches.0; capacity = capacity.0 })) capacity.1
+
+-- `ste SID`, and the words after it
+unfoldable pub tag_of : List (List ℕ) → Option (Tag × List (List ℕ))
+tag_of [] = None
+tag_of (kind ∷ words) =
+    if bytes_eq kind (codes "ste") then (next_below (2 ^ 32) words >>= λ sid. Some (Ste sid.0, sid.1)) else None
+
+-- `fill TAG VALUE`
+unfoldable pub fill_of : List (List ℕ) → Option Request
+fill_of words = do
+  tag ← tag_of words
+  value ← next_below (2 ^ 64) tag.1
+  ended (Fill tag.0 value.0) value.1
+
+abbrev pub raw_of_decoded : Result (List ℕ) FromHexError → Option Raw
+raw_of_decoded (Ok bytes) = Some (raw_of bytes)
+raw_of_decoded (Err e) = None
+
+-- HEX: 32 hexadecimal digits of either case, the bytes of a command
+abbrev pub hex_of : List ℕ → Option Raw
+hex_of word = raw_of_decoded (decode_sized word 16)
+
+abbrev pub is_none : {A : Type 0} → Option A → Bool
+is_none None = true
+is_none (Some x) = false
+
+-- a legal command with an opcode that the ring takes yet
+abbrev pub is_sendable : Raw → Bool
+is_sendable raw = is_none (first_ill raw) && (opcode_of raw == 0x03 || opcode_of raw == 0x04 || opcode_of raw == 0x46)
+
+unfoldable pub command_of : List ℕ → Option Raw
+command_of word = hex_of word >>= λ raw. guard (is_sendable raw) raw
+
+-- each word is a command
+unfoldable pub commands_of : List (List ℕ) → Option (List Raw)
+commands_of [] = Some []
+commands_of (word ∷ words) = do
+  raw ← command_of word
+  raws ← commands_of words
+  Some (raw ∷ raws)
+
+-- `send S HEX ..`
+unfoldable pub send_of : List (List ℕ) → Option Request
+send_of words = do
+  sender ← next_below (2 ^ 32) words
+  body ← commands_of sender.1
+  Some (Send sender.0 body)
+
+-- `step` or `step COUNT`, COUNT from 1 to 1,000,000
+unfoldable pub step_of_words : List (List ℕ) → Option Request
+step_of_words [] = Some (Step 1)
+step_of_words (word ∷ words) = do
+  count ← next_below 1000001 (word ∷ words)
+  request ← guard (nat_le 1 count.0) (Step count.0)
+  ended request count.1
+
+unfoldable pub named : List ℕ → List (List ℕ) → Option Request
+named name words =
+    if bytes_eq name (codes "ring") then ring_of words
+    else if bytes_eq name (codes "fill") then fill_of words
+    else if bytes_eq name (codes "send") then send_of words
+    else if bytes_eq name (codes "step") then step_of_words words
+    else if bytes_eq name (codes "dump") then ended Dump words
+    else None
+
+-- A word that begins with # makes its line a comment.
+abbrev pub is_comment : List ℕ → Bool
+is_comment [] = false
+is_comment (b ∷ bytes) = b == 35
+
+abbrev pub request_from : List (List ℕ) → Option Request
+request_from [] = Some Nothing
+request_from (name ∷ words) = if is_comment name then Some Nothing else named name words
+
+-- a byte that a line may hold
+abbrev pub is_printable : ℕ → Bool
+is_printable b = nat_le 0x20 b && nat_le b 0x7e
+
+-- what a line asks for; None is a bad line
+unfoldable pub request_of : List ℕ → Option Request
+request_of line = if list_all is_printable line then request_from (words_of line) else None
