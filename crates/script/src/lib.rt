@@ -4,7 +4,9 @@
 mod ending;
 mod error;
 mod interpreter;
+mod words;
 
 pub use ending::Ending;
 pub use error::ServeError;
 pub use interpreter::{Interpreter, LONGEST_LINE};
+pub use words::{next_word, number};

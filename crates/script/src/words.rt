@@ -1,0 +1,80 @@
+//! The words of a line, and the numbers that words say.
+ghost use Rattle.std.specs.Prelude.{◌≡◌, ◌≢◌, ◌≤◌, [], ◌∷◌, length, slice_index, MatchOption, true};
+ghost use Rattle.std.specs.Char.{digit_value};
+ghost use Rattle.script.specs.Words.{words_of, number_in, number_of, is_hex};
+
+use memchr::memchr;
+
+/// The first word of a text, and the rest of the text after it.
+pub fn next_word(text: &[u8]) -> Option<(&[u8], &[u8])>
+    ensures { MatchOption result (words_of text.now ≡ []) (λ found. words_of text.now ≡ found.0.now ∷ words_of found.1.now) }
+{
+    let text = without_leading_spaces(text);
+    if text.is_empty() {
+        return None;
+    }
+    let end = memchr(b' ', text).unwrap_or(text.len());
+    Some((&text[..end], &text[end..]))
+}
+
+fn without_leading_spaces(text: &[u8]) -> &[u8]
+    ensures words { words_of result.now ≡ words_of text.now }
+    ensures first { slice_index result.now 0 ≢ 32 }
+{
+    let mut rest = text;
+    'spaces: while !rest.is_empty() && rest[0] == b' ' {
+        rest = &rest[1..];
+    }
+    rest
+}
+
+/// The number that a word says: 1 to 20 decimal digits, or `0x` and 1 to 16 hexadecimal digits, below 2^64.
+pub fn number(word: &[u8]) -> Option<u64>
+    ensures { result ≡ number_of word.now }
+{
+    if is_hex(word) {
+        number_in(16, 16, &word[2..])
+    } else {
+        number_in(10, 20, word)
+    }
+}
+
+fn is_hex(word: &[u8]) -> bool
+    ensures test { result ≡ is_hex word.now }
+    ensures long { result ≡ true → 2 ≤ length word.now }
+{
+    word.len() >= 2 && word[0] == b'0' && word[1] == b'x'
+}
+
+// The number that at most so many digits say.
+fn number_in(radix: u64, most: usize, digits: &[u8]) -> Option<u64>
+    requires low { 2 ≤ radix }
+    requires high { radix ≤ 36 }
+    ensures { result ≡ number_in radix most digits.now }
+{
+    if digits.is_empty() || digits.len() > most {
+        return None;
+    }
+    let mut total: u64 = 0;
+    'digits: for byte in digits {
+        let value = digit(*byte);
+        if value >= radix {
+            return None;
+        }
+        total = total.checked_mul(radix)?.checked_add(value)?;
+    }
+    Some(total)
+}
+
+// What a digit is worth, up to radix 36; any other byte is worth 36.
+fn digit(byte: u8) -> u64
+    ensures { result ≡ digit_value byte }
+{
+    let value = match byte {
+        b'0'..=b'9' => byte - b'0',
+        b'A'..=b'Z' => byte - b'A' + 10,
+        b'a'..=b'z' => byte - b'a' + 10,
+        _ => 36,
+    };
+    u64::from(value)
+}
