@@ -30,9 +30,9 @@ next_below limit (word ∷ words) = do
   guard (nat_lt number limit) (number, words)
 
 -- no word is left
-abbrev pub ended : {A : Type 0} → A → List (List ℕ) → Option A
-ended x [] = Some x
-ended x (word ∷ words) = None
+abbrev pub is_end : List (List ℕ) → Bool
+is_end [] = true
+is_end (word ∷ words) = false
 
 -- `ring LOG2 SENDERS MAXBATCHES CAPACITY`
 unfoldable pub ring_of : List (List ℕ) → Option Request
@@ -41,7 +41,7 @@ ring_of words = do
   senders ← next_below (2 ^ 32) log2.1
   max_batches ← next_below (2 ^ 32) senders.1
   capacity ← next_below (2 ^ 32) max_batches.1
-  ended (Ring (record { log2 = log2.0; senders = senders.0; max_batches = max_batches.0; capacity = capacity.0 })) capacity.1
+  guard (is_end capacity.1) (Ring (record { log2 = log2.0; senders = senders.0; max_batches = max_batches.0; capacity = capacity.0 }))
 
 -- `ste SID`, and the words after it
 unfoldable pub tag_of : List (List ℕ) → Option (Tag × List (List ℕ))
@@ -54,7 +54,7 @@ unfoldable pub fill_of : List (List ℕ) → Option Request
 fill_of words = do
   tag ← tag_of words
   value ← next_below (2 ^ 64) tag.1
-  ended (Fill tag.0 value.0) value.1
+  guard (is_end value.1) (Fill tag.0 value.0)
 
 abbrev pub raw_of_decoded : Result (List ℕ) FromHexError → Option Raw
 raw_of_decoded (Ok bytes) = Some (raw_of bytes)
@@ -91,20 +91,21 @@ send_of words = do
   Some (Send sender.0 body)
 
 -- `step` or `step COUNT`, COUNT from 1 to 1,000,000
-unfoldable pub step_of_words : List (List ℕ) → Option Request
-step_of_words [] = Some (Step 1)
-step_of_words (word ∷ words) = do
-  count ← next_below 1000001 (word ∷ words)
-  request ← guard (nat_le 1 count.0) (Step count.0)
-  ended request count.1
+unfoldable pub counted_steps : List (List ℕ) → Option Request
+counted_steps words = do
+  count ← next_below (2 ^ 64) words
+  guard (nat_le 1 count.0 && nat_le count.0 1000000 && is_end count.1) (Step count.0)
+
+unfoldable pub steps_of : List (List ℕ) → Option Request
+steps_of words = if is_end words then Some (Step 1) else counted_steps words
 
 unfoldable pub named : List ℕ → List (List ℕ) → Option Request
 named name words =
     if bytes_eq name (codes "ring") then ring_of words
     else if bytes_eq name (codes "fill") then fill_of words
     else if bytes_eq name (codes "send") then send_of words
-    else if bytes_eq name (codes "step") then step_of_words words
-    else if bytes_eq name (codes "dump") then ended Dump words
+    else if bytes_eq name (codes "step") then steps_of words
+    else if bytes_eq name (codes "dump") then guard (is_end words) Dump
     else None
 
 -- A word that begins with # makes its line a comment.

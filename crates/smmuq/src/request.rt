@@ -1,5 +1,5 @@
 //! What the lines of a script ask for.
-ghost use Rattle.std.specs.Prelude.{List};
+ghost use Rattle.std.specs.Prelude.{◌≡◌, List};
 ghost use Rattle.cmdcodec.specs.declared.raw.Raw.{Raw};
 
 use crate::tag::Tag;
@@ -45,4 +45,19 @@ impl Model for Body {
     ghost Value = { List Raw };
 
     ghost view = { λ body. body.raws.items };
+}
+
+impl Body {
+    pub(crate) fn new(raws: Vec<Raw>) -> Body
+        ensures { result ≡ raws.items }
+    {
+        Body { raws }
+    }
+
+    /// The commands, in order.
+    pub(crate) fn as_slice(&self) -> &[Raw]
+        ensures { result.now ≡ self.now }
+    {
+        self.raws.as_slice()
+    }
 }
