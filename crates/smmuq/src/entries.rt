@@ -1,0 +1,99 @@
+//! What the caches hold.
+ghost use Rattle.std.specs.Prelude.{◌≡◌, ◌+◌, ◌≤◌, ◌<◌, IfSome, [], length, filter, not, Some, None, nat_lt, map};
+ghost use Rattle.std.specs.BTreeMap.{insert_entry};
+ghost use Rattle.std.specs.Map.{lookup};
+ghost use Rattle.smmuq.specs.Covers.{covers};
+
+use crate::tag::Tag;
+use cmdcodec::Command;
+use std::alloc::Global;
+use std::collections::BTreeMap;
+
+/// What an entry was filled with, and when.
+#[derive(Clone, Copy, Debug, PartialEq, Eq)]
+pub(crate) struct Filling {
+    pub value: u64,
+    /// How many commands had been taken before.
+    pub born: u64,
+}
+
+/// What came of a fill.
+#[derive(Clone, Copy, Debug, PartialEq, Eq)]
+pub(crate) enum Fill {
+    /// A new entry is held.
+    New,
+    /// The entry of the same tag was replaced; it was this.
+    Replaced(Filling),
+    /// C1: as many entries are held as may be.
+    Full,
+    /// C3: memory was wanting.
+    NoMemory,
+}
+
+/// The entries that are held, by their tags.
+#[derive(Drop)]
+pub(crate) struct Entries {
+    pub map: BTreeMap<Tag, Filling>,
+}
+
+/// Whether a command is for the entries of a tag.
+fn covers(command: &Command, tag: &Tag) -> bool
+    ensures { result ≡ covers command.now tag.now }
+{
+    let Tag::Ste { sid: stream } = *tag;
+    match *command {
+        Command::CfgiSte { sid, .. } => stream == sid,
+        Command::CfgiSteRange { sid, range } => {
+            let low_bits = u32::from(range.get()) + 1;
+            u64::from(stream.get()) >> low_bits == u64::from(sid.get()) >> low_bits
+        }
+        Command::CmdSync { .. } => false,
+    }
+}
+
+impl Entries {
+    ghost use Rattle.smmuq.specs.History.{tag_cmp, same_tag, covered};
+    ghost use Rattle.smmuq.specs.Holding.{Fills};
+
+    pub(crate) fn new(alloc: Global) -> Entries
+        ensures { result.map.entries ≡ [] }
+    {
+        Entries {
+            map: BTreeMap::new(alloc),
+        }
+    }
+
+    pub(crate) fn len(&self) -> usize
+        ensures { result ≡ length self.now.map.entries }
+    {
+        self.map.len()
+    }
+
+    /// Fills a tag, which is filled anew where it is held. At most `capacity` entries are held.
+    pub(crate) fn fill(&mut self, tag: Tag, filling: Filling, capacity: u32) -> Fill
+        ensures { Fills self.old.map.entries tag filling capacity result self.new.map.entries }
+    {
+        if let Some(old) = self.map.get(&tag) {
+            let old = *old;
+            let _ = self.map.insert(tag, filling);
+            return Fill::Replaced(old);
+        }
+        if self.map.len() >= capacity as usize {
+            return Fill::Full;
+        }
+        match self.map.insert(tag, filling) {
+            Ok(_) => Fill::New,
+            Err(_) => Fill::NoMemory,
+        }
+    }
+
+    /// Takes out the entries that a command covers, and says how many they were.
+    pub(crate) fn apply(&mut self, command: &Command) -> u64
+        ensures entries { self.new.map.entries ≡ filter (λ entry. not (covered command.now entry)) self.old.map.entries }
+        ensures removed { result + length self.new.map.entries ≡ length self.old.map.entries }
+    {
+        let before = self.map.len();
+        self.map.retain(|tag, _| !covers(command, tag));
+        (before - self.map.len()) as u64
+    }
+}
