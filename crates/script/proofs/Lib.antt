@@ -1,3 +1,4 @@
 pub mod Searches
 pub mod WordLemmas
 pub mod NumberLemmas
+pub mod BufferLemmas

@@ -4,6 +4,8 @@
 mod ending;
 mod error;
 mod interpreter;
+mod pending;
+mod sending;
 mod words;
 
 pub use ending::Ending;
