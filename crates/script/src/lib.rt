@@ -5,6 +5,7 @@ mod ending;
 mod error;
 mod interpreter;
 mod pending;
+mod run;
 mod sending;
 mod words;
 
