@@ -5,3 +5,4 @@ pub mod NumberLemmas
 pub mod BufferLemmas
 pub mod ServedLines
 pub mod UnderWay
+pub mod Pauses

@@ -232,3 +232,13 @@ under_way_read_failed may now_may input rest last before now s nothing u empty n
           (subst (λ t. may 1 (lines_of (u.whole ++ [])) (record { text = t; ending = Some Finished })) (append-nil u.told) all_told);
       written = u.written;
     }
+
+-- ---- a front of two texts
+
+pub writes_front_then : (before mid after : Option (List ℕ)) (first second : List ℕ) → Appends before mid first → WritesFront mid after second → WritesFront before after (first ++ second)
+writes_front_then before mid after first second w f = record {
+  front = first ++ f.front;
+  rest = f.rest;
+  split = ap (λ t. first ++ t) f.split ∙ sym (append_assoc first f.front f.rest);
+  written = Appends-trans before mid after first f.front w f.written;
+}
