@@ -195,20 +195,32 @@ under_way_no_memory_part may now_may input rest before mid now s t u h f =
     }
 
 -- memory was wanting before any line
-pub no_memory_at_all : (may : ℕ → List (List ℕ) → Outcome → Type 0) (input before now : Option (List ℕ)) → EndsWithNothing may → Appends before now no_memory_line → WritesNoMemory may input before now
-no_memory_at_all may None before now nothing w = tt
-no_memory_at_all may (Some script) before now nothing w = (no_memory_line, stops_at_once may script nothing, w)
-  where
-    stops_at_once : (may : ℕ → List (List ℕ) → Outcome → Type 0) (script : List ℕ) → EndsWithNothing may → StopsForMemory may script no_memory_line
-    stops_at_once may script nothing = record {
-      whole = [];
-      rest = script;
-      answers = [];
-      split = refl;
-      is_whole = inl refl;
-      comes = subst (λ ls. may 1 ls (record { text = []; ending = Some Finished })) (sym lines_of-nothing) (nothing 1);
-      told = refl;
-    }
+stops_at_once : (may : ℕ → List (List ℕ) → Outcome → Type 0) (script : List ℕ) → EndsWithNothing may → StopsForMemory may script no_memory_line
+stops_at_once may script nothing = record {
+  whole = [];
+  rest = script;
+  answers = [];
+  split = refl;
+  is_whole = inl refl;
+  comes = subst (λ ls. may 1 ls (record { text = []; ending = Some Finished })) (sym lines_of-nothing) (nothing 1);
+  told = refl;
+}
+
+always : (o : Option (List ℕ)) (P : List ℕ → Type 0) → ((x : List ℕ) → P x) → IfSome o P
+always None P f = tt
+always (Some x) P f = f x
+
+pub no_memory_at_once : (may : ℕ → List (List ℕ) → Outcome → Type 0) (input before now : Option (List ℕ)) → EndsWithNothing may → Appends before now no_memory_line
+    → WritesNoMemory may input before now
+no_memory_at_once may input before now nothing w = always input _ (λ script. (no_memory_line, stops_at_once may script nothing, w))
+
+pub no_memory_part_at_once : (may : ℕ → List (List ℕ) → Outcome → Type 0) (input before now : Option (List ℕ)) → EndsWithNothing may → WritesFront before now no_memory_line
+    → WritesBeginning may input before now
+no_memory_part_at_once may input before now nothing f = record {
+  front = f.front;
+  written = f.written;
+  beginning = always input (λ script. IsBeginning may script f.front) (λ script. inr (no_memory_line, f.rest, stops_at_once may script nothing, f.split));
+}
 
 -- a read failed
 pub under_way_read_failed : (may now_may : ℕ → List (List ℕ) → Outcome → Type 0) (input rest last before now : Option (List ℕ)) (s : Run) → EndsWithNothing now_may
