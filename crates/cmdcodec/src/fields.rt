@@ -194,26 +194,26 @@ impl Attr {
 /// `MSIADDR` of CMD_SYNC: the address of the completing write without its two low bits. 50 bits.
 #[derive(Clone, Copy, Debug, PartialEq, Eq)]
 pub struct MsiWord {
-    value: u64,
+    word: u64,
 }
 
 impl Model for MsiWord {
     ghost Value = { ℕ };
 
-    ghost view = { λ f. f.value };
+    ghost view = { λ f. f.word };
 
-    ghost invariant = { λ f. f.value < 2 ^ 50 };
+    ghost invariant = { λ f. f.word < 2 ^ 50 };
 
-    ghost inverse = { λ n. record { value = n } };
+    ghost inverse = { λ n. record { word = n } };
 }
 
 impl MsiWord {
     /// The field of this number, where it is in range.
-    pub fn new(value: u64) -> Option<MsiWord>
-        ensures { SomeIff result (value < 2 ^ 50) value }
+    pub fn new(word: u64) -> Option<MsiWord>
+        ensures { SomeIff result (word < 2 ^ 50) word }
     {
-        if value < 1 << 50 {
-            Some(MsiWord { value: value })
+        if word < 1 << 50 {
+            Some(MsiWord { word })
         } else {
             None
         }
@@ -224,6 +224,6 @@ impl MsiWord {
         ensures value { result ≡ self }
         ensures in_range { result < 2 ^ 50 }
     {
-        self.value
+        self.word
     }
 }

@@ -19,3 +19,6 @@ pub use encoding::encode;
 pub use fields::{Attr, Cs, Msh, MsiWord, Sid, StreamRange};
 pub use ill::Ill;
 pub use raw::{Raw, RawList, from_bytes, to_bytes};
+
+#[cfg(test)]
+mod tests;

@@ -3,3 +3,4 @@ pub mod Words
 pub mod Outcome
 pub mod Errors
 pub mod Writing
+pub mod Serving

@@ -43,3 +43,52 @@ pub record IsUnderWay (may now_may : ℕ → List (List ℕ) → Outcome → Typ
   pub ends : IsWhole whole
   pub written : Appends before now told
   pub gives : (bytes : List ℕ) (outcome : Outcome) → RunGives now_may run bytes outcome → may 1 (lines_of (whole ++ bytes)) (with_front told outcome)
+
+-- What is pending is the last line, or nothing, and the text is all that is still to be written.
+abbrev pub Closes : (ℕ → List (List ℕ) → Outcome → Type 0) → Run → Run → Ending → Type 0
+Closes before old new ending = RunGives before old old.pending (record { text = string_bytes new.text; ending = Some ending })
+
+-- only the text is another
+pub record SameButText (old new : Run) : Type 0 where
+  pub pending : new.pending ≡ old.pending
+  pub lines : new.lines ≡ old.lines
+
+-- only what is pending is another
+pub record SameButPending (old new : Run) : Type 0 where
+  pub lines : new.lines ≡ old.lines
+  pub text : string_bytes new.text ≡ string_bytes old.text
+
+-- a front of the text was written
+pub record WritesFront (before after : Option (List ℕ)) (text : List ℕ) : Type 0 where
+  pub front : List ℕ
+  pub rest : List ℕ
+  pub split : text ≡ front ++ rest
+  pub written : Appends before after front
+
+-- What the parts of a run do to one that is under way, whatever its input was and whatever its
+-- writer held before it. `may` says what the whole script may come to, `old_may` what the run may come
+-- to from here on. The reader has `rest` left and then `left`, the writer holds `now` and then `then`.
+
+-- it stays under way
+abbrev pub KeepsWay : (ℕ → List (List ℕ) → Outcome → Type 0) → (ℕ → List (List ℕ) → Outcome → Type 0) → (ℕ → List (List ℕ) → Outcome → Type 0)
+    → Option (List ℕ) → Option (List ℕ) → Option (List ℕ) → Option (List ℕ) → Run → Run → Type 0
+KeepsWay may old_may new_may rest left now then old new =
+    (input before : Option (List ℕ)) → IsUnderWay may old_may input rest before now old → IsUnderWay may new_may input left before then new
+
+-- its outcome is written
+abbrev pub GivesAnswer : (ℕ → List (List ℕ) → Outcome → Type 0) → (ℕ → List (List ℕ) → Outcome → Type 0)
+    → Option (List ℕ) → Option (List ℕ) → Option (List ℕ) → Run → Ending → Type 0
+GivesAnswer may old_may rest now then old ending =
+    (input before : Option (List ℕ)) → IsUnderWay may old_may input rest before now old → WritesAnswer may input before then ending
+
+-- the answers to the lines before some line are written, and then the line that tells of memory
+abbrev pub GivesNoMemory : (ℕ → List (List ℕ) → Outcome → Type 0) → (ℕ → List (List ℕ) → Outcome → Type 0)
+    → Option (List ℕ) → Option (List ℕ) → Option (List ℕ) → Run → Type 0
+GivesNoMemory may old_may rest now then old =
+    (input before : Option (List ℕ)) → IsUnderWay may old_may input rest before now old → WritesNoMemory may input before then
+
+-- a beginning of one of these texts is written
+abbrev pub GivesBeginning : (ℕ → List (List ℕ) → Outcome → Type 0) → (ℕ → List (List ℕ) → Outcome → Type 0)
+    → Option (List ℕ) → Option (List ℕ) → Option (List ℕ) → Run → Type 0
+GivesBeginning may old_may rest now then old =
+    (input before : Option (List ℕ)) → IsUnderWay may old_may input rest before now old → WritesBeginning may input before then

@@ -4,9 +4,14 @@
 mod ending;
 mod error;
 mod interpreter;
+mod pending;
+mod run;
+mod sending;
+mod serving;
 mod words;
 
 pub use ending::Ending;
 pub use error::ServeError;
 pub use interpreter::{Interpreter, LONGEST_LINE};
+pub use serving::serve;
 pub use words::{next_word, number};

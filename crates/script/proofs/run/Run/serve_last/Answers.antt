@@ -1,0 +1,38 @@
+use Rattle.std.proofs.Common.{◌≡◌, ◌<◌, [], length, take, ap, ◌∙◌, arith, refl, subst, string_bytes}
+use Rattle.std.proofs.lemmas.Bool.{eqb-true}
+use Rattle.std.proofs.lemmas.List.{nil_from_length, take_all}
+use Rattle.std.proofs.lemmas.Result.{err_from_is_err_and}
+use Rattle.script.specs.Outcome.{Continues, Ends}
+use Rattle.script.proofs.Searches.{NoneBefore}
+use Rattle.script.proofs.ServedLines.{advances_refl, closes_nothing, closes_line, closes_refused, halts_after}
+use Rattle.script.proofs.run.Run.serve_last.Goals as goal
+
+pub returns-then-count-eq0-clause-closes : goal.returns-then-count-eq0-clause-closes
+returns-then-count-eq0-clause-closes g c =
+    let same = ap length c.as_slice-count.ensures.value in
+    let nothing : c.args.self.now.pending ≡ [] = nil_from_length _ (omega arith) in
+    closes_nothing (g.I.Interpreter.gives c.args.interpreter.now) c.args.self.now c.args.self.now (g.met.I.Interpreter.nothing_left c.args.interpreter.now) nothing refl
+
+pub returns-in_err-answer_line-clause-halts : goal.returns-in_err-answer_line-clause-halts
+returns-in_err-answer_line-clause-halts g c =
+    let returned = err_from_is_err_and c.from_residual.result c.from_residual.ensures.1 in
+    let may = g.I.Interpreter.gives c.args.interpreter.now in
+    rw returned.1 (halts_after may may c.args.self.now c.args.self.now c.answer_line.new.self (g.met.I.Interpreter.nothing_left c.args.interpreter.now)
+    (advances_refl may c.args.self.now) c.in_err-answer_line.ensures.err)
+
+pub returns-then-branch-clause-closes : goal.returns-then-branch-clause-closes
+returns-then-branch-clause-closes g c =
+    let old = c.args.self.now in
+    let same = ap length c.as_slice-count.ensures.value in
+    let all = take_all (length c.as_slice-count.result.now) old.pending (omega arith) in
+    let none : NoneBefore 10 old.pending (length old.pending) = λ i low e. c.requires.no_end i low (eqb-true _ 10 e) in
+    closes_line (g.I.Interpreter.gives c.args.interpreter.now) (g.I.Interpreter.gives c.answer_line.new.interpreter) old c.answer_line.new.self
+    (g.met.I.Interpreter.nothing_left c.answer_line.new.interpreter) none (omega arith) (rw all at (c.in_ok-answer_line.ensures.goes_on c.if-branch.true))
+
+pub returns-else-branch-clause-closes : goal.returns-else-branch-clause-closes
+returns-else-branch-clause-closes g c =
+    let old = c.args.self.now in
+    let same = ap length c.as_slice-count.ensures.value in
+    let all = take_all (length c.as_slice-count.result.now) old.pending (omega arith) in
+    let none : NoneBefore 10 old.pending (length old.pending) = λ i low e. c.requires.no_end i low (eqb-true _ 10 e) in
+    closes_refused (g.I.Interpreter.gives c.args.interpreter.now) old c.answer_line.new.self none (omega arith) (rw all at (c.in_ok-answer_line.ensures.ends c.if-branch.false))

@@ -1,0 +1,19 @@
+use Rattle.std.proofs.Common.{◌+◌, drop, ap, ◌∙◌, arith}
+use Rattle.script.proofs.LineLemmas.{found_end}
+use Rattle.script.proofs.ServedLines.{advances_line, stops_line, stops_long}
+use Rattle.script.proofs.run.Run.serve_next.Goals as goal
+
+pub returns-then-end-gt-LONGEST_LINE-clause-stops :
+    goal.returns-then-end-gt-LONGEST_LINE-clause-stops
+returns-then-end-gt-LONGEST_LINE-clause-stops g c _ =
+    stops_long (g.I.Interpreter.gives c.args.interpreter.now) c.args.self.now c.refuse_long_line.new.self c.args.end
+    (g.met.I.Interpreter.long_line c.args.interpreter.now) (found_end _ _ c.requires) (omega arith) c.in_ok-refuse_long_line.ensures.text
+
+pub returns-then-not-branch-clause-stops : goal.returns-then-not-branch-clause-stops
+returns-then-not-branch-clause-stops g c _ =
+    stops_line (g.I.Interpreter.gives c.args.interpreter.now) c.args.self.now c.answer_line.new.self c.args.end (found_end _ _ c.requires) (c.in_ok-answer_line.ensures.ends c.if-not-branch.true)
+
+pub returns-clause-goes_on : goal.returns-clause-goes_on
+returns-clause-goes_on g c _ =
+    advances_line (g.I.Interpreter.gives c.args.interpreter.now) (g.I.Interpreter.gives c.answer_line.new.interpreter) c.args.self.now _ c.args.end (found_end _ _ c.requires)
+    c.in_ok-answer_line.ensures.lines (c.skip.ensures ∙ ap (drop (c.args.end + 1)) c.in_ok-answer_line.ensures.pending) (c.in_ok-answer_line.ensures.goes_on c.if-not-branch.false)

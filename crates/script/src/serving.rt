@@ -1,0 +1,53 @@
+//! Serving a script, from a reader to a writer.
+ghost use Rattle.std.specs.Prelude.{◌≡◌, IfOk, IfErr, OnErr, true};
+ghost use Rattle.std.specs.Io.KnownBytes.{IsAtEnd};
+ghost use Rattle.script.specs.Errors.{is_read, is_memory};
+ghost use Rattle.script.specs.Writing.{WritesAnswer, WritesNoMemory, WritesBeginning, AnswersWholeLines};
+
+use crate::ending::Ending;
+use crate::error::ServeError;
+use crate::interpreter::Interpreter;
+use crate::run::{Pause, Run};
+use crate::sending::tell_of_memory;
+use std::alloc::Global;
+use std::io::{Read, Write};
+
+/// Reads a script, serves its lines in order, and writes their answers. All that the lines so far
+/// say is written before more is read.
+pub fn serve<I: Interpreter, R: Read, W: Write>(
+    alloc: Global,
+    interpreter: &mut I,
+    input: &mut R,
+    output: &mut W,
+) -> Result<Ending, ServeError>
+    // Where nothing failed, what was written is what the script comes to, and nothing else.
+    ensures answer { IfOk result (λ ending. WritesAnswer (I.gives interpreter.old) (R.remaining input.old) (W.contents output.old) (W.contents output.new) ending) }
+    ensures end { IfOk result (λ ending. ending ≡ Ending.Finished → IsAtEnd (R.remaining input.new)) }
+
+    // Where memory was wanting, the answers to the lines before were written, and then the line that tells of it.
+    ensures memory { IfErr result (λ e. is_memory e ≡ true
+        → WritesNoMemory (I.gives interpreter.old) (R.remaining input.old) (W.contents output.old) (W.contents output.new)) }
+
+    // After any error, what was written is a beginning of one of these texts.
+    ensures beginning { OnErr result (WritesBeginning (I.gives interpreter.old) (R.remaining input.old) (W.contents output.old) (W.contents output.new)) }
+
+    // Where the reader failed, each line whose end was read had been answered: no answer waits for a later read.
+    ensures read { IfErr result (λ e. is_read e ≡ true
+        → AnswersWholeLines (I.gives interpreter.old) (R.remaining input.old) (R.remaining input.new) (W.contents output.old) (W.contents output.new)) }
+{
+    let mut run = match Run::new(alloc) {
+        Ok(run) => run,
+        Err(e) => return Err(tell_of_memory(output, e)),
+    };
+    'turns: for _ in 0..u64::MAX {
+        match run.deliver(interpreter, output)? {
+            Pause::Ended => return Ok(Ending::Refused),
+            Pause::Full => continue,
+            Pause::Drained => {}
+        }
+        if !run.read_more(input)? {
+            return run.finish(interpreter, output);
+        }
+    }
+    Err(ServeError::Endless)
+}
