@@ -1,7 +1,8 @@
 pub mod Requests
+pub mod Shapes
+pub mod Refusals
 pub mod Covers
 pub mod History
+pub mod Holding
 pub mod World
 pub mod ReplayText
-pub mod Holding
-pub mod Refusals

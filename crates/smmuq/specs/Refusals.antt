@@ -1,5 +1,5 @@
 -- Why a batch is refused.
-use Rattle.std.specs.Prelude.{ℕ, ◌+◌, nat_lt, List, ◌==◌, Bool, Option, Some, None, length, codes, if◌then◌else◌}
+use Rattle.std.specs.Prelude.{ℕ, ◌+◌, nat_lt, nat_le, List, ◌==◌, Bool, Option, Some, None, length, codes, if◌then◌else◌}
 use Rattle.std.specs.List.{list_any}
 use Rattle.cmdcodec.specs.declared.raw.Raw.{Raw}
 use Rattle.cmdcodec.specs.Spelling.{opcode_of}
@@ -30,7 +30,7 @@ body_refusal body =
 abbrev pub ring_refusal : ℕ → ℕ → ℕ → ℕ → ℕ → Option Refusal
 ring_refusal size batches max_batches waiting count =
     if nat_lt size count then Some TooLong
-    else if batches == max_batches then Some Exhausted
+    else if nat_le max_batches batches then Some Exhausted
     else if nat_lt size (waiting + count) then Some NoRoom
     else None
 

@@ -1,22 +1,24 @@
 -- The text that a script of `replay` is answered with.
 use Rattle.std.specs.Prelude.{◌≡◌, ℕ, zero, suc, ◌+◌, ◌-◌, ◌^◌, nat_lt, nat_le, List, [], ◌∷◌, ◌++◌, ◌==◌, ◌&&◌, Bool, true, false, not, Option, Some, None, Result, Ok, Err, length, count_by, flat_map, codes, decimal, if◌then◌else◌}
-use Rattle.std.specs.List.{list_any}
 use Rattle.std.specs.Fmt.{digits, padded_integral, format_spec}
 use Rattle.cmdcodec.specs.declared.raw.Raw.{Raw}
 use Rattle.cmdcodec.specs.declared.ill.Ill.{Ill}
 use Rattle.cmdcodec.specs.declared.command.Command.{Command}
-use Rattle.cmdcodec.specs.Spelling.{opcode_of}
 use Rattle.cmdcodec.specs.Words.{decoding}
 use Rattle.cmdcodec.specs.Text.{text_of}
 use Rattle.script.specs.Lines.{lines_of}
 use Rattle.script.specs.Outcome.{fault_line}
 use Rattle.smmuq.specs.declared.request.Request.{Request}
 use Rattle.smmuq.specs.declared.request.Request.TheVariants as asks
-use Rattle.smmuq.specs.declared.request.Shape.{Shape}
+use Rattle.smmuq.specs.declared.shape.Shape.{Shape}
+use Rattle.smmuq.specs.declared.shape.ShapeFault.{ShapeFault}
 use Rattle.smmuq.specs.declared.tag.Tag.{Tag}
 use Rattle.smmuq.specs.declared.tag.Tag.TheVariants.{Ste}
 use Rattle.smmuq.specs.declared.entries.Filling.{Filling}
+use Rattle.smmuq.specs.declared.refusal.Refusal.{Refusal}
 use Rattle.smmuq.specs.Requests.{request_of}
+use Rattle.smmuq.specs.Shapes.{fault_label, shape_fault}
+use Rattle.smmuq.specs.Refusals.{label_of, is_sync, refusal_of}
 use Rattle.smmuq.specs.World.{World, reserved, size_of, index_of, batches_by, after_batch, head_of, after_take, empty_world}
 use Rattle.smmuq.specs.History.{Event, Filled, Took, entries_of, entry_at, covered_count}
 
@@ -45,20 +47,11 @@ refused name = codes "refused " ++ name ++ codes "\n"
 
 -- ---- ring
 
--- the first of the numbers of a ring line that is out of range
-abbrev pub shape_fault : Shape → Option (List ℕ)
-shape_fault shape =
-    if not (nat_le 1 shape.log2 && nat_le shape.log2 19) then Some (codes "N1")
-    else if not (nat_le 1 shape.senders && nat_le shape.senders 256) then Some (codes "N2")
-    else if shape.max_batches == 0 then Some (codes "N3")
-    else if not (nat_le 1 shape.capacity && nat_le shape.capacity 65536) then Some (codes "C4")
-    else None
-
 abbrev pub made : Shape → State
 made shape = record { world = empty_world shape; history = []; removed = 0 }
 
-abbrev pub ring_or_fault : ℕ → Shape → Option (List ℕ) → Effect
-ring_or_fault number shape (Some name) = faults number name None
+abbrev pub ring_or_fault : ℕ → Shape → Option ShapeFault → Effect
+ring_or_fault number shape (Some fault) = faults number (fault_label fault) None
 ring_or_fault number shape None = answers (codes "ring size " ++ decimal (2 ^ shape.log2) ++ codes "\n") (made shape)
 
 -- ---- fill
@@ -85,26 +78,16 @@ fill_effect wanting tag value state = fill_of_held wanting state tag value (entr
 
 -- ---- send
 
-abbrev pub is_sync : Raw → Bool
-is_sync raw = opcode_of raw == 0x46
-
 -- how many commands wait
 abbrev pub waiting : World → ℕ
 waiting world = length (reserved world) - length world.taken
 
--- the first refusal that applies: of the body by itself, and then by the ring
-unfoldable pub send_refusal : World → ℕ → List Raw → Option (List ℕ)
-send_refusal world sender body =
-    if length body == 0 then Some (codes "B5")
-    else if nat_lt 63 (length body) then Some (codes "B1")
-    else if list_any is_sync body then Some (codes "B2")
-    else if nat_lt (size_of world) (length body + 1) then Some (codes "Q4")
-    else if batches_by world sender == world.shape.max_batches then Some (codes "Q5")
-    else if nat_lt (size_of world) (waiting world + (length body + 1)) then Some (codes "Q2")
-    else None
+-- the first refusal that applies
+abbrev pub send_refusal : World → ℕ → List Raw → Option Refusal
+send_refusal world sender body = refusal_of (size_of world) (batches_by world sender) world.shape.max_batches (waiting world) body
 
-abbrev pub sent : State → ℕ → List Raw → Option (List ℕ) → Effect
-sent state sender body (Some name) = answers (refused name) state
+abbrev pub sent : State → ℕ → List Raw → Option Refusal → Effect
+sent state sender body (Some refusal) = answers (refused (label_of refusal)) state
 sent state sender body None =
     answers (codes "sent " ++ decimal sender ++ codes " number " ++ decimal (batches_by state.world sender + 1) ++ codes "\n")
     (record state { world = after_batch state.world sender body })

@@ -3,7 +3,7 @@ use Rattle.std.specs.Prelude.{ℕ, ◌+◌, ◌*◌, ◌%◌, ◌^◌, List, [],
 use Rattle.cmdcodec.specs.declared.raw.Raw.{Raw}
 use Rattle.cmdcodec.specs.Words.{encoding}
 use Rattle.cmdcodec.specs.ClosingSync.{closing_sync}
-use Rattle.smmuq.specs.declared.request.Shape.{Shape}
+use Rattle.smmuq.specs.declared.shape.Shape.{Shape}
 
 -- the batch of this number that a sender reserved
 pub record Batch : Type 0 where

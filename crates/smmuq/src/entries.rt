@@ -33,7 +33,11 @@ pub(crate) enum Fill {
 /// The entries that are held, by their tags.
 #[derive(Drop)]
 pub(crate) struct Entries {
+    /// How many entries may be held.
+    pub capacity: u32,
     pub map: BTreeMap<Tag, Filling>,
+    ghost small: { capacity ≤ 65536 },
+    ghost few: { length map.entries ≤ capacity },
 }
 
 /// Whether a command is for the entries of a tag.
@@ -55,30 +59,27 @@ impl Entries {
     ghost use Rattle.smmuq.specs.History.{tag_cmp, same_tag, covered};
     ghost use Rattle.smmuq.specs.Holding.{Fills};
 
-    pub(crate) fn new(alloc: Global) -> Entries
-        ensures { result.map.entries ≡ [] }
+    pub(crate) fn new(alloc: Global, capacity: u32) -> Entries
+        requires { capacity ≤ 65536 }
+        ensures { (result.map.entries ≡ []) × (result.capacity ≡ capacity) }
     {
         Entries {
+            capacity,
             map: BTreeMap::new(alloc),
         }
     }
 
-    pub(crate) fn len(&self) -> usize
-        ensures { result ≡ length self.now.map.entries }
-    {
-        self.map.len()
-    }
-
-    /// Fills a tag, which is filled anew where it is held. At most `capacity` entries are held.
-    pub(crate) fn fill(&mut self, tag: Tag, filling: Filling, capacity: u32) -> Fill
-        ensures { Fills self.old.map.entries tag filling capacity result self.new.map.entries }
+    /// Fills a tag, anew where it is held.
+    pub(crate) fn fill(&mut self, tag: Tag, filling: Filling) -> Fill
+        ensures entries { Fills self.old.map.entries tag filling self.old.capacity result self.new.map.entries }
+        ensures capacity { self.new.capacity ≡ self.old.capacity }
     {
         if let Some(old) = self.map.get(&tag) {
             let old = *old;
             let _ = self.map.insert(tag, filling);
             return Fill::Replaced(old);
         }
-        if self.map.len() >= capacity as usize {
+        if self.map.len() >= self.capacity as usize {
             return Fill::Full;
         }
         match self.map.insert(tag, filling) {
@@ -90,6 +91,7 @@ impl Entries {
     /// Takes out the entries that a command covers, and says how many they were.
     pub(crate) fn apply(&mut self, command: &Command) -> u64
         ensures entries { self.new.map.entries ≡ filter (λ entry. not (covered command.now entry)) self.old.map.entries }
+        ensures capacity { self.new.capacity ≡ self.old.capacity }
         ensures removed { result + length self.new.map.entries ≡ length self.old.map.entries }
     {
         let before = self.map.len();

@@ -6,7 +6,8 @@ ghost use Rattle.smmuq.specs.Requests.{next_below, is_end, ring_of, tag_of, fill
 ghost use Rattle.smmuq.specs.declared.request.Request.{Request};
 ghost use Rattle.cmdcodec.specs.declared.raw.Raw.{Raw};
 
-use crate::request::{Body, Request, Shape};
+use crate::request::{Body, Request};
+use crate::shape::Shape;
 use crate::tag::Tag;
 use cmdcodec::{Command, Raw, Sid, decode, from_bytes};
 use script::{next_word, number};

@@ -1,6 +1,5 @@
 //! The commands that wait in the ring, and its wrapped indexes.
 ghost use Rattle.std.specs.Prelude.{◌≡◌, ◌+◌, ◌*◌, ◌%◌, ◌≤◌, ◌<◌, ◌^◌, ◌++◌, ◌∷◌, [], ℕ, OnOk, IfOk, MatchOption, length, get_or, slice_set, option_map, replicate};
-ghost use Rattle.std.specs.VecDeque.{deque_len};
 ghost use Rattle.cmdcodec.specs.Words.{encoding};
 ghost use Rattle.cmdcodec.specs.ClosingSync.{closing_sync};
 
@@ -46,7 +45,7 @@ impl Queue {
     #[tactic(auto, unfolding(crate::specs::Refusals::refusal_of))]
     pub(crate) fn refusal(&self, sender: u32, max_batches: u32, body: &[Raw]) -> Option<Refusal>
         requires { sender < length self.now.sent.items }
-        ensures { result ≡ refusal_of self.now.size (get_or self.now.sent.items sender 0) max_batches (deque_len self.now.waiting) body.now }
+        ensures { result ≡ refusal_of self.now.size (get_or self.now.sent.items sender 0) max_batches (length self.now.waiting.items) body.now }
     {
         match body_refusal(body) {
             Some(refusal) => Some(refusal),
@@ -57,12 +56,12 @@ impl Queue {
     fn ring_refusal(&self, sender: u32, max_batches: u32, count: usize) -> Option<Refusal>
         requires sender { sender < length self.now.sent.items }
         requires few { count ≤ 64 }
-        ensures { result ≡ ring_refusal self.now.size (get_or self.now.sent.items sender 0) max_batches (deque_len self.now.waiting) count }
+        ensures { result ≡ ring_refusal self.now.size (get_or self.now.sent.items sender 0) max_batches (length self.now.waiting.items) count }
     {
         let size = self.size as usize;
         if count > size {
             Some(Refusal::TooLong)
-        } else if self.sent[sender as usize] == max_batches {
+        } else if self.sent[sender as usize] >= max_batches {
             Some(Refusal::Exhausted)
         } else if self.waiting.len() + count > size {
             Some(Refusal::NoRoom)

@@ -2,6 +2,7 @@
 ghost use Rattle.std.specs.Prelude.{◌≡◌, List};
 ghost use Rattle.cmdcodec.specs.declared.raw.Raw.{Raw};
 
+use crate::shape::Shape;
 use crate::tag::Tag;
 use cmdcodec::Raw;
 use std::marker::Model;
@@ -21,18 +22,6 @@ pub(crate) enum Request {
     Step { count: u64 },
     /// The registers, the totals and the entries.
     Dump,
-}
-
-/// The numbers of a `ring` line.
-#[derive(Clone, Copy)]
-pub(crate) struct Shape {
-    /// The ring has `2^log2` slots.
-    pub log2: u32,
-    pub senders: u32,
-    /// How many batches a sender may send.
-    pub max_batches: u32,
-    /// How many entries the caches hold at most.
-    pub capacity: u32,
 }
 
 /// The commands of a batch, ahead of its closing CMD_SYNC.
