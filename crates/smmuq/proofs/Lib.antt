@@ -1,1 +1,2 @@
 pub mod ParseLemmas
+pub mod HistoryLemmas

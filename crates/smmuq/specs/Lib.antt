@@ -6,3 +6,4 @@ pub mod History
 pub mod Holding
 pub mod World
 pub mod ReplayText
+pub mod Standing

@@ -1,5 +1,5 @@
 //! The commands that wait in the ring, and its wrapped indexes.
-ghost use Rattle.std.specs.Prelude.{◌≡◌, ◌+◌, ◌*◌, ◌%◌, ◌≤◌, ◌<◌, ◌^◌, ◌++◌, ◌∷◌, [], ℕ, OnOk, IfOk, MatchOption, length, get_or, slice_set, option_map, replicate};
+ghost use Rattle.std.specs.Prelude.{◌≡◌, ◌+◌, ◌*◌, ◌%◌, ◌≤◌, ◌<◌, ◌^◌, ◌++◌, ◌∷◌, [], ℕ, OnOk, IfOk, length, get_or, slice_get, slice_set, drop, replicate};
 ghost use Rattle.cmdcodec.specs.Words.{encoding};
 ghost use Rattle.cmdcodec.specs.ClosingSync.{closing_sync};
 
@@ -93,18 +93,25 @@ impl Queue {
         Ok(number)
     }
 
-    /// Takes the command at the head, if one waits.
-    pub(crate) fn take(&mut self) -> Option<Raw>
-        ensures empty { MatchOption result (self.old.waiting.items ≡ []) (λ raw. self.old.waiting.items ≡ raw ∷ self.new.waiting.items) }
-        ensures none { MatchOption result ((self.new.cons ≡ self.old.cons) × (self.new.waiting.items ≡ self.old.waiting.items)) (λ raw. self.new.cons ≡ (self.old.cons + 1) % (2 * self.old.size)) }
+    /// The command at the head, if one waits.
+    pub(crate) fn head(&self) -> Option<Raw>
+        ensures { result ≡ slice_get self.now.waiting.items 0 }
+    {
+        self.waiting.front().copied()
+    }
+
+    /// Takes the command at the head away.
+    pub(crate) fn take(&mut self)
+        requires { 0 < length self.old.waiting.items }
+        ensures waiting { self.new.waiting.items ≡ drop 1 self.old.waiting.items }
+        ensures cons { self.new.cons ≡ (self.old.cons + 1) % (2 * self.old.size) }
         ensures prod { self.new.prod ≡ self.old.prod }
         ensures size { self.new.size ≡ self.old.size }
         ensures sent { self.new.sent.items ≡ self.old.sent.items }
     {
-        let raw = self.waiting.pop_front()?;
+        let _ = self.waiting.pop_front();
         let end = u64::from(self.cons) + 1;
         self.cons = (end % u64::from(2 * self.size)) as u32;
-        Some(raw)
     }
 }
 

@@ -1,0 +1,120 @@
+//! The ring and the caches behind it, by the plainest means.
+ghost use Rattle.std.specs.Prelude.{◌≡◌, IfOk, OnOk, None, length, string_bytes, true};
+
+use crate::answer::fault;
+use crate::counts::Counts;
+use crate::entries::{Entries, Fill, Filling};
+use crate::queue::Queue;
+use crate::refusal::is_sync;
+use crate::shape::Shape;
+use crate::tag::Tag;
+use cmdcodec::{Raw, decode};
+use std::alloc::{AllocError, Global};
+use std::fmt::Write;
+
+/// A ring with its senders, the commands that wait in it, and the caches that they are for.
+#[derive(Drop)]
+pub(crate) struct Smmu {
+    pub shape: Shape,
+    pub queue: Queue,
+    pub entries: Entries,
+    pub counts: Counts,
+    ghost senders: { length queue.sent.items ≡ shape.senders },
+}
+
+impl Smmu {
+    ghost use Rattle.smmuq.specs.Shapes.{shape_fault};
+    ghost use Rattle.smmuq.specs.ReplayText.{made, fill_effect, send_effect, step_of, step_effect, dump_effect};
+    ghost use Rattle.smmuq.specs.Standing.{Stands, Acts, Steps};
+
+    pub(crate) fn new(alloc: Global, shape: Shape) -> Result<Smmu, AllocError>
+        requires { shape_fault shape ≡ None }
+        ensures { IfOk result (λ smmu. Stands smmu (made shape)) }
+    {
+        let queue = Queue::new(alloc, 1 << shape.log2, shape.senders)?;
+        Ok(Smmu {
+            shape,
+            queue,
+            entries: Entries::new(alloc, shape.capacity),
+            counts: Counts::new(),
+        })
+    }
+
+    /// Fills a tag.
+    pub(crate) fn fill(
+        &mut self,
+        tag: Tag,
+        value: u64,
+        reply: &mut String,
+    ) -> Result<(), AllocError>
+        ensures { OnOk result (Acts (λ wanting. fill_effect wanting tag value) self.old self.new (string_bytes reply.old) (string_bytes reply.new) true) }
+    {
+        let born = self.counts.taken;
+        match self.entries.fill(tag, Filling { value, born }) {
+            Fill::New => reply.push_str("filled\n"),
+            Fill::Replaced(old) => {
+                let (value, born) = (old.value, old.born);
+                write!(reply, "replaced value={value} born={born}\n")
+            }
+            Fill::Full => reply.push_str("refused C1\n"),
+            Fill::NoMemory => reply.push_str("refused C3\n"),
+        }
+    }
+
+    /// Sends a batch, and says whether the sender is one of the ring's.
+    pub(crate) fn send(
+        &mut self,
+        number: u64,
+        sender: u32,
+        body: &[Raw],
+        reply: &mut String,
+    ) -> Result<bool, AllocError>
+        ensures { IfOk result (λ goes_on. Acts (λ wanting. send_effect number sender body.now) self.old self.new (string_bytes reply.old) (string_bytes reply.new) goes_on) }
+    {
+        if sender >= self.shape.senders {
+            return fault(number, "no sender", reply);
+        }
+        if let Some(refusal) = self.queue.refusal(sender, self.shape.max_batches, body) {
+            let label = refusal.label();
+            write!(reply, "refused {label}\n")?;
+            return Ok(true);
+        }
+        let batch = self.queue.reserve(sender, body)?;
+        write!(reply, "sent {sender} number {batch}\n")?;
+        Ok(true)
+    }
+
+    /// Takes the command at the head, if one waits, and says whether another step may follow.
+    pub(crate) fn step(&mut self, reply: &mut String) -> Result<bool, AllocError>
+        ensures { IfOk result (λ may_follow. Steps step_of self.old self.new (string_bytes reply.old) (string_bytes reply.new) may_follow) }
+    {
+        if self.counts.taken >= Counts::MOST {
+            reply.push_str("exhausted\n")?;
+            return Ok(false);
+        }
+        let Some(raw) = self.queue.head() else {
+            reply.push_str("empty\n")?;
+            return Ok(false);
+        };
+        let Ok(command) = decode(raw) else {
+            return Ok(false);
+        };
+        self.queue.take();
+        let removed = self.entries.apply(&command);
+        self.counts.add(is_sync(&raw), removed);
+        write!(reply, "applied {command} removed={removed}\n")?;
+        Ok(true)
+    }
+
+    /// Takes that many commands, fewer where a step may not be followed.
+    pub(crate) fn steps(&mut self, count: u64, reply: &mut String) -> Result<(), AllocError>
+        ensures { OnOk result (Acts (λ wanting. step_effect count) self.old self.new (string_bytes reply.old) (string_bytes reply.new) true) }
+    {
+        for _ in 0..count {
+            if !self.step(reply)? {
+                break;
+            }
+        }
+        Ok(())
+    }
+}
