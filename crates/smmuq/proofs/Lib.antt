@@ -1,2 +1,3 @@
 pub mod ParseLemmas
 pub mod HistoryLemmas
+pub mod WorldLemmas
