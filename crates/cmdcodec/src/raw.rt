@@ -29,6 +29,7 @@ pub fn to_bytes(raw: Raw) -> [u8; 16]
 }
 
 /// The words of a command from its bytes.
+#[tactic(auto, using(crate::proofs::ByteLemmas::written_again))]
 pub fn from_bytes(bytes: &[u8; 16]) -> Raw
     ensures words { result ≡ raw_of bytes.now }
     ensures written_again { bytes_of result ≡ bytes.now }
