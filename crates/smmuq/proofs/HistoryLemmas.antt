@@ -1,5 +1,5 @@
 -- What is held after one more event.
-use Rattle.std.proofs.Common.{◌≡◌, ℕ, ◌<◌, ◌==◌, Bool, true, false, not, cond, ◌||◌, List, [], ◌∷◌, ◌++◌, filter, refl, ap, sym, ◌∙◌, arith, ◌⊎◌, eq-eqb, subst}
+use Rattle.std.proofs.Common.{◌≡◌, ℕ, ◌<◌, ◌==◌, Bool, true, false, not, cond, ◌||◌, List, [], ◌∷◌, ◌++◌, ◌+◌, length, suc, filter, refl, ap, sym, ◌∙◌, arith, ◌⊎◌, eq-eqb, subst}
 use Rattle.std.specs.List.{list_any}
 use Rattle.std.specs.BTreeMap.{insert_entry}
 use Rattle.std.specs.Ordering.{nat_cmp, MatchOrdering, match_ordering}
@@ -210,3 +210,24 @@ put_anew a f ((Ste b, g) ∷ entries) ascending =
 pub entries_of-filled : (h : List Event) (tag : Tag) (filling : Filling) → entries_of (h ++ Filled tag filling ∷ []) ≡ insert_entry tag_cmp (entries_of h) tag filling
 unfolding entries_of
 entries_of-filled h (Ste a) filling = entries_of-snoc h (Filled (Ste a) filling) ∙ put_anew a filling (entries_of h) (IsAscending-sorted [] (held h) tt)
+
+-- ---- how many a command covers
+
+-- the covered and the others are all
+covered_and_others : (command : Command) (entries : List (Tag × Filling))
+    → length (filter (covered command) entries) + length (filter (λ entry. not (covered command entry)) entries) ≡ length entries
+covered_and_others command [] = refl
+covered_and_others command (entry ∷ entries) =
+    let rest = covered_and_others command entries in
+    elim (covered command entry) as (λ t. length (cond t (entry ∷ filter (covered command) entries) (filter (covered command) entries))
+        + length (cond (not t) (entry ∷ filter (λ e. not (covered command e)) entries) (filter (λ e. not (covered command e)) entries)) ≡ suc (length entries)) [
+      | true ↦ omega arith
+      | false ↦ omega arith
+    ]
+
+pub covered-counted : (command : Command) (entries kept : List (Tag × Filling)) (removed : ℕ) → kept ≡ filter (λ entry. not (covered command entry)) entries
+    → removed + length kept ≡ length entries → length (filter (covered command) entries) ≡ removed
+covered-counted command entries kept removed e counted =
+    let all = covered_and_others command entries in
+    let same = ap length e in
+    omega arith

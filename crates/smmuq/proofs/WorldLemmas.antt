@@ -1,10 +1,10 @@
 -- What the ring has reserved and taken after one more batch or command.
-use Rattle.std.proofs.Common.{◌≡◌, ℕ, zero, suc, ◌+◌, ◌*◌, ◌%◌, ◌^◌, ◌==◌, Bool, true, false, cond, List, [], ◌∷◌, ◌++◌, length, drop, refl, ap, sym, ◌∙◌, arith, append_assoc, append-nil, length-append, Option, Some, None}
+use Rattle.std.proofs.Common.{◌≡◌, ℕ, zero, suc, ◌+◌, ◌*◌, ◌%◌, ◌^◌, ◌==◌, Bool, true, false, cond, List, [], ◌∷◌, ◌++◌, length, drop, refl, ap, sym, ◌∙◌, arith, append_assoc, append-nil, eq-eqb, length-append, Option, Some, None}
 use Rattle.std.specs.Prelude.{slice_get, count_by, sum_by, flat_map}
 use Rattle.std.proofs.lemmas.List.Concat.{flat_map-append}
 use Rattle.std.proofs.lemmas.List.Sums.{sum_by-append}
 use Rattle.std.proofs.Math.Nat.{mod-add-mod}
-use Rattle.std.proofs.lemmas.Bool.{ne_eqb, eqb_refl}
+use Rattle.std.proofs.lemmas.Bool.{ne_eqb}
 use Rattle.cmdcodec.specs.declared.raw.Raw.{Raw}
 use Rattle.cmdcodec.specs.Words.{encoding}
 use Rattle.cmdcodec.specs.ClosingSync.{closing_sync}
@@ -30,7 +30,7 @@ count_by-snoc test xs x = sum_by-append (λ y. cond (test y) 1 0) xs (x ∷ []) 
 
 pub batches_by-same : (world : World) (sender : ℕ) (body : List Raw) → batches_by (after_batch world sender body) sender ≡ batches_by world sender + 1
 batches_by-same world sender body =
-    count_by-snoc (is_batch_of sender) world.batches _ ∙ ap (λ t. batches_by world sender + cond t 1 0) (eqb_refl sender)
+    count_by-snoc (is_batch_of sender) world.batches _ ∙ ap (λ t. batches_by world sender + cond t 1 0) (eq-eqb sender sender refl)
 
 pub batches_by-other : (world : World) (sender other : ℕ) (body : List Raw) → (sender ≡ other → ⊥) → batches_by (after_batch world sender body) other ≡ batches_by world other
 batches_by-other world sender other body differs =

@@ -59,6 +59,9 @@ ring_or_fault number shape None = answers (codes "ring size " ++ decimal (2 ^ sh
 abbrev pub value_and_born : Filling → List ℕ
 value_and_born filling = codes "value=" ++ decimal filling.value ++ codes " born=" ++ decimal filling.born
 
+abbrev pub replaced_text : Filling → List ℕ
+replaced_text was = codes "replaced " ++ value_and_born was ++ codes "\n"
+
 abbrev pub after_event : State → Event → State
 after_event state event = record state { history = state.history ++ event ∷ [] }
 
@@ -67,7 +70,7 @@ filled state tag value = after_event state (Filled tag (record { value = value; 
 
 -- A tag that is held is filled anew. For another one there may be no room, or memory may be wanting.
 abbrev pub fill_of_held : Bool → State → Tag → ℕ → Option Filling → Effect
-fill_of_held wanting state tag value (Some old) = answers (codes "replaced " ++ value_and_born old ++ codes "\n") (filled state tag value)
+fill_of_held wanting state tag value (Some old) = answers (replaced_text old) (filled state tag value)
 fill_of_held wanting state tag value None =
     if not (nat_lt (length (entries_of state.history)) state.world.shape.capacity) then answers (refused (codes "C1")) state
     else if wanting then answers (refused (codes "C3")) state
@@ -86,11 +89,13 @@ waiting world = length (reserved world) - length world.taken
 abbrev pub send_refusal : World → ℕ → List Raw → Option Refusal
 send_refusal world sender body = refusal_of (size_of world) (batches_by world sender) world.shape.max_batches (waiting world) body
 
+abbrev pub sent_text : ℕ → ℕ → List ℕ
+sent_text sender number = codes "sent " ++ decimal sender ++ codes " number " ++ decimal number ++ codes "\n"
+
 abbrev pub sent : State → ℕ → List Raw → Option Refusal → Effect
 sent state sender body (Some refusal) = answers (refused (label_of refusal)) state
 sent state sender body None =
-    answers (codes "sent " ++ decimal sender ++ codes " number " ++ decimal (batches_by state.world sender + 1) ++ codes "\n")
-    (record state { world = after_batch state.world sender body })
+    answers (sent_text sender (batches_by state.world sender + 1)) (record state { world = after_batch state.world sender body })
 
 unfoldable pub send_effect : ℕ → ℕ → List Raw → State → Effect
 send_effect number sender body state =
@@ -105,9 +110,12 @@ pub record Step : Type 0 where
   pub state : State
   pub may_follow : Bool
 
+abbrev pub applied_text : Command → ℕ → List ℕ
+applied_text command removed = codes "applied " ++ text_of command ++ codes " removed=" ++ decimal removed ++ codes "\n"
+
 abbrev pub applied : Command → State → Raw → ℕ → Step
 applied command state raw removed = record {
-  text = codes "applied " ++ text_of command ++ codes " removed=" ++ decimal removed ++ codes "\n";
+  text = applied_text command removed;
   state = record { world = after_take state.world raw; history = state.history ++ Took command ∷ []; removed = state.removed + removed };
   may_follow = true;
 }

@@ -13,6 +13,7 @@ pub record Stands (smmu : Smmu) (state : State) : Type 0 where
   pub waiting : reserved state.world ≡ state.world.taken ++ smmu.queue.waiting.items
   pub prod : smmu.queue.prod ≡ index_of state.world (length (reserved state.world))
   pub cons : smmu.queue.cons ≡ index_of state.world (length state.world.taken)
+  pub senders : length smmu.queue.sent.items ≡ smmu.shape.senders
   pub sent : (sender : ℕ) → sender < length smmu.queue.sent.items → get_or smmu.queue.sent.items sender 0 ≡ batches_by state.world sender
   pub entries : smmu.entries.map.entries ≡ entries_of state.history
   pub taken : smmu.counts.taken ≡ length state.world.taken

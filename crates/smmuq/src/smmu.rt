@@ -1,7 +1,7 @@
 //! The ring and the caches behind it, by the plainest means.
 ghost use Rattle.std.specs.Prelude.{◌≡◌, IfOk, OnOk, None, length, string_bytes, true};
 
-use crate::answer::fault;
+use crate::answer::{say, say_applied, say_fault, say_refused, say_replaced, say_sent};
 use crate::counts::Counts;
 use crate::entries::{Entries, Fill, Filling};
 use crate::queue::Queue;
@@ -10,7 +10,6 @@ use crate::shape::Shape;
 use crate::tag::Tag;
 use cmdcodec::{Raw, decode};
 use std::alloc::{AllocError, Global};
-use std::fmt::Write;
 
 /// A ring with its senders, the commands that wait in it, and the caches that they are for.
 #[derive(Drop)]
@@ -19,7 +18,6 @@ pub(crate) struct Smmu {
     pub queue: Queue,
     pub entries: Entries,
     pub counts: Counts,
-    ghost senders: { length queue.sent.items ≡ shape.senders },
 }
 
 impl Smmu {
@@ -51,13 +49,10 @@ impl Smmu {
     {
         let born = self.counts.taken;
         match self.entries.fill(tag, Filling { value, born }) {
-            Fill::New => reply.push_str("filled\n"),
-            Fill::Replaced(old) => {
-                let (value, born) = (old.value, old.born);
-                write!(reply, "replaced value={value} born={born}\n")
-            }
-            Fill::Full => reply.push_str("refused C1\n"),
-            Fill::NoMemory => reply.push_str("refused C3\n"),
+            Fill::New => say("filled\n", reply),
+            Fill::Replaced(was) => say_replaced(was, reply),
+            Fill::Full => say_refused("C1", reply),
+            Fill::NoMemory => say_refused("C3", reply),
         }
     }
 
@@ -71,16 +66,16 @@ impl Smmu {
     ) -> Result<bool, AllocError>
         ensures { IfOk result (λ goes_on. Acts (λ wanting. send_effect number sender body.now) self.old self.new (string_bytes reply.old) (string_bytes reply.new) goes_on) }
     {
-        if sender >= self.shape.senders {
-            return fault(number, "no sender", reply);
+        if sender as usize >= self.queue.sent.len() {
+            say_fault(number, "no sender", reply)?;
+            return Ok(false);
         }
         if let Some(refusal) = self.queue.refusal(sender, self.shape.max_batches, body) {
-            let label = refusal.label();
-            write!(reply, "refused {label}\n")?;
+            say_refused(refusal.label(), reply)?;
             return Ok(true);
         }
         let batch = self.queue.reserve(sender, body)?;
-        write!(reply, "sent {sender} number {batch}\n")?;
+        say_sent(sender, batch, reply)?;
         Ok(true)
     }
 
@@ -89,11 +84,11 @@ impl Smmu {
         ensures { IfOk result (λ may_follow. Steps step_of self.old self.new (string_bytes reply.old) (string_bytes reply.new) may_follow) }
     {
         if self.counts.taken >= Counts::MOST {
-            reply.push_str("exhausted\n")?;
+            say("exhausted\n", reply)?;
             return Ok(false);
         }
         let Some(raw) = self.queue.head() else {
-            reply.push_str("empty\n")?;
+            say("empty\n", reply)?;
             return Ok(false);
         };
         let Ok(command) = decode(raw) else {
@@ -102,7 +97,7 @@ impl Smmu {
         self.queue.take();
         let removed = self.entries.apply(&command);
         self.counts.add(is_sync(&raw), removed);
-        write!(reply, "applied {command} removed={removed}\n")?;
+        say_applied(&command, removed, reply)?;
         Ok(true)
     }
 
