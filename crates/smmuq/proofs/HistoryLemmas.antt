@@ -220,7 +220,7 @@ covered_and_others command [] = refl
 covered_and_others command (entry ∷ entries) =
     let rest = covered_and_others command entries in
     elim (covered command entry) as (λ t. length (cond t (entry ∷ filter (covered command) entries) (filter (covered command) entries))
-        + length (cond (not t) (entry ∷ filter (λ e. not (covered command e)) entries) (filter (λ e. not (covered command e)) entries)) ≡ suc (length entries)) [
+    + length (cond (not t) (entry ∷ filter (λ e. not (covered command e)) entries) (filter (λ e. not (covered command e)) entries)) ≡ suc (length entries)) [
       | true ↦ omega arith
       | false ↦ omega arith
     ]

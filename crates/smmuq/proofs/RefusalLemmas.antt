@@ -3,12 +3,8 @@ use Rattle.std.proofs.Common.{◌≡◌, ℕ, ◌+◌, ◌<◌, ◌≤◌, Bool,
 use Rattle.std.proofs.lemmas.Bool.{ltb-false, leb-false}
 use Rattle.cmdcodec.specs.declared.raw.Raw.{Raw}
 use Rattle.smmuq.specs.declared.refusal.Refusal.{Refusal}
+use Rattle.smmuq.proofs.TestLemmas.{past_test}
 use Rattle.smmuq.specs.Refusals.{refusal_of, body_refusal, ring_refusal, or_then}
-
--- a chain of tests that came to None
-past_test : (test : Bool) (refusal : Refusal) (rest : Option Refusal) → cond test (Some refusal) rest ≡ None → (test ≡ false) × (rest ≡ None)
-past_test true refusal rest e = absurd cc
-past_test false refusal rest e = (refl, e)
 
 past_first : (first second : Option Refusal) → or_then first second ≡ None → (first ≡ None) × (second ≡ None)
 past_first None second e = (refl, e)

@@ -1,21 +1,23 @@
 -- What the ring and the caches keep stands for the state after a request, where it stood for the one before.
 use Rattle.std.proofs.Common.{◌≡◌, ◌≢◌, ℕ, ◌+◌, ◌-◌, ◌*◌, ◌%◌, ◌^◌, ◌<◌, ◌≤◌, ◌==◌, Bool, true, false, cond, not, List, [], ◌∷◌, ◌++◌, length, drop, get_or, set, refl, ap, sym, ◌∙◌, arith, subst, inl, inr, append_assoc, append-nil, length-append, Option, Some, None, Result, Ok, Err, eqb, ltb, nat_lt}
-use Rattle.std.specs.Prelude.{slice_get, count_by, filter, codes, decimal, ◌⊎◌}
+use Rattle.std.specs.Prelude.{replicate, slice_get, count_by, filter, codes, decimal, ◌⊎◌}
 use Rattle.std.specs.BTreeMap.{insert_entry}
 use Rattle.std.specs.Map.{lookup}
-use Rattle.std.proofs.lemmas.List.{get_or-set_same, get_or-set_other, length-set}
+use Rattle.std.proofs.lemmas.List.{get_or-set_same, get_or-set_other, length-set, length-replicate, get_or-replicate}
 use Rattle.std.proofs.lemmas.Bool.{cases_eq, ne_eqb}
 use Rattle.cmdcodec.specs.declared.raw.Raw.{Raw}
 use Rattle.cmdcodec.specs.declared.command.Command.{Command}
 use Rattle.cmdcodec.specs.Words.{encoding}
 use Rattle.cmdcodec.specs.ClosingSync.{closing_sync}
+use Rattle.std.proofs.Math.Nat.{zero-mod}
+use Rattle.smmuq.specs.declared.shape.Shape.{Shape}
 use Rattle.smmuq.specs.declared.smmu.Smmu.{Smmu}
 use Rattle.smmuq.specs.declared.tag.Tag.{Tag}
 use Rattle.smmuq.specs.declared.entries.Filling.{Filling}
 use Rattle.smmuq.specs.Refusals.{is_sync}
-use Rattle.smmuq.specs.History.{Event, Filled, Took, entries_of, tag_cmp, covered}
+use Rattle.smmuq.specs.History.{Event, Filled, Took, held, entries_of, tag_cmp, covered}
 use Rattle.smmuq.specs.World.{World, reserved, size_of, index_of, batches_by, after_batch, after_take}
-use Rattle.smmuq.specs.ReplayText.{State, after_event, filled}
+use Rattle.smmuq.specs.ReplayText.{State, made, after_event, filled}
 use Rattle.smmuq.specs.Standing.{Stands}
 use Rattle.smmuq.proofs.HistoryLemmas.{entries_of-filled, entries_of-took}
 use Rattle.smmuq.proofs.WorldLemmas.{reserved-batch, batches_by-same, batches_by-other, waiting-take, reserved-take, index_of-more, count_by-snoc}
@@ -147,4 +149,37 @@ stands_taken old new state raw command removed s t = record {
   taken = t.taken ∙ ap (λ n. n + 1) s.taken ∙ sym (length-append state.world.taken (raw ∷ []));
   syncs = t.syncs ∙ ap (λ n. n + cond (is_sync raw) 1 0) s.syncs ∙ sym (count_by-snoc is_sync state.world.taken raw);
   removed = t.removals ∙ ap (λ n. n + removed) s.removed;
+}
+
+-- ---- a new ring
+
+pub record IsNew (smmu : Smmu) (shape : Shape) : Type 0 where
+  pub same : smmu.shape ≡ shape
+  pub size : smmu.queue.size ≡ 2 ^ shape.log2
+  pub capacity : smmu.entries.capacity ≡ shape.capacity
+  pub waiting : smmu.queue.waiting.items ≡ []
+  pub prod : smmu.queue.prod ≡ 0
+  pub cons : smmu.queue.cons ≡ 0
+  pub sent : smmu.queue.sent.items ≡ replicate shape.senders 0
+  pub entries : smmu.entries.map.entries ≡ []
+  pub taken : smmu.counts.taken ≡ 0
+  pub syncs : smmu.counts.syncs ≡ 0
+  pub removed : smmu.counts.removed ≡ 0
+
+pub stands_made : (smmu : Smmu) (shape : Shape) → IsNew smmu shape → Stands smmu (made shape)
+unfolding reserved entries_of held
+stands_made smmu shape n = record {
+  shape = sym n.same;
+  size = n.size ∙ ap (λ sh. 2 ^ sh.log2) (sym n.same);
+  capacity = n.capacity ∙ ap (λ sh. sh.capacity) (sym n.same);
+  waiting = sym n.waiting;
+  prod = n.prod ∙ sym (zero-mod (2 * 2 ^ shape.log2));
+  cons = n.cons ∙ sym (zero-mod (2 * 2 ^ shape.log2));
+  senders = ap length n.sent ∙ length-replicate {A = ℕ} shape.senders 0 ∙ ap (λ sh. sh.senders) (sym n.same);
+  sent = λ sender low. ap (λ xs. get_or xs sender 0) n.sent
+      ∙ get_or-replicate {A = ℕ} shape.senders sender 0 0 (omega (arith, ap length n.sent, length-replicate {A = ℕ} shape.senders 0));
+  entries = n.entries;
+  taken = n.taken;
+  syncs = n.syncs;
+  removed = n.removed;
 }

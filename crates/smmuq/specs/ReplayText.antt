@@ -160,20 +160,27 @@ tag_text (Ste sid) = codes "ste sid=" ++ decimal sid
 abbrev pub entry_line : (Tag × Filling) → List ℕ
 entry_line entry = codes "entry " ++ tag_text entry.0 ++ codes " " ++ value_and_born entry.1 ++ codes "\n"
 
-abbrev pub registers_text : World → List ℕ
-registers_text world =
-    codes "prod " ++ register (index_of world (length (reserved world))) ++ codes "\ncons " ++ register (index_of world (length world.taken))
-    ++ codes "\ngerror 0 gerrorn 0\n"
+abbrev pub register_line : List ℕ → ℕ → List ℕ
+register_line name n = name ++ codes " " ++ register n ++ codes "\n"
+
+-- the indexes as the registers have them; no error is signalled yet
+abbrev pub registers_text : ℕ → ℕ → List ℕ
+registers_text prod cons = register_line (codes "prod") prod ++ register_line (codes "cons") cons ++ codes "gerror 0 gerrorn 0\n"
 
 -- An illegal command isn't sent yet, so that each one taken was applied.
-abbrev pub totals_text : State → List ℕ
-totals_text state =
-    codes "taken " ++ decimal (length state.world.taken) ++ codes " applied " ++ decimal (length state.world.taken)
-    ++ codes " replaced 0 syncs " ++ decimal (count_by is_sync state.world.taken) ++ codes " removed " ++ decimal state.removed ++ codes "\n"
+abbrev pub totals_text : ℕ → ℕ → ℕ → List ℕ
+totals_text taken syncs removed =
+    codes "taken " ++ decimal taken ++ codes " applied " ++ decimal taken ++ codes " replaced 0 syncs " ++ decimal syncs
+    ++ codes " removed " ++ decimal removed ++ codes "\n"
+
+abbrev pub dump_text : State → List ℕ
+dump_text state =
+    registers_text (index_of state.world (length (reserved state.world))) (index_of state.world (length state.world.taken))
+    ++ totals_text (length state.world.taken) (count_by is_sync state.world.taken) state.removed
+    ++ flat_map entry_line (entries_of state.history) ++ codes "end\n"
 
 unfoldable pub dump_effect : State → Effect
-dump_effect state =
-    answers (registers_text state.world ++ totals_text state ++ flat_map entry_line (entries_of state.history) ++ codes "end\n") state
+dump_effect state = answers (dump_text state) state
 
 -- ---- lines
 

@@ -1,9 +1,11 @@
 //! The texts that answers are made of.
 ghost use Rattle.std.specs.Prelude.{◌≡◌, ◌++◌, IfOk, OnOk, string_bytes, false};
 ghost use Rattle.script.specs.Outcome.{fault_line};
-ghost use Rattle.smmuq.specs.ReplayText.{refused, replaced_text, sent_text, applied_text};
+ghost use Rattle.smmuq.specs.ReplayText.{refused, replaced_text, sent_text, applied_text, register_line, registers_text, totals_text, entry_line};
 
+use crate::counts::Counts;
 use crate::entries::Filling;
+use crate::tag::Tag;
 use cmdcodec::Command;
 use std::alloc::AllocError;
 use std::fmt::Write;
@@ -48,4 +50,36 @@ pub(crate) fn say_applied(
     ensures { OnOk result (string_bytes reply.new ≡ string_bytes reply.old ++ applied_text command.now removed) }
 {
     write!(reply, "applied {command} removed={removed}\n")
+}
+
+fn say_register(name: &str, value: u32, reply: &mut String) -> Result<(), AllocError>
+    ensures { OnOk result (string_bytes reply.new ≡ string_bytes reply.old ++ register_line name.now value) }
+{
+    write!(reply, "{name} 0x{value:08x}\n")
+}
+
+pub(crate) fn say_registers(prod: u32, cons: u32, reply: &mut String) -> Result<(), AllocError>
+    ensures { OnOk result (string_bytes reply.new ≡ string_bytes reply.old ++ registers_text prod cons) }
+{
+    say_register("prod", prod, reply)?;
+    say_register("cons", cons, reply)?;
+    say("gerror 0 gerrorn 0\n", reply)
+}
+
+pub(crate) fn say_totals(counts: &Counts, reply: &mut String) -> Result<(), AllocError>
+    ensures { OnOk result (string_bytes reply.new ≡ string_bytes reply.old ++ totals_text counts.now.taken counts.now.syncs counts.now.removed) }
+{
+    let (taken, syncs, removed) = (counts.taken, counts.syncs, counts.removed);
+    write!(
+        reply,
+        "taken {taken} applied {taken} replaced 0 syncs {syncs} removed {removed}\n"
+    )
+}
+
+pub(crate) fn say_entry(tag: &Tag, filling: &Filling, reply: &mut String) -> Result<(), AllocError>
+    ensures { OnOk result (string_bytes reply.new ≡ string_bytes reply.old ++ entry_line (tag.now, filling.now)) }
+{
+    let Tag::Ste { sid } = *tag;
+    let (sid, value, born) = (sid.get(), filling.value, filling.born);
+    write!(reply, "entry ste sid={sid} value={value} born={born}\n")
 }

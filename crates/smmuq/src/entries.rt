@@ -1,12 +1,13 @@
 //! What the caches hold.
-ghost use Rattle.std.specs.Prelude.{◌≡◌, ◌+◌, ◌≤◌, ◌<◌, IfSome, [], length, filter, not, Some, None, nat_lt, map};
+ghost use Rattle.std.specs.Prelude.{◌≡◌, ◌+◌, ◌≤◌, OnOk, ◌++◌, flat_map, string_bytes, [], length, filter, not, Some, None, nat_lt, map};
 ghost use Rattle.std.specs.BTreeMap.{insert_entry};
 ghost use Rattle.std.specs.Map.{lookup};
 ghost use Rattle.smmuq.specs.Covers.{covers};
 
+use crate::answer::say_entry;
 use crate::tag::Tag;
 use cmdcodec::Command;
-use std::alloc::Global;
+use std::alloc::{AllocError, Global};
 use std::collections::BTreeMap;
 
 /// What an entry was filled with, and when.
@@ -58,6 +59,7 @@ fn covers(command: &Command, tag: &Tag) -> bool
 impl Entries {
     ghost use Rattle.smmuq.specs.History.{tag_cmp, same_tag, covered};
     ghost use Rattle.smmuq.specs.Holding.{Fills};
+    ghost use Rattle.smmuq.specs.ReplayText.{entry_line};
 
     pub(crate) fn new(alloc: Global, capacity: u32) -> Entries
         requires { capacity ≤ 65536 }
@@ -97,5 +99,15 @@ impl Entries {
         let before = self.map.len();
         self.map.retain(|tag, _| !covers(command, tag));
         (before - self.map.len()) as u64
+    }
+
+    /// Tells the entries, in the order of their tags.
+    pub(crate) fn tell(&self, reply: &mut String) -> Result<(), AllocError>
+        ensures { OnOk result (string_bytes reply.new ≡ string_bytes reply.old ++ flat_map entry_line self.now.map.entries) }
+    {
+        'entries: for (tag, filling) in &self.map {
+            say_entry(tag, filling, reply)?;
+        }
+        Ok(())
     }
 }

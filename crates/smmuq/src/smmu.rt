@@ -1,7 +1,9 @@
 //! The ring and the caches behind it, by the plainest means.
 ghost use Rattle.std.specs.Prelude.{◌≡◌, IfOk, OnOk, None, length, string_bytes, true};
 
-use crate::answer::{say, say_applied, say_fault, say_refused, say_replaced, say_sent};
+use crate::answer::{
+    say, say_applied, say_fault, say_refused, say_registers, say_replaced, say_sent, say_totals,
+};
 use crate::counts::Counts;
 use crate::entries::{Entries, Fill, Filling};
 use crate::queue::Queue;
@@ -105,11 +107,21 @@ impl Smmu {
     pub(crate) fn steps(&mut self, count: u64, reply: &mut String) -> Result<(), AllocError>
         ensures { OnOk result (Acts (λ wanting. step_effect count) self.old self.new (string_bytes reply.old) (string_bytes reply.new) true) }
     {
-        for _ in 0..count {
+        'steps: for _ in 0..count {
             if !self.step(reply)? {
-                break;
+                return Ok(());
             }
         }
         Ok(())
+    }
+
+    /// Tells the registers, the totals and the entries.
+    pub(crate) fn dump(&self, reply: &mut String) -> Result<(), AllocError>
+        ensures { OnOk result (Acts (λ wanting. dump_effect) self.now self.now (string_bytes reply.old) (string_bytes reply.new) true) }
+    {
+        say_registers(self.queue.prod, self.queue.cons, reply)?;
+        say_totals(&self.counts, reply)?;
+        self.entries.tell(reply)?;
+        say("end\n", reply)
     }
 }
