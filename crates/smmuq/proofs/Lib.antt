@@ -7,3 +7,4 @@ pub mod EffectLemmas
 pub mod RefusalLemmas
 pub mod StepsLemmas
 pub mod DumpLemmas
+pub mod GivingLemmas

@@ -7,3 +7,6 @@ pub mod Holding
 pub mod World
 pub mod ReplayText
 pub mod Standing
+pub mod Giving
+pub mod GivingLaws
+pub mod Replay

@@ -1,0 +1,51 @@
+-- From what a line does to what it and the lines after it may come to.
+use Rattle.std.proofs.Common.{◌≡◌, ℕ, ◌+◌, Bool, true, false, cond, List, [], ◌∷◌, ◌++◌, refl, ap, sym, ◌∙◌, append_assoc, Option, Some, None, subst, IfSome}
+use Rattle.std.specs.Io.KnownBytes.{Appends}
+use Rattle.script.specs.declared.ending.Ending.{Ending}
+use Rattle.script.specs.declared.ending.Ending.TheVariants.{Finished, Refused}
+use Rattle.script.specs.Outcome.{Outcome, Continues, Ends, with_front}
+use Rattle.smmuq.specs.declared.smmu.Smmu.{Smmu}
+use Rattle.smmuq.specs.ReplayText.{State, Answer, Effect, line_effect, after_effect, with_text, answer_from}
+use Rattle.smmuq.specs.Standing.{StandsAt, ActsAt, Produces}
+use Rattle.smmuq.specs.Giving.{EndsAs, MayCome, MayGive}
+
+ends_front : (text : List ℕ) (answer : Answer) (more : List ℕ) (ending : Option Ending) → EndsAs answer more ending → EndsAs (with_text text answer) (text ++ more) ending
+ends_front text answer more (Some Finished) e = ap (with_text text) e
+ends_front text answer more (Some Refused) e = ap (with_text text) e
+ends_front text answer more None e = (e.0, ap (λ t. text ++ t) e.1 ∙ sym (append_assoc text more e.0))
+
+-- the answer to a line and to those after it
+goes_on : (effect : Effect) (rest : Option State → Answer) (text : List ℕ) → effect.text ≡ text → effect.goes_on ≡ true → after_effect effect rest ≡ with_text text (rest effect.state)
+goes_on effect rest text t on =
+    ap (λ b. cond b (with_text effect.text (rest effect.state)) (record { text = effect.text; is_good = false })) on ∙ ap (λ x. with_text x (rest effect.state)) t
+
+is_over : (effect : Effect) (rest : Option State → Answer) (text : List ℕ) → effect.text ≡ text → effect.goes_on ≡ false → after_effect effect rest ≡ record { text = text; is_good = false }
+is_over effect rest text t off =
+    ap (λ b. cond b (with_text effect.text (rest effect.state)) (record { text = effect.text; is_good = false })) off ∙ ap (λ x. record { text = x; is_good = false }) t
+
+pub continues : (old new : Option Smmu) (number : ℕ) (line before after : List ℕ) → ActsAt (λ wanting state. line_effect number wanting line state) old new before after true
+    → Continues (MayGive old) (MayGive new) number line before after
+unfolding answer_from
+continues old new number line before after acts = record {
+  answer = acts.answer;
+  text = acts.text;
+  rest = λ lines outcome may state stands.
+      let done = acts.produces state stands in
+      let effect = line_effect number done.wanting line state in
+      let later = may effect.state (done.after refl) in
+      (done.wanting ∷ later.0,
+      subst (λ (a : Answer). EndsAs a (acts.answer ++ outcome.text) outcome.ending)
+      (sym (goes_on effect (λ left. answer_from (number + 1) later.0 left lines) acts.answer done.text done.ending))
+      (ends_front acts.answer (answer_from (number + 1) later.0 effect.state lines) outcome.text outcome.ending later.1));
+}
+
+pub ends : (old new : Option Smmu) (number : ℕ) (line before after : List ℕ) → ActsAt (λ wanting state. line_effect number wanting line state) old new before after false
+    → Ends (MayGive old) number line before after
+unfolding answer_from
+ends old new number line before after acts = record {
+  answer = acts.answer;
+  text = acts.text;
+  rest = λ lines state stands.
+      let done = acts.produces state stands in
+      (done.wanting ∷ [], is_over (line_effect number done.wanting line state) (λ left. answer_from (number + 1) [] left lines) acts.answer done.text done.ending);
+}
