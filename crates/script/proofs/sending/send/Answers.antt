@@ -17,7 +17,7 @@ writes-preserved g c =
             written = Appends-trans _ _ _ _ _ before.written more;
           })
       | in-Err+else-ne w ↦ rw w.taken-is (record {
-          bound = before.bound;
-          written = Appends-kept _ _ _ _ before.written w.in-Err.ensures.bytes;
-        })
+        bound = before.bound;
+        written = Appends-kept _ _ _ _ before.written w.in-Err.ensures.bytes;
+      })
     ]

@@ -23,8 +23,7 @@ returns-clause-part g c =
     let count = c.in_ok-count.count in
     let long : length new ≡ 65536 = omega (arith, c.read_behind.auto.buffer) in
     let bound = c.in_ok-count.ensures.bound in
-    let front = c.read_behind.ensures.front ∙ ap (take (p.filled - p.at)) (c.as_mut_slice.ensures.value ∙ c.copy_within.ensures.items) in
-    (
+    let front = c.read_behind.ensures.front ∙ ap (take (p.filled - p.at)) (c.as_mut_slice.ensures.value ∙ c.copy_within.ensures.items) in (
       take count (drop (p.filled - p.at) new),
       held_after_read p.buffer.items new _ p.at p.filled _ count (omega arith) (omega arith) (omega arith) (omega arith) front ∙ ap (λ held. held ++ take count (drop (p.filled - p.at) new)) c.self.view_is,
       c.in_ok-count.ensures.ok,
@@ -37,8 +36,7 @@ returns-clause-end g c none =
     let count = c.in_ok-count.count in
     let nothing : count ≡ 0 = grind (arith, nat_tests, none) in
     let long : length new ≡ 65536 = omega (arith, c.read_behind.auto.buffer) in
-    let front = c.read_behind.ensures.front ∙ ap (take (p.filled - p.at)) (c.as_mut_slice.ensures.value ∙ c.copy_within.ensures.items) in
-    (
+    let front = c.read_behind.ensures.front ∙ ap (take (p.filled - p.at)) (c.as_mut_slice.ensures.value ∙ c.copy_within.ensures.items) in (
       held_after_nothing p.buffer.items new _ p.at p.filled _ count (omega arith) (omega arith) (omega arith) (omega arith) front nothing ∙ c.self.view_is,
       c.in_ok-count.ensures.end nothing,
     )
