@@ -1,5 +1,5 @@
 -- The first line of a script, where its end is known, and where it is not.
-use Rattle.std.proofs.Common.{◌≡◌, ℕ, ◌+◌, ◌<◌, ◌==◌, true, cond, List, [], ◌∷◌, ◌++◌, length, get_or, take, drop, refl, ap, sym, ◌∙◌, arith, Some, None, ◌⊎◌, inl, inr, subst, append_assoc, append-nil, get_or-take, length-take, take-append-drop}
+use Rattle.std.proofs.Common.{◌≡◌, ℕ, ◌+◌, ◌<◌, ◌==◌, cond, List, [], ◌∷◌, ◌++◌, length, take, drop, refl, ap, sym, ◌∙◌, arith, Some, None, inl, inr, subst, append_assoc, append-nil, get_or-take, length-take, take-append-drop}
 use Rattle.std.proofs.lemmas.List.{take_more}
 use Rattle.std.proofs.lemmas.Bool.{eqb-true}
 use Rattle.memchr.specs.Find.{IsFirstByte, is_byte}
@@ -34,8 +34,7 @@ lines_of-front (b ∷ []) more none some =
       | line ∷ lines ↦ λ e. (line, lines, e)
     ] first
 lines_of-front (b ∷ c ∷ xs) more none some =
-    let behind = lines_of-front (c ∷ xs) more (none_before_tail 10 b (c ∷ xs) _ none) (omega arith) in
-    (
+    let behind = lines_of-front (c ∷ xs) more (none_before_tail 10 b (c ∷ xs) _ none) (omega arith) in (
       behind.0,
       behind.1,
       ap (λ t. cond t ([] ∷ lines_of ((c ∷ xs) ++ more)) (onto_first b (lines_of ((c ∷ xs) ++ more)))) (not_true _ (none 0 (omega arith))) ∙ ap (onto_first b) behind.2,

@@ -2,7 +2,6 @@
 -- served from there on.
 use Rattle.std.proofs.Common.{◌≡◌, ℕ, ◌+◌, ◌<◌, List, [], ◌∷◌, ◌++◌, length, take, drop, refl, ap, sym, ◌∙◌, arith, subst, inl, inr, Some, append_assoc, append-nil, length-append, length-take, string_bytes, codes, take-append-drop}
 use Rattle.script.specs.declared.run.Run.{Run}
-use Rattle.script.specs.declared.ending.Ending.{Ending}
 use Rattle.script.specs.declared.ending.Ending.TheVariants.{Finished, Refused}
 use Rattle.script.specs.Lines.{lines_of}
 use Rattle.script.specs.Outcome.{Outcome, Continues, Ends, with_front, fault, fault_line}

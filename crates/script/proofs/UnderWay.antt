@@ -9,7 +9,7 @@ use Rattle.script.specs.declared.ending.Ending.TheVariants.{Finished, Refused}
 use Rattle.script.specs.Lines.{lines_of, HasNoEnd}
 use Rattle.script.specs.Outcome.{Outcome, with_front}
 use Rattle.script.specs.Writing.{ComesTo, IsBeginning, StopsForMemory, WritesAnswer, WritesNoMemory, WritesBeginning, AnswersWholeLines, no_memory_line}
-use Rattle.script.specs.Serving.{RunGives, Advances, Stops, Halts, Closes, IsUnderWay, SameButText, SameButPending, WritesFront}
+use Rattle.script.specs.Serving.{Advances, Stops, Halts, Closes, IsUnderWay, SameButText, SameButPending, WritesFront}
 use Rattle.script.proofs.LineLemmas.{IsWhole-append, lines_of-nothing}
 use Rattle.script.proofs.ServedLines.{EndsWithNothing, with_front-with_front}
 

@@ -15,3 +15,6 @@ pub use error::ServeError;
 pub use interpreter::{Interpreter, LONGEST_LINE};
 pub use serving::serve;
 pub use words::{next_word, number};
+
+#[cfg(test)]
+mod tests;

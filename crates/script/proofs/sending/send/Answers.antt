@@ -1,4 +1,4 @@
-use Rattle.std.proofs.Common.{◌≡◌, ◌+◌, ◌≤◌, length, take, drop, arith, take-add, length-drop}
+use Rattle.std.proofs.Common.{◌≡◌, ◌+◌, arith, take-add, length-drop}
 use Rattle.std.proofs.KnownBytes.{Appends-kept, Appends-trans}
 use Rattle.std.proofs.lemmas.List.{take_rest}
 use Rattle.script.proofs.sending.send.Goals as goal
@@ -12,12 +12,13 @@ writes-preserved g c =
       | in-Ok w ↦
           let bound = rw (take_rest bytes c.writes.taken) at w.in-Ok.ensures.bound in
           let more = rw (take_rest bytes c.writes.taken) at w.in-Ok.ensures.bytes in
-          rw (w.taken-is, take-add c.writes.taken w.in-Ok.count bytes) (record {
+          let taken : c.match-write.taken ≡ c.writes.taken + w.in-Ok.count = w.taken-is in
+          rw (taken, take-add c.writes.taken w.in-Ok.count bytes) (record {
             bound = omega (arith, bound, length-drop c.writes.taken bytes);
             written = Appends-trans _ _ _ _ _ before.written more;
           })
       | in-Err+else-ne w ↦ rw w.taken-is (record {
-          bound = before.bound;
-          written = Appends-kept _ _ _ _ before.written w.in-Err.ensures.bytes;
-        })
+        bound = before.bound;
+        written = Appends-kept _ _ _ _ before.written w.in-Err.ensures.bytes;
+      })
     ]

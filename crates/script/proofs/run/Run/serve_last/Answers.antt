@@ -1,8 +1,7 @@
-use Rattle.std.proofs.Common.{◌≡◌, ◌<◌, [], length, take, ap, ◌∙◌, arith, refl, subst, string_bytes}
+use Rattle.std.proofs.Common.{◌≡◌, [], length, ap, arith, refl}
 use Rattle.std.proofs.lemmas.Bool.{eqb-true}
 use Rattle.std.proofs.lemmas.List.{nil_from_length, take_all}
 use Rattle.std.proofs.lemmas.Result.{err_from_is_err_and}
-use Rattle.script.specs.Outcome.{Continues, Ends}
 use Rattle.script.proofs.Searches.{NoneBefore}
 use Rattle.script.proofs.ServedLines.{advances_refl, closes_nothing, closes_line, closes_refused, halts_after}
 use Rattle.script.proofs.run.Run.serve_last.Goals as goal

@@ -1,4 +1,4 @@
-use Rattle.std.proofs.Common.{◌≡◌, length, ap, ◌∙◌, arith}
+use Rattle.std.proofs.Common.{length, ap, arith}
 use Rattle.std.proofs.lemmas.Result.{err_from_is_err_and}
 use Rattle.script.proofs.LineLemmas.{found_none}
 use Rattle.script.proofs.ServedLines.{advances_trans, stops_after, stops_long_front, halts_after}

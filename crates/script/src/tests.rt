@@ -1,0 +1,285 @@
+use crate::{Ending, Interpreter, ServeError, next_word, number, serve};
+use std::alloc::AllocError;
+use std::fmt::Write as _;
+use std::io;
+use std::io::{ErrorKind, Read, Write};
+use std::test::*;
+
+// Answers each line by its number and its length, and ends the run at the line `stop`.
+#[derive(Drop)]
+struct Lengths;
+
+impl Interpreter for Lengths {
+    ghost gives = { λ _ _ _ _. Unit {0} };
+
+    fn serve_line(
+        &mut self,
+        number: u64,
+        line: &[u8],
+        reply: &mut String,
+    ) -> Result<bool, AllocError> {
+        if line == b"stop".as_slice() {
+            write!(reply, "stopped at {number}\n")?;
+            return Ok(false);
+        }
+        let length = line.len();
+        write!(reply, "{number}: {length}\n")?;
+        Ok(true)
+    }
+
+    ghost nothing_left = { λ _ _. tt };
+
+    ghost long_line = { λ _ _ _ _ _. tt };
+
+    ghost begins = { λ _ _ _. tt };
+
+    ghost cut = { λ _ _ _ _ _ _ _ _. tt };
+}
+
+// Gives a text, at most so many bytes a call. The call of number `bad` fails.
+#[derive(Drop)]
+struct Source<'a> {
+    text: &'a [u8],
+    most: usize,
+    calls: u32,
+    bad: u32,
+    kind: ErrorKind,
+}
+
+impl<'a> Read for Source<'a> {
+    fn read(&mut self, buf: &mut [u8]) -> io::Result<usize> {
+        self.calls = self.calls.saturating_add(1);
+        if self.calls == self.bad {
+            return Err(io::Error::from(self.kind));
+        }
+        let count = self.text.len().min(buf.len()).min(self.most);
+        buf[..count].copy_from_slice(&self.text[..count]);
+        self.text = &self.text[count..];
+        Ok(count)
+    }
+}
+
+impl<'a> Source<'a> {
+    fn new(text: &'a [u8], most: usize, bad: u32, kind: ErrorKind) -> Source<'a> {
+        Source {
+            text,
+            most,
+            calls: 0,
+            bad,
+            kind,
+        }
+    }
+}
+
+// Keeps what it is given in a place of its own, at most so many bytes a call. The call of number `bad` fails.
+#[derive(Drop)]
+struct Sink {
+    kept: [u8; 128],
+    len: usize,
+    most: usize,
+    calls: u32,
+    bad: u32,
+    kind: ErrorKind,
+}
+
+impl Write for Sink {
+    fn write(&mut self, buf: &[u8]) -> io::Result<usize> {
+        self.calls = self.calls.saturating_add(1);
+        if self.calls == self.bad {
+            return Err(io::Error::from(self.kind));
+        }
+        if self.len >= self.kept.len() {
+            return Ok(0);
+        }
+        let count = buf.len().min(self.most).min(self.kept.len() - self.len);
+        let end = self.len + count;
+        self.kept[self.len..end].copy_from_slice(&buf[..count]);
+        self.len = end;
+        Ok(count)
+    }
+
+    fn flush(&mut self) -> io::Result<()> {
+        Ok(())
+    }
+}
+
+impl Sink {
+    fn new(most: usize, bad: u32, kind: ErrorKind) -> Sink {
+        Sink {
+            kept: [0; 128],
+            len: 0,
+            most,
+            calls: 0,
+            bad,
+            kind,
+        }
+    }
+
+    fn text(&self) -> &[u8] {
+        self.kept.get(..self.len).unwrap_or_default()
+    }
+}
+
+const PIPE: ErrorKind = ErrorKind::BrokenPipe;
+
+#[test]
+fn answers_do_not_depend_on_the_pieces(rt: HostRuntime) -> Result<(), Fail> {
+    for (script, text, ending) in [
+        ("", "", Ending::Finished),
+        ("\n", "1: 0\n", Ending::Finished),
+        ("a\nbb\n", "1: 1\n2: 2\n", Ending::Finished),
+        ("a\nbb", "1: 1\n2: 2\n", Ending::Finished),
+        ("a\nstop\nb\n", "1: 1\nstopped at 2\n", Ending::Refused),
+        ("stop", "stopped at 1\n", Ending::Refused),
+    ] {
+        for most in [1, 3, 100_000] {
+            let mut input = Source::new(script.as_bytes(), most, 0, PIPE);
+            let mut output = Sink::new(most, 0, PIPE);
+            let ended = serve(rt.alloc(), &mut Lengths, &mut input, &mut output)?;
+            assert_eq!(rt; ended, ending, "{script}");
+            assert_eq!(rt; output.text(), text.as_bytes(), "{script} by {most}");
+        }
+    }
+    Ok(())
+}
+
+#[test]
+fn a_long_line_needs_no_end(rt: HostRuntime) -> Result<(), Fail> {
+    for (length, end, text) in [
+        (4096, "", "1: 4096\n"),
+        (4096, "\n", "1: 4096\n"),
+        (4097, "", "line 1: long line\n"),
+        (4097, "\n", "line 1: long line\n"),
+        (70_000, "\n", "line 1: long line\n"),
+    ] {
+        let mut script = vec![in rt.alloc(); b'x'; length]?;
+        script.extend_from_slice(end.as_bytes())?;
+        for most in [1, 100_000] {
+            let mut input = Source::new(script.as_slice(), most, 0, PIPE);
+            let mut output = Sink::new(100, 0, PIPE);
+            serve(rt.alloc(), &mut Lengths, &mut input, &mut output)?;
+            assert_eq!(rt; output.text(), text.as_bytes(), "{length} by {most}");
+        }
+    }
+    Ok(())
+}
+
+#[test]
+fn a_failed_read_waits_for_no_answer(rt: HostRuntime) {
+    // Read two bytes at a time, the first line ends at the 1st call, the second at the 3rd, and the third at the 5th.
+    for (bad, text) in [
+        (1, ""),
+        (2, "1: 1\n"),
+        (3, "1: 1\n"),
+        (4, "1: 1\n2: 2\n"),
+        (5, "1: 1\n2: 2\n"),
+        (6, "1: 1\n2: 2\n3: 3\n"),
+    ] {
+        let mut input = Source::new(b"a\nbb\nccc\n".as_slice(), 2, bad, PIPE);
+        let mut output = Sink::new(100, 0, PIPE);
+        let outcome = serve(rt.alloc(), &mut Lengths, &mut input, &mut output);
+        assert!(rt; matches!(outcome, Err(ServeError::Read(_))), "{bad}");
+        assert_eq!(rt; output.text(), text.as_bytes(), "{bad}");
+    }
+}
+
+#[test]
+fn nothing_is_written_after_a_failed_write(rt: HostRuntime) {
+    for (bad, text) in [(1, ""), (2, "1: 1"), (3, "1: 1\n2: ")] {
+        let mut input = Source::new(b"a\nbb\n".as_slice(), 100, 0, PIPE);
+        let mut output = Sink::new(4, bad, PIPE);
+        let outcome = serve(rt.alloc(), &mut Lengths, &mut input, &mut output);
+        assert!(rt; matches!(outcome, Err(ServeError::Write(_))), "{bad}");
+        assert_eq!(rt; output.calls, bad);
+        assert_eq!(rt; output.text(), text.as_bytes(), "{bad}");
+    }
+}
+
+#[test]
+fn a_writer_that_takes_nothing_has_failed(rt: HostRuntime) -> Result<(), Fail> {
+    let script = vec![in rt.alloc(); b'\n'; 50]?;
+    let mut input = Source::new(script.as_slice(), 100, 0, PIPE);
+    let mut output = Sink::new(100, 0, PIPE);
+    let outcome = serve(rt.alloc(), &mut Lengths, &mut input, &mut output);
+    assert!(rt; matches!(outcome, Err(ServeError::Write(_))));
+    assert_eq!(rt; output.len, 128);
+    Ok(())
+}
+
+#[test]
+fn many_answers_are_written_in_parts(rt: HostRuntime) -> Result<(), Fail> {
+    let script = vec![in rt.alloc(); b'\n'; 30_000]?;
+    let mut input = Source::new(script.as_slice(), 100_000, 0, PIPE);
+    let mut output = Vec::new(rt.alloc());
+    serve(rt.alloc(), &mut Lengths, &mut input, &mut output)?;
+    let mut text = String::new(rt.alloc());
+    for line in 1..30_001 {
+        write!(text, "{line}: 0\n")?;
+    }
+    assert!(rt; output.as_slice() == text.as_bytes());
+    Ok(())
+}
+
+#[test]
+fn an_interrupted_call_is_made_again(rt: HostRuntime) -> Result<(), Fail> {
+    for bad in [1, 2, 3] {
+        let mut input = Source::new(b"a\nbb\n".as_slice(), 2, bad, ErrorKind::Interrupted);
+        let mut output = Sink::new(2, bad, ErrorKind::Interrupted);
+        serve(rt.alloc(), &mut Lengths, &mut input, &mut output)?;
+        assert_eq!(rt; output.text(), b"1: 1\n2: 2\n".as_slice(), "{bad}");
+    }
+    Ok(())
+}
+
+// Nothing but the run allocates here, so that each of its allocations can be made to fail.
+#[test]
+fn no_memory_is_told_of_last(rt: HostRuntime) {
+    let mut input = Source::new(b"a\nbb\n".as_slice(), 100, 0, PIPE);
+    let mut output = Sink::new(100, 0, PIPE);
+    let outcome = serve(rt.alloc(), &mut Lengths, &mut input, &mut output);
+    let text = output.text();
+    let is_told = match outcome {
+        Ok(_) => text == b"1: 1\n2: 2\n".as_slice(),
+        Err(_) => text == b"no memory\n".as_slice() || text == b"1: 1\nno memory\n".as_slice(),
+    };
+    assert!(rt; is_told);
+}
+
+#[test]
+fn numbers(rt: HostRuntime) {
+    for (word, value) in [
+        ("0", Some(0)),
+        ("007", Some(7)),
+        ("18446744073709551615", Some(u64::MAX)),
+        ("18446744073709551616", None),
+        ("000000000000000000001", None),
+        ("0x0", Some(0)),
+        ("0xfF", Some(255)),
+        ("0xffffffffffffffff", Some(u64::MAX)),
+        ("0x00000000000000001", None),
+        ("0x", None),
+        ("0X10", None),
+        ("0xg", None),
+        ("1a", None),
+        ("+1", None),
+        ("-1", None),
+        ("", None),
+    ] {
+        assert_eq!(rt; number(word.as_bytes()), value, "{word}");
+    }
+}
+
+#[test]
+fn words(rt: HostRuntime) {
+    for (text, first, rest) in [
+        ("step", "step", ""),
+        ("  step 1  2 ", "step", " 1  2 "),
+        (" 1  2 ", "1", "  2 "),
+        ("a\tb", "a\tb", ""),
+    ] {
+        let found = next_word(text.as_bytes());
+        assert_eq!(rt; found, Some((first.as_bytes(), rest.as_bytes())), "{text}");
+    }
+    assert!(rt; next_word(b"".as_slice()).is_none());
+    assert!(rt; next_word(b"  ".as_slice()).is_none());
+}
