@@ -17,14 +17,14 @@ four_parts t0 t1 t2 t3 t4 a b c d p q r s =
 
 pub dump_produces : (smmu : Smmu) (state : State) → Stands smmu state
     → Produces (λ wanting. dump_effect state) (Some smmu)
-        (registers_text smmu.queue.prod smmu.queue.cons ++ totals_text smmu.counts.taken smmu.counts.syncs smmu.counts.removed
-        ++ flat_map entry_line smmu.entries.map.entries ++ codes "end\n") true
+    (registers_text smmu.queue.prod smmu.queue.cons ++ totals_text smmu.counts.taken smmu.counts.syncs smmu.counts.removed
+    ++ flat_map entry_line smmu.entries.map.entries ++ codes "end\n") true
 unfolding dump_effect
 dump_produces smmu state s =
     let w = state.world in
     let end = codes "end\n" in
     let same : dump_text state ≡ registers_text smmu.queue.prod smmu.queue.cons ++ totals_text smmu.counts.taken smmu.counts.syncs smmu.counts.removed
-        ++ flat_map entry_line smmu.entries.map.entries ++ end =
+    ++ flat_map entry_line smmu.entries.map.entries ++ end =
     ap (λ n. registers_text n (index_of w (length w.taken)) ++ totals_text (length w.taken) (count_by is_sync w.taken) state.removed ++ flat_map entry_line (entries_of state.history) ++ end) (sym s.prod)
     ∙ ap (λ n. registers_text smmu.queue.prod n ++ totals_text (length w.taken) (count_by is_sync w.taken) state.removed ++ flat_map entry_line (entries_of state.history) ++ end) (sym s.cons)
     ∙ ap (λ n. registers_text smmu.queue.prod smmu.queue.cons ++ totals_text n (count_by is_sync w.taken) state.removed ++ flat_map entry_line (entries_of state.history) ++ end) (sym s.taken)

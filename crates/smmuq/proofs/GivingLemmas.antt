@@ -32,11 +32,12 @@ continues old new number line before after acts = record {
   rest = λ lines outcome may state stands.
       let done = acts.produces state stands in
       let effect = line_effect number done.wanting line state in
-      let later = may effect.state (done.after refl) in
-      (done.wanting ∷ later.0,
-      subst (λ (a : Answer). EndsAs a (acts.answer ++ outcome.text) outcome.ending)
-      (sym (goes_on effect (λ left. answer_from (number + 1) later.0 left lines) acts.answer done.text done.ending))
-      (ends_front acts.answer (answer_from (number + 1) later.0 effect.state lines) outcome.text outcome.ending later.1));
+      let later = may effect.state (done.after refl) in (
+        done.wanting ∷ later.0,
+        subst (λ (a : Answer). EndsAs a (acts.answer ++ outcome.text) outcome.ending)
+            (sym (goes_on effect (λ left. answer_from (number + 1) later.0 left lines) acts.answer done.text done.ending))
+            (ends_front acts.answer (answer_from (number + 1) later.0 effect.state lines) outcome.text outcome.ending later.1),
+      );
 }
 
 pub ends : (old new : Option Smmu) (number : ℕ) (line before after : List ℕ) → ActsAt (λ wanting state. line_effect number wanting line state) old new before after false

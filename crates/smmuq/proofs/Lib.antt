@@ -8,3 +8,4 @@ pub mod RefusalLemmas
 pub mod StepsLemmas
 pub mod DumpLemmas
 pub mod GivingLemmas
+pub mod ServedLemmas

@@ -16,9 +16,11 @@ nothing_left smmu n state stands = ([], refl)
 
 pub long_line : (smmu : Option Smmu) (n : ℕ) (line : List ℕ) (lines : List (List ℕ)) → 4096 < length line → MayGive smmu n (line ∷ lines) (fault n (codes "long line"))
 unfolding answer_from line_effect
-long_line smmu n line lines long state stands =
-    ([], ap (λ t. after_effect (cond t (faults n (codes "long line") state) (asked_effect n false (request_of line) state)) (λ left. answer_from (n + 1) [] left lines))
-    (lt-ltb 4096 (length line) long))
+long_line smmu n line lines long state stands = (
+  [],
+  ap (λ t. after_effect (cond t (faults n (codes "long line") state) (asked_effect n false (request_of line) state)) (λ left. answer_from (n + 1) [] left lines))
+      (lt-ltb 4096 (length line) long),
+)
 
 pub begins : (smmu : Option Smmu) (n : ℕ) (lines : List (List ℕ)) → MayGive smmu n lines (record { text = []; ending = None })
 begins smmu n lines state stands = ([], ((answer_from n [] state lines).text, refl))

@@ -50,9 +50,12 @@ refused name = codes "refused " ++ name ++ codes "\n"
 abbrev pub made : Shape → State
 made shape = record { world = empty_world shape; history = []; removed = 0 }
 
+abbrev pub ring_text : ℕ → List ℕ
+ring_text log2 = codes "ring size " ++ decimal (2 ^ log2) ++ codes "\n"
+
 abbrev pub ring_or_fault : ℕ → Shape → Option ShapeFault → Effect
 ring_or_fault number shape (Some fault) = faults number (fault_label fault) None
-ring_or_fault number shape None = answers (codes "ring size " ++ decimal (2 ^ shape.log2) ++ codes "\n") (made shape)
+ring_or_fault number shape None = answers (ring_text shape.log2) (made shape)
 
 -- ---- fill
 

@@ -8,6 +8,7 @@ use crate::counts::Counts;
 use crate::entries::{Entries, Fill, Filling};
 use crate::queue::Queue;
 use crate::refusal::is_sync;
+use crate::request::Request;
 use crate::shape::Shape;
 use crate::tag::Tag;
 use cmdcodec::{Raw, decode};
@@ -24,7 +25,7 @@ pub(crate) struct Smmu {
 
 impl Smmu {
     ghost use Rattle.smmuq.specs.Shapes.{shape_fault};
-    ghost use Rattle.smmuq.specs.ReplayText.{made, fill_effect, send_effect, step_of, step_effect, dump_effect};
+    ghost use Rattle.smmuq.specs.ReplayText.{made, fill_effect, send_effect, step_of, step_effect, dump_effect, served};
     ghost use Rattle.smmuq.specs.Standing.{Stands, Acts, Steps};
 
     pub(crate) fn new(alloc: Global, shape: Shape) -> Result<Smmu, AllocError>
@@ -123,5 +124,36 @@ impl Smmu {
         say_totals(&self.counts, reply)?;
         self.entries.tell(reply)?;
         say("end\n", reply)
+    }
+
+    /// Serves a request.
+    pub(crate) fn serve(
+        &mut self,
+        number: u64,
+        request: &Request,
+        reply: &mut String,
+    ) -> Result<bool, AllocError>
+        ensures { IfOk result (λ goes_on. Acts (λ wanting. served number wanting request.now) self.old self.new (string_bytes reply.old) (string_bytes reply.new) goes_on) }
+    {
+        match request {
+            Request::Nothing => Ok(true),
+            Request::Ring(_) => {
+                say_fault(number, "second ring", reply)?;
+                Ok(false)
+            }
+            Request::Fill { tag, value } => {
+                self.fill(*tag, *value, reply)?;
+                Ok(true)
+            }
+            Request::Send { sender, body } => self.send(number, *sender, body.as_slice(), reply),
+            Request::Step { count } => {
+                self.steps(*count, reply)?;
+                Ok(true)
+            }
+            Request::Dump => {
+                self.dump(reply)?;
+                Ok(true)
+            }
+        }
     }
 }
