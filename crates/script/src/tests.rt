@@ -2,7 +2,7 @@ use crate::{Ending, Interpreter, ServeError, next_word, number, serve};
 use std::alloc::AllocError;
 use std::fmt::Write as _;
 use std::io;
-use std::io::{ErrorKind, Read, Write};
+use std::io::{BufWriter, ErrorKind, Read, Write};
 use std::test::*;
 
 // Answers each line by its number and its length, and ends the run at the line `stop`.
@@ -181,6 +181,16 @@ fn a_failed_read_waits_for_no_answer(rt: HostRuntime) {
         assert!(rt; matches!(outcome, Err(ServeError::Read(_))), "{bad}");
         assert_eq!(rt; output.text(), text.as_bytes(), "{bad}");
     }
+}
+
+#[test]
+fn answers_are_flushed_before_the_next_read(rt: HostRuntime) -> Result<(), Fail> {
+    let mut input = Source::new(b"a\nbb\n".as_slice(), 2, 2, PIPE);
+    let mut output = BufWriter::new(rt.alloc(), Vec::new(rt.alloc()))?;
+    let outcome = serve(rt.alloc(), &mut Lengths, &mut input, &mut output);
+    assert!(rt; matches!(outcome, Err(ServeError::Read(_))));
+    assert!(rt; output.get_ref().as_slice() == b"1: 1\n".as_slice());
+    Ok(())
 }
 
 #[test]
