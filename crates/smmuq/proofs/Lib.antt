@@ -9,3 +9,4 @@ pub mod StepsLemmas
 pub mod DumpLemmas
 pub mod GivingLemmas
 pub mod ServedLemmas
+pub mod ComesLemmas
