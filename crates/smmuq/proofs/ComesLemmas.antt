@@ -1,6 +1,5 @@
 -- What a replay that has made no ring may give is what a script may come to.
-use Rattle.std.proofs.Common.{◌≡◌, ℕ, List, Option, Some, None, sym, subst, ◌⊎◌, inl, inr, IfSome}
-use Rattle.std.specs.Io.KnownBytes.{Appends}
+use Rattle.std.proofs.Common.{◌≡◌, ℕ, List, Option, Some, None, sym, subst, inl, inr, IfSome}
 use Rattle.script.specs.declared.ending.Ending.{Ending}
 use Rattle.script.specs.declared.ending.Ending.TheVariants.{Finished}
 use Rattle.script.specs.Writing.{ComesTo, WritesAnswer, StopsForMemory, WritesNoMemory, IsBeginning, WritesBeginning, AnswersWholeLines}

@@ -1,12 +1,12 @@
 -- The text of a dump.
-use Rattle.std.proofs.Common.{◌≡◌, ℕ, Bool, true, false, List, ◌++◌, length, refl, ap, sym, ◌∙◌, append_assoc, Some, codes}
+use Rattle.std.proofs.Common.{◌≡◌, ℕ, true, false, List, ◌++◌, length, ap, sym, ◌∙◌, append_assoc, Some, codes}
 use Rattle.std.specs.Prelude.{flat_map, count_by}
 use Rattle.smmuq.specs.declared.smmu.Smmu.{Smmu}
 use Rattle.smmuq.specs.Refusals.{is_sync}
 use Rattle.smmuq.specs.History.{entries_of}
-use Rattle.smmuq.specs.World.{reserved, index_of}
-use Rattle.smmuq.specs.ReplayText.{State, Effect, answers, registers_text, totals_text, entry_line, dump_text, dump_effect}
-use Rattle.smmuq.specs.Standing.{Stands, StandsAt, Produces}
+use Rattle.smmuq.specs.World.{index_of}
+use Rattle.smmuq.specs.ReplayText.{State, answers, registers_text, totals_text, entry_line, dump_text, dump_effect}
+use Rattle.smmuq.specs.Standing.{Stands, Produces}
 use Rattle.smmuq.proofs.EffectLemmas.{produces_at}
 
 -- four texts that are appended one after another

@@ -1,5 +1,5 @@
 -- What requests do, by what the ring and the caches keep.
-use Rattle.std.proofs.Common.{◌≡◌, ℕ, ◌+◌, ◌-◌, ◌^◌, ◌<◌, ◌≤◌, Bool, true, false, cond, not, List, [], ◌∷◌, ◌++◌, length, get_or, refl, ap, sym, ◌∙◌, arith, subst, length-append, Option, Some, None, Result, Ok, Err, nat_lt, codes, decimal}
+use Rattle.std.proofs.Common.{◌≡◌, ℕ, ◌+◌, ◌^◌, ◌<◌, ◌≤◌, Bool, true, false, cond, not, List, [], ◌∷◌, ◌++◌, length, get_or, ap, sym, ◌∙◌, arith, subst, length-append, Option, Some, None, Ok, Err, codes}
 use Rattle.std.specs.Prelude.{slice_get}
 use Rattle.std.specs.Map.{lookup}
 use Rattle.std.proofs.lemmas.Bool.{lt-ltb, le-ltb}
@@ -7,7 +7,6 @@ use Rattle.cmdcodec.specs.declared.raw.Raw.{Raw}
 use Rattle.cmdcodec.specs.declared.ill.Ill.{Ill}
 use Rattle.cmdcodec.specs.declared.command.Command.{Command}
 use Rattle.cmdcodec.specs.Words.{decoding}
-use Rattle.cmdcodec.specs.Text.{text_of}
 use Rattle.script.specs.Outcome.{fault_line}
 use Rattle.smmuq.specs.declared.smmu.Smmu.{Smmu}
 use Rattle.smmuq.specs.declared.tag.Tag.{Tag}
@@ -15,7 +14,7 @@ use Rattle.smmuq.specs.declared.entries.Filling.{Filling}
 use Rattle.smmuq.specs.declared.refusal.Refusal.{Refusal}
 use Rattle.smmuq.specs.Refusals.{refusal_of, label_of}
 use Rattle.smmuq.specs.History.{same_tag, entries_of, entry_at, covered_count, Took}
-use Rattle.smmuq.specs.World.{reserved, size_of, batches_by, after_batch, after_take, head_of}
+use Rattle.smmuq.specs.World.{batches_by, after_batch, after_take, head_of}
 use Rattle.smmuq.specs.ReplayText.{State, Effect, Step, answers, faults, refused, replaced_text, sent_text, applied_text, filled, fill_of_held, fill_effect, waiting, send_refusal, sent, send_effect, judged, step_at, step_of, applied}
 use Rattle.smmuq.specs.Standing.{Stands, StandsAt, Produces, Stepped}
 use Rattle.smmuq.proofs.WorldLemmas.{head_of-waiting}

@@ -1,13 +1,12 @@
 -- From what a line does to what it and the lines after it may come to.
-use Rattle.std.proofs.Common.{◌≡◌, ℕ, ◌+◌, Bool, true, false, cond, List, [], ◌∷◌, ◌++◌, refl, ap, sym, ◌∙◌, append_assoc, Option, Some, None, subst, IfSome}
-use Rattle.std.specs.Io.KnownBytes.{Appends}
+use Rattle.std.proofs.Common.{◌≡◌, ℕ, ◌+◌, true, false, cond, List, [], ◌∷◌, ◌++◌, refl, ap, sym, ◌∙◌, append_assoc, Option, Some, None, subst}
 use Rattle.script.specs.declared.ending.Ending.{Ending}
 use Rattle.script.specs.declared.ending.Ending.TheVariants.{Finished, Refused}
-use Rattle.script.specs.Outcome.{Outcome, Continues, Ends, with_front}
+use Rattle.script.specs.Outcome.{Continues, Ends}
 use Rattle.smmuq.specs.declared.smmu.Smmu.{Smmu}
 use Rattle.smmuq.specs.ReplayText.{State, Answer, Effect, line_effect, after_effect, with_text, answer_from}
-use Rattle.smmuq.specs.Standing.{StandsAt, ActsAt, Produces}
-use Rattle.smmuq.specs.Giving.{EndsAs, MayCome, MayGive}
+use Rattle.smmuq.specs.Standing.{ActsAt}
+use Rattle.smmuq.specs.Giving.{EndsAs, MayGive}
 
 ends_front : (text : List ℕ) (answer : Answer) (more : List ℕ) (ending : Option Ending) → EndsAs answer more ending → EndsAs (with_text text answer) (text ++ more) ending
 ends_front text answer more (Some Finished) e = ap (with_text text) e

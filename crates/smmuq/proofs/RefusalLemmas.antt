@@ -1,5 +1,5 @@
 -- What it says that a batch isn't refused.
-use Rattle.std.proofs.Common.{◌≡◌, ℕ, ◌+◌, ◌<◌, ◌≤◌, Bool, true, false, cond, List, length, Option, Some, None, refl, arith, eqb, nat_lt, nat_le}
+use Rattle.std.proofs.Common.{◌≡◌, ℕ, ◌+◌, ◌<◌, ◌≤◌, List, length, Option, Some, None, refl}
 use Rattle.std.proofs.lemmas.Bool.{ltb-false, leb-false}
 use Rattle.cmdcodec.specs.declared.raw.Raw.{Raw}
 use Rattle.smmuq.specs.declared.refusal.Refusal.{Refusal}

@@ -1,5 +1,5 @@
 -- From what a request's own part does to what the request, and then the line, does.
-use Rattle.std.proofs.Common.{◌≡◌, ℕ, ◌≤◌, Bool, true, false, cond, List, ◌++◌, length, refl, ap, sym, ◌∙◌, [], Option, Some, None, subst, append-nil, codes, ◌⊎◌, inl, inr}
+use Rattle.std.proofs.Common.{◌≡◌, ℕ, ◌≤◌, Bool, true, false, cond, List, ◌++◌, length, ap, sym, ◌∙◌, [], Option, Some, None, subst, append-nil, codes, ◌⊎◌, inl, inr}
 use Rattle.std.proofs.lemmas.Bool.{le-ltb}
 use Rattle.cmdcodec.specs.declared.raw.Raw.{Raw}
 use Rattle.script.specs.Outcome.{fault_line}
@@ -11,7 +11,7 @@ use Rattle.smmuq.specs.declared.request.Request.TheVariants.{Nothing, Ring, Fill
 use Rattle.smmuq.specs.Requests.{request_of}
 use Rattle.smmuq.specs.Shapes.{shape_fault}
 use Rattle.smmuq.specs.ReplayText.{State, Effect, answers, faults, fill_effect, send_effect, step_effect, dump_effect, ring_or_fault, served, first_served, request_effect, asked_effect, line_effect}
-use Rattle.smmuq.specs.Standing.{Stands, StandsAt, Produces, Acts, ActsAt}
+use Rattle.smmuq.specs.Standing.{StandsAt, Produces, Acts, ActsAt}
 use Rattle.smmuq.proofs.EffectLemmas.{produces_at}
 
 -- the same effect by another name

@@ -1,10 +1,9 @@
 -- What the ring and the caches keep stands for the state after a request, where it stood for the one before.
-use Rattle.std.proofs.Common.{◌≡◌, ◌≢◌, ℕ, ◌+◌, ◌-◌, ◌*◌, ◌%◌, ◌^◌, ◌<◌, ◌≤◌, ◌==◌, Bool, true, false, cond, not, List, [], ◌∷◌, ◌++◌, length, drop, get_or, set, refl, ap, sym, ◌∙◌, arith, subst, inl, inr, append_assoc, append-nil, length-append, Option, Some, None, Result, Ok, Err, eqb, ltb, nat_lt}
-use Rattle.std.specs.Prelude.{replicate, slice_get, count_by, filter, codes, decimal, ◌⊎◌}
+use Rattle.std.proofs.Common.{◌≡◌, ℕ, ◌+◌, ◌*◌, ◌%◌, ◌^◌, ◌<◌, cond, not, List, [], ◌∷◌, ◌++◌, length, drop, get_or, set, ap, sym, ◌∙◌, arith, subst, inl, inr, append_assoc, length-append, Some}
+use Rattle.std.specs.Prelude.{replicate, slice_get, filter}
 use Rattle.std.specs.BTreeMap.{insert_entry}
-use Rattle.std.specs.Map.{lookup}
 use Rattle.std.proofs.lemmas.List.{get_or-set_same, get_or-set_other, length-set, length-replicate, get_or-replicate}
-use Rattle.std.proofs.lemmas.Bool.{cases_eq, ne_eqb}
+use Rattle.std.proofs.lemmas.Bool.{cases_eq}
 use Rattle.cmdcodec.specs.declared.raw.Raw.{Raw}
 use Rattle.cmdcodec.specs.declared.command.Command.{Command}
 use Rattle.cmdcodec.specs.Words.{encoding}
@@ -13,11 +12,10 @@ use Rattle.std.proofs.Math.Nat.{zero-mod}
 use Rattle.smmuq.specs.declared.shape.Shape.{Shape}
 use Rattle.smmuq.specs.declared.smmu.Smmu.{Smmu}
 use Rattle.smmuq.specs.declared.tag.Tag.{Tag}
-use Rattle.smmuq.specs.declared.entries.Filling.{Filling}
 use Rattle.smmuq.specs.Refusals.{is_sync}
-use Rattle.smmuq.specs.History.{Event, Filled, Took, held, entries_of, tag_cmp, covered}
-use Rattle.smmuq.specs.World.{World, reserved, size_of, index_of, batches_by, after_batch, after_take}
-use Rattle.smmuq.specs.ReplayText.{State, made, after_event, filled}
+use Rattle.smmuq.specs.History.{Took, held, entries_of, tag_cmp, covered}
+use Rattle.smmuq.specs.World.{reserved, size_of, index_of, batches_by, after_batch, after_take}
+use Rattle.smmuq.specs.ReplayText.{State, made, filled}
 use Rattle.smmuq.specs.Standing.{Stands}
 use Rattle.smmuq.proofs.HistoryLemmas.{entries_of-filled, entries_of-took}
 use Rattle.smmuq.proofs.WorldLemmas.{reserved-batch, batches_by-same, batches_by-other, waiting-take, reserved-take, index_of-more, count_by-snoc}

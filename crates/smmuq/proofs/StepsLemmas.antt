@@ -1,8 +1,8 @@
 -- Steps one after another.
-use Rattle.std.proofs.Common.{◌≡◌, ℕ, zero, suc, ◌-◌, ◌+◌, ◌<◌, ◌≤◌, Bool, true, false, cond, List, [], ◌++◌, refl, ap, sym, ◌∙◌, arith, subst, append_assoc, append-nil, Some}
+use Rattle.std.proofs.Common.{◌≡◌, ℕ, suc, ◌-◌, ◌+◌, ◌<◌, true, false, cond, List, [], ◌++◌, ap, sym, ◌∙◌, arith, append_assoc, append-nil, Some}
 use Rattle.smmuq.specs.declared.smmu.Smmu.{Smmu}
-use Rattle.smmuq.specs.ReplayText.{State, Effect, Step, answers, followed, step_of, steps_of, step_effect}
-use Rattle.smmuq.specs.Standing.{Stands, StandsAt, Produces, Acts, Stepped, Steps}
+use Rattle.smmuq.specs.ReplayText.{State, Step, answers, step_of, steps_of, step_effect}
+use Rattle.smmuq.specs.Standing.{Stands, Acts, Stepped, Steps}
 use Rattle.smmuq.proofs.EffectLemmas.{produces_at}
 
 -- a step with more text ahead

@@ -1,6 +1,6 @@
 -- What the ring has reserved and taken after one more batch or command.
-use Rattle.std.proofs.Common.{◌≡◌, ℕ, zero, suc, ◌+◌, ◌*◌, ◌%◌, ◌^◌, ◌==◌, Bool, true, false, cond, List, [], ◌∷◌, ◌++◌, length, drop, refl, ap, sym, ◌∙◌, arith, append_assoc, append-nil, eq-eqb, length-append, Option, Some, None}
-use Rattle.std.specs.Prelude.{slice_get, count_by, sum_by, flat_map}
+use Rattle.std.proofs.Common.{◌≡◌, ℕ, ◌+◌, ◌*◌, ◌%◌, Bool, cond, List, [], ◌∷◌, ◌++◌, length, drop, refl, ap, sym, ◌∙◌, arith, append_assoc, append-nil, eq-eqb, Some}
+use Rattle.std.specs.Prelude.{slice_get, count_by}
 use Rattle.std.proofs.lemmas.List.Concat.{flat_map-append}
 use Rattle.std.proofs.lemmas.List.Sums.{sum_by-append}
 use Rattle.std.proofs.Math.Nat.{mod-add-mod}
@@ -8,7 +8,7 @@ use Rattle.std.proofs.lemmas.Bool.{ne_eqb}
 use Rattle.cmdcodec.specs.declared.raw.Raw.{Raw}
 use Rattle.cmdcodec.specs.Words.{encoding}
 use Rattle.cmdcodec.specs.ClosingSync.{closing_sync}
-use Rattle.smmuq.specs.World.{World, Batch, commands_of_batch, reserved, index_of, size_of, is_batch_of, batches_by, after_batch, after_take, head_of}
+use Rattle.smmuq.specs.World.{World, commands_of_batch, reserved, index_of, size_of, is_batch_of, batches_by, after_batch, after_take, head_of}
 
 -- the batch that a sender reserves next
 abbrev pub next_batch : World → ℕ → List Raw → List Raw

@@ -1,5 +1,5 @@
 -- Which cached entries a command is for.
-use Rattle.std.specs.Prelude.{ℕ, ◌+◌, ◌/◌, ◌^◌, ◌==◌, Bool, false}
+use Rattle.std.specs.Prelude.{◌+◌, ◌/◌, ◌^◌, ◌==◌, Bool, false}
 use Rattle.cmdcodec.specs.declared.command.Command.{Command}
 use Rattle.cmdcodec.specs.declared.command.Command.TheVariants.{CfgiSte, CfgiSteRange, CmdSync}
 use Rattle.smmuq.specs.declared.tag.Tag.{Tag}

@@ -1,14 +1,14 @@
 -- Laws of what lines may come to.
-use Rattle.std.specs.Prelude.{◌≡◌, ℕ, ◌+◌, ◌<◌, nat_lt, List, [], ◌∷◌, ◌++◌, Bool, true, false, cond, Option, Some, None, length, codes, refl}
-use Rattle.std.proofs.Common.{ap, sym, ◌∙◌, append_assoc, append-nil}
+use Rattle.std.specs.Prelude.{◌≡◌, ℕ, ◌+◌, ◌<◌, List, [], ◌∷◌, ◌++◌, false, cond, Option, Some, None, length, codes, refl}
+use Rattle.std.proofs.Common.{ap, ◌∙◌, append_assoc}
 use Rattle.std.proofs.lemmas.Bool.{lt-ltb}
 use Rattle.script.specs.declared.ending.Ending.{Ending}
 use Rattle.script.specs.declared.ending.Ending.TheVariants.{Finished, Refused}
-use Rattle.script.specs.Outcome.{Outcome, fault, fault_line}
+use Rattle.script.specs.Outcome.{Outcome, fault}
 use Rattle.smmuq.specs.declared.smmu.Smmu.{Smmu}
 use Rattle.smmuq.specs.Requests.{request_of}
-use Rattle.smmuq.specs.ReplayText.{State, Answer, Effect, faults, asked_effect, line_effect, after_effect, answer_from}
-use Rattle.smmuq.specs.Giving.{EndsAs, MayCome, MayGive}
+use Rattle.smmuq.specs.ReplayText.{Answer, faults, asked_effect, line_effect, after_effect, answer_from}
+use Rattle.smmuq.specs.Giving.{EndsAs, MayGive}
 
 pub nothing_left : (smmu : Option Smmu) (n : ℕ) → MayGive smmu n [] (record { text = []; ending = Some Finished })
 unfolding answer_from

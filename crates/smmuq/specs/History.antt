@@ -1,5 +1,5 @@
 -- What the caches hold, read off a history.
-use Rattle.std.specs.Prelude.{ℕ, List, [], ◌∷◌, ◌==◌, Bool, not, Option, if◌then◌else◌, filter, length}
+use Rattle.std.specs.Prelude.{ℕ, List, [], ◌∷◌, ◌==◌, Bool, Option, if◌then◌else◌, filter, length}
 use Rattle.std.specs.List.{list_any}
 use Rattle.std.specs.BTreeMap.{insert_entry}
 use Rattle.std.specs.Map.{lookup}

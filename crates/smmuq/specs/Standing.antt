@@ -1,5 +1,5 @@
 -- When what the program keeps stands for a state of the definition, and what its parts do to it.
-use Rattle.std.specs.Prelude.{◌≡◌, ℕ, ◌<◌, ◌+◌, ◌^◌, List, ◌++◌, Bool, true, Option, Some, None, length, get_or, count_by}
+use Rattle.std.specs.Prelude.{◌≡◌, ℕ, ◌<◌, ◌^◌, List, ◌++◌, Bool, true, Option, Some, None, length, get_or, count_by}
 use Rattle.smmuq.specs.declared.smmu.Smmu.{Smmu}
 use Rattle.smmuq.specs.Refusals.{is_sync}
 use Rattle.smmuq.specs.History.{entries_of}

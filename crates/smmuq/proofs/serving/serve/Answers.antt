@@ -1,4 +1,3 @@
-use Rattle.std.proofs.Common.{IfErr}
 use Rattle.std.proofs.lemmas.Result.{IfOk-weaker, IfErr-weaker, on_err_weaker}
 use Rattle.smmuq.proofs.ComesLemmas.{answer_comes, memory_comes, beginning_comes, lines_come}
 use Rattle.smmuq.proofs.serving.serve.Goals as goal

@@ -1,4 +1,4 @@
-use Rattle.std.proofs.Common.{string_bytes, Some}
+use Rattle.std.proofs.Common.{string_bytes}
 use Rattle.std.proofs.lemmas.Result.{IfOk-weaker}
 use Rattle.smmuq.proofs.ServedLemmas.{acts_after, acts_first}
 use Rattle.smmuq.proofs.replay.Replay.serve_request.Goals as goal

@@ -1,4 +1,4 @@
-use Rattle.std.proofs.Common.{string_bytes, Some, None, sym, ap, ◌∙◌}
+use Rattle.std.proofs.Common.{string_bytes, sym, ◌∙◌}
 use Rattle.std.proofs.lemmas.Result.{IfOk-weaker}
 use Rattle.smmuq.proofs.ServedLemmas.{line_acts, bad_line}
 use Rattle.smmuq.proofs.replay.Replay.serve_text.Goals as goal

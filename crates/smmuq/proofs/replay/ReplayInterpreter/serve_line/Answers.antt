@@ -1,4 +1,4 @@
-use Rattle.std.proofs.Common.{string_bytes, subst, true, false}
+use Rattle.std.proofs.Common.{string_bytes, subst}
 use Rattle.std.proofs.lemmas.Result.{IfOk-weaker}
 use Rattle.smmuq.specs.ReplayText.{line_effect}
 use Rattle.smmuq.specs.Standing.{ActsAt}

@@ -1,4 +1,4 @@
-use Rattle.std.proofs.Common.{codes, refl, ◌++◌}
+use Rattle.std.proofs.Common.{codes, refl}
 use Rattle.std.proofs.lemmas.Result.{on_ok_weaker}
 use Rattle.smmuq.specs.declared.smmu.Smmu.{Smmu}
 use Rattle.smmuq.specs.ReplayText.{replaced_text, refused}

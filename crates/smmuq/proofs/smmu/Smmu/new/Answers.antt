@@ -1,4 +1,4 @@
-use Rattle.std.proofs.Common.{◌≡◌, ◌*◌, ◌%◌, ◌^◌, ◌≤◌, ◌<◌, refl, arith, ◌∙◌, zero}
+use Rattle.std.proofs.Common.{◌<◌, refl, arith, ◌∙◌, zero}
 use Rattle.std.proofs.lemmas.Nat.{one_shl}
 use Rattle.std.proofs.Math.Nat.{pow-le-pow_right}
 use Rattle.smmuq.proofs.TestLemmas.{shape_in_range}

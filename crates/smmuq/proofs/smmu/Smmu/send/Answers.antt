@@ -1,4 +1,4 @@
-use Rattle.std.proofs.Common.{◌≡◌, ◌<◌, ◌≤◌, ◌+◌, length, codes, refl, arith, None, sym, ap, ◌∙◌, ◌++◌, string_bytes}
+use Rattle.std.proofs.Common.{◌<◌, length, codes, refl, arith, sym, ap, ◌∙◌, ◌++◌, string_bytes}
 use Rattle.script.specs.Outcome.{fault_line}
 use Rattle.smmuq.specs.declared.smmu.Smmu.{Smmu}
 use Rattle.smmuq.specs.ReplayText.{refused, sent_text}

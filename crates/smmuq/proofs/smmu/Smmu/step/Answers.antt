@@ -1,4 +1,4 @@
-use Rattle.std.proofs.Common.{◌≡◌, ◌<◌, ◌≤◌, ◌+◌, ◌^◌, [], length, codes, refl, arith, sym, ap, ◌∙◌, append-nil, string_bytes, cond, filter}
+use Rattle.std.proofs.Common.{◌+◌, [], length, codes, refl, arith, sym, ap, ◌∙◌, append-nil, string_bytes, cond, filter}
 use Rattle.smmuq.specs.declared.smmu.Smmu.{Smmu}
 use Rattle.smmuq.specs.ReplayText.{applied_text}
 use Rattle.smmuq.specs.History.{covered}

@@ -1,4 +1,4 @@
-use Rattle.std.proofs.Common.{◌-◌, arith, string_bytes, subst, true, false}
+use Rattle.std.proofs.Common.{◌-◌, arith, string_bytes, subst}
 use Rattle.smmuq.specs.ReplayText.{step_of}
 use Rattle.smmuq.specs.Standing.{Steps}
 use Rattle.smmuq.proofs.StepsLemmas.{starts_running, runs_on, stops_running, ran}
