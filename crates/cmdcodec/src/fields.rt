@@ -7,17 +7,17 @@ use std::marker::Model;
 /// The number of a stream, `StreamID`: 32 bits.
 #[derive(Clone, Copy, Debug, PartialEq, Eq, PartialOrd, Ord)]
 pub struct Sid {
-    value: u32,
+    id: u32,
 }
 
 impl Model for Sid {
     ghost Value = { ℕ };
 
-    ghost view = { λ f. f.value };
+    ghost view = { λ f. f.id };
 
-    ghost invariant = { λ f. f.value < 2 ^ 32 };
+    ghost invariant = { λ f. f.id < 2 ^ 32 };
 
-    ghost inverse = { λ n. record { value = n } };
+    ghost inverse = { λ n. record { id = n } };
 }
 
 impl Sid {
@@ -26,9 +26,7 @@ impl Sid {
         ensures { SomeIff result (value < 2 ^ 32) value }
     {
         if value < 1 << 32 {
-            Some(Sid {
-                value: value as u32,
-            })
+            Some(Sid { id: value as u32 })
         } else {
             None
         }
@@ -39,24 +37,24 @@ impl Sid {
         ensures value { result ≡ self }
         ensures in_range { result < 2 ^ 32 }
     {
-        self.value
+        self.id
     }
 }
 
 /// `Range` of CFGI_STE_RANGE: the command is for `2^(Range+1)` streams. 5 bits.
 #[derive(Clone, Copy, Debug, PartialEq, Eq)]
 pub struct StreamRange {
-    value: u8,
+    range: u8,
 }
 
 impl Model for StreamRange {
     ghost Value = { ℕ };
 
-    ghost view = { λ f. f.value };
+    ghost view = { λ f. f.range };
 
-    ghost invariant = { λ f. f.value < 32 };
+    ghost invariant = { λ f. f.range < 32 };
 
-    ghost inverse = { λ n. record { value = n } };
+    ghost inverse = { λ n. record { range = n } };
 }
 
 impl StreamRange {
@@ -65,7 +63,7 @@ impl StreamRange {
         ensures { SomeIff result (value < 32) value }
     {
         if value < 32 {
-            Some(StreamRange { value: value as u8 })
+            Some(StreamRange { range: value as u8 })
         } else {
             None
         }
@@ -76,24 +74,24 @@ impl StreamRange {
         ensures value { result ≡ self }
         ensures in_range { result < 32 }
     {
-        self.value
+        self.range
     }
 }
 
 /// `CS` of CMD_SYNC, how completion is told: 0 not at all, 1 by interrupt, 2 by event.
 #[derive(Clone, Copy, Debug, PartialEq, Eq)]
 pub struct Cs {
-    value: u8,
+    signal: u8,
 }
 
 impl Model for Cs {
     ghost Value = { ℕ };
 
-    ghost view = { λ f. f.value };
+    ghost view = { λ f. f.signal };
 
-    ghost invariant = { λ f. f.value < 3 };
+    ghost invariant = { λ f. f.signal < 3 };
 
-    ghost inverse = { λ n. record { value = n } };
+    ghost inverse = { λ n. record { signal = n } };
 }
 
 impl Cs {
@@ -102,7 +100,9 @@ impl Cs {
         ensures { SomeIff result (value < 3) value }
     {
         if value < 3 {
-            Some(Cs { value: value as u8 })
+            Some(Cs {
+                signal: value as u8,
+            })
         } else {
             None
         }
@@ -113,24 +113,24 @@ impl Cs {
         ensures value { result ≡ self }
         ensures in_range { result < 3 }
     {
-        self.value
+        self.signal
     }
 }
 
 /// `MSH` of CMD_SYNC, the shareability of the completing write: 2 bits.
 #[derive(Clone, Copy, Debug, PartialEq, Eq)]
 pub struct Msh {
-    value: u8,
+    shareability: u8,
 }
 
 impl Model for Msh {
     ghost Value = { ℕ };
 
-    ghost view = { λ f. f.value };
+    ghost view = { λ f. f.shareability };
 
-    ghost invariant = { λ f. f.value < 4 };
+    ghost invariant = { λ f. f.shareability < 4 };
 
-    ghost inverse = { λ n. record { value = n } };
+    ghost inverse = { λ n. record { shareability = n } };
 }
 
 impl Msh {
@@ -139,7 +139,9 @@ impl Msh {
         ensures { SomeIff result (value < 4) value }
     {
         if value < 4 {
-            Some(Msh { value: value as u8 })
+            Some(Msh {
+                shareability: value as u8,
+            })
         } else {
             None
         }
@@ -150,24 +152,24 @@ impl Msh {
         ensures value { result ≡ self }
         ensures in_range { result < 4 }
     {
-        self.value
+        self.shareability
     }
 }
 
 /// `MSIATTR` of CMD_SYNC, the memory type of the completing write: 4 bits.
 #[derive(Clone, Copy, Debug, PartialEq, Eq)]
 pub struct Attr {
-    value: u8,
+    attributes: u8,
 }
 
 impl Model for Attr {
     ghost Value = { ℕ };
 
-    ghost view = { λ f. f.value };
+    ghost view = { λ f. f.attributes };
 
-    ghost invariant = { λ f. f.value < 16 };
+    ghost invariant = { λ f. f.attributes < 16 };
 
-    ghost inverse = { λ n. record { value = n } };
+    ghost inverse = { λ n. record { attributes = n } };
 }
 
 impl Attr {
@@ -176,7 +178,9 @@ impl Attr {
         ensures { SomeIff result (value < 16) value }
     {
         if value < 16 {
-            Some(Attr { value: value as u8 })
+            Some(Attr {
+                attributes: value as u8,
+            })
         } else {
             None
         }
@@ -187,7 +191,7 @@ impl Attr {
         ensures value { result ≡ self }
         ensures in_range { result < 16 }
     {
-        self.value
+        self.attributes
     }
 }
 
