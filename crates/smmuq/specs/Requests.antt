@@ -1,5 +1,5 @@
 -- What the lines of a script ask for.
-use Rattle.std.specs.Prelude.{ℕ, ◌^◌, nat_lt, nat_le, List, [], ◌∷◌, ◌==◌, ◌||◌, ◌&&◌, Bool, true, false, Option, Some, None, Result, Ok, Err, codes, if◌then◌else◌}
+use Rattle.std.specs.Prelude.{ℕ, ◌^◌, nat_lt, nat_le, List, [], ◌∷◌, ◌==◌, ◌||◌, ◌&&◌, Bool, true, false, Option, Some, None, is_none, Result, Ok, Err, codes, if◌then◌else◌}
 use Rattle.std.specs.List.{list_all}
 use Rattle.std.specs.Str.{bytes_eq}
 use Rattle.hex.specs.Hex.{decode_sized}
@@ -63,10 +63,6 @@ raw_of_decoded (Err e) = None
 -- HEX: 32 hexadecimal digits of either case, the bytes of a command
 abbrev pub hex_of : List ℕ → Option Raw
 hex_of word = raw_of_decoded (decode_sized word 16)
-
-abbrev pub is_none : {A : Type 0} → Option A → Bool
-is_none None = true
-is_none (Some x) = false
 
 -- a legal command with an opcode that the ring takes yet
 abbrev pub is_sendable : Raw → Bool
