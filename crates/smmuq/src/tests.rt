@@ -1,4 +1,4 @@
-//! What no clause says: scripts and their answers, and the command line.
+//! What no clause says: scripts and their answers, the command line, and readers and writers that fail.
 mod answers;
 mod caches;
 mod command_line;
@@ -6,3 +6,4 @@ mod fakes;
 mod lines;
 mod rings;
 mod sending;
+mod streams;
