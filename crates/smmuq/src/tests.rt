@@ -1,0 +1,10 @@
+//! What no clause says: scripts and their answers, the command line, and readers, writers and allocations that fail.
+mod answers;
+mod caches;
+mod command_line;
+mod fakes;
+mod lines;
+mod memory;
+mod rings;
+mod sending;
+mod streams;

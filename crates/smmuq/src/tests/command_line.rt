@@ -1,0 +1,92 @@
+//! The words of the command line, and the exit status.
+use super::fakes::{Sink, Source};
+use crate::program::program;
+use std::io::ErrorKind;
+use std::test::Fail;
+
+const PIPE: ErrorKind = ErrorKind::BrokenPipe;
+
+#[test]
+fn a_whole_script(rt: HostRuntime) -> Result<(), Fail> {
+    let mut input = b"ring 1 2 8 4\n\
+                      fill ste 5 70\n\
+                      send 0 03000000050000000100000000000000\n\
+                      send 1 03000000050000000100000000000000\n\
+                      step 2\n\
+                      send 1 03000000050000000100000000000000\n\
+                      dump\n"
+        .as_slice();
+    let mut output = Vec::new(rt.alloc());
+    let mut faults = Vec::new(rt.alloc());
+    let status = program(&rt, &["replay"], &mut input, &mut output, &mut faults);
+    let text = "ring size 2\n\
+                filled\n\
+                sent 0 number 1\n\
+                refused Q2\n\
+                applied CFGI_STE sid=5 leaf=1 removed=1\n\
+                applied CMD_SYNC cs=1 msh=0 attr=0 data=1 addr=0x40000000 removed=0\n\
+                sent 1 number 1\n\
+                prod 0x00000000\n\
+                cons 0x00000002\n\
+                gerror 0 gerrorn 0\n\
+                taken 2 applied 2 replaced 0 syncs 1 removed 1\n\
+                end\n";
+    assert_eq!(rt; status, 0);
+    assert_eq!(rt; str::from_utf8(output.as_slice())?, text);
+    assert!(rt; faults.is_empty());
+    Ok(())
+}
+
+#[test]
+fn command_lines_that_are_not_understood(rt: HostRuntime) {
+    for (name, words) in [
+        ("no word", [].as_slice()),
+        ("a word that means nothing", ["explode"].as_slice()),
+        ("a word too many", ["replay", "more"].as_slice()),
+    ] {
+        let mut input = b"ring 3 1 4 4\n".as_slice();
+        let mut output = Vec::new(rt.alloc());
+        let mut faults = Vec::new(rt.alloc());
+        let status = program(&rt, words, &mut input, &mut output, &mut faults);
+        assert_eq!(rt; status, 2, "{name}");
+        assert!(rt; output.is_empty(), "{name}");
+        assert!(rt; !faults.is_empty(), "{name}");
+        assert_eq!(rt; input.len(), 13, "{name}: nothing is read");
+    }
+}
+
+#[test]
+fn help(rt: HostRuntime) {
+    let mut input = b"".as_slice();
+    let mut output = Vec::new(rt.alloc());
+    let mut faults = Vec::new(rt.alloc());
+    let status = program(&rt, &["--help"], &mut input, &mut output, &mut faults);
+    assert_eq!(rt; status, 0);
+    assert!(rt; !output.is_empty());
+    assert!(rt; faults.is_empty());
+}
+
+#[test]
+fn exit_statuses(rt: HostRuntime) {
+    for (name, word, script, bad_read, bad_write, wanted) in [
+        (
+            "a script that is served",
+            "replay",
+            "ring 3 1 4 4\n",
+            0,
+            0,
+            0,
+        ),
+        ("a script that is refused", "replay", "dump\n", 0, 0, 1),
+        ("a read that fails", "replay", "ring 3 1 4 4\n", 1, 0, 4),
+        ("a write that fails", "replay", "ring 3 1 4 4\n", 0, 1, 4),
+        ("help that can't be written", "--help", "", 0, 1, 4),
+    ] {
+        let mut input = Source::new(script.as_bytes(), 100, bad_read, PIPE);
+        let mut output = Sink::new(100, bad_write, PIPE);
+        let mut faults = Sink::new(100, 0, PIPE);
+        let status = program(&rt, &[word], &mut input, &mut output, &mut faults);
+        assert_eq!(rt; status, wanted, "{name}");
+        assert_eq!(rt; faults.text(), "", "{name}");
+    }
+}
