@@ -1,4 +1,8 @@
 //! The program: its command line, and what it ends with.
+ghost use Rattle.std.specs.Prelude.{◌≡◌, ◌⊎◌};
+ghost use Rattle.std.specs.Io.KnownBytes.{Keeps};
+ghost use Rattle.smmuq.specs.Replay.{ExitsAsReplay};
+
 use crate::serving::replay;
 use crate::status::Status;
 use clap::error::ErrorKind;
@@ -56,6 +60,12 @@ fn tell<O: Write, F: Write>(error: &Error, output: &mut O, faults: &mut F) -> u8
     }
 }
 
+fn replay_to_exit<I: Read, O: Write>(alloc: Global, input: &mut I, output: &mut O) -> u8
+    ensures { ExitsAsReplay result (I.remaining input.old) (O.contents output.old) (O.contents output.new) }
+{
+    replay(alloc, input, output) as u8
+}
+
 /// Does what the words ask, without the program's own name, and answers the exit status: 0 good,
 /// 1 refused input, 2 a command line that isn't understood, 3 want of memory, 4 a failed read or write.
 ///
@@ -67,9 +77,13 @@ pub fn program<'a, A: AllocGlobal, I: Read, O: Write, F: Write>(
     input: &mut I,
     output: &mut O,
     faults: &mut F,
-) -> u8 {
+) -> u8
+    // Either a script was replayed, or no input was read.
+    ensures { ExitsAsReplay result (I.remaining input.old) (O.contents output.old) (O.contents output.new)
+        ⊎ Keeps (I.remaining input.old) (I.remaining input.new) }
+{
     match understand(rt.alloc(), words) {
-        Ok(()) => replay(rt.alloc(), input, output) as u8,
+        Ok(()) => replay_to_exit(rt.alloc(), input, output),
         Err(error) => tell(&error, output, faults),
     }
 }

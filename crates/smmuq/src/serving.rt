@@ -4,7 +4,7 @@ ghost use Rattle.std.specs.Io.KnownBytes.{IsAtEnd};
 ghost use Rattle.script.specs.Errors.{is_read, is_memory};
 ghost use Rattle.script.specs.Writing.{WritesAnswer, WritesNoMemory, WritesBeginning, AnswersWholeLines};
 ghost use Rattle.smmuq.specs.Giving.{MayAnswer};
-ghost use Rattle.smmuq.specs.Replay.{Replays};
+ghost use Rattle.smmuq.specs.Replay.{Replays, status_of};
 
 use crate::replay::Replay;
 use crate::status::Status;
@@ -39,14 +39,21 @@ pub fn serve<R: Read, W: Write>(
     script::serve(alloc, &mut replay, input, output)
 }
 
+fn status_of(served: &Result<Ending, ServeError>) -> Status
+    ensures { result ≡ status_of served.now }
+{
+    match served {
+        Ok(Ending::Finished) => Status::Good,
+        Ok(Ending::Refused) => Status::Refused,
+        Err(ServeError::Memory(_)) => Status::NoMemory,
+        Err(ServeError::Read(_) | ServeError::Write(_) | ServeError::Endless) => Status::Failed,
+    }
+}
+
 /// Reads a script and writes its answers, the line `no memory` among them, and says how it went.
 pub fn replay<R: Read, W: Write>(alloc: Global, input: &mut R, output: &mut W) -> Status
     ensures { Replays result (R.remaining input.old) (W.contents output.old) (W.contents output.new) }
 {
-    match serve(alloc, input, output) {
-        Ok(Ending::Finished) => Status::Good,
-        Ok(Ending::Refused) => Status::Refused,
-        Err(ServeError::Memory(_)) => Status::NoMemory,
-        Err(_) => Status::Failed,
-    }
+    let served = serve(alloc, input, output);
+    status_of(&served)
 }
