@@ -1,6 +1,6 @@
 //! Bit fields of a word.
 ghost use Rattle.std.specs.Prelude.{◌≡◌, ◌<◌, ◌≤◌, ◌+◌, ◌-◌, ◌^◌};
-ghost use Rattle.cmdcodec.specs.Fields.{field, bit};
+ghost use Rattle.cmdcodec.specs.Fields.{field};
 
 /// Bits `high` to `low` of a word.
 pub(crate) fn field(word: u64, high: u32, low: u32) -> u64

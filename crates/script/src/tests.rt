@@ -36,11 +36,12 @@ impl Interpreter for Lengths {
     ghost cut = { λ _ _ _ _ _ _ _ _. tt };
 }
 
-// Gives a text, at most so many bytes a call. The call of number `bad` fails.
+// Gives a text, at most so many bytes a call, and keeps the least room that a call offered. The call of number `bad` fails.
 #[derive(Drop)]
 struct Source<'a> {
     text: &'a [u8],
     most: usize,
+    least_room: usize,
     calls: u32,
     bad: u32,
     kind: ErrorKind,
@@ -48,6 +49,7 @@ struct Source<'a> {
 
 impl<'a> Read for Source<'a> {
     fn read(&mut self, buf: &mut [u8]) -> io::Result<usize> {
+        self.least_room = self.least_room.min(buf.len());
         self.calls = self.calls.saturating_add(1);
         if self.calls == self.bad {
             return Err(io::Error::from(self.kind));
@@ -64,6 +66,7 @@ impl<'a> Source<'a> {
         Source {
             text,
             most,
+            least_room: usize::MAX,
             calls: 0,
             bad,
             kind,
@@ -159,6 +162,7 @@ fn a_long_line_needs_no_end(rt: HostRuntime) -> Result<(), Fail> {
             let mut output = Sink::new(100, 0, PIPE);
             serve(rt.alloc(), &mut Lengths, &mut input, &mut output)?;
             assert_eq!(rt; output.text(), text.as_bytes(), "{length} by {most}");
+            assert!(rt; input.least_room >= 4096, "{length} by {most}");
         }
     }
     Ok(())

@@ -11,9 +11,10 @@ use Rattle.cmdcodec.specs.ClosingSync.{closing_sync}
 use Rattle.std.proofs.Math.Nat.{zero-mod}
 use Rattle.smmuq.specs.declared.shape.Shape.{Shape}
 use Rattle.smmuq.specs.declared.smmu.Smmu.{Smmu}
+use Rattle.smmuq.specs.declared.entries.Filling.{Filling}
 use Rattle.smmuq.specs.declared.tag.Tag.{Tag}
 use Rattle.smmuq.specs.Refusals.{is_sync}
-use Rattle.smmuq.specs.History.{Took, held, entries_of, tag_cmp, covered}
+use Rattle.smmuq.specs.History.{Event, Filled, Took, held, entries_of, tag_cmp, covered}
 use Rattle.smmuq.specs.World.{reserved, size_of, index_of, batches_by, after_batch, after_take}
 use Rattle.smmuq.specs.ReplayText.{State, made, filled}
 use Rattle.smmuq.specs.Standing.{Stands}
@@ -25,10 +26,10 @@ size_is smmu state s = s.size ∙ ap (λ shape. 2 ^ shape.log2) (sym s.shape)
 
 -- ---- a fill
 
-pub stands_filled : (old new : Smmu) (state : State) (tag : Tag) (value : ℕ) → Stands old state → new.shape ≡ old.shape → new.queue ≡ old.queue → new.counts ≡ old.counts
-    → new.entries.capacity ≡ old.entries.capacity
-    → new.entries.map.entries ≡ insert_entry tag_cmp old.entries.map.entries tag (record { value = value; born = old.counts.taken }) → Stands new (filled state tag value)
-stands_filled old new state tag value s shape queue counts capacity entries = record {
+-- nothing but the entries is another
+stands_again : (old new : Smmu) (state : State) (history : List Event) → Stands old state → new.shape ≡ old.shape → new.queue ≡ old.queue → new.counts ≡ old.counts
+    → new.entries.capacity ≡ old.entries.capacity → new.entries.map.entries ≡ entries_of history → Stands new (record state { history = history })
+stands_again old new state history s shape queue counts capacity entries = record {
   shape = s.shape ∙ sym shape;
   size = ap (λ q. q.size) queue ∙ s.size ∙ ap (λ sh. 2 ^ sh.log2) (sym shape);
   capacity = capacity ∙ s.capacity ∙ ap (λ sh. sh.capacity) (sym shape);
@@ -37,31 +38,25 @@ stands_filled old new state tag value s shape queue counts capacity entries = re
   cons = ap (λ q. q.cons) queue ∙ s.cons;
   senders = ap (λ q. length q.sent.items) queue ∙ s.senders ∙ ap (λ sh. sh.senders) (sym shape);
   sent = λ sender low. ap (λ q. get_or q.sent.items sender 0) queue ∙ s.sent sender (subst (λ q. sender < length q.sent.items) queue low);
-  entries = entries ∙ ap (λ es. insert_entry tag_cmp es tag (record { value = value; born = old.counts.taken })) s.entries
-      ∙ ap (λ n. insert_entry tag_cmp (entries_of state.history) tag (record { value = value; born = n })) s.taken
-      ∙ sym (entries_of-filled state.history tag (record { value = value; born = length state.world.taken }));
+  entries = entries;
   taken = ap (λ c. c.taken) counts ∙ s.taken;
   syncs = ap (λ c. c.syncs) counts ∙ s.syncs;
   removed = ap (λ c. c.removed) counts ∙ s.removed;
 }
 
--- nothing that shows is another
 pub stands_same : (old new : Smmu) (state : State) → Stands old state → new.shape ≡ old.shape → new.queue ≡ old.queue → new.counts ≡ old.counts
     → new.entries.capacity ≡ old.entries.capacity → new.entries.map.entries ≡ old.entries.map.entries → Stands new state
-stands_same old new state s shape queue counts capacity entries = record {
-  shape = s.shape ∙ sym shape;
-  size = ap (λ q. q.size) queue ∙ s.size ∙ ap (λ sh. 2 ^ sh.log2) (sym shape);
-  capacity = capacity ∙ s.capacity ∙ ap (λ sh. sh.capacity) (sym shape);
-  waiting = s.waiting ∙ ap (λ q. state.world.taken ++ q.waiting.items) (sym queue);
-  prod = ap (λ q. q.prod) queue ∙ s.prod;
-  cons = ap (λ q. q.cons) queue ∙ s.cons;
-  senders = ap (λ q. length q.sent.items) queue ∙ s.senders ∙ ap (λ sh. sh.senders) (sym shape);
-  sent = λ sender low. ap (λ q. get_or q.sent.items sender 0) queue ∙ s.sent sender (subst (λ q. sender < length q.sent.items) queue low);
-  entries = entries ∙ s.entries;
-  taken = ap (λ c. c.taken) counts ∙ s.taken;
-  syncs = ap (λ c. c.syncs) counts ∙ s.syncs;
-  removed = ap (λ c. c.removed) counts ∙ s.removed;
-}
+stands_same old new state s shape queue counts capacity entries = stands_again old new state state.history s shape queue counts capacity (entries ∙ s.entries)
+
+pub stands_filled : (old new : Smmu) (state : State) (tag : Tag) (value : ℕ) → Stands old state → new.shape ≡ old.shape → new.queue ≡ old.queue → new.counts ≡ old.counts
+    → new.entries.capacity ≡ old.entries.capacity
+    → new.entries.map.entries ≡ insert_entry tag_cmp old.entries.map.entries tag (record { value = value; born = old.counts.taken }) → Stands new (filled state tag value)
+stands_filled old new state tag value s shape queue counts capacity entries =
+    let filling : Filling = record { value = value; born = length state.world.taken } in
+    stands_again old new state (state.history ++ Filled tag filling ∷ []) s shape queue counts capacity
+    (entries ∙ ap (λ es. insert_entry tag_cmp es tag (record { value = value; born = old.counts.taken })) s.entries
+    ∙ ap (λ n. insert_entry tag_cmp (entries_of state.history) tag (record { value = value; born = n })) s.taken
+    ∙ sym (entries_of-filled state.history tag filling))
 
 -- ---- a batch
 

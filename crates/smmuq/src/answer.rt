@@ -1,5 +1,5 @@
 //! The texts that answers are made of.
-ghost use Rattle.std.specs.Prelude.{◌≡◌, ◌≤◌, ◌++◌, IfOk, OnOk, string_bytes, false};
+ghost use Rattle.std.specs.Prelude.{◌≡◌, ◌≤◌, ◌++◌, OnOk, string_bytes};
 ghost use Rattle.script.specs.Outcome.{fault_line};
 ghost use Rattle.smmuq.specs.ReplayText.{ring_text, refused, replaced_text, sent_text, applied_text, register_line, registers_text, totals_text, entry_line};
 

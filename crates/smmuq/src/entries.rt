@@ -1,7 +1,5 @@
 //! What the caches hold.
-ghost use Rattle.std.specs.Prelude.{◌≡◌, ◌+◌, ◌≤◌, OnOk, ◌++◌, flat_map, string_bytes, [], length, filter, not, Some, None, nat_lt, map};
-ghost use Rattle.std.specs.BTreeMap.{insert_entry};
-ghost use Rattle.std.specs.Map.{lookup};
+ghost use Rattle.std.specs.Prelude.{◌≡◌, ◌+◌, ◌≤◌, OnOk, ◌++◌, flat_map, string_bytes, [], length, filter, not};
 ghost use Rattle.smmuq.specs.Covers.{covers};
 
 use crate::answer::say_entry;

@@ -1,5 +1,5 @@
 //! From a line to what it asks for.
-ghost use Rattle.std.specs.Prelude.{◌≡◌, ◌^◌, ◌++◌, IfOk, Ok, Err, option_map, map, Some, None};
+ghost use Rattle.std.specs.Prelude.{◌≡◌, ◌^◌, IfOk, option_map, Some, None};
 ghost use Rattle.std.specs.List.{list_all};
 ghost use Rattle.script.specs.Words.{words_of};
 ghost use Rattle.smmuq.specs.Requests.{next_below, is_end, ring_of, tag_of, fill_of, hex_of, is_sendable, command_of, commands_of, send_of, counted_steps, steps_of, named, is_comment, request_from, request_of, is_printable};

@@ -1,5 +1,5 @@
 //! The program: its command line, and what it ends with.
-ghost use Rattle.std.specs.Prelude.{◌≡◌, ◌⊎◌};
+ghost use Rattle.std.specs.Prelude.{◌⊎◌};
 ghost use Rattle.std.specs.Io.KnownBytes.{Keeps};
 ghost use Rattle.smmuq.specs.Replay.{ExitsAsReplay};
 

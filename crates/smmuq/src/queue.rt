@@ -1,5 +1,5 @@
 //! The commands that wait in the ring, and its wrapped indexes.
-ghost use Rattle.std.specs.Prelude.{◌≡◌, ◌+◌, ◌*◌, ◌%◌, ◌≤◌, ◌<◌, ◌^◌, ◌++◌, ◌∷◌, [], ℕ, OnOk, IfOk, length, get_or, slice_get, slice_set, drop, replicate};
+ghost use Rattle.std.specs.Prelude.{◌≡◌, ◌+◌, ◌*◌, ◌%◌, ◌≤◌, ◌<◌, ◌^◌, ◌++◌, ◌∷◌, [], OnOk, IfOk, length, get_or, slice_get, slice_set, drop, replicate};
 ghost use Rattle.cmdcodec.specs.Words.{encoding};
 ghost use Rattle.cmdcodec.specs.ClosingSync.{closing_sync};
 

@@ -1,5 +1,5 @@
 //! The ring and the caches behind it, by the plainest means.
-ghost use Rattle.std.specs.Prelude.{◌≡◌, IfOk, OnOk, None, length, string_bytes, true};
+ghost use Rattle.std.specs.Prelude.{◌≡◌, IfOk, OnOk, None, string_bytes, true};
 
 use crate::answer::{
     say, say_applied, say_fault, say_refused, say_registers, say_replaced, say_sent, say_totals,
