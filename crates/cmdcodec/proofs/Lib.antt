@@ -1,2 +1,5 @@
 pub mod FieldLemmas
 pub mod ByteLemmas
+pub mod SpellingLemmas
+pub mod PageRunLemmas
+pub mod LawLemmas

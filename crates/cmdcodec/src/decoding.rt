@@ -1,16 +1,21 @@
 //! The command of two words.
-ghost use Rattle.std.specs.Prelude.{◌≡◌, Some, None, Ok, Err, IfOk, IfErr};
-ghost use Rattle.cmdcodec.specs.Spelling.{Spells, opcode_of};
+ghost use Rattle.std.specs.Prelude.{◌≡◌, ◌<◌, ◌≤◌, Some, None, Ok, Err, IfOk, IfErr};
 ghost use Rattle.cmdcodec.specs.Fields.{field};
+ghost use Rattle.cmdcodec.specs.Opcodes.{opcode_of, number_of};
+ghost use Rattle.cmdcodec.specs.Spelling.{Spells};
 ghost use Rattle.cmdcodec.specs.Legality.{first_ill};
-ghost use Rattle.cmdcodec.specs.Words.{decoding, command_in};
+ghost use Rattle.cmdcodec.specs.Words.{command_with, decoding};
 ghost use Rattle.cmdcodec.specs.declared.command.Command.{Command};
 ghost use Rattle.cmdcodec.specs.declared.ill.Ill.{Ill};
+ghost use Rattle.cmdcodec.specs.declared.opcode.Opcode.TheVariants.{CfgiSteRange, CfgiCd, TlbiNhVa, TlbiNhVaa, TlbiEl2Va, TlbiEl2Vaa, TlbiS2Ipa, AtcInv, CmdSync};
 
 use crate::bits::field;
 use crate::command::Command;
-use crate::fields::{Attr, Cs, Msh, MsiWord, Sid, StreamRange};
+use crate::fields::{Attr, Cs, IpaPage, Msh, MsiWord, Size, StreamRange};
 use crate::ill::Ill;
+use crate::kept::KeptRaw;
+use crate::legality::first_ill;
+use crate::opcode::Opcode;
 use crate::raw::Raw;
 
 /// The command that the words spell, or the first thing that is illegal in them.
@@ -18,65 +23,149 @@ use crate::raw::Raw;
 pub fn decode(raw: Raw) -> Result<Command, Ill>
     ensures exact { result ≡ decoding raw }
     ensures found { IfOk result (λ command. Spells raw command × (first_ill raw ≡ None)) }
-    ensures only { (command : Command) → Spells raw command → first_ill raw ≡ None → result ≡ Ok command }
+    ensures only { (command : Command) → Spells raw command → result ≡ Ok command }
     ensures fault { (ill : Ill) → first_ill raw ≡ Some ill → result ≡ Err ill }
     ensures first { IfErr result (λ ill. first_ill raw ≡ Some ill) }
 {
+    let Some(opcode) = raw.opcode() else {
+        return Err(Ill::UnknownOpcode);
+    };
     match first_ill(raw) {
         Some(ill) => Err(ill),
-        None => Ok(command_in(raw)),
+        None => Ok(command_with(opcode, raw)),
     }
 }
 
-const CFGI_STE: u64 = 0x03;
-
-const CFGI_STE_RANGE: u64 = 0x04;
-
-const CMD_SYNC: u64 = 0x46;
-
-fn opcode(raw: Raw) -> u64
-    ensures { result ≡ opcode_of raw }
+/// The fields that a command of this opcode has.
+fn command_with(opcode: Opcode, raw: Raw) -> Command
+    requires opcode { number_of opcode ≡ opcode_of raw }
+    requires legal { first_ill raw ≡ None }
+    ensures { result ≡ command_with opcode raw }
 {
-    field(raw.lo, 7, 0)
-}
-
-fn first_ill(raw: Raw) -> Option<Ill>
-    ensures { result ≡ first_ill raw }
-{
-    match opcode(raw) {
-        CFGI_STE | CFGI_STE_RANGE if field(raw.lo, 10, 10) == 1 => Some(Ill::SecureStream),
-        CMD_SYNC if field(raw.lo, 13, 12) == 3 => Some(Ill::ReservedSignal),
-        CFGI_STE | CFGI_STE_RANGE | CMD_SYNC => None,
-        _ => Some(Ill::UnknownOpcode),
+    let (sid, vmid, asid, leaf) = (raw.sid(), raw.vmid(), raw.asid(), raw.leaf());
+    match opcode {
+        Opcode::CfgiSte => Command::CfgiSte { sid, leaf },
+        Opcode::CfgiSteRange => cfgi_ste_range(raw),
+        Opcode::CfgiCd => cfgi_cd(raw),
+        Opcode::CfgiCdAll => Command::CfgiCdAll { sid },
+        Opcode::TlbiNhAll => Command::TlbiNhAll { vmid },
+        Opcode::TlbiNhAsid => Command::TlbiNhAsid { vmid, asid },
+        Opcode::TlbiNhVa => tlbi_nh_va(raw),
+        Opcode::TlbiNhVaa => tlbi_nh_vaa(raw),
+        Opcode::TlbiEl2All => Command::TlbiEl2All,
+        Opcode::TlbiEl2Asid => Command::TlbiEl2Asid { asid },
+        Opcode::TlbiEl2Va => tlbi_el2_va(raw),
+        Opcode::TlbiEl2Vaa => tlbi_el2_vaa(raw),
+        Opcode::TlbiS12Vmall => Command::TlbiS12Vmall { vmid },
+        Opcode::TlbiS2Ipa => tlbi_s2_ipa(raw),
+        Opcode::TlbiNsnhAll => Command::TlbiNsnhAll,
+        Opcode::AtcInv => atc_inv(raw),
+        Opcode::PrefetchConfig
+        | Opcode::PrefetchAddr
+        | Opcode::PriResp
+        | Opcode::Resume
+        | Opcode::StallTerm => Command::Kept(KeptRaw::new(raw).unwrap()),
+        Opcode::CmdSync => cmd_sync(raw),
     }
 }
 
-/// The fields of the opcode that legal words have.
-fn command_in(raw: Raw) -> Command
-    requires { first_ill raw ≡ None }
-    ensures { result ≡ command_in raw }
+fn cfgi_ste_range(raw: Raw) -> Command
+    ensures { result ≡ command_with CfgiSteRange raw }
 {
-    match opcode(raw) {
-        CFGI_STE => Command::CfgiSte {
-            sid: stream(raw),
-            leaf: field(raw.hi, 0, 0) == 1,
-        },
-        CFGI_STE_RANGE => Command::CfgiSteRange {
-            sid: stream(raw),
-            range: StreamRange::new(field(raw.hi, 4, 0)).unwrap(),
-        },
-        _ => Command::CmdSync {
-            cs: Cs::new(field(raw.lo, 13, 12)).unwrap(),
-            msh: Msh::new(field(raw.lo, 23, 22)).unwrap(),
-            attr: Attr::new(field(raw.lo, 27, 24)).unwrap(),
-            data: field(raw.lo, 63, 32) as u32,
-            address: MsiWord::new(field(raw.hi, 51, 2)).unwrap(),
-        },
+    Command::CfgiSteRange {
+        sid: raw.sid(),
+        range: StreamRange::new(field(raw.hi, 4, 0)).unwrap(),
     }
 }
 
-fn stream(raw: Raw) -> Sid
-    ensures { result ≡ field raw.lo 63 32 }
+fn cfgi_cd(raw: Raw) -> Command
+    ensures { result ≡ command_with CfgiCd raw }
 {
-    Sid::new(field(raw.lo, 63, 32)).unwrap()
+    Command::CfgiCd {
+        sid: raw.sid(),
+        ssid: raw.ssid(),
+        leaf: raw.leaf(),
+    }
+}
+
+fn tlbi_nh_va(raw: Raw) -> Command
+    ensures { result ≡ command_with TlbiNhVa raw }
+{
+    Command::TlbiNhVa {
+        vmid: raw.vmid(),
+        asid: raw.asid(),
+        leaf: raw.leaf(),
+        page: raw.page(),
+        reach: raw.reach(),
+    }
+}
+
+fn tlbi_nh_vaa(raw: Raw) -> Command
+    ensures { result ≡ command_with TlbiNhVaa raw }
+{
+    Command::TlbiNhVaa {
+        vmid: raw.vmid(),
+        leaf: raw.leaf(),
+        page: raw.page(),
+        reach: raw.reach(),
+    }
+}
+
+fn tlbi_el2_va(raw: Raw) -> Command
+    ensures { result ≡ command_with TlbiEl2Va raw }
+{
+    Command::TlbiEl2Va {
+        asid: raw.asid(),
+        leaf: raw.leaf(),
+        page: raw.page(),
+        reach: raw.reach(),
+    }
+}
+
+fn tlbi_el2_vaa(raw: Raw) -> Command
+    ensures { result ≡ command_with TlbiEl2Vaa raw }
+{
+    Command::TlbiEl2Vaa {
+        leaf: raw.leaf(),
+        page: raw.page(),
+        reach: raw.reach(),
+    }
+}
+
+fn tlbi_s2_ipa(raw: Raw) -> Command
+    ensures { result ≡ command_with TlbiS2Ipa raw }
+{
+    Command::TlbiS2Ipa {
+        vmid: raw.vmid(),
+        leaf: raw.leaf(),
+        page: IpaPage::new(field(raw.hi, 51, 12)).unwrap(),
+        reach: raw.reach(),
+    }
+}
+
+fn atc_inv(raw: Raw) -> Command
+    requires { field raw.hi 5 0 ≤ 52 }
+    ensures { result ≡ command_with AtcInv raw }
+{
+    Command::AtcInv {
+        sid: raw.sid(),
+        ssv: field(raw.lo, 11, 11) == 1,
+        ssid: raw.ssid(),
+        global: field(raw.lo, 9, 9) == 1,
+        size: Size::new(field(raw.hi, 5, 0)).unwrap(),
+        page: raw.page(),
+    }
+}
+
+fn cmd_sync(raw: Raw) -> Command
+    requires { field raw.lo 13 12 < 3 }
+    ensures { result ≡ command_with CmdSync raw }
+{
+    Command::CmdSync {
+        cs: Cs::new(field(raw.lo, 13, 12)).unwrap(),
+        msh: Msh::new(field(raw.lo, 23, 22)).unwrap(),
+        attr: Attr::new(field(raw.lo, 27, 24)).unwrap(),
+        data: field(raw.lo, 63, 32) as u32,
+        address: MsiWord::new(field(raw.hi, 51, 2)).unwrap(),
+    }
 }

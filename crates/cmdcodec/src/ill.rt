@@ -6,10 +6,14 @@ pub enum Ill {
     /// ILL1: the opcode isn't one of the profile.
     #[error("ILL1: unknown opcode")]
     UnknownOpcode,
-    /// ILL2: bit 10 of lo, for a Secure stream, is set in a command on configurations.
+    /// ILL2: bit 10 of lo, for a Secure stream, is set in a prefetch, a command on configurations or an
+    /// ATC_INV.
     #[error("ILL2: a Secure stream")]
     SecureStream,
     /// ILL3: the completion signal of a CMD_SYNC is the reserved one.
     #[error("ILL3: a reserved completion signal")]
     ReservedSignal,
+    /// ILL4: an ATC_INV is for more than `2^52` pages.
+    #[error("ILL4: an oversized span")]
+    OversizedSpan,
 }

@@ -2,6 +2,7 @@
 #![tactic(auto)]
 
 mod bits;
+mod by_address;
 mod closing;
 mod command;
 mod decoding;
@@ -9,16 +10,29 @@ mod display;
 mod encoding;
 mod fields;
 mod ill;
+mod kept;
+mod laws;
+mod layout;
+mod legality;
+mod opcode;
 mod raw;
+mod reach;
 
 pub use closing::closing_sync;
 pub use command::Command;
 pub use decoding::decode;
 pub use display::text;
 pub use encoding::encode;
-pub use fields::{Attr, Cs, Msh, MsiWord, Sid, StreamRange};
+pub use fields::{
+    Asid, Attr, Cs, IpaPage, Msh, MsiWord, Page, RangeCount, RangeScale, Sid, Size, Ssid,
+    StreamRange, Vmid,
+};
 pub use ill::Ill;
+pub use kept::KeptRaw;
+pub use laws::{free_bits_are_ignored, legal_words_spell_one_command};
+pub use opcode::Opcode;
 pub use raw::{Raw, RawList, from_bytes, to_bytes};
+pub use reach::{Granule, PageRun, Reach};
 
 #[cfg(test)]
 mod tests;

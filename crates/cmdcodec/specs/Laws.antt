@@ -1,0 +1,28 @@
+-- What the spelling is held to.
+use Rattle.std.specs.Prelude.{◌≡◌, false, None}
+use Rattle.cmdcodec.specs.declared.raw.Raw.{Raw}
+use Rattle.cmdcodec.specs.declared.command.Command.{Command}
+use Rattle.cmdcodec.specs.Opcodes.{opcode_of, is_kept}
+use Rattle.cmdcodec.specs.Legality.{first_ill}
+use Rattle.cmdcodec.specs.Spelling.{Spells}
+use Rattle.cmdcodec.specs.FreeBits.{DifferInFreeBits}
+use Rattle.cmdcodec.specs.Words.{decoding}
+
+-- Legal words spell a command, and no other.
+abbrev pub LegalWordsSpellOneCommand : Type 0
+LegalWordsSpellOneCommand =
+    (raw : Raw) → first_ill raw ≡ None → (command : Command) × Spells raw command × ((other : Command) → Spells raw other → other ≡ command)
+
+-- Illegal words spell none.
+abbrev pub SpelledWordsAreLegal : Type 0
+SpelledWordsAreLegal = (raw : Raw) (command : Command) → Spells raw command → first_ill raw ≡ None
+
+-- Of two pairs of words that differ in free bits alone both spell the command, and decode alike. A kept
+-- command has no free bits.
+pub record IsSpelledAlike (raw other : Raw) (command : Command) : Type 0 where
+  pub spelled : Spells other command
+  pub alike : decoding raw ≡ decoding other
+
+abbrev pub FreeBitsAreIgnored : Type 0
+FreeBitsAreIgnored =
+    (raw other : Raw) (command : Command) → is_kept (opcode_of raw) ≡ false → Spells raw command → DifferInFreeBits command raw other → IsSpelledAlike raw other command

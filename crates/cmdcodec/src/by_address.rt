@@ -1,0 +1,54 @@
+//! What the invalidations by address have in common.
+ghost use Rattle.std.specs.Prelude.{◌≡◌};
+ghost use Rattle.cmdcodec.specs.ByAddress.{by_address};
+
+use crate::command::Command;
+use crate::fields::Page;
+use crate::reach::Reach;
+
+/// The fields that say which pages an invalidation by address is for.
+#[derive(Clone, Copy)]
+pub(crate) struct ByAddress {
+    pub(crate) leaf: bool,
+    pub(crate) page: Page,
+    pub(crate) reach: Reach,
+}
+
+impl Command {
+    /// Which pages it is for; `None` where it isn't by address.
+    pub(crate) fn by_address(&self) -> Option<ByAddress>
+        ensures { result ≡ by_address self.now }
+    {
+        match *self {
+            Command::TlbiNhVa {
+                leaf,
+                page,
+                reach,
+                ..
+            }
+            | Command::TlbiNhVaa {
+                leaf,
+                page,
+                reach,
+                ..
+            }
+            | Command::TlbiEl2Va {
+                leaf,
+                page,
+                reach,
+                ..
+            }
+            | Command::TlbiEl2Vaa { leaf, page, reach } => Some(ByAddress { leaf, page, reach }),
+            Command::TlbiS2Ipa {
+                leaf,
+                page,
+                reach,
+                ..
+            } => {
+                let page = Page::from(page);
+                Some(ByAddress { leaf, page, reach })
+            }
+            _ => None,
+        }
+    }
+}

@@ -1,0 +1,50 @@
+//! What the texts of commands share.
+ghost use Rattle.std.specs.Prelude.{Some};
+ghost use Rattle.cmdcodec.specs.Text.{kept_text, reach_text, pages_text};
+
+use crate::by_address::ByAddress;
+use crate::kept::KeptRaw;
+use crate::opcode::Opcode;
+use crate::reach::Reach;
+use std::fmt;
+
+impl fmt::Display for KeptRaw {
+    ghost output = { λ kept. Some (kept_text kept) };
+
+    #[tactic(auto, unfolding(crate::specs::Opcodes::opcode_named))]
+    fn fmt<W: fmt::Write>(&self, f: &mut fmt::Formatter<W>) -> fmt::Result {
+        let raw = self.get();
+        let name = match raw.opcode() {
+            Some(Opcode::PrefetchConfig) => "PREFETCH_CONFIG",
+            Some(Opcode::PrefetchAddr) => "PREFETCH_ADDR",
+            Some(Opcode::PriResp) => "PRI_RESP",
+            Some(Opcode::Resume) => "RESUME",
+            _ => "STALL_TERM",
+        };
+        let (lo, hi) = (raw.lo, raw.hi);
+        write!(f, "{name} lo=0x{lo:x} hi=0x{hi:x}")
+    }
+}
+
+impl fmt::Display for Reach {
+    ghost output = { λ reach. Some (reach_text reach) };
+
+    fn fmt<W: fmt::Write>(&self, f: &mut fmt::Formatter<W>) -> fmt::Result {
+        match *self {
+            Reach::Page => Ok(()),
+            Reach::Range { tg, num, scale } => {
+                let (tg, num, scale) = (tg.get(), num.get(), scale.get());
+                write!(f, " tg={tg} num={num} scale={scale}")
+            }
+        }
+    }
+}
+
+impl fmt::Display for ByAddress {
+    ghost output = { λ pages. Some (pages_text pages) };
+
+    fn fmt<W: fmt::Write>(&self, f: &mut fmt::Formatter<W>) -> fmt::Result {
+        let (leaf, address, reach) = (u8::from(self.leaf), self.page.get() * 4096, self.reach);
+        write!(f, " leaf={leaf} addr=0x{address:x}{reach}")
+    }
+}

@@ -1,0 +1,56 @@
+//! What is illegal in two words.
+ghost use Rattle.std.specs.Prelude.{◌≡◌, ◌==◌, IfSome};
+ghost use Rattle.cmdcodec.specs.Fields.{field};
+ghost use Rattle.cmdcodec.specs.Opcodes.{opcode_of, opcode_named, number_of};
+ghost use Rattle.cmdcodec.specs.Legality.{first_ill};
+
+use crate::bits::field;
+use crate::ill::Ill;
+use crate::opcode::Opcode;
+use crate::raw::Raw;
+
+/// The reserved value of `CS`.
+const RESERVED_SIGNAL: u64 = 3;
+
+/// The greatest `Size` of an ATC_INV, which is for all pages.
+const ALL_PAGES: u64 = 52;
+
+impl Raw {
+    /// The opcode, where it is one of the profile.
+    pub fn opcode(self) -> Option<Opcode>
+        ensures named { result ≡ opcode_named (opcode_of self) }
+        ensures number { IfSome result (λ opcode. number_of opcode ≡ opcode_of self) }
+    {
+        Opcode::new(field(self.lo, 7, 0))
+    }
+}
+
+/// `SSec`, which a command for a Secure stream has set.
+fn is_secure(raw: Raw) -> bool
+    ensures { result ≡ (field raw.lo 10 10 == 1) }
+{
+    field(raw.lo, 10, 10) == 1
+}
+
+/// The first thing that is illegal in the words.
+#[tactic(auto, unfolding(crate::specs::Opcodes::opcode_named))]
+pub(crate) fn first_ill(raw: Raw) -> Option<Ill>
+    ensures { result ≡ first_ill raw }
+{
+    let Some(opcode) = raw.opcode() else {
+        return Some(Ill::UnknownOpcode);
+    };
+    match opcode {
+        Opcode::PrefetchConfig
+        | Opcode::PrefetchAddr
+        | Opcode::CfgiSte
+        | Opcode::CfgiSteRange
+        | Opcode::CfgiCd
+        | Opcode::CfgiCdAll
+        | Opcode::AtcInv
+            if is_secure(raw) => Some(Ill::SecureStream),
+        Opcode::CmdSync if field(raw.lo, 13, 12) == RESERVED_SIGNAL => Some(Ill::ReservedSignal),
+        Opcode::AtcInv if field(raw.hi, 5, 0) > ALL_PAGES => Some(Ill::OversizedSpan),
+        _ => None,
+    }
+}

@@ -1,0 +1,93 @@
+//! Which pages an invalidation by address reaches.
+ghost use Rattle.std.specs.Prelude.{◌≡◌, ◌<◌, ◌≤◌, ◌+◌, ◌*◌, ◌^◌};
+ghost use Rattle.cmdcodec.specs.Spelling.{granule_number};
+ghost use Rattle.cmdcodec.specs.PageRuns.{granule_pages, run_from};
+
+use crate::fields::{RangeCount, RangeScale};
+
+/// `TG` of an invalidation by range: the size of its granules.
+#[derive(Clone, Copy, Debug, PartialEq, Eq)]
+pub enum Granule {
+    /// 4 KiB, a page.
+    Kib4,
+    /// 16 KiB, 4 pages.
+    Kib16,
+    /// 64 KiB, 16 pages.
+    Kib64,
+}
+
+/// How far an invalidation by address reaches, from its page on.
+#[derive(Clone, Copy, Debug, PartialEq, Eq)]
+pub enum Reach {
+    /// The one page.
+    Page,
+    /// `(num + 1) * 2^scale` granules, from the one that holds the page.
+    Range {
+        tg: Granule,
+        num: RangeCount,
+        scale: RangeScale,
+    },
+}
+
+/// The pages from `first` up to `end`, `end` not with them.
+#[derive(Clone, Copy, Debug, PartialEq, Eq)]
+pub struct PageRun {
+    pub first: u64,
+    pub end: u64,
+}
+
+impl Granule {
+    /// Its number, 1 to 3.
+    pub fn get(self) -> u8
+        ensures value { result ≡ granule_number self }
+        ensures in_range { result < 4 }
+    {
+        match self {
+            Granule::Kib4 => 1,
+            Granule::Kib16 => 2,
+            Granule::Kib64 => 3,
+        }
+    }
+
+    /// How many pages it has.
+    pub fn pages(self) -> u64
+        ensures { result ≡ granule_pages self }
+    {
+        match self {
+            Granule::Kib4 => 1,
+            Granule::Kib16 => 4,
+            Granule::Kib64 => 16,
+        }
+    }
+}
+
+impl Reach {
+    /// The pages that are reached from this one in an address space of so many.
+    pub(crate) fn run_from(self, page: u64, space: u64) -> PageRun
+        requires inside { page < space }
+        requires size { space ≤ 2 ^ 52 }
+        ensures { result ≡ run_from page self space }
+    {
+        let Reach::Range { tg, num, scale } = self else {
+            return PageRun {
+                first: page,
+                end: page + 1,
+            };
+        };
+        let granule = tg.pages();
+        let first = page / granule * granule;
+        PageRun {
+            first,
+            end: space.min(first + granules(num, scale) * granule),
+        }
+    }
+}
+
+/// How many granules a range has: `(num + 1) * 2^scale`.
+#[tactic(auto, using(crate::proofs::PageRunLemmas::granules_fit))]
+fn granules(num: RangeCount, scale: RangeScale) -> u64
+    ensures value { result ≡ (num + 1) * 2 ^ scale }
+    ensures in_range { result ≤ 2 ^ 36 }
+{
+    (u64::from(num.get()) + 1) << scale.get()
+}
