@@ -10,3 +10,5 @@ pub mod Standing
 pub mod Giving
 pub mod GivingLaws
 pub mod Replay
+pub mod DecodeText
+pub mod Program

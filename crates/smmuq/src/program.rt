@@ -1,12 +1,15 @@
 //! The program: its command line, and what it ends with.
-ghost use Rattle.std.specs.Prelude.{◌⊎◌};
-ghost use Rattle.std.specs.Io.KnownBytes.{Keeps};
+ghost use Rattle.std.specs.Prelude.{◌≡◌, ◌⊎◌, ◌++◌, OnOk, codes};
+ghost use Rattle.std.specs.Io.KnownBytes.{Appends};
+ghost use Rattle.script.specs.Writing.{no_memory_line};
 ghost use Rattle.smmuq.specs.Replay.{ExitsAsReplay};
+ghost use Rattle.smmuq.specs.Program.{Decodes, ExitsAsDecode, ExitsAsTold, ExitsAsProgram};
 
+use crate::decode::decode_text;
 use crate::serving::replay;
 use crate::status::Status;
 use clap::error::ErrorKind;
-use clap::{Command, Error};
+use clap::{Arg, Command, Error};
 use std::alloc::{AllocError, Global};
 use std::io;
 use std::io::{Read, Write};
@@ -14,28 +17,60 @@ use std::io::{Read, Write};
 /// The exit status of a command line that isn't understood.
 const NOT_UNDERSTOOD: u8 = 2;
 
+/// The subcommand that decodes a word, and the name of that word.
+const DECODE: &str = "decode";
+
+const HEX: &str = "HEX";
+
+/// What the words of a command line ask for.
+#[derive(Clone, Copy)]
+enum Subcommand<'a> {
+    /// That a script is served.
+    Replay,
+    /// That it is said what a word means as a command.
+    Decode(&'a str),
+}
+
 fn command_line<'a>(alloc: Global) -> Result<Command<'a>, AllocError> {
     let replay = Command::new(alloc, "replay").about(
         "Serves a script from standard input and answers it on standard output",
     );
+    let decode = Command::new(alloc, DECODE)
+        .about("Says what 32 hexadecimal digits mean as a command")
+        .arg(Arg::new(alloc, HEX).required(true))?;
     Command::new(alloc, "smmuq")
         .about("The command queue and the caches of an SMMUv3, as a simulator")
         .no_binary_name(true)
         .subcommand_required(true)
-        .subcommand(replay)
+        .subcommand(replay)?
+        .subcommand(decode)
 }
 
-/// Whether the words are a command line. There is the one subcommand, `replay`.
-fn understand<'a>(alloc: Global, words: &'a [&'a str]) -> Result<(), Error> {
-    command_line(alloc)?.try_get_matches_from(words)?;
-    Ok(())
+fn understand<'a>(alloc: Global, words: &'a [&'a str]) -> Result<Subcommand<'a>, Error> {
+    let matches = command_line(alloc)?.try_get_matches_from(words)?;
+    let decode = matches.subcommand_matches(DECODE);
+    // A `decode` without its word isn't understood, so only `replay` has none.
+    match decode.and_then(|decode| decode.get_str(HEX)) {
+        Some(word) => Ok(Subcommand::Decode(word)),
+        None => Ok(Subcommand::Replay),
+    }
+}
+
+fn print_line<W: Write>(line: &str, output: &mut W) -> io::Result<()>
+    ensures { OnOk result (Appends (W.contents output.old) (W.contents output.new) (line.now ++ codes "\n")) }
+{
+    writeln!(output, "{line}")?;
+    output.flush()
 }
 
 /// Tells that memory was wanting.
-pub(crate) fn tell_of_memory<W: Write>(output: &mut W) -> u8 {
-    match output.write_all(b"no memory\n") {
-        Ok(()) => Status::NoMemory as u8,
-        Err(_) => Status::Failed as u8,
+pub(crate) fn tell_of_memory<W: Write>(output: &mut W) -> Status
+    ensures told { result ≡ Status.NoMemory → Appends (W.contents output.old) (W.contents output.new) no_memory_line }
+    ensures failed { (result ≡ Status.NoMemory) ⊎ (result ≡ Status.Failed) }
+{
+    match print_line("no memory", output) {
+        Ok(()) => Status::NoMemory,
+        Err(_) => Status::Failed,
     }
 }
 
@@ -45,9 +80,11 @@ fn print_help<W: Write>(error: &Error, output: &mut W) -> io::Result<()> {
 }
 
 /// Tells what is wrong with the command line, or the help that it asks for.
-fn tell<O: Write, F: Write>(error: &Error, output: &mut O, faults: &mut F) -> u8 {
+fn tell<O: Write, F: Write>(error: &Error, output: &mut O, faults: &mut F) -> u8
+    ensures { ExitsAsTold result (O.contents output.old) (O.contents output.new) }
+{
     if error.kind() == ErrorKind::OutOfMemory {
-        return tell_of_memory(output);
+        return tell_of_memory(output) as u8;
     }
     let (told, status) = if error.use_stderr() {
         (print_help(error, faults), NOT_UNDERSTOOD)
@@ -58,6 +95,26 @@ fn tell<O: Write, F: Write>(error: &Error, output: &mut O, faults: &mut F) -> u8
         Ok(()) => status,
         Err(_) => Status::Failed as u8,
     }
+}
+
+/// Says on a line what a word means as a command.
+fn decode<W: Write>(alloc: Global, word: &str, output: &mut W) -> Status
+    ensures { Decodes result word.now (W.contents output.old) (W.contents output.new) }
+{
+    match decode_text(alloc, word) {
+        Ok((text, is_legal)) => match print_line(text.as_str(), output) {
+            Ok(()) if is_legal => Status::Good,
+            Ok(()) => Status::Refused,
+            Err(_) => Status::Failed,
+        },
+        Err(_) => tell_of_memory(output),
+    }
+}
+
+fn decode_to_exit<W: Write>(alloc: Global, word: &str, output: &mut W) -> u8
+    ensures { ExitsAsDecode result word.now (W.contents output.old) (W.contents output.new) }
+{
+    decode(alloc, word, output) as u8
 }
 
 fn replay_to_exit<I: Read, O: Write>(alloc: Global, input: &mut I, output: &mut O) -> u8
@@ -78,12 +135,12 @@ pub fn program<'a, A: AllocGlobal, I: Read, O: Write, F: Write>(
     output: &mut O,
     faults: &mut F,
 ) -> u8
-    // Either a script was replayed, or no input was read.
-    ensures { ExitsAsReplay result (I.remaining input.old) (O.contents output.old) (O.contents output.new)
-        ⊎ Keeps (I.remaining input.old) (I.remaining input.new) }
+    // Either a script was replayed; or no input was read, and a word was decoded, or help or a fault told.
+    ensures { ExitsAsProgram result (I.remaining input.old) (I.remaining input.new) (O.contents output.old) (O.contents output.new) }
 {
     match understand(rt.alloc(), words) {
-        Ok(()) => replay_to_exit(rt.alloc(), input, output),
+        Ok(Subcommand::Replay) => replay_to_exit(rt.alloc(), input, output),
+        Ok(Subcommand::Decode(word)) => decode_to_exit(rt.alloc(), word, output),
         Err(error) => tell(&error, output, faults),
     }
 }

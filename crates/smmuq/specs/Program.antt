@@ -1,0 +1,35 @@
+-- What the program writes, and what it ends with.
+use Rattle.std.specs.Prelude.{◌≡◌, ◌≢◌, ℕ, List, ◌++◌, ◌⊎◌, true, false, Option, codes, ⊤}
+use Rattle.std.specs.Io.KnownBytes.{Appends, Keeps}
+use Rattle.script.specs.Writing.{no_memory_line}
+use Rattle.smmuq.specs.declared.status.Status.{Status}
+use Rattle.smmuq.specs.declared.status.Status.TheVariants.{Good, Refused, NoMemory, Failed}
+use Rattle.smmuq.specs.Replay.{exit_status, ExitsAsReplay}
+use Rattle.smmuq.specs.DecodeText.{decode_text}
+
+-- the line that says what a word means
+abbrev pub decode_line : List ℕ → List ℕ
+decode_line word = (decode_text word).0 ++ codes "\n"
+
+-- What the status of `decode` says, of a writer that held `before` and holds `after`. Of a failed write
+-- nothing is said.
+abbrev pub Decodes : Status → List ℕ → Option (List ℕ) → Option (List ℕ) → Type 0
+Decodes Good word before after = ((decode_text word).1 ≡ true) × Appends before after (decode_line word)
+Decodes Refused word before after = ((decode_text word).1 ≡ false) × Appends before after (decode_line word)
+Decodes NoMemory word before after = Appends before after no_memory_line
+Decodes Failed word before after = ⊤
+
+-- It ended with the exit status of `decode`.
+abbrev pub ExitsAsDecode : ℕ → List ℕ → Option (List ℕ) → Option (List ℕ) → Type 0
+ExitsAsDecode exit word before after = (status : Status) × (exit ≡ exit_status status) × Decodes status word before after
+
+-- Help was told, or that memory was wanting, or what is wrong with the command line, of which nothing
+-- goes where answers go.
+abbrev pub ExitsAsTold : ℕ → Option (List ℕ) → Option (List ℕ) → Type 0
+ExitsAsTold exit before after = (exit ≢ 1) × (exit ≡ 2 → Keeps before after) × (exit ≡ 3 → Appends before after no_memory_line)
+
+-- A script was replayed; or no input was read, and a word was decoded, or the command line asked for neither.
+abbrev pub ExitsAsProgram : ℕ → Option (List ℕ) → Option (List ℕ) → Option (List ℕ) → Option (List ℕ) → Type 0
+ExitsAsProgram exit input rest before after =
+    ExitsAsReplay exit input before after
+    ⊎ (Keeps input rest × (((word : List ℕ) × ExitsAsDecode exit word before after) ⊎ ExitsAsTold exit before after))
