@@ -2,7 +2,7 @@
 use Rattle.std.specs.Prelude.{ℕ, ◌+◌, nat_lt, nat_le, List, ◌==◌, Bool, Option, Some, None, length, codes, if◌then◌else◌}
 use Rattle.std.specs.List.{list_any}
 use Rattle.cmdcodec.specs.declared.raw.Raw.{Raw}
-use Rattle.cmdcodec.specs.Spelling.{opcode_of}
+use Rattle.cmdcodec.specs.Opcodes.{opcode_of}
 use Rattle.smmuq.specs.declared.refusal.Refusal.{Refusal}
 use Rattle.smmuq.specs.declared.refusal.Refusal.TheVariants.{Empty, TooMany, SyncInside, TooLong, Exhausted, NoRoom}
 

@@ -6,7 +6,7 @@ use Rattle.hex.specs.Hex.{decode_sized}
 use Rattle.hex.specs.declared.error.FromHexError.{FromHexError}
 use Rattle.cmdcodec.specs.declared.raw.Raw.{Raw}
 use Rattle.cmdcodec.specs.Bytes.{raw_of}
-use Rattle.cmdcodec.specs.Spelling.{opcode_of}
+use Rattle.cmdcodec.specs.Opcodes.{opcode_of}
 use Rattle.cmdcodec.specs.Legality.{first_ill}
 use Rattle.script.specs.Words.{words_of, number_of}
 use Rattle.smmuq.specs.declared.request.Request.{Request}

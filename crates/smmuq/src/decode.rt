@@ -14,6 +14,7 @@ fn label(ill: Ill) -> &'static str
         Ill::UnknownOpcode => "ILL1",
         Ill::SecureStream => "ILL2",
         Ill::ReservedSignal => "ILL3",
+        Ill::OversizedSpan => "ILL4",
     }
 }
 

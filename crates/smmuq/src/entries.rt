@@ -50,7 +50,7 @@ fn covers(command: &Command, tag: &Tag) -> bool
             let low_bits = u32::from(range.get()) + 1;
             u64::from(stream.get()) >> low_bits == u64::from(sid.get()) >> low_bits
         }
-        Command::CmdSync { .. } => false,
+        _ => false,
     }
 }
 

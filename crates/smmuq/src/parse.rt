@@ -102,7 +102,7 @@ fn is_sendable(raw: Raw) -> bool
     match decode(raw) {
         Ok(Command::CfgiSte { .. } | Command::CfgiSteRange { .. } | Command::CmdSync { .. }) =>
             true,
-        Err(_) => false,
+        Ok(_) | Err(_) => false,
     }
 }
 
