@@ -58,6 +58,6 @@ pub field_alike : (runs : Runs) (word other high low : ℕ) → IsAlikeBeside ru
     → field word high low ≡ field other high low
 field_alike runs word other high low alike apart order width =
     bits_alike word other low (high + 1 - low) (λ k below.
-      let from : low ≤ low + k = omega arith in
-      let to : low + k ≤ high = omega (arith, below, order) in
-      sym (one_bit word (low + k)) ∙ alike (low + k) (omega (arith, to, width)) (apart_among (low + k) high low runs apart from to) ∙ one_bit other (low + k))
+    let from : low ≤ low + k = omega arith in
+    let to : low + k ≤ high = omega (arith, below, order) in
+    sym (one_bit word (low + k)) ∙ alike (low + k) (omega (arith, to, width)) (apart_among (low + k) high low runs apart from to) ∙ one_bit other (low + k))

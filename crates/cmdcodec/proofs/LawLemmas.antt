@@ -79,9 +79,9 @@ none_is_ill raw none ok = grind (arith, none, ok)
 
 is_known : (raw : Raw) → first_ill raw ≡ None → (opcode : Opcode) × (opcode_named (opcode_of raw) ≡ Some opcode)
 is_known raw ok = elim (named_or_none (opcode_named (opcode_of raw))) [
-      | inl named ↦ named
-      | inr none ↦ absurd (none_is_ill raw none ok)
-    ]
+  | inl named ↦ named
+  | inr none ↦ absurd (none_is_ill raw none ok)
+]
 
 pub one : LegalWordsSpellOneCommand
 unfolding IsNumbered

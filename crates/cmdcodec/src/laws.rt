@@ -5,11 +5,9 @@ ghost use Rattle.cmdcodec.specs.Laws.{LegalWordsSpellOneCommand, SpelledWordsAre
 pub fn legal_words_spell_one_command()
     ensures one { LegalWordsSpellOneCommand }
     ensures legal { SpelledWordsAreLegal }
-{
-}
+{}
 
 /// Two pairs of words that differ in free bits alone decode alike.
 pub fn free_bits_are_ignored()
     ensures { FreeBitsAreIgnored }
-{
-}
+{}
