@@ -48,6 +48,51 @@ fn legal_commands(rt: HostRuntime) {
             "46100000EF00cD000000004000000000",
             "CMD_SYNC cs=1 msh=0 attr=0 data=13435119 addr=0x40000000\n",
         ),
+        (
+            "one page",
+            "12000000010002000150341200000000",
+            "TLBI_NH_VA vmid=1 asid=2 leaf=1 addr=0x12345000\n",
+        ),
+        (
+            "one granule",
+            "12000000010002000154341200000000",
+            "TLBI_NH_VA vmid=1 asid=2 leaf=1 addr=0x12345000 tg=1 num=0 scale=0\n",
+        ),
+        (
+            "a range",
+            "12302000010002000004010000000000",
+            "TLBI_NH_VA vmid=1 asid=2 leaf=0 addr=0x10000 tg=1 num=3 scale=2\n",
+        ),
+        (
+            "a granule of four pages",
+            "12000000010002000038010000000000",
+            "TLBI_NH_VA vmid=1 asid=2 leaf=0 addr=0x13000 tg=2 num=0 scale=0\n",
+        ),
+        (
+            "a range, a scale and a level that mean nothing",
+            "12302000010002000103000000000000",
+            "TLBI_NH_VA vmid=1 asid=2 leaf=1 addr=0x0\n",
+        ),
+        (
+            "an address of which the bits above 51 mean nothing",
+            "2A0000000100000000F0FFFFFFFFFFFF",
+            "TLBI_S2_IPA vmid=1 leaf=0 addr=0xffffffffff000\n",
+        ),
+        (
+            "all pages of a stream",
+            "40000000070000003400000000000000",
+            "ATC_INV sid=7 ssv=0 ssid=0 global=0 size=52 addr=0x0\n",
+        ),
+        (
+            "a substream that means nothing",
+            "40920000070000000000000000000000",
+            "ATC_INV sid=7 ssv=0 ssid=9 global=1 size=0 addr=0x0\n",
+        ),
+        (
+            "a command that is kept, in which bit 10 is free",
+            "41040000000000000100000000000000",
+            "PRI_RESP lo=0x441 hi=0x1\n",
+        ),
     ] {
         expect_told(&rt, name, &["decode", word], text, 0);
     }
@@ -70,6 +115,21 @@ fn words_that_are_no_legal_command(rt: HostRuntime) {
             "a CFGI_STE of a Secure stream",
             "03040000050000000100000000000000",
             "illegal ILL2\n",
+        ),
+        (
+            "a prefetch for a Secure stream",
+            "01040000000000000000000000000000",
+            "illegal ILL2\n",
+        ),
+        (
+            "a Secure stream and too great a size",
+            "40040000070000003500000000000000",
+            "illegal ILL2\n",
+        ),
+        (
+            "too great a size",
+            "40000000070000003500000000000000",
+            "illegal ILL4\n",
         ),
         (
             "a CMD_SYNC with the reserved signal",
@@ -126,7 +186,13 @@ fn words_that_are_not_decoded(rt: HostRuntime) {
             2,
         ),
         (
-            "such a word after --",
+            "the word - alone, which is no option",
+            ["decode", "-"].as_slice(),
+            "bad hex\n",
+            1,
+        ),
+        (
+            "a word that begins as an option does, after --",
             ["decode", "--", "-0"].as_slice(),
             "bad hex\n",
             1,

@@ -88,7 +88,7 @@ fn ends_without_memory(text: &str) -> bool {
 // Nothing but the replay allocates here, so that each of its allocations can be made to fail, and
 // what comes last is printed.
 #[test]
-fn every_allocation(rt: HostRuntime) {
+fn every_allocation_of_replay(rt: HostRuntime) {
     let mut input = SCRIPT.as_bytes();
     let mut output = Sink::new(512, 0, ErrorKind::BrokenPipe);
     let ended = replay(rt.alloc(), &mut input, &mut output);
@@ -100,5 +100,5 @@ fn every_allocation(rt: HostRuntime) {
         _ => "wrong",
     };
     assert_ne!(rt; outcome, "wrong", "{ended:?}: {text}");
-    println!(rt; "every_allocation: {outcome}").expect(&rt, "the line is printed");
+    println!(rt; "every_allocation_of_replay: {outcome}").expect(&rt, "the line is printed");
 }
