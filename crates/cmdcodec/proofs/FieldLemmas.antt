@@ -32,7 +32,7 @@ bits_alike word other low (suc n) alike =
     split_top (word / 2 ^ low) n ∙ ap (λ t. t * 2 ^ n + word / 2 ^ low % 2 ^ n) top ∙ ap (λ r. other / 2 ^ low / 2 ^ n % 2 * 2 ^ n + r) lower
     ∙ sym (split_top (other / 2 ^ low) n)
 
-one_bit : (word i : ℕ) → field word i i ≡ word / 2 ^ i % 2
+pub one_bit : (word i : ℕ) → field word i i ≡ word / 2 ^ i % 2
 one_bit word i =
     let width : i + 1 - i ≡ 1 = omega arith in
     ap (λ n. word / 2 ^ i % 2 ^ n) width

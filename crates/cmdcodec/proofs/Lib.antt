@@ -3,3 +3,4 @@ pub mod ByteLemmas
 pub mod SpellingLemmas
 pub mod PageRunLemmas
 pub mod LawLemmas
+pub mod FreeBitLemmas

@@ -26,3 +26,7 @@ pub record IsSpelledAlike (raw other : Raw) (command : Command) : Type 0 where
 abbrev pub FreeBitsAreIgnored : Type 0
 FreeBitsAreIgnored =
     (raw other : Raw) (command : Command) → is_kept (opcode_of raw) ≡ false → Spells raw command → DifferInFreeBits command raw other → IsSpelledAlike raw other command
+
+-- No other bits are free: two pairs of words that spell one command differ in free bits alone.
+abbrev pub AllOtherBitsAreNamed : Type 0
+AllOtherBitsAreNamed = (raw other : Raw) (command : Command) → Spells raw command → Spells other command → DifferInFreeBits command raw other
