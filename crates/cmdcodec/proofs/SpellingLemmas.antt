@@ -1,5 +1,5 @@
 -- The functions of words and commands are the relation of spelling.
-use Rattle.std.proofs.Common.{◌≡◌, ℕ, ◌<◌, ◌≤◌, ◌==◌, ◌||◌, zero, suc, inl, inr, Bool, true, false, refl, ap, sym, subst, ◌∙◌, arith, Some, None, Ok, Err}
+use Rattle.std.proofs.Common.{◌≡◌, ℕ, ◌<◌, ◌≤◌, ◌==◌, ◌||◌, zero, suc, inl, inr, Bool, true, false, refl, ap, sym, subst, ◌∙◌, arith, Option, Some, None, Ok, Err}
 use Rattle.std.proofs.lemmas.Bool.{le-ltb, ne_eqb, or_cases, eqb-true, eqb-false, cases_Bool}
 use Rattle.cmdcodec.specs.declared.raw.Raw.{Raw}
 use Rattle.cmdcodec.specs.declared.ill.Ill.TheVariants.{UnknownOpcode}
@@ -7,13 +7,14 @@ use Rattle.cmdcodec.specs.declared.opcode.Opcode.{Opcode}
 use Rattle.cmdcodec.specs.declared.opcode.Opcode.TheVariants as op
 use Rattle.cmdcodec.specs.declared.command.Command.{Command}
 use Rattle.cmdcodec.specs.declared.command.Command.TheVariants.{CfgiSte, CfgiSteRange, CfgiCd, CfgiCdAll, TlbiNhAll, TlbiNhAsid, TlbiNhVa, TlbiNhVaa, TlbiEl2All, TlbiEl2Asid, TlbiEl2Va, TlbiEl2Vaa, TlbiS12Vmall, TlbiS2Ipa, TlbiNsnhAll, AtcInv, Kept, CmdSync}
+use Rattle.cmdcodec.specs.declared.reach.Granule.{Granule}
 use Rattle.cmdcodec.specs.declared.reach.Granule.TheVariants.{Kib4, Kib16, Kib64}
 use Rattle.cmdcodec.specs.declared.reach.Reach.{Reach}
 use Rattle.cmdcodec.specs.declared.reach.Reach.TheVariants.{Page, Range}
 use Rattle.cmdcodec.specs.Fields.{field, bit}
 use Rattle.cmdcodec.specs.Opcodes.{opcode_of, number_of, opcode_named, is_kept}
 use Rattle.cmdcodec.specs.Legality.{first_ill, has_secure_bit}
-use Rattle.cmdcodec.specs.Spelling.{Spells, SpellsSteps, SpellsGranule}
+use Rattle.cmdcodec.specs.Spelling.{Spells, SpellsSteps, SpellsGranule, granule_named}
 use Rattle.cmdcodec.proofs.FieldLemmas.{field-lt}
 use Rattle.cmdcodec.specs.Words.{reach_by, reach_in, command_with, command_or_ill, decoding}
 
@@ -58,8 +59,8 @@ below_3 n small = ne_eqb n 3 (λ is. omega (arith, small, is))
 kept_legal : (raw words : Raw) → raw.lo ≡ words.lo → raw.hi ≡ words.hi → first_ill words ≡ None → first_ill raw ≡ None
 kept_legal raw words lo hi none = ap (λ l. first_ill (record { lo = l; hi = raw.hi })) lo ∙ ap (λ h. first_ill (record { lo = words.lo; hi = h })) hi ∙ none
 
-is_three : (n : ℕ) → n < 4 → (n ≡ 0 → ⊥) → (n ≡ 1 → ⊥) → (n ≡ 2 → ⊥) → n ≡ 3
-is_three n small not_0 not_1 not_2 = grind (arith, small, not_0, not_1, not_2)
+is_zero : (n : ℕ) → n < 4 → (n ≡ 1 → ⊥) → (n ≡ 2 → ⊥) → (n ≡ 3 → ⊥) → n ≡ 0
+is_zero n small not_1 not_2 not_3 = grind (arith, small, not_1, not_2, not_3)
 
 pub legal : (raw : Raw) (command : Command) → Spells raw command → first_ill raw ≡ None
 unfolding opcode_named
@@ -152,30 +153,22 @@ bit_is zero small = refl
 bit_is (suc zero) small = refl
 bit_is (suc (suc n)) small = absurd (omega (arith, small))
 
-steps_by : (lo tg : ℕ) → SpellsSteps lo (reach_by tg (field lo 16 12) (field lo 24 20))
-steps_by lo tg =
-    elim (cases_Bool (tg == 0)) [
-      | inl page ↦ rw page tt
-      | inr range ↦ elim (cases_Bool (tg == 1)) [
-        | inl is ↦ rw (range, is) (refl, refl)
-        | inr not_1 ↦ elim (cases_Bool (tg == 2)) [
-          | inl is ↦ rw (range, not_1, is) (refl, refl)
-          | inr not_2 ↦ rw (range, not_1, not_2) (refl, refl)
-        ]
-      ]
-    ]
+steps_by : (lo : ℕ) (named : Option Granule) → SpellsSteps lo (reach_by named (field lo 16 12) (field lo 24 20))
+steps_by lo None = tt
+steps_by lo (Some tg) = (refl, refl)
 
-granule_by : (hi num scale : ℕ) → SpellsGranule hi (reach_by (field hi 11 10) num scale)
+-- TG is one of four
+granule_by : (hi num scale : ℕ) → SpellsGranule hi (reach_by (granule_named (field hi 11 10)) num scale)
 granule_by hi num scale =
     let tg = field hi 11 10 in
     let small : tg < 4 = field-lt hi 11 10 in
-    elim (cases_Bool (tg == 0)) [
-      | inl page ↦ rw page (eqb-true tg 0 page)
-      | inr range ↦ elim (cases_Bool (tg == 1)) [
-        | inl is ↦ rw (range, is) (eqb-true tg 1 is)
-        | inr not_1 ↦ elim (cases_Bool (tg == 2)) [
-          | inl is ↦ rw (range, not_1, is) (eqb-true tg 2 is)
-          | inr not_2 ↦ rw (range, not_1, not_2) (is_three tg small (eqb-false tg 0 range) (eqb-false tg 1 not_1) (eqb-false tg 2 not_2))
+    elim (cases_Bool (tg == 1)) [
+      | inl is ↦ rw is (eqb-true tg 1 is)
+      | inr not_1 ↦ elim (cases_Bool (tg == 2)) [
+        | inl is ↦ rw (not_1, is) (eqb-true tg 2 is)
+        | inr not_2 ↦ elim (cases_Bool (tg == 3)) [
+          | inl is ↦ rw (not_1, not_2, is) (eqb-true tg 3 is)
+          | inr not_3 ↦ rw (not_1, not_2, not_3) (is_zero tg small (eqb-false tg 1 not_1) (eqb-false tg 2 not_2) (eqb-false tg 3 not_3))
         ]
       ]
     ]
@@ -193,7 +186,7 @@ leaf_in : (raw : Raw) → field raw.hi 0 0 ≡ bit (field raw.hi 0 0 == 1)
 leaf_in raw = bit_is (field raw.hi 0 0) (field-lt raw.hi 0 0)
 
 steps_in : (raw : Raw) → SpellsSteps raw.lo (reach_in raw)
-steps_in raw = steps_by raw.lo (field raw.hi 11 10)
+steps_in raw = steps_by raw.lo (granule_named (field raw.hi 11 10))
 
 granule_in : (raw : Raw) → SpellsGranule raw.hi (reach_in raw)
 granule_in raw = granule_by raw.hi (field raw.lo 16 12) (field raw.lo 24 20)

@@ -1,6 +1,6 @@
 -- Which command two words spell, from the chapter on commands: the opcode stands in bits 7:0 of lo, and
 -- each field of a command has an equation. Bits that no equation names are free.
-use Rattle.std.specs.Prelude.{◌≡◌, ◌<◌, ◌≤◌, ℕ}
+use Rattle.std.specs.Prelude.{◌≡◌, ◌<◌, ◌≤◌, ℕ, ◌==◌, Option, Some, None, if◌then◌else◌}
 use Rattle.cmdcodec.specs.declared.raw.Raw.{Raw}
 use Rattle.cmdcodec.specs.declared.command.Command.{Command}
 use Rattle.cmdcodec.specs.declared.command.Command.TheVariants.{CfgiSte, CfgiSteRange, CfgiCd, CfgiCdAll, TlbiNhAll, TlbiNhAsid, TlbiNhVa, TlbiNhVaa, TlbiEl2All, TlbiEl2Asid, TlbiEl2Va, TlbiEl2Vaa, TlbiS12Vmall, TlbiS2Ipa, TlbiNsnhAll, AtcInv, Kept, CmdSync}
@@ -16,6 +16,13 @@ abbrev pub granule_number : Granule → ℕ
 granule_number Kib4 = 1
 granule_number Kib16 = 2
 granule_number Kib64 = 3
+
+abbrev pub granule_named : ℕ → Option Granule
+granule_named tg =
+    if tg == 1 then Some Kib4
+    else if tg == 2 then Some Kib16
+    else if tg == 3 then Some Kib64
+    else None
 
 -- SSec is 0: the profile has no Secure streams.
 abbrev pub IsNotSecure : ℕ → Type 0

@@ -1,6 +1,6 @@
 -- The command of two words, and the two words of a command, as functions. That they are those of the
 -- spelling is what `decode` and `encode` ensure.
-use Rattle.std.specs.Prelude.{ℕ, ◌+◌, ◌*◌, ◌^◌, ◌==◌, Option, Some, None, Result, Ok, Err, if◌then◌else◌}
+use Rattle.std.specs.Prelude.{ℕ, ◌+◌, ◌*◌, ◌^◌, ◌==◌, Option, Some, None, Result, Ok, Err}
 use Rattle.cmdcodec.specs.declared.raw.Raw.{Raw}
 use Rattle.cmdcodec.specs.declared.ill.Ill.{Ill}
 use Rattle.cmdcodec.specs.declared.ill.Ill.TheVariants.{UnknownOpcode}
@@ -8,24 +8,21 @@ use Rattle.cmdcodec.specs.declared.opcode.Opcode.{Opcode}
 use Rattle.cmdcodec.specs.declared.opcode.Opcode.TheVariants as op
 use Rattle.cmdcodec.specs.declared.command.Command.{Command}
 use Rattle.cmdcodec.specs.declared.command.Command.TheVariants.{CfgiSte, CfgiSteRange, CfgiCd, CfgiCdAll, TlbiNhAll, TlbiNhAsid, TlbiNhVa, TlbiNhVaa, TlbiEl2All, TlbiEl2Asid, TlbiEl2Va, TlbiEl2Vaa, TlbiS12Vmall, TlbiS2Ipa, TlbiNsnhAll, AtcInv, Kept, CmdSync}
-use Rattle.cmdcodec.specs.declared.reach.Granule.TheVariants.{Kib4, Kib16, Kib64}
+use Rattle.cmdcodec.specs.declared.reach.Granule.{Granule}
 use Rattle.cmdcodec.specs.declared.reach.Reach.{Reach}
 use Rattle.cmdcodec.specs.declared.reach.Reach.TheVariants.{Page, Range}
 use Rattle.cmdcodec.specs.Fields.{field, bit}
 use Rattle.cmdcodec.specs.Opcodes.{opcode_of, opcode_named}
-use Rattle.cmdcodec.specs.Spelling.{granule_number}
+use Rattle.cmdcodec.specs.Spelling.{granule_number, granule_named}
 use Rattle.cmdcodec.specs.Legality.{first_ill}
 
 -- by TG, NUM and SCALE
-abbrev pub reach_by : ℕ → ℕ → ℕ → Reach
-reach_by tg num scale =
-    if tg == 0 then Page
-    else if tg == 1 then Range Kib4 num scale
-    else if tg == 2 then Range Kib16 num scale
-    else Range Kib64 num scale
+abbrev pub reach_by : Option Granule → ℕ → ℕ → Reach
+reach_by None num scale = Page
+reach_by (Some tg) num scale = Range tg num scale
 
 abbrev pub reach_in : Raw → Reach
-reach_in raw = reach_by (field raw.hi 11 10) (field raw.lo 16 12) (field raw.lo 24 20)
+reach_in raw = reach_by (granule_named (field raw.hi 11 10)) (field raw.lo 16 12) (field raw.lo 24 20)
 
 -- the fields that a command of this opcode has
 abbrev pub command_with : Opcode → Raw → Command

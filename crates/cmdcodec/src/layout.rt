@@ -49,11 +49,8 @@ impl Raw {
     pub(crate) fn reach(self) -> Reach
         ensures { result ≡ reach_in self }
     {
-        let tg = match field(self.hi, 11, 10) {
-            0 => return Reach::Page,
-            1 => Granule::Kib4,
-            2 => Granule::Kib16,
-            _ => Granule::Kib64,
+        let Some(tg) = Granule::new(field(self.hi, 11, 10)) else {
+            return Reach::Page;
         };
         Reach::Range {
             tg,

@@ -1,6 +1,6 @@
 //! Which pages an invalidation by address reaches.
 ghost use Rattle.std.specs.Prelude.{◌≡◌, ◌<◌, ◌≤◌, ◌+◌, ◌*◌, ◌^◌};
-ghost use Rattle.cmdcodec.specs.Spelling.{granule_number};
+ghost use Rattle.cmdcodec.specs.Spelling.{granule_named, granule_number};
 ghost use Rattle.cmdcodec.specs.PageRuns.{granule_pages, run_from};
 
 use crate::fields::{RangeCount, RangeScale};
@@ -37,6 +37,18 @@ pub struct PageRun {
 }
 
 impl Granule {
+    /// The granule of this number, 1 to 3.
+    pub fn new(value: u64) -> Option<Granule>
+        ensures { result ≡ granule_named value }
+    {
+        match value {
+            1 => Some(Granule::Kib4),
+            2 => Some(Granule::Kib16),
+            3 => Some(Granule::Kib64),
+            _ => None,
+        }
+    }
+
     /// Its number, 1 to 3.
     pub fn get(self) -> u8
         ensures value { result ≡ granule_number self }

@@ -59,8 +59,15 @@ fn granules_are_numbered_from_1(rt: HostRuntime) {
         (Granule::Kib64, 3, 16),
     ] {
         assert_eq!(rt; granule.get(), number);
+        assert_eq!(rt; Granule::new(u64::from(number)), Some(granule));
         assert_eq!(rt; granule.pages(), pages);
     }
+}
+
+#[test]
+fn no_granule_has_another_number(rt: HostRuntime) {
+    assert_eq!(rt; Granule::new(0), None);
+    assert_eq!(rt; Granule::new(4), None);
 }
 
 #[test]
