@@ -1,12 +1,14 @@
 -- What the spelling is held to.
-use Rattle.std.specs.Prelude.{◌≡◌, false, None}
+use Rattle.std.specs.Prelude.{◌≡◌, ◌<◌, ◌↔◌, ℕ, false, None}
 use Rattle.cmdcodec.specs.declared.raw.Raw.{Raw}
 use Rattle.cmdcodec.specs.declared.command.Command.{Command}
+use Rattle.cmdcodec.specs.declared.reach.Reach.{Reach}
 use Rattle.cmdcodec.specs.Opcodes.{opcode_of, is_kept}
 use Rattle.cmdcodec.specs.Legality.{first_ill}
 use Rattle.cmdcodec.specs.Spelling.{Spells}
 use Rattle.cmdcodec.specs.FreeBits.{DifferInFreeBits}
 use Rattle.cmdcodec.specs.Words.{decoding}
+use Rattle.cmdcodec.specs.PageRuns.{run_from, IsIn, IsReached}
 
 -- Legal words spell a command, and no other.
 abbrev pub LegalWordsSpellOneCommand : Type 0
@@ -30,3 +32,8 @@ FreeBitsAreIgnored =
 -- No other bits are free: two pairs of words that spell one command differ in free bits alone.
 abbrev pub AllOtherBitsAreNamed : Type 0
 AllOtherBitsAreNamed = (raw other : Raw) (command : Command) → Spells raw command → Spells other command → DifferInFreeBits command raw other
+
+-- The pages of a run are those whose granules are reached, as far as the address space goes.
+abbrev pub RunsAreOfWholeGranules : Type 0
+RunsAreOfWholeGranules =
+    (page space other : ℕ) (reach : Reach) → page < space → IsIn other (run_from page reach space) ↔ IsReached page reach space other

@@ -1,5 +1,5 @@
 -- Which pages an invalidation by address reaches.
-use Rattle.std.specs.Prelude.{ℕ, ◌+◌, ◌*◌, ◌/◌, ◌^◌, nat_lt, Option, Some, None, if◌then◌else◌}
+use Rattle.std.specs.Prelude.{◌≡◌, ◌<◌, ◌≤◌, ℕ, ◌+◌, ◌*◌, ◌/◌, ◌^◌, nat_lt, Option, Some, None, if◌then◌else◌}
 use Rattle.cmdcodec.specs.declared.reach.Granule.{Granule}
 use Rattle.cmdcodec.specs.declared.reach.Granule.TheVariants.{Kib4, Kib16, Kib64}
 use Rattle.cmdcodec.specs.declared.reach.Reach.{Reach}
@@ -32,3 +32,15 @@ run_of (TlbiEl2Va asid leaf page reach) = Some (run_from page reach (2 ^ 52))
 run_of (TlbiEl2Vaa leaf page reach) = Some (run_from page reach (2 ^ 52))
 run_of (TlbiS2Ipa vmid leaf page reach) = Some (run_from page reach (2 ^ 40))
 run_of not_by_address = None
+
+-- This page is one of the run.
+abbrev pub IsIn : ℕ → PageRun → Type 0
+IsIn page run = (run.first ≤ page) × (page < run.end)
+
+-- This other page is reached from the page: it is the page itself, or its granule is one of the
+-- (NUM + 1) * 2^SCALE from the page's own on.
+abbrev pub IsReached : ℕ → Reach → ℕ → ℕ → Type 0
+IsReached page Page space other = other ≡ page
+IsReached page (Range tg num scale) space other =
+    (page / granule_pages tg ≤ other / granule_pages tg) × (other / granule_pages tg < page / granule_pages tg + (num + 1) * 2 ^ scale)
+    × (other < space)

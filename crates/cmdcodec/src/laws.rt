@@ -1,5 +1,5 @@
-//! Laws of the spelling, each the contract of a function that does nothing.
-ghost use Rattle.cmdcodec.specs.Laws.{LegalWordsSpellOneCommand, SpelledWordsAreLegal, FreeBitsAreIgnored, AllOtherBitsAreNamed};
+//! Laws of the definitions, each the contract of a function that does nothing.
+ghost use Rattle.cmdcodec.specs.Laws.{LegalWordsSpellOneCommand, SpelledWordsAreLegal, FreeBitsAreIgnored, AllOtherBitsAreNamed, RunsAreOfWholeGranules};
 
 /// Words are legal exactly where they spell a command, and then they spell one alone.
 pub fn legal_words_spell_one_command()
@@ -12,4 +12,10 @@ pub fn legal_words_spell_one_command()
 pub fn free_bits_are_ignored()
     ensures ignored { FreeBitsAreIgnored }
     ensures no_others { AllOtherBitsAreNamed }
+{}
+
+/// The run of pages of an invalidation by address is the pages of the granules that it reaches, as far as
+/// the address space goes.
+pub fn runs_are_of_whole_granules()
+    ensures { RunsAreOfWholeGranules }
 {}

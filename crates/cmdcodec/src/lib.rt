@@ -29,7 +29,7 @@ pub use fields::{
 };
 pub use ill::Ill;
 pub use kept::KeptRaw;
-pub use laws::{free_bits_are_ignored, legal_words_spell_one_command};
+pub use laws::{free_bits_are_ignored, legal_words_spell_one_command, runs_are_of_whole_granules};
 pub use opcode::Opcode;
 pub use raw::{Raw, RawList, from_bytes, to_bytes};
 pub use reach::{Granule, PageRun, Reach};

@@ -23,8 +23,8 @@ Decodes Failed word before after = ⊤
 abbrev pub ExitsAsDecode : ℕ → List ℕ → Option (List ℕ) → Option (List ℕ) → Type 0
 ExitsAsDecode exit word before after = (status : Status) × (exit ≡ exit_status status) × Decodes status word before after
 
--- Help was told, or that memory was wanting, or what is wrong with the command line, of which nothing
--- goes where answers go.
+-- Neither was asked for, and help or a fault was told: the status isn't that of a refused word or script,
+-- a fault of the command line goes elsewhere than answers, and want of memory is told by its line alone.
 abbrev pub ExitsAsTold : ℕ → Option (List ℕ) → Option (List ℕ) → Type 0
 ExitsAsTold exit before after = (exit ≢ 1) × (exit ≡ 2 → Keeps before after) × (exit ≡ 3 → Appends before after no_memory_line)
 
