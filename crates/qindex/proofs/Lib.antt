@@ -1,0 +1,3 @@
+pub mod PositionLemmas
+pub mod QueueLemmas
+pub mod WordLemmas

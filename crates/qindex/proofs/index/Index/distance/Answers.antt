@@ -1,0 +1,11 @@
+use Rattle.std.proofs.Common.{rules, ap₂, ◌∙◌}
+use Rattle.qindex.specs.Indexes.{distance}
+use Rattle.qindex.proofs.QueueLemmas.{distance_between}
+use Rattle.qindex.proofs.index.Index.distance.Goals as goal
+
+pub returns-clause-value : goal.returns-clause-value
+returns-clause-value c = search rules
+
+pub returns-clause-positions : goal.returns-clause-positions
+returns-clause-positions c =
+    λ g t h tail head order near. returns-clause-value c ∙ ap₂ distance tail head ∙ distance_between g t h order near

@@ -1,0 +1,4 @@
+pub mod Positions
+pub mod Indexes
+pub mod ControlWord
+pub mod Laws
