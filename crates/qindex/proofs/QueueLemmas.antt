@@ -37,6 +37,9 @@ distance_between g t h order near =
     ap (λ x. (x % (2 * size g) + 2 * size g - h % (2 * size g)) % (2 * size g)) whole
     ∙ apart (2 * size g) h (t - h) (omega (arith, some)) (omega (arith, order, near))
 
+pub distance_in_queue : (g t h : ℕ) → h ≤ t → t ≤ h + size g → distance (index_of g t) (index_of g h) ≡ t - h
+distance_in_queue g t h order near = let some = some_slots g in distance_between g t h order (omega (arith, near, some))
+
 pub slots_apart : SlotsAreApart
 slots_apart g from p q p_from p_below q_from q_below one =
     let m = size g in
@@ -108,9 +111,8 @@ full_between g t h order near = ap₂ (λ x y. x && not y) (place_seen g t h) (w
 
 pub queue : IndexesTellTheQueue
 queue g t h is order near =
-    let some = some_slots g in
     record {
-      distance = distance_between g t h order (omega (arith, near, some));
+      distance = distance_in_queue g t h order near;
       empty = empty_between g t h order near;
       full = full_between g t h order near;
     }

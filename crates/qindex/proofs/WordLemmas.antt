@@ -10,8 +10,8 @@ use Rattle.qindex.specs.Positions.{IndexValue, size}
 use Rattle.qindex.specs.Indexes.{IsGeometry, IsIndex, IsIndexNumber, distance}
 use Rattle.qindex.specs.ControlWord.{IsControl, IsControlWord, packed, control_in, field, bit, advance_mask, close_mask, closed}
 use Rattle.qindex.specs.Laws.{QueuesHaveAControl, WordsSayTheirControl, ControlsHaveTheirWord, OrCloses, OrSetsBit31Alone, XorAdvances, XorTurnsConsAlone}
-use Rattle.qindex.proofs.PositionLemmas.{size_fits, index_fits, number-lt, some_slots}
-use Rattle.qindex.proofs.QueueLemmas.{distance_between}
+use Rattle.qindex.proofs.PositionLemmas.{size_fits, index_fits, number-lt}
+use Rattle.qindex.proofs.QueueLemmas.{distance_in_queue}
 
 -- ---- fields
 
@@ -32,13 +32,12 @@ bit_of_bool (suc (suc n)) small = absurd (omega (arith, small))
 
 pub control : QueuesHaveAControl
 control g t h closed is order near =
-    let some = some_slots g in
     record {
       prod = record { geometry = is; number = number-lt g t };
       cons = record { geometry = is; number = number-lt g h };
       prod_geometry = refl;
       cons_geometry = refl;
-      within = rw (distance_between g t h order (omega (arith, near, some))) (omega (arith, near));
+      within = rw (distance_in_queue g t h order near) (omega (arith, near));
     }
 
 -- the fields of a word that is put together of them
@@ -205,12 +204,6 @@ closed_seen word =
     by_bit (suc (suc b)) small = absurd (omega (arith, small))
 
 -- What `unpack` reads: the word below its closed bit, and the word above its low half.
-pub low_is_prod : (g word : ℕ) → IsControlWord g word → word % 2 ^ 31 ≡ field word 19 0
-low_is_prod g word is = omega (arith, is.no_bit_below_closed)
-
-pub high_is_cons : (g word : ℕ) → word < 2 ^ 64 → IsControlWord g word → word / 2 ^ 32 ≡ field word 51 32
-high_is_cons g word fits is = omega (arith, fits, is.no_bit_above_cons)
-
 -- the index that stands below the closed bit, and that above the low half
 abbrev pub low_index : ℕ → ℕ → IndexValue
 low_index g word = record { geometry = g; number = bit_and word (2 ^ 31 - 1) }

@@ -1,6 +1,6 @@
 -- What is read off two indexes, from the section on circular queues.
-use Rattle.std.specs.Prelude.{◌<◌, ◌≤◌, ℕ, ◌+◌, ◌-◌, ◌*◌, ◌%◌, Bool, not, ◌&&◌, ◌==◌}
-use Rattle.qindex.specs.Positions.{IndexValue, size, place, wrap_bit}
+use Rattle.std.specs.Prelude.{◌≡◌, ◌<◌, ◌≤◌, ℕ, ◌+◌, ◌-◌, ◌*◌, ◌%◌, Bool, not, ◌&&◌, ◌==◌}
+use Rattle.qindex.specs.Positions.{IndexValue, size, place, wrap_bit, index_of}
 
 -- 1 to 19
 abbrev pub IsGeometry : ℕ → Type 0
@@ -13,6 +13,13 @@ IsIndexNumber geometry number = number < 2 * size geometry
 pub record IsIndex (index : IndexValue) : Type 0 where
   pub geometry : IsGeometry index.geometry
   pub number : IsIndexNumber index.geometry index.number
+
+-- The two are the indexes of a queue from position head up to position tail.
+pub record IsQueue (prod cons : IndexValue) (geometry tail head : ℕ) : Type 0 where
+  pub prod_is : prod ≡ index_of geometry tail
+  pub cons_is : cons ≡ index_of geometry head
+  pub order : head ≤ tail
+  pub within : tail ≤ head + size geometry
 
 -- (prod - cons) modulo twice the size
 abbrev pub distance : IndexValue → IndexValue → ℕ

@@ -2,7 +2,7 @@
 ghost use Rattle.std.specs.Prelude.{◌≡◌, ◌<◌, ◌≤◌, ℕ, ◌+◌, ◌-◌, ◌*◌, ◌^◌, ◌==◌};
 ghost use Rattle.std.specs.Option.{SomeIff};
 ghost use Rattle.qindex.specs.Positions.{size, place, wrap_bit, index_of};
-ghost use Rattle.qindex.specs.Indexes.{IsIndex, IsIndexNumber, distance, is_empty, is_full};
+ghost use Rattle.qindex.specs.Indexes.{IsIndex, IsIndexNumber, IsQueue, distance, is_empty, is_full};
 
 use crate::geometry::Geometry;
 use std::marker::Model;
@@ -90,7 +90,7 @@ impl Index {
     pub fn distance(self, cons: Index) -> u32
         requires one_ring { self.geometry ≡ cons.geometry }
         ensures value { result ≡ distance self cons }
-        ensures positions { (geometry tail head : ℕ) → self ≡ index_of geometry tail → cons ≡ index_of geometry head → head ≤ tail → tail < head + 2 * size geometry → result ≡ tail - head }
+        ensures positions { (geometry tail head : ℕ) → IsQueue self cons geometry tail head → result ≡ tail - head }
     {
         let geometry = self.geometry;
         geometry.wrapped(self.number + 2 * geometry.size() - cons.number)
@@ -100,7 +100,7 @@ impl Index {
     pub fn is_empty(self, cons: Index) -> bool
         requires one_ring { self.geometry ≡ cons.geometry }
         ensures value { result ≡ is_empty self cons }
-        ensures positions { (geometry tail head : ℕ) → self ≡ index_of geometry tail → cons ≡ index_of geometry head → head ≤ tail → tail ≤ head + size geometry → result ≡ (tail == head) }
+        ensures positions { (geometry tail head : ℕ) → IsQueue self cons geometry tail head → result ≡ (tail == head) }
     {
         self.number == cons.number
     }
@@ -109,7 +109,7 @@ impl Index {
     pub fn is_full(self, cons: Index) -> bool
         requires one_ring { self.geometry ≡ cons.geometry }
         ensures value { result ≡ is_full self cons }
-        ensures positions { (geometry tail head : ℕ) → self ≡ index_of geometry tail → cons ≡ index_of geometry head → head ≤ tail → tail ≤ head + size geometry → result ≡ (tail == head + size geometry) }
+        ensures positions { (geometry tail head : ℕ) → IsQueue self cons geometry tail head → result ≡ (tail == head + size geometry) }
     {
         self.place() == cons.place() && self.wrap() != cons.wrap()
     }

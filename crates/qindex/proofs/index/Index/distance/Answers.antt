@@ -1,6 +1,6 @@
 use Rattle.std.proofs.Common.{rules, ap₂, ◌∙◌}
 use Rattle.qindex.specs.Indexes.{distance}
-use Rattle.qindex.proofs.QueueLemmas.{distance_between}
+use Rattle.qindex.proofs.QueueLemmas.{distance_in_queue}
 use Rattle.qindex.proofs.index.Index.distance.Goals as goal
 
 pub returns-clause-value : goal.returns-clause-value
@@ -8,4 +8,4 @@ returns-clause-value c = search rules
 
 pub returns-clause-positions : goal.returns-clause-positions
 returns-clause-positions c =
-    λ g t h tail head order near. returns-clause-value c ∙ ap₂ distance tail head ∙ distance_between g t h order near
+    λ g t h q. returns-clause-value c ∙ ap₂ distance q.prod_is q.cons_is ∙ distance_in_queue g t h q.order q.within

@@ -13,4 +13,4 @@ returns-clause-value c =
 
 pub returns-clause-positions : goal.returns-clause-positions
 returns-clause-positions c =
-    λ g t h tail head order near. returns-clause-value c ∙ ap₂ is_empty tail head ∙ empty_between g t h order near
+    λ g t h q. returns-clause-value c ∙ ap₂ is_empty q.prod_is q.cons_is ∙ empty_between g t h q.order q.within

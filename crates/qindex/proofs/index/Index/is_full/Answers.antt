@@ -8,11 +8,11 @@ returns-then-place-clause-value c = search rules
 
 pub returns-then-place-clause-positions : goal.returns-then-place-clause-positions
 returns-then-place-clause-positions c =
-    λ g t h tail head order near. returns-then-place-clause-value c ∙ ap₂ is_full tail head ∙ full_between g t h order near
+    λ g t h q. returns-then-place-clause-value c ∙ ap₂ is_full q.prod_is q.cons_is ∙ full_between g t h q.order q.within
 
 pub returns-else-place-clause-value : goal.returns-else-place-clause-value
 returns-else-place-clause-value c = search rules
 
 pub returns-else-place-clause-positions : goal.returns-else-place-clause-positions
 returns-else-place-clause-positions c =
-    λ g t h tail head order near. returns-else-place-clause-value c ∙ ap₂ is_full tail head ∙ full_between g t h order near
+    λ g t h q. returns-else-place-clause-value c ∙ ap₂ is_full q.prod_is q.cons_is ∙ full_between g t h q.order q.within
