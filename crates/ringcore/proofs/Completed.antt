@@ -1,0 +1,184 @@
+-- Who is told a number was told so after all up to its closing sync was taken.
+use Rattle.std.proofs.Common.{◌≡◌, ℕ, zero, suc, ◌+◌, ◌-◌, ◌<◌, List, [], ◌∷◌, ◌++◌, length, Option, Some, None, refl, sym, ap, ap₂, ◌∙◌, subst, inl, inr, arith, length-append, append_assoc}
+use Rattle.std.proofs.lemmas.Bool.{cases_lt}
+use Rattle.std.proofs.lemmas.List.{length-map}
+use Rattle.std.proofs.lemmas.Option.{slice_get_within}
+use Rattle.std.specs.Prelude.{slice_get}
+use Rattle.cmdcodec.specs.declared.raw.Raw.{Raw}
+use Rattle.cmdcodec.specs.Opcodes.{opcode_of}
+use Rattle.cmdcodec.specs.Words.{encoding}
+use Rattle.ringcore.specs.declared.event.Who.TheVariants.{Sender}
+use Rattle.ringcore.specs.declared.event.Event.TheVariants.{Won, Ask}
+use Rattle.ringcore.specs.Trails.{Run}
+use Rattle.ringcore.specs.World.{Item, Taken, sync_raw, commands, items_from, head, world}
+use Rattle.ringcore.specs.Allowed.{Shape, IsBody, SyncIsTaken, IsRun}
+use Rattle.ringcore.specs.Delivery.{Batch, batches, joined, advanced, Begins, TakenInOrder, NoneAfterClose, IsCompleted, ToldWhenCompleted}
+use Rattle.ringcore.specs.Laws.{BatchesAreUnbroken}
+use Rattle.ringcore.proofs.Lists.{none_some, some_one, get_longer, get_behind, get_shorter, get_begun, begins_shorter}
+use Rattle.ringcore.proofs.Reading.{batch_items, all_items, all_items_append, raws_of_batch, joined_append, length_of_all, is_read, reserved_raws}
+use Rattle.ringcore.proofs.Numbering.{AllBodies, is_kept}
+use Rattle.ringcore.proofs.Sound.{sound}
+use Rattle.ringcore.proofs.Acknowledged.{acknowledged}
+
+-- ---- closed
+
+earlier_run : (ring : Shape) (later earlier : Run) → IsRun ring (later ++ earlier) → IsRun ring earlier
+earlier_run ring [] earlier ok = ok
+earlier_run ring (x ∷ later) earlier ok = earlier_run ring later earlier ok.0
+
+pub none_after_close : (ring : Shape) (run : Run) → IsRun ring run → NoneAfterClose run
+none_after_close ring run ok later earlier s body number is =
+    let won = earlier_run ring later ((Sender s, Won body number) ∷ earlier) (subst (IsRun ring) is ok) in sym (is_read earlier).closed ∙ won.1.unclosed
+
+-- ---- taken
+
+pub taken_in_order : (ring : Shape) (run : Run) → IsRun ring run → TakenInOrder run
+taken_in_order ring run ok =
+    let d = (sound ring run ok).delivered in
+    (d.0, sym (reserved_raws run) ∙ d.1 ∙ ap (λ l. l ++ d.0) (is_read run).taken)
+
+-- ---- the batch of a sync
+
+-- The sync's opcode is that of CMD_SYNC.
+pub sync_opcode : (s number : ℕ) → opcode_of (sync_raw s number) ≡ 0x46
+unfolding encoding
+sync_opcode s number = omega arith
+
+-- an item of a batch is the command at its place
+record IsItemOf (s : ℕ) (number : Option ℕ) (raws : List Raw) (i : ℕ) (item : Item) : Type 0 where
+  pub raw_is : slice_get raws i ≡ Some item.raw
+  pub sender_is : item.sender ≡ s
+  pub number_is : item.number ≡ number
+
+item_of : (place s : ℕ) (number : Option ℕ) (raws : List Raw) (i : ℕ) (item : Item) → slice_get (items_from place s number raws) i ≡ Some item
+    → IsItemOf s number raws i item
+item_of place s number [] i item is = none_some item is
+item_of place s number (raw ∷ raws) zero item is =
+    let same = sym (some_one _ item is) in record {
+      raw_is = ap (λ (x : Item). Some x.raw) (sym same);
+      sender_is = ap (λ (x : Item). x.sender) same;
+      number_is = ap (λ (x : Item). x.number) same;
+    }
+item_of place s number (raw ∷ raws) (suc i) item is =
+    let r = item_of (suc place) s number raws i item is in record { raw_is = r.raw_is; sender_is = r.sender_is; number_is = r.number_is }
+
+-- In a batch whose body holds no CMD_SYNC one stands just behind the body.
+at_end : (s : ℕ) (number : Option ℕ) (body : List Raw) (i : ℕ) (raw : Raw) → IsBody body → slice_get (commands s number body) i ≡ Some raw
+    → opcode_of raw ≡ 0x46 → i ≡ length body
+at_end s None body i raw is at sync = absurd (is.no_sync i raw at sync)
+at_end s (Some number) body i raw is at sync =
+    elim (cases_lt i (length body)) [
+      | inl inside ↦ absurd (is.no_sync i raw (sym (get_shorter body (sync_raw s number ∷ []) i inside) ∙ at) sync)
+      | inr behind ↦
+          let within = slice_get_within (body ++ sync_raw s number ∷ []) i raw at in
+          let long = length-append body (sync_raw s number ∷ []) in
+          omega (arith, behind, within, long)
+    ]
+
+-- where the batch of an item stands among the batches
+record IsBatchOf (bs : List Batch) (position : ℕ) (item : Item) : Type 0 where
+  pub ahead : List Batch
+  pub batch : Batch
+  pub behind : List Batch
+  pub whole : bs ≡ ahead ++ batch ∷ behind
+  pub sender_is : item.sender ≡ batch.sender
+  pub number_is : item.number ≡ batch.number
+  pub position_is : position ≡ length (joined ahead ++ batch.body)
+
+batch_of_sync : (bs : List Batch) → AllBodies bs → (position : ℕ) (item : Item) → slice_get (all_items bs) position ≡ Some item
+    → opcode_of item.raw ≡ 0x46 → IsBatchOf bs position item
+batch_of_sync [] bodies position item at sync = none_some item at
+batch_of_sync (b ∷ bs) bodies position item at sync =
+    let mine = batch_items b in
+    let mine_raws = commands b.sender b.number b.body in
+    elim (cases_lt position (length mine)) [
+      | inl inside ↦
+          let here : slice_get mine position ≡ Some item = sym (get_shorter mine (all_items bs) position inside) ∙ at in
+          let is = item_of 0 b.sender b.number (commands b.sender b.number b.body) position item here in
+          record {
+            ahead = [];
+            batch = b;
+            behind = bs;
+            whole = refl;
+            sender_is = is.sender_is;
+            number_is = is.number_is;
+            position_is = at_end b.sender b.number b.body position item.raw bodies.0 is.raw_is sync;
+          }
+      | inr beyond ↦
+          let on : position ≡ length mine + (position - length mine) = omega (arith, beyond) in
+          let there : slice_get (all_items bs) (position - length mine) ≡ Some item =
+          sym (get_behind mine (all_items bs) (position - length mine)) ∙ ap (slice_get (all_items (b ∷ bs))) (sym on) ∙ at in
+          let r = batch_of_sync bs bodies.1 (position - length mine) item there sync in
+          record {
+            ahead = b ∷ r.ahead;
+            batch = r.batch;
+            behind = r.behind;
+            whole = ap (λ l. b ∷ l) r.whole;
+            sender_is = r.sender_is;
+            number_is = r.number_is;
+            position_is =
+                let last = r.position_is in
+                let first : length mine ≡ length mine_raws = sym (length-map mine (λ (x : Item). x.raw)) ∙ ap length (raws_of_batch b) in
+                let near = length-append (joined r.ahead) r.batch.body in
+                let far = length-append (mine_raws ++ joined r.ahead) r.batch.body in
+                let both = length-append mine_raws (joined r.ahead) in
+                omega (arith, beyond, last, first, near, far, both);
+          }
+    ]
+
+-- ---- completed
+
+-- What is taken of batches of which this one stands behind these, where more is taken than all ahead of its sync.
+completed : (run : Run) (s number : ℕ) (body : List Raw) (ahead behind : List Batch) → Begins (advanced run) (joined (batches run))
+    → batches run ≡ ahead ++ record { sender = s; number = Some number; body = body } ∷ behind
+    → length (joined ahead ++ body) < length (advanced run) → IsCompleted run s number
+completed run s number body ahead behind taken is less =
+    let b : Batch = record { sender = s; number = Some number; body = body } in
+    let raw = sync_raw s number in
+    let front = joined ahead ++ body in
+    let whole : joined (batches run) ≡ front ++ (raw ∷ joined behind) =
+    ap joined is ∙ joined_append ahead (b ∷ behind)
+    ∙ ap (λ l. joined ahead ++ l) (append_assoc body (raw ∷ []) (joined behind))
+    ∙ sym (append_assoc (joined ahead) body (raw ∷ joined behind)) in
+    let at : slice_get (front ++ (raw ∷ joined behind)) (length front) ≡ Some raw =
+    ap (slice_get (front ++ (raw ∷ joined behind))) (let z : length front ≡ length front + 0 = omega arith in z) ∙ get_behind front (raw ∷ joined behind) 0 in
+    record {
+      ahead = ahead;
+      body = body;
+      behind = behind;
+      reserved = is;
+      sync = sym (get_begun (advanced run) (joined (batches run)) taken (length front) less) ∙ ap (λ l. slice_get l (length front)) whole ∙ at;
+      all_ahead = begins_shorter front (advanced run) (joined (batches run)) (raw ∷ joined behind, whole) taken (omega (arith, less));
+    }
+
+-- The sync that stands below the head is that of a batch.
+of_taken : (ring : Shape) (run : Run) → IsRun ring run → (s number : ℕ) → SyncIsTaken (world run) s number → IsCompleted run s number
+of_taken ring run ok s number t =
+    let read = is_read run in
+    let item : Item = record { sender = s; number = Some number; place = t.place; raw = sync_raw s number } in
+    let at = ap (λ l. slice_get l t.position) (sym read.reserved) ∙ t.there in
+    let r = batch_of_sync (batches run) (is_kept ring run ok).bodies t.position item at (sync_opcode s number) in
+    let b : r.batch ≡ record { sender = s; number = Some number; body = r.batch.body } = (λ j. record { sender = sym r.sender_is j; number = sym r.number_is j; body = r.batch.body }) in
+    let below = t.below in
+    let many : length (advanced run) ≡ head (world run) = sym (ap length read.taken) ∙ length-map (world run).taken (λ (x : Taken). x.raw) in
+    let position = r.position_is in
+    completed run s number r.batch.body r.ahead r.behind (taken_in_order ring run ok)
+    (r.whole ∙ ap (λ (x : Batch). r.ahead ++ x ∷ r.behind) b)
+    (omega (arith, below, many, position))
+
+pub told : (ring : Shape) (run : Run) → IsRun ring run → ToldWhenCompleted run
+told ring run ok later earlier s number is some =
+    let ask = earlier_run ring later ((Sender s, Ask number) ∷ earlier) (subst (IsRun ring) is ok) in
+    let found = ask.1 in
+    of_taken ring earlier ask.0 s number (acknowledged ring earlier ask.0 s number some (omega (arith, found)))
+
+-- ---- batches
+
+pub unbroken : (run : Run) → BatchesAreUnbroken run
+unbroken run ahead behind b is place item at =
+    let whole : (world run).reserved ≡ all_items ahead ++ (batch_items b ++ all_items behind) =
+    (is_read run).reserved ∙ ap all_items is ∙ all_items_append ahead (b ∷ behind) in
+    let start : length (joined ahead) + place ≡ length (all_items ahead) + place = ap (λ n. n + place) (sym (length_of_all ahead)) in
+    ap₂ slice_get whole start
+    ∙ get_behind (all_items ahead) (batch_items b ++ all_items behind) place
+    ∙ get_longer (batch_items b) (all_items behind) place item at

@@ -1,0 +1,9 @@
+use Rattle.ringcore.proofs.Numbering.{senders_order}
+use Rattle.ringcore.proofs.Completed.{unbroken}
+use Rattle.ringcore.proofs.laws.batches_law.Goals as goal
+
+pub returns-clause-unbroken : goal.returns-clause-unbroken
+returns-clause-unbroken c = λ ring run ok. unbroken run
+
+pub returns-clause-senders_order : goal.returns-clause-senders_order
+returns-clause-senders_order c = senders_order

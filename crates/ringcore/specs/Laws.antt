@@ -1,0 +1,52 @@
+-- What every run is held to, of any length, in a ring of any size.
+use Rattle.std.specs.Prelude.{◌≡◌, ℕ, ◌+◌, ◌≤◌, cond, ◌==◌, List, [], ◌∷◌, ◌++◌, length, Some, slice_get}
+use Rattle.qindex.specs.Positions.{size}
+use Rattle.ringcore.specs.declared.event.Who.TheVariants.{Sender}
+use Rattle.ringcore.specs.declared.event.Event.TheVariants.{Won}
+use Rattle.ringcore.specs.Trails.{Trail, Run, trail_of}
+use Rattle.ringcore.specs.World.{Item, World, items, tail, head, world}
+use Rattle.ringcore.specs.Allowed.{Shape, SyncIsTaken, IsRun}
+use Rattle.ringcore.specs.Delivery.{Batch, batches, joined}
+
+abbrev pub EveryRun : (Run → Type 0) → Type 0
+EveryRun P = (ring : Shape) (run : Run) → IsRun ring run → P run
+
+-- The ring is never more than full: H ≤ T ≤ H + N.
+pub record IsWithin (ring : Shape) (w : World) : Type 0 where
+  pub behind : head w ≤ tail w
+  pub within : tail w ≤ head w + size ring.geometry
+
+abbrev pub NeverMoreThanFull : Type 0
+NeverMoreThanFull = (ring : Shape) (run : Run) → IsRun ring run → IsWithin ring (world run)
+
+-- The sync of each number up to the one in a sender's completion cell stands below the head.
+abbrev pub AcknowledgedAreTaken : Run → Type 0
+AcknowledgedAreTaken run =
+    (s number : ℕ) → 1 ≤ number → number ≤ (world run).acknowledged s → SyncIsTaken (world run) s number
+
+-- ---- batches, as a driver's author knows them
+
+-- Position by position from here on stand the commands of this batch.
+abbrev pub StandsAt : World → ℕ → Batch → Type 0
+StandsAt w start b =
+    (place : ℕ) (item : Item) → slice_get (items b.sender b.number b.body) place ≡ Some item → slice_get w.reserved (start + place) ≡ Some item
+
+-- Each batch stands in one piece, behind all that was reserved before it.
+abbrev pub BatchesAreUnbroken : Run → Type 0
+BatchesAreUnbroken run =
+    (ahead behind : List Batch) (b : Batch) → batches run ≡ ahead ++ b ∷ behind → StandsAt (world run) (length (joined ahead)) b
+
+-- the batches of one sender
+abbrev pub batches_of : ℕ → List Batch → List Batch
+batches_of s [] = []
+batches_of s (b ∷ bs) = cond (s == b.sender) (b ∷ batches_of s bs) (batches_of s bs)
+
+-- the batches of a sender's own trail, in their order
+abbrev pub own_batches : ℕ → Trail → List Batch
+own_batches s [] = []
+own_batches s (Won body number ∷ es) = own_batches s es ++ record { sender = s; number = number; body = body } ∷ []
+own_batches s (e ∷ es) = own_batches s es
+
+-- Each sender's batches stand in the order in which it reserved them.
+abbrev pub SendersOrderIsKept : Run → Type 0
+SendersOrderIsKept run = (s : ℕ) → batches_of s (batches run) ≡ own_batches s (trail_of (Sender s) run)

@@ -1,0 +1,22 @@
+//! Laws of every run, each the contract of a function that does nothing.
+ghost use Rattle.ringcore.specs.Delivery.{TakenInOrder, NumberedInOrder, NoneAfterClose, ToldWhenCompleted};
+ghost use Rattle.ringcore.specs.Laws.{EveryRun, NeverMoreThanFull, AcknowledgedAreTaken, BatchesAreUnbroken, SendersOrderIsKept};
+
+/// Every run of any length, of any number of senders, in a ring of any size, is ordered delivery: what is
+/// taken is a beginning of what was reserved, batches are numbered from 1, none is reserved after a close,
+/// and who is told a number was told so after its closing sync, and all ahead of it, was taken.
+pub fn world_law()
+    ensures taken { EveryRun TakenInOrder }
+    ensures numbered { EveryRun NumberedInOrder }
+    ensures closed { EveryRun NoneAfterClose }
+    ensures told { EveryRun ToldWhenCompleted }
+    ensures within { NeverMoreThanFull }
+    ensures acknowledged { EveryRun AcknowledgedAreTaken }
+{}
+
+/// In every run each batch stands in one piece, and the batches of one sender in the order in which it
+/// reserved them.
+pub fn batches_law()
+    ensures unbroken { EveryRun BatchesAreUnbroken }
+    ensures senders_order { EveryRun SendersOrderIsKept }
+{}

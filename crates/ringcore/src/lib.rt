@@ -1,0 +1,8 @@
+//! The ring as events on an abstract world: what every interleaving of its atomic steps keeps.
+#![tactic(auto)]
+
+mod event;
+mod laws;
+
+pub use event::{Event, Half, Who};
+pub use laws::{batches_law, world_law};
