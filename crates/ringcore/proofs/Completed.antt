@@ -1,5 +1,5 @@
 -- Who is told a number was told so after all up to its closing sync was taken.
-use Rattle.std.proofs.Common.{◌≡◌, ℕ, zero, suc, ◌+◌, ◌-◌, ◌<◌, List, [], ◌∷◌, ◌++◌, length, Option, Some, None, refl, sym, ap, ap₂, ◌∙◌, subst, inl, inr, arith, length-append, append_assoc}
+use Rattle.std.proofs.Common.{◌≡◌, ℕ, ◌+◌, ◌-◌, ◌<◌, List, [], ◌∷◌, ◌++◌, length, Option, Some, None, refl, sym, ap, ap₂, ◌∙◌, subst, inl, inr, arith, length-append, append_assoc}
 use Rattle.std.proofs.lemmas.Bool.{cases_lt}
 use Rattle.std.proofs.lemmas.List.{length-map}
 use Rattle.std.proofs.lemmas.Option.{slice_get_within}
@@ -10,12 +10,12 @@ use Rattle.cmdcodec.specs.Words.{encoding}
 use Rattle.ringcore.specs.declared.event.Who.TheVariants.{Sender}
 use Rattle.ringcore.specs.declared.event.Event.TheVariants.{Won, Ask}
 use Rattle.ringcore.specs.Trails.{Run}
-use Rattle.ringcore.specs.World.{Item, Taken, sync_raw, commands, items_from, head, world}
+use Rattle.ringcore.specs.World.{Item, Taken, sync_raw, commands, head, world}
 use Rattle.ringcore.specs.Allowed.{Shape, IsBody, SyncIsTaken, IsRun}
 use Rattle.ringcore.specs.Delivery.{Batch, batches, joined, advanced, Begins, TakenInOrder, NoneAfterClose, IsCompleted, ToldWhenCompleted}
 use Rattle.ringcore.specs.Laws.{BatchesAreUnbroken}
-use Rattle.ringcore.proofs.Lists.{none_some, some_one, get_longer, get_behind, get_shorter, get_begun, begins_shorter}
-use Rattle.ringcore.proofs.Reading.{batch_items, all_items, all_items_append, raws_of_batch, joined_append, length_of_all, is_read, reserved_raws}
+use Rattle.ringcore.proofs.Lists.{none_some, get_longer, get_behind, get_shorter, get_begun, begins_shorter}
+use Rattle.ringcore.proofs.Reading.{item_of, batch_items, all_items, all_items_append, raws_of_batch, joined_append, length_of_all, is_read, reserved_raws}
 use Rattle.ringcore.proofs.Numbering.{AllBodies, is_kept}
 use Rattle.ringcore.proofs.Sound.{sound}
 use Rattle.ringcore.proofs.Acknowledged.{acknowledged}
@@ -43,24 +43,6 @@ taken_in_order ring run ok =
 pub sync_opcode : (s number : ℕ) → opcode_of (sync_raw s number) ≡ 0x46
 unfolding encoding
 sync_opcode s number = omega arith
-
--- an item of a batch is the command at its place
-record IsItemOf (s : ℕ) (number : Option ℕ) (raws : List Raw) (i : ℕ) (item : Item) : Type 0 where
-  pub raw_is : slice_get raws i ≡ Some item.raw
-  pub sender_is : item.sender ≡ s
-  pub number_is : item.number ≡ number
-
-item_of : (place s : ℕ) (number : Option ℕ) (raws : List Raw) (i : ℕ) (item : Item) → slice_get (items_from place s number raws) i ≡ Some item
-    → IsItemOf s number raws i item
-item_of place s number [] i item is = none_some item is
-item_of place s number (raw ∷ raws) zero item is =
-    let same = sym (some_one _ item is) in record {
-      raw_is = ap (λ (x : Item). Some x.raw) (sym same);
-      sender_is = ap (λ (x : Item). x.sender) same;
-      number_is = ap (λ (x : Item). x.number) same;
-    }
-item_of place s number (raw ∷ raws) (suc i) item is =
-    let r = item_of (suc place) s number raws i item is in record { raw_is = r.raw_is; sender_is = r.sender_is; number_is = r.number_is }
 
 -- In a batch whose body holds no CMD_SYNC one stands just behind the body.
 at_end : (s : ℕ) (number : Option ℕ) (body : List Raw) (i : ℕ) (raw : Raw) → IsBody body → slice_get (commands s number body) i ≡ Some raw

@@ -4,3 +4,8 @@ pub mod Numbering
 pub mod Sound
 pub mod Acknowledged
 pub mod Completed
+pub mod Slots
+pub mod Bound
+pub mod WorkedCases
+pub mod WorkedTwoLaps
+pub mod WorkedEveryKind

@@ -1,7 +1,9 @@
 -- What the world and the events both say of a run.
-use Rattle.std.proofs.Common.{◌≡◌, ℕ, suc, true, List, [], ◌∷◌, ◌++◌, length, map, Option, refl, sym, ap, ap₂, ◌∙◌, append_assoc, append-nil}
+use Rattle.std.proofs.Common.{◌≡◌, ℕ, zero, suc, true, List, [], ◌∷◌, ◌++◌, length, map, Option, Some, refl, sym, ap, ap₂, ◌∙◌, append_assoc, append-nil}
 use Rattle.std.proofs.lemmas.List.{length-map, map-append}
+use Rattle.std.specs.Prelude.{slice_get}
 use Rattle.cmdcodec.specs.declared.raw.Raw.{Raw}
+use Rattle.ringcore.proofs.Lists.{none_some, some_one}
 use Rattle.ringcore.specs.declared.event.Who.{Who}
 use Rattle.ringcore.specs.declared.event.Who.TheVariants.{Consumer, Sender}
 use Rattle.ringcore.specs.declared.event.Event.{Event}
@@ -53,6 +55,24 @@ length_of_all bs = sym (length-map (all_items bs) (λ (i : Item). i.raw)) ∙ ap
 pub taken_again : (raws : List Raw) → raws_taken (map taken_as raws) ≡ raws
 taken_again [] = refl
 taken_again (raw ∷ raws) = ap (λ l. raw ∷ l) (taken_again raws)
+
+-- an item of a batch is the command at its place
+pub record IsItemOf (s : ℕ) (number : Option ℕ) (raws : List Raw) (i : ℕ) (item : Item) : Type 0 where
+  pub raw_is : slice_get raws i ≡ Some item.raw
+  pub sender_is : item.sender ≡ s
+  pub number_is : item.number ≡ number
+
+pub item_of : (place s : ℕ) (number : Option ℕ) (raws : List Raw) (i : ℕ) (item : Item) → slice_get (items_from place s number raws) i ≡ Some item
+    → IsItemOf s number raws i item
+item_of place s number [] i item is = none_some item is
+item_of place s number (raw ∷ raws) zero item is =
+    let same = sym (some_one _ item is) in record {
+      raw_is = ap (λ (x : Item). Some x.raw) (sym same);
+      sender_is = ap (λ (x : Item). x.sender) same;
+      number_is = ap (λ (x : Item). x.number) same;
+    }
+item_of place s number (raw ∷ raws) (suc i) item is =
+    let r = item_of (suc place) s number raws i item is in record { raw_is = r.raw_is; sender_is = r.sender_is; number_is = r.number_is }
 
 -- ---- the two readings of a run
 
