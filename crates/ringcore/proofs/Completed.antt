@@ -1,22 +1,19 @@
 -- Who is told a number was told so after all up to its closing sync was taken.
-use Rattle.std.proofs.Common.{◌≡◌, ℕ, ◌+◌, ◌-◌, ◌<◌, List, [], ◌∷◌, ◌++◌, length, Option, Some, None, refl, sym, ap, ap₂, ◌∙◌, subst, inl, inr, arith, length-append, append_assoc}
-use Rattle.std.proofs.lemmas.Bool.{cases_lt}
+use Rattle.std.proofs.Common.{◌≡◌, ℕ, ◌+◌, ◌<◌, List, [], ◌∷◌, ◌++◌, length, Some, sym, ap, ap₂, ◌∙◌, subst, arith, append_assoc}
 use Rattle.std.proofs.lemmas.List.{length-map}
-use Rattle.std.proofs.lemmas.Option.{slice_get_within}
 use Rattle.std.specs.Prelude.{slice_get}
 use Rattle.cmdcodec.specs.declared.raw.Raw.{Raw}
-use Rattle.cmdcodec.specs.Opcodes.{opcode_of}
-use Rattle.cmdcodec.specs.Words.{encoding}
 use Rattle.ringcore.specs.declared.event.Who.TheVariants.{Sender}
 use Rattle.ringcore.specs.declared.event.Event.TheVariants.{Won, Ask}
 use Rattle.ringcore.specs.Trails.{Run}
-use Rattle.ringcore.specs.World.{Item, Taken, sync_raw, commands, head, world}
-use Rattle.ringcore.specs.Allowed.{Shape, IsBody, SyncIsTaken, IsRun}
+use Rattle.ringcore.specs.World.{Item, Taken, sync_raw, head, world}
+use Rattle.ringcore.specs.Allowed.{Shape, SyncIsTaken, IsRun}
 use Rattle.ringcore.specs.Delivery.{Batch, batches, joined, advanced, Begins, TakenInOrder, NoneAfterClose, IsCompleted, ToldWhenCompleted}
 use Rattle.ringcore.specs.Laws.{BatchesAreUnbroken}
-use Rattle.ringcore.proofs.Lists.{none_some, get_longer, get_behind, get_shorter, get_begun, begins_shorter}
-use Rattle.ringcore.proofs.Reading.{item_of, batch_items, all_items, all_items_append, raws_of_batch, joined_append, length_of_all, is_read, reserved_raws}
-use Rattle.ringcore.proofs.Numbering.{AllBodies, is_kept}
+use Rattle.ringcore.proofs.Lists.{get_longer, get_behind, get_begun, begins_shorter}
+use Rattle.ringcore.proofs.Reading.{batch_items, all_items, all_items_append, joined_append, length_of_all, is_read, reserved_raws}
+use Rattle.ringcore.proofs.Numbering.{is_kept}
+use Rattle.ringcore.proofs.Syncs.{sync_opcode, batch_of_sync}
 use Rattle.ringcore.proofs.Sound.{sound}
 use Rattle.ringcore.proofs.Acknowledged.{acknowledged}
 
@@ -36,77 +33,6 @@ pub taken_in_order : (ring : Shape) (run : Run) → IsRun ring run → TakenInOr
 taken_in_order ring run ok =
     let d = (sound ring run ok).delivered in
     (d.0, sym (reserved_raws run) ∙ d.1 ∙ ap (λ l. l ++ d.0) (is_read run).taken)
-
--- ---- the batch of a sync
-
--- The sync's opcode is that of CMD_SYNC.
-pub sync_opcode : (s number : ℕ) → opcode_of (sync_raw s number) ≡ 0x46
-unfolding encoding
-sync_opcode s number = omega arith
-
--- In a batch whose body holds no CMD_SYNC one stands just behind the body.
-at_end : (s : ℕ) (number : Option ℕ) (body : List Raw) (i : ℕ) (raw : Raw) → IsBody body → slice_get (commands s number body) i ≡ Some raw
-    → opcode_of raw ≡ 0x46 → i ≡ length body
-at_end s None body i raw is at sync = absurd (is.no_sync i raw at sync)
-at_end s (Some number) body i raw is at sync =
-    elim (cases_lt i (length body)) [
-      | inl inside ↦ absurd (is.no_sync i raw (sym (get_shorter body (sync_raw s number ∷ []) i inside) ∙ at) sync)
-      | inr behind ↦
-          let within = slice_get_within (body ++ sync_raw s number ∷ []) i raw at in
-          let long = length-append body (sync_raw s number ∷ []) in
-          omega (arith, behind, within, long)
-    ]
-
--- where the batch of an item stands among the batches
-record IsBatchOf (bs : List Batch) (position : ℕ) (item : Item) : Type 0 where
-  pub ahead : List Batch
-  pub batch : Batch
-  pub behind : List Batch
-  pub whole : bs ≡ ahead ++ batch ∷ behind
-  pub sender_is : item.sender ≡ batch.sender
-  pub number_is : item.number ≡ batch.number
-  pub position_is : position ≡ length (joined ahead ++ batch.body)
-
-batch_of_sync : (bs : List Batch) → AllBodies bs → (position : ℕ) (item : Item) → slice_get (all_items bs) position ≡ Some item
-    → opcode_of item.raw ≡ 0x46 → IsBatchOf bs position item
-batch_of_sync [] bodies position item at sync = none_some item at
-batch_of_sync (b ∷ bs) bodies position item at sync =
-    let mine = batch_items b in
-    let mine_raws = commands b.sender b.number b.body in
-    elim (cases_lt position (length mine)) [
-      | inl inside ↦
-          let here : slice_get mine position ≡ Some item = sym (get_shorter mine (all_items bs) position inside) ∙ at in
-          let is = item_of 0 b.sender b.number (commands b.sender b.number b.body) position item here in
-          record {
-            ahead = [];
-            batch = b;
-            behind = bs;
-            whole = refl;
-            sender_is = is.sender_is;
-            number_is = is.number_is;
-            position_is = at_end b.sender b.number b.body position item.raw bodies.0 is.raw_is sync;
-          }
-      | inr beyond ↦
-          let on : position ≡ length mine + (position - length mine) = omega (arith, beyond) in
-          let there : slice_get (all_items bs) (position - length mine) ≡ Some item =
-          sym (get_behind mine (all_items bs) (position - length mine)) ∙ ap (slice_get (all_items (b ∷ bs))) (sym on) ∙ at in
-          let r = batch_of_sync bs bodies.1 (position - length mine) item there sync in
-          record {
-            ahead = b ∷ r.ahead;
-            batch = r.batch;
-            behind = r.behind;
-            whole = ap (λ l. b ∷ l) r.whole;
-            sender_is = r.sender_is;
-            number_is = r.number_is;
-            position_is =
-                let last = r.position_is in
-                let first : length mine ≡ length mine_raws = sym (length-map mine (λ (x : Item). x.raw)) ∙ ap length (raws_of_batch b) in
-                let near = length-append (joined r.ahead) r.batch.body in
-                let far = length-append (mine_raws ++ joined r.ahead) r.batch.body in
-                let both = length-append mine_raws (joined r.ahead) in
-                omega (arith, beyond, last, first, near, far, both);
-          }
-    ]
 
 -- ---- completed
 

@@ -1,6 +1,8 @@
 pub mod Lists
 pub mod Reading
 pub mod Numbering
+pub mod Syncs
+pub mod Starts
 pub mod Sound
 pub mod Acknowledged
 pub mod Completed
@@ -9,3 +11,4 @@ pub mod Bound
 pub mod WorkedCases
 pub mod WorkedTwoLaps
 pub mod WorkedEveryKind
+pub mod Unflipped
