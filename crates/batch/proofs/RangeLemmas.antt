@@ -12,7 +12,7 @@ use Rattle.cmdcodec.specs.declared.command.Command.TheVariants.{TlbiNhVa}
 use Rattle.cmdcodec.specs.Words.{encoding}
 use Rattle.batch.specs.declared.fault.BatchFault.TheVariants.{Full}
 use Rattle.batch.specs.Bodies.{is_sync, IsBody}
-use Rattle.batch.specs.Refusals.{unless, append_refusal}
+use Rattle.batch.specs.Refusals.{unless, room_refusal}
 use Rattle.batch.specs.Ranges.{scale_of, count_of, reached_of, reach_of, commands_up_to, range_commands}
 use Rattle.batch.proofs.BodyLemmas.{longer_body, range_no_sync}
 
@@ -168,7 +168,7 @@ total {vmid} {asid} {first} {pages} {page} {left} {old} {new} so_far =
     omega (arith, ap length so_far.ahead, length-append old (map encoding all), length-append new (map encoding rest), length-map all encoding, length-map rest encoding)
 
 pub fits : {vmid asid first pages page left : ℕ} {old new : List Raw} → IsSoFar vmid asid first pages page left old new → left ≤ 0
-    → Ok (tt {0}) ≡ unless (append_refusal old (range_commands vmid asid first pages)) (tt {0})
+    → Ok (tt {0}) ≡ unless (room_refusal old (length (range_commands vmid asid first pages))) (tt {0})
 fits {vmid} {asid} {first} {pages} {page} {left} {old} {new} so_far end =
     let none : left ≡ 0 = omega (arith, end) in
     let empty = ap length (ap (range_commands vmid asid page) none ∙ range_none vmid asid page) in
@@ -176,7 +176,7 @@ fits {vmid} {asid} {first} {pages} {page} {left} {old} {new} so_far end =
     rw room refl
 
 pub overflows : {vmid asid first pages page left : ℕ} {old new : List Raw} → IsSoFar vmid asid first pages page left old new → 0 < left → (length new == 63) ≡ true
-    → Err Full ≡ unless (append_refusal old (range_commands vmid asid first pages)) (tt {0})
+    → Err Full ≡ unless (room_refusal old (length (range_commands vmid asid first pages))) (tt {0})
 overflows {vmid} {asid} {first} {pages} {page} {left} {old} {new} so_far some is_full =
     let more = ap length (range_next vmid asid page left some) in
     let full = eqb-true (length new) 63 is_full in

@@ -2,7 +2,6 @@
 use Rattle.std.specs.Prelude.{ℕ, ◌+◌, ◌^◌, ◌==◌, nat_lt, List, length, Option, Some, None, Result, Ok, Err, if◌then◌else◌}
 use Rattle.std.specs.List.{list_any}
 use Rattle.cmdcodec.specs.declared.raw.Raw.{Raw}
-use Rattle.cmdcodec.specs.declared.command.Command.{Command}
 use Rattle.batch.specs.declared.fault.BatchFault.{BatchFault}
 use Rattle.batch.specs.declared.fault.BatchFault.TheVariants.{Full, SyncInside, NoPages, PastEnd, Empty}
 use Rattle.batch.specs.Bodies.{is_sync}
@@ -25,20 +24,17 @@ list_refusal commands =
     else if list_any is_sync commands then Some SyncInside
     else None
 
--- of one more command, in a batch of these
+-- of so many more commands, in a batch of these
+abbrev pub room_refusal : List Raw → ℕ → Option BatchFault
+room_refusal held more = if nat_lt 63 (length held + more) then Some Full else None
+
+-- of one more command
 abbrev pub push_refusal : List Raw → Raw → Option BatchFault
-push_refusal held raw =
-    if is_sync raw then Some SyncInside
-    else if length held == 63 then Some Full
-    else None
+push_refusal held raw = if is_sync raw then Some SyncInside else room_refusal held 1
 
--- of some more commands, in a batch of these
-abbrev pub append_refusal : List Raw → List Command → Option BatchFault
-append_refusal held commands = if nat_lt 63 (length held + length commands) then Some Full else None
-
--- of a run of pages, in a batch of these
+-- of the commands for so many pages from this one on
 abbrev pub range_refusal : List Raw → ℕ → ℕ → ℕ → ℕ → Option BatchFault
 range_refusal held vmid asid page pages =
     if pages == 0 then Some NoPages
     else if nat_lt (2 ^ 52) (page + pages) then Some PastEnd
-    else append_refusal held (range_commands vmid asid page pages)
+    else room_refusal held (length (range_commands vmid asid page pages))

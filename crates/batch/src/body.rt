@@ -6,7 +6,7 @@ ghost use Rattle.cmdcodec.specs.Words.{encoding};
 ghost use Rattle.batch.specs.Bodies.{is_sync, IsBody};
 ghost use Rattle.batch.specs.Ranges.{range_commands};
 ghost use Rattle.batch.specs.Detaching.{detach_commands};
-ghost use Rattle.batch.specs.Refusals.{unless, new_refusal, list_refusal, push_refusal, append_refusal, range_refusal};
+ghost use Rattle.batch.specs.Refusals.{unless, new_refusal, list_refusal, push_refusal, room_refusal, range_refusal};
 
 use crate::detach::{DETACH_COMMANDS, append_detach};
 use crate::fault::BatchFault;
@@ -16,7 +16,7 @@ use cmdcodec::{Asid, Command, Opcode, Page, Raw, Sid, Vmid, encode};
 use std::marker::Model;
 
 /// The most commands of a batch: with the CMD_SYNC behind them they are 64.
-pub(crate) const MOST_COMMANDS: usize = 63;
+const MOST_COMMANDS: usize = 63;
 
 /// Commands on their way into a batch.
 pub(crate) type Commands = ArrayVec<Raw, MOST_COMMANDS>;
@@ -65,8 +65,9 @@ impl Batch {
         Ok(Batch { commands })
     }
 
-    /// A batch that invalidates the stage 1 translations of an address space for so many pages from one on,
-    /// by CMD_TLBI_NH_VA with Leaf 1. The first of B3, B4 and B1 that applies refuses it.
+    /// A batch that invalidates the stage 1 translations of an address space for `pages` pages of 4,096
+    /// bytes from `page` on: CMD_TLBI_NH_VA with Leaf 1, by ranges where it can. The first of B3, B4 and B1
+    /// that applies refuses it.
     pub fn range(vmid: Vmid, asid: Asid, page: Page, pages: u64) -> Result<Batch, BatchFault>
         ensures { result ≡ unless (range_refusal [] vmid asid page pages) (map encoding (range_commands vmid asid page pages)) }
     {
@@ -78,7 +79,7 @@ impl Batch {
     }
 
     /// A batch that detaches a stream: CMD_CFGI_STE with Leaf 1, CMD_CFGI_CD_ALL, and CMD_ATC_INV for all
-    /// pages (own).
+    /// pages, in this order (own).
     pub fn detach(sid: Sid) -> Batch
         ensures { result ≡ map encoding (detach_commands sid) }
     {
@@ -87,7 +88,7 @@ impl Batch {
         Batch { commands }
     }
 
-    /// Appends a command, as its words. The first of B2 and B1 that applies refuses it.
+    /// Appends the words of a command. The first of B2 and B1 that applies refuses it.
     pub fn push(&mut self, command: &Command) -> Result<(), BatchFault>
         ensures answer { result ≡ unless (push_refusal self.old (encoding command.now)) tt }
         ensures appended { OnOk result (self.new ≡ self.old ++ encoding command.now ∷ []) }
@@ -112,7 +113,7 @@ impl Batch {
         Ok(())
     }
 
-    /// Appends what `range` makes. The first of B3, B4 and B1 that applies refuses it.
+    /// Appends what `range` makes, all of it. The first of B3, B4 and B1 that applies refuses it.
     pub fn invalidate_range(
         &mut self,
         vmid: Vmid,
@@ -127,9 +128,9 @@ impl Batch {
         append_range(&mut self.commands, vmid, asid, page, pages)
     }
 
-    /// Appends what `detach` makes. B1 refuses it.
+    /// Appends what `detach` makes, all of it. B1 refuses it.
     pub fn detach_stream(&mut self, sid: Sid) -> Result<(), BatchFault>
-        ensures answer { result ≡ unless (append_refusal self.old (detach_commands sid)) tt }
+        ensures answer { result ≡ unless (room_refusal self.old (length (detach_commands sid))) tt }
         ensures appended { OnOk result (self.new ≡ self.old ++ map encoding (detach_commands sid)) }
         ensures unchanged { OnErr result (self.new ≡ self.old) }
     {
@@ -148,7 +149,7 @@ impl Batch {
         self.commands.len()
     }
 
-    /// The command at an index from 0.
+    /// The command at an index, from 0; `None` behind the last.
     pub fn get(&self, index: usize) -> Option<Raw>
         ensures value { result ≡ slice_get self.now index }
         ensures no_sync { IfSome result (λ raw. is_sync raw ≡ false) }

@@ -8,8 +8,8 @@ ghost use Rattle.batch.specs.Detaching.{detach_commands};
 use crate::body::Commands;
 use cmdcodec::{Command, Page, Sid, Size, Ssid, encode};
 
-/// The `Size` of an ATC_INV for all `2^52` pages.
-const ALL_PAGES: u64 = 52;
+/// `Size` of an ATC_INV for all `2^52` pages.
+const SIZE_OF_ALL: u64 = 52;
 
 /// How many commands detach a stream.
 pub(crate) const DETACH_COMMANDS: usize = 3;
@@ -27,7 +27,7 @@ pub(crate) fn append_detach(commands: &mut Commands, sid: Sid)
         ssv: false,
         ssid: Ssid::new(0).unwrap(),
         global: false,
-        size: Size::new(ALL_PAGES).unwrap(),
+        size: Size::new(SIZE_OF_ALL).unwrap(),
         page: Page::new(0).unwrap(),
     }));
 }

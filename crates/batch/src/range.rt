@@ -5,7 +5,7 @@ ghost use Rattle.cmdcodec.specs.declared.command.Command.TheVariants.{TlbiNhVa};
 ghost use Rattle.cmdcodec.specs.Words.{encoding};
 ghost use Rattle.batch.specs.Bodies.{is_sync, IsBody};
 ghost use Rattle.batch.specs.Ranges.{scale_of, count_of, reached_of, reach_of, range_commands};
-ghost use Rattle.batch.specs.Refusals.{unless, append_refusal, range_refusal};
+ghost use Rattle.batch.specs.Refusals.{unless, room_refusal, range_refusal};
 
 use crate::body::Commands;
 use crate::fault::BatchFault;
@@ -17,7 +17,7 @@ const ALL_PAGES: u64 = 1 << 52;
 /// The greatest `SCALE`.
 const MOST_SCALE: u32 = 31;
 
-/// The number of steps in a command, where the bits that `NUM` is taken from are all 0.
+/// The most steps of `2^SCALE` pages in a command, which is one more than the greatest `NUM`.
 const MOST_STEPS: u64 = 32;
 
 /// Appends the commands that invalidate so many pages, or nothing where the first of B3, B4 and B1 that
@@ -60,7 +60,7 @@ fn append_commands(
 ) -> Result<(), BatchFault>
     requires in_range { first + pages ≤ 2 ^ 52 }
     requires few { length commands.old.items ≤ 63 }
-    ensures answer { result ≡ unless (append_refusal commands.old.items (range_commands vmid asid first pages)) tt }
+    ensures answer { result ≡ unless (room_refusal commands.old.items (length (range_commands vmid asid first pages))) tt }
     ensures appended { OnOk result (commands.new.items ≡ commands.old.items ++ map encoding (range_commands vmid asid first pages)) }
     ensures kept { take (length commands.old.items) commands.new.items ≡ commands.old.items }
     ensures body { OnOk result (0 < pages → list_any is_sync commands.old.items ≡ false → IsBody commands.new.items) }
