@@ -14,7 +14,7 @@ const SIZE_OF_ALL: u64 = 52;
 /// How many commands detach a stream.
 pub(crate) const DETACH_COMMANDS: usize = 3;
 
-/// Appends the commands that detach a stream.
+/// Appends the commands that detach a stream, for which there is room.
 pub(crate) fn append_detach(commands: &mut Commands, sid: Sid)
     requires { length commands.old.items + 3 ≤ 63 }
     ensures appended { commands.new.items ≡ commands.old.items ++ map encoding (detach_commands sid) }

@@ -50,7 +50,7 @@ pub(crate) fn append_range(
     }
 }
 
-/// Appends the commands for so many pages as far as there is room.
+/// Appends the commands for so many pages as far as there is room, and tells B1 where there isn't.
 fn append_commands(
     commands: &mut Commands,
     vmid: Vmid,
@@ -120,6 +120,7 @@ fn reached_of(pages: u64) -> u64
     count_of(pages) << scale_of(pages)
 }
 
+/// How many steps of `2^SCALE` pages that is.
 #[tactic(auto, unfolding(crate::specs::Ranges::count_of))]
 fn count_of(pages: u64) -> u64
     ensures value { result ≡ count_of pages }
@@ -132,6 +133,7 @@ fn count_of(pages: u64) -> u64
     }
 }
 
+/// `SCALE` of the next command.
 #[tactic(auto, unfolding(crate::specs::Ranges::scale_of))]
 fn scale_of(pages: u64) -> u32
     ensures value { result ≡ scale_of pages }
