@@ -12,6 +12,7 @@ use Rattle.batch.specs.Ranges.{scale_of, count_of, reached_of, reach_of, command
 use Rattle.batch.specs.Laws.{IsLastLevelOf, runs_of, AreJoined, IsBelow, RangesAreReachedExactly}
 use Rattle.batch.proofs.RangeLemmas.{count_some, reached_some, reached_within}
 
+-- A run that ends in the address space isn't cut.
 uncut : (end space : ℕ) → end ≤ space → least end space ≡ end
 uncut end space fits =
     elim (cases_Bool (nat_lt end space)) [

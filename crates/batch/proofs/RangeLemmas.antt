@@ -3,7 +3,6 @@ use Rattle.std.proofs.Common.{◌≡◌, ℕ, zero, suc, ◌+◌, ◌-◌, ◌*�
 use Rattle.std.proofs.lemmas.Bool.{cases_Bool, eqb-true, eqb-false, ne_eqb, le-ltb, lt-ltb}
 use Rattle.std.proofs.lemmas.Nat.{pow_pos, pow-add, shl-shr, mul-le}
 use Rattle.std.proofs.lemmas.List.{length-map, take-append-le}
-use Rattle.std.proofs.Math.Seq.{take-length}
 use Rattle.std.proofs.Math.Nat.{pow-suc, mul_assoc}
 use Rattle.std.specs.List.{list_any}
 use Rattle.std.specs.Int.Count.{count_trailing_zeros, under}
@@ -44,6 +43,7 @@ scaled pages =
     let multiple = divided 64 pages in
     lower pages multiple.0 t (min t 31) (omega arith) multiple.1
 
+-- The count is at least 1, and at most how often the step goes into the pages.
 count_within : (pages : ℕ) → 0 < pages / 2 ^ scale_of pages → count_of pages ≤ pages / 2 ^ scale_of pages
 unfolding count_of
 count_within pages some =
@@ -69,6 +69,7 @@ quotient_some pages power some whole =
       | inr isnt ↦ let other = eqb-false (pages / power) 0 isnt in omega (arith, other)
     ]
 
+-- The next command reaches some of the pages, and no more than there are.
 pub reached_within : (pages : ℕ) → 0 < pages → reached_of pages ≤ pages
 unfolding reached_of
 reached_within pages some =
@@ -129,11 +130,7 @@ pub record IsSoFar (vmid asid first pages page left : ℕ) (old new : List Raw) 
   pub kept : take (length old) new ≡ old
   pub ahead : old ++ map encoding (range_commands vmid asid first pages) ≡ new ++ map encoding (range_commands vmid asid page left)
 
-pub begun : (vmid asid first pages : ℕ) (old : List Raw) → first + pages ≤ 2 ^ 52 → length old ≤ 63
-    → IsSoFar vmid asid first pages first pages old old
-begun vmid asid first pages old in_range few =
-    record { in_range = in_range; few = few; longer = omega arith; kept = take-length old; ahead = refl }
-
+-- one more command
 pub stepped : {vmid asid first pages page left : ℕ} {old new : List Raw} → IsSoFar vmid asid first pages page left old new → 0 < left → (length new == 63) ≡ false
     → (raw : Raw) (next : List Raw) (reached : ℕ) → raw ≡ encoding (TlbiNhVa vmid asid true page (reach_of left)) → next ≡ new ++ raw ∷ [] → reached ≡ reached_of left
     → IsSoFar vmid asid first pages (page + reached) (left - reached) old next
@@ -153,6 +150,7 @@ stepped {vmid} {asid} {first} {pages} {page} {left} {old} {new} so_far some not_
           ∙ ap (λ r. new ++ (r ∷ rest)) (sym encoded) ∙ sym (append_assoc new (raw ∷ []) rest) ∙ ap (λ cs. cs ++ rest) (sym appended);
     }
 
+-- where no page is left
 pub ended : {vmid asid first pages page left : ℕ} {old new : List Raw} → IsSoFar vmid asid first pages page left old new → left ≤ 0
     → new ≡ old ++ map encoding (range_commands vmid asid first pages)
 ended {vmid} {asid} {first} {pages} {page} {left} {old} {new} so_far end =
@@ -160,6 +158,7 @@ ended {vmid} {asid} {first} {pages} {page} {left} {old} {new} so_far end =
     sym (so_far.ahead ∙ ap (λ n. new ++ map encoding (range_commands vmid asid page n)) none
     ∙ ap (λ cs. new ++ map encoding cs) (range_none vmid asid page) ∙ append-nil new)
 
+-- All commands are those that are held now and those that are to come.
 total : {vmid asid first pages page left : ℕ} {old new : List Raw} → IsSoFar vmid asid first pages page left old new
     → length old + length (range_commands vmid asid first pages) ≡ length new + length (range_commands vmid asid page left)
 total {vmid} {asid} {first} {pages} {page} {left} {old} {new} so_far =
@@ -175,6 +174,7 @@ fits {vmid} {asid} {first} {pages} {page} {left} {old} {new} so_far end =
     let room = le-ltb 63 (length old + length (range_commands vmid asid first pages)) (omega (arith, total so_far, empty, so_far.few)) in
     rw room refl
 
+-- where a page is left and no room
 pub overflows : {vmid asid first pages page left : ℕ} {old new : List Raw} → IsSoFar vmid asid first pages page left old new → 0 < left → (length new == 63) ≡ true
     → Err Full ≡ unless (room_refusal old (length (range_commands vmid asid first pages))) (tt {0})
 overflows {vmid} {asid} {first} {pages} {page} {left} {old} {new} so_far some is_full =

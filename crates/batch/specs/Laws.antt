@@ -12,6 +12,7 @@ abbrev pub IsLastLevelOf : ℕ → ℕ → Command → Type 0
 IsLastLevelOf vmid asid (TlbiNhVa of_vmid of_asid leaf page reach) = (of_vmid ≡ vmid) × (of_asid ≡ asid) × (leaf ≡ true)
 IsLastLevelOf vmid asid other = ⊥
 
+-- the runs of pages that they reach, in their order
 abbrev pub runs_of : List Command → List PageRun
 runs_of commands = filter_map run_of commands
 
@@ -20,6 +21,7 @@ abbrev pub AreJoined : ℕ → ℕ → List PageRun → Type 0
 AreJoined first end [] = first ≡ end
 AreJoined first end (run ∷ runs) = (run.first ≡ first) × (run.first < run.end) × AreJoined run.end end runs
 
+-- The one ends before the other begins.
 abbrev pub IsBelow : PageRun → PageRun → Type 0
 IsBelow earlier later = earlier.end ≤ later.first
 
@@ -30,6 +32,7 @@ pub record ReachExactly (vmid asid page pages : ℕ) (commands : List Command) :
   pub disjoint : AllPairs IsBelow (runs_of commands)
   pub exact : (other : ℕ) → Any (IsIn other) (runs_of commands) ↔ ((page ≤ other) × (other < page + pages))
 
+-- Whatever range lies in the address space, its commands reach it exactly.
 abbrev pub RangesAreReachedExactly : Type 0
 RangesAreReachedExactly =
     (vmid asid page pages : ℕ) → page + pages ≤ 2 ^ 52 → ReachExactly vmid asid page pages (range_commands vmid asid page pages)

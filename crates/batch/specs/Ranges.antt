@@ -8,18 +8,19 @@ use Rattle.cmdcodec.specs.declared.reach.Reach.{Reach}
 use Rattle.cmdcodec.specs.declared.reach.Reach.TheVariants.{Page, Range}
 
 -- With so many pages left, the next command reaches `count * 2^scale` of them. The scale is the number of
--- their trailing zero bits, 31 at most.
+-- trailing zero bits that they have, 31 at most.
 unfoldable pub scale_of : ℕ → ℕ
 scale_of pages = min (trailing_zeros w64 pages) 31
 
--- the five bits from the scale on, or 32 where these are 0
+-- the five bits of their number from the scale on, or 32 where these are 0
 unfoldable pub count_of : ℕ → ℕ
 count_of pages = if pages / 2 ^ scale_of pages % 32 == 0 then 32 else pages / 2 ^ scale_of pages % 32
 
+-- how many pages the next command reaches
 unfoldable pub reached_of : ℕ → ℕ
 reached_of pages = count_of pages * 2 ^ scale_of pages
 
--- A single page is no range; else NUM is one less than the count.
+-- A single page is no range; else NUM is one less than the count, in granules of a page.
 unfoldable pub reach_of : ℕ → Reach
 reach_of pages = if reached_of pages == 1 then Page else Range Kib4 (count_of pages - 1) (scale_of pages)
 
