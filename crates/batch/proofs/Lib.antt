@@ -1,0 +1,3 @@
+pub mod BodyLemmas
+pub mod RangeLemmas
+pub mod LawLemmas

@@ -1,0 +1,6 @@
+pub mod Faults
+pub mod Bodies
+pub mod Ranges
+pub mod Detaching
+pub mod Refusals
+pub mod Laws

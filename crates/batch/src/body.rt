@@ -1,0 +1,173 @@
+//! A batch, command by command.
+ghost use Rattle.std.specs.Prelude.{◌≡◌, ◌++◌, ◌∷◌, [], List, OnOk, OnErr, IfSome, length, slice_get, map, false};
+ghost use Rattle.std.specs.List.{list_any};
+ghost use Rattle.cmdcodec.specs.declared.raw.Raw.{Raw};
+ghost use Rattle.cmdcodec.specs.Words.{encoding};
+ghost use Rattle.batch.specs.Bodies.{is_sync, IsBody};
+ghost use Rattle.batch.specs.Ranges.{range_commands};
+ghost use Rattle.batch.specs.Detaching.{detach_commands};
+ghost use Rattle.batch.specs.Refusals.{unless, new_refusal, list_refusal, push_refusal, room_refusal, range_refusal};
+
+use crate::detach::{DETACH_COMMANDS, append_detach};
+use crate::fault::BatchFault;
+use crate::range::append_range;
+use arrayvec::ArrayVec;
+use cmdcodec::{Asid, Command, Opcode, Page, Raw, Sid, Vmid, encode};
+use std::marker::Model;
+
+/// The most commands of a batch: with the CMD_SYNC behind them they are 64.
+const MOST_COMMANDS: usize = 63;
+
+/// Commands on their way into a batch.
+pub(crate) type Commands = ArrayVec<Raw, MOST_COMMANDS>;
+
+/// The commands of a batch: 1 to 63, legal or not, none of them a CMD_SYNC (own).
+#[derive(Debug, Drop)]
+pub struct Batch {
+    commands: Commands,
+}
+
+impl Model for Batch {
+    ghost Value = { List Raw };
+
+    ghost view = { λ batch. batch.commands.items };
+
+    ghost invariant = { λ batch. IsBody batch.commands.items };
+}
+
+impl Batch {
+    /// A batch of one command. B2 refuses a CMD_SYNC.
+    pub fn new(first: Raw) -> Result<Batch, BatchFault>
+        ensures { result ≡ unless (new_refusal first) (first ∷ []) }
+    {
+        if is_sync(first) {
+            return Err(BatchFault::SyncInside);
+        }
+        let mut commands = Commands::new();
+        commands.push(first);
+        Ok(Batch { commands })
+    }
+
+    /// A batch of these commands. The first of B5, B1 and B2 that applies refuses them.
+    pub fn from_raws(raws: &[Raw]) -> Result<Batch, BatchFault>
+        ensures { result ≡ unless (list_refusal raws.now) raws.now }
+    {
+        if raws.is_empty() {
+            return Err(BatchFault::Empty);
+        }
+        let mut commands = Commands::new();
+        if commands.try_extend_from_slice(raws).is_err() {
+            return Err(BatchFault::Full);
+        }
+        if has_sync(raws) {
+            return Err(BatchFault::SyncInside);
+        }
+        Ok(Batch { commands })
+    }
+
+    /// A batch that invalidates the stage 1 translations of an address space for `pages` pages of 4,096
+    /// bytes from `page` on: CMD_TLBI_NH_VA with Leaf 1, by ranges where it can. The first of B3, B4 and B1
+    /// that applies refuses it.
+    pub fn range(vmid: Vmid, asid: Asid, page: Page, pages: u64) -> Result<Batch, BatchFault>
+        ensures { result ≡ unless (range_refusal [] vmid asid page pages) (map encoding (range_commands vmid asid page pages)) }
+    {
+        let mut commands = Commands::new();
+        match append_range(&mut commands, vmid, asid, page, pages) {
+            Ok(()) => Ok(Batch { commands }),
+            Err(fault) => Err(fault),
+        }
+    }
+
+    /// A batch that detaches a stream: CMD_CFGI_STE with Leaf 1, CMD_CFGI_CD_ALL, and CMD_ATC_INV for all
+    /// pages, in this order (own).
+    pub fn detach(sid: Sid) -> Batch
+        ensures { result ≡ map encoding (detach_commands sid) }
+    {
+        let mut commands = Commands::new();
+        append_detach(&mut commands, sid);
+        Batch { commands }
+    }
+
+    /// Appends the words of a command. The first of B2 and B1 that applies refuses it.
+    pub fn push(&mut self, command: &Command) -> Result<(), BatchFault>
+        ensures answer { result ≡ unless (push_refusal self.old (encoding command.now)) tt }
+        ensures appended { OnOk result (self.new ≡ self.old ++ encoding command.now ∷ []) }
+        ensures unchanged { OnErr result (self.new ≡ self.old) }
+    {
+        self.push_raw(encode(command))
+    }
+
+    /// Appends a command. The first of B2 and B1 that applies refuses it.
+    pub fn push_raw(&mut self, raw: Raw) -> Result<(), BatchFault>
+        ensures answer { result ≡ unless (push_refusal self.old raw) tt }
+        ensures appended { OnOk result (self.new ≡ self.old ++ raw ∷ []) }
+        ensures unchanged { OnErr result (self.new ≡ self.old) }
+    {
+        if is_sync(raw) {
+            return Err(BatchFault::SyncInside);
+        }
+        if self.commands.is_full() {
+            return Err(BatchFault::Full);
+        }
+        self.commands.push(raw);
+        Ok(())
+    }
+
+    /// Appends what `range` makes, all of it. The first of B3, B4 and B1 that applies refuses it.
+    pub fn invalidate_range(
+        &mut self,
+        vmid: Vmid,
+        asid: Asid,
+        page: Page,
+        pages: u64,
+    ) -> Result<(), BatchFault>
+        ensures answer { result ≡ unless (range_refusal self.old vmid asid page pages) tt }
+        ensures appended { OnOk result (self.new ≡ self.old ++ map encoding (range_commands vmid asid page pages)) }
+        ensures unchanged { OnErr result (self.new ≡ self.old) }
+    {
+        append_range(&mut self.commands, vmid, asid, page, pages)
+    }
+
+    /// Appends what `detach` makes, all of it. B1 refuses it.
+    pub fn detach_stream(&mut self, sid: Sid) -> Result<(), BatchFault>
+        ensures answer { result ≡ unless (room_refusal self.old (length (detach_commands sid))) tt }
+        ensures appended { OnOk result (self.new ≡ self.old ++ map encoding (detach_commands sid)) }
+        ensures unchanged { OnErr result (self.new ≡ self.old) }
+    {
+        if self.commands.remaining_capacity() < DETACH_COMMANDS {
+            return Err(BatchFault::Full);
+        }
+        append_detach(&mut self.commands, sid);
+        Ok(())
+    }
+
+    /// How many commands there are, 1 to 63.
+    pub fn len(&self) -> usize
+        ensures value { result ≡ length self.now }
+        ensures body { IsBody self.now }
+    {
+        self.commands.len()
+    }
+
+    /// The command at an index, from 0; `None` behind the last.
+    pub fn get(&self, index: usize) -> Option<Raw>
+        ensures value { result ≡ slice_get self.now index }
+        ensures no_sync { IfSome result (λ raw. is_sync raw ≡ false) }
+    {
+        self.commands.get(index).copied()
+    }
+}
+
+fn has_sync(raws: &[Raw]) -> bool
+    ensures { result ≡ list_any is_sync raws.now }
+{
+    raws.iter().any(|raw| is_sync(*raw))
+}
+
+/// Whether it is a CMD_SYNC, legal or not.
+#[tactic(auto, using(crate::proofs::BodyLemmas::unnamed_is_no_sync))]
+pub(crate) fn is_sync(raw: Raw) -> bool
+    ensures { result ≡ is_sync raw }
+{
+    matches!(raw.opcode(), Some(Opcode::CmdSync))
+}
