@@ -25,7 +25,7 @@ abbrev pub IsInOneWord : Shape → ℕ → ℕ → Type 0
 IsInOneWord ring position count =
     (offset : ℕ) → offset < count → place ring.geometry (position + offset) / ring.flags ≡ place ring.geometry position / ring.flags
 
--- 1 to 64
+-- a run of positions that one step may name: 1 to 64
 abbrev pub IsRunLength : ℕ → Type 0
 IsRunLength count = (1 ≤ count) × (count ≤ 64)
 
@@ -44,13 +44,13 @@ IsNextNumber mine (Some number) = number ≡ suc (numbers_given mine)
 
 -- Of its own trail: what it looked at since its last exchange is open, no reservation of its is open, it has
 -- a batch left, and by that look there is room for as many commands.
-pub record MayTry (ring : Shape) (mine : Trail) (body : List Raw) (length : ℕ) (before : Control) : Type 0 where
+pub record MayTry (ring : Shape) (mine : Trail) (body : List Raw) (many : ℕ) (before : Control) : Type 0 where
   pub looked_at : looked mine ≡ Some before
   pub unclosed : before.closed ≡ false
   pub settled : IsSettled mine
   pub left : batches_made mine < ring.max_batches
   pub body_is : IsBody body
-  pub room : distance before.prod before.cons + length ≤ size ring.geometry
+  pub room : distance before.prod before.cons + many ≤ size ring.geometry
 
 -- Won: what it looked at is what a look finds now.
 pub record MayWin (ring : Shape) (w : World) (mine : Trail) (body : List Raw) (number : Option ℕ) : Type 0 where
@@ -62,6 +62,7 @@ pub record MayWin (ring : Shape) (w : World) (mine : Trail) (body : List Raw) (n
   pub next : IsNextNumber mine number
   pub room : tail w + batch_length body number ≤ head w + size ring.geometry
 
+-- how many commands a batch has that closes with a sync, or doesn't
 abbrev pub length_with : Bool → List Raw → ℕ
 length_with true body = length body + 1
 length_with false body = length body
@@ -75,10 +76,12 @@ pub record MayLose (ring : Shape) (w : World) (mine : Trail) (body : List Raw) (
 
 -- ---- write and flip
 
+-- A half of a command of the open reservation, which isn't flipped yet.
 pub record MayWrite (mine : Trail) (offset : ℕ) : Type 0 where
   pub inside : offset < reserved_length mine
   pub unflipped : has_flipped offset mine ≡ false
 
+-- 1 to 64 commands of the open reservation that aren't flipped, both halves of each written, their flags in one word.
 pub record MayFlip (ring : Shape) (mine : Trail) (start offset count : ℕ) : Type 0 where
   pub many : IsRunLength count
   pub inside : offset + count ≤ reserved_length mine
@@ -96,13 +99,15 @@ pub record FindsReady (ring : Shape) (w : World) (limit found : ℕ) : Type 0 wh
   pub ready : (i : ℕ) → i < found → w.flipped (head w + i) ≡ true
   pub no_more : found < limit → IsInOneWord ring (head w) (suc found) → w.flipped (head w + found) ≡ false
 
+-- A read is of one of the positions that the last test found, and finds that half of its command.
 pub record MayRead (w : World) (mine : Trail) (offset : ℕ) (half : Half) (word : ℕ) : Type 0 where
   pub ready : offset < found_ready mine
   pub item : Item
   pub there : slice_get w.reserved (head w + offset) ≡ Some item
   pub found : word ≡ half_of half item.raw
 
--- The commands that are taken are those that were read, both halves of each.
+-- The commands that are taken are some from the head on that were read, both halves of each, since the test that
+-- found them ready.
 pub record MayAdvance (mine : Trail) (raws : List Raw) : Type 0 where
   pub some : 1 ≤ length raws
   pub ready : length raws ≤ found_ready mine
@@ -117,12 +122,14 @@ pub record SyncIsTaken (w : World) (sender number : ℕ) : Type 0 where
   pub below : position < head w
   pub there : slice_get w.reserved position ≡ Some record { sender = sender; number = Some number; place = place; raw = sync_raw sender number }
 
+-- Numbers are acknowledged one by one.
 pub record MayAcknowledge (w : World) (sender number : ℕ) : Type 0 where
   pub next : number ≡ suc (w.acknowledged sender)
   pub taken : SyncIsTaken w sender number
 
 -- ---- all of them
 
+-- One line for each kind, with the seat whose step it is. An event that isn't named is never allowed.
 abbrev pub Allowed : Shape → World → Trail → Who → Event → Type 0
 Allowed ring w mine who (Look found) = found ≡ control ring.geometry w
 Allowed ring w mine (Sender s) (Won body number) = MayWin ring w mine body number

@@ -17,6 +17,7 @@ Trail = List Event
 abbrev pub Run : Type 0
 Run = List (Who × Event)
 
+-- whether two seats, or two halves, are one
 abbrev pub same : Who → Who → Bool
 same Consumer Consumer = true
 same Consumer (Sender t) = false
@@ -71,7 +72,7 @@ reserved_length (e ∷ es) = reserved_length es
 abbrev pub is_among : ℕ → ℕ → ℕ → Bool
 is_among first count offset = nat_le first offset && nat_lt offset (first + count)
 
--- what of its last reservation is written, and what is flipped
+-- whether this place of its last reservation is written, and whether it is flipped
 abbrev pub has_written : ℕ → Half → Trail → Bool
 has_written offset half [] = false
 has_written offset half (Won body number ∷ es) = false

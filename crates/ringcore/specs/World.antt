@@ -1,6 +1,6 @@
 -- The world: what is reserved, written, flipped, taken, acknowledged and closed, by positions that are never
 -- wrapped. It is a function of the events so far.
-use Rattle.std.specs.Prelude.{ℕ, suc, ◌+◌, Bool, true, false, cond, ◌==◌, ◌||◌, ◌&&◌, List, [], ◌∷◌, ◌++◌, length, map, Option, Some, None, is_none}
+use Rattle.std.specs.Prelude.{ℕ, suc, ◌+◌, Bool, true, false, cond, ◌==◌, ◌||◌, ◌&&◌, List, [], ◌∷◌, ◌++◌, length, map, Option, Some, None, is_none, if◌then◌else◌}
 use Rattle.cmdcodec.specs.declared.raw.Raw.{Raw}
 use Rattle.cmdcodec.specs.ClosingSync.{closing_sync}
 use Rattle.cmdcodec.specs.Legality.{first_ill}
@@ -13,6 +13,8 @@ use Rattle.ringcore.specs.declared.event.Half.{Half}
 use Rattle.ringcore.specs.declared.event.Half.TheVariants.{Lo, Hi}
 use Rattle.ringcore.specs.declared.event.Event.{Event}
 use Rattle.ringcore.specs.declared.event.Event.TheVariants.{Won, Write, Flip, Advance, Close, Acknowledge}
+use Rattle.ringcore.specs.declared.event.Outcome.{Outcome}
+use Rattle.ringcore.specs.declared.event.Outcome.TheVariants.{Applied, Replaced}
 use Rattle.ringcore.specs.Trails.{Run, same_half, is_among}
 
 -- ---- what is reserved
@@ -40,24 +42,26 @@ items_from place sender number [] = []
 items_from place sender number (raw ∷ raws) =
     record { sender = sender; number = number; place = place; raw = raw } ∷ items_from (suc place) sender number raws
 
+-- a whole batch
 abbrev pub items : ℕ → Option ℕ → List Raw → List Item
 items sender number body = items_from 0 sender number (commands sender number body)
 
 -- ---- what is taken
 
 -- A legal command is taken as applied, an illegal one as replaced: it has no effect.
-abbrev pub is_applied : Raw → Bool
-is_applied raw = is_none (first_ill raw)
+abbrev pub outcome_of : Raw → Outcome
+outcome_of raw = if is_none (first_ill raw) then Applied else Replaced
 
 pub record Taken : Type 0 where
   pub raw : Raw
-  pub applied : Bool
+  pub outcome : Outcome
 
 abbrev pub taken_as : Raw → Taken
-taken_as raw = record { raw = raw; applied = is_applied raw }
+taken_as raw = record { raw = raw; outcome = outcome_of raw }
 
 -- ---- the world
 
+-- All that is so after the events so far, by positions.
 pub record World : Type 0 where
   pub reserved : List Item
   pub taken : List Taken
@@ -69,6 +73,7 @@ pub record World : Type 0 where
   pub acknowledged : ℕ → ℕ
   pub closed : Bool
 
+-- before the first event
 abbrev pub opening : World
 opening = record {
   reserved = [];
@@ -80,7 +85,8 @@ opening = record {
   closed = false;
 }
 
--- the positions of the tail and of the head
+-- The positions of the tail, where the next command goes, and of the head, which is taken next:
+-- SMMU_CMDQ_PROD and SMMU_CMDQ_CONS hold their indexes (circular queues).
 abbrev pub tail : World → ℕ
 tail w = length w.reserved
 

@@ -19,6 +19,14 @@ pub enum Half {
     Hi,
 }
 
+/// How a command was taken.
+pub enum Outcome {
+    /// A legal command: it has its effect.
+    Applied,
+    /// An illegal command, in whose place nothing is done (own).
+    Replaced,
+}
+
 /// One atomic step, with what it found.
 pub enum Event {
     /// Either side looked at the control word.

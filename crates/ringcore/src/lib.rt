@@ -4,5 +4,5 @@
 mod event;
 mod laws;
 
-pub use event::{Event, Half, Who};
+pub use event::{Event, Half, Outcome, Who};
 pub use laws::{batches_law, world_law};
