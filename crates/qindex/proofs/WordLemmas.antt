@@ -1,7 +1,6 @@
 -- The control word: its fields, and what one atomic operation on it changes.
 use Rattle.std.proofs.Common.{◌≡◌, ℕ, zero, suc, Option, Some, None, ◌+◌, ◌-◌, ◌*◌, ◌/◌, ◌%◌, ◌^◌, ◌<◌, ◌≤◌, Bool, true, false, nat_eq, refl, ap, ap₂, sym, subst, ◌∙◌, arith}
 use Rattle.std.proofs.lemmas.Nat.{and_mask, and_block, or_block, xor_block}
-use Rattle.std.proofs.Math.Nat.{mod-eq_of_lt}
 use Rattle.std.specs.Int.Bits.{and_zero_r, xor_assoc, xor_self, xor_zero_r, or_zero_r, xor_lt}
 use Rattle.std.specs.Prelude.{◌==◌, not, bit_and, bit_or, bit_xor, ⊤, MatchOption}
 use Rattle.std.specs.Option.{SomeIff}
@@ -180,10 +179,6 @@ advances g c to is t =
 
 -- ---- what the code computes
 
--- `from ^ to`, shifted
-pub mask_shifted : (from to : IndexValue) → IsIndex from → IsIndex to → bit_xor from.number to.number * 2 ^ 32 % 2 ^ 64 ≡ advance_mask from to
-mask_shifted from to f t = let fits = mask_fits from to f t in mod-eq_of_lt (omega (arith, fits))
-
 -- `word & CLOSED != 0`
 pub closed_seen : (word : ℕ) → not (nat_eq (bit_and word (2 ^ 31)) 0) ≡ (field word 31 31 == 1)
 closed_seen word =
@@ -251,15 +246,6 @@ found g word is low high within =
       },
       λ k. record { prod = read.prod k; cons = read.cons k; closed = closed_seen word k },
     )
-
--- Nothing is found where the two are too far apart.
-pub too_far : (g word : ℕ) → IsGeometry g → IsIndexNumber g (bit_and word (2 ^ 31 - 1)) → IsIndexNumber g (word / 2 ^ 32)
-    → size g < distance (low_index g word) (high_index g word) → IsControlWord g word → ⊥
-too_far g word is low high far says =
-    let read = is_read g word is low high in
-    let near = says.within in
-    let same = ap₂ distance read.prod read.cons in
-    omega (arith, near, same, far)
 
 -- ---- from what was found
 

@@ -6,6 +6,7 @@ pub mod Starts
 pub mod Sound
 pub mod Acknowledged
 pub mod Completed
+pub mod Order
 pub mod Slots
 pub mod Bound
 pub mod WorkedCases

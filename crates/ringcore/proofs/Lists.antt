@@ -1,5 +1,5 @@
 -- Facts of lists and tests that the laws use.
-use Rattle.std.proofs.Common.{◌≡◌, ◌⊎◌, ℕ, zero, suc, ◌+◌, ◌<◌, ◌≤◌, Bool, true, false, ◌||◌, ◌&&◌, List, [], ◌∷◌, ◌++◌, length, map, Some, None, refl, sym, ap, ap₂, ◌∙◌, inl, inr, arith, length-append}
+use Rattle.std.proofs.Common.{◌≡◌, ◌⊎◌, ℕ, zero, suc, ◌+◌, ◌<◌, ◌≤◌, Bool, true, false, ◌||◌, ◌&&◌, List, [], ◌∷◌, ◌++◌, length, map, Some, None, refl, sym, ap, ap₂, ◌∙◌, inl, inr, arith}
 use Rattle.std.proofs.lemmas.Bool.{true≢false}
 use Rattle.std.proofs.lemmas.Option.{slice_get_within}
 use Rattle.std.specs.Prelude.{slice_get}
@@ -65,6 +65,3 @@ begins_shorter xs ys whole x y le =
     follows ys xs (λ i z e.
     let inside : i < length xs = slice_get_within xs i z e in
     sym (get_begun ys whole y i (omega (arith, inside, le))) ∙ get_begun xs whole x i inside ∙ e)
-
-pub begins_length : {A : Type 0} (xs ys : List A) → Begins xs ys → length xs ≤ length ys
-begins_length xs ys b = let long = ap length b.1 ∙ length-append xs b.0 in omega (arith, long)

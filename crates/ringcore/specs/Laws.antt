@@ -4,7 +4,7 @@ use Rattle.qindex.specs.Positions.{size}
 use Rattle.ringcore.specs.declared.event.Who.TheVariants.{Sender}
 use Rattle.ringcore.specs.declared.event.Event.TheVariants.{Won}
 use Rattle.ringcore.specs.Trails.{Trail, Run, trail_of}
-use Rattle.ringcore.specs.World.{Item, World, items, tail, head, world}
+use Rattle.ringcore.specs.World.{commands, Item, World, items, tail, head, world}
 use Rattle.ringcore.specs.Allowed.{Shape, SyncIsTaken, IsRun}
 use Rattle.ringcore.specs.Delivery.{Batch, batches, joined}
 
@@ -50,3 +50,17 @@ own_batches s (e ∷ es) = own_batches s es
 -- Each sender's batches stand in the order in which it reserved them.
 abbrev pub SendersOrderIsKept : Run → Type 0
 SendersOrderIsKept run = (s : ℕ) → batches_of s (batches run) ≡ own_batches s (trail_of (Sender s) run)
+
+-- Of two batches that a sender reserved, the earlier one stands before the other.
+pub record StandInOrder (w : World) (one two : Batch) : Type 0 where
+  pub first : ℕ
+  pub second : ℕ
+  pub first_is : StandsAt w first one
+  pub second_is : StandsAt w second two
+  pub order : first + length (commands one.sender one.number one.body) ≤ second
+
+abbrev pub EarlierStandsBefore : Run → Type 0
+EarlierStandsBefore run =
+    (s : ℕ) (before between after : List Batch) (one two : Batch)
+    → own_batches s (trail_of (Sender s) run) ≡ before ++ one ∷ (between ++ two ∷ after)
+    → StandInOrder (world run) one two

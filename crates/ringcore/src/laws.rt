@@ -1,6 +1,6 @@
 //! Laws of every run, each the contract of a function that does nothing.
 ghost use Rattle.ringcore.specs.Delivery.{TakenInOrder, NumberedInOrder, NoneAfterClose, ToldWhenCompleted};
-ghost use Rattle.ringcore.specs.Laws.{EveryRun, NeverMoreThanFull, AcknowledgedAreTaken, BatchesAreUnbroken, SendersOrderIsKept};
+ghost use Rattle.ringcore.specs.Laws.{EveryRun, NeverMoreThanFull, AcknowledgedAreTaken, BatchesAreUnbroken, SendersOrderIsKept, EarlierStandsBefore};
 
 /// Every run of any length, of any number of senders, in a ring of any size, is ordered delivery: what is
 /// taken is a beginning of what was reserved, batches are numbered from 1, none is reserved after a close,
@@ -15,8 +15,9 @@ pub fn world_law()
 {}
 
 /// In every run each batch stands in one piece, and the batches of one sender in the order in which it
-/// reserved them.
+/// reserved them: the earlier before the later.
 pub fn batches_law()
     ensures unbroken { EveryRun BatchesAreUnbroken }
     ensures senders_order { EveryRun SendersOrderIsKept }
+    ensures earlier_first { EveryRun EarlierStandsBefore }
 {}
