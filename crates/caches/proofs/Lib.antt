@@ -1,0 +1,4 @@
+pub mod FirstInRange
+pub mod KeyOrder
+pub mod Pruned
+pub mod Sweeping

@@ -1,0 +1,12 @@
+//! What an SMMU remembers, and what each command takes away: the configuration cache, the TLB and the
+//! caches of endpoints.
+#![tactic(auto)]
+
+mod covering;
+mod fault;
+mod key;
+mod sweep;
+mod tag;
+
+pub use fault::CacheFault;
+pub use tag::{Entry, Scope, Tag};
