@@ -14,7 +14,7 @@ use Rattle.caches.specs.declared.key.Key.{Key}
 use Rattle.caches.specs.declared.key.Key.TheVariants.{Configuration, Machine, Hypervisor, Endpoint}
 use Rattle.caches.specs.declared.key.Owner.{Owner}
 use Rattle.caches.specs.declared.key.Owner.TheVariants.{Guest, Host, Device}
-use Rattle.caches.specs.Keys.{owner_of, page_of, span_of, least, IsOfStreams}
+use Rattle.caches.specs.Keys.{owner_of, page_of, span_of, least, IsOfStreams, IsOfMachines}
 use Rattle.caches.specs.contracts.key.KeyOrd.TheImpl as key_order
 use Rattle.caches.specs.contracts.key.KeyOrd.TheImpl.Laws as key_laws
 use Rattle.caches.specs.contracts.key.StageOrd.TheImpl as stage_order
@@ -175,11 +175,11 @@ in_span w page span (Endpoint v p n c) o a b =
     subst (λ w. range_contains key_cmp (Included (least w page span)) (Excluded (least w page (span + 1))) (Endpoint v p n c) ≡ true) e
       (between _ _ (le_then v v _ (omega arith) (le_then page p _ (omega arith) (le_then span n _ (omega arith) (low c)))) (same_then v v _ refl (same_then page p _ (sym a) (more_then (span + 1) n _ (omega arith)))))
 
-pub in_machines : (k : Key) (v : ℕ) → owner_of k ≡ Some (Guest v) → range_contains key_cmp (Included (least (Guest 0) 0 0)) (Excluded (least Host 0 0)) k ≡ true
-in_machines (Configuration s c) v o = cc
-in_machines (Machine u p n c) v o = between _ _ (le_then 0 u _ (omega arith) (le_then 0 p _ (omega arith) (le_then 0 n _ (omega arith) (low_stage c)))) refl
-in_machines (Hypervisor p n c) v o = cc
-in_machines (Endpoint u p n c) v o = cc
+pub in_machines : (k : Key) → IsOfMachines k → range_contains key_cmp (Included (least (Guest 0) 0 0)) (Excluded (least Host 0 0)) k ≡ true
+in_machines (Configuration s c) h = absurd h
+in_machines (Machine u p n c) h = between _ _ (le_then 0 u _ (omega arith) (le_then 0 p _ (omega arith) (le_then 0 n _ (omega arith) (low_stage c)))) refl
+in_machines (Hypervisor p n c) h = absurd h
+in_machines (Endpoint u p n c) h = absurd h
 
 pub in_streams : (run : PageRun) (k : Key) → IsOfStreams run k → range_contains key_cmp (Included (Configuration run.first None)) (Excluded (Configuration run.end None)) k ≡ true
 in_streams run (Configuration s c) h = between _ _ (le_then run.first s _ h.0 (low c)) (more_then run.end s _ h.1)

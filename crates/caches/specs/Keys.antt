@@ -70,6 +70,11 @@ abbrev pub IsOfStreams : PageRun → Key → Type 0
 IsOfStreams run (Configuration sid ssid) = (run.first ≤ sid) × (sid < run.end)
 IsOfStreams run other = ⊥
 
+-- the key is of a translation of a virtual machine
+abbrev pub IsOfMachines : Key → Type 0
+IsOfMachines (Machine vmid page span stage) = Unit {0}
+IsOfMachines other = ⊥
+
 abbrev pub covers_key : Command → Key → Bool
 covers_key command key = covers command (tag_of key)
 

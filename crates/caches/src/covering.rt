@@ -24,7 +24,9 @@ fn block(page: Page, span: u8) -> PageRun
 pub(crate) fn aligned(number: u64, power: u8) -> PageRun
     requires power { power ≤ 52 }
     requires number { number < 2 ^ 52 }
-    ensures { result ≡ aligned number (2 ^ power) }
+    ensures block { result ≡ aligned number (2 ^ power) }
+    ensures begins { result.first ≤ number }
+    ensures forward { result.first < result.end }
 {
     let size = 1 << power;
     let first = number / size * size;

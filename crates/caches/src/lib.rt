@@ -5,6 +5,7 @@
 mod covering;
 mod fault;
 mod key;
+mod ranges;
 mod sweep;
 mod tag;
 
