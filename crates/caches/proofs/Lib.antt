@@ -1,6 +1,9 @@
 pub mod Aligned
 pub mod FirstInRange
+pub mod Kept
 pub mod KeyOrder
 pub mod Pruned
 pub mod Reach
+pub mod Standing
 pub mod Sweeping
+pub mod Viewed

@@ -2,5 +2,8 @@ pub mod Blocks
 pub mod Covers
 pub mod Held
 pub mod Keys
+pub mod Puts
+pub mod Stored
 pub mod Sweep
 pub mod TagOrder
+pub mod Views

@@ -2,6 +2,7 @@
 //! caches of endpoints.
 #![tactic(auto)]
 
+mod caches;
 mod covering;
 mod fault;
 mod key;
@@ -9,5 +10,6 @@ mod ranges;
 mod sweep;
 mod tag;
 
+pub use caches::Caches;
 pub use fault::CacheFault;
 pub use tag::{Entry, Scope, Tag};
