@@ -2,6 +2,7 @@ pub mod Aligned
 pub mod FirstInRange
 pub mod Kept
 pub mod KeyOrder
+pub mod LawLemmas
 pub mod Pruned
 pub mod Reach
 pub mod Standing
