@@ -7,7 +7,6 @@ use Rattle.std.specs.BTreeMap.{BTreeMap, get}
 use Rattle.std.specs.BTreeMap.Range.{range_contains, IsInRange, IsRangeOf, IsLeBy}
 use Rattle.std.proofs.lemmas.Map.Views.{IsInRange-from_range_contains, range_contains-from_IsInRange}
 
-
 pub is_some_at : {X : Type 0} (o : Option X) (x : X) → o ≡ Some x → IsSome o
 is_some_at o x e = subst IsSome (sym e) refl
 

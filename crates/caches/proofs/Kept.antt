@@ -66,7 +66,7 @@ module _ {K X : Type 0} (R : K → K → Ordering) where
 pub shorter : {K X : Type 0} {R : K → K → Ordering} (o : IsTotalOrder R) (m n : FinMap R X) → ((q : K) → IsSome (finite.get n q) → IsSome (finite.get m q)) → finite.len n ≤ finite.len m
 shorter {R = R} o m n h =
     let keys = length-le_from_keys (eq_by_cmp_equiv o) (finite.keys n) (finite.entries m) (distinct_sorted R (finite.entries n) (entries_sorted n))
-        (λ q e. subst IsSome (get-entries m q ∙ find_lookup R q (finite.entries m)) (h q (contains_key-keys n q ∙ e))) in
+    (λ q e. subst IsSome (get-entries m q ∙ find_lookup R q (finite.entries m)) (h q (contains_key-keys n q ∙ e))) in
     omega (arith, keys, len-entries n, len-entries m, length-keys_of (finite.entries n))
 
 some_within : {X : Type 0} (b : Bool) (o : Option X) → IsSome (cond b None o) → IsSome o
@@ -82,7 +82,7 @@ less_are a b same h p less =
     record {
       limit = omega (arith, same, limit);
       room = omega (arith, same, shrinks, room);
-      kept = λ t e is. h.kept t e (some_was (p t) _ e (sym (less t) ∙ is))
+      kept = λ t e is. h.kept t e (some_was (p t) _ e (sym (less t) ∙ is));
     }
 
 pub len_without : (c : Command) (m : Entries) → finite.len (without_covered c m) ≤ finite.len m
@@ -98,7 +98,7 @@ pub are_empty : (a : Inside) → a.capacity ≤ 65536 → (stored a).entries ≡
 are_empty a h e = record {
   limit = h;
   room = subst (λ m. finite.len m ≤ a.capacity) (sym e) (omega (arith, len-empty tag_cmp Entry));
-  kept = λ t x is. let n = get-empty {X = Entry} tag_cmp t in let no_entry : None ≡ Some x = sym n ∙ subst (λ m. finite.get m t ≡ Some x) e is in cc
+  kept = λ t x is. let n = get-empty {X = Entry} tag_cmp t in let no_entry : None ≡ Some x = sym n ∙ subst (λ m. finite.get m t ≡ Some x) e is in cc;
 }
 
 -- ---- a put
@@ -128,7 +128,7 @@ are_filled a b x same h here room e =
     record {
       limit = omega (arith, same, limit);
       room = omega (arith, same, fits);
-      kept = λ q y is. kept_at x q (finite.get (stored a).entries q) y here (h.kept q y) (sym (ap (λ n. finite.get n q) e ∙ get-insert tag_cmp_total (stored a).entries x.tag x q) ∙ is)
+      kept = λ q y is. kept_at x q (finite.get (stored a).entries q) y here (h.kept q y) (sym (ap (λ n. finite.get n q) e ∙ get-insert tag_cmp_total (stored a).entries x.tag x q) ∙ is);
     }
 
 same_stored : (a b : Inside) → b.map.entries ≡ a.map.entries → (stored b).entries ≡ (stored a).entries

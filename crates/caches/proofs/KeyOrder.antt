@@ -150,30 +150,30 @@ in_pages w first end (Configuration s c) o a b = cc
 in_pages w first end (Machine v p n c) o a b =
     let e : Guest v ≡ w = cc in
     subst (λ w. range_contains key_cmp (Included (least w first 0)) (Excluded (least w end 0)) (Machine v p n c) ≡ true) e
-      (between _ _ (le_then v v _ (omega arith) (le_then first p _ a (le_then 0 n _ (omega arith) (low_stage c)))) (same_then v v _ refl (more_then end p _ b)))
+    (between _ _ (le_then v v _ (omega arith) (le_then first p _ a (le_then 0 n _ (omega arith) (low_stage c)))) (same_then v v _ refl (more_then end p _ b)))
 in_pages w first end (Hypervisor p n c) o a b =
     let e : Host ≡ w = cc in
     subst (λ w. range_contains key_cmp (Included (least w first 0)) (Excluded (least w end 0)) (Hypervisor p n c) ≡ true) e
-      (between _ _ (le_then first p _ a (le_then 0 n _ (omega arith) (low c))) (more_then end p _ b))
+    (between _ _ (le_then first p _ a (le_then 0 n _ (omega arith) (low c))) (more_then end p _ b))
 in_pages w first end (Endpoint v p n c) o a b =
     let e : Device v ≡ w = cc in
     subst (λ w. range_contains key_cmp (Included (least w first 0)) (Excluded (least w end 0)) (Endpoint v p n c) ≡ true) e
-      (between _ _ (le_then v v _ (omega arith) (le_then first p _ a (le_then 0 n _ (omega arith) (low c)))) (same_then v v _ refl (more_then end p _ b)))
+    (between _ _ (le_then v v _ (omega arith) (le_then first p _ a (le_then 0 n _ (omega arith) (low c)))) (same_then v v _ refl (more_then end p _ b)))
 
 pub in_span : (w : Owner) (page span : ℕ) (k : Key) → owner_of k ≡ Some w → page_of k ≡ page → span_of k ≡ span → range_contains key_cmp (Included (least w page span)) (Excluded (least w page (span + 1))) k ≡ true
 in_span w page span (Configuration s c) o a b = cc
 in_span w page span (Machine v p n c) o a b =
     let e : Guest v ≡ w = cc in
     subst (λ w. range_contains key_cmp (Included (least w page span)) (Excluded (least w page (span + 1))) (Machine v p n c) ≡ true) e
-      (between _ _ (le_then v v _ (omega arith) (le_then page p _ (omega arith) (le_then span n _ (omega arith) (low_stage c)))) (same_then v v _ refl (same_then page p _ (sym a) (more_then (span + 1) n _ (omega arith)))))
+    (between _ _ (le_then v v _ (omega arith) (le_then page p _ (omega arith) (le_then span n _ (omega arith) (low_stage c)))) (same_then v v _ refl (same_then page p _ (sym a) (more_then (span + 1) n _ (omega arith)))))
 in_span w page span (Hypervisor p n c) o a b =
     let e : Host ≡ w = cc in
     subst (λ w. range_contains key_cmp (Included (least w page span)) (Excluded (least w page (span + 1))) (Hypervisor p n c) ≡ true) e
-      (between _ _ (le_then page p _ (omega arith) (le_then span n _ (omega arith) (low c))) (same_then page p _ (sym a) (more_then (span + 1) n _ (omega arith))))
+    (between _ _ (le_then page p _ (omega arith) (le_then span n _ (omega arith) (low c))) (same_then page p _ (sym a) (more_then (span + 1) n _ (omega arith))))
 in_span w page span (Endpoint v p n c) o a b =
     let e : Device v ≡ w = cc in
     subst (λ w. range_contains key_cmp (Included (least w page span)) (Excluded (least w page (span + 1))) (Endpoint v p n c) ≡ true) e
-      (between _ _ (le_then v v _ (omega arith) (le_then page p _ (omega arith) (le_then span n _ (omega arith) (low c)))) (same_then v v _ refl (same_then page p _ (sym a) (more_then (span + 1) n _ (omega arith)))))
+    (between _ _ (le_then v v _ (omega arith) (le_then page p _ (omega arith) (le_then span n _ (omega arith) (low c)))) (same_then v v _ refl (same_then page p _ (sym a) (more_then (span + 1) n _ (omega arith)))))
 
 pub in_machines : (k : Key) → IsOfMachines k → range_contains key_cmp (Included (least (Guest 0) 0 0)) (Excluded (least Host 0 0)) k ≡ true
 in_machines (Configuration s c) h = absurd h

@@ -70,13 +70,14 @@ all_pages sid ssid page global (Atc s c p n) h r = with_true (s == sid) _ (all_m
 pub all_machines : NsnhIsAllMachines
 all_machines tag = refl
 
-later : (a b c d : ℕ) → a < b → a < d → c < d → c < b → (n : ℕ) × ((a ≤ n) × (n < b)) × ((c ≤ n) × (n < d))
+pub later : (a b c d : ℕ) → a < b → a < d → c < d → c < b → (n : ℕ) × ((a ≤ n) × (n < b)) × ((c ≤ n) × (n < d))
 later a b c d e f g h = elim (cases_lt a c) as (λ _. (n : ℕ) × ((a ≤ n) × (n < b)) × ((c ≤ n) × (n < d))) [
-    | inl l ↦ (c, (omega (arith, l), h), (omega arith, g))
-    | inr l ↦ (a, (omega arith, e), (l, f))
-  ]
+  | inl l ↦ (c, (omega (arith, l), h), (omega arith, g))
+  | inr l ↦ (a, (omega arith, e), (l, f))
+]
 
 pub share : MeetingIsToShareAPage
-share page span run some =
-    (λ e. let both = and_parts _ _ e in later page (page + 2 ^ span) run.first run.end (omega (arith, pow_pos span)) (ltb-true page run.end both.0) some (ltb-true run.first (page + 2 ^ span) both.1),
-     λ s. let a = s.1 in let b = s.2 in and_from _ _ (lt-ltb page run.end (omega (arith, a.0, b.1))) (lt-ltb run.first (page + 2 ^ span) (omega (arith, a.1, b.0))))
+share page span run some = (
+  λ e. let both = and_parts _ _ e in later page (page + 2 ^ span) run.first run.end (omega (arith, pow_pos span)) (ltb-true page run.end both.0) some (ltb-true run.first (page + 2 ^ span) both.1),
+  λ s. let a = s.1 in let b = s.2 in and_from _ _ (lt-ltb page run.end (omega (arith, a.0, b.1))) (lt-ltb run.first (page + 2 ^ span) (omega (arith, a.1, b.0))),
+)

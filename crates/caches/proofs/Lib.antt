@@ -4,6 +4,7 @@ pub mod Kept
 pub mod KeyOrder
 pub mod LawLemmas
 pub mod Pruned
+pub mod RangeLaw
 pub mod Reach
 pub mod Standing
 pub mod Sweeping

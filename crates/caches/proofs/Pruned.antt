@@ -11,7 +11,6 @@ use Rattle.caches.specs.Blocks.{IsBlock}
 use Rattle.caches.specs.declared.key.Stage.TheVariants.{Two, One}
 use Rattle.caches.specs.declared.key.Key.TheVariants.{Configuration, Machine, Hypervisor, Endpoint}
 use Rattle.caches.proofs.KeyOrder.{key_cmp}
-
 use Rattle.caches.specs.Sweep.{is_swept, IsPruned, IsWithout, IsKeeping}
 use Rattle.caches.proofs.Sweeping.{both_true, right_true, none_of, not_both}
 
@@ -50,9 +49,9 @@ module _ {K X : Type 0} (R : K → K → Ordering) (p : K → Bool) where
         elim (get R m q) as (λ o. get R m q ≡ o → get R n q ≡ cond (p q) None (get R m q)) [
           | None ↦ λ e. (after q ∙ none_either _ _ e) ∙ sym (none_either _ _ e)
           | Some x ↦ λ e. elim (p q) as (λ b. p q ≡ b → get R n q ≡ cond (range_contains R lo hi q && b) None (get R m q) → get R n q ≡ cond b None (get R m q)) [
-              | true ↦ λ is h. h ∙ ap (λ t. cond (t && true) None (get R m q)) (reach q x is e)
-              | false ↦ λ is h. h ∙ elim (range_contains R lo hi q) as (λ t. cond (t && false) None (get R m q) ≡ get R m q) [ true ↦ refl | false ↦ refl ]
-            ] refl (after q)
+            | true ↦ λ is h. h ∙ ap (λ t. cond (t && true) None (get R m q)) (reach q x is e)
+            | false ↦ λ is h. h ∙ elim (range_contains R lo hi q) as (λ t. cond (t && false) None (get R m q) ≡ get R m q) [ true ↦ refl | false ↦ refl ]
+          ] refl (after q)
         ] refl
 
     pub none_stays : (q : K) → get R m q ≡ None → get R n q ≡ None
@@ -80,7 +79,6 @@ module _ {K X : Type 0} (R : K → K → Ordering) (p : K → Bool) where
 
   pub some_before : (m n : BTreeMap K X) → IsPruned R p m n → (q : K) → IsSome (get R n q) → IsSome (get R m q)
   some_before m n f q s = elim (f q) as (λ _. IsSome (get R m q)) [ inl e ↦ subst IsSome e s | inr e ↦ absurd (some_not_none _ s e.1) ]
-
 
 pub some_was : {X : Type 0} (b : Bool) (o : Option X) (x : X) → cond b None o ≡ Some x → o ≡ Some x
 some_was true o x e = cc

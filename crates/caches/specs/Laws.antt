@@ -3,8 +3,9 @@ use Rattle.std.specs.Prelude.{◌≡◌, ◌<◌, ◌^◌, ◌↔◌, ℕ, ◌==
 use Rattle.std.specs.FinMap as finite
 use Rattle.cmdcodec.specs.declared.reach.PageRun.{PageRun}
 use Rattle.cmdcodec.specs.declared.command.Command.{Command}
-use Rattle.cmdcodec.specs.declared.command.Command.TheVariants.{CfgiSteRange, TlbiNsnhAll, AtcInv}
-use Rattle.cmdcodec.specs.PageRuns.{IsIn}
+use Rattle.cmdcodec.specs.declared.command.Command.TheVariants.{CfgiSteRange, TlbiNhVa, TlbiNhVaa, TlbiEl2Va, TlbiEl2Vaa, TlbiS2Ipa, TlbiNsnhAll, AtcInv}
+use Rattle.cmdcodec.specs.declared.reach.Reach.TheVariants.{Page}
+use Rattle.cmdcodec.specs.PageRuns.{IsIn, run_of}
 use Rattle.caches.specs.declared.tag.Tag.{Tag}
 use Rattle.caches.specs.declared.tag.Tag.TheVariants.{Ste, Cd, S1, S2, El2, Atc}
 use Rattle.caches.specs.declared.tag.Entry.{Entry}
@@ -51,3 +52,18 @@ NsnhIsAllMachines = (tag : Tag) → covers TlbiNsnhAll tag ≡ of_machines (λ v
 -- A block meets a run that has a page exactly where some page is in both.
 abbrev pub MeetingIsToShareAPage : Type 0
 MeetingIsToShareAPage = (page span : ℕ) (run : PageRun) → run.first < run.end → (meets (block page span) run ≡ true) ↔ ((shared : ℕ) × IsIn shared (block page span) × IsIn shared run)
+
+-- the command by address, for this one page alone
+abbrev pub at_page : ℕ → Command → Command
+at_page page (TlbiNhVa vmid asid leaf old reach) = TlbiNhVa vmid asid leaf page Page
+at_page page (TlbiNhVaa vmid leaf old reach) = TlbiNhVaa vmid leaf page Page
+at_page page (TlbiEl2Va asid leaf old reach) = TlbiEl2Va asid leaf page Page
+at_page page (TlbiEl2Vaa leaf old reach) = TlbiEl2Vaa leaf page Page
+at_page page (TlbiS2Ipa vmid leaf old reach) = TlbiS2Ipa vmid leaf page Page
+at_page page not_by_address = not_by_address
+
+-- A command by address whose run has a page covers a tag exactly where the command for one of the pages of
+-- its run does.
+abbrev pub RangesCoverTheirPages : Type 0
+RangesCoverTheirPages = (command : Command) (run : PageRun) (tag : Tag) → run_of command ≡ Some run → run.first < run.end
+    → (covers command tag ≡ true) ↔ ((page : ℕ) × IsIn page run × (covers (at_page page command) tag ≡ true))

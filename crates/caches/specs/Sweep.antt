@@ -19,7 +19,7 @@ abbrev pub IsNext : {K X : Type 0} → (K → K → Ordering) → BTreeMap K X �
 IsNext {K} cmp m from end found = MatchOption found
     ((q : K) → range_contains cmp from end q ≡ true → tree.get cmp m q ≡ None)
     (λ e. (range_contains cmp from end e.0 ≡ true) × (tree.get cmp m e.0 ≡ Some e.1)
-        × ((q : K) → range_contains cmp from end q ≡ true → IsSome (tree.get cmp m q) → IsLeBy cmp e.0 q))
+    × ((q : K) → range_contains cmp from end q ≡ true → IsSome (tree.get cmp m q) → IsLeBy cmp e.0 q))
 
 module _ {K : Type 0} (cmp : K → K → Ordering) where
   -- what a sweep from first to end removes

@@ -1,5 +1,5 @@
 //! Laws of the definitions, each the contract of a function that does nothing.
-ghost use Rattle.caches.specs.Laws.{HeldIsWhatStands, NothingElseIsHeld, HeldSpeaksOfEachTagOnce, UncoveredEntriesStay, Range31IsAllStreams, Size52IsAllPages, NsnhIsAllMachines, MeetingIsToShareAPage};
+ghost use Rattle.caches.specs.Laws.{HeldIsWhatStands, NothingElseIsHeld, HeldSpeaksOfEachTagOnce, UncoveredEntriesStay, Range31IsAllStreams, Size52IsAllPages, NsnhIsAllMachines, MeetingIsToShareAPage, RangesCoverTheirPages};
 
 /// What is held after a history are its fills such that no later item is a fill of the same tag, an
 /// eviction of it or a command that covers it, and nothing else.
@@ -30,4 +30,10 @@ pub fn whole_spaces_are_covered()
 /// A block meets a run that has a page exactly where some page is in both.
 pub fn meeting_is_to_share_a_page()
     ensures { MeetingIsToShareAPage }
+{}
+
+/// A command by address whose run has a page covers a tag exactly where the command for one of the pages
+/// of its run does.
+pub fn ranges_cover_their_pages()
+    ensures { RangesCoverTheirPages }
 {}

@@ -15,6 +15,9 @@ pub use caches::Caches;
 pub use fault::CacheFault;
 pub use laws::{
     held_is_what_stands, held_speaks_of_each_tag_once, meeting_is_to_share_a_page,
-    uncovered_entries_stay, whole_spaces_are_covered,
+    ranges_cover_their_pages, uncovered_entries_stay, whole_spaces_are_covered,
 };
 pub use tag::{Entry, Scope, Tag};
+
+#[cfg(test)]
+mod tests;

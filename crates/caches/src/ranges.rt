@@ -157,7 +157,12 @@ pub(crate) fn remove_all_covered(map: &mut BTreeMap<Key, Entry>, command: &Comma
         Command::TlbiS12Vmall { vmid } => sweep_owner(map, Owner::Guest(vmid.get()), command),
         Command::TlbiS2Ipa { vmid, .. } => sweep_address(map, Owner::Guest(vmid.get()), command),
         Command::TlbiNsnhAll => sweep_machines(map, command),
-        Command::AtcInv { sid, size, page, .. } => {
+        Command::AtcInv {
+            sid,
+            size,
+            page,
+            ..
+        } => {
             let pages = aligned(page.get(), size.get());
             sweep_run(map, Owner::Device(sid.get()), pages, command)
         }

@@ -34,6 +34,6 @@ loop-span-preserved c =
                 let reach = c.requires.reach q covered in
                 let start : c.args.page - c.args.page % 2 ^ span_of q ≡ page_of q = aligned_start (page_of q) c.args.page (span_of q) block.1 (omega arith) reach.1 in
                 none_comes key_cmp p lo hi m n c.remove_covered.ensures.after q covered
-                    (rw (c.least.ensures, c.least-in-loop-span.ensures, c.block_start-start.ensures, ← same) (in_span c.args.owner (c.args.page - c.args.page % 2 ^ span_of q) (span_of q) q reach.0 (sym start) refl)))
-          ]
+                (rw (c.least.ensures, c.least-in-loop-span.ensures, c.block_start-start.ensures, ← same) (in_span c.args.owner (c.args.page - c.args.page % 2 ^ span_of q) (span_of q) q reach.0 (sym start) refl)))
+          ];
     }

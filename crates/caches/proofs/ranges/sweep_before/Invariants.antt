@@ -9,5 +9,5 @@ use Rattle.caches.proofs.ranges.sweep_before.Given as goal
 abbrev pub invariant-loop-span : goal.invariant-loop-span
 invariant-loop-span l = record {
   pruned : IsPruned key_cmp (covers_key l.command) l.fn.map l.map;
-  clean : (q : Key) → span_of q < l.span → covers_key l.command q ≡ true → page_of q < l.page → tree.get key_cmp l.map q ≡ None
+  clean : (q : Key) → span_of q < l.span → covers_key l.command q ≡ true → page_of q < l.page → tree.get key_cmp l.map q ≡ None;
 }

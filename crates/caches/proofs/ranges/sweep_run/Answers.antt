@@ -26,6 +26,6 @@ returns c =
             | inl before ↦ none_stays key_cmp p lo hi m n c.remove_covered.ensures.after q (c.sweep_before.ensures.clean q covered before)
             | inr within ↦ let reach = c.requires.reach q covered in
                 none_comes key_cmp p lo hi m n c.remove_covered.ensures.after q covered
-                    (rw (c.least.ensures, c.least-2.ensures) (in_pages c.args.owner c.args.run.first c.max-end.result q reach.0 within (omega (arith, reach.2, c.max-end.ensures))))
-          ])
+                (rw (c.least.ensures, c.least-2.ensures) (in_pages c.args.owner c.args.run.first c.max-end.result q reach.0 within (omega (arith, reach.2, c.max-end.ensures))))
+          ]);
     }

@@ -13,5 +13,5 @@ returns c = record {
       elim c.match-try_from.branch [
         | in-Ok w ↦ rw (w.end-is, w.in-Ok.ensures.1) (in_streams c.args.streams q (c.requires.reach q covered))
         | in-Err w ↦ rw (w.end-is, w.least-end.ensures) (in_top_streams c.args.streams q (c.requires.reach q covered))
-      ])
+      ]);
 }

@@ -39,7 +39,7 @@ loop-key-preserved-then-covers c =
       kept = swept_more key_total p c.args.first c.args.end old c.loop-key.from c.in-Some.key f (λ (q : Key). tree.get key_cmp c.remove.new.self q) c.loop-key.invariant.kept c.in-Some.ensures.0 c.in-Some.ensures.2 c.loop-key.invariant.starts
           (after_yes key_cmp p c.in-Some.key f _ covered c.remove.ensures.updates.0) key_exact;
       forward = before_end key_total c.loop-key.from c.args.end c.in-Some.key c.in-Some.ensures.0;
-      starts = starts_more key_total c.loop-key.from c.args.first c.args.end c.in-Some.key c.loop-key.invariant.starts c.in-Some.ensures.0
+      starts = starts_more key_total c.loop-key.from c.args.first c.args.end c.in-Some.key c.loop-key.invariant.starts c.in-Some.ensures.0;
     }
 
 pub loop-key-preserved : goal.loop-key-preserved
@@ -53,7 +53,7 @@ loop-key-preserved c =
       kept = swept_more key_total p c.args.first c.args.end old c.loop-key.from c.in-Some.key f f c.loop-key.invariant.kept c.in-Some.ensures.0 c.in-Some.ensures.2 c.loop-key.invariant.starts
           (after_no key_cmp p c.in-Some.key f uncovered) key_exact;
       forward = before_end key_total c.loop-key.from c.args.end c.in-Some.key c.in-Some.ensures.0;
-      starts = starts_more key_total c.loop-key.from c.args.first c.args.end c.in-Some.key c.loop-key.invariant.starts c.in-Some.ensures.0
+      starts = starts_more key_total c.loop-key.from c.args.first c.args.end c.in-Some.key c.loop-key.invariant.starts c.in-Some.ensures.0;
     }
 
 pub returns : goal.returns

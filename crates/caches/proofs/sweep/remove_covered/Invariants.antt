@@ -13,7 +13,7 @@ abbrev pub invariant-loop-key : goal.invariant-loop-key
 invariant-loop-key l = record {
   kept : (q : Key) → tree.get key_cmp l.map q ≡ cond (is_gone key_cmp (covers_key l.command) l.fn.first l.end l.from q) None (tree.get key_cmp l.fn.map q);
   forward : IsForward (IsLeBy key_cmp) (IsLtBy key_cmp) l.from l.end;
-  starts : (q : Key) → is_from_start key_cmp l.from q ≡ true → is_from_start key_cmp l.fn.first q ≡ true
+  starts : (q : Key) → is_from_start key_cmp l.from q ≡ true → is_from_start key_cmp l.fn.first q ≡ true;
 }
 
 abbrev pub decreases-loop-key : goal.decreases-loop-key

@@ -19,7 +19,7 @@ returns-clause-was c = c.remove.ensures.value ∙ ap (tree.get key_cmp c.self.in
 
 pub returns-clause-after : goal.returns-clause-after
 returns-clause-after c = stored_remove c.self.inside (record { capacity = c.self.inside.capacity; map = c.remove.new.self }) c.args.tag.now
-      (subst (λ k. Updates key_cmp c.self.inside.map c.remove.new.self k None) c.of.ensures.key c.remove.ensures.updates)
+    (subst (λ k. Updates key_cmp c.self.inside.map c.remove.new.self k None) c.of.ensures.key c.remove.ensures.updates)
     ∙ ap (λ (s : Stored). finite.remove s.entries c.args.tag.now) c.self.view_is
 
 pub returns-clause-held : goal.returns-clause-held
