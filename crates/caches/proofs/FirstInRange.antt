@@ -1,10 +1,10 @@
 -- What the first entry of a range says.
-use Rattle.std.proofs.Common.{◌≡◌, ℕ, Bool, true, false, IsSome, Option, Some, None, refl, sym, ◌∙◌, ap, subst, List, [], ◌∷◌}
+use Rattle.std.proofs.Common.{◌≡◌, true, IsSome, Option, Some, None, refl, sym, subst, List, [], ◌∷◌}
 use Rattle.std.specs.declared.cmp.Ordering.{Ordering}
 use Rattle.std.specs.declared.ops.Bound.{Bound}
 use Rattle.std.specs.Cmp.{IsTotalOrder}
 use Rattle.std.specs.BTreeMap.{BTreeMap, get}
-use Rattle.std.specs.BTreeMap.Range.{range_contains, IsInRange, IsRangeOf, IsLeBy}
+use Rattle.std.specs.BTreeMap.Range.{range_contains, IsRangeOf, IsLeBy}
 use Rattle.std.proofs.lemmas.Map.Views.{IsInRange-from_range_contains, range_contains-from_IsInRange}
 
 pub is_some_at : {X : Type 0} (o : Option X) (x : X) → o ≡ Some x → IsSome o

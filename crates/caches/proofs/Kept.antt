@@ -1,14 +1,13 @@
 -- What the calls leave are caches: within the capacity, and each entry under its tag.
-use Rattle.std.proofs.Common.{◌≡◌, ℕ, ◌+◌, ◌≤◌, ◌<◌, ◌^◌, Bool, true, false, not, T, ◌&&◌, cond, ◌⊎◌, inl, inr, IsSome, Option, Some, None, is_some, refl, sym, ◌∙◌, ap, subst, List, [], ◌∷◌, length, arith}
+use Rattle.std.proofs.Common.{◌≡◌, ℕ, ◌+◌, ◌≤◌, ◌<◌, ◌^◌, Bool, true, false, T, ◌&&◌, cond, ◌⊎◌, inl, inr, IsSome, Option, Some, None, is_some, refl, sym, ◌∙◌, ap, subst, List, [], ◌∷◌, arith}
 use Rattle.std.specs.Prelude.{Result, Ok, Err}
-use Rattle.std.specs.Result.{MatchResult}
 use Rattle.std.specs.declared.cmp.Ordering.{Ordering}
 use Rattle.std.specs.declared.cmp.Ordering.TheVariants.{Less, Equal, Greater}
 use Rattle.std.specs.Ordering.{eq_by_cmp, is_eq, is_lt}
 use Rattle.std.specs.Cmp.{IsTotalOrder, eq_by_cmp_equiv, Equal-is}
 use Rattle.std.specs.List.{IsDistinct, AllByRecursion}
 use Rattle.std.specs.Map.{lookup, keys_of}
-use Rattle.std.specs.BTreeMap.{BTreeMap, Updates}
+use Rattle.std.specs.BTreeMap.{Updates}
 use Rattle.std.specs.FinMap as finite
 use Rattle.std.specs.FinMap.{FinMap, find, is_sorted, entries_sorted, get-entries, len-entries, contains_key-keys, get-insert, len-insert, get-remove, get-empty, len-empty}
 use Rattle.std.specs.FinMap.Entries.{below_all}
@@ -18,9 +17,7 @@ use Rattle.std.proofs.lemmas.Map.Keys.{IsDistinct-cons}
 use Rattle.cmdcodec.specs.declared.command.Command.{Command}
 use Rattle.caches.specs.declared.tag.Tag.{Tag}
 use Rattle.caches.specs.declared.tag.Entry.{Entry}
-use Rattle.caches.specs.declared.key.Key.{Key}
 use Rattle.caches.specs.declared.fault.CacheFault.{CacheFault}
-use Rattle.caches.specs.declared.fault.CacheFault.TheVariants.{NoMemory}
 use Rattle.caches.specs.declared.caches.Caches.TheInside.{Inside}
 use Rattle.caches.specs.Blocks.{IsBlock}
 use Rattle.caches.specs.Covers.{covers}

@@ -1,9 +1,9 @@
 -- The order of keys: which are equal, and which stand in a range.
-use Rattle.std.proofs.Common.{◌≡◌, ℕ, ◌+◌, ◌-◌, ◌*◌, ◌/◌, ◌%◌, ◌^◌, ◌<◌, ◌≤◌, Bool, true, false, not, ◌&&◌, cond, IsSome, Option, Some, None, refl, sym, ◌∙◌, ap, subst, arith}
+use Rattle.std.proofs.Common.{◌≡◌, ℕ, ◌+◌, ◌<◌, ◌≤◌, Bool, true, false, not, ◌&&◌, Option, Some, None, refl, sym, ◌∙◌, ap, subst, arith}
 use Rattle.std.specs.declared.cmp.Ordering.{Ordering}
 use Rattle.std.specs.declared.cmp.Ordering.TheVariants.{Less, Equal, Greater}
-use Rattle.std.specs.declared.ops.Bound.TheVariants.{Included, Excluded, Unbounded}
-use Rattle.std.specs.Ordering.{nat_cmp, ordering_then, is_le, is_lt}
+use Rattle.std.specs.declared.ops.Bound.TheVariants.{Included, Excluded}
+use Rattle.std.specs.Ordering.{nat_cmp, ordering_then, is_le}
 use Rattle.std.specs.Cmp.{IsTotalOrder, ranked}
 use Rattle.std.specs.BTreeMap.Range.{range_contains}
 use Rattle.std.proofs.lemmas.Map.Lookups.{exact_unsigned}

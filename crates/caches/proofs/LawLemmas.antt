@@ -1,19 +1,15 @@
 -- The laws of the definitions.
-use Rattle.std.proofs.Common.{◌≡◌, ℕ, ◌+◌, ◌*◌, ◌/◌, ◌^◌, ◌<◌, ◌≤◌, ◌==◌, ◌&&◌, not, nat_lt, Bool, true, false, cond, ◌⊎◌, inl, inr, Option, Some, None, refl, sym, ◌∙◌, ap, subst, arith}
+use Rattle.std.proofs.Common.{◌≡◌, ℕ, ◌+◌, ◌*◌, ◌/◌, ◌^◌, ◌<◌, ◌≤◌, ◌==◌, ◌&&◌, not, Bool, true, false, cond, inl, inr, Option, Some, None, refl, sym, ◌∙◌, ap, arith}
 use Rattle.std.specs.FinMap as finite
 use Rattle.std.specs.FinMap.{same_map}
 use Rattle.std.proofs.Math.Nat.{div-eq_of_lt}
 use Rattle.std.proofs.lemmas.Nat.{pow_pos}
 use Rattle.std.proofs.lemmas.Bool.{lt-ltb, le-ltb, and_from, and_parts, ltb-true, cases_lt}
-use Rattle.cmdcodec.specs.declared.reach.PageRun.{PageRun}
-use Rattle.cmdcodec.specs.declared.command.Command.{Command}
-use Rattle.cmdcodec.specs.PageRuns.{IsIn}
-use Rattle.caches.specs.declared.tag.Tag.{Tag}
 use Rattle.caches.specs.declared.tag.Tag.TheVariants.{Ste, Cd, S1, S2, El2, Atc}
 use Rattle.caches.specs.declared.tag.Entry.{Entry}
 use Rattle.caches.specs.Blocks.{block, meets, holds, aligned}
 use Rattle.caches.specs.Covers.{covers}
-use Rattle.caches.specs.Held.{Entries, held, without_covered}
+use Rattle.caches.specs.Held.{held, without_covered}
 use Rattle.caches.specs.TagOrder.{tag_cmp_total, tag_cmp_exact}
 use Rattle.caches.specs.Laws.{HeldSpeaksOfEachTagOnce, UncoveredEntriesStay, Range31IsAllStreams, Size52IsAllPages, NsnhIsAllMachines, MeetingIsToShareAPage}
 use Rattle.caches.proofs.Standing.{held_are}

@@ -1,5 +1,5 @@
 -- Maps that lost some of what passes a test.
-use Rattle.std.proofs.Common.{◌≡◌, ℕ, ◌<◌, ◌≤◌, ◌%◌, ◌^◌, Bool, true, false, not, ◌&&◌, ◌⊎◌, inl, inr, cond, IsSome, Option, Some, None, refl, sym, ◌∙◌, ap, subst, arith}
+use Rattle.std.proofs.Common.{◌≡◌, ◌≤◌, ◌%◌, ◌^◌, Bool, true, false, ◌&&◌, ◌⊎◌, inl, inr, cond, IsSome, Option, Some, None, refl, sym, ◌∙◌, ap, subst, arith}
 use Rattle.std.specs.declared.cmp.Ordering.{Ordering}
 use Rattle.std.specs.declared.ops.Bound.{Bound}
 use Rattle.std.specs.BTreeMap.{BTreeMap, get}
@@ -12,7 +12,7 @@ use Rattle.caches.specs.declared.key.Stage.TheVariants.{Two, One}
 use Rattle.caches.specs.declared.key.Key.TheVariants.{Configuration, Machine, Hypervisor, Endpoint}
 use Rattle.caches.proofs.KeyOrder.{key_cmp}
 use Rattle.caches.specs.Sweep.{is_swept, IsPruned, IsWithout, IsKeeping}
-use Rattle.caches.proofs.Sweeping.{both_true, right_true, none_of, not_both}
+use Rattle.caches.proofs.Sweeping.{both_true, right_true, not_both}
 
 some_not_none : {X : Type 0} (o : Option X) → IsSome o → o ≡ None → ⊥
 some_not_none None s e = cc

@@ -1,5 +1,5 @@
 -- Where the keys stand that a command covers.
-use Rattle.std.proofs.Common.{◌≡◌, ℕ, ◌+◌, ◌*◌, ◌/◌, ◌^◌, ◌<◌, ◌≤◌, ◌==◌, ◌&&◌, Bool, true, false, Option, Some, None, refl, sym, ◌∙◌, ap, subst, arith}
+use Rattle.std.proofs.Common.{◌≡◌, ℕ, ◌+◌, ◌^◌, ◌<◌, ◌≤◌, ◌==◌, ◌&&◌, Bool, true, Option, Some, None, refl, ◌∙◌, ap, arith}
 use Rattle.std.proofs.lemmas.Bool.{eqb-true, ltb-true, ltb-false, and_parts, not-true}
 use Rattle.cmdcodec.specs.declared.reach.PageRun.{PageRun}
 use Rattle.cmdcodec.specs.declared.reach.Reach.{Reach}
@@ -13,7 +13,7 @@ use Rattle.caches.specs.declared.key.Key.TheVariants.{Configuration, Machine, Hy
 use Rattle.caches.specs.declared.key.Owner.{Owner}
 use Rattle.caches.specs.declared.key.Owner.TheVariants.{Guest, Host, Device}
 use Rattle.caches.specs.Blocks.{block, aligned, holds, meets}
-use Rattle.caches.specs.Covers.{of_streams, descriptors, of_machines, stage1, stage2, el2, endpoints, is_of, reaches, is_for, meets_run, covers}
+use Rattle.caches.specs.Covers.{of_streams, descriptors, of_machines, stage1, stage2, el2, endpoints, is_of, reaches, is_for, meets_run}
 use Rattle.caches.specs.Keys.{covers_key, owner_of, page_of, span_of, tag_of, scope_of, IsOfStreams, IsOfMachines}
 
 -- ---- by kinds of tags

@@ -1,5 +1,5 @@
 -- The ordered map as a finite map of tags: what it has at a tag, and how long it is.
-use Rattle.std.proofs.Common.{◌≡◌, ℕ, ◌+◌, ◌≤◌, ◌<◌, Bool, true, false, not, IsSome, Option, Some, None, is_some, refl, sym, ◌∙◌, ap, subst, List, [], ◌∷◌, map, length, arith, cond}
+use Rattle.std.proofs.Common.{◌≡◌, ◌+◌, Bool, true, false, not, Option, Some, None, is_some, refl, sym, ◌∙◌, ap, subst, List, [], ◌∷◌, length, arith, cond}
 use Rattle.std.specs.declared.cmp.Ordering.{Ordering}
 use Rattle.std.specs.declared.cmp.Ordering.TheVariants.{Less, Equal, Greater}
 use Rattle.std.specs.Ordering.{eq_by_cmp, is_eq}
@@ -14,7 +14,6 @@ use Rattle.std.proofs.lemmas.Map.{lookup-none}
 use Rattle.std.proofs.lemmas.Map.Entries.{none_past_head}
 use Rattle.std.proofs.lemmas.Map.Keys.{IsDistinct-from_sorted, sorted_tail}
 use Rattle.cmdcodec.specs.declared.command.Command.{Command}
-use Rattle.caches.specs.declared.tag.Scope.{Scope}
 use Rattle.caches.specs.declared.tag.Scope.TheVariants.{Global, Of}
 use Rattle.caches.specs.declared.tag.Tag.{Tag}
 use Rattle.caches.specs.declared.tag.Tag.TheVariants.{Ste, Cd, S1, S2, El2, Atc}

@@ -1,5 +1,5 @@
 -- Tags and their keys, and where keys stand.
-use Rattle.std.specs.Prelude.{◌≡◌, ◌<◌, ◌≤◌, ◌^◌, ℕ, ◌+◌, Bool, Option, Some, None}
+use Rattle.std.specs.Prelude.{◌≡◌, ◌<◌, ◌≤◌, ◌^◌, ℕ, Bool, Option, Some, None}
 use Rattle.cmdcodec.specs.declared.command.Command.{Command}
 use Rattle.cmdcodec.specs.declared.reach.PageRun.{PageRun}
 use Rattle.caches.specs.declared.tag.Scope.{Scope}
@@ -7,7 +7,6 @@ use Rattle.caches.specs.declared.tag.Scope.TheVariants.{Global, Of}
 use Rattle.caches.specs.declared.tag.Tag.{Tag}
 use Rattle.caches.specs.declared.tag.Tag.TheVariants.{Ste, Cd, S1, S2, El2, Atc}
 use Rattle.caches.specs.declared.tag.Entry.{Entry}
-use Rattle.caches.specs.declared.key.Stage.{Stage}
 use Rattle.caches.specs.declared.key.Stage.TheVariants.{Two, One}
 use Rattle.caches.specs.declared.key.Key.{Key}
 use Rattle.caches.specs.declared.key.Key.TheVariants.{Configuration, Machine, Hypervisor, Endpoint}

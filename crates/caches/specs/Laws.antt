@@ -1,5 +1,5 @@
 -- What the definitions are held to.
-use Rattle.std.specs.Prelude.{◌≡◌, ◌<◌, ◌^◌, ◌↔◌, ℕ, ◌==◌, Bool, true, false, Some, Option}
+use Rattle.std.specs.Prelude.{◌≡◌, ◌<◌, ◌^◌, ◌↔◌, ℕ, ◌==◌, Bool, true, false, Some}
 use Rattle.std.specs.FinMap as finite
 use Rattle.cmdcodec.specs.declared.reach.PageRun.{PageRun}
 use Rattle.cmdcodec.specs.declared.command.Command.{Command}

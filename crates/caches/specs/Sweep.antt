@@ -1,5 +1,5 @@
 -- The next entry of a map, and the words of a removal by ranges.
-use Rattle.std.specs.Prelude.{◌≡◌, ◌⊎◌, cond, ℕ, Bool, true, false, not, ◌&&◌, IsSome, Option, Some, None}
+use Rattle.std.specs.Prelude.{◌≡◌, ◌⊎◌, cond, Bool, true, not, ◌&&◌, IsSome, Option, Some, None}
 use Rattle.std.specs.declared.cmp.Ordering.{Ordering}
 use Rattle.std.specs.declared.ops.Bound.{Bound}
 use Rattle.std.specs.Option.{MatchOption}

@@ -1,5 +1,5 @@
 -- The ordered map as a finite map of tags.
-use Rattle.std.specs.Prelude.{◌≡◌, ℕ, ◌≤◌, List, map, Some}
+use Rattle.std.specs.Prelude.{◌≡◌, ◌≤◌, List, map, Some}
 use Rattle.std.specs.FinMap as finite
 use Rattle.caches.specs.declared.tag.Tag.{Tag}
 use Rattle.caches.specs.declared.tag.Entry.{Entry}

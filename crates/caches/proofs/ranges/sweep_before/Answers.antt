@@ -1,9 +1,7 @@
-use Rattle.std.proofs.Common.{rules, arith, ◌≡◌, ◌∙◌, sym, ap, subst, inl, inr, refl, true, false, ℕ, ◌+◌, ◌-◌, ◌%◌, ◌^◌, ◌<◌, ◌≤◌, ◌⊎◌, None, Some, IsSome, Option}
+use Rattle.std.proofs.Common.{arith, ◌≡◌, sym, inl, inr, refl, ℕ, ◌+◌, ◌-◌, ◌%◌, ◌^◌, ◌<◌, ◌⊎◌, None}
 use Rattle.std.specs.declared.ops.Bound.TheVariants.{Included, Excluded}
 use Rattle.std.specs.BTreeMap as tree
-use Rattle.caches.specs.declared.key.Key.{Key}
-use Rattle.caches.specs.Keys.{covers_key, page_of, span_of, owner_of, least}
-use Rattle.caches.specs.Sweep.{IsPruned, IsKeeping}
+use Rattle.caches.specs.Keys.{covers_key, page_of, span_of}
 use Rattle.caches.proofs.Aligned.{aligned_start}
 use Rattle.caches.proofs.KeyOrder.{key_cmp, in_span}
 use Rattle.caches.proofs.Pruned.{pruned_from_swept, pruned_trans, keeping_pruned, aligned_key, none_stays, none_comes, none_unless}

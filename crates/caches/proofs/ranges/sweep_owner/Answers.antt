@@ -1,6 +1,6 @@
-use Rattle.std.proofs.Common.{rules, arith, ◌≡◌, ◌^◌, ◌<◌, subst}
+use Rattle.std.proofs.Common.{rules, arith, ◌^◌, ◌<◌, subst}
 use Rattle.std.specs.declared.ops.Bound.TheVariants.{Included, Excluded}
-use Rattle.caches.specs.Keys.{covers_key, page_of, least}
+use Rattle.caches.specs.Keys.{covers_key, least}
 use Rattle.caches.proofs.KeyOrder.{key_cmp, in_pages}
 use Rattle.caches.proofs.Pruned.{without_from_kept, page_back}
 use Rattle.caches.proofs.ranges.sweep_owner.Goals as goal

@@ -1,7 +1,7 @@
-use Rattle.std.proofs.Common.{rules, arith, ◌≡◌, ◌∙◌, sym, ap, subst, inl, inr, ℕ, ◌<◌, ◌≤◌, ◌⊎◌, None}
+use Rattle.std.proofs.Common.{arith, ◌≡◌, inl, inr, ℕ, ◌<◌, ◌≤◌, ◌⊎◌, None}
 use Rattle.std.specs.declared.ops.Bound.TheVariants.{Included, Excluded}
 use Rattle.std.specs.BTreeMap as tree
-use Rattle.caches.specs.Keys.{covers_key, page_of, least}
+use Rattle.caches.specs.Keys.{covers_key, page_of}
 use Rattle.caches.proofs.KeyOrder.{key_cmp, in_pages}
 use Rattle.caches.proofs.Pruned.{pruned_from_swept, pruned_trans, keeping_pruned, without_from_pruned, none_stays, none_comes}
 use Rattle.caches.proofs.ranges.sweep_run.Goals as goal

@@ -1,4 +1,4 @@
-use Rattle.std.proofs.Common.{rules, arith, ◌≡◌, None}
+use Rattle.std.proofs.Common.{rules, None}
 use Rattle.std.specs.declared.ops.Bound.TheVariants.{Included, Excluded}
 use Rattle.caches.specs.declared.key.Key.TheVariants.{Configuration}
 use Rattle.caches.specs.Keys.{covers_key}

@@ -1,4 +1,3 @@
-use Rattle.std.proofs.Common.{rules, arith, ◌≡◌}
 use Rattle.caches.proofs.FirstInRange.{first_is, none_is}
 use Rattle.caches.proofs.KeyOrder.{key_total}
 use Rattle.caches.proofs.sweep.next_entry.Goals as goal

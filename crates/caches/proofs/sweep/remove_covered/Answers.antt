@@ -1,11 +1,10 @@
-use Rattle.std.proofs.Common.{rules, arith, ◌≡◌, ◌∙◌, sym, ap, subst, ◌&&◌, cond, IsSome, Option, Some, true, false, ℕ, ◌<◌, ◌≤◌, length}
-use Rattle.std.specs.declared.ops.Bound.TheVariants.{Included, Excluded}
+use Rattle.std.proofs.Common.{arith, ◌≡◌, ◌∙◌, sym, ap, subst, true, false}
+use Rattle.std.specs.declared.ops.Bound.TheVariants.{Excluded}
 use Rattle.std.specs.BTreeMap as tree
 use Rattle.std.specs.BTreeMap.{is_at}
 use Rattle.std.specs.BTreeMap.Range.{range_contains}
 use Rattle.std.specs.Cmp.{tied_itself}
 use Rattle.caches.specs.declared.key.Key.{Key}
-use Rattle.caches.specs.declared.tag.Entry.{Entry}
 use Rattle.caches.specs.Blocks.{IsBlock}
 use Rattle.caches.specs.Covers.{covers}
 use Rattle.caches.specs.Keys.{covers_key, tag_of, IsKept}

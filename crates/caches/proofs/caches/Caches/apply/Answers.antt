@@ -1,4 +1,4 @@
-use Rattle.std.proofs.Common.{rules, arith, ◌≡◌, ◌∙◌, sym, ap, subst, ◌+◌, ◌≤◌, refl}
+use Rattle.std.proofs.Common.{arith, ◌∙◌, sym, ap, subst, ◌≤◌, refl}
 use Rattle.std.specs.FinMap as finite
 use Rattle.caches.specs.Held.{without_covered}
 use Rattle.caches.specs.Stored.{Stored}

@@ -1,8 +1,7 @@
-use Rattle.std.proofs.Common.{rules, arith, ◌≡◌, ◌∙◌, sym, ap, subst, refl, None}
+use Rattle.std.proofs.Common.{◌∙◌, sym, ap, subst, refl, None}
 use Rattle.std.specs.BTreeMap as tree
 use Rattle.std.specs.BTreeMap.{Updates}
 use Rattle.std.specs.FinMap as finite
-use Rattle.caches.specs.Keys.{key_of}
 use Rattle.caches.specs.Stored.{Stored}
 use Rattle.caches.proofs.KeyOrder.{key_cmp}
 use Rattle.caches.proofs.Viewed.{look_is, stored_remove}

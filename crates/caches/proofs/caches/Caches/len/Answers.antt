@@ -1,4 +1,4 @@
-use Rattle.std.proofs.Common.{rules, arith, ◌≡◌, ◌∙◌, ap}
+use Rattle.std.proofs.Common.{arith, ap}
 use Rattle.std.specs.FinMap as finite
 use Rattle.caches.specs.Stored.{Stored}
 use Rattle.caches.proofs.Viewed.{len_is}

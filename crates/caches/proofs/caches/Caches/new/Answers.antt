@@ -1,4 +1,4 @@
-use Rattle.std.proofs.Common.{rules, arith, refl}
+use Rattle.std.proofs.Common.{arith, refl}
 use Rattle.caches.proofs.Kept.{are_empty}
 use Rattle.caches.proofs.caches.Caches.new.Goals as goal
 

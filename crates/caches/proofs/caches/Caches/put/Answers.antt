@@ -1,6 +1,6 @@
-use Rattle.std.proofs.Common.{rules, arith, ◌≡◌, ◌<◌, ◌^◌, ◌∙◌, sym, ap, subst, refl, None}
+use Rattle.std.proofs.Common.{◌≡◌, ◌<◌, ◌^◌, subst, refl, None}
 use Rattle.std.specs.FinMap as finite
-use Rattle.caches.specs.Keys.{key_of, page_of}
+use Rattle.caches.specs.Keys.{page_of}
 use Rattle.caches.specs.Puts.{IsPut}
 use Rattle.caches.specs.Views.{stored}
 use Rattle.caches.proofs.KeyOrder.{key_cmp}
