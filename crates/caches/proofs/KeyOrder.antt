@@ -1,0 +1,194 @@
+-- The order of keys: which are equal, and which stand in a range.
+use Rattle.std.proofs.Common.{◌≡◌, ℕ, ◌+◌, ◌<◌, ◌≤◌, Bool, true, false, not, ◌&&◌, Option, Some, None, refl, sym, ◌∙◌, ap, subst, arith}
+use Rattle.std.specs.declared.cmp.Ordering.{Ordering}
+use Rattle.std.specs.declared.cmp.Ordering.TheVariants.{Less, Equal, Greater}
+use Rattle.std.specs.declared.ops.Bound.TheVariants.{Included, Excluded}
+use Rattle.std.specs.Ordering.{nat_cmp, ordering_then, is_le}
+use Rattle.std.specs.Cmp.{IsTotalOrder, ranked}
+use Rattle.std.specs.BTreeMap.Range.{range_contains}
+use Rattle.std.proofs.lemmas.Map.Lookups.{exact_unsigned}
+use Rattle.cmdcodec.specs.declared.reach.PageRun.{PageRun}
+use Rattle.caches.specs.declared.key.Stage.{Stage}
+use Rattle.caches.specs.declared.key.Stage.TheVariants.{Two, One}
+use Rattle.caches.specs.declared.key.Key.{Key}
+use Rattle.caches.specs.declared.key.Key.TheVariants.{Configuration, Machine, Hypervisor, Endpoint}
+use Rattle.caches.specs.declared.key.Owner.{Owner}
+use Rattle.caches.specs.declared.key.Owner.TheVariants.{Guest, Host, Device}
+use Rattle.caches.specs.Keys.{owner_of, page_of, span_of, least, IsOfStreams, IsOfMachines}
+use Rattle.caches.specs.contracts.key.KeyOrd.TheImpl as key_order
+use Rattle.caches.specs.contracts.key.KeyOrd.TheImpl.Laws as key_laws
+use Rattle.caches.specs.contracts.key.StageOrd.TheImpl as stage_order
+
+abbrev pub key_cmp : Key → Key → Ordering
+key_cmp = key_order.ghosts.cmp
+
+abbrev pub stage_cmp : Stage → Stage → Ordering
+stage_cmp = stage_order.ghosts.cmp
+
+pub key_total : IsTotalOrder key_cmp
+key_total = key_laws.total-law
+
+-- ---- keys that compare equal are the same
+then_equal : (a b : Ordering) → ordering_then a b ≡ Equal → (a ≡ Equal) × (b ≡ Equal)
+then_equal Less b e = cc
+then_equal Equal b e = (refl, e)
+then_equal Greater b e = cc
+
+abbrev pub some_cmp : Option ℕ → Option ℕ → Ordering
+some_cmp x y = stage_cmp (One x) (One y)
+
+some_exact : (x y : Option ℕ) → some_cmp x y ≡ Equal → x ≡ y
+some_exact None None e = refl
+some_exact None (Some y) e = cc
+some_exact (Some x) None e = cc
+some_exact (Some x) (Some y) e = ap Some (exact_unsigned x y e)
+
+stage_exact : (x y : Stage) → stage_cmp x y ≡ Equal → x ≡ y
+stage_exact Two Two e = refl
+stage_exact Two (One y) e = cc
+stage_exact (One x) Two e = cc
+stage_exact (One x) (One y) e = ap One (some_exact x y e)
+
+pub key_exact : (x y : Key) → key_cmp x y ≡ Equal → x ≡ y
+key_exact (Configuration s c) (Configuration t d) e =
+    let a = then_equal (nat_cmp s t) _ e in
+    let v = exact_unsigned s t a.0 in
+    let w = some_exact c d a.1 in
+    λ i. Configuration (v i) (w i)
+key_exact (Machine v p n c) (Machine w q m d) e =
+    let a = then_equal (nat_cmp v w) _ e in
+    let b = then_equal (nat_cmp p q) _ a.1 in
+    let g = then_equal (nat_cmp n m) _ b.1 in
+    let h = exact_unsigned v w a.0 in
+    let j = exact_unsigned p q b.0 in
+    let k = exact_unsigned n m g.0 in
+    let l = stage_exact c d g.1 in
+    λ i. Machine (h i) (j i) (k i) (l i)
+key_exact (Hypervisor p n c) (Hypervisor q m d) e =
+    let b = then_equal (nat_cmp p q) _ e in
+    let g = then_equal (nat_cmp n m) _ b.1 in
+    let j = exact_unsigned p q b.0 in
+    let k = exact_unsigned n m g.0 in
+    let l = some_exact c d g.1 in
+    λ i. Hypervisor (j i) (k i) (l i)
+key_exact (Endpoint v p n c) (Endpoint w q m d) e =
+    let a = then_equal (nat_cmp v w) _ e in
+    let b = then_equal (nat_cmp p q) _ a.1 in
+    let g = then_equal (nat_cmp n m) _ b.1 in
+    let h = exact_unsigned v w a.0 in
+    let j = exact_unsigned p q b.0 in
+    let k = exact_unsigned n m g.0 in
+    let l = some_exact c d g.1 in
+    λ i. Endpoint (h i) (j i) (k i) (l i)
+key_exact (Configuration s c) (Machine w q m d) e = let l : Less ≡ Equal = e in cc
+key_exact (Configuration s c) (Hypervisor q m d) e = let l : Less ≡ Equal = e in cc
+key_exact (Configuration s c) (Endpoint w q m d) e = let l : Less ≡ Equal = e in cc
+key_exact (Machine v p n c) (Configuration t d) e = let l : Greater ≡ Equal = e in cc
+key_exact (Machine v p n c) (Hypervisor q m d) e = let l : Less ≡ Equal = e in cc
+key_exact (Machine v p n c) (Endpoint w q m d) e = let l : Less ≡ Equal = e in cc
+key_exact (Hypervisor p n c) (Configuration t d) e = let l : Greater ≡ Equal = e in cc
+key_exact (Hypervisor p n c) (Machine w q m d) e = let l : Greater ≡ Equal = e in cc
+key_exact (Hypervisor p n c) (Endpoint w q m d) e = let l : Less ≡ Equal = e in cc
+key_exact (Endpoint v p n c) (Configuration t d) e = let l : Greater ≡ Equal = e in cc
+key_exact (Endpoint v p n c) (Machine w q m d) e = let l : Greater ≡ Equal = e in cc
+key_exact (Endpoint v p n c) (Hypervisor q m d) e = let l : Greater ≡ Equal = e in cc
+
+-- ---- numbers compared in turn
+pub cmp_less : (a b : ℕ) → a < b → nat_cmp a b ≡ Less
+cmp_less a b h =
+    elim (nat_cmp a b) as (λ r. r ≡ nat_cmp a b → r ≡ Less) [
+      | Less ↦ λ e. refl
+      | Equal ↦ λ e. let f : a ≡ b = ranked a b Equal e in absurd (omega arith)
+      | Greater ↦ λ e. let f : b < a = ranked a b Greater e in absurd (omega arith)
+    ] refl
+
+pub cmp_more : (a b : ℕ) → b < a → nat_cmp a b ≡ Greater
+cmp_more a b h =
+    elim (nat_cmp a b) as (λ r. r ≡ nat_cmp a b → r ≡ Greater) [
+      | Less ↦ λ e. let f : a < b = ranked a b Less e in absurd (omega arith)
+      | Equal ↦ λ e. let f : a ≡ b = ranked a b Equal e in absurd (omega arith)
+      | Greater ↦ λ e. refl
+    ] refl
+
+cmp_same : (a b : ℕ) → a ≡ b → nat_cmp a b ≡ Equal
+cmp_same a b h =
+    elim (nat_cmp a b) as (λ r. r ≡ nat_cmp a b → r ≡ Equal) [
+      | Less ↦ λ e. let f : a < b = ranked a b Less e in absurd (omega arith)
+      | Equal ↦ λ e. refl
+      | Greater ↦ λ e. let f : b < a = ranked a b Greater e in absurd (omega arith)
+    ] refl
+
+le_then : (a b : ℕ) (o : Ordering) → a ≤ b → is_le o ≡ true → is_le (ordering_then (nat_cmp a b) o) ≡ true
+le_then a b o h l =
+    elim (nat_cmp a b) as (λ r. r ≡ nat_cmp a b → is_le (ordering_then r o) ≡ true) [
+      | Less ↦ λ e. refl
+      | Equal ↦ λ e. l
+      | Greater ↦ λ e. let f : b < a = ranked a b Greater e in absurd (omega arith)
+    ] refl
+
+more_then : (a b : ℕ) (o : Ordering) → b < a → is_le (ordering_then (nat_cmp a b) o) ≡ false
+more_then a b o h = ap (λ r. is_le (ordering_then r o)) (cmp_more a b h)
+
+same_then : (a b : ℕ) (o : Ordering) → a ≡ b → is_le o ≡ false → is_le (ordering_then (nat_cmp a b) o) ≡ false
+same_then a b o h l = ap (λ r. is_le (ordering_then r o)) (cmp_same a b h) ∙ l
+
+between : (a b : Bool) → a ≡ true → b ≡ false → (a && not b) ≡ true
+between true b p q = ap not q
+between false b p q = cc
+
+low : (x : Option ℕ) → is_le (some_cmp None x) ≡ true
+low None = refl
+low (Some x) = refl
+
+low_stage : (x : Stage) → is_le (stage_cmp Two x) ≡ true
+low_stage Two = refl
+low_stage (One x) = refl
+
+-- ---- keys in a range
+pub in_pages : (w : Owner) (first end : ℕ) (k : Key) → owner_of k ≡ Some w → first ≤ page_of k → page_of k < end → range_contains key_cmp (Included (least w first 0)) (Excluded (least w end 0)) k ≡ true
+in_pages w first end (Configuration s c) o a b = cc
+in_pages w first end (Machine v p n c) o a b =
+    let e : Guest v ≡ w = cc in
+    subst (λ w. range_contains key_cmp (Included (least w first 0)) (Excluded (least w end 0)) (Machine v p n c) ≡ true) e
+    (between _ _ (le_then v v _ (omega arith) (le_then first p _ a (le_then 0 n _ (omega arith) (low_stage c)))) (same_then v v _ refl (more_then end p _ b)))
+in_pages w first end (Hypervisor p n c) o a b =
+    let e : Host ≡ w = cc in
+    subst (λ w. range_contains key_cmp (Included (least w first 0)) (Excluded (least w end 0)) (Hypervisor p n c) ≡ true) e
+    (between _ _ (le_then first p _ a (le_then 0 n _ (omega arith) (low c))) (more_then end p _ b))
+in_pages w first end (Endpoint v p n c) o a b =
+    let e : Device v ≡ w = cc in
+    subst (λ w. range_contains key_cmp (Included (least w first 0)) (Excluded (least w end 0)) (Endpoint v p n c) ≡ true) e
+    (between _ _ (le_then v v _ (omega arith) (le_then first p _ a (le_then 0 n _ (omega arith) (low c)))) (same_then v v _ refl (more_then end p _ b)))
+
+pub in_span : (w : Owner) (page span : ℕ) (k : Key) → owner_of k ≡ Some w → page_of k ≡ page → span_of k ≡ span → range_contains key_cmp (Included (least w page span)) (Excluded (least w page (span + 1))) k ≡ true
+in_span w page span (Configuration s c) o a b = cc
+in_span w page span (Machine v p n c) o a b =
+    let e : Guest v ≡ w = cc in
+    subst (λ w. range_contains key_cmp (Included (least w page span)) (Excluded (least w page (span + 1))) (Machine v p n c) ≡ true) e
+    (between _ _ (le_then v v _ (omega arith) (le_then page p _ (omega arith) (le_then span n _ (omega arith) (low_stage c)))) (same_then v v _ refl (same_then page p _ (sym a) (more_then (span + 1) n _ (omega arith)))))
+in_span w page span (Hypervisor p n c) o a b =
+    let e : Host ≡ w = cc in
+    subst (λ w. range_contains key_cmp (Included (least w page span)) (Excluded (least w page (span + 1))) (Hypervisor p n c) ≡ true) e
+    (between _ _ (le_then page p _ (omega arith) (le_then span n _ (omega arith) (low c))) (same_then page p _ (sym a) (more_then (span + 1) n _ (omega arith))))
+in_span w page span (Endpoint v p n c) o a b =
+    let e : Device v ≡ w = cc in
+    subst (λ w. range_contains key_cmp (Included (least w page span)) (Excluded (least w page (span + 1))) (Endpoint v p n c) ≡ true) e
+    (between _ _ (le_then v v _ (omega arith) (le_then page p _ (omega arith) (le_then span n _ (omega arith) (low c)))) (same_then v v _ refl (same_then page p _ (sym a) (more_then (span + 1) n _ (omega arith)))))
+
+pub in_machines : (k : Key) → IsOfMachines k → range_contains key_cmp (Included (least (Guest 0) 0 0)) (Excluded (least Host 0 0)) k ≡ true
+in_machines (Configuration s c) h = absurd h
+in_machines (Machine u p n c) h = between _ _ (le_then 0 u _ (omega arith) (le_then 0 p _ (omega arith) (le_then 0 n _ (omega arith) (low_stage c)))) refl
+in_machines (Hypervisor p n c) h = absurd h
+in_machines (Endpoint u p n c) h = absurd h
+
+pub in_streams : (run : PageRun) (k : Key) → IsOfStreams run k → range_contains key_cmp (Included (Configuration run.first None)) (Excluded (Configuration run.end None)) k ≡ true
+in_streams run (Configuration s c) h = between _ _ (le_then run.first s _ h.0 (low c)) (more_then run.end s _ h.1)
+in_streams run (Machine u p n c) h = absurd h
+in_streams run (Hypervisor p n c) h = absurd h
+in_streams run (Endpoint u p n c) h = absurd h
+
+pub in_top_streams : (run : PageRun) (k : Key) → IsOfStreams run k → range_contains key_cmp (Included (Configuration run.first None)) (Excluded (least (Guest 0) 0 0)) k ≡ true
+in_top_streams run (Configuration s c) h = between _ _ (le_then run.first s _ h.0 (low c)) refl
+in_top_streams run (Machine u p n c) h = absurd h
+in_top_streams run (Hypervisor p n c) h = absurd h
+in_top_streams run (Endpoint u p n c) h = absurd h

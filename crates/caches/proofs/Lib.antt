@@ -1,0 +1,11 @@
+pub mod Aligned
+pub mod FirstInRange
+pub mod Kept
+pub mod KeyOrder
+pub mod LawLemmas
+pub mod Pruned
+pub mod RangeLaw
+pub mod Reach
+pub mod Standing
+pub mod Sweeping
+pub mod Viewed

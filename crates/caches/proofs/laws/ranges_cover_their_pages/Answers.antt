@@ -1,0 +1,5 @@
+use Rattle.caches.proofs.RangeLaw.{cover_pages}
+use Rattle.caches.proofs.laws.ranges_cover_their_pages.Goals as goal
+
+pub returns : goal.returns
+returns c = cover_pages

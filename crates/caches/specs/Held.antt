@@ -1,0 +1,53 @@
+-- What a history still holds.
+use Rattle.std.specs.Prelude.{◌≡◌, Bool, false, not, List, [], ◌∷◌, ◌++◌, Some}
+use Rattle.std.specs.Ordering.{eq_by_cmp}
+use Rattle.std.specs.FinMap as finite
+use Rattle.std.specs.FinMap.{FinMap}
+use Rattle.std.specs.List.{All}
+use Rattle.cmdcodec.specs.declared.command.Command.{Command}
+use Rattle.caches.specs.declared.tag.Tag.{Tag}
+use Rattle.caches.specs.declared.tag.Entry.{Entry}
+use Rattle.caches.specs.Covers.{covers}
+use Rattle.caches.specs.TagOrder.{tag_cmp}
+
+-- entries by their tags
+abbrev pub Entries : Type 0
+Entries = FinMap tag_cmp Entry
+
+-- A history is a list of fills, evictions and commands, the newest first. A refused fill is none of them.
+pub data Item : Type 0 where
+  Fill : Entry → Item
+  Evict : Tag → Item
+  Take : Command → Item
+
+abbrev pub History : Type 0
+History = List Item
+
+-- the entries without those that the command covers
+abbrev pub without_covered : Command → Entries → Entries
+without_covered command entries = finite.retain_keys entries (λ tag. not (covers command tag))
+
+-- what is held after a history
+abbrev pub held : History → Entries
+held [] = finite.empty
+held (Fill entry ∷ history) = finite.insert (held history) entry.tag entry
+held (Evict tag ∷ history) = finite.remove (held history) tag
+held (Take command ∷ history) = without_covered command (held history)
+
+-- the item is a fill of the same tag, an eviction of it, or a command that covers it
+abbrev pub ends : Item → Tag → Bool
+ends (Fill entry) tag = eq_by_cmp tag_cmp tag entry.tag
+ends (Evict other) tag = eq_by_cmp tag_cmp tag other
+ends (Take command) tag = covers command tag
+
+-- The history has a fill of this entry that no later item ends.
+pub record IsStanding (history : History) (entry : Entry) : Type 0 where
+  pub later : History
+  pub earlier : History
+  pub split : history ≡ later ++ Fill entry ∷ earlier
+  pub unended : All (λ item. ends item entry.tag ≡ false) later
+
+-- These are the fills that no later item ends, each under its tag, and nothing else.
+abbrev pub HeldAre : History → Entries → Type 0
+HeldAre history entries = (tag : Tag) (entry : Entry) → (finite.get entries tag ≡ Some entry → (entry.tag ≡ tag) × IsStanding history entry)
+    × (IsStanding history entry → finite.get entries entry.tag ≡ Some entry)

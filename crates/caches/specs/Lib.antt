@@ -1,0 +1,10 @@
+pub mod Blocks
+pub mod Covers
+pub mod Held
+pub mod Keys
+pub mod Laws
+pub mod Puts
+pub mod Stored
+pub mod Sweep
+pub mod TagOrder
+pub mod Views

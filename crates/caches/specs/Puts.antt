@@ -1,0 +1,15 @@
+-- An entry put into the ordered map, or want of memory.
+use Rattle.std.specs.Prelude.{◌≡◌, Option, Some, None, Result}
+use Rattle.std.specs.Result.{MatchResult}
+use Rattle.std.specs.declared.cmp.Ordering.{Ordering}
+use Rattle.std.specs.BTreeMap.{BTreeMap, get, Updates, IsUnchanged}
+use Rattle.caches.specs.declared.tag.Entry.{Entry}
+use Rattle.caches.specs.declared.key.Key.{Key}
+use Rattle.caches.specs.declared.fault.CacheFault.{CacheFault}
+use Rattle.caches.specs.declared.fault.CacheFault.TheVariants.{NoMemory}
+
+-- put in, with what was there before, or want of memory for a new key
+abbrev pub IsPut : (Key → Key → Ordering) → BTreeMap Key Entry → Key → Entry → BTreeMap Key Entry → Result (Option Entry) CacheFault → Type 0
+IsPut cmp m key entry n result = MatchResult result
+    (λ was. (was ≡ get cmp m key) × Updates cmp m n key (Some entry))
+    (λ fault. (fault ≡ NoMemory) × IsUnchanged m n × (get cmp m key ≡ None))

@@ -1,0 +1,39 @@
+-- The next entry of a map, and the words of a removal by ranges.
+use Rattle.std.specs.Prelude.{◌≡◌, ◌⊎◌, cond, Bool, true, not, ◌&&◌, IsSome, Option, Some, None}
+use Rattle.std.specs.declared.cmp.Ordering.{Ordering}
+use Rattle.std.specs.declared.ops.Bound.{Bound}
+use Rattle.std.specs.Option.{MatchOption}
+use Rattle.std.specs.BTreeMap.{BTreeMap}
+use Rattle.std.specs.BTreeMap as tree
+use Rattle.std.specs.BTreeMap.Range.{IsLeBy, range_contains, is_from_start}
+use Rattle.caches.specs.declared.tag.Entry.{Entry}
+use Rattle.caches.specs.declared.key.Key.{Key}
+use Rattle.caches.specs.Keys.{tag_of, IsKept}
+
+-- each entry of the map stands under the key of its tag, whose block is well formed
+abbrev pub IsKeeping : (Key → Key → Ordering) → BTreeMap Key Entry → Type 0
+IsKeeping cmp m = (key : Key) (entry : Entry) → tree.get cmp m key ≡ Some entry → IsKept (tag_of key) entry
+
+-- the least key of the map from a bound on and below the end, with its entry, or none
+abbrev pub IsNext : {K X : Type 0} → (K → K → Ordering) → BTreeMap K X → Bound K → Bound K → Option (K × X) → Type 0
+IsNext {K} cmp m from end found = MatchOption found
+    ((q : K) → range_contains cmp from end q ≡ true → tree.get cmp m q ≡ None)
+    (λ e. (range_contains cmp from end e.0 ≡ true) × (tree.get cmp m e.0 ≡ Some e.1)
+    × ((q : K) → range_contains cmp from end q ≡ true → IsSome (tree.get cmp m q) → IsLeBy cmp e.0 q))
+
+module _ {K : Type 0} (cmp : K → K → Ordering) where
+  -- what a sweep from first to end removes
+  abbrev pub is_swept : (K → Bool) → Bound K → Bound K → K → Bool
+  is_swept p first end q = range_contains cmp first end q && p q
+
+  -- what it has removed before it comes to a bound
+  abbrev pub is_gone : (K → Bool) → Bound K → Bound K → Bound K → K → Bool
+  is_gone p first end from q = not (is_from_start cmp from q) && is_swept p first end q
+
+-- n is m, or lacks what passes the test
+abbrev pub IsPruned : {K X : Type 0} → (K → K → Ordering) → (K → Bool) → BTreeMap K X → BTreeMap K X → Type 0
+IsPruned {K} cmp p m n = (q : K) → (tree.get cmp n q ≡ tree.get cmp m q) ⊎ ((p q ≡ true) × (tree.get cmp n q ≡ None))
+
+-- n is m without what passes the test
+abbrev pub IsWithout : {K X : Type 0} → (K → K → Ordering) → (K → Bool) → BTreeMap K X → BTreeMap K X → Type 0
+IsWithout {K} cmp p m n = (q : K) → tree.get cmp n q ≡ cond (p q) None (tree.get cmp m q)

@@ -1,0 +1,22 @@
+-- The ordered map as a finite map of tags.
+use Rattle.std.specs.Prelude.{◌≡◌, ◌≤◌, List, map, Some}
+use Rattle.std.specs.FinMap as finite
+use Rattle.caches.specs.declared.tag.Tag.{Tag}
+use Rattle.caches.specs.declared.tag.Entry.{Entry}
+use Rattle.caches.specs.declared.key.Key.{Key}
+use Rattle.caches.specs.declared.caches.Caches.TheInside.{Inside}
+use Rattle.caches.specs.Keys.{tag_of, IsKept}
+use Rattle.caches.specs.Stored.{Stored}
+
+-- the entries of the map under their tags
+abbrev pub tagged : List (Key × Entry) → List (Tag × Entry)
+tagged es = map {B = Tag × Entry} (λ (e : Key × Entry). (tag_of e.0, e.1)) es
+
+abbrev pub stored : Inside → Stored
+stored inside = record { capacity = inside.capacity; entries = finite.from_entries (tagged inside.map.entries) }
+
+-- There are no more entries than the capacity allows, and each may stand under its tag.
+pub record AreCaches (inside : Inside) : Type 0 where
+  pub limit : inside.capacity ≤ 65536
+  pub room : finite.len (stored inside).entries ≤ inside.capacity
+  pub kept : (tag : Tag) (entry : Entry) → finite.get (stored inside).entries tag ≡ Some entry → IsKept tag entry

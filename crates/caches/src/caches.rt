@@ -1,0 +1,142 @@
+//! The caches: each entry in one ordered map.
+ghost use Rattle.std.specs.Prelude.{◌≡◌, ◌+◌, ◌<◌, ◌≤◌, ◌↔◌, IfOk, OnOk, OnErr, Err, None, [], ◌∷◌};
+ghost use Rattle.std.specs.FinMap as finite;
+ghost use Rattle.caches.specs.Blocks.{IsBlock};
+ghost use Rattle.caches.specs.Held.{without_covered, held, History, Fill, Evict, Take};
+ghost use Rattle.caches.specs.Stored.{IsFilled};
+ghost use Rattle.caches.specs.Puts.{IsPut};
+
+use crate::fault::CacheFault;
+use crate::key::Key;
+use crate::ranges::remove_all_covered;
+use crate::tag::{Entry, Tag};
+use cmdcodec::Command;
+use std::alloc::Global;
+use std::collections::BTreeMap;
+use std::marker::Model;
+
+/// What an SMMU and the endpoints behind it remember: at most `capacity` entries, of each tag one.
+#[derive(Drop)]
+pub struct Caches {
+    capacity: u32,
+    map: BTreeMap<Key, Entry>,
+}
+
+impl Model for Caches {
+    ghost use Rattle.caches.specs.Stored.{Stored, stored_code};
+
+    ghost Value = { Stored };
+
+    ghost coded = { stored_code };
+
+    ghost use Rattle.caches.specs.Views.{stored, AreCaches};
+
+    ghost view = { stored };
+
+    ghost invariant = { AreCaches };
+}
+
+impl Caches {
+    /// Empty caches for so many entries, 1 to 65,536.
+    ///
+    /// Errors: C4 where the capacity isn't one of these, and no other.
+    pub fn new(alloc: Global, capacity: u32) -> Result<Caches, CacheFault>
+        ensures ok { IfOk result (λ caches. (caches.capacity ≡ capacity) × (caches.entries ≡ held [])) }
+        ensures err { OnErr result (result ≡ Err CacheFault.BadCapacity) }
+        ensures when { (result ≡ Err CacheFault.BadCapacity) ↔ ¬ ((0 < capacity) × (capacity ≤ 65536)) }
+    {
+        if capacity == 0 || capacity > 65536 {
+            return Err(CacheFault::BadCapacity);
+        }
+        Ok(Caches {
+            capacity,
+            map: BTreeMap::new(alloc),
+        })
+    }
+
+    /// The entry of this tag that is held, if one is.
+    pub fn lookup(&self, tag: &Tag) -> Option<Entry>
+        ensures { result ≡ finite.get self.now.entries tag.now }
+    {
+        self.map.get(&Key::of(tag)).copied()
+    }
+
+    /// How many entries are held.
+    pub fn len(&self) -> usize
+        ensures len { result ≡ finite.len self.now.entries }
+        ensures within { result ≤ self.now.capacity }
+        ensures capacity { self.now.capacity ≤ 65536 }
+    {
+        self.map.len()
+    }
+
+    /// Removes the entries that the command covers, and answers how many they were.
+    pub fn apply(&mut self, command: &Command) -> u32
+        ensures after { self.new.entries ≡ without_covered command.now self.old.entries }
+        ensures capacity { self.new.capacity ≡ self.old.capacity }
+        ensures removed { result + finite.len self.new.entries ≡ finite.len self.old.entries }
+        ensures held { (h : History) → self.old.entries ≡ held h → self.new.entries ≡ held (Take command.now ∷ h) }
+    {
+        let before = self.len();
+        remove_all_covered(&mut self.map, command);
+        (before - self.len()) as u32
+    }
+
+    /// Removes the entry of this tag, and answers it.
+    pub fn evict(&mut self, tag: &Tag) -> Option<Entry>
+        ensures was { result ≡ finite.get self.old.entries tag.now }
+        ensures after { self.new.entries ≡ finite.remove self.old.entries tag.now }
+        ensures capacity { self.new.capacity ≡ self.old.capacity }
+        ensures held { (h : History) → self.old.entries ≡ held h → self.new.entries ≡ held (Evict tag.now ∷ h) }
+    {
+        self.map.remove(&Key::of(tag))
+    }
+
+    /// Puts an entry in, and answers the one of its tag that was held before.
+    ///
+    /// Errors, in this order, which leave the caches as they were: C2 where its block isn't well formed;
+    /// C1 where its tag is new and the caches are full; C3 for want of memory, where its tag is new.
+    pub fn fill(&mut self, entry: Entry) -> Result<Option<Entry>, CacheFault>
+        ensures was { IfOk result (λ was. was ≡ finite.get self.old.entries entry.tag) }
+        ensures after { OnOk result (self.new.entries ≡ finite.insert self.old.entries entry.tag entry) }
+        ensures err { OnErr result (self.new.entries ≡ self.old.entries) }
+        ensures capacity { self.new.capacity ≡ self.old.capacity }
+        ensures bad { (result ≡ Err CacheFault.BadBlock) ↔ ¬ IsBlock entry.tag }
+        ensures full { (result ≡ Err CacheFault.Full) ↔ (IsBlock entry.tag × (finite.get self.old.entries entry.tag ≡ None) × (finite.len self.old.entries ≡ self.old.capacity)) }
+        ensures named { ¬ (result ≡ Err CacheFault.BadCapacity) }
+        ensures new_only { result ≡ Err CacheFault.NoMemory → finite.get self.old.entries entry.tag ≡ None }
+        ensures held { OnOk result ((h : History) → self.old.entries ≡ held h → self.new.entries ≡ held (Fill entry ∷ h)) }
+    {
+        if !entry.tag.is_block() {
+            return Err(CacheFault::BadBlock);
+        }
+        if self.lookup(&entry.tag).is_none() && self.len() == self.capacity as usize {
+            return Err(CacheFault::Full);
+        }
+        self.put(entry)
+    }
+
+    /// Puts an entry in where there is room.
+    fn put(&mut self, entry: Entry) -> Result<Option<Entry>, CacheFault>
+        requires block { IsBlock entry.tag }
+        requires room { finite.get self.old.entries entry.tag ≡ None → finite.len self.old.entries < self.old.capacity }
+        ensures put { IsFilled self.old.entries entry self.new.entries result }
+        ensures capacity { self.new.capacity ≡ self.old.capacity }
+    {
+        put_entry(&mut self.map, Key::of(&entry.tag), entry)
+    }
+}
+
+/// Puts an entry into the map under this key.
+fn put_entry(
+    map: &mut BTreeMap<Key, Entry>,
+    key: Key,
+    entry: Entry,
+) -> Result<Option<Entry>, CacheFault>
+    ensures { IsPut ⟦<Key as Ord>⟧.cmp map.old key entry map.new result }
+{
+    match map.insert(key, entry) {
+        Ok(was) => Ok(was),
+        Err(_) => Err(CacheFault::NoMemory),
+    }
+}

@@ -1,0 +1,171 @@
+//! The ranges of keys in which a command may cover entries.
+ghost use Rattle.std.specs.Prelude.{◌≡◌, ◌<◌, ◌≤◌, ◌+◌, ◌-◌, ◌%◌, ◌^◌, Some, None, true};
+ghost use Rattle.std.specs.BTreeMap as tree;
+ghost use Rattle.cmdcodec.specs.PageRuns.{run_of};
+ghost use Rattle.caches.specs.declared.key.Key.{Key};
+ghost use Rattle.caches.specs.Blocks.{block};
+ghost use Rattle.caches.specs.Covers.{meets_run};
+ghost use Rattle.caches.specs.Keys.{covers_key, owner_of, page_of, span_of, IsOfStreams, IsOfMachines};
+ghost use Rattle.caches.specs.Sweep.{IsKeeping, IsPruned, IsWithout};
+
+use crate::covering::aligned;
+use crate::key::{Key, Owner};
+use crate::sweep::remove_covered;
+use crate::tag::Entry;
+use cmdcodec::{Command, PageRun, Sid};
+use std::collections::BTreeMap;
+use std::ops::Bound;
+
+/// Removes what is covered, for a command that covers entries of these streams alone.
+fn sweep_streams(map: &mut BTreeMap<Key, Entry>, streams: PageRun, command: &Command)
+    requires keeping { IsKeeping ⟦<Key as Ord>⟧.cmp map.old }
+    requires begins { streams.first < 2 ^ 32 }
+    requires forward { streams.first < streams.end }
+    requires reach { (q : Key) → covers_key command.now q ≡ true → IsOfStreams streams q }
+    ensures after { IsWithout ⟦<Key as Ord>⟧.cmp (covers_key command.now) map.old map.new }
+{
+    let first = Key::Configuration {
+        sid: streams.first as u32,
+        ssid: None,
+    };
+    let end = match u32::try_from(streams.end) {
+        Ok(sid) => Key::Configuration { sid, ssid: None },
+        Err(_) => Owner::Guest(0).least(0, 0),
+    };
+    remove_covered(map, Bound::Included(first), Bound::Excluded(end), command);
+}
+
+/// Removes what is covered, for a command that covers entries of this owner alone.
+fn sweep_owner(map: &mut BTreeMap<Key, Entry>, owner: Owner, command: &Command)
+    requires keeping { IsKeeping ⟦<Key as Ord>⟧.cmp map.old }
+    requires reach { (q : Key) → covers_key command.now q ≡ true → owner_of q ≡ Some owner }
+    ensures after { IsWithout ⟦<Key as Ord>⟧.cmp (covers_key command.now) map.old map.new }
+{
+    remove_covered(
+        map,
+        Bound::Included(owner.least(0, 0)),
+        Bound::Excluded(owner.least(1 << 52, 0)),
+        command,
+    );
+}
+
+/// Removes what is covered, for a command that covers translations of virtual machines alone.
+fn sweep_machines(map: &mut BTreeMap<Key, Entry>, command: &Command)
+    requires keeping { IsKeeping ⟦<Key as Ord>⟧.cmp map.old }
+    requires reach { (q : Key) → covers_key command.now q ≡ true → IsOfMachines q }
+    ensures after { IsWithout ⟦<Key as Ord>⟧.cmp (covers_key command.now) map.old map.new }
+{
+    remove_covered(
+        map,
+        Bound::Included(Owner::Guest(0).least(0, 0)),
+        Bound::Excluded(Owner::Host.least(0, 0)),
+        command,
+    );
+}
+
+/// The first page of the block of `2^span` pages that holds a page.
+fn block_start(page: u64, span: u8) -> u64
+    requires { span ≤ 52 }
+    ensures { result ≡ page - page % 2 ^ span }
+{
+    page - page % (1 << span)
+}
+
+/// Removes what is covered and begins before a page, for a command that covers blocks of this owner alone
+/// that end behind that page.
+///
+/// A block begins at a multiple of its length, so one that begins before the page and holds it begins at
+/// the page rounded down to one of 53 powers of two.
+fn sweep_before(map: &mut BTreeMap<Key, Entry>, owner: Owner, page: u64, command: &Command)
+    requires keeping { IsKeeping ⟦<Key as Ord>⟧.cmp map.old }
+    requires reach { (q : Key) → covers_key command.now q ≡ true → (owner_of q ≡ Some owner) × (page < page_of q + 2 ^ span_of q) }
+    ensures pruned { IsPruned ⟦<Key as Ord>⟧.cmp (covers_key command.now) map.old map.new }
+    ensures clean { (q : Key) → covers_key command.now q ≡ true → page_of q < page → tree.get ⟦<Key as Ord>⟧.cmp map.new q ≡ None }
+{
+    for span in 0..53u8 {
+        let start = block_start(page, span);
+        remove_covered(
+            map,
+            Bound::Included(owner.least(start, span)),
+            Bound::Excluded(owner.least(start, span + 1)),
+            command,
+        );
+    }
+}
+
+/// Removes what is covered, for a command that covers blocks of this owner alone that meet this run.
+fn sweep_run(map: &mut BTreeMap<Key, Entry>, owner: Owner, run: PageRun, command: &Command)
+    requires keeping { IsKeeping ⟦<Key as Ord>⟧.cmp map.old }
+    requires reach { (q : Key) → covers_key command.now q ≡ true → (owner_of q ≡ Some owner) × (run.first < page_of q + 2 ^ span_of q) × (page_of q < run.end) }
+    ensures after { IsWithout ⟦<Key as Ord>⟧.cmp (covers_key command.now) map.old map.new }
+{
+    sweep_before(map, owner, run.first, command);
+    // A range of the map may not run backward.
+    let end = run.end.max(run.first);
+    remove_covered(
+        map,
+        Bound::Included(owner.least(run.first, 0)),
+        Bound::Excluded(owner.least(end, 0)),
+        command,
+    );
+}
+
+/// Removes what is covered, for a command by address that covers blocks of this owner alone.
+fn sweep_address(map: &mut BTreeMap<Key, Entry>, owner: Owner, command: &Command)
+    requires keeping { IsKeeping ⟦<Key as Ord>⟧.cmp map.old }
+    requires reach { (q : Key) → covers_key command.now q ≡ true → (owner_of q ≡ Some owner) × (meets_run (block (page_of q) (span_of q)) (run_of command.now) ≡ true) }
+    ensures after { IsWithout ⟦<Key as Ord>⟧.cmp (covers_key command.now) map.old map.new }
+{
+    if let Some(run) = command.pages() {
+        sweep_run(map, owner, run, command);
+    }
+}
+
+/// The run of one stream.
+fn one_stream(sid: Sid) -> PageRun
+    ensures run { result ≡ record { first = sid; end = sid + 1 } }
+    ensures in_range { result.first < 2 ^ 32 }
+{
+    let first = u64::from(sid.get());
+    PageRun {
+        first,
+        end: first + 1,
+    }
+}
+
+/// Removes what the command covers. It takes no memory.
+pub(crate) fn remove_all_covered(map: &mut BTreeMap<Key, Entry>, command: &Command)
+    requires keeping { IsKeeping ⟦<Key as Ord>⟧.cmp map.old }
+    ensures after { IsWithout ⟦<Key as Ord>⟧.cmp (covers_key command.now) map.old map.new }
+{
+    match *command {
+        Command::CfgiSte { sid, .. } => sweep_streams(map, one_stream(sid), command),
+        Command::CfgiSteRange { sid, range } => {
+            let streams = aligned(u64::from(sid.get()), range.get() + 1);
+            sweep_streams(map, streams, command)
+        }
+        Command::CfgiCd { sid, .. } => sweep_streams(map, one_stream(sid), command),
+        Command::CfgiCdAll { sid } => sweep_streams(map, one_stream(sid), command),
+        Command::TlbiNhAll { vmid } => sweep_owner(map, Owner::Guest(vmid.get()), command),
+        Command::TlbiNhAsid { vmid, .. } => sweep_owner(map, Owner::Guest(vmid.get()), command),
+        Command::TlbiNhVa { vmid, .. } => sweep_address(map, Owner::Guest(vmid.get()), command),
+        Command::TlbiNhVaa { vmid, .. } => sweep_address(map, Owner::Guest(vmid.get()), command),
+        Command::TlbiEl2All => sweep_owner(map, Owner::Host, command),
+        Command::TlbiEl2Asid { .. } => sweep_owner(map, Owner::Host, command),
+        Command::TlbiEl2Va { .. } => sweep_address(map, Owner::Host, command),
+        Command::TlbiEl2Vaa { .. } => sweep_address(map, Owner::Host, command),
+        Command::TlbiS12Vmall { vmid } => sweep_owner(map, Owner::Guest(vmid.get()), command),
+        Command::TlbiS2Ipa { vmid, .. } => sweep_address(map, Owner::Guest(vmid.get()), command),
+        Command::TlbiNsnhAll => sweep_machines(map, command),
+        Command::AtcInv {
+            sid,
+            size,
+            page,
+            ..
+        } => {
+            let pages = aligned(page.get(), size.get());
+            sweep_run(map, Owner::Device(sid.get()), pages, command)
+        }
+        Command::Kept(_) | Command::CmdSync { .. } => {}
+    }
+}

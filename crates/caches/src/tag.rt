@@ -1,0 +1,88 @@
+//! What the caches hold, and under which tags.
+ghost use Rattle.std.specs.Prelude.{◌≡◌, IsTrue, ◌↔◌};
+ghost use Rattle.caches.specs.Blocks.{IsAligned, IsBlock};
+
+use cmdcodec::{Asid, Page, Sid, Ssid, Vmid};
+
+/// Whose a stage 1 translation is.
+#[derive(Clone, Copy, PartialEq, Eq, Debug)]
+pub enum Scope {
+    /// That of all address spaces, `nG` 0.
+    Global,
+    /// That of one address space.
+    Of(Asid),
+}
+
+/// What tells one entry from the others. An entry with a page is for the block of `2^span` pages of
+/// 4,096 bytes from that page on.
+#[derive(Clone, Copy, PartialEq, Eq, Debug)]
+pub enum Tag {
+    /// The stream table entry of a stream, in the configuration cache.
+    Ste {
+        sid: Sid,
+    },
+    /// The context descriptor of a substream, in the configuration cache.
+    Cd {
+        sid: Sid,
+        ssid: Ssid,
+    },
+    /// A stage 1 translation of a virtual machine, in the TLB.
+    S1 {
+        vmid: Vmid,
+        scope: Scope,
+        page: Page,
+        span: u8,
+    },
+    /// A stage 2 translation of a virtual machine, by intermediate physical page, in the TLB.
+    S2 {
+        vmid: Vmid,
+        page: Page,
+        span: u8,
+    },
+    /// A translation of the hypervisor, in the TLB.
+    El2 {
+        scope: Scope,
+        page: Page,
+        span: u8,
+    },
+    /// A translation that the endpoint of a stream caches, for a substream or for none.
+    Atc {
+        sid: Sid,
+        ssid: Option<Ssid>,
+        page: Page,
+        span: u8,
+    },
+}
+
+/// A cached entry: its tag, its value, and how many commands were taken before it was filled.
+#[derive(Clone, Copy, PartialEq, Eq, Debug)]
+pub struct Entry {
+    pub tag: Tag,
+    pub value: u64,
+    pub born: u64,
+}
+
+/// Whether a block has at most `2^52` pages and begins at a multiple of its length.
+fn is_aligned(page: Page, span: u8) -> bool
+    ensures { IsTrue result ↔ IsAligned page span }
+{
+    span <= 52 && page.get() % (1 << span) == 0
+}
+
+impl Tag {
+    /// Whether its block, if it has one, is well formed: at most `2^52` pages, from a multiple of its
+    /// length on, and of stage 2 below intermediate physical page `2^40`.
+    pub(crate) fn is_block(&self) -> bool
+        ensures { IsTrue result ↔ IsBlock self.now }
+    {
+        match *self {
+            Tag::Ste { .. } | Tag::Cd { .. } => true,
+            Tag::S1 { page, span, .. }
+            | Tag::El2 { page, span, .. }
+            | Tag::Atc { page, span, .. } => is_aligned(page, span),
+            Tag::S2 { page, span, .. } => {
+                is_aligned(page, span) && page.get() + (1 << span) <= 1 << 40
+            }
+        }
+    }
+}
