@@ -73,7 +73,7 @@ said g c is =
     let f = fields_of c.prod.number (bit c.closed) c.cons.number (index_fits c.prod is.prod) (bit-lt c.closed) (index_fits c.cons is.cons) in
     let again = control_again g c is in
     record {
-      says_one = record {
+      is_control_word = record {
         no_bit_below_closed = f.below_closed;
         no_bit_above_cons = f.above_cons;
         prod = rw (f.prod, sym is.prod_geometry) is.prod.number;
@@ -251,7 +251,7 @@ found g word is low high within =
 
 pub undoes : (g word : ℕ) (result : Option Control) → SomeIff result (IsControlWord g word) (control_in g word)
     → (c : Control) → IsControl g c → word ≡ packed c → result ≡ Some c
-undoes g word None none c is word_is = absurd (none (subst (IsControlWord g) (sym word_is) (said g c is).says_one))
+undoes g word None none c is word_is = absurd (none (subst (IsControlWord g) (sym word_is) (said g c is).is_control_word))
 undoes g word (Some x) some c is word_is = ap Some (some.1 ∙ ap (control_in g) word_is ∙ control_again g c is)
 
 pub packs_again : (g word : ℕ) → IsGeometry g → word < 2 ^ 64 → (result : Option Control) → SomeIff result (IsControlWord g word) (control_in g word)

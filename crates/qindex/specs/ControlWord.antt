@@ -50,8 +50,10 @@ advance_mask from to = bit_xor from.number to.number * 2 ^ 32
 abbrev pub close_mask : ℕ
 close_mask = 2 ^ 31
 
+-- the control once its queue is closed
 abbrev pub closed : Control → Control
 closed control = record control { closed = true }
 
+-- the control once cons has come to an index
 abbrev pub advanced : Control → IndexValue → Control
 advanced control to = record control { cons = to }

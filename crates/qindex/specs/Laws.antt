@@ -63,22 +63,23 @@ QueuesHaveAControl =
     → IsGeometry geometry → head ≤ tail → tail ≤ head + size geometry
     → IsControl geometry record { prod = index_of geometry tail; cons = index_of geometry head; closed = closed }
 
--- The word of a control says that control, and no other word does.
-pub record IsSaid (geometry : ℕ) (control : Control) : Type 0 where
-  pub says_one : IsControlWord geometry (packed control)
+-- The word of a control says that control.
+pub record SaysItself (geometry : ℕ) (control : Control) : Type 0 where
+  pub is_control_word : IsControlWord geometry (packed control)
   pub says : control_in geometry (packed control) ≡ control
   pub fits : packed control < 2 ^ 64
 
 abbrev pub WordsSayTheirControl : Type 0
-WordsSayTheirControl = (geometry : ℕ) (control : Control) → IsControl geometry control → IsSaid geometry control
+WordsSayTheirControl = (geometry : ℕ) (control : Control) → IsControl geometry control → SaysItself geometry control
 
-pub record IsAgain (geometry word : ℕ) : Type 0 where
+-- What a control word says is a control, whose word it is.
+pub record IsItsWord (geometry word : ℕ) : Type 0 where
   pub control : IsControl geometry (control_in geometry word)
   pub packed_again : packed (control_in geometry word) ≡ word
 
 abbrev pub ControlsHaveTheirWord : Type 0
 ControlsHaveTheirWord =
-    (geometry word : ℕ) → IsGeometry geometry → word < 2 ^ 64 → IsControlWord geometry word → IsAgain geometry word
+    (geometry word : ℕ) → IsGeometry geometry → word < 2 ^ 64 → IsControlWord geometry word → IsItsWord geometry word
 
 -- An or with the close mask closes the control.
 abbrev pub OrCloses : Type 0

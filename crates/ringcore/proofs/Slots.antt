@@ -1,6 +1,6 @@
 -- What every run keeps of each sender's slots.
 use Rattle.std.proofs.Common.{◌≡◌, ◌≢◌, ℕ, zero, suc, ◌+◌, ◌-◌, ◌<◌, Bool, true, false, cond, ◌||◌, ◌&&◌, List, [], ◌∷◌, ◌++◌, length, map, Option, Some, refl, sym, ap, ap₂, ◌∙◌, inl, inr, eqb-true, eq-eqb, ne_eqb, arith, length-append}
-use Rattle.std.proofs.lemmas.Bool.{true≢false, cases_lt, cases_eq, false_from_ne_true, lt-ltb, le-ltb, le-leb, lt-leb}
+use Rattle.std.proofs.lemmas.Bool.{true≢false, cases_lt, cases_eq, false_from_ne_true, lt-ltb, le-ltb, le-leb, lt-leb, or_cases, or_right}
 use Rattle.std.proofs.lemmas.List.{length-map}
 use Rattle.std.specs.Prelude.{slice_get, ◌==◌, nat_le, nat_lt}
 use Rattle.cmdcodec.specs.declared.raw.Raw.{Raw}
@@ -12,7 +12,7 @@ use Rattle.ringcore.specs.declared.event.Event.TheVariants.{Look, Won, Lost, Wri
 use Rattle.ringcore.specs.Trails.{Trail, Run, same, same_half, trail_of, is_among, reserved_length, has_written, has_flipped}
 use Rattle.ringcore.specs.World.{Item, World, commands, items, taken_as, with_at, tail, head, after, world}
 use Rattle.ringcore.specs.Allowed.{Shape, MayWrite, MayFlip, MayAdvance, Allowed, IsRun}
-use Rattle.ringcore.proofs.Lists.{off, some_one, none_some, either_true, second_true, get_longer, get_behind}
+use Rattle.ringcore.proofs.Lists.{off, some_one, none_some, get_longer, get_behind}
 use Rattle.ringcore.proofs.Reading.{item_of}
 use Rattle.ringcore.proofs.Sound.{Sound, sound, among, length_items}
 
@@ -145,7 +145,7 @@ module _ (ring : Shape) (xs : Run) (ok : IsRun ring xs) (d : Deep xs) where
   wrote : (s offset : ℕ) (half : Half) → MayWrite (mine s) offset → Deep ((Sender s, Write offset half) ∷ xs)
   wrote s offset half a = record {
     owns = λ u. own u (u == s) refl;
-    whole = λ p h f. second_true (p == w.start s + offset && same_half h half) (w.written p h) (d.whole p h f);
+    whole = λ p h f. or_right (p == w.start s + offset && same_half h half) (w.written p h) (d.whole p h f);
     passed = d.passed;
   }
     where
@@ -174,7 +174,7 @@ module _ (ring : Shape) (xs : Run) (ok : IsRun ring xs) (d : Deep xs) where
   flips : (s offset count : ℕ) → MayFlip ring (mine s) (w.start s) offset count → Deep ((Sender s, Flip offset count) ∷ xs)
   flips s offset count a = record {
     owns = λ u. own u (u == s) refl;
-    whole = λ p half f. elim (either_true (is_among (w.start s + offset) count p) (w.flipped p) f) [
+    whole = λ p half f. elim (or_cases (is_among (w.start s + offset) count p) (w.flipped p) f) [
       | inl here ↦
           let at = among (w.start s + offset) count p here in
           let n = p - (w.start s + offset) in
@@ -184,7 +184,7 @@ module _ (ring : Shape) (xs : Run) (ok : IsRun ring xs) (d : Deep xs) where
           ap (λ x. w.written x half) is ∙ (d.owns s).written_is (offset + n) half (omega (arith, small, inside)) ∙ a.written n half small
       | inr before ↦ d.whole p half before
     ];
-    passed = λ p low. second_true (is_among (w.start s + offset) count p) (w.flipped p) (d.passed p low);
+    passed = λ p low. or_right (is_among (w.start s + offset) count p) (w.flipped p) (d.passed p low);
   }
     where
       own : (u : ℕ) (v : Bool) → (u == s) ≡ v → Owns (after w (Sender s) (Flip offset count)) u (cond v (Flip offset count ∷ mine u) (mine u))

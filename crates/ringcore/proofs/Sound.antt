@@ -1,6 +1,7 @@
 -- What every run keeps: the ring is never more than full, what is taken begins what is reserved, and what the
 -- consumer tested and read is so.
 use Rattle.std.proofs.Common.{◌≡◌, ℕ, suc, ◌+◌, ◌<◌, ◌≤◌, Bool, true, false, cond, ◌&&◌, List, [], ◌∷◌, ◌++◌, length, map, Option, Some, None, refl, sym, ap, ap₂, ◌∙◌, subst, inl, inr, eqb-true, ltb-true, leb-true, arith, length-append, append_assoc}
+use Rattle.std.proofs.lemmas.Bool.{or_cases, and_parts, or_right}
 use Rattle.std.proofs.lemmas.List.{length-map, map-append}
 use Rattle.std.specs.Prelude.{slice_get, ◌==◌, nat_le, nat_lt}
 use Rattle.cmdcodec.specs.declared.raw.Raw.{Raw}
@@ -15,7 +16,7 @@ use Rattle.ringcore.specs.Trails.{Trail, Run, same, same_half, trail_of, is_amon
 use Rattle.ringcore.specs.World.{Item, Taken, World, commands, items_from, items, taken_as, tail, head, after, world, half_of}
 use Rattle.ringcore.specs.Allowed.{Shape, MayWin, MayWrite, MayFlip, FindsReady, MayRead, MayAdvance, Allowed, IsRun}
 use Rattle.ringcore.specs.Delivery.{Begins}
-use Rattle.ringcore.proofs.Lists.{off, some_one, none_some, either_true, second_true, both_true, get_longer, get_behind, get_map, follows}
+use Rattle.ringcore.proofs.Lists.{off, some_one, none_some, get_longer, get_behind, get_map, follows}
 use Rattle.ringcore.proofs.Reading.{raws_of, raws_taken, taken_again}
 
 -- This word is that half of the command at the offset from the head.
@@ -53,7 +54,7 @@ same_length false e t is = refl
 
 pub among : (first count i : ℕ) → is_among first count i ≡ true → (first ≤ i) × (i < first + count)
 among first count i is =
-    let both = both_true (nat_le first i) (nat_lt i (first + count)) is in (leb-true first i both.0, ltb-true i (first + count) both.1)
+    let both = and_parts (nat_le first i) (nat_lt i (first + count)) is in (leb-true first i both.0, ltb-true i (first + count) both.1)
 
 half_is : (half which : Half) → same_half half which ≡ true → half ≡ which
 half_is Lo Lo is = refl
@@ -126,9 +127,9 @@ module _ (ring : Shape) (xs : Run) (i : Sound ring xs) where
     behind = i.behind;
     within = i.within;
     delivered = i.delivered;
-    written_below = λ p h is. elim (either_true (p == w.start s + offset && same_half h half) (w.written p h) is) [
+    written_below = λ p h is. elim (or_cases (p == w.start s + offset && same_half h half) (w.written p h) is) [
       | inl here ↦
-          let at = eqb-true p (w.start s + offset) (both_true (p == w.start s + offset) (same_half h half) here).0 in
+          let at = eqb-true p (w.start s + offset) (and_parts (p == w.start s + offset) (same_half h half) here).0 in
           let low = i.each_within s in
           let inside = a.inside in
           omega (arith, at, low, inside)
@@ -146,7 +147,7 @@ module _ (ring : Shape) (xs : Run) (i : Sound ring xs) where
     within = i.within;
     delivered = i.delivered;
     written_below = i.written_below;
-    flipped_below = λ p is. elim (either_true (is_among (w.start s + offset) count p) (w.flipped p) is) [
+    flipped_below = λ p is. elim (or_cases (is_among (w.start s + offset) count p) (w.flipped p) is) [
       | inl here ↦
           let at = among (w.start s + offset) count p here in
           let low = i.each_within s in
@@ -155,7 +156,7 @@ module _ (ring : Shape) (xs : Run) (i : Sound ring xs) where
       | inr before ↦ i.flipped_below p before
     ];
     each_within = lengths (Sender s) (Flip offset count) (λ t. refl);
-    ready = λ k less. second_true (is_among (w.start s + offset) count (head w + k)) (w.flipped (head w + k)) (i.ready k less);
+    ready = λ k less. or_right (is_among (w.start s + offset) count (head w + k)) (w.flipped (head w + k)) (i.ready k less);
     reading = i.reading;
   }
 
@@ -168,7 +169,7 @@ module _ (ring : Shape) (xs : Run) (i : Sound ring xs) where
     where
       by_half : (k : ℕ) (h : Half) (x : ℕ) (v : Bool) → (k == offset && same_half h half) ≡ v → cond v (Some word) (half_read k h mine) ≡ Some x → AtHead w k h x
       by_half k h x true here is =
-          let both = both_true (k == offset) (same_half h half) here in (
+          let both = and_parts (k == offset) (same_half h half) here in (
             a.item,
             ap (λ n. slice_get w.reserved (head w + n)) (eqb-true k offset both.0) ∙ a.there,
             sym (some_one word x is) ∙ a.found ∙ ap (λ g. half_of g a.item.raw) (sym (half_is h half both.1)),
