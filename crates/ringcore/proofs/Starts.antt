@@ -13,17 +13,7 @@ use Rattle.ringcore.specs.declared.event.Event.TheVariants.{Look, Won, Lost, Wri
 use Rattle.ringcore.specs.Trails.{Trail, Run, same, trail_of, looked}
 use Rattle.ringcore.specs.World.{World, tail, after, world}
 use Rattle.ringcore.specs.Allowed.{Shape, MayWin, Allowed, IsRun}
-
--- prod of what was looked at, the opening index where nothing was
-abbrev pub prod_of : ℕ → Option Control → IndexValue
-prod_of geometry None = record { geometry = geometry; number = 0 }
-prod_of geometry (Some found) = found.prod
-
--- the index at which the last reservation starts
-abbrev pub start_index : ℕ → Trail → IndexValue
-start_index geometry [] = record { geometry = geometry; number = 0 }
-start_index geometry (Won body number ∷ es) = prod_of geometry (looked es)
-start_index geometry (e ∷ es) = start_index geometry es
+use Rattle.ringcore.specs.Steps.{prod_of, start_index}
 
 abbrev StartsThere : ℕ → World → ℕ → Trail → Type 0
 StartsThere geometry w s mine = index_of geometry (w.start s) ≡ start_index geometry mine

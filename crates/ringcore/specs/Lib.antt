@@ -3,3 +3,7 @@ pub mod World
 pub mod Allowed
 pub mod Delivery
 pub mod Laws
+pub mod Layout
+pub mod Flags
+pub mod Shadow
+pub mod Steps

@@ -2,6 +2,12 @@
 ghost use Rattle.ringcore.specs.Delivery.{TakenInOrder, NumberedInOrder, NoneAfterClose, ToldWhenCompleted};
 ghost use Rattle.ringcore.specs.Laws.{EveryRun, NeverMoreThanFull, AcknowledgedAreTaken, BatchesAreUnbroken, SendersOrderIsKept, EarlierStandsBefore};
 
+mod steps;
+
+pub use steps::{
+    acknowledge, advance, apart, ask, close, flip, look, open, read, reserve_lost, reserve_won, start, test, write,
+};
+
 /// Every run of any length, of any number of senders, in a ring of any size, is ordered delivery: what is
 /// taken is a beginning of what was reserved, batches are numbered from 1, none is reserved after a close,
 /// and who is told a number was told so after its closing sync, and all ahead of it, was taken.

@@ -2,7 +2,7 @@
 #![tactic(auto)]
 
 mod event;
-mod laws;
+pub mod laws;
 
 pub use event::{Event, Half, Outcome, Who};
 pub use laws::{batches_law, world_law};
