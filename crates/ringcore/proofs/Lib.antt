@@ -13,3 +13,7 @@ pub mod WorkedCases
 pub mod WorkedTwoLaps
 pub mod WorkedEveryKind
 pub mod Unflipped
+pub mod Places
+pub mod Looked
+pub mod Stored
+pub mod Shown

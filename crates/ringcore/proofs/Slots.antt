@@ -50,7 +50,7 @@ sender_of_last s (Close ∷ es) j item is = sender_of_last s es j item is
 sender_of_last s (Acknowledge sender number ∷ es) j item is = sender_of_last s es j item is
 sender_of_last s (Ask found ∷ es) j item is = sender_of_last s es j item is
 
-get_there : {A : Type 0} (xs : List A) (i : ℕ) → i < length xs → (x : A) × (slice_get xs i ≡ Some x)
+pub get_there : {A : Type 0} (xs : List A) (i : ℕ) → i < length xs → (x : A) × (slice_get xs i ≡ Some x)
 get_there [] i h = absurd (omega (arith, h))
 get_there (x ∷ xs) zero h = (x, refl)
 get_there (x ∷ xs) (suc i) h = get_there xs i (omega (arith, h))

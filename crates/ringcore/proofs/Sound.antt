@@ -56,7 +56,7 @@ pub among : (first count i : ℕ) → is_among first count i ≡ true → (first
 among first count i is =
     let both = and_parts (nat_le first i) (nat_lt i (first + count)) is in (leb-true first i both.0, ltb-true i (first + count) both.1)
 
-half_is : (half which : Half) → same_half half which ≡ true → half ≡ which
+pub half_is : (half which : Half) → same_half half which ≡ true → half ≡ which
 half_is Lo Lo is = refl
 half_is Lo Hi is = off is
 half_is Hi Lo is = off is

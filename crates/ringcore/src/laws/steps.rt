@@ -8,7 +8,7 @@ use qindex::{
 };
 
 /// Before the first step all words are 0.
-pub fn open()
+pub fn begin()
     ensures { OpensAllZero }
 {}
 
