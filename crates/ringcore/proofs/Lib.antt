@@ -17,3 +17,4 @@ pub mod Places
 pub mod Looked
 pub mod Stored
 pub mod Shown
+pub mod Flipped

@@ -1,4 +1,4 @@
--- The steps on the slots: write and read, flip, test and advance.
+-- The steps on the data words: write and read.
 use Rattle.std.proofs.Common.{◌≡◌, ◌≢◌, ℕ, zero, suc, ◌+◌, ◌-◌, ◌*◌, ◌/◌, ◌%◌, ◌^◌, ◌<◌, ◌≤◌, Bool, true, false, ◌==◌, ◌||◌, ◌&&◌, List, [], ◌∷◌, ◌++◌, length, map, Option, Some, refl, sym, ap, ap₂, ◌∙◌, subst, inl, inr, eqb-true, eq-eqb, ne_eqb, arith, length-append, length-set, bit_xor}
 use Rattle.std.proofs.lemmas.Bool.{true≢false, cases_lt, cases_eq, false_from_ne_true, or_cases, and_parts, eqb-false}
 use Rattle.std.proofs.lemmas.List.{length-map}
@@ -27,16 +27,6 @@ use Rattle.ringcore.proofs.Sound.{Sound, sound, among, half_is}
 use Rattle.ringcore.proofs.Slots.{Deep, deep, last_items, length_of_last, get_there}
 use Rattle.ringcore.proofs.Looked.{is_control}
 use Rattle.ringcore.proofs.Places.{flag_within, data_within, control_within, control_not_flag, control_not_data, control_not_cell, flag_not_data, flag_not_cell, data_not_cell, same_data, same_flag, others_stay, is_stored, flags_stay}
-
--- ---- flags that share a word, said either way
-
-share_of : (ring : Ring) (p count : ℕ) → IsInOneWord (shape ring) p count → ShareAWord ring.geometry p count
-share_of ring p count one = λ k less. ap (λ (n : ℕ). 8 + n) (one k less)
-
-one_of : (ring : Ring) (p count : ℕ) → ShareAWord ring.geometry p count → IsInOneWord (shape ring) p count
-one_of ring p count share = λ k less.
-    let x : ℕ = place ring.geometry (p + k) in let y : ℕ = place ring.geometry p in
-    let is : 8 + x / 64 ≡ 8 + y / 64 = share k less in omega (arith, is)
 
 as_item : (place s : ℕ) (number : Option ℕ) (raws : List Raw) (k : ℕ) (raw : Raw) → slice_get raws k ≡ Some raw
     → (item : Item) × ((slice_get (items_from place s number raws) k ≡ Some item) × (item.raw ≡ raw))
@@ -73,12 +63,12 @@ module _ (ring : Ring) (run : Run) (words : List ℕ) (is : AreAfter ring run wo
   d : Deep run
   d = deep (shape ring) run is.run_is
 
-  record InWindow (p : ℕ) : Type 0 where
-    low : head w ≤ p
-    high : p < head w + size g
+  pub record InWindow (p : ℕ) : Type 0 where
+    pub low : head w ≤ p
+    pub high : p < head w + size g
 
   -- What a sender may still write or flip lies in the window.
-  open_slot : (s k : ℕ) → k < reserved_length (trail_of (Sender s) run) → has_flipped k (trail_of (Sender s) run) ≡ false → InWindow (w.start s + k)
+  pub open_slot : (s k : ℕ) → k < reserved_length (trail_of (Sender s) run) → has_flipped k (trail_of (Sender s) run) ≡ false → InWindow (w.start s + k)
   open_slot s k inside unflipped =
       let each = i.each_within s in let top = i.within in record {
         low = elim (cases_lt (w.start s + k) (head w)) [

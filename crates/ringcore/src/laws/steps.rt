@@ -67,6 +67,7 @@ pub fn advance()
     ensures { Always AdvancesByAnExclusiveOr }
 {
     indexes_tell_place_and_wrap_bit();
+    indexes_tell_the_queue();
     xor_advances_cons();
 }
 
