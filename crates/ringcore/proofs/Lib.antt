@@ -18,3 +18,4 @@ pub mod Looked
 pub mod Stored
 pub mod Shown
 pub mod Flipped
+pub mod WorkedRows

@@ -7,3 +7,7 @@ pub mod Layout
 pub mod Flags
 pub mod Shadow
 pub mod Steps
+pub mod Open
+pub mod Faults
+pub mod Answers
+pub mod Played

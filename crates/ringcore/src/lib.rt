@@ -3,6 +3,10 @@
 
 mod event;
 pub mod laws;
+mod raw_list;
+mod step;
 
 pub use event::{Event, Half, Outcome, Who};
 pub use laws::{batches_law, world_law};
+pub use raw_list::{MOST_RAWS, RawList};
+pub use step::{Seen, Step, StepFault};

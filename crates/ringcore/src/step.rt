@@ -1,0 +1,85 @@
+//! The steps that a seat may ask for, by the slots that they name, and how they are answered.
+use crate::raw_list::RawList;
+use qindex::{Control, Index};
+
+/// One atomic step, before it is known what it finds. Slots are places in the ring, halves are 0 (lo) and
+/// 1 (hi), and counts are of 1 to 64 slots in a row.
+#[derive(Debug, Drop)]
+pub enum Step {
+    /// A look at the control word: by a sender, or by the consumer where none is named.
+    Look { who: Option<u32> },
+    /// An exchange of the control word, to reserve these commands: with a closing sync behind them, or
+    /// without.
+    Reserve {
+        sender: u32,
+        body: RawList,
+        closes: bool,
+    },
+    /// A store of the word that the sender's reservation has for this half of a slot.
+    Write { sender: u32, slot: u32, half: u32 },
+    /// An exclusive or of a flag word, for so many slots from this one on.
+    Flip { sender: u32, slot: u32, count: u32 },
+    /// A load of the head's flag word, which looks at so many flags at most.
+    Test { slot: u32, count: u32 },
+    /// A load of a data word.
+    Read { slot: u32, half: u32 },
+    /// An exclusive or of the control word, to take so many commands.
+    Advance { count: u32 },
+    /// An or of the control word with the closed bit.
+    Close { sender: u32 },
+    /// A store of a closing sync's number in its sender's completion cell.
+    Acknowledge { sender: u32, number: u32 },
+    /// A load of a sender's completion cell.
+    Ask { sender: u32 },
+}
+
+/// What a step was answered.
+#[derive(Clone, Copy, Debug, PartialEq, Eq)]
+pub enum Seen {
+    /// The control word: of a look as it was found, of an advance or a close as it is after.
+    Word(Control),
+    /// A reservation was won: the index of its first slot, and the number of its closing sync, if it has one.
+    Reserved { first: Index, number: Option<u32> },
+    /// Another control word was found than the one looked at.
+    Lost(Control),
+    /// The word is written.
+    Written,
+    /// The new flags, that of the first slot in bit 0.
+    Flipped(u64),
+    /// How many slots in a row are ready.
+    Ready(u32),
+    /// The data word.
+    Half(u64),
+    /// The number is stored.
+    Acknowledged,
+    /// The number in the cell.
+    Done(u32),
+}
+
+/// Why a step was refused (own). The first that applies is told, in the order F8, F10, F11, F9, F2, F1, F3,
+/// F5, F6, F4, F7.
+#[derive(Clone, Copy, Debug, PartialEq, Eq)]
+pub enum StepFault {
+    /// F1: a write or a flip of a slot that another sender's open reservation holds.
+    AnotherSenders,
+    /// F2: a write or a flip of a slot that no open reservation holds.
+    NotReserved,
+    /// F3: a write or a flip of a slot that is flipped in the open reservation.
+    Flipped,
+    /// F4: a flip with a half that isn't written, or an advance with one that isn't read.
+    HalfMissing,
+    /// F5: a test or a read of a slot that isn't the head's, nor one that the last test found.
+    NotTheHead,
+    /// F6: a read or an advance of more than the last test found.
+    NotSeenReady,
+    /// F7: an acknowledgement out of order, or of a sync that isn't taken.
+    NotNext,
+    /// F8: no such sender, slot, half or count, or a flip that leaves its flag word.
+    NoSuchPlace,
+    /// F9: a reserve without a look since the last exchange, of a closed ring, or without room.
+    NoRoom,
+    /// F10: a reserve with a reservation open, or with all batches made.
+    NotSettled,
+    /// F11: a body of none, of more than 63, or with a CMD_SYNC.
+    BadBody,
+}
