@@ -11,3 +11,5 @@ pub mod Open
 pub mod Faults
 pub mod Answers
 pub mod Played
+pub mod Sayings
+pub mod Views
