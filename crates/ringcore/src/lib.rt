@@ -4,8 +4,8 @@
 mod event;
 pub mod laws;
 mod raw_list;
-mod sender_view;
-mod state;
+pub mod sender_view;
+pub mod state;
 mod step;
 
 pub use event::{Event, Half, Outcome, Who};

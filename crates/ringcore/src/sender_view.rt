@@ -8,7 +8,7 @@ use crate::state::{Progress, SenderView};
 use qindex::Geometry;
 
 /// A command of which nothing is done.
-pub(crate) const UNTOUCHED: Progress = Progress {
+pub const UNTOUCHED: Progress = Progress {
     lo: false,
     hi: false,
     flipped: false,
@@ -16,7 +16,7 @@ pub(crate) const UNTOUCHED: Progress = Progress {
 
 impl SenderView {
     /// What a sender knows before its first step.
-    pub(crate) fn new() -> SenderView {
+    pub fn new() -> SenderView {
         SenderView {
             looked: None,
             batches: 0,
@@ -29,7 +29,7 @@ impl SenderView {
     }
 
     /// How many commands its last reservation has: 64 at most.
-    pub(crate) fn len(&self) -> usize
+    pub fn len(&self) -> usize
         ensures value { result ≡ length self.now.commands }
         ensures most { result ≤ 64 }
     {
@@ -37,7 +37,7 @@ impl SenderView {
     }
 
     /// Whether its last reservation is open: not all of it is flipped.
-    pub(crate) fn is_open(&self) -> bool
+    pub fn is_open(&self) -> bool
         ensures { result ≡ says_open self.now }
     {
         self.progress[..self.len()]
@@ -46,7 +46,7 @@ impl SenderView {
     }
 
     /// Whether its open reservation holds a position.
-    pub(crate) fn holds(&self, position: u64) -> bool
+    pub fn holds(&self, position: u64) -> bool
         requires { self.now.start + 64 < 2 ^ 64 }
         ensures { result ≡ says_held self.now position }
     {
@@ -54,7 +54,7 @@ impl SenderView {
     }
 
     /// The offset of a slot in its open reservation, if that holds it.
-    pub(crate) fn offset_of(&self, geometry: Geometry, slot: u32) -> Option<usize>
+    pub fn offset_of(&self, geometry: Geometry, slot: u32) -> Option<usize>
         ensures { result ≡ says_offset geometry self.now slot }
     {
         if !self.is_open() {
@@ -70,7 +70,7 @@ impl SenderView {
     }
 
     /// Whether any of so many commands, from this offset on, is flipped.
-    pub(crate) fn any_flipped(&self, offset: usize, count: usize) -> bool
+    pub fn any_flipped(&self, offset: usize, count: usize) -> bool
         requires { offset + count ≤ 64 }
         ensures { result ≡ says_any_flipped self.now offset count }
     {
@@ -80,7 +80,7 @@ impl SenderView {
     }
 
     /// Whether both halves of each of so many commands, from this offset on, are written.
-    pub(crate) fn all_written(&self, offset: usize, count: usize) -> bool
+    pub fn all_written(&self, offset: usize, count: usize) -> bool
         requires { offset + count ≤ 64 }
         ensures { result ≡ says_all_written self.now offset count }
     {
