@@ -13,3 +13,6 @@ pub mod WorkedCases
 pub mod WorkedTwoLaps
 pub mod WorkedEveryKind
 pub mod Unflipped
+pub mod FlagPlaces
+pub mod MaskLemmas
+pub mod ReadyLemmas

@@ -2,9 +2,11 @@
 #![tactic(auto)]
 
 mod event;
+mod flags;
 pub mod laws;
 mod layout;
 
 pub use event::{Event, Half, Outcome, Who};
+pub use flags::{flip_mask, polarity, ready_run, shared_word};
 pub use laws::{batches_law, world_law};
 pub use layout::{cell, control_word, data_word, flag_word, words};
