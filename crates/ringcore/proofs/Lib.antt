@@ -19,3 +19,6 @@ pub mod Stored
 pub mod Shown
 pub mod Flipped
 pub mod WorkedRows
+pub mod FlagPlaces
+pub mod MaskLemmas
+pub mod ReadyLemmas

@@ -15,6 +15,7 @@ use Rattle.ringcore.specs.declared.step.StepFault.TheVariants.{AnotherSenders, N
 use Rattle.ringcore.specs.Trails.{Trail, Run, trail_of, looked, batches_made, reserved_length, has_written, has_flipped, found_ready, half_read}
 use Rattle.ringcore.specs.World.{Item, World, head, world}
 use Rattle.ringcore.specs.Allowed.{length_with}
+use Rattle.ringcore.specs.Flags.{shared_word}
 use Rattle.ringcore.specs.Shadow.{Ring}
 use Rattle.ringcore.specs.Open.{some_below, all_below, first_below, is_open, is_held, own_offset, slot_is_held}
 
@@ -34,8 +35,7 @@ is_count count = nat_le 1 count && nat_le count 64
 
 -- whether the flags of so many slots in a row, from this one on, stand in one flag word
 abbrev pub share_a_word : Ring → ℕ → ℕ → Bool
-share_a_word ring slot count =
-    nat_le count (size ring.geometry) && all_below count (λ k. place ring.geometry (slot + k) / 64 == slot / 64)
+share_a_word ring slot count = nat_le count (shared_word ring.geometry slot)
 
 -- ---- reserve
 

@@ -1,6 +1,6 @@
 -- The flags: one bit for each slot, which says whether the command of this lap stands in it (own). A flag of an
 -- even lap says so by 1, and one of an odd lap by 0: so a slot that is taken needs no clearing.
-use Rattle.std.specs.Prelude.{◌≡◌, ◌≢◌, ◌↔◌, ℕ, suc, ◌+◌, ◌-◌, ◌%◌, ◌^◌, ◌<◌, ◌≤◌, Bool, ◌==◌, List, slice_index}
+use Rattle.std.specs.Prelude.{◌≡◌, ◌≢◌, ◌↔◌, ℕ, suc, ◌+◌, ◌-◌, ◌%◌, ◌^◌, ◌<◌, ◌≤◌, Bool, cond, nat_le, ◌==◌, List, slice_index}
 use Rattle.std.specs.Int.{bit_at}
 use Rattle.qindex.specs.Positions.{size, place, wrap_bit}
 use Rattle.ringcore.specs.Layout.{flag_word}
@@ -22,6 +22,10 @@ says_flipped geometry words position =
 abbrev pub ShareAWord : ℕ → ℕ → ℕ → Type 0
 ShareAWord geometry position count =
     (offset : ℕ) → offset < count → flag_word geometry (position + offset) ≡ flag_word geometry position
+
+-- how many positions from this one on, at most the size, have their flags in one flag word with its own
+abbrev pub shared_word : ℕ → ℕ → ℕ
+shared_word geometry position = cond (nat_le (size geometry) 64) (size geometry) (64 - flag_bit geometry position)
 
 -- A bit of the mask is set just where it is the flag of one of count positions from this one on.
 pub record IsFlagOf (geometry position count bit : ℕ) : Type 0 where

@@ -12,6 +12,7 @@ pub enum Who {
 }
 
 /// A word of a command.
+#[derive(Clone, Copy, Debug, PartialEq, Eq)]
 pub enum Half {
     /// The low word.
     Lo,

@@ -2,13 +2,17 @@
 #![tactic(auto)]
 
 mod event;
+mod flags;
 pub mod laws;
+mod layout;
 mod raw_list;
 pub mod sender_view;
 pub mod state;
 mod step;
 
 pub use event::{Event, Half, Outcome, Who};
+pub use flags::{flip_mask, polarity, ready_run, shared_word};
 pub use laws::{batches_law, world_law};
+pub use layout::{cell, control_word, data_word, flag_word, words};
 pub use raw_list::{MOST_RAWS, RawList};
 pub use step::{Seen, Step, StepFault};
