@@ -9,7 +9,7 @@ use Rattle.ringcore.specs.declared.step.Seen.TheVariants.{Word, Reserved, Lost, 
 use Rattle.ringcore.specs.Played.{Played, played}
 
 abbrev row_advance_more_f6_steps : List Step
-row_advance_more_f6_steps = (Look (Some 0)) ∷ (Reserve 0 (record { lo = 21474836483; hi = 1 } ∷ []) true) ∷ (Write 0 0 0) ∷ (Write 0 0 1) ∷ (Flip 0 0 1) ∷ (Test 0 64) ∷ (Read 0 0) ∷ (Read 0 1) ∷ (Advance 2) ∷ []
+row_advance_more_f6_steps = (Look (Some 0)) ∷ (Reserve 0 record { items = record { lo = 21474836483; hi = 1 } ∷ [] } true) ∷ (Write 0 0 0) ∷ (Write 0 0 1) ∷ (Flip 0 0 1) ∷ (Test 0 64) ∷ (Read 0 0) ∷ (Read 0 1) ∷ (Advance 2) ∷ []
 
 row_advance_more_f6_refused : (played (record { geometry = 2; senders = 1; max_batches = 4294967295 }) row_advance_more_f6_steps).refused ≡ Some (8, NotSeenReady)
 unfolding encoding
@@ -20,7 +20,7 @@ unfolding encoding
 row_advance_more_f6_answers = refl
 
 abbrev row_control_word_returns_steps : List Step
-row_control_word_returns_steps = (Look (Some 0)) ∷ (Look (Some 1)) ∷ (Reserve 1 (record { lo = 21474836483; hi = 1 } ∷ []) true) ∷ (Write 1 0 0) ∷ (Write 1 0 1) ∷ (Flip 1 0 1) ∷ (Write 1 1 0) ∷ (Write 1 1 1) ∷ (Flip 1 1 1) ∷ (Test 0 1) ∷ (Read 0 0) ∷ (Read 0 1) ∷ (Advance 1) ∷ (Test 1 1) ∷ (Read 1 0) ∷ (Read 1 1) ∷ (Advance 1) ∷ (Acknowledge 1 1) ∷ (Look (Some 1)) ∷ (Reserve 1 (record { lo = 21474836483; hi = 1 } ∷ []) true) ∷ (Write 1 0 0) ∷ (Write 1 0 1) ∷ (Write 1 1 0) ∷ (Write 1 1 1) ∷ (Flip 1 0 1) ∷ (Flip 1 1 1) ∷ (Test 0 1) ∷ (Read 0 0) ∷ (Read 0 1) ∷ (Advance 1) ∷ (Test 1 1) ∷ (Read 1 0) ∷ (Read 1 1) ∷ (Advance 1) ∷ (Reserve 0 (record { lo = 21474836483; hi = 1 } ∷ []) true) ∷ (Look (Some 1)) ∷ (Reserve 1 (record { lo = 21474836483; hi = 1 } ∷ []) true) ∷ []
+row_control_word_returns_steps = (Look (Some 0)) ∷ (Look (Some 1)) ∷ (Reserve 1 record { items = record { lo = 21474836483; hi = 1 } ∷ [] } true) ∷ (Write 1 0 0) ∷ (Write 1 0 1) ∷ (Flip 1 0 1) ∷ (Write 1 1 0) ∷ (Write 1 1 1) ∷ (Flip 1 1 1) ∷ (Test 0 1) ∷ (Read 0 0) ∷ (Read 0 1) ∷ (Advance 1) ∷ (Test 1 1) ∷ (Read 1 0) ∷ (Read 1 1) ∷ (Advance 1) ∷ (Acknowledge 1 1) ∷ (Look (Some 1)) ∷ (Reserve 1 record { items = record { lo = 21474836483; hi = 1 } ∷ [] } true) ∷ (Write 1 0 0) ∷ (Write 1 0 1) ∷ (Write 1 1 0) ∷ (Write 1 1 1) ∷ (Flip 1 0 1) ∷ (Flip 1 1 1) ∷ (Test 0 1) ∷ (Read 0 0) ∷ (Read 0 1) ∷ (Advance 1) ∷ (Test 1 1) ∷ (Read 1 0) ∷ (Read 1 1) ∷ (Advance 1) ∷ (Reserve 0 record { items = record { lo = 21474836483; hi = 1 } ∷ [] } true) ∷ (Look (Some 1)) ∷ (Reserve 1 record { items = record { lo = 21474836483; hi = 1 } ∷ [] } true) ∷ []
 
 row_control_word_returns_refused : (played (record { geometry = 1; senders = 2; max_batches = 4294967295 }) row_control_word_returns_steps).refused ≡ Some (36, NoRoom)
 unfolding encoding
@@ -31,7 +31,7 @@ unfolding encoding
 row_control_word_returns_answers = refl
 
 abbrev row_f1_steps : List Step
-row_f1_steps = (Look (Some 0)) ∷ (Reserve 0 (record { lo = 21474836483; hi = 1 } ∷ []) true) ∷ (Write 1 0 0) ∷ []
+row_f1_steps = (Look (Some 0)) ∷ (Reserve 0 record { items = record { lo = 21474836483; hi = 1 } ∷ [] } true) ∷ (Write 1 0 0) ∷ []
 
 row_f1_refused : (played (record { geometry = 1; senders = 2; max_batches = 4294967295 }) row_f1_steps).refused ≡ Some (2, AnotherSenders)
 unfolding encoding
@@ -42,7 +42,7 @@ unfolding encoding
 row_f1_answers = refl
 
 abbrev row_f10_steps : List Step
-row_f10_steps = (Look (Some 0)) ∷ (Reserve 0 (record { lo = 21474836483; hi = 1 } ∷ []) true) ∷ (Look (Some 0)) ∷ (Reserve 0 (record { lo = 21474836483; hi = 1 } ∷ []) true) ∷ []
+row_f10_steps = (Look (Some 0)) ∷ (Reserve 0 record { items = record { lo = 21474836483; hi = 1 } ∷ [] } true) ∷ (Look (Some 0)) ∷ (Reserve 0 record { items = record { lo = 21474836483; hi = 1 } ∷ [] } true) ∷ []
 
 row_f10_refused : (played (record { geometry = 1; senders = 2; max_batches = 4294967295 }) row_f10_steps).refused ≡ Some (3, NotSettled)
 unfolding encoding
@@ -53,7 +53,7 @@ unfolding encoding
 row_f10_answers = refl
 
 abbrev row_f11_steps : List Step
-row_f11_steps = (Reserve 0 ([]) true) ∷ []
+row_f11_steps = (Reserve 0 record { items = [] } true) ∷ []
 
 row_f11_refused : (played (record { geometry = 1; senders = 2; max_batches = 4294967295 }) row_f11_steps).refused ≡ Some (0, BadBody)
 unfolding encoding
@@ -75,7 +75,7 @@ unfolding encoding
 row_f2_answers = refl
 
 abbrev row_f3_steps : List Step
-row_f3_steps = (Look (Some 0)) ∷ (Reserve 0 (record { lo = 21474836483; hi = 1 } ∷ []) true) ∷ (Write 0 0 0) ∷ (Write 0 0 1) ∷ (Flip 0 0 1) ∷ (Flip 0 0 1) ∷ []
+row_f3_steps = (Look (Some 0)) ∷ (Reserve 0 record { items = record { lo = 21474836483; hi = 1 } ∷ [] } true) ∷ (Write 0 0 0) ∷ (Write 0 0 1) ∷ (Flip 0 0 1) ∷ (Flip 0 0 1) ∷ []
 
 row_f3_refused : (played (record { geometry = 1; senders = 2; max_batches = 4294967295 }) row_f3_steps).refused ≡ Some (5, Flipped)
 unfolding encoding
@@ -86,7 +86,7 @@ unfolding encoding
 row_f3_answers = refl
 
 abbrev row_f4_steps : List Step
-row_f4_steps = (Look (Some 0)) ∷ (Reserve 0 (record { lo = 21474836483; hi = 1 } ∷ []) true) ∷ (Flip 0 0 1) ∷ []
+row_f4_steps = (Look (Some 0)) ∷ (Reserve 0 record { items = record { lo = 21474836483; hi = 1 } ∷ [] } true) ∷ (Flip 0 0 1) ∷ []
 
 row_f4_refused : (played (record { geometry = 1; senders = 2; max_batches = 4294967295 }) row_f4_steps).refused ≡ Some (2, HalfMissing)
 unfolding encoding
@@ -141,7 +141,7 @@ unfolding encoding
 row_f8_answers = refl
 
 abbrev row_f9_steps : List Step
-row_f9_steps = (Reserve 0 (record { lo = 21474836483; hi = 1 } ∷ []) true) ∷ []
+row_f9_steps = (Reserve 0 record { items = record { lo = 21474836483; hi = 1 } ∷ [] } true) ∷ []
 
 row_f9_refused : (played (record { geometry = 1; senders = 2; max_batches = 4294967295 }) row_f9_steps).refused ≡ Some (0, NoRoom)
 unfolding encoding
@@ -174,7 +174,7 @@ unfolding encoding
 row_flip_leaves_word_answers = refl
 
 abbrev row_flip_past_end_f1_steps : List Step
-row_flip_past_end_f1_steps = (Look (Some 0)) ∷ (Reserve 0 (record { lo = 21474836483; hi = 1 } ∷ []) true) ∷ (Look (Some 1)) ∷ (Reserve 1 (record { lo = 21474836483; hi = 1 } ∷ []) true) ∷ (Write 0 0 0) ∷ (Write 0 0 1) ∷ (Write 0 1 0) ∷ (Write 0 1 1) ∷ (Flip 0 0 3) ∷ []
+row_flip_past_end_f1_steps = (Look (Some 0)) ∷ (Reserve 0 record { items = record { lo = 21474836483; hi = 1 } ∷ [] } true) ∷ (Look (Some 1)) ∷ (Reserve 1 record { items = record { lo = 21474836483; hi = 1 } ∷ [] } true) ∷ (Write 0 0 0) ∷ (Write 0 0 1) ∷ (Write 0 1 0) ∷ (Write 0 1 1) ∷ (Flip 0 0 3) ∷ []
 
 row_flip_past_end_f1_refused : (played (record { geometry = 2; senders = 2; max_batches = 4294967295 }) row_flip_past_end_f1_steps).refused ≡ Some (8, AnotherSenders)
 unfolding encoding
@@ -185,7 +185,7 @@ unfolding encoding
 row_flip_past_end_f1_answers = refl
 
 abbrev row_flip_past_end_f2_steps : List Step
-row_flip_past_end_f2_steps = (Look (Some 0)) ∷ (Reserve 0 (record { lo = 21474836483; hi = 1 } ∷ []) true) ∷ (Write 0 0 0) ∷ (Write 0 0 1) ∷ (Write 0 1 0) ∷ (Write 0 1 1) ∷ (Flip 0 0 3) ∷ []
+row_flip_past_end_f2_steps = (Look (Some 0)) ∷ (Reserve 0 record { items = record { lo = 21474836483; hi = 1 } ∷ [] } true) ∷ (Write 0 0 0) ∷ (Write 0 0 1) ∷ (Write 0 1 0) ∷ (Write 0 1 1) ∷ (Flip 0 0 3) ∷ []
 
 row_flip_past_end_f2_refused : (played (record { geometry = 2; senders = 1; max_batches = 4294967295 }) row_flip_past_end_f2_steps).refused ≡ Some (6, NotReserved)
 unfolding encoding
@@ -196,7 +196,7 @@ unfolding encoding
 row_flip_past_end_f2_answers = refl
 
 abbrev row_lost_steps : List Step
-row_lost_steps = (Look (Some 0)) ∷ (Look (Some 1)) ∷ (Reserve 1 (record { lo = 21474836483; hi = 1 } ∷ []) true) ∷ (Reserve 0 (record { lo = 21474836483; hi = 1 } ∷ []) true) ∷ []
+row_lost_steps = (Look (Some 0)) ∷ (Look (Some 1)) ∷ (Reserve 1 record { items = record { lo = 21474836483; hi = 1 } ∷ [] } true) ∷ (Reserve 0 record { items = record { lo = 21474836483; hi = 1 } ∷ [] } true) ∷ []
 
 row_lost_refused : (played (record { geometry = 1; senders = 2; max_batches = 4294967295 }) row_lost_steps).refused ≡ None
 unfolding encoding
@@ -207,7 +207,7 @@ unfolding encoding
 row_lost_answers = refl
 
 abbrev row_nothing_counts_after_k7_steps : List Step
-row_nothing_counts_after_k7_steps = (Look (Some 0)) ∷ (Reserve 0 (record { lo = 21474836483; hi = 1 } ∷ []) true) ∷ (Write 0 0 0) ∷ (Write 0 0 1) ∷ (Write 0 1 0) ∷ (Write 0 1 1) ∷ (Flip 0 0 2) ∷ (Test 0 2) ∷ (Read 0 0) ∷ (Read 0 1) ∷ (Read 1 0) ∷ (Read 1 1) ∷ (Advance 1) ∷ (Advance 1) ∷ []
+row_nothing_counts_after_k7_steps = (Look (Some 0)) ∷ (Reserve 0 record { items = record { lo = 21474836483; hi = 1 } ∷ [] } true) ∷ (Write 0 0 0) ∷ (Write 0 0 1) ∷ (Write 0 1 0) ∷ (Write 0 1 1) ∷ (Flip 0 0 2) ∷ (Test 0 2) ∷ (Read 0 0) ∷ (Read 0 1) ∷ (Read 1 0) ∷ (Read 1 1) ∷ (Advance 1) ∷ (Advance 1) ∷ []
 
 row_nothing_counts_after_k7_refused : (played (record { geometry = 2; senders = 1; max_batches = 4294967295 }) row_nothing_counts_after_k7_steps).refused ≡ Some (13, NotSeenReady)
 unfolding encoding
@@ -218,7 +218,7 @@ unfolding encoding
 row_nothing_counts_after_k7_answers = refl
 
 abbrev row_read_off_run_f5_steps : List Step
-row_read_off_run_f5_steps = (Look (Some 0)) ∷ (Reserve 0 (record { lo = 21474836483; hi = 1 } ∷ []) true) ∷ (Read 1 0) ∷ []
+row_read_off_run_f5_steps = (Look (Some 0)) ∷ (Reserve 0 record { items = record { lo = 21474836483; hi = 1 } ∷ [] } true) ∷ (Read 1 0) ∷ []
 
 row_read_off_run_f5_refused : (played (record { geometry = 2; senders = 1; max_batches = 4294967295 }) row_read_off_run_f5_steps).refused ≡ Some (2, NotTheHead)
 unfolding encoding
@@ -229,7 +229,7 @@ unfolding encoding
 row_read_off_run_f5_answers = refl
 
 abbrev row_runs_steps : List Step
-row_runs_steps = (Look (Some 0)) ∷ (Reserve 0 (record { lo = 21474836483; hi = 1 } ∷ record { lo = 21474836483; hi = 1 } ∷ []) true) ∷ (Write 0 0 0) ∷ (Write 0 0 1) ∷ (Write 0 1 0) ∷ (Write 0 1 1) ∷ (Write 0 2 0) ∷ (Write 0 2 1) ∷ (Flip 0 0 3) ∷ (Test 0 64) ∷ (Read 0 0) ∷ (Read 0 1) ∷ (Read 1 0) ∷ (Read 1 1) ∷ (Advance 2) ∷ (Test 2 64) ∷ (Read 2 0) ∷ (Read 2 1) ∷ (Advance 1) ∷ (Acknowledge 0 1) ∷ (Look (Some 0)) ∷ (Reserve 0 (record { lo = 21474836483; hi = 1 } ∷ record { lo = 21474836483; hi = 1 } ∷ []) true) ∷ (Write 0 3 0) ∷ (Write 0 3 1) ∷ (Write 0 0 0) ∷ (Write 0 0 1) ∷ (Write 0 1 0) ∷ (Write 0 1 1) ∷ (Flip 0 3 3) ∷ (Test 3 64) ∷ []
+row_runs_steps = (Look (Some 0)) ∷ (Reserve 0 record { items = record { lo = 21474836483; hi = 1 } ∷ record { lo = 21474836483; hi = 1 } ∷ [] } true) ∷ (Write 0 0 0) ∷ (Write 0 0 1) ∷ (Write 0 1 0) ∷ (Write 0 1 1) ∷ (Write 0 2 0) ∷ (Write 0 2 1) ∷ (Flip 0 0 3) ∷ (Test 0 64) ∷ (Read 0 0) ∷ (Read 0 1) ∷ (Read 1 0) ∷ (Read 1 1) ∷ (Advance 2) ∷ (Test 2 64) ∷ (Read 2 0) ∷ (Read 2 1) ∷ (Advance 1) ∷ (Acknowledge 0 1) ∷ (Look (Some 0)) ∷ (Reserve 0 record { items = record { lo = 21474836483; hi = 1 } ∷ record { lo = 21474836483; hi = 1 } ∷ [] } true) ∷ (Write 0 3 0) ∷ (Write 0 3 1) ∷ (Write 0 0 0) ∷ (Write 0 0 1) ∷ (Write 0 1 0) ∷ (Write 0 1 1) ∷ (Flip 0 3 3) ∷ (Test 3 64) ∷ []
 
 row_runs_refused : (played (record { geometry = 2; senders = 1; max_batches = 4294967295 }) row_runs_steps).refused ≡ None
 unfolding encoding
@@ -240,7 +240,7 @@ unfolding encoding
 row_runs_answers = refl
 
 abbrev row_schedule_bare_steps : List Step
-row_schedule_bare_steps = (Look (Some 0)) ∷ (Look (Some 1)) ∷ (Reserve 0 (record { lo = 21474836483; hi = 1 } ∷ record { lo = 21474836483; hi = 1 } ∷ []) false) ∷ (Reserve 1 (record { lo = 21474836483; hi = 1 } ∷ []) false) ∷ []
+row_schedule_bare_steps = (Look (Some 0)) ∷ (Look (Some 1)) ∷ (Reserve 0 record { items = record { lo = 21474836483; hi = 1 } ∷ record { lo = 21474836483; hi = 1 } ∷ [] } false) ∷ (Reserve 1 record { items = record { lo = 21474836483; hi = 1 } ∷ [] } false) ∷ []
 
 row_schedule_bare_refused : (played (record { geometry = 1; senders = 2; max_batches = 4294967295 }) row_schedule_bare_steps).refused ≡ None
 unfolding encoding
@@ -284,7 +284,7 @@ unfolding encoding
 row_trap_64_slots_wrap_answers = refl
 
 abbrev row_trap_ack_counts_syncs_only_steps : List Step
-row_trap_ack_counts_syncs_only_steps = (Look (Some 0)) ∷ (Reserve 0 (record { lo = 21474836483; hi = 1 } ∷ []) false) ∷ (Write 0 0 0) ∷ (Write 0 0 1) ∷ (Flip 0 0 1) ∷ (Look (Some 0)) ∷ (Reserve 0 (record { lo = 21474836483; hi = 1 } ∷ []) true) ∷ (Write 0 1 0) ∷ (Write 0 1 1) ∷ (Write 0 2 0) ∷ (Write 0 2 1) ∷ (Flip 0 1 2) ∷ (Test 0 3) ∷ (Read 0 0) ∷ (Read 0 1) ∷ (Read 1 0) ∷ (Read 1 1) ∷ (Read 2 0) ∷ (Read 2 1) ∷ (Advance 3) ∷ (Acknowledge 0 1) ∷ []
+row_trap_ack_counts_syncs_only_steps = (Look (Some 0)) ∷ (Reserve 0 record { items = record { lo = 21474836483; hi = 1 } ∷ [] } false) ∷ (Write 0 0 0) ∷ (Write 0 0 1) ∷ (Flip 0 0 1) ∷ (Look (Some 0)) ∷ (Reserve 0 record { items = record { lo = 21474836483; hi = 1 } ∷ [] } true) ∷ (Write 0 1 0) ∷ (Write 0 1 1) ∷ (Write 0 2 0) ∷ (Write 0 2 1) ∷ (Flip 0 1 2) ∷ (Test 0 3) ∷ (Read 0 0) ∷ (Read 0 1) ∷ (Read 1 0) ∷ (Read 1 1) ∷ (Read 2 0) ∷ (Read 2 1) ∷ (Advance 3) ∷ (Acknowledge 0 1) ∷ []
 
 row_trap_ack_counts_syncs_only_refused : (played (record { geometry = 2; senders = 1; max_batches = 4294967295 }) row_trap_ack_counts_syncs_only_steps).refused ≡ None
 unfolding encoding
@@ -306,7 +306,7 @@ unfolding encoding
 row_trap_ack_out_of_order_answers = refl
 
 abbrev row_trap_acks_after_a_run_steps : List Step
-row_trap_acks_after_a_run_steps = (Look (Some 0)) ∷ (Reserve 0 (record { lo = 21474836483; hi = 1 } ∷ []) true) ∷ (Write 0 0 0) ∷ (Write 0 0 1) ∷ (Write 0 1 0) ∷ (Write 0 1 1) ∷ (Flip 0 0 2) ∷ (Look (Some 0)) ∷ (Reserve 0 (record { lo = 21474836483; hi = 1 } ∷ []) true) ∷ (Write 0 2 0) ∷ (Write 0 2 1) ∷ (Write 0 3 0) ∷ (Write 0 3 1) ∷ (Flip 0 2 2) ∷ (Test 0 64) ∷ (Read 0 0) ∷ (Read 0 1) ∷ (Read 1 0) ∷ (Read 1 1) ∷ (Read 2 0) ∷ (Read 2 1) ∷ (Read 3 0) ∷ (Read 3 1) ∷ (Advance 4) ∷ (Acknowledge 0 1) ∷ (Acknowledge 0 2) ∷ (Ask 0) ∷ []
+row_trap_acks_after_a_run_steps = (Look (Some 0)) ∷ (Reserve 0 record { items = record { lo = 21474836483; hi = 1 } ∷ [] } true) ∷ (Write 0 0 0) ∷ (Write 0 0 1) ∷ (Write 0 1 0) ∷ (Write 0 1 1) ∷ (Flip 0 0 2) ∷ (Look (Some 0)) ∷ (Reserve 0 record { items = record { lo = 21474836483; hi = 1 } ∷ [] } true) ∷ (Write 0 2 0) ∷ (Write 0 2 1) ∷ (Write 0 3 0) ∷ (Write 0 3 1) ∷ (Flip 0 2 2) ∷ (Test 0 64) ∷ (Read 0 0) ∷ (Read 0 1) ∷ (Read 1 0) ∷ (Read 1 1) ∷ (Read 2 0) ∷ (Read 2 1) ∷ (Read 3 0) ∷ (Read 3 1) ∷ (Advance 4) ∷ (Acknowledge 0 1) ∷ (Acknowledge 0 2) ∷ (Ask 0) ∷ []
 
 row_trap_acks_after_a_run_refused : (played (record { geometry = 2; senders = 1; max_batches = 4294967295 }) row_trap_acks_after_a_run_steps).refused ≡ None
 unfolding encoding
@@ -317,7 +317,7 @@ unfolding encoding
 row_trap_acks_after_a_run_answers = refl
 
 abbrev row_trap_advance_f4_steps : List Step
-row_trap_advance_f4_steps = (Look (Some 0)) ∷ (Reserve 0 (record { lo = 21474836483; hi = 1 } ∷ []) true) ∷ (Write 0 0 0) ∷ (Write 0 0 1) ∷ (Flip 0 0 1) ∷ (Test 0 1) ∷ (Read 0 1) ∷ (Advance 1) ∷ []
+row_trap_advance_f4_steps = (Look (Some 0)) ∷ (Reserve 0 record { items = record { lo = 21474836483; hi = 1 } ∷ [] } true) ∷ (Write 0 0 0) ∷ (Write 0 0 1) ∷ (Flip 0 0 1) ∷ (Test 0 1) ∷ (Read 0 1) ∷ (Advance 1) ∷ []
 
 row_trap_advance_f4_refused : (played (record { geometry = 1; senders = 1; max_batches = 4294967295 }) row_trap_advance_f4_steps).refused ≡ Some (7, HalfMissing)
 unfolding encoding
@@ -328,7 +328,7 @@ unfolding encoding
 row_trap_advance_f4_answers = refl
 
 abbrev row_trap_count_1_prints_steps : List Step
-row_trap_count_1_prints_steps = (Look (Some 0)) ∷ (Reserve 0 (record { lo = 21474836483; hi = 1 } ∷ []) true) ∷ (Write 0 0 0) ∷ (Write 0 0 1) ∷ (Flip 0 0 1) ∷ (Test 0 1) ∷ (Test 0 1) ∷ []
+row_trap_count_1_prints_steps = (Look (Some 0)) ∷ (Reserve 0 record { items = record { lo = 21474836483; hi = 1 } ∷ [] } true) ∷ (Write 0 0 0) ∷ (Write 0 0 1) ∷ (Flip 0 0 1) ∷ (Test 0 1) ∷ (Test 0 1) ∷ []
 
 row_trap_count_1_prints_refused : (played (record { geometry = 1; senders = 1; max_batches = 4294967295 }) row_trap_count_1_prints_steps).refused ≡ None
 unfolding encoding
@@ -350,7 +350,7 @@ unfolding encoding
 row_trap_f5_before_f6_answers = refl
 
 abbrev row_trap_flip_after_the_last_steps : List Step
-row_trap_flip_after_the_last_steps = (Look (Some 0)) ∷ (Reserve 0 (record { lo = 21474836483; hi = 1 } ∷ []) true) ∷ (Write 0 0 0) ∷ (Write 0 0 1) ∷ (Write 0 1 0) ∷ (Write 0 1 1) ∷ (Flip 0 0 1) ∷ (Flip 0 1 1) ∷ (Flip 0 1 1) ∷ []
+row_trap_flip_after_the_last_steps = (Look (Some 0)) ∷ (Reserve 0 record { items = record { lo = 21474836483; hi = 1 } ∷ [] } true) ∷ (Write 0 0 0) ∷ (Write 0 0 1) ∷ (Write 0 1 0) ∷ (Write 0 1 1) ∷ (Flip 0 0 1) ∷ (Flip 0 1 1) ∷ (Flip 0 1 1) ∷ []
 
 row_trap_flip_after_the_last_refused : (played (record { geometry = 1; senders = 2; max_batches = 4294967295 }) row_trap_flip_after_the_last_steps).refused ≡ Some (8, NotReserved)
 unfolding encoding
@@ -372,7 +372,7 @@ unfolding encoding
 row_trap_half_2_answers = refl
 
 abbrev row_trap_look_while_open_counts_steps : List Step
-row_trap_look_while_open_counts_steps = (Look (Some 0)) ∷ (Reserve 0 (record { lo = 21474836483; hi = 1 } ∷ []) true) ∷ (Look (Some 0)) ∷ (Write 0 0 0) ∷ (Write 0 0 1) ∷ (Write 0 0 1) ∷ (Write 0 1 0) ∷ (Write 0 1 1) ∷ (Flip 0 1 1) ∷ (Flip 0 0 1) ∷ (Reserve 0 (record { lo = 21474836483; hi = 1 } ∷ []) true) ∷ []
+row_trap_look_while_open_counts_steps = (Look (Some 0)) ∷ (Reserve 0 record { items = record { lo = 21474836483; hi = 1 } ∷ [] } true) ∷ (Look (Some 0)) ∷ (Write 0 0 0) ∷ (Write 0 0 1) ∷ (Write 0 0 1) ∷ (Write 0 1 0) ∷ (Write 0 1 1) ∷ (Flip 0 1 1) ∷ (Flip 0 0 1) ∷ (Reserve 0 record { items = record { lo = 21474836483; hi = 1 } ∷ [] } true) ∷ []
 
 row_trap_look_while_open_counts_refused : (played (record { geometry = 2; senders = 1; max_batches = 4294967295 }) row_trap_look_while_open_counts_steps).refused ≡ None
 unfolding encoding
@@ -383,7 +383,7 @@ unfolding encoding
 row_trap_look_while_open_counts_answers = refl
 
 abbrev row_trap_lost_by_close_steps : List Step
-row_trap_lost_by_close_steps = (Look (Some 0)) ∷ (Close 1) ∷ (Reserve 0 (record { lo = 21474836483; hi = 1 } ∷ []) true) ∷ (Look (Some 0)) ∷ (Reserve 0 (record { lo = 21474836483; hi = 1 } ∷ []) true) ∷ []
+row_trap_lost_by_close_steps = (Look (Some 0)) ∷ (Close 1) ∷ (Reserve 0 record { items = record { lo = 21474836483; hi = 1 } ∷ [] } true) ∷ (Look (Some 0)) ∷ (Reserve 0 record { items = record { lo = 21474836483; hi = 1 } ∷ [] } true) ∷ []
 
 row_trap_lost_by_close_refused : (played (record { geometry = 1; senders = 2; max_batches = 4294967295 }) row_trap_lost_by_close_steps).refused ≡ Some (4, NoRoom)
 unfolding encoding
@@ -394,7 +394,7 @@ unfolding encoding
 row_trap_lost_by_close_answers = refl
 
 abbrev row_trap_no_sender_is_f8_steps : List Step
-row_trap_no_sender_is_f8_steps = (Reserve 2 ([]) true) ∷ []
+row_trap_no_sender_is_f8_steps = (Reserve 2 record { items = [] } true) ∷ []
 
 row_trap_no_sender_is_f8_refused : (played (record { geometry = 1; senders = 2; max_batches = 4294967295 }) row_trap_no_sender_is_f8_steps).refused ≡ Some (0, NoSuchPlace)
 unfolding encoding
@@ -405,7 +405,7 @@ unfolding encoding
 row_trap_no_sender_is_f8_answers = refl
 
 abbrev row_trap_past_end_of_whole_ring_steps : List Step
-row_trap_past_end_of_whole_ring_steps = (Look (Some 0)) ∷ (Reserve 0 (record { lo = 21474836483; hi = 1 } ∷ []) true) ∷ (Write 0 0 0) ∷ (Write 0 0 1) ∷ (Write 0 1 0) ∷ (Write 0 1 1) ∷ (Flip 0 1 2) ∷ []
+row_trap_past_end_of_whole_ring_steps = (Look (Some 0)) ∷ (Reserve 0 record { items = record { lo = 21474836483; hi = 1 } ∷ [] } true) ∷ (Write 0 0 0) ∷ (Write 0 0 1) ∷ (Write 0 1 0) ∷ (Write 0 1 1) ∷ (Flip 0 1 2) ∷ []
 
 row_trap_past_end_of_whole_ring_refused : (played (record { geometry = 1; senders = 1; max_batches = 4294967295 }) row_trap_past_end_of_whole_ring_steps).refused ≡ Some (6, NotReserved)
 unfolding encoding
@@ -427,7 +427,7 @@ unfolding encoding
 row_trap_read_f6_answers = refl
 
 abbrev row_trap_second_test_steps : List Step
-row_trap_second_test_steps = (Look (Some 0)) ∷ (Reserve 0 (record { lo = 21474836483; hi = 1 } ∷ []) true) ∷ (Write 0 0 0) ∷ (Write 0 0 1) ∷ (Flip 0 0 1) ∷ (Test 0 1) ∷ (Read 0 0) ∷ (Read 0 1) ∷ (Test 0 1) ∷ (Advance 1) ∷ []
+row_trap_second_test_steps = (Look (Some 0)) ∷ (Reserve 0 record { items = record { lo = 21474836483; hi = 1 } ∷ [] } true) ∷ (Write 0 0 0) ∷ (Write 0 0 1) ∷ (Flip 0 0 1) ∷ (Test 0 1) ∷ (Read 0 0) ∷ (Read 0 1) ∷ (Test 0 1) ∷ (Advance 1) ∷ []
 
 row_trap_second_test_refused : (played (record { geometry = 1; senders = 1; max_batches = 4294967295 }) row_trap_second_test_steps).refused ≡ Some (9, HalfMissing)
 unfolding encoding
@@ -438,7 +438,7 @@ unfolding encoding
 row_trap_second_test_answers = refl
 
 abbrev row_trap_smaller_second_test_steps : List Step
-row_trap_smaller_second_test_steps = (Look (Some 0)) ∷ (Reserve 0 (record { lo = 21474836483; hi = 1 } ∷ []) true) ∷ (Write 0 0 0) ∷ (Write 0 0 1) ∷ (Write 0 1 0) ∷ (Write 0 1 1) ∷ (Flip 0 0 2) ∷ (Test 0 2) ∷ (Test 0 1) ∷ (Read 1 0) ∷ []
+row_trap_smaller_second_test_steps = (Look (Some 0)) ∷ (Reserve 0 record { items = record { lo = 21474836483; hi = 1 } ∷ [] } true) ∷ (Write 0 0 0) ∷ (Write 0 0 1) ∷ (Write 0 1 0) ∷ (Write 0 1 1) ∷ (Flip 0 0 2) ∷ (Test 0 2) ∷ (Test 0 1) ∷ (Read 1 0) ∷ []
 
 row_trap_smaller_second_test_refused : (played (record { geometry = 1; senders = 1; max_batches = 4294967295 }) row_trap_smaller_second_test_steps).refused ≡ Some (9, NotTheHead)
 unfolding encoding
@@ -460,7 +460,7 @@ unfolding encoding
 row_trap_test_off_empty_answers = refl
 
 abbrev row_trap_third_sender_f1_steps : List Step
-row_trap_third_sender_f1_steps = (Look (Some 0)) ∷ (Reserve 0 (record { lo = 21474836483; hi = 1 } ∷ record { lo = 21474836483; hi = 1 } ∷ []) true) ∷ (Write 0 0 0) ∷ (Write 0 0 1) ∷ (Flip 0 0 1) ∷ (Test 0 1) ∷ (Read 0 0) ∷ (Read 0 1) ∷ (Advance 1) ∷ (Write 2 0 0) ∷ []
+row_trap_third_sender_f1_steps = (Look (Some 0)) ∷ (Reserve 0 record { items = record { lo = 21474836483; hi = 1 } ∷ record { lo = 21474836483; hi = 1 } ∷ [] } true) ∷ (Write 0 0 0) ∷ (Write 0 0 1) ∷ (Flip 0 0 1) ∷ (Test 0 1) ∷ (Read 0 0) ∷ (Read 0 1) ∷ (Advance 1) ∷ (Write 2 0 0) ∷ []
 
 row_trap_third_sender_f1_refused : (played (record { geometry = 2; senders = 3; max_batches = 4294967295 }) row_trap_third_sender_f1_steps).refused ≡ Some (9, AnotherSenders)
 unfolding encoding
@@ -471,7 +471,7 @@ unfolding encoding
 row_trap_third_sender_f1_answers = refl
 
 abbrev row_trap_two_hold_a_slot_steps : List Step
-row_trap_two_hold_a_slot_steps = (Look (Some 0)) ∷ (Reserve 0 (record { lo = 21474836483; hi = 1 } ∷ record { lo = 21474836483; hi = 1 } ∷ []) true) ∷ (Write 0 0 0) ∷ (Write 0 0 1) ∷ (Flip 0 0 1) ∷ (Test 0 1) ∷ (Read 0 0) ∷ (Read 0 1) ∷ (Advance 1) ∷ (Look (Some 1)) ∷ (Reserve 1 (record { lo = 21474836483; hi = 1 } ∷ []) true) ∷ (Write 1 0 0) ∷ (Write 1 0 1) ∷ (Flip 1 0 1) ∷ (Write 0 0 0) ∷ []
+row_trap_two_hold_a_slot_steps = (Look (Some 0)) ∷ (Reserve 0 record { items = record { lo = 21474836483; hi = 1 } ∷ record { lo = 21474836483; hi = 1 } ∷ [] } true) ∷ (Write 0 0 0) ∷ (Write 0 0 1) ∷ (Flip 0 0 1) ∷ (Test 0 1) ∷ (Read 0 0) ∷ (Read 0 1) ∷ (Advance 1) ∷ (Look (Some 1)) ∷ (Reserve 1 record { items = record { lo = 21474836483; hi = 1 } ∷ [] } true) ∷ (Write 1 0 0) ∷ (Write 1 0 1) ∷ (Flip 1 0 1) ∷ (Write 0 0 0) ∷ []
 
 row_trap_two_hold_a_slot_refused : (played (record { geometry = 2; senders = 3; max_batches = 4294967295 }) row_trap_two_hold_a_slot_steps).refused ≡ Some (14, Flipped)
 unfolding encoding

@@ -75,7 +75,7 @@ abbrev pub event_of : Ring → Run → Step → Who × Event
 event_of ring run (Look who) = (seat_of who, event.Look (control ring.geometry (world run)))
 event_of ring run (Reserve s body closes) =
     let mine = trail_of (Sender s) run in let found = control ring.geometry (world run) in
-    (Sender s, if is_same_word (looked mine) found then event.Won body (next_number mine closes) else event.Lost body closes found)
+    (Sender s, if is_same_word (looked mine) found then event.Won body.items (next_number mine closes) else event.Lost body.items closes found)
 event_of ring run (Write s slot half) = (Sender s, event.Write (offset_or_0 (own_offset ring run s slot)) (half_of_number half))
 event_of ring run (Flip s slot count) = (Sender s, event.Flip (offset_or_0 (own_offset ring run s slot)) count)
 event_of ring run (Test slot count) = (Consumer, event.Test count (ready_count ring (world run) count))

@@ -127,7 +127,7 @@ exists_who ring (Some s) = has_sender ring s
 -- The fault that a step is refused for, None where it is accepted.
 abbrev pub fault_of : Ring → Run → Step → Option StepFault
 fault_of ring run (Look who) = unless_missing (exists_who ring who) None
-fault_of ring run (Reserve s body closes) = unless_missing (has_sender ring s) (reserve_fault ring (trail_of (Sender s) run) body closes)
+fault_of ring run (Reserve s body closes) = unless_missing (has_sender ring s) (reserve_fault ring (trail_of (Sender s) run) body.items closes)
 fault_of ring run (Write s slot half) =
     unless_missing (has_sender ring s && has_slot ring slot && is_half half) (write_at ring run s slot (own_offset ring run s slot))
 fault_of ring run (Flip s slot count) =

@@ -13,3 +13,4 @@ pub mod Answers
 pub mod Played
 pub mod Sayings
 pub mod Views
+pub mod Machine

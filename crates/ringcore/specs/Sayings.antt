@@ -7,10 +7,10 @@ use Rattle.ringcore.specs.declared.state.SenderView.{SenderView}
 use Rattle.ringcore.specs.Trails.{is_among}
 
 abbrev pub says_open : SenderView → Bool
-says_open view = list_any (λ (command : Progress). not command.flipped) (take (length view.commands) view.progress)
+says_open view = list_any (λ (command : Progress). not command.flipped) (take (length view.commands.items) view.progress)
 
 abbrev pub says_held : SenderView → ℕ → Bool
-says_held view position = says_open view && is_among view.start (length view.commands) position
+says_held view position = says_open view && is_among view.start (length view.commands.items) position
 
 -- how far a slot is ahead of the reservation's first
 abbrev pub slots_ahead : ℕ → ℕ → ℕ → ℕ
@@ -19,7 +19,7 @@ slots_ahead geometry start slot = (slot + size geometry - place geometry start) 
 abbrev pub says_offset : ℕ → SenderView → ℕ → Option ℕ
 says_offset geometry view slot =
     if says_open view
-    then (if nat_lt (slots_ahead geometry view.start slot) (length view.commands) then Some (slots_ahead geometry view.start slot) else None)
+    then (if nat_lt (slots_ahead geometry view.start slot) (length view.commands.items) then Some (slots_ahead geometry view.start slot) else None)
     else None
 
 abbrev pub says_any_flipped : SenderView → ℕ → ℕ → Bool

@@ -43,7 +43,7 @@ pub record IsSenderView (run : Run) (s : ℕ) (view : SenderView) : Type 0 where
   pub batches_is : view.batches ≡ batches_made (trail_of (Sender s) run)
   pub numbers_is : view.numbers ≡ numbers_given (trail_of (Sender s) run)
   pub start_is : view.start ≡ (world run).start s
-  pub commands_are : view.commands ≡ reserved_commands s (trail_of (Sender s) run)
+  pub commands_are : view.commands.items ≡ reserved_commands s (trail_of (Sender s) run)
   pub written_is : (k : ℕ) (half : Half) (command : Progress) → k < reserved_length (trail_of (Sender s) run) → slice_get view.progress k ≡ Some command
       → is_written half command ≡ has_written k half (trail_of (Sender s) run)
   pub flipped_is : (k : ℕ) (command : Progress) → k < reserved_length (trail_of (Sender s) run) → slice_get view.progress k ≡ Some command

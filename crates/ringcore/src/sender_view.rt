@@ -1,11 +1,11 @@
 //! What a sender's view says of its reservation.
 ghost use Rattle.std.specs.Prelude.{◌≡◌, ◌+◌, ◌≤◌, ◌<◌, ◌^◌, length};
-ghost use Rattle.std.specs.Prelude.{List};
+ghost use Rattle.std.specs.Prelude.{Some};
 ghost use Rattle.ringcore.specs.Sayings.{says_open, says_offset, says_held, says_any_flipped, says_all_written};
 
-use crate::raw_list::{MOST_RAWS, RawList};
-use crate::state::{Progress, SenderView};
-use qindex::Geometry;
+use crate::state::{MOST_COMMANDS, Progress, SenderView};
+use cmdcodec::RawList;
+use qindex::{Control, Geometry};
 
 /// A command of which nothing is done.
 pub const UNTOUCHED: Progress = Progress {
@@ -23,14 +23,21 @@ impl SenderView {
             numbers: 0,
             start: 0,
             commands: RawList::new(),
-            progress: [UNTOUCHED; MOST_RAWS],
+            progress: [UNTOUCHED; MOST_COMMANDS],
             completed: 0,
         }
     }
 
+    /// Takes note of what a look found.
+    pub fn sees(&mut self, found: &Control)
+        ensures { self.new ≡ record self.old { looked = Some found.now } }
+    {
+        self.looked = Some(*found);
+    }
+
     /// How many commands its last reservation has: 64 at most.
     pub fn len(&self) -> usize
-        ensures value { result ≡ length self.now.commands }
+        ensures value { result ≡ length self.now.commands.items }
         ensures most { result ≤ 64 }
     {
         self.commands.as_slice().len()

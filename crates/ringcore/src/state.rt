@@ -1,6 +1,9 @@
 //! A ring in plain vectors, with what each seat knows.
-use crate::raw_list::{MOST_RAWS, RawList};
+use cmdcodec::RawList;
 use qindex::{Control, Geometry};
+
+/// The most commands of a batch, with its closing sync.
+pub const MOST_COMMANDS: usize = 64;
 
 /// How far a command of a reservation is.
 #[derive(Clone, Copy)]
@@ -30,7 +33,7 @@ pub struct SenderView {
     /// The position at which its last reservation starts, its commands, and how far they are.
     pub start: u64,
     pub commands: RawList,
-    pub progress: [Progress; MOST_RAWS],
+    pub progress: [Progress; MOST_COMMANDS],
     /// The number of its last closing sync that was taken, 0 before.
     pub completed: u32,
 }
@@ -42,7 +45,7 @@ pub struct ConsumerView {
     pub taken: u64,
     /// How many from the head on the last test found, and what was read of these since then.
     pub found: u32,
-    pub read: [ReadHalves; MOST_RAWS],
+    pub read: [ReadHalves; MOST_COMMANDS],
 }
 
 /// The words of a ring, and what its seats know.

@@ -1,5 +1,5 @@
 //! The steps that a seat may ask for, by the slots that they name, and how they are answered.
-use crate::raw_list::RawList;
+use cmdcodec::RawList;
 use qindex::{Control, Index};
 
 /// One atomic step, before it is known what it finds. Slots are places in the ring, halves are 0 (lo) and
