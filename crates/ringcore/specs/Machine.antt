@@ -7,7 +7,7 @@ use Rattle.cmdcodec.specs.declared.raw.Raw.{Raw}
 use Rattle.qindex.specs.declared.control.Control.{Control}
 use Rattle.qindex.specs.Positions.{size, place, index_of}
 use Rattle.qindex.specs.Indexes.{distance}
-use Rattle.qindex.specs.ControlWord.{IsControlWord, packed, control_in, close_mask, closed}
+use Rattle.qindex.specs.ControlWord.{IsControl, IsControlWord, packed, control_in, close_mask, closed}
 use Rattle.ringcore.specs.declared.event.Half.{Half}
 use Rattle.ringcore.specs.declared.event.Half.TheVariants.{Lo, Hi}
 use Rattle.ringcore.specs.declared.step.Seen.{Seen}
@@ -132,6 +132,14 @@ turn_reserve core s body closes =
     of_sender core (slice_get core.senders s)
     (λ view. unless_fault core (reserve_refusal core.geometry view body closes) (turn_exchange core s view body closes))
 
+abbrev pub MayReserve : CoreValue → ℕ → List Raw → Bool → Type 0
+MayReserve core s body closes =
+    (view : SenderView) → slice_get core.senders s ≡ Some view → reserve_refusal core.geometry view body closes ≡ None
+
+abbrev pub IsExchange : CoreValue → ℕ → List Raw → Bool → CoreValue → Seen → Type 0
+IsExchange core s body closes after seen =
+    (view : SenderView) → slice_get core.senders s ≡ Some view → turn_exchange core s view body closes ≡ answered after seen
+
 -- ---- write
 
 abbrev pub any_offset : ℕ → List SenderView → ℕ → Bool
@@ -170,4 +178,5 @@ pub record IsWhole (core : CoreValue) : Type 0 where
   pub taken_fits : core.consumer.taken < 2 ^ 62
   pub starts_fit : (s : ℕ) (view : SenderView) → slice_get core.senders s ≡ Some view → view.start < 2 ^ 62
   pub numbers_fit : (s : ℕ) (view : SenderView) → slice_get core.senders s ≡ Some view → view.numbers ≤ view.batches
+  pub looks_are : (s : ℕ) (view : SenderView) (found : Control) → slice_get core.senders s ≡ Some view → view.looked ≡ Some found → IsControl core.geometry found
   pub cells_fit : (s : ℕ) → s < length core.senders → slice_index core.words (cell core.geometry s) < 2 ^ 32
