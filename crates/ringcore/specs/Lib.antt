@@ -11,6 +11,4 @@ pub mod Open
 pub mod Faults
 pub mod Answers
 pub mod Played
-pub mod Sayings
-pub mod Views
-pub mod Machine
+pub mod Stores

@@ -5,13 +5,12 @@ mod event;
 mod flags;
 pub mod laws;
 mod layout;
-pub mod first_turns;
-pub mod sender_view;
-pub mod state;
+mod ring_words;
 mod step;
 
 pub use event::{Event, Half, Outcome, Who};
 pub use flags::{flip_mask, polarity, ready_run, shared_word};
 pub use laws::{batches_law, world_law};
 pub use layout::{cell, control_word, data_word, flag_word, words};
+pub use ring_words::RingWords;
 pub use step::{Seen, Step, StepFault};
