@@ -18,7 +18,7 @@ pub mod Looked
 pub mod Stored
 pub mod Shown
 pub mod Flipped
-pub mod WorkedRows
+pub mod WorkedSchedules
 pub mod FlagPlaces
 pub mod MaskLemmas
 pub mod ReadyLemmas
