@@ -35,7 +35,7 @@ pub fn data_word(index: Index, half: Half) -> usize
     first_data_word(index.geometry()) + 2 * index.place() as usize + half_number(half)
 }
 
-/// The completion cell of a sender, of 256 at most (own).
+/// The word that is a sender's completion cell. `sender` is at most 256 (own).
 pub fn cell(geometry: Geometry, sender: u32) -> usize
     requires { sender ≤ 256 }
     ensures { result ≡ cell geometry sender }
@@ -43,7 +43,7 @@ pub fn cell(geometry: Geometry, sender: u32) -> usize
     first_cell(geometry) + sender as usize * (1 + UNUSED)
 }
 
-/// How many words a ring of so many senders has, of 256 at most (own).
+/// How many words of 64 bits a ring has. `senders` is at most 256 (own).
 pub fn words(geometry: Geometry, senders: u32) -> usize
     requires { senders ≤ 256 }
     ensures { result ≡ words_of geometry senders }

@@ -10,3 +10,6 @@ pub use event::{Event, Half, Outcome, Who};
 pub use flags::{flip_mask, polarity, ready_run, shared_word};
 pub use laws::{batches_law, world_law};
 pub use layout::{cell, control_word, data_word, flag_word, words};
+
+#[cfg(test)]
+mod tests;
