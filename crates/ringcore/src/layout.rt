@@ -1,4 +1,5 @@
-//! Which word is where among the words of a ring. Words that different sides write share no 64 bytes (own).
+//! Which word is where among the words of a ring. The control word, the flag words, the data words and each
+//! completion cell share no 64 bytes (own).
 ghost use Rattle.std.specs.Prelude.{◌≡◌, ℕ, ◌≤◌, ◌^◌};
 ghost use Rattle.qindex.specs.Positions.{index_of};
 ghost use Rattle.ringcore.specs.Layout.{control_word, flag_word, first_data_word, half_number, data_word, first_cell, cell, words_of};
