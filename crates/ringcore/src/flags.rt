@@ -25,6 +25,9 @@ pub fn shared_word(first: Index) -> u32
     ensures share_at_position { (geometry position : ℕ) → first ≡ index_of geometry position → ShareAWord geometry position result }
     ensures value { result ≡ shared_word first.geometry first.number }
     ensures position { (geometry position : ℕ) → first ≡ index_of geometry position → result ≡ shared_word geometry position }
+    ensures some { 1 ≤ result }
+    ensures most { result ≤ 64 }
+    ensures within { result ≤ size first.geometry }
 {
     indexes_tell_place_and_wrap_bit();
     let size = first.geometry().size();
@@ -38,7 +41,6 @@ pub fn shared_word(first: Index) -> u32
 /// The mask that flips the flags of `count` indexes from this one on, 1 to 64 that share a flag word.
 pub fn flip_mask(first: Index, count: u32) -> u64
     requires some { 1 ≤ count }
-    requires most { count ≤ 64 }
     requires within { count ≤ size first.geometry }
     requires word { ShareAWord first.geometry first.number count }
     ensures value { IsFlipMask first.geometry first.number count result }
@@ -55,10 +57,9 @@ pub fn flip_mask(first: Index, count: u32) -> u64
     }
 }
 
-/// How many indexes in a row, from the head's on, its flag word says to be flipped: at most `limit`, which is
-/// at most 64, and as far as their flags stand in it.
+/// How many indexes in a row, from the head's on, its flag word says to be flipped: at most `limit`, and as far
+/// as their flags stand in it.
 pub fn ready_run(word: u64, head: Index, limit: u32) -> u32
-    requires { limit ≤ 64 }
     ensures value { IsReadyRun head.geometry word head.number limit result }
     ensures position { (geometry position : ℕ) → head ≡ index_of geometry position → IsReadyRun geometry word position limit result }
 {
@@ -71,6 +72,7 @@ pub fn ready_run(word: u64, head: Index, limit: u32) -> u32
         .min(to_end)
         .min(limit);
     if size <= FLAGS && here == to_end {
+        // The same flag word goes on with the next lap.
         here + equal_bits(word, 0, !polarity).min(limit - here)
     } else {
         here

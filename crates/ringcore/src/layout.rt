@@ -1,4 +1,5 @@
-//! Which word is where among the words of a ring. Words that different sides write share no 64 bytes (own).
+//! Which word is where among the words of a ring. The control word, the flag words, the data words and each
+//! completion cell share no 64 bytes (own).
 ghost use Rattle.std.specs.Prelude.{◌≡◌, ℕ, ◌≤◌, ◌^◌};
 ghost use Rattle.qindex.specs.Positions.{index_of};
 ghost use Rattle.ringcore.specs.Layout.{control_word, flag_word, first_data_word, half_number, data_word, first_cell, cell, words_of};
@@ -35,7 +36,7 @@ pub fn data_word(index: Index, half: Half) -> usize
     first_data_word(index.geometry()) + 2 * index.place() as usize + half_number(half)
 }
 
-/// The completion cell of a sender, of 256 at most (own).
+/// The word that is a sender's completion cell. `sender` is at most 256 (own).
 pub fn cell(geometry: Geometry, sender: u32) -> usize
     requires { sender ≤ 256 }
     ensures { result ≡ cell geometry sender }
@@ -43,7 +44,7 @@ pub fn cell(geometry: Geometry, sender: u32) -> usize
     first_cell(geometry) + sender as usize * (1 + UNUSED)
 }
 
-/// How many words a ring of so many senders has, of 256 at most (own).
+/// How many words of 64 bits a ring has. `senders` is at most 256 (own).
 pub fn words(geometry: Geometry, senders: u32) -> usize
     requires { senders ≤ 256 }
     ensures { result ≡ words_of geometry senders }

@@ -14,3 +14,6 @@ pub use laws::{batches_law, world_law};
 pub use layout::{cell, control_word, data_word, flag_word, words};
 pub use ring_words::RingWords;
 pub use step::{Seen, Step, StepFault};
+
+#[cfg(test)]
+mod tests;

@@ -24,6 +24,14 @@ stretch-requires-else-count-to_end-clause-within c =
     let start = small_bit c.args.first.geometry c.args.first.number small in
     omega (arith, many, bit, start, small, c.place-place.ensures.value, c.place-place.ensures.in_range)
 
+pub stretch-requires-else-count-to_end-2-clause-within :
+    goal.stretch-requires-else-count-to_end-2-clause-within
+stretch-requires-else-count-to_end-2-clause-within c =
+    let many : c.size.result ≡ size c.args.first.geometry = c.size.ensures.value ∙ ap size c.geometry.ensures in
+    let small = one_flag_word c.args.first.geometry c.args.first.number c.args.count c.requires.word
+    (omega (arith, many, c.place-place.ensures.value, c.place-place.ensures.in_range, c.if-count-to_end.false)) in
+    omega (arith, small, c.requires.within)
+
 pub returns-then-count-to_end-clause-value : goal.returns-then-count-to_end-clause-value
 returns-then-count-to_end-clause-value c =
     let many : c.size.result ≡ size c.args.first.geometry = c.size.ensures.value ∙ ap size c.geometry.ensures in

@@ -1,0 +1,3 @@
+//! What no clause says: numbers that were worked out by hand.
+mod flags;
+mod layout;
