@@ -10,16 +10,8 @@ use Rattle.ringcore.specs.declared.event.Event.TheVariants.{Look, Won, Lost, Wri
 use Rattle.ringcore.specs.Trails.{Trail, Run, same, trail_of, batches_made, batch_length}
 use Rattle.ringcore.specs.World.{items, tail, world}
 use Rattle.ringcore.specs.Allowed.{Shape, IsBody, MayWin, Allowed, IsRun}
+use Rattle.ringcore.specs.Laws.{IsOne, OnlyOf}
 use Rattle.ringcore.proofs.Sound.{length_items}
-
--- Nobody but the consumer and the senders below this number takes a step.
-abbrev pub IsOne : ℕ → Who → Type 0
-IsOne senders Consumer = ⊤
-IsOne senders (Sender s) = s < senders
-
-abbrev pub OnlyOf : ℕ → Run → Type 0
-OnlyOf senders [] = ⊤
-OnlyOf senders (x ∷ xs) = IsOne senders x.0 × OnlyOf senders xs
 
 -- the sum over the senders
 total : ℕ → (ℕ → ℕ) → ℕ

@@ -22,3 +22,4 @@ pub mod WorkedSchedules
 pub mod FlagPlaces
 pub mod MaskLemmas
 pub mod ReadyLemmas
+pub mod SyncCounts

@@ -1,8 +1,11 @@
 -- What every run is held to, of any length, in a ring of any size.
-use Rattle.std.specs.Prelude.{◌≡◌, ℕ, ◌+◌, ◌≤◌, cond, ◌==◌, List, [], ◌∷◌, ◌++◌, length, Some, slice_get}
+use Rattle.std.specs.Prelude.{◌≡◌, ◌↔◌, ℕ, suc, ◌+◌, ◌*◌, ◌<◌, ◌≤◌, Bool, cond, ◌==◌, ◌&&◌, List, [], ◌∷◌, ◌++◌, length, Some, slice_get, ⊤}
+use Rattle.cmdcodec.specs.declared.raw.Raw.{Raw}
+use Rattle.cmdcodec.specs.Opcodes.{opcode_of}
 use Rattle.qindex.specs.Positions.{size}
-use Rattle.ringcore.specs.declared.event.Who.TheVariants.{Sender}
-use Rattle.ringcore.specs.declared.event.Event.TheVariants.{Won}
+use Rattle.ringcore.specs.declared.event.Who.{Who}
+use Rattle.ringcore.specs.declared.event.Who.TheVariants.{Consumer, Sender}
+use Rattle.ringcore.specs.declared.event.Event.TheVariants.{Won, Advance}
 use Rattle.ringcore.specs.Trails.{Trail, Run, trail_of}
 use Rattle.ringcore.specs.World.{commands, Item, World, items, tail, head, world}
 use Rattle.ringcore.specs.Allowed.{Shape, SyncIsTaken, IsRun}
@@ -64,3 +67,38 @@ EarlierStandsBefore run =
     (s : ℕ) (before between after : List Batch) (one two : Batch)
     → own_batches s (trail_of (Sender s) run) ≡ before ++ one ∷ (between ++ two ∷ after)
     → StandInOrder (world run) one two
+
+-- ---- what seats may know
+
+-- Nobody but the consumer and the senders below this number takes a step.
+abbrev pub IsOne : ℕ → Who → Type 0
+IsOne senders Consumer = ⊤
+IsOne senders (Sender s) = s < senders
+
+abbrev pub OnlyOf : ℕ → Run → Type 0
+OnlyOf senders [] = ⊤
+OnlyOf senders (x ∷ xs) = IsOne senders x.0 × OnlyOf senders xs
+
+-- No more is reserved than 64 commands for each batch that each sender may make.
+abbrev pub FewAreReserved : Type 0
+FewAreReserved =
+    (ring : Shape) (senders : ℕ) (run : Run) → OnlyOf senders run → IsRun ring run → tail (world run) ≤ 64 * (senders * ring.max_batches)
+
+-- whether a command is a closing sync of this sender: a CMD_SYNC that writes into its completion cell
+abbrev pub is_sync_to : ℕ → Raw → Bool
+is_sync_to s raw = opcode_of raw == 0x46 && raw.hi == 0x40000000 + 4 * s
+
+abbrev pub syncs_in : ℕ → List Raw → ℕ
+syncs_in s [] = 0
+syncs_in s (raw ∷ raws) = cond (is_sync_to s raw) (suc (syncs_in s raws)) (syncs_in s raws)
+
+-- how many closing syncs of a sender were taken, by the consumer's trail
+abbrev pub syncs_taken : ℕ → Trail → ℕ
+syncs_taken s [] = 0
+syncs_taken s (Advance raws ∷ es) = syncs_taken s es + syncs_in s raws
+syncs_taken s (e ∷ es) = syncs_taken s es
+
+-- The consumer knows by its own trail which closing syncs are taken: those up to as many as it took.
+abbrev pub SyncsAreCounted : Run → Type 0
+SyncsAreCounted run =
+    (s number : ℕ) → SyncIsTaken (world run) s number ↔ ((1 ≤ number) × (number ≤ syncs_taken s (trail_of Consumer run)))

@@ -1,6 +1,6 @@
 //! Laws of every run, each the contract of a function that does nothing.
 ghost use Rattle.ringcore.specs.Delivery.{TakenInOrder, NumberedInOrder, NoneAfterClose, ToldWhenCompleted};
-ghost use Rattle.ringcore.specs.Laws.{EveryRun, NeverMoreThanFull, AcknowledgedAreTaken, BatchesAreUnbroken, SendersOrderIsKept, EarlierStandsBefore};
+ghost use Rattle.ringcore.specs.Laws.{EveryRun, NeverMoreThanFull, AcknowledgedAreTaken, BatchesAreUnbroken, SendersOrderIsKept, EarlierStandsBefore, FewAreReserved, SyncsAreCounted};
 
 mod steps;
 
@@ -26,4 +26,11 @@ pub fn batches_law()
     ensures unbroken { EveryRun BatchesAreUnbroken }
     ensures senders_order { EveryRun SendersOrderIsKept }
     ensures earlier_first { EveryRun EarlierStandsBefore }
+{}
+
+/// What is reserved has a bound, by the number of senders and of the batches that each may make: so no
+/// count of it wraps. And the consumer's own trail says which closing syncs are taken.
+pub fn counts_law()
+    ensures bound { FewAreReserved }
+    ensures syncs { EveryRun SyncsAreCounted }
 {}

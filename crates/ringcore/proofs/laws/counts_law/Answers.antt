@@ -1,0 +1,9 @@
+use Rattle.ringcore.proofs.Bound.{reserved_bound}
+use Rattle.ringcore.proofs.SyncCounts.{syncs_counted}
+use Rattle.ringcore.proofs.laws.counts_law.Goals as goal
+
+pub returns-clause-bound : goal.returns-clause-bound
+returns-clause-bound c = reserved_bound
+
+pub returns-clause-syncs : goal.returns-clause-syncs
+returns-clause-syncs c = syncs_counted
