@@ -1,5 +1,6 @@
 //! The words of a ring in a plain vector, with one owner: one operation for each kind of atomic step.
 ghost use Rattle.std.specs.Prelude.{◌≡◌, ◌≢◌, ◌+◌, ◌≤◌, ◌<◌, ◌^◌, ℕ, length, true, false, replicate, IfOk, OnOk, OnErr, IfErr, bit_or};
+ghost use Rattle.std.specs.Option.{SomeIff};
 ghost use Rattle.qindex.specs.Positions.{size, index_of};
 ghost use Rattle.qindex.specs.ControlWord.{packed, control_in, IsControlWord, advance_mask as mask_to_advance, close_mask as mask_to_close};
 ghost use Rattle.ringcore.specs.Layout.{control_word, flag_word, data_word, cell, words_of};
@@ -47,12 +48,18 @@ impl RingWords {
         })
     }
 
-    /// What the control word says.
-    pub fn control(&self) -> Control
-        requires { IsControlWord self.now.geometry (word_at self.now control_word) }
-        ensures { result ≡ control_in self.now.geometry (word_at self.now control_word) }
+    /// The geometry of the ring.
+    pub fn geometry(&self) -> Geometry
+        ensures { result ≡ self.now.geometry }
     {
-        Control::unpack(self.geometry, self.words[control_word()]).unwrap()
+        self.geometry
+    }
+
+    /// What the control word says, if it is one that a ring may have.
+    pub fn control(&self) -> Option<Control>
+        ensures { SomeIff result (IsControlWord self.now.geometry (word_at self.now control_word)) (control_in self.now.geometry (word_at self.now control_word)) }
+    {
+        Control::unpack(self.geometry, self.words[control_word()])
     }
 
     /// Stores the control after where the control word says the one before, and says whether it did.
@@ -79,7 +86,6 @@ impl RingWords {
     pub fn flip(&mut self, first: Index, count: u32)
         requires geometry { first.geometry ≡ self.old.geometry }
         requires some { 1 ≤ count }
-        requires most { count ≤ 64 }
         requires within { count ≤ size first.geometry }
         requires word { ShareAWord first.geometry first.number count }
         ensures { IsFlipped self.old self.new first.number count }
@@ -87,11 +93,10 @@ impl RingWords {
         self.words[flag_word(first)] ^= flip_mask(first, count);
     }
 
-    /// How many indexes in a row, from the head's on, are said to be flipped: at most `limit`, which is at
-    /// most 64, and as far as their flags stand in the head's flag word.
+    /// How many indexes in a row, from the head's on, are said to be flipped: at most `limit`, and as far
+    /// as their flags stand in the head's flag word.
     pub fn ready(&self, head: Index, limit: u32) -> u32
-        requires geometry { head.geometry ≡ self.now.geometry }
-        requires limit { limit ≤ 64 }
+        requires { head.geometry ≡ self.now.geometry }
         ensures { IsReadyRun self.now.geometry (word_at self.now (flag_word self.now.geometry head.number)) head.number limit result }
     {
         ready_run(self.words[flag_word(head)], head, limit)

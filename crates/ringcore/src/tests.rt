@@ -1,3 +1,4 @@
 //! What no clause says: numbers that were worked out by hand.
 mod flags;
 mod layout;
+mod ring_words;
