@@ -1,7 +1,6 @@
 -- How much may ever be reserved, so that a count of 64 bits never wraps.
 use Rattle.std.proofs.Common.{◌≡◌, ◌≢◌, ℕ, zero, suc, ◌+◌, ◌*◌, ◌<◌, ◌≤◌, Bool, true, false, cond, List, [], ◌∷◌, Option, Some, None, refl, sym, ap, inl, inr, subst, eq-eqb, ne_eqb, arith, length-append}
 use Rattle.std.proofs.lemmas.Bool.{cases_eq}
-use Rattle.std.specs.Prelude.{⊤}
 use Rattle.cmdcodec.specs.declared.raw.Raw.{Raw}
 use Rattle.ringcore.specs.declared.event.Who.{Who}
 use Rattle.ringcore.specs.declared.event.Who.TheVariants.{Consumer, Sender}

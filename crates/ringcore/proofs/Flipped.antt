@@ -1,33 +1,29 @@
 -- The steps on the flags: flip and test, and advance, which opens places for the lap that follows.
-use Rattle.std.proofs.Common.{◌≡◌, ◌≢◌, ℕ, zero, suc, ◌+◌, ◌-◌, ◌*◌, ◌/◌, ◌%◌, ◌^◌, ◌<◌, ◌≤◌, Bool, true, false, ◌==◌, ◌||◌, ◌&&◌, List, [], ◌∷◌, ◌++◌, length, map, Option, Some, refl, sym, ap, ap₂, ◌∙◌, subst, inl, inr, eqb-true, eq-eqb, ne_eqb, arith, length-append, length-set, bit_xor}
+use Rattle.std.proofs.Common.{◌≡◌, ◌≢◌, ℕ, zero, suc, ◌+◌, ◌-◌, ◌/◌, ◌%◌, ◌<◌, ◌≤◌, Bool, true, false, ◌==◌, ◌||◌, ◌&&◌, List, ◌∷◌, ◌++◌, length, map, refl, sym, ap, ap₂, ◌∙◌, subst, inl, inr, eqb-true, eq-eqb, ne_eqb, arith, length-append, length-set, bit_xor}
 use Rattle.std.proofs.lemmas.Bool.{true≢false, cases_lt, cases_eq, false_from_ne_true, le-leb, lt-ltb, eqb-false}
 use Rattle.std.proofs.lemmas.List.{length-map}
 use Rattle.std.proofs.lemmas.Nat.Bits.{bit_at_xor, bit_at-lt}
-use Rattle.std.specs.Prelude.{slice_get, slice_index, slice_set, nat_le, nat_lt}
+use Rattle.std.specs.Prelude.{slice_index}
 use Rattle.std.specs.Int.{bit_at}
 use Rattle.cmdcodec.specs.declared.raw.Raw.{Raw}
 use Rattle.qindex.specs.declared.control.Control.{Control}
-use Rattle.qindex.specs.Positions.{IndexValue, size, place, wrap_bit, index_of}
-use Rattle.qindex.specs.ControlWord.{IsControl, packed, advance_mask, advanced}
+use Rattle.qindex.specs.Positions.{size, place, wrap_bit, index_of}
+use Rattle.qindex.specs.ControlWord.{packed, advance_mask}
 use Rattle.qindex.specs.Laws.{QueuesHaveAControl, IndexesArePlaceAndWrapBit, SlotsAreApart, WrapBitsTurnByLap, XorAdvances}
-use Rattle.ringcore.specs.declared.event.Who.{Who}
 use Rattle.ringcore.specs.declared.event.Who.TheVariants.{Consumer, Sender}
-use Rattle.ringcore.specs.declared.event.Half.{Half}
-use Rattle.ringcore.specs.declared.event.Event.{Event}
-use Rattle.ringcore.specs.declared.event.Event.TheVariants.{Look, Won, Lost, Write, Flip, Test, Read, Advance, Close, Acknowledge, Ask}
-use Rattle.ringcore.specs.Trails.{Run, trail_of, same_half, is_among, reserved_length, has_flipped, found_ready}
-use Rattle.ringcore.specs.World.{Item, World, taken_as, tail, head, after, world, control, half_of}
-use Rattle.ringcore.specs.Allowed.{MayWrite, MayFlip, FindsReady, MayRead, MayAdvance, IsRunLength, IsInOneWord, IsRun}
+use Rattle.ringcore.specs.declared.event.Event.TheVariants.{Flip, Test, Advance}
+use Rattle.ringcore.specs.Trails.{Run, trail_of, is_among, found_ready}
+use Rattle.ringcore.specs.World.{World, taken_as, tail, head, after, world, control}
+use Rattle.ringcore.specs.Allowed.{MayFlip, FindsReady, MayAdvance, IsRunLength, IsInOneWord, IsRun}
 use Rattle.ringcore.specs.Layout.{control_word, flag_word, data_word, cell}
-use Rattle.ringcore.specs.Flags.{flag_bit, polarity, says_flipped, ShareAWord, IsFlagOf, IsFlipMask, IsReadyRun}
-use Rattle.ringcore.specs.Shadow.{Ring, shape, IsShadow, AreAfter}
-use Rattle.ringcore.specs.Steps.{reserved_commands, turned}
-use Rattle.ringcore.proofs.Lists.{off, some_one, none_some}
-use Rattle.ringcore.proofs.Sound.{Sound, sound, among, half_is}
+use Rattle.ringcore.specs.Flags.{flag_bit, polarity, says_flipped, ShareAWord, IsFlipMask, IsReadyRun}
+use Rattle.ringcore.specs.Shadow.{Ring, shape, AreAfter}
+use Rattle.ringcore.specs.Steps.{turned}
+use Rattle.ringcore.proofs.Sound.{Sound, sound, among}
 use Rattle.ringcore.proofs.Slots.{Deep, deep}
 use Rattle.ringcore.proofs.Looked.{is_control}
 use Rattle.ringcore.proofs.Shown.{InWindow, open_slot}
-use Rattle.ringcore.proofs.Places.{flag_within, data_within, control_within, control_not_flag, control_not_data, control_not_cell, flag_not_data, flag_not_cell, data_not_cell, same_data, same_flag, others_stay, is_stored, flags_stay}
+use Rattle.ringcore.proofs.Places.{flag_within, control_within, control_not_flag, control_not_data, control_not_cell, flag_not_data, flag_not_cell, same_flag, others_stay, is_stored, flags_stay}
 
 -- ---- flags that share a word, said either way
 
@@ -205,7 +201,7 @@ module _ (ring : Ring) (run : Run) (words : List ℕ) (is : AreAfter ring run wo
           let turn : a + b ≡ 1 = lap.wrap_bit in let e : 1 - a ≡ 1 - b = same in omega (arith, turn, e)
 
       at_most : found ≤ size g
-      at_most = elim (cases_lt (size g) found) [ | inl over ↦ absurd (not_round over) | inr le ↦ le ]
+      at_most = elim (cases_lt (size g) found) [ inl over ↦ absurd (not_round over) | inr le ↦ le ]
 
       may : FindsReady (shape ring) w limit found
       may = record {

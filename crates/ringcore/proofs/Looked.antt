@@ -1,5 +1,5 @@
 -- The control word says the control of the world, and what a seat looked at was one.
-use Rattle.std.proofs.Common.{◌≡◌, ℕ, Bool, true, false, cond, List, [], ◌∷◌, Option, Some, None, refl, sym, ap, ◌∙◌, subst, eqb-true}
+use Rattle.std.proofs.Common.{◌≡◌, ℕ, Bool, true, false, cond, [], ◌∷◌, Some, refl, sym, ap, ◌∙◌, subst, eqb-true}
 use Rattle.qindex.specs.declared.control.Control.{Control}
 use Rattle.qindex.specs.Indexes.{IsGeometry}
 use Rattle.qindex.specs.ControlWord.{IsControl, packed, control_in}
@@ -8,11 +8,11 @@ use Rattle.ringcore.specs.declared.event.Who.{Who}
 use Rattle.ringcore.specs.declared.event.Who.TheVariants.{Consumer, Sender}
 use Rattle.ringcore.specs.declared.event.Event.{Event}
 use Rattle.ringcore.specs.declared.event.Event.TheVariants.{Look, Won, Lost, Write, Flip, Test, Read, Advance, Close, Acknowledge, Ask}
-use Rattle.ringcore.specs.Trails.{Trail, Run, same, trail_of, looked}
-use Rattle.ringcore.specs.World.{World, tail, head, world, control}
+use Rattle.ringcore.specs.Trails.{Run, same, trail_of, looked}
+use Rattle.ringcore.specs.World.{tail, head, world, control}
 use Rattle.ringcore.specs.Allowed.{Shape, Allowed, IsRun}
 use Rattle.ringcore.proofs.Lists.{off, some_one, none_some}
-use Rattle.ringcore.proofs.Sound.{Sound, sound}
+use Rattle.ringcore.proofs.Sound.{sound}
 
 same_is : (u v : Who) → same u v ≡ true → u ≡ v
 same_is Consumer Consumer e = refl

@@ -1,5 +1,5 @@
 -- Which words are different, and what a store leaves as it was.
-use Rattle.std.proofs.Common.{◌≡◌, ◌≢◌, ℕ, ◌+◌, ◌*◌, ◌/◌, ◌%◌, ◌<◌, ◌≤◌, List, length, get_or-set_other, get_or-set_same, refl, sym, ap, ◌∙◌, arith}
+use Rattle.std.proofs.Common.{◌≡◌, ◌≢◌, ℕ, ◌+◌, ◌*◌, ◌/◌, ◌%◌, ◌<◌, ◌≤◌, List, length, get_or-set_other, get_or-set_same, refl, ap, arith}
 use Rattle.std.proofs.lemmas.Nat.{pow_pos}
 use Rattle.std.proofs.Math.Nat.{mod-lt}
 use Rattle.std.specs.Prelude.{slice_index, slice_set, ◌==◌}
@@ -7,7 +7,7 @@ use Rattle.std.specs.Int.{bit_at}
 use Rattle.qindex.specs.Positions.{size, place}
 use Rattle.ringcore.specs.declared.event.Half.{Half}
 use Rattle.ringcore.specs.declared.event.Half.TheVariants.{Lo, Hi}
-use Rattle.ringcore.specs.Layout.{control_word, flag_words, flag_word, first_data_word, half_number, data_word, first_cell, cell, words_of}
+use Rattle.ringcore.specs.Layout.{control_word, flag_word, first_data_word, half_number, data_word, first_cell, cell, words_of}
 use Rattle.ringcore.specs.Flags.{flag_bit, polarity, says_flipped}
 use Rattle.ringcore.specs.Steps.{WordsAreApart}
 

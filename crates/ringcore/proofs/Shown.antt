@@ -1,32 +1,24 @@
 -- The steps on the data words: write and read.
-use Rattle.std.proofs.Common.{◌≡◌, ◌≢◌, ℕ, zero, suc, ◌+◌, ◌-◌, ◌*◌, ◌/◌, ◌%◌, ◌^◌, ◌<◌, ◌≤◌, Bool, true, false, ◌==◌, ◌||◌, ◌&&◌, List, [], ◌∷◌, ◌++◌, length, map, Option, Some, refl, sym, ap, ap₂, ◌∙◌, subst, inl, inr, eqb-true, eq-eqb, ne_eqb, arith, length-append, length-set, bit_xor}
-use Rattle.std.proofs.lemmas.Bool.{true≢false, cases_lt, cases_eq, false_from_ne_true, or_cases, and_parts, eqb-false}
-use Rattle.std.proofs.lemmas.List.{length-map}
-use Rattle.std.proofs.lemmas.Nat.Bits.{bit_at_xor, bit_at-lt}
-use Rattle.std.specs.Prelude.{slice_get, slice_index, slice_set, nat_le, nat_lt}
-use Rattle.std.specs.Int.{bit_at}
+use Rattle.std.proofs.Common.{◌≡◌, ℕ, zero, suc, ◌+◌, ◌<◌, ◌≤◌, false, ◌==◌, ◌&&◌, List, [], ◌∷◌, Option, Some, refl, sym, ap, ap₂, ◌∙◌, subst, inl, inr, eqb-true, arith, length-set}
+use Rattle.std.proofs.lemmas.Bool.{true≢false, cases_lt, cases_eq, or_cases, and_parts}
+use Rattle.std.specs.Prelude.{slice_get, slice_index, slice_set}
 use Rattle.cmdcodec.specs.declared.raw.Raw.{Raw}
-use Rattle.qindex.specs.declared.control.Control.{Control}
-use Rattle.qindex.specs.Positions.{IndexValue, size, place, wrap_bit, index_of}
-use Rattle.qindex.specs.ControlWord.{IsControl, packed, advance_mask, advanced}
-use Rattle.qindex.specs.Laws.{QueuesHaveAControl, IndexesArePlaceAndWrapBit, SlotsAreApart, WrapBitsTurnByLap, XorAdvances}
-use Rattle.ringcore.specs.declared.event.Who.{Who}
+use Rattle.qindex.specs.Positions.{size, place}
+use Rattle.qindex.specs.Laws.{SlotsAreApart}
 use Rattle.ringcore.specs.declared.event.Who.TheVariants.{Consumer, Sender}
 use Rattle.ringcore.specs.declared.event.Half.{Half}
 use Rattle.ringcore.specs.declared.event.Event.{Event}
 use Rattle.ringcore.specs.declared.event.Event.TheVariants.{Look, Won, Lost, Write, Flip, Test, Read, Advance, Close, Acknowledge, Ask}
-use Rattle.ringcore.specs.Trails.{Run, trail_of, same_half, is_among, reserved_length, has_flipped, found_ready}
-use Rattle.ringcore.specs.World.{Item, World, commands, items_from, taken_as, tail, head, after, world, control, half_of}
-use Rattle.ringcore.specs.Allowed.{MayWrite, MayFlip, FindsReady, MayRead, MayAdvance, IsRunLength, IsInOneWord}
-use Rattle.ringcore.specs.Layout.{control_word, flag_word, data_word, cell}
-use Rattle.ringcore.specs.Flags.{flag_bit, polarity, says_flipped, ShareAWord, IsFlagOf, IsFlipMask, IsReadyRun}
-use Rattle.ringcore.specs.Shadow.{Ring, shape, IsShadow, AreAfter}
-use Rattle.ringcore.specs.Steps.{reserved_commands, turned}
-use Rattle.ringcore.proofs.Lists.{off, some_one, none_some}
-use Rattle.ringcore.proofs.Sound.{Sound, sound, among, half_is}
-use Rattle.ringcore.proofs.Slots.{Deep, deep, last_items, length_of_last, get_there}
-use Rattle.ringcore.proofs.Looked.{is_control}
-use Rattle.ringcore.proofs.Places.{flag_within, data_within, control_within, control_not_flag, control_not_data, control_not_cell, flag_not_data, flag_not_cell, data_not_cell, same_data, same_flag, others_stay, is_stored, flags_stay}
+use Rattle.ringcore.specs.Trails.{Run, trail_of, same_half, reserved_length, has_flipped, found_ready}
+use Rattle.ringcore.specs.World.{Item, World, commands, items_from, tail, head, world, half_of}
+use Rattle.ringcore.specs.Allowed.{MayWrite, MayRead}
+use Rattle.ringcore.specs.Layout.{control_word, data_word, cell}
+use Rattle.ringcore.specs.Shadow.{Ring, shape, AreAfter}
+use Rattle.ringcore.specs.Steps.{reserved_commands}
+use Rattle.ringcore.proofs.Lists.{some_one, none_some}
+use Rattle.ringcore.proofs.Sound.{Sound, sound, half_is}
+use Rattle.ringcore.proofs.Slots.{Deep, deep, last_items, get_there}
+use Rattle.ringcore.proofs.Places.{data_within, control_not_data, flag_not_data, data_not_cell, same_data, others_stay, is_stored, flags_stay}
 
 as_item : (place s : ℕ) (number : Option ℕ) (raws : List Raw) (k : ℕ) (raw : Raw) → slice_get raws k ≡ Some raw
     → (item : Item) × ((slice_get (items_from place s number raws) k ≡ Some item) × (item.raw ≡ raw))

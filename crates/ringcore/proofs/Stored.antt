@@ -1,26 +1,25 @@
 -- The steps on the control word and on the cells, and those that store nothing.
-use Rattle.std.proofs.Common.{◌≡◌, ◌≢◌, ℕ, ◌+◌, ◌-◌, ◌*◌, ◌/◌, ◌%◌, ◌<◌, ◌≤◌, Bool, true, false, ◌==◌, cond, List, [], ◌∷◌, ◌++◌, length, map, Option, Some, None, refl, sym, ap, ap₂, ◌∙◌, subst, inl, inr, eq-eqb, ne_eqb, arith, length-append, length-set}
+use Rattle.std.proofs.Common.{◌≡◌, ◌≢◌, ℕ, ◌+◌, ◌-◌, ◌*◌, ◌/◌, ◌%◌, ◌<◌, Bool, false, ◌==◌, cond, List, ◌∷◌, Option, Some, sym, ap, ap₂, ◌∙◌, subst, inl, inr, eq-eqb, ne_eqb, arith, length-append, length-set}
 use Rattle.std.proofs.Math.Nat.{mod-add-mod, zero-mod, div-eq_of_lt}
-use Rattle.std.proofs.lemmas.Bool.{cases_eq, false_from_ne_true}
+use Rattle.std.proofs.lemmas.Bool.{cases_eq}
 use Rattle.std.proofs.lemmas.Nat.Bits.{bit_at-zero}
-use Rattle.std.specs.Prelude.{slice_get, slice_index, slice_set, bit_or}
+use Rattle.std.specs.Prelude.{slice_index, slice_set, bit_or}
 use Rattle.std.specs.Int.{bit_at}
 use Rattle.cmdcodec.specs.declared.raw.Raw.{Raw}
 use Rattle.qindex.specs.declared.control.Control.{Control}
-use Rattle.qindex.specs.Positions.{IndexValue, size, index_of}
+use Rattle.qindex.specs.Positions.{size, index_of}
 use Rattle.qindex.specs.Indexes.{distance}
-use Rattle.qindex.specs.ControlWord.{IsControl, packed, control_in, close_mask, closed}
+use Rattle.qindex.specs.ControlWord.{packed, control_in, close_mask, closed}
 use Rattle.qindex.specs.Laws.{QueuesHaveAControl, WordsSayTheirControl, IndexesTellTheQueue, OrCloses}
 use Rattle.ringcore.specs.declared.event.Who.{Who}
 use Rattle.ringcore.specs.declared.event.Who.TheVariants.{Consumer, Sender}
-use Rattle.ringcore.specs.declared.event.Half.{Half}
 use Rattle.ringcore.specs.declared.event.Event.{Event}
 use Rattle.ringcore.specs.declared.event.Event.TheVariants.{Look, Won, Lost, Close, Acknowledge, Ask}
 use Rattle.ringcore.specs.Trails.{Run, trail_of, batch_length}
-use Rattle.ringcore.specs.World.{Item, World, items, with_at, tail, head, after, world, control, half_of}
+use Rattle.ringcore.specs.World.{World, items, tail, head, after, world, control}
 use Rattle.ringcore.specs.Allowed.{Allowed, MayTry, MayWin, MayLose, IsNextNumber, MayAcknowledge, length_with}
-use Rattle.ringcore.specs.Layout.{control_word, flag_word, data_word, cell, words_of}
-use Rattle.ringcore.specs.Flags.{flag_bit, polarity, says_flipped}
+use Rattle.ringcore.specs.Layout.{control_word, flag_word, data_word, cell}
+use Rattle.ringcore.specs.Flags.{flag_bit, polarity}
 use Rattle.ringcore.specs.Shadow.{Ring, shape, IsShadow, AreAfter}
 use Rattle.ringcore.specs.Steps.{OpensAllZero, with_reserved, StartsWhereItLooked}
 use Rattle.ringcore.proofs.Lists.{off, get_shorter}

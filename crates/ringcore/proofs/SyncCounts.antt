@@ -1,6 +1,6 @@
 -- The consumer's trail says which closing syncs are taken.
-use Rattle.std.proofs.Common.{◌≡◌, ℕ, zero, suc, ◌+◌, ◌-◌, ◌*◌, ◌<◌, ◌≤◌, Bool, true, false, cond, ◌==◌, ◌&&◌, List, [], ◌∷◌, ◌++◌, length, map, Option, Some, None, refl, sym, ap, ap₂, ◌∙◌, subst, inl, inr, eqb-true, eq-eqb, ne_eqb, arith, length-append, append_assoc}
-use Rattle.std.proofs.lemmas.Bool.{and_parts, cases_eq, cases_lt}
+use Rattle.std.proofs.Common.{◌≡◌, ℕ, zero, suc, ◌+◌, ◌-◌, ◌*◌, ◌<◌, ◌≤◌, Bool, true, false, cond, ◌==◌, ◌&&◌, List, [], ◌∷◌, ◌++◌, length, map, Option, Some, None, refl, sym, ap, ap₂, ◌∙◌, subst, inl, inr, eqb-true, eq-eqb, ne_eqb, arith}
+use Rattle.std.proofs.lemmas.Bool.{and_parts, cases_eq}
 use Rattle.std.proofs.lemmas.List.{length-map, map-append}
 use Rattle.std.proofs.lemmas.Option.{slice_get_within}
 use Rattle.std.specs.Prelude.{slice_get}
@@ -12,11 +12,11 @@ use Rattle.ringcore.specs.declared.event.Who.TheVariants.{Consumer, Sender}
 use Rattle.ringcore.specs.declared.event.Event.{Event}
 use Rattle.ringcore.specs.declared.event.Event.TheVariants.{Look, Won, Lost, Write, Flip, Test, Read, Advance, Close, Acknowledge, Ask}
 use Rattle.ringcore.specs.Trails.{Run, trail_of}
-use Rattle.ringcore.specs.World.{Item, Taken, World, sync_raw, taken_as, tail, head, after, world}
+use Rattle.ringcore.specs.World.{Item, Taken, World, sync_raw, taken_as, head, world}
 use Rattle.ringcore.specs.Allowed.{Shape, SyncIsTaken, Allowed, IsRun}
 use Rattle.ringcore.specs.Delivery.{number_of, counted}
 use Rattle.ringcore.specs.Laws.{is_sync_to, syncs_in, syncs_taken, SyncsAreCounted}
-use Rattle.ringcore.proofs.Lists.{off, some_one, none_some, get_shorter}
+use Rattle.ringcore.proofs.Lists.{some_one, none_some, get_shorter}
 use Rattle.ringcore.proofs.Reading.{raws_of, raws_taken, taken_again}
 use Rattle.ringcore.proofs.Sound.{Sound, sound}
 use Rattle.ringcore.proofs.Syncs.{sync_opcode, IsSyncOf, is_sync, sync_numbers, syncs_numbered}
@@ -124,9 +124,11 @@ number_there s k [] p item at sender number sync = none_some item at
 number_there s k (x ∷ xs) zero item at sender number sync =
     let is : x ≡ item = some_one x item at in
     let kind : (s == x.sender && opcode_of x.raw == 0x46) ≡ true =
-    ap₂ (λ a b. a && b) (eq-eqb s x.sender (sym (ap (λ (i : Item). i.sender) is ∙ sender))) (eq-eqb (opcode_of x.raw) 0x46 (ap (λ (i : Item). opcode_of i.raw) is ∙ sync)) in
-    (0, ap (λ b. slice_get (cond b (number_of x.number (sync_numbers s xs)) (sync_numbers s xs)) 0) kind
-    ∙ ap (λ n. slice_get (number_of n (sync_numbers s xs)) 0) (ap (λ (i : Item). i.number) is ∙ number))
+    ap₂ (λ a b. a && b) (eq-eqb s x.sender (sym (ap (λ (i : Item). i.sender) is ∙ sender))) (eq-eqb (opcode_of x.raw) 0x46 (ap (λ (i : Item). opcode_of i.raw) is ∙ sync)) in (
+      0,
+      ap (λ b. slice_get (cond b (number_of x.number (sync_numbers s xs)) (sync_numbers s xs)) 0) kind
+          ∙ ap (λ n. slice_get (number_of n (sync_numbers s xs)) 0) (ap (λ (i : Item). i.number) is ∙ number),
+    )
 number_there s k (x ∷ xs) (suc p) item at sender number sync =
     let r = number_there s k xs p item at sender number sync in by_kind (s == x.sender && opcode_of x.raw == 0x46) x.number r
   where

@@ -1,5 +1,5 @@
 -- Worked schedules: what the definitions answer each step, and which step they refuse.
-use Rattle.std.proofs.Common.{◌≡◌, ℕ, Bool, true, false, List, [], ◌∷◌, Option, Some, None, refl}
+use Rattle.std.proofs.Common.{◌≡◌, ℕ, true, false, List, [], ◌∷◌, Option, Some, None, refl}
 use Rattle.arrayvec.specs.ArrayVec.{ArrayVec}
 use Rattle.cmdcodec.specs.declared.raw.Raw.{Raw}
 use Rattle.cmdcodec.specs.Words.{encoding}
@@ -10,7 +10,7 @@ use Rattle.ringcore.specs.declared.step.StepFault.TheVariants.{AnotherSenders, N
 use Rattle.ringcore.specs.declared.step.Seen.{Seen}
 use Rattle.ringcore.specs.declared.step.Seen.TheVariants.{Word, Reserved, Lost, Written, Flipped as FlippedTo, Ready, Half as HalfWord, Acknowledged, Done}
 use Rattle.ringcore.specs.Shadow.{Ring}
-use Rattle.ringcore.specs.Played.{Played, played}
+use Rattle.ringcore.specs.Played.{played}
 use Rattle.ringcore.proofs.WorkedCases.{x, shows}
 
 abbrev raws : List Raw → ArrayVec Raw
@@ -31,7 +31,7 @@ advance_more_f6 =
 
 advance_more_f6_is : ArePlayed 2 1 advance_more_f6
     ((Word (shows 2 0 0 false)) ∷ (Reserved (record { geometry = 2; number = 0 }) (Some 1)) ∷ Written ∷ Written ∷ (FlippedTo 1) ∷ (Ready 1) ∷
-     (HalfWord 21474836483) ∷ (HalfWord 1) ∷ [])
+    (HalfWord 21474836483) ∷ (HalfWord 1) ∷ [])
     (Some (8, NotSeenReady))
 unfolding encoding
 advance_more_f6_is = (refl, refl)
@@ -47,11 +47,11 @@ control_word_returns =
 
 control_word_returns_is : ArePlayed 1 2 control_word_returns
     ((Word (shows 1 0 0 false)) ∷ (Word (shows 1 0 0 false)) ∷ (Reserved (record { geometry = 1; number = 0 }) (Some 1)) ∷ Written ∷ Written ∷
-     (FlippedTo 1) ∷ Written ∷ Written ∷ (FlippedTo 1) ∷ (Ready 1) ∷ (HalfWord 21474836483) ∷ (HalfWord 1) ∷ (Word (shows 1 2 1 false)) ∷ (Ready 1) ∷
-     (HalfWord 4294971462) ∷ (HalfWord 1073741828) ∷ (Word (shows 1 2 2 false)) ∷ Acknowledged ∷ (Word (shows 1 2 2 false)) ∷
-     (Reserved (record { geometry = 1; number = 2 }) (Some 2)) ∷ Written ∷ Written ∷ Written ∷ Written ∷ (FlippedTo 0) ∷ (FlippedTo 0) ∷ (Ready 1) ∷
-     (HalfWord 21474836483) ∷ (HalfWord 1) ∷ (Word (shows 1 0 3 false)) ∷ (Ready 1) ∷ (HalfWord 8589938758) ∷ (HalfWord 1073741828) ∷
-     (Word (shows 1 0 0 false)) ∷ (Reserved (record { geometry = 1; number = 0 }) (Some 1)) ∷ (Word (shows 1 2 0 false)) ∷ [])
+    (FlippedTo 1) ∷ Written ∷ Written ∷ (FlippedTo 1) ∷ (Ready 1) ∷ (HalfWord 21474836483) ∷ (HalfWord 1) ∷ (Word (shows 1 2 1 false)) ∷ (Ready 1) ∷
+    (HalfWord 4294971462) ∷ (HalfWord 1073741828) ∷ (Word (shows 1 2 2 false)) ∷ Acknowledged ∷ (Word (shows 1 2 2 false)) ∷
+    (Reserved (record { geometry = 1; number = 2 }) (Some 2)) ∷ Written ∷ Written ∷ Written ∷ Written ∷ (FlippedTo 0) ∷ (FlippedTo 0) ∷ (Ready 1) ∷
+    (HalfWord 21474836483) ∷ (HalfWord 1) ∷ (Word (shows 1 0 3 false)) ∷ (Ready 1) ∷ (HalfWord 8589938758) ∷ (HalfWord 1073741828) ∷
+    (Word (shows 1 0 0 false)) ∷ (Reserved (record { geometry = 1; number = 0 }) (Some 1)) ∷ (Word (shows 1 2 0 false)) ∷ [])
     (Some (36, NoRoom))
 unfolding encoding
 control_word_returns_is = (refl, refl)
@@ -207,7 +207,7 @@ flip_past_end_f1 =
 
 flip_past_end_f1_is : ArePlayed 2 2 flip_past_end_f1
     ((Word (shows 2 0 0 false)) ∷ (Reserved (record { geometry = 2; number = 0 }) (Some 1)) ∷ (Word (shows 2 2 0 false)) ∷
-     (Reserved (record { geometry = 2; number = 2 }) (Some 1)) ∷ Written ∷ Written ∷ Written ∷ Written ∷ [])
+    (Reserved (record { geometry = 2; number = 2 }) (Some 1)) ∷ Written ∷ Written ∷ Written ∷ Written ∷ [])
     (Some (8, AnotherSenders))
 unfolding encoding
 flip_past_end_f1_is = (refl, refl)
@@ -242,7 +242,7 @@ nothing_counts_after_an_advance =
 
 nothing_counts_after_an_advance_is : ArePlayed 2 1 nothing_counts_after_an_advance
     ((Word (shows 2 0 0 false)) ∷ (Reserved (record { geometry = 2; number = 0 }) (Some 1)) ∷ Written ∷ Written ∷ Written ∷ Written ∷ (FlippedTo 3) ∷
-     (Ready 2) ∷ (HalfWord 21474836483) ∷ (HalfWord 1) ∷ (HalfWord 4294971462) ∷ (HalfWord 1073741824) ∷ (Word (shows 2 2 1 false)) ∷ [])
+    (Ready 2) ∷ (HalfWord 21474836483) ∷ (HalfWord 1) ∷ (HalfWord 4294971462) ∷ (HalfWord 1073741824) ∷ (Word (shows 2 2 1 false)) ∷ [])
     (Some (13, NotSeenReady))
 unfolding encoding
 nothing_counts_after_an_advance_is = (refl, refl)
@@ -268,9 +268,9 @@ runs =
 
 runs_is : ArePlayed 2 1 runs
     ((Word (shows 2 0 0 false)) ∷ (Reserved (record { geometry = 2; number = 0 }) (Some 1)) ∷ Written ∷ Written ∷ Written ∷ Written ∷ Written ∷ Written ∷
-     (FlippedTo 7) ∷ (Ready 3) ∷ (HalfWord 21474836483) ∷ (HalfWord 1) ∷ (HalfWord 21474836483) ∷ (HalfWord 1) ∷ (Word (shows 2 3 2 false)) ∷ (Ready 1) ∷
-     (HalfWord 4294971462) ∷ (HalfWord 1073741824) ∷ (Word (shows 2 3 3 false)) ∷ Acknowledged ∷ (Word (shows 2 3 3 false)) ∷
-     (Reserved (record { geometry = 2; number = 3 }) (Some 2)) ∷ Written ∷ Written ∷ Written ∷ Written ∷ Written ∷ Written ∷ (FlippedTo 1) ∷ (Ready 3) ∷ [])
+    (FlippedTo 7) ∷ (Ready 3) ∷ (HalfWord 21474836483) ∷ (HalfWord 1) ∷ (HalfWord 21474836483) ∷ (HalfWord 1) ∷ (Word (shows 2 3 2 false)) ∷ (Ready 1) ∷
+    (HalfWord 4294971462) ∷ (HalfWord 1073741824) ∷ (Word (shows 2 3 3 false)) ∷ Acknowledged ∷ (Word (shows 2 3 3 false)) ∷
+    (Reserved (record { geometry = 2; number = 3 }) (Some 2)) ∷ Written ∷ Written ∷ Written ∷ Written ∷ Written ∷ Written ∷ (FlippedTo 1) ∷ (Ready 3) ∷ [])
     None
 unfolding encoding
 runs_is = (refl, refl)
@@ -328,8 +328,8 @@ ack_counts_syncs_only =
 
 ack_counts_syncs_only_is : ArePlayed 2 1 ack_counts_syncs_only
     ((Word (shows 2 0 0 false)) ∷ (Reserved (record { geometry = 2; number = 0 }) None) ∷ Written ∷ Written ∷ (FlippedTo 1) ∷ (Word (shows 2 1 0 false)) ∷
-     (Reserved (record { geometry = 2; number = 1 }) (Some 1)) ∷ Written ∷ Written ∷ Written ∷ Written ∷ (FlippedTo 3) ∷ (Ready 3) ∷ (HalfWord 21474836483) ∷
-     (HalfWord 1) ∷ (HalfWord 21474836483) ∷ (HalfWord 1) ∷ (HalfWord 4294971462) ∷ (HalfWord 1073741824) ∷ (Word (shows 2 3 3 false)) ∷ Acknowledged ∷ [])
+    (Reserved (record { geometry = 2; number = 1 }) (Some 1)) ∷ Written ∷ Written ∷ Written ∷ Written ∷ (FlippedTo 3) ∷ (Ready 3) ∷ (HalfWord 21474836483) ∷
+    (HalfWord 1) ∷ (HalfWord 21474836483) ∷ (HalfWord 1) ∷ (HalfWord 4294971462) ∷ (HalfWord 1073741824) ∷ (Word (shows 2 3 3 false)) ∷ Acknowledged ∷ [])
     None
 unfolding encoding
 ack_counts_syncs_only_is = (refl, refl)
@@ -355,9 +355,9 @@ acks_after_a_run =
 
 acks_after_a_run_is : ArePlayed 2 1 acks_after_a_run
     ((Word (shows 2 0 0 false)) ∷ (Reserved (record { geometry = 2; number = 0 }) (Some 1)) ∷ Written ∷ Written ∷ Written ∷ Written ∷ (FlippedTo 3) ∷
-     (Word (shows 2 2 0 false)) ∷ (Reserved (record { geometry = 2; number = 2 }) (Some 2)) ∷ Written ∷ Written ∷ Written ∷ Written ∷ (FlippedTo 3) ∷
-     (Ready 4) ∷ (HalfWord 21474836483) ∷ (HalfWord 1) ∷ (HalfWord 4294971462) ∷ (HalfWord 1073741824) ∷ (HalfWord 21474836483) ∷ (HalfWord 1) ∷
-     (HalfWord 8589938758) ∷ (HalfWord 1073741824) ∷ (Word (shows 2 4 4 false)) ∷ Acknowledged ∷ Acknowledged ∷ (Done 2) ∷ [])
+    (Word (shows 2 2 0 false)) ∷ (Reserved (record { geometry = 2; number = 2 }) (Some 2)) ∷ Written ∷ Written ∷ Written ∷ Written ∷ (FlippedTo 3) ∷
+    (Ready 4) ∷ (HalfWord 21474836483) ∷ (HalfWord 1) ∷ (HalfWord 4294971462) ∷ (HalfWord 1073741824) ∷ (HalfWord 21474836483) ∷ (HalfWord 1) ∷
+    (HalfWord 8589938758) ∷ (HalfWord 1073741824) ∷ (Word (shows 2 4 4 false)) ∷ Acknowledged ∷ Acknowledged ∷ (Done 2) ∷ [])
     None
 unfolding encoding
 acks_after_a_run_is = (refl, refl)
@@ -369,7 +369,7 @@ advance_f4 =
 
 advance_f4_is : ArePlayed 1 1 advance_f4
     ((Word (shows 1 0 0 false)) ∷ (Reserved (record { geometry = 1; number = 0 }) (Some 1)) ∷ Written ∷ Written ∷ (FlippedTo 1) ∷ (Ready 1) ∷ (HalfWord 1) ∷
-     [])
+    [])
     (Some (7, HalfMissing))
 unfolding encoding
 advance_f4_is = (refl, refl)
@@ -381,7 +381,7 @@ count_1_prints =
 
 count_1_prints_is : ArePlayed 1 1 count_1_prints
     ((Word (shows 1 0 0 false)) ∷ (Reserved (record { geometry = 1; number = 0 }) (Some 1)) ∷ Written ∷ Written ∷ (FlippedTo 1) ∷ (Ready 1) ∷ (Ready 1) ∷
-     [])
+    [])
     None
 unfolding encoding
 count_1_prints_is = (refl, refl)
@@ -405,7 +405,7 @@ flip_after_the_last =
 
 flip_after_the_last_is : ArePlayed 1 2 flip_after_the_last
     ((Word (shows 1 0 0 false)) ∷ (Reserved (record { geometry = 1; number = 0 }) (Some 1)) ∷ Written ∷ Written ∷ Written ∷ Written ∷ (FlippedTo 1) ∷
-     (FlippedTo 1) ∷ [])
+    (FlippedTo 1) ∷ [])
     (Some (8, NotReserved))
 unfolding encoding
 flip_after_the_last_is = (refl, refl)
@@ -429,7 +429,7 @@ look_while_open_counts =
 
 look_while_open_counts_is : ArePlayed 2 1 look_while_open_counts
     ((Word (shows 2 0 0 false)) ∷ (Reserved (record { geometry = 2; number = 0 }) (Some 1)) ∷ (Word (shows 2 2 0 false)) ∷ Written ∷ Written ∷ Written ∷
-     Written ∷ Written ∷ (FlippedTo 1) ∷ (FlippedTo 1) ∷ (Reserved (record { geometry = 2; number = 2 }) (Some 2)) ∷ [])
+    Written ∷ Written ∷ (FlippedTo 1) ∷ (FlippedTo 1) ∷ (Reserved (record { geometry = 2; number = 2 }) (Some 2)) ∷ [])
     None
 unfolding encoding
 look_while_open_counts_is = (refl, refl)
@@ -486,7 +486,7 @@ second_test =
 
 second_test_is : ArePlayed 1 1 second_test
     ((Word (shows 1 0 0 false)) ∷ (Reserved (record { geometry = 1; number = 0 }) (Some 1)) ∷ Written ∷ Written ∷ (FlippedTo 1) ∷ (Ready 1) ∷
-     (HalfWord 21474836483) ∷ (HalfWord 1) ∷ (Ready 1) ∷ [])
+    (HalfWord 21474836483) ∷ (HalfWord 1) ∷ (Ready 1) ∷ [])
     (Some (9, HalfMissing))
 unfolding encoding
 second_test_is = (refl, refl)
@@ -499,7 +499,7 @@ smaller_second_test =
 
 smaller_second_test_is : ArePlayed 1 1 smaller_second_test
     ((Word (shows 1 0 0 false)) ∷ (Reserved (record { geometry = 1; number = 0 }) (Some 1)) ∷ Written ∷ Written ∷ Written ∷ Written ∷ (FlippedTo 3) ∷
-     (Ready 2) ∷ (Ready 1) ∷ [])
+    (Ready 2) ∷ (Ready 1) ∷ [])
     (Some (9, NotTheHead))
 unfolding encoding
 smaller_second_test_is = (refl, refl)
@@ -523,7 +523,7 @@ third_sender_f1 =
 
 third_sender_f1_is : ArePlayed 2 3 third_sender_f1
     ((Word (shows 2 0 0 false)) ∷ (Reserved (record { geometry = 2; number = 0 }) (Some 1)) ∷ Written ∷ Written ∷ (FlippedTo 1) ∷ (Ready 1) ∷
-     (HalfWord 21474836483) ∷ (HalfWord 1) ∷ (Word (shows 2 3 1 false)) ∷ [])
+    (HalfWord 21474836483) ∷ (HalfWord 1) ∷ (Word (shows 2 3 1 false)) ∷ [])
     (Some (9, AnotherSenders))
 unfolding encoding
 third_sender_f1_is = (refl, refl)
@@ -536,8 +536,8 @@ two_hold_a_slot =
 
 two_hold_a_slot_is : ArePlayed 2 3 two_hold_a_slot
     ((Word (shows 2 0 0 false)) ∷ (Reserved (record { geometry = 2; number = 0 }) (Some 1)) ∷ Written ∷ Written ∷ (FlippedTo 1) ∷ (Ready 1) ∷
-     (HalfWord 21474836483) ∷ (HalfWord 1) ∷ (Word (shows 2 3 1 false)) ∷ (Word (shows 2 3 1 false)) ∷
-     (Reserved (record { geometry = 2; number = 3 }) (Some 1)) ∷ Written ∷ Written ∷ (FlippedTo 0) ∷ [])
+    (HalfWord 21474836483) ∷ (HalfWord 1) ∷ (Word (shows 2 3 1 false)) ∷ (Word (shows 2 3 1 false)) ∷
+    (Reserved (record { geometry = 2; number = 3 }) (Some 1)) ∷ Written ∷ Written ∷ (FlippedTo 0) ∷ [])
     (Some (14, Flipped))
 unfolding encoding
 two_hold_a_slot_is = (refl, refl)

@@ -1,7 +1,6 @@
 -- What the open reservations hold.
-use Rattle.std.specs.Prelude.{◌≡◌, ℕ, zero, suc, ◌+◌, Bool, true, false, not, ◌==◌, ◌||◌, ◌&&◌, nat_le, nat_lt, Option, Some, None, if◌then◌else◌}
+use Rattle.std.specs.Prelude.{ℕ, zero, suc, ◌+◌, Bool, true, false, not, ◌==◌, ◌||◌, ◌&&◌, Option, Some, None, if◌then◌else◌}
 use Rattle.qindex.specs.Positions.{place}
-use Rattle.ringcore.specs.declared.event.Half.{Half}
 use Rattle.ringcore.specs.declared.event.Who.TheVariants.{Sender}
 use Rattle.ringcore.specs.Trails.{Trail, Run, trail_of, is_among, reserved_length, has_flipped}
 use Rattle.ringcore.specs.World.{world}

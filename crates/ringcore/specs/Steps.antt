@@ -9,10 +9,9 @@ use Rattle.qindex.specs.ControlWord.{packed, control_in, advance_mask, close_mas
 use Rattle.ringcore.specs.declared.event.Who.{Who}
 use Rattle.ringcore.specs.declared.event.Who.TheVariants.{Consumer, Sender}
 use Rattle.ringcore.specs.declared.event.Half.{Half}
-use Rattle.ringcore.specs.declared.event.Event.{Event}
 use Rattle.ringcore.specs.declared.event.Event.TheVariants.{Look, Won, Lost, Write, Flip, Test, Read, Advance, Close, Acknowledge, Ask}
 use Rattle.ringcore.specs.Trails.{Trail, Run, trail_of, looked, batch_length, found_ready}
-use Rattle.ringcore.specs.World.{World, head, world, commands, half_of}
+use Rattle.ringcore.specs.World.{head, world, commands, half_of}
 use Rattle.ringcore.specs.Allowed.{MayTry, IsNextNumber, MayWrite, MayFlip, IsRunLength, MayAdvance, MayAcknowledge, length_with}
 use Rattle.ringcore.specs.Layout.{control_word, flag_word, data_word, cell, words_of}
 use Rattle.ringcore.specs.Flags.{IsFlipMask, IsReadyRun}
@@ -102,8 +101,8 @@ AdvancesByAnExclusiveOr ring run words =
     (raws : List Raw)
     → MayAdvance (trail_of Consumer run) raws
     → AreAfter ring ((Consumer, Advance raws) ∷ run)
-      (turned words control_word
-      (advance_mask (index_of ring.geometry (head (world run))) (index_of ring.geometry (head (world run) + length raws))))
+    (turned words control_word
+    (advance_mask (index_of ring.geometry (head (world run))) (index_of ring.geometry (head (world run) + length raws))))
 
 -- an or of the control word with the closed bit
 abbrev pub ClosesByAnOr : Ring → Run → List ℕ → Type 0

@@ -1,5 +1,5 @@
 -- The words of a ring as callers see them, and what one operation makes of them.
-use Rattle.std.specs.Prelude.{◌≡◌, ℕ, ◌+◌, ◌<◌, ◌≤◌, List, length, slice_index, slice_set}
+use Rattle.std.specs.Prelude.{◌≡◌, ℕ, ◌≤◌, List, length, slice_index, slice_set}
 use Rattle.qindex.specs.Indexes.{IsGeometry}
 use Rattle.ringcore.specs.Layout.{flag_word, words_of}
 use Rattle.ringcore.specs.Flags.{IsFlipMask}

@@ -5,7 +5,8 @@ ghost use Rattle.ringcore.specs.Laws.{EveryRun, NeverMoreThanFull, AcknowledgedA
 mod steps;
 
 pub use steps::{
-    acknowledge, advance, apart, ask, begin, close, flip, look, read, reserve_lost, reserve_won, start, test, write,
+    acknowledge, advance, apart, ask, begin, close, flip, look, read, reserve_lost, reserve_won,
+    start, test, write,
 };
 
 /// Every run of any length, of any number of senders, in a ring of any size, is ordered delivery: what is

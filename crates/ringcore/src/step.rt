@@ -7,7 +7,9 @@ use qindex::{Control, Index};
 #[derive(Debug, Drop)]
 pub enum Step {
     /// A look at the control word: by a sender, or by the consumer where none is named.
-    Look { who: Option<u32> },
+    Look {
+        who: Option<u32>,
+    },
     /// An exchange of the control word, to reserve these commands: with a closing sync behind them, or
     /// without.
     Reserve {
@@ -16,21 +18,44 @@ pub enum Step {
         closes: bool,
     },
     /// A store of the word that the sender's reservation has for this half of a slot.
-    Write { sender: u32, slot: u32, half: u32 },
+    Write {
+        sender: u32,
+        slot: u32,
+        half: u32,
+    },
     /// An exclusive or of a flag word, for so many slots from this one on.
-    Flip { sender: u32, slot: u32, count: u32 },
+    Flip {
+        sender: u32,
+        slot: u32,
+        count: u32,
+    },
     /// A load of the head's flag word, which looks at so many flags at most.
-    Test { slot: u32, count: u32 },
+    Test {
+        slot: u32,
+        count: u32,
+    },
     /// A load of a data word.
-    Read { slot: u32, half: u32 },
+    Read {
+        slot: u32,
+        half: u32,
+    },
     /// An exclusive or of the control word, to take so many commands.
-    Advance { count: u32 },
+    Advance {
+        count: u32,
+    },
     /// An or of the control word with the closed bit.
-    Close { sender: u32 },
+    Close {
+        sender: u32,
+    },
     /// A store of a closing sync's number in its sender's completion cell.
-    Acknowledge { sender: u32, number: u32 },
+    Acknowledge {
+        sender: u32,
+        number: u32,
+    },
     /// A load of a sender's completion cell.
-    Ask { sender: u32 },
+    Ask {
+        sender: u32,
+    },
 }
 
 /// What a step was answered.

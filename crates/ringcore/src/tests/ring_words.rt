@@ -104,5 +104,8 @@ fn told(alloc: Global, sender: u32, number: u32) -> Option<(u64, u64)> {
 #[test]
 fn each_sender_has_a_cell(rt: HostRuntime) {
     assert_eq!(rt; told(rt.alloc(), 0, 1), Some((1, 0)));
-    assert_eq!(rt; told(rt.alloc(), 1, 4_294_967_295), Some((0, 4_294_967_295)));
+    assert_eq!(rt;
+        told(rt.alloc(), 1, 4_294_967_295),
+        Some((0, 4_294_967_295))
+    );
 }
