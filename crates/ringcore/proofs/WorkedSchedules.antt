@@ -5,8 +5,8 @@ use Rattle.cmdcodec.specs.declared.raw.Raw.{Raw}
 use Rattle.cmdcodec.specs.Words.{encoding}
 use Rattle.ringcore.specs.declared.step.Step.{Step}
 use Rattle.ringcore.specs.declared.step.Step.TheVariants.{Look, Reserve, Write, Flip, Test, Read, Advance, Close, Acknowledge, Ask}
-use Rattle.ringcore.specs.declared.step.StepFault.{StepFault}
-use Rattle.ringcore.specs.declared.step.StepFault.TheVariants.{AnotherSenders, NotReserved, Flipped, HalfMissing, NotTheHead, NotSeenReady, NotNext, NoSuchPlace, NoRoom, NotSettled, BadBody}
+use Rattle.ringcore.specs.declared.step_fault.StepFault.{StepFault}
+use Rattle.ringcore.specs.declared.step_fault.StepFault.TheVariants.{AnotherSenders, NotReserved, Flipped, HalfMissing, NotTheHead, NotSeenReady, NotNext, NoSuchPlace, NoRoom, NotSettled, BadBody}
 use Rattle.ringcore.specs.declared.step.Seen.{Seen}
 use Rattle.ringcore.specs.declared.step.Seen.TheVariants.{Word, Reserved, Lost, Written, Flipped as FlippedTo, Ready, Half as HalfWord, Acknowledged, Done}
 use Rattle.ringcore.specs.Shadow.{Ring}

@@ -10,8 +10,8 @@ use Rattle.ringcore.specs.declared.event.Who.TheVariants.{Consumer, Sender}
 use Rattle.ringcore.specs.declared.event.Half.TheVariants.{Lo, Hi}
 use Rattle.ringcore.specs.declared.step.Step.{Step}
 use Rattle.ringcore.specs.declared.step.Step.TheVariants.{Look, Reserve, Write, Flip, Test, Read, Advance, Close, Acknowledge, Ask}
-use Rattle.ringcore.specs.declared.step.StepFault.{StepFault}
-use Rattle.ringcore.specs.declared.step.StepFault.TheVariants.{AnotherSenders, NotReserved, Flipped, HalfMissing, NotTheHead, NotSeenReady, NotNext, NoSuchPlace, NoRoom, NotSettled, BadBody}
+use Rattle.ringcore.specs.declared.step_fault.StepFault.{StepFault}
+use Rattle.ringcore.specs.declared.step_fault.StepFault.TheVariants.{AnotherSenders, NotReserved, Flipped, HalfMissing, NotTheHead, NotSeenReady, NotNext, NoSuchPlace, NoRoom, NotSettled, BadBody}
 use Rattle.ringcore.specs.Trails.{Trail, Run, trail_of, looked, batches_made, reserved_length, has_written, has_flipped, found_ready, half_read}
 use Rattle.ringcore.specs.World.{Item, World, head, world}
 use Rattle.ringcore.specs.Allowed.{length_with}

@@ -1,7 +1,7 @@
 -- A list of steps, played one after another from an empty ring: up to the first that has a fault.
 use Rattle.std.specs.Prelude.{ℕ, suc, List, [], ◌∷◌, Option, Some, None}
 use Rattle.ringcore.specs.declared.step.Step.{Step}
-use Rattle.ringcore.specs.declared.step.StepFault.{StepFault}
+use Rattle.ringcore.specs.declared.step_fault.StepFault.{StepFault}
 use Rattle.ringcore.specs.declared.step.Seen.{Seen}
 use Rattle.ringcore.specs.Trails.{Run}
 use Rattle.ringcore.specs.World.{world}

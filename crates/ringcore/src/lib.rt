@@ -7,13 +7,15 @@ pub mod laws;
 mod layout;
 mod ring_words;
 mod step;
+mod step_fault;
 
 pub use event::{Event, Half, Outcome, Who};
 pub use flags::{flip_mask, polarity, ready_run, shared_word};
 pub use laws::{batches_law, counts_law, world_law};
 pub use layout::{cell, control_word, data_word, flag_word, words};
 pub use ring_words::RingWords;
-pub use step::{Seen, Step, StepFault};
+pub use step::{Seen, Step};
+pub use step_fault::StepFault;
 
 #[cfg(test)]
 mod tests;

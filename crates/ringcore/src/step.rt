@@ -80,31 +80,3 @@ pub enum Seen {
     /// The number in the cell.
     Done(u32),
 }
-
-/// Why a step was refused (own). The first that applies is told, in the order F8, F10, F11, F9, F2, F1, F3,
-/// F5, F6, F4, F7.
-#[derive(Clone, Copy, Debug, PartialEq, Eq)]
-pub enum StepFault {
-    /// F1: a write or a flip of a slot that another sender's open reservation holds.
-    AnotherSenders,
-    /// F2: a write or a flip of a slot that no open reservation holds.
-    NotReserved,
-    /// F3: a write or a flip of a slot that is flipped in the open reservation.
-    Flipped,
-    /// F4: a flip with a half that isn't written, or an advance with one that isn't read.
-    HalfMissing,
-    /// F5: a test or a read of a slot that isn't the head's, nor one that the last test found.
-    NotTheHead,
-    /// F6: a read or an advance of more than the last test found.
-    NotSeenReady,
-    /// F7: an acknowledgement out of order, or of a sync that isn't taken.
-    NotNext,
-    /// F8: no such sender, slot, half or count, or a flip that leaves its flag word.
-    NoSuchPlace,
-    /// F9: a reserve without a look since the last exchange, of a closed ring, or without room.
-    NoRoom,
-    /// F10: a reserve with a reservation open, or with all batches made.
-    NotSettled,
-    /// F11: a body of none, of more than 63, or with a CMD_SYNC.
-    BadBody,
-}
