@@ -30,7 +30,7 @@ use Rattle.ringcore.proofs.Places.{flag_within, control_within, control_not_flag
 share_of : (ring : Ring) (p count : ℕ) → IsInOneWord (shape ring) p count → ShareAWord ring.geometry p count
 share_of ring p count one = λ k less. ap (λ (n : ℕ). 8 + n) (one k less)
 
-one_of : (ring : Ring) (p count : ℕ) → ShareAWord ring.geometry p count → IsInOneWord (shape ring) p count
+pub one_of : (ring : Ring) (p count : ℕ) → ShareAWord ring.geometry p count → IsInOneWord (shape ring) p count
 one_of ring p count share = λ k less.
     let x : ℕ = place ring.geometry (p + k) in let y : ℕ = place ring.geometry p in
     let is : 8 + x / 64 ≡ 8 + y / 64 = share k less in omega (arith, is)

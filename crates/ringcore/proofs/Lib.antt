@@ -23,3 +23,4 @@ pub mod FlagPlaces
 pub mod MaskLemmas
 pub mod ReadyLemmas
 pub mod SyncCounts
+pub mod Judged

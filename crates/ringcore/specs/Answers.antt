@@ -53,12 +53,12 @@ ready_count ring w limit =
 
 -- ---- read and advance
 
+abbrev pub half_in : Half → Option Item → ℕ
+half_in half None = 0
+half_in half (Some item) = half_of half item.raw
+
 abbrev pub half_at : World → ℕ → Half → ℕ
 half_at w offset half = half_in half (slice_get w.reserved (head w + offset))
-  where
-    half_in : Half → Option Item → ℕ
-    half_in half None = 0
-    half_in half (Some item) = half_of half item.raw
 
 -- the commands that are taken next
 abbrev pub next_commands : World → ℕ → List Raw

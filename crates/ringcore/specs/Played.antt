@@ -1,11 +1,13 @@
 -- A list of steps, played one after another from an empty ring: up to the first that has a fault.
-use Rattle.std.specs.Prelude.{ℕ, suc, List, [], ◌∷◌, Option, Some, None}
+use Rattle.std.specs.Prelude.{◌≡◌, ℕ, suc, List, [], ◌∷◌, Option, Some, None}
 use Rattle.ringcore.specs.declared.step.Step.{Step}
 use Rattle.ringcore.specs.declared.step_fault.StepFault.{StepFault}
 use Rattle.ringcore.specs.declared.step.Seen.{Seen}
 use Rattle.ringcore.specs.Trails.{Run}
 use Rattle.ringcore.specs.World.{world}
-use Rattle.ringcore.specs.Shadow.{Ring}
+use Rattle.qindex.specs.Indexes.{IsGeometry}
+use Rattle.ringcore.specs.Allowed.{IsRun}
+use Rattle.ringcore.specs.Shadow.{Ring, shape}
 use Rattle.ringcore.specs.Faults.{fault_of}
 use Rattle.ringcore.specs.Answers.{event_of, seen_of}
 
@@ -33,3 +35,15 @@ played_from ring run place (step ∷ steps) =
 
 abbrev pub played : Ring → List Step → Played
 played ring steps = played_from ring [] 0 steps
+
+-- ---- what is played is a run
+
+-- A step that has no fault is an event that is allowed.
+abbrev pub StepsAreAllowed : Type 0
+StepsAreAllowed =
+    (ring : Ring) (run : Run) (step : Step) → IsGeometry ring.geometry → IsRun (shape ring) run → fault_of ring run step ≡ None
+    → IsRun (shape ring) (event_of ring run step ∷ run)
+
+-- So whatever list of steps is played, what was played is a run.
+abbrev pub PlayedAreRuns : Type 0
+PlayedAreRuns = (ring : Ring) (steps : List Step) → IsGeometry ring.geometry → IsRun (shape ring) (played ring steps).run

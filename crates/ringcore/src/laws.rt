@@ -1,6 +1,9 @@
 //! Laws of every run, each the contract of a function that does nothing.
 ghost use Rattle.ringcore.specs.Delivery.{TakenInOrder, NumberedInOrder, NoneAfterClose, ToldWhenCompleted};
 ghost use Rattle.ringcore.specs.Laws.{EveryRun, NeverMoreThanFull, AcknowledgedAreTaken, BatchesAreUnbroken, SendersOrderIsKept, EarlierStandsBefore, FewAreReserved, SyncsAreCounted};
+ghost use Rattle.ringcore.specs.Played.{StepsAreAllowed, PlayedAreRuns};
+
+use qindex::{control_words_say_their_control, indexes_tell_the_queue};
 
 mod steps;
 
@@ -35,3 +38,13 @@ pub fn counts_law()
     ensures bound { FewAreReserved }
     ensures syncs { EveryRun SyncsAreCounted }
 {}
+
+/// What a step is answered is what happens: one that has no fault is an allowed event, after any run. So
+/// whatever list of steps is played, up to the first that has a fault, what was played is a run.
+pub fn steps_law()
+    ensures allowed { StepsAreAllowed }
+    ensures played { PlayedAreRuns }
+{
+    control_words_say_their_control();
+    indexes_tell_the_queue();
+}

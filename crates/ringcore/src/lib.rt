@@ -11,7 +11,7 @@ mod step_fault;
 
 pub use event::{Event, Half, Outcome, Who};
 pub use flags::{flip_mask, polarity, ready_run, shared_word};
-pub use laws::{batches_law, counts_law, world_law};
+pub use laws::{batches_law, counts_law, steps_law, world_law};
 pub use layout::{cell, control_word, data_word, flag_word, words};
 pub use ring_words::RingWords;
 pub use step::{Seen, Step};
