@@ -56,7 +56,7 @@ same_test Equal s f g = sym (ap is_eq (f refl))
 same_test Less s f g = elim s as (λ s. (s ≡ Equal → Less ≡ Equal) → false ≡ is_eq s) [ Less ↦ λ h. refl | Equal ↦ λ h. let e : Less ≡ Equal = h refl in cc | Greater ↦ λ h. refl ] g
 same_test Greater s f g = elim s as (λ s. (s ≡ Equal → Greater ≡ Equal) → false ≡ is_eq s) [ Less ↦ λ h. refl | Equal ↦ λ h. let e : Greater ≡ Equal = h refl in cc | Greater ↦ λ h. refl ] g
 
-same_key : (t : Tag) (x : Key) → eq_by_cmp tag_cmp t (tag_of x) ≡ eq_by_cmp key_cmp (key_of t) x
+pub same_key : (t : Tag) (x : Key) → eq_by_cmp tag_cmp t (tag_of x) ≡ eq_by_cmp key_cmp (key_of t) x
 same_key t x = same_test (tag_cmp t (tag_of x)) (key_cmp (key_of t) x)
     (λ e. subst (λ y. key_cmp (key_of t) y ≡ Equal) (ap key_of (tag_cmp_exact t (tag_of x) e) ∙ key_back x) (tied_itself key_total (key_of t)))
     (λ e. subst (λ y. tag_cmp t y ≡ Equal) (sym (tag_back t) ∙ ap tag_of (key_exact (key_of t) x e)) (tied_itself tag_cmp_total t))
