@@ -1,5 +1,5 @@
 -- Entries in the order of their tags are those of the finite map, in its own order.
-use Rattle.std.proofs.Common.{◌≡◌, ℕ, ◌+◌, ◌<◌, Bool, true, false, T, ◌&&◌, Option, Some, None, refl, sym, ◌∙◌, ap, subst, List, [], ◌∷◌, length, arith, All}
+use Rattle.std.proofs.Common.{◌≡◌, ℕ, ◌+◌, ◌<◌, Bool, true, false, T, ◌&&◌, Some, refl, sym, ◌∙◌, ap, subst, List, [], ◌∷◌, length, arith, All}
 use Rattle.std.specs.Prelude.{map}
 use Rattle.std.specs.List.{AllByRecursion, IsDistinct, slice_index_or}
 use Rattle.std.specs.List.Sorted.{IsPermutation, IsSortedByKey, IsStrictlySortedBy}
@@ -25,7 +25,7 @@ use Rattle.caches.specs.TagOrder.{tag_cmp, tag_cmp_total, tag_cmp_exact}
 use Rattle.caches.specs.Views.{tagged, AreCaches}
 use Rattle.caches.proofs.KeyOrder.{key_cmp, key_total}
 use Rattle.caches.proofs.Kept.{distinct_sorted, find_lookup}
-use Rattle.caches.proofs.Viewed.{same_key, key_back, keeping}
+use Rattle.caches.proofs.Viewed.{same_key, key_back, keeping, same_option}
 
 both : (a b : Bool) → T a → T b → T (a && b)
 both true b p q = q
@@ -76,11 +76,6 @@ strictly [] s d = tt
 strictly (x ∷ xs) s d = sorted_from_all_adjacent tag_cmp_total (map tag_in (x ∷ xs)) x.tag (next_ahead (x ∷ xs) x s d)
 
 -- ---- a list sorted by key is that of the finite map
-same_option : {X : Type 0} (a b : Option X) → ((v : X) → a ≡ Some v → b ≡ Some v) → ((v : X) → b ≡ Some v → a ≡ Some v) → a ≡ b
-same_option (Some x) b f g = sym (f x refl)
-same_option None (Some y) f g = g y refl
-same_option None None f g = refl
-
 module _ {K X : Type 0} {R : K → K → Ordering} (o : IsTotalOrder R) (exact : IsAntisymmetric R) where
   moved : (es xs : List (K × X)) → IsPermutation es xs → IsDistinct (eq_by_cmp R) (keys_of xs) → (q : K) (v : X) → lookup (eq_by_cmp R q) es ≡ Some v → lookup (eq_by_cmp R q) xs ≡ Some v
   moved es xs p d q v e = lookup-from_Contains (eq_by_cmp_equiv o) q v xs d (Contains-permutation es xs (q, v) p (Contains-from_lookup (λ x y h. exact x y ((Equal-is (R x y)).0 h)) q v es e))

@@ -65,6 +65,11 @@ same_tags : (t q : Tag) → eq_by_cmp tag_cmp t q ≡ eq_by_cmp key_cmp (key_of 
 same_tags t q = ap (λ y. eq_by_cmp tag_cmp t y) (sym (tag_back q)) ∙ same_key t (key_of q)
 
 -- ---- look-ups
+pub same_option : {X : Type 0} (a b : Option X) → ((v : X) → a ≡ Some v → b ≡ Some v) → ((v : X) → b ≡ Some v → a ≡ Some v) → a ≡ b
+same_option (Some x) b f g = sym (f x refl)
+same_option None (Some y) f g = g y refl
+same_option None None f g = refl
+
 find_tagged : (t : Tag) (es : List (Key × Entry)) → find tag_cmp t (tagged es) ≡ lookup (is_at (key_cmp (key_of t))) es
 find_tagged t [] = refl
 find_tagged t (e ∷ es) = ap (λ b. cond b (Some e.1) (find tag_cmp t (tagged es))) (same_key t e.0) ∙ ap (cond (eq_by_cmp key_cmp (key_of t) e.0) (Some e.1)) (find_tagged t es)

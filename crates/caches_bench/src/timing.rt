@@ -1,15 +1,14 @@
 //! Times of commands.
-ghost use Rattle.std.specs.Prelude.{◌≤◌};
-
 use crate::contents::Contents;
 use caches::Caches;
 use cmdcodec::{Command, Raw, decode};
+use std::alloc::Global;
 use std::io;
 use std::io::ErrorKind;
 use std::rt::Clock;
 use std::time::Instant;
 
-const ROUNDS: u32 = 7;
+const ROUNDS: u32 = 20;
 
 /// The words of a command of each kind that removes nothing of `Contents::Mixed`.
 const MIXED: [(u64, u64); 17] = [
@@ -45,8 +44,44 @@ const ONE_MACHINE: [(u64, u64); 1] = [(0x0002_0007_0000_0011, 0)];
 
 const HYPERVISOR: [(u64, u64); 1] = [(0x0002_0000_0000_0021, 0)];
 
+/// Caches of each size, 256, 4,096 and 65,536 entries, all of the same contents.
+#[derive(Drop)]
+struct Sizes {
+    small: Caches,
+    medium: Caches,
+    large: Caches,
+}
+
+/// Nanoseconds at each size.
+#[derive(Clone, Copy)]
+struct Times {
+    small: u128,
+    medium: u128,
+    large: u128,
+}
+
+impl Sizes {
+    /// They, or none for want of memory.
+    fn new(alloc: Global, contents: Contents) -> Option<Sizes> {
+        Some(Sizes {
+            small: contents.full(alloc, 256)?,
+            medium: contents.full(alloc, 4_096)?,
+            large: contents.full(alloc, 65_536)?,
+        })
+    }
+
+    fn are_full(&self) -> bool {
+        self.small.len() == 256 && self.medium.len() == 4_096 && self.large.len() == 65_536
+    }
+}
+
 /// The nanoseconds of so many calls.
-fn round<R: Clock>(rt: &R, caches: &mut Caches, command: &Command, calls: u32) -> io::Result<u128> {
+fn time_calls<R: Clock>(
+    rt: &R,
+    caches: &mut Caches,
+    command: &Command,
+    calls: u32,
+) -> io::Result<u128> {
     let start = Instant::now(rt)?;
     for _ in 0..calls {
         caches.apply(command);
@@ -54,53 +89,67 @@ fn round<R: Clock>(rt: &R, caches: &mut Caches, command: &Command, calls: u32) -
     Ok(start.elapsed(rt)?.as_nanos())
 }
 
-/// Those of the shortest of some rounds.
-fn shortest_round<R: Clock>(
+/// The shortest times of some rounds. A round goes over all sizes, so that what else the machine does slows
+/// each of them.
+fn shortest_times<R: Clock>(
     rt: &R,
-    caches: &mut Caches,
+    sizes: &mut Sizes,
     command: &Command,
     calls: u32,
-) -> io::Result<u128> {
-    let mut least = u128::MAX;
+) -> io::Result<Times> {
+    let mut least = Times {
+        small: u128::MAX,
+        medium: u128::MAX,
+        large: u128::MAX,
+    };
     for _ in 0..ROUNDS {
-        least = least.min(round(rt, caches, command, calls)?);
+        least = Times {
+            small: least
+                .small
+                .min(time_calls(rt, &mut sizes.small, command, calls)?),
+            medium: least
+                .medium
+                .min(time_calls(rt, &mut sizes.medium, command, calls)?),
+            large: least
+                .large
+                .min(time_calls(rt, &mut sizes.large, command, calls)?),
+        };
     }
     Ok(least)
 }
 
-/// Prints a line for each of these commands: what is held, how many entries, the nanoseconds of so many
-/// calls, how many, and the command.
+/// Prints a line for each of these commands: what is held, the nanoseconds of so many calls at each size,
+/// how many calls, and the command.
 fn report<R: Clock + Print + AllocGlobal>(
     rt: &R,
     contents: Contents,
-    size: u32,
     table: &[(u64, u64)],
     calls: u32,
-) -> io::Result<()>
-    requires { size ≤ 65536 }
-{
-    let Some(mut caches) = contents.full(rt.alloc(), size) else {
+) -> io::Result<()> {
+    let Some(mut sizes) = Sizes::new(rt.alloc(), contents) else {
         return Err(io::Error::from(ErrorKind::OutOfMemory));
     };
     for (lo, hi) in table {
         if let Ok(command) = decode(Raw { lo: *lo, hi: *hi }) {
-            let nanoseconds = shortest_round(rt, &mut caches, &command, calls)?;
-            println!(rt; "{contents:?} {size} {nanoseconds} {calls} {command}")?;
+            let Times {
+                small,
+                medium,
+                large,
+            } = shortest_times(rt, &mut sizes, &command, calls)?;
+            println!(rt; "{contents:?} {small} {medium} {large} {calls} {command}")?;
         }
     }
-    if caches.len() != size as usize {
+    // A command that removed something was timed for something else.
+    if !sizes.are_full() {
         return Err(io::Error::from(ErrorKind::InvalidData));
     }
     Ok(())
 }
 
-/// Times all commands at each size.
+/// Times all commands.
 pub(crate) fn time_all<R: Clock + Print + AllocGlobal>(rt: &R) -> io::Result<()> {
-    for size in [256, 4_096, 65_536] {
-        report(rt, Contents::Mixed, size, &MIXED, 2_000)?;
-        report(rt, Contents::NoTlb, size, &NO_TLB, 2_000)?;
-        report(rt, Contents::OneMachine, size, &ONE_MACHINE, 20)?;
-        report(rt, Contents::Hypervisor, size, &HYPERVISOR, 20)?;
-    }
-    Ok(())
+    report(rt, Contents::Mixed, &MIXED, 500)?;
+    report(rt, Contents::NoTlb, &NO_TLB, 500)?;
+    report(rt, Contents::OneMachine, &ONE_MACHINE, 4)?;
+    report(rt, Contents::Hypervisor, &HYPERVISOR, 4)
 }

@@ -35,11 +35,11 @@ fn sum(caches: &Caches, alloc: Global) -> Option<u64> {
 /// Fills and lists, and says how it went. Memory for one call may be wanting, and then it is had again.
 fn run(alloc: Global) -> &'static str {
     let mut outcome = "whole";
-    let Ok(mut caches) = Caches::new(alloc, 256) else {
+    let Ok(mut caches) = Caches::new(alloc, 40) else {
         return "wrong";
     };
-    for stream in 0..100u32 {
-        for tag in [ste(stream), cd(99 - stream, 1)] {
+    for stream in 0..20u32 {
+        for tag in [ste(stream), cd(19 - stream, 1)] {
             match fill(&mut caches, entry(tag)) {
                 Some(true) => {}
                 Some(false) => outcome = "refused",
@@ -52,7 +52,7 @@ fn run(alloc: Global) -> &'static str {
         outcome = "refused";
     }
     match first.or(sum(&caches, alloc)) {
-        Some(1_400) if caches.len() == 200 => outcome,
+        Some(280) if caches.len() == 40 => outcome,
         _ => "wrong",
     }
 }
