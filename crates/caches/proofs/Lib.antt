@@ -1,5 +1,6 @@
 pub mod Aligned
 pub mod FirstInRange
+pub mod InOrder
 pub mod Kept
 pub mod KeyOrder
 pub mod LawLemmas

@@ -9,7 +9,7 @@ use Rattle.caches.specs.declared.tag.Tag.{Tag}
 use Rattle.caches.specs.declared.tag.Entry.{Entry}
 use Rattle.caches.specs.Held.{Item, Fill, Evict, Take, History, held, ends, IsStanding, HeldAre, Entries}
 use Rattle.caches.specs.TagOrder.{tag_cmp, tag_cmp_total, tag_cmp_exact}
-use Rattle.caches.proofs.Viewed.{get_without_covered}
+use Rattle.caches.proofs.Viewed.{get_without_covered, same_option}
 
 -- an item that ends no entry of a tag leaves it, and one that ends it leaves none or its own
 standing_more : (i : Item) (h : History) (e : Entry) → ends i e.tag ≡ false → IsStanding h e → IsStanding (i ∷ h) e
@@ -67,11 +67,6 @@ nothing_stands e (j ∷ later) earlier s = cc
 pub held_are : (h : History) → HeldAre h (held h)
 held_are [] t e = (λ is. let n = get-empty {X = Entry} tag_cmp t in cc, λ s. nothing_stands e s.later s.earlier s.split)
 held_are (i ∷ h) t e = (held_stands i h t e (held_are h t e).0, λ s. stands_held i h e (held_are h t e).1 s.later s.earlier s.split s.unended)
-
-same_option : (a b : Option Entry) → ((v : Entry) → a ≡ Some v → b ≡ Some v) → ((v : Entry) → b ≡ Some v → a ≡ Some v) → a ≡ b
-same_option (Some x) b f g = sym (f x refl)
-same_option None (Some y) f g = g y refl
-same_option None None f g = refl
 
 from_standing : (h : History) (m : Entries) → HeldAre h m → (t : Tag) (e : Entry) → StandsAt h t e → finite.get m t ≡ Some e
 from_standing h m is t e s = subst (λ u. finite.get m u ≡ Some e) s.0 ((is t e).1 s.1)

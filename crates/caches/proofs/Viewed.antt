@@ -56,7 +56,7 @@ same_test Equal s f g = sym (ap is_eq (f refl))
 same_test Less s f g = elim s as (λ s. (s ≡ Equal → Less ≡ Equal) → false ≡ is_eq s) [ Less ↦ λ h. refl | Equal ↦ λ h. let e : Less ≡ Equal = h refl in cc | Greater ↦ λ h. refl ] g
 same_test Greater s f g = elim s as (λ s. (s ≡ Equal → Greater ≡ Equal) → false ≡ is_eq s) [ Less ↦ λ h. refl | Equal ↦ λ h. let e : Greater ≡ Equal = h refl in cc | Greater ↦ λ h. refl ] g
 
-same_key : (t : Tag) (x : Key) → eq_by_cmp tag_cmp t (tag_of x) ≡ eq_by_cmp key_cmp (key_of t) x
+pub same_key : (t : Tag) (x : Key) → eq_by_cmp tag_cmp t (tag_of x) ≡ eq_by_cmp key_cmp (key_of t) x
 same_key t x = same_test (tag_cmp t (tag_of x)) (key_cmp (key_of t) x)
     (λ e. subst (λ y. key_cmp (key_of t) y ≡ Equal) (ap key_of (tag_cmp_exact t (tag_of x) e) ∙ key_back x) (tied_itself key_total (key_of t)))
     (λ e. subst (λ y. tag_cmp t y ≡ Equal) (sym (tag_back t) ∙ ap tag_of (key_exact (key_of t) x e)) (tied_itself tag_cmp_total t))
@@ -65,6 +65,11 @@ same_tags : (t q : Tag) → eq_by_cmp tag_cmp t q ≡ eq_by_cmp key_cmp (key_of 
 same_tags t q = ap (λ y. eq_by_cmp tag_cmp t y) (sym (tag_back q)) ∙ same_key t (key_of q)
 
 -- ---- look-ups
+pub same_option : {X : Type 0} (a b : Option X) → ((v : X) → a ≡ Some v → b ≡ Some v) → ((v : X) → b ≡ Some v → a ≡ Some v) → a ≡ b
+same_option (Some x) b f g = sym (f x refl)
+same_option None (Some y) f g = g y refl
+same_option None None f g = refl
+
 find_tagged : (t : Tag) (es : List (Key × Entry)) → find tag_cmp t (tagged es) ≡ lookup (is_at (key_cmp (key_of t))) es
 find_tagged t [] = refl
 find_tagged t (e ∷ es) = ap (λ b. cond b (Some e.1) (find tag_cmp t (tagged es))) (same_key t e.0) ∙ ap (cond (eq_by_cmp key_cmp (key_of t) e.0) (Some e.1)) (find_tagged t es)

@@ -62,8 +62,16 @@ at_page page (TlbiEl2Vaa leaf old reach) = TlbiEl2Vaa leaf page Page
 at_page page (TlbiS2Ipa vmid leaf old reach) = TlbiS2Ipa vmid leaf page Page
 at_page page not_by_address = not_by_address
 
--- A command by address whose run has a page covers a tag exactly where the command for one of the pages of
--- its run does.
+-- the page of a command by address is in its address space, as the type of that field has it
+abbrev pub HasPageInRange : Command → Type 0
+HasPageInRange (TlbiNhVa vmid asid leaf page reach) = page < 2 ^ 52
+HasPageInRange (TlbiNhVaa vmid leaf page reach) = page < 2 ^ 52
+HasPageInRange (TlbiEl2Va asid leaf page reach) = page < 2 ^ 52
+HasPageInRange (TlbiEl2Vaa leaf page reach) = page < 2 ^ 52
+HasPageInRange (TlbiS2Ipa vmid leaf page reach) = page < 2 ^ 40
+HasPageInRange not_by_address = Unit {0}
+
+-- A command by address covers a tag exactly where the command for one of the pages of its run does.
 abbrev pub RangesCoverTheirPages : Type 0
-RangesCoverTheirPages = (command : Command) (run : PageRun) (tag : Tag) → run_of command ≡ Some run → run.first < run.end
+RangesCoverTheirPages = (command : Command) (run : PageRun) (tag : Tag) → HasPageInRange command → run_of command ≡ Some run
     → (covers command tag ≡ true) ↔ ((page : ℕ) × IsIn page run × (covers (at_page page command) tag ≡ true))

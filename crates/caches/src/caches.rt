@@ -1,6 +1,9 @@
 //! The caches: each entry in one ordered map.
 ghost use Rattle.std.specs.Prelude.{◌≡◌, ◌+◌, ◌<◌, ◌≤◌, ◌↔◌, IfOk, OnOk, OnErr, Err, None, [], ◌∷◌};
 ghost use Rattle.std.specs.FinMap as finite;
+ghost use Rattle.std.specs.List.Sorted.{IsPermutation, IsSortedByKey};
+ghost use Rattle.caches.specs.TagOrder.{tag_cmp, numbers};
+ghost use Rattle.caches.specs.declared.tag.Entry.{Entry};
 ghost use Rattle.caches.specs.Blocks.{IsBlock};
 ghost use Rattle.caches.specs.Held.{without_covered, held, History, Fill, Evict, Take};
 ghost use Rattle.caches.specs.Stored.{IsFilled};
@@ -70,6 +73,22 @@ impl Caches {
         self.map.len()
     }
 
+    /// All entries that are held, in the order of their tags.
+    ///
+    /// Errors: C3 for want of memory, and no other.
+    pub fn entries(&self, alloc: Global) -> Result<Vec<Entry>, CacheFault>
+        ensures ok { IfOk result (λ list. list.items ≡ finite.values self.now.entries) }
+        ensures err { OnErr result (result ≡ Err CacheFault.NoMemory) }
+    {
+        match self.map.values().copied().collect::<Vec<Entry>>(alloc) {
+            Ok(mut list) => {
+                sort_by_tag(&mut list);
+                Ok(list)
+            }
+            Err(_) => Err(CacheFault::NoMemory),
+        }
+    }
+
     /// Removes the entries that the command covers, and answers how many they were.
     pub fn apply(&mut self, command: &Command) -> u32
         ensures after { self.new.entries ≡ without_covered command.now self.old.entries }
@@ -125,6 +144,18 @@ impl Caches {
     {
         put_entry(&mut self.map, Key::of(&entry.tag), entry)
     }
+}
+
+/// Puts entries in the order of their tags. It takes no memory.
+fn sort_by_tag(list: &mut Vec<Entry>)
+    ensures permutation { IsPermutation list.old.items list.new.items }
+    ensures sorted { IsSortedByKey (λ (entry : Entry). entry.tag) tag_cmp list.new.items }
+{
+    list.sort_unstable_by_key(
+        |entry: &Entry| -> [u64; 5]
+            ensures { result ≡ numbers entry.now.tag }
+        { entry.tag.numbers() },
+    );
 }
 
 /// Puts an entry into the map under this key.

@@ -32,8 +32,7 @@ pub fn meeting_is_to_share_a_page()
     ensures { MeetingIsToShareAPage }
 {}
 
-/// A command by address whose run has a page covers a tag exactly where the command for one of the pages
-/// of its run does.
+/// A command by address covers a tag exactly where the command for one of the pages of its run does.
 pub fn ranges_cover_their_pages()
     ensures { RangesCoverTheirPages }
 {}

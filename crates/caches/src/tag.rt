@@ -1,6 +1,7 @@
 //! What the caches hold, and under which tags.
 ghost use Rattle.std.specs.Prelude.{◌≡◌, IsTrue, ◌↔◌};
 ghost use Rattle.caches.specs.Blocks.{IsAligned, IsBlock};
+ghost use Rattle.caches.specs.TagOrder.{numbers, scope_number, substream_number};
 
 use cmdcodec::{Asid, Page, Sid, Ssid, Vmid};
 
@@ -69,7 +70,65 @@ fn is_aligned(page: Page, span: u8) -> bool
     span <= 52 && page.get() % (1 << span) == 0
 }
 
+fn scope_number(scope: Scope) -> u64
+    ensures { result ≡ scope_number scope }
+{
+    match scope {
+        Scope::Global => 0,
+        Scope::Of(asid) => u64::from(asid.get()) + 1,
+    }
+}
+
+fn substream_number(substream: Option<Ssid>) -> u64
+    ensures { result ≡ substream_number substream }
+{
+    match substream {
+        None => 0,
+        Some(ssid) => u64::from(ssid.get()) + 1,
+    }
+}
+
 impl Tag {
+    /// Numbers that stand in the order of tags.
+    pub(crate) fn numbers(&self) -> [u64; 5]
+        ensures { result ≡ numbers self.now }
+    {
+        match *self {
+            Tag::Ste { sid } => [0, u64::from(sid.get()), 0, 0, 0],
+            Tag::Cd { sid, ssid } => [1, u64::from(sid.get()), u64::from(ssid.get()), 0, 0],
+            Tag::S1 {
+                vmid,
+                scope,
+                page,
+                span,
+            } => [
+                2,
+                u64::from(vmid.get()),
+                scope_number(scope),
+                page.get(),
+                u64::from(span),
+            ],
+            Tag::S2 { vmid, page, span } => {
+                [3, u64::from(vmid.get()), page.get(), u64::from(span), 0]
+            }
+            Tag::El2 { scope, page, span } => {
+                [4, scope_number(scope), page.get(), u64::from(span), 0]
+            }
+            Tag::Atc {
+                sid,
+                ssid,
+                page,
+                span,
+            } => [
+                5,
+                u64::from(sid.get()),
+                substream_number(ssid),
+                page.get(),
+                u64::from(span),
+            ],
+        }
+    }
+
     /// Whether its block, if it has one, is well formed: at most `2^52` pages, from a multiple of its
     /// length on, and of stage 2 below intermediate physical page `2^40`.
     pub(crate) fn is_block(&self) -> bool

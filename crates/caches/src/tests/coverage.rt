@@ -1,24 +1,9 @@
 //! Each command with a tag that it covers and one that it just doesn't.
+use crate::Scope;
 use crate::tests::making::{
-    asid, atc, cd, el2, entry, of, page, sid, ssid, stage1, stage2, ste, substream, vmid,
+    asid, atc, cd, el2, of, page, parts, sid, ssid, stage1, stage2, ste, substream, vmid,
 };
-use crate::{Caches, Scope, Tag};
 use cmdcodec::{Command, IpaPage, Reach, Size, StreamRange};
-use std::alloc::Global;
-
-/// Whether the command takes the first tag from caches that hold both, and not the second.
-fn parts(alloc: Global, command: &Command, covered: Tag, spared: Tag) -> bool {
-    match Caches::new(alloc, 2) {
-        Err(_) => false,
-        Ok(mut caches) => {
-            let filled = caches.fill(entry(covered)).is_ok() && caches.fill(entry(spared)).is_ok();
-            filled
-                && caches.apply(command) == 1
-                && caches.lookup(&covered).is_none()
-                && caches.lookup(&spared) == Some(entry(spared))
-        }
-    }
-}
 
 #[test]
 fn configuration(rt: HostRuntime) {
@@ -256,6 +241,14 @@ fn endpoints(rt: HostRuntime) {
             &command,
             atc(7, substream(9), 0x10, 1),
             atc(8, substream(9), 0x10, 1)
+        )
+    );
+    assert!(rt;
+        parts(
+            rt.alloc(),
+            &command,
+            atc(7, substream(9), 0x10, 1),
+            atc(7, substream(8), 0x10, 1)
         )
     );
 }
