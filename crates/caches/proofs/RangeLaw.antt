@@ -8,7 +8,7 @@ use Rattle.cmdcodec.specs.declared.reach.Reach.TheVariants.{Page, Range}
 use Rattle.cmdcodec.specs.declared.command.Command.{Command}
 use Rattle.cmdcodec.specs.declared.command.Command.TheVariants.{CfgiSte, CfgiSteRange, CfgiCd, CfgiCdAll, TlbiNhAll, TlbiNhAsid, TlbiNhVa, TlbiNhVaa, TlbiEl2All, TlbiEl2Asid, TlbiEl2Va, TlbiEl2Vaa, TlbiS12Vmall, TlbiS2Ipa, TlbiNsnhAll, AtcInv, Kept, CmdSync}
 use Rattle.cmdcodec.specs.PageRuns.{run_from, IsIn, IsReached}
-use Rattle.cmdcodec.proofs.PageRunLemmas.{whole_granules}
+use Rattle.cmdcodec.specs.Laws.{RunsAreOfWholeGranules}
 use Rattle.caches.specs.declared.tag.Scope.{Scope}
 use Rattle.caches.specs.declared.tag.Tag.{Tag}
 use Rattle.caches.specs.declared.tag.Tag.TheVariants.{Ste, Cd, S1, S2, El2, Atc}
@@ -94,29 +94,29 @@ reached : (page space : ℕ) (reach : Reach) → page < space → IsReached page
 reached page space Page h = refl
 reached page space (Range tg num scale) h = (omega arith, omega (arith, mul-le 1 1 (num + 1) (2 ^ scale) (omega arith) (pow_pos scale)), h)
 
-has_page : (page space : ℕ) (reach : Reach) → page < space → (run_from page reach space).first < (run_from page reach space).end
-has_page page space reach h = let own = (whole_granules page space page reach h).1 (reached page space reach h) in omega (arith, own.0, own.1)
+has_page : RunsAreOfWholeGranules → (page space : ℕ) (reach : Reach) → page < space → (run_from page reach space).first < (run_from page reach space).end
+has_page whole page space reach h = let own = (whole page space page reach h).1 (reached page space reach h) in omega (arith, own.0, own.1)
 
 -- what the law says of one run
 abbrev OfRun : Command → Tag → PageRun → Type 0
 OfRun c tag run = (covers c tag ≡ true) ↔ Somewhere run (λ page. covers (at_page page c) tag)
 
-pub cover_pages : RangesCoverTheirPages
-cover_pages (TlbiNhVa vmid asid leaf page reach) run tag h e = let same : run_from page reach (2 ^ 52) ≡ run = cc in subst (OfRun (TlbiNhVa vmid asid leaf page reach) tag) same (machine_pages vmid asid (run_from page reach (2 ^ 52)) (has_page page (2 ^ 52) reach h) tag)
-cover_pages (TlbiNhVaa vmid leaf page reach) run tag h e = let same : run_from page reach (2 ^ 52) ≡ run = cc in subst (OfRun (TlbiNhVaa vmid leaf page reach) tag) same (stage1_pages (λ v o. v == vmid) (run_from page reach (2 ^ 52)) (has_page page (2 ^ 52) reach h) tag)
-cover_pages (TlbiEl2Va asid leaf page reach) run tag h e = let same : run_from page reach (2 ^ 52) ≡ run = cc in subst (OfRun (TlbiEl2Va asid leaf page reach) tag) same (el2_space_pages asid (run_from page reach (2 ^ 52)) (has_page page (2 ^ 52) reach h) tag)
-cover_pages (TlbiEl2Vaa leaf page reach) run tag h e = let same : run_from page reach (2 ^ 52) ≡ run = cc in subst (OfRun (TlbiEl2Vaa leaf page reach) tag) same (el2_pages (run_from page reach (2 ^ 52)) (has_page page (2 ^ 52) reach h) tag)
-cover_pages (TlbiS2Ipa vmid leaf page reach) run tag h e = let same : run_from page reach (2 ^ 40) ≡ run = cc in subst (OfRun (TlbiS2Ipa vmid leaf page reach) tag) same (stage2_pages vmid (run_from page reach (2 ^ 40)) (has_page page (2 ^ 40) reach h) tag)
-cover_pages (CfgiSte sid leaf) run tag h e = cc
-cover_pages (CfgiSteRange sid range) run tag h e = cc
-cover_pages (CfgiCd sid ssid leaf) run tag h e = cc
-cover_pages (CfgiCdAll sid) run tag h e = cc
-cover_pages (TlbiNhAll vmid) run tag h e = cc
-cover_pages (TlbiNhAsid vmid asid) run tag h e = cc
-cover_pages TlbiEl2All run tag h e = cc
-cover_pages (TlbiEl2Asid asid) run tag h e = cc
-cover_pages (TlbiS12Vmall vmid) run tag h e = cc
-cover_pages TlbiNsnhAll run tag h e = cc
-cover_pages (AtcInv sid ssv ssid global size page) run tag h e = cc
-cover_pages (Kept raw) run tag h e = cc
-cover_pages (CmdSync cs msh attr number address) run tag h e = cc
+pub cover_pages : RunsAreOfWholeGranules → RangesCoverTheirPages
+cover_pages whole (TlbiNhVa vmid asid leaf page reach) run tag h e = let same : run_from page reach (2 ^ 52) ≡ run = cc in subst (OfRun (TlbiNhVa vmid asid leaf page reach) tag) same (machine_pages vmid asid (run_from page reach (2 ^ 52)) (has_page whole page (2 ^ 52) reach h) tag)
+cover_pages whole (TlbiNhVaa vmid leaf page reach) run tag h e = let same : run_from page reach (2 ^ 52) ≡ run = cc in subst (OfRun (TlbiNhVaa vmid leaf page reach) tag) same (stage1_pages (λ v o. v == vmid) (run_from page reach (2 ^ 52)) (has_page whole page (2 ^ 52) reach h) tag)
+cover_pages whole (TlbiEl2Va asid leaf page reach) run tag h e = let same : run_from page reach (2 ^ 52) ≡ run = cc in subst (OfRun (TlbiEl2Va asid leaf page reach) tag) same (el2_space_pages asid (run_from page reach (2 ^ 52)) (has_page whole page (2 ^ 52) reach h) tag)
+cover_pages whole (TlbiEl2Vaa leaf page reach) run tag h e = let same : run_from page reach (2 ^ 52) ≡ run = cc in subst (OfRun (TlbiEl2Vaa leaf page reach) tag) same (el2_pages (run_from page reach (2 ^ 52)) (has_page whole page (2 ^ 52) reach h) tag)
+cover_pages whole (TlbiS2Ipa vmid leaf page reach) run tag h e = let same : run_from page reach (2 ^ 40) ≡ run = cc in subst (OfRun (TlbiS2Ipa vmid leaf page reach) tag) same (stage2_pages vmid (run_from page reach (2 ^ 40)) (has_page whole page (2 ^ 40) reach h) tag)
+cover_pages whole (CfgiSte sid leaf) run tag h e = cc
+cover_pages whole (CfgiSteRange sid range) run tag h e = cc
+cover_pages whole (CfgiCd sid ssid leaf) run tag h e = cc
+cover_pages whole (CfgiCdAll sid) run tag h e = cc
+cover_pages whole (TlbiNhAll vmid) run tag h e = cc
+cover_pages whole (TlbiNhAsid vmid asid) run tag h e = cc
+cover_pages whole TlbiEl2All run tag h e = cc
+cover_pages whole (TlbiEl2Asid asid) run tag h e = cc
+cover_pages whole (TlbiS12Vmall vmid) run tag h e = cc
+cover_pages whole TlbiNsnhAll run tag h e = cc
+cover_pages whole (AtcInv sid ssv ssid global size page) run tag h e = cc
+cover_pages whole (Kept raw) run tag h e = cc
+cover_pages whole (CmdSync cs msh attr number address) run tag h e = cc

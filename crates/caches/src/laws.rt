@@ -1,6 +1,8 @@
 //! Laws of the definitions, each the contract of a function that does nothing.
 ghost use Rattle.caches.specs.Laws.{HeldIsWhatStands, NothingElseIsHeld, HeldSpeaksOfEachTagOnce, UncoveredEntriesStay, Range31IsAllStreams, Size52IsAllPages, NsnhIsAllMachines, MeetingIsToShareAPage, RangesCoverTheirPages};
 
+use cmdcodec::runs_are_of_whole_granules;
+
 /// What is held after a history are its fills such that no later item is a fill of the same tag, an
 /// eviction of it or a command that covers it, and nothing else.
 pub fn held_is_what_stands()
@@ -35,4 +37,6 @@ pub fn meeting_is_to_share_a_page()
 /// A command by address covers a tag exactly where the command for one of the pages of its run does.
 pub fn ranges_cover_their_pages()
     ensures { RangesCoverTheirPages }
-{}
+{
+    runs_are_of_whole_granules();
+}
