@@ -24,3 +24,4 @@ pub mod MaskLemmas
 pub mod ReadyLemmas
 pub mod SyncCounts
 pub mod Judged
+pub mod ConsumerKnown

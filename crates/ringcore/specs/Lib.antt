@@ -13,3 +13,4 @@ pub mod Answers
 pub mod Played
 pub mod Stores
 pub mod FaultNames
+pub mod ConsumerViews

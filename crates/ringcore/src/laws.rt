@@ -5,8 +5,10 @@ ghost use Rattle.ringcore.specs.Played.{StepsAreAllowed, PlayedAreRuns};
 
 use qindex::{control_words_say_their_control, indexes_tell_the_queue};
 
+mod consumer;
 mod steps;
 
+pub use consumer::consumer_view;
 pub use steps::{
     acknowledge, advance, apart, ask, begin, close, flip, look, read, reserve_lost, reserve_won,
     start, test, write,

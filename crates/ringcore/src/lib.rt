@@ -1,6 +1,7 @@
 //! The ring as events on an abstract world: what every interleaving of its atomic steps keeps.
 #![tactic(auto)]
 
+mod consumer_view;
 mod event;
 mod flags;
 pub mod laws;
@@ -9,6 +10,7 @@ mod ring_words;
 mod step;
 mod step_fault;
 
+pub use consumer_view::ConsumerView;
 pub use event::{Event, Half, Outcome, Who};
 pub use flags::{flip_mask, polarity, ready_run, shared_word};
 pub use laws::{batches_law, counts_law, steps_law, world_law};
