@@ -25,3 +25,4 @@ pub mod ReadyLemmas
 pub mod SyncCounts
 pub mod Judged
 pub mod ConsumerKnown
+pub mod Tallies

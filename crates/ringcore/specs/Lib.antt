@@ -14,3 +14,4 @@ pub mod Played
 pub mod Stores
 pub mod FaultNames
 pub mod ConsumerViews
+pub mod SyncTallies

@@ -8,7 +8,7 @@ use qindex::{control_words_say_their_control, indexes_tell_the_queue};
 mod consumer;
 mod steps;
 
-pub use consumer::consumer_view;
+pub use consumer::{consumer_view, sync_tallies};
 pub use steps::{
     acknowledge, advance, apart, ask, begin, close, flip, look, read, reserve_lost, reserve_won,
     start, test, write,

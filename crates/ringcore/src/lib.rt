@@ -9,6 +9,7 @@ mod layout;
 mod ring_words;
 mod step;
 mod step_fault;
+mod sync_tallies;
 
 pub use consumer_view::ConsumerView;
 pub use event::{Event, Half, Outcome, Who};
@@ -18,6 +19,7 @@ pub use layout::{cell, control_word, data_word, flag_word, words};
 pub use ring_words::RingWords;
 pub use step::{Seen, Step};
 pub use step_fault::StepFault;
+pub use sync_tallies::SyncTallies;
 
 #[cfg(test)]
 mod tests;

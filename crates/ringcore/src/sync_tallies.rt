@@ -1,0 +1,70 @@
+//! How many closing syncs of each sender are taken.
+ghost use Rattle.std.specs.Prelude.{◌≡◌, ◌+◌, ◌<◌, ◌≤◌, ◌==◌, ℕ, List, [], ◌∷◌, false, length, replicate, slice_index, IfOk, MatchOption};
+ghost use Rattle.ringcore.specs.Laws.{is_sync_to};
+ghost use Rattle.ringcore.specs.SyncTallies.{AreTallies, AreCounted};
+
+use cmdcodec::Raw;
+use std::alloc::{AllocError, Global};
+use std::marker::Model;
+
+/// The address of sender 0's completion cell; the others follow, 4 bytes each (own).
+const FIRST_CELL: u64 = 0x4000_0000;
+
+/// How many closing syncs of each sender the consumer took: those up to this number are the ones that it may
+/// acknowledge.
+#[derive(Drop)]
+pub struct SyncTallies {
+    counts: Vec<u32>,
+}
+
+impl Model for SyncTallies {
+    ghost use Rattle.std.specs.Prelude.{List, ℕ};
+
+    ghost Value = { List ℕ };
+
+    ghost view = { λ tallies. tallies.counts.items };
+}
+
+impl SyncTallies {
+    /// No syncs yet, of so many senders.
+    ///
+    /// Errors: want of memory.
+    pub fn new(alloc: Global, senders: u32) -> Result<SyncTallies, AllocError>
+        ensures none { IfOk result (λ tallies. tallies ≡ replicate senders 0) }
+        ensures begins { IfOk result (λ tallies. AreTallies [] tallies) }
+    {
+        Ok(SyncTallies {
+            counts: vec![in alloc; 0; senders as usize]?,
+        })
+    }
+
+    /// How many syncs of a sender are taken.
+    pub fn of(&self, sender: u32) -> u32
+        requires { sender < length self.now }
+        ensures { result ≡ slice_index self.now sender }
+    {
+        self.counts[sender as usize]
+    }
+
+    /// Takes note of a command that is taken.
+    pub fn takes(&mut self, raw: Raw)
+        requires { (s : ℕ) → s < length self.old → slice_index self.old s < 4294967295 }
+        ensures { AreCounted self.old self.new (raw ∷ []) }
+    {
+        if let Some(sender) = sender_of(raw) {
+            if sender < self.counts.len() as u64 {
+                self.counts[sender as usize] += 1;
+            }
+        }
+    }
+}
+
+/// Whose closing sync a command is, if it is one.
+fn sender_of(raw: Raw) -> Option<u64>
+    ensures { MatchOption result ((s : ℕ) → is_sync_to s raw ≡ false) (λ sender. (s : ℕ) → is_sync_to s raw ≡ (s == sender)) }
+{
+    if raw.lo % 0x100 != 0x46 || raw.hi < FIRST_CELL || (raw.hi - FIRST_CELL) % 4 != 0 {
+        return None;
+    }
+    Some((raw.hi - FIRST_CELL) / 4)
+}
