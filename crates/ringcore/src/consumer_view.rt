@@ -63,14 +63,16 @@ impl ConsumerView {
 
     /// How many commands are taken: the position of the head.
     pub fn taken(&self) -> u64
-        ensures { WhereConsumerKnows self.now (λ run mine. result ≡ head (world run)) }
+        ensures value { result ≡ self.now.taken }
+        ensures head { WhereConsumerKnows self.now (λ run mine. result ≡ head (world run)) }
     {
         self.taken
     }
 
     /// How many from the head on the last test found, if no advance came after it.
     pub fn found(&self) -> u32
-        ensures { WhereConsumerKnows self.now (λ run mine. result ≡ found_ready mine) }
+        ensures value { result ≡ self.now.found }
+        ensures ready { WhereConsumerKnows self.now (λ run mine. result ≡ found_ready mine) }
     {
         self.found
     }
