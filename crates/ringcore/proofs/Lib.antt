@@ -23,3 +23,5 @@ pub mod FlagPlaces
 pub mod MaskLemmas
 pub mod ReadyLemmas
 pub mod SyncCounts
+pub mod Below
+pub mod Known

@@ -12,3 +12,4 @@ pub mod Faults
 pub mod Answers
 pub mod Played
 pub mod Stores
+pub mod Views
