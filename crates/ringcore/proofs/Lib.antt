@@ -24,4 +24,5 @@ pub mod MaskLemmas
 pub mod ReadyLemmas
 pub mod SyncCounts
 pub mod Below
+pub mod Nearest
 pub mod Known

@@ -3,10 +3,13 @@ ghost use Rattle.ringcore.specs.Delivery.{TakenInOrder, NumberedInOrder, NoneAft
 ghost use Rattle.ringcore.specs.Laws.{EveryRun, NeverMoreThanFull, AcknowledgedAreTaken, BatchesAreUnbroken, SendersOrderIsKept, EarlierStandsBefore, FewAreReserved, SyncsAreCounted};
 
 mod steps;
+mod views;
 
 pub use steps::{
-    acknowledge, advance, apart, ask, begin, close, flip, look, read, reserve_lost, reserve_won, start, test, write,
+    acknowledge, advance, apart, ask, begin, close, flip, look, read, reserve_lost, reserve_won,
+    start, test, write,
 };
+pub use views::{asks, closes, others};
 
 /// Every run of any length, of any number of senders, in a ring of any size, is ordered delivery: what is
 /// taken is a beginning of what was reserved, batches are numbered from 1, none is reserved after a close,

@@ -2,21 +2,23 @@
 ghost use Rattle.std.specs.Prelude.{◌≡◌, ◌+◌, ◌≤◌, ◌<◌, ◌&&◌, not, Bool, List, [], ◌∷◌, ℕ, length, Some, slice_get};
 ghost use Rattle.std.specs.List.{list_any, list_all};
 ghost use Rattle.cmdcodec.specs.declared.raw.Raw.{Raw};
+ghost use Rattle.qindex.specs.Positions.{size};
 ghost use Rattle.qindex.specs.declared.control.Control.{Control};
 ghost use Rattle.ringcore.specs.declared.sender_view.Progress.{Progress};
 ghost use Rattle.ringcore.specs.declared.event.Who.TheVariants.{Sender};
 ghost use Rattle.ringcore.specs.declared.event.Half.TheVariants.{Lo, Hi};
-ghost use Rattle.ringcore.specs.declared.event.Event.TheVariants.{Look, Lost, Write};
+ghost use Rattle.ringcore.specs.declared.event.Event.TheVariants.{Look, Won, Lost, Write};
 ghost use Rattle.ringcore.specs.Trails.{Run, looked, trail_of, reserved_length, has_written, has_flipped};
-ghost use Rattle.ringcore.specs.World.{world};
+ghost use Rattle.ringcore.specs.World.{tail, world, commands};
 ghost use Rattle.ringcore.specs.Steps.{reserved_commands};
-ghost use Rattle.ringcore.specs.Open.{some_below, all_below, is_open, holds};
+ghost use Rattle.ringcore.specs.Shadow.{Ring};
+ghost use Rattle.ringcore.specs.Open.{some_below, all_below, is_open, holds, own_offset};
 ghost use Rattle.ringcore.specs.Answers.{is_same_word, next_number};
 ghost use Rattle.ringcore.specs.Views.{Knows, WhereKnown};
 
 use crate::event::Half;
-use cmdcodec::{Raw, RawList};
-use qindex::Control;
+use cmdcodec::{Raw, RawList, closing_sync, encode};
+use qindex::{Control, Geometry};
 use std::marker::Model;
 
 /// The most commands of a batch, with its closing sync.
@@ -173,6 +175,43 @@ impl SenderView {
             Half::Hi => self.progress[offset as usize].hi = true,
         }
     }
+
+    /// The offset of a slot in its open reservation, if that holds the slot.
+    pub fn offset_of(&self, geometry: Geometry, slot: u32) -> Option<u32>
+        requires { slot < size geometry }
+        ensures { (ring : Ring) → ring.geometry ≡ geometry → WhereKnown self.now (λ run s mine. result ≡ own_offset ring run s slot) }
+    {
+        if !self.is_open() {
+            return None;
+        }
+        let size = u64::from(geometry.size());
+        let ahead = (u64::from(slot) + size - self.start % size) % size;
+        if ahead < u64::from(self.len()) {
+            Some(ahead as u32)
+        } else {
+            None
+        }
+    }
+
+    /// Takes note of a batch that was reserved from this position on, and answers the number of its
+    /// closing sync, if it has one.
+    pub fn wins(&mut self, sender: u32, body: &RawList, closes: bool, start: u64) -> Option<u32>
+        requires sender { sender < 256 }
+        requires body { length body.now.items ≤ 63 }
+        requires batches { self.old.batches < 4294967295 }
+        requires numbers { self.old.numbers < 4294967295 }
+        ensures number { WhereKnown self.old (λ run s mine. result ≡ next_number mine closes) }
+        ensures view { (run : Run) → Knows run sender self.old → start ≡ tail (world run) → Knows ((Sender sender, Won body.now.items result) ∷ run) sender self.new }
+    {
+        let number = self.next_number(closes);
+        self.looked = None;
+        self.batches += 1;
+        self.numbers += u32::from(closes);
+        self.start = start;
+        self.commands = batch_commands(sender, body, number);
+        self.progress = [UNTOUCHED; MOST_COMMANDS];
+        number
+    }
 }
 
 fn any_unflipped(commands: &[Progress]) -> bool
@@ -191,4 +230,18 @@ fn all_written(commands: &[Progress]) -> bool
     ensures { result ≡ list_all (λ (command : Progress). command.lo && command.hi) commands.now }
 {
     commands.iter().all(|command| command.lo && command.hi)
+}
+
+/// The commands of a batch: the body, and behind it the closing sync of this number, if there is one.
+fn batch_commands(sender: u32, body: &RawList, number: Option<u32>) -> RawList
+    requires sender { sender < 256 }
+    requires body { length body.now.items ≤ 63 }
+    ensures { result.items ≡ commands sender number body.now.items }
+{
+    let mut commands = RawList::new();
+    commands.try_extend_from_slice(body.as_slice()).unwrap();
+    if let Some(number) = number {
+        commands.push(encode(&closing_sync(sender, number)));
+    }
+    commands
 }
