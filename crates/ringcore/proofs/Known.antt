@@ -1,27 +1,25 @@
 -- What a sender's view says is what its trail says, and events leave it so.
-use Rattle.std.proofs.Common.{◌≡◌, ◌≢◌, ℕ, zero, suc, ◌+◌, ◌-◌, ◌%◌, ◌<◌, ◌≤◌, Bool, true, false, not, cond, ◌||◌, ◌&&◌, List, [], ◌∷◌, length, take, drop, Option, Some, None, refl, sym, ap, ap₂, ◌∙◌, subst, inl, inr, eq-eqb, ne_eqb, arith}
+use Rattle.std.proofs.Common.{◌≡◌, ◌≢◌, ℕ, suc, ◌+◌, ◌-◌, ◌%◌, ◌<◌, ◌≤◌, Bool, true, false, not, cond, ◌||◌, ◌&&◌, List, [], ◌∷◌, length, take, drop, Option, Some, None, refl, sym, ap, ap₂, ◌∙◌, subst, inl, inr, eq-eqb, ne_eqb, arith}
 use Rattle.std.proofs.lemmas.Bool.{cases_eq, cases_lt}
-use Rattle.std.proofs.lemmas.List.{get_or-set_same, get_or-set_other, get_or-replicate, get_or_past, length-replicate, length-set}
+use Rattle.std.proofs.lemmas.List.{get_or-set_same, get_or-set_other, get_or-replicate, get_or_past, length-replicate}
 use Rattle.std.specs.Prelude.{◌==◌, slice_set, slice_index_or, replicate, if◌then◌else◌}
 use Rattle.std.specs.List.{list_any, list_all}
 use Rattle.std.specs.Int.{from_bool}
 use Rattle.cmdcodec.specs.declared.raw.Raw.{Raw}
-use Rattle.qindex.specs.declared.control.Control.{Control}
 use Rattle.qindex.specs.Positions.{size, place}
-use Rattle.ringcore.specs.declared.event.Who.{Who}
 use Rattle.ringcore.specs.declared.event.Who.TheVariants.{Consumer, Sender}
 use Rattle.ringcore.specs.declared.event.Half.{Half}
 use Rattle.ringcore.specs.declared.event.Half.TheVariants.{Lo, Hi}
 use Rattle.ringcore.specs.declared.event.Event.{Event}
 use Rattle.ringcore.specs.declared.event.Event.TheVariants.{Look, Won, Lost, Write, Flip, Test, Read, Advance, Close, Acknowledge, Ask}
 use Rattle.ringcore.specs.declared.sender_view.Progress.{Progress}
-use Rattle.ringcore.specs.Trails.{Trail, Run, same, same_half, trail_of, numbers_given, reserved_length, is_among, has_written, has_flipped}
-use Rattle.ringcore.specs.World.{World, tail, after, world, with_at, commands}
+use Rattle.ringcore.specs.Trails.{Trail, Run, same_half, trail_of, numbers_given, reserved_length, is_among, has_written, has_flipped}
+use Rattle.ringcore.specs.World.{tail, world, commands}
 use Rattle.ringcore.specs.Steps.{reserved_commands}
 use Rattle.ringcore.specs.Shadow.{Ring}
 use Rattle.ringcore.specs.Open.{some_below, all_below, first_below, is_open, own_offset}
 use Rattle.ringcore.specs.Answers.{next_number}
-use Rattle.ringcore.specs.Views.{SenderValue, KnowsTrail, Knows, untouched, is_written, progress_at, OthersLeaveIt, CloseLeavesIt, AskLeavesIt}
+use Rattle.ringcore.specs.Views.{SenderValue, KnowsTrail, Knows, untouched, is_written, progress_at, flipped_by, AreFlipped, OthersLeaveIt, CloseLeavesIt, AskLeavesIt}
 use Rattle.ringcore.proofs.Sound.{length_commands}
 use Rattle.ringcore.proofs.Below.{any_is, all_is, first_is, first_not}
 use Rattle.ringcore.proofs.Nearest.{here, nearer}
@@ -318,3 +316,22 @@ won_known run s view body number numbers first raws at k count raws_are =
       flipped_is = λ n low. ap (λ (c : Progress). c.flipped) (fresh n);
     } in
     subst (λ (t : Trail). KnowsTrail s t now new) (sym (own_trail run s e)) known
+
+-- ---- a run of commands is flipped
+
+written_kept : (half : Half) (command : Progress) (first count k : ℕ) → is_written half (flipped_by first count k command) ≡ is_written half command
+written_kept Lo command first count k = refl
+written_kept Hi command first count k = refl
+
+pub flipped_known : (run : Run) (s : ℕ) (view : SenderValue) (offset count : ℕ) (new : List Progress) → AreFlipped view.progress new offset count
+    → Knows run s view
+    → Knows ((Sender s, Flip offset count) ∷ run) s (record view { progress = new })
+flipped_known run s view offset count new are k = own run s (Flip offset count) (record view { progress = new }) refl record {
+  looked_is = k.looked_is;
+  batches_is = k.batches_is;
+  numbers_is = k.numbers_is;
+  start_is = k.start_is;
+  commands_are = k.commands_are;
+  written_is = λ n half low. ap (is_written half) (are n) ∙ written_kept half (progress_at view n) offset count n ∙ k.written_is n half low;
+  flipped_is = λ n low. ap (λ (c : Progress). c.flipped) (are n) ∙ ap (λ (v : Bool). is_among offset count n || v) (k.flipped_is n low);
+}

@@ -25,4 +25,5 @@ pub mod ReadyLemmas
 pub mod SyncCounts
 pub mod Below
 pub mod Nearest
+pub mod Turned
 pub mod Known

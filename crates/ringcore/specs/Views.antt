@@ -1,5 +1,5 @@
 -- What a sender knows of a run at run time: what its own trail says.
-use Rattle.std.specs.Prelude.{◌≡◌, ◌≢◌, ℕ, ◌<◌, ◌≤◌, Bool, false, List, [], ◌∷◌, length, Option, slice_index_or}
+use Rattle.std.specs.Prelude.{◌≡◌, ◌≢◌, ℕ, ◌<◌, ◌≤◌, Bool, ◌||◌, false, List, ◌∷◌, length, Option, slice_index_or}
 use Rattle.cmdcodec.specs.declared.raw.Raw.{Raw}
 use Rattle.qindex.specs.declared.control.Control.{Control}
 use Rattle.ringcore.specs.declared.event.Who.{Who}
@@ -9,7 +9,7 @@ use Rattle.ringcore.specs.declared.event.Half.TheVariants.{Lo, Hi}
 use Rattle.ringcore.specs.declared.event.Event.{Event}
 use Rattle.ringcore.specs.declared.event.Event.TheVariants.{Close, Ask}
 use Rattle.ringcore.specs.declared.sender_view.Progress.{Progress}
-use Rattle.ringcore.specs.Trails.{Trail, Run, trail_of, looked, batches_made, numbers_given, reserved_length, has_written, has_flipped}
+use Rattle.ringcore.specs.Trails.{Trail, Run, trail_of, is_among, looked, batches_made, numbers_given, reserved_length, has_written, has_flipped}
 use Rattle.ringcore.specs.World.{world}
 use Rattle.ringcore.specs.Steps.{reserved_commands}
 
@@ -37,6 +37,14 @@ is_written Hi command = command.hi
 
 abbrev pub progress_at : SenderValue → ℕ → Progress
 progress_at view k = slice_index_or view.progress k untouched
+
+-- a command once count places from first on are flipped, of which it may be one
+abbrev pub flipped_by : ℕ → ℕ → ℕ → Progress → Progress
+flipped_by first count k command = record command { flipped = is_among first count k || command.flipped }
+
+-- Of commands, count from first on are marked as flipped, and nothing else.
+abbrev pub AreFlipped : List Progress → List Progress → ℕ → ℕ → Type 0
+AreFlipped old new first count = (k : ℕ) → slice_index_or new k untouched ≡ flipped_by first count k (slice_index_or old k untouched)
 
 -- A view says what a sender's trail does, where its last reservation starts at this position.
 pub record KnowsTrail (s : ℕ) (mine : Trail) (first : ℕ) (view : SenderValue) : Type 0 where

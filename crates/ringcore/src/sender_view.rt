@@ -1,22 +1,26 @@
 //! What one sender knows at run time: what its own trail says, in a bounded size.
-ghost use Rattle.std.specs.Prelude.{◌≡◌, ◌+◌, ◌≤◌, ◌<◌, ◌&&◌, not, Bool, List, [], ◌∷◌, ℕ, length, Some, slice_get};
+ghost use Rattle.std.specs.Prelude.{◌≡◌, ◌==◌, ◌+◌, ◌≤◌, ◌<◌, ◌&&◌, not, Bool, List, [], ◌∷◌, ℕ, length, Some, slice_get};
 ghost use Rattle.std.specs.List.{list_any, list_all};
 ghost use Rattle.cmdcodec.specs.declared.raw.Raw.{Raw};
 ghost use Rattle.qindex.specs.Positions.{size};
+ghost use Rattle.qindex.specs.ControlWord.{IsControl};
+ghost use Rattle.cmdcodec.specs.Opcodes.{opcode_of};
 ghost use Rattle.qindex.specs.declared.control.Control.{Control};
 ghost use Rattle.ringcore.specs.declared.sender_view.Progress.{Progress};
 ghost use Rattle.ringcore.specs.declared.event.Who.TheVariants.{Sender};
 ghost use Rattle.ringcore.specs.declared.event.Half.TheVariants.{Lo, Hi};
-ghost use Rattle.ringcore.specs.declared.event.Event.TheVariants.{Look, Won, Lost, Write};
+ghost use Rattle.ringcore.specs.declared.event.Event.TheVariants.{Look, Won, Lost, Write, Flip};
 ghost use Rattle.ringcore.specs.Trails.{Run, looked, trail_of, reserved_length, has_written, has_flipped};
 ghost use Rattle.ringcore.specs.World.{tail, world, commands};
 ghost use Rattle.ringcore.specs.Steps.{reserved_commands};
 ghost use Rattle.ringcore.specs.Shadow.{Ring};
 ghost use Rattle.ringcore.specs.Open.{some_below, all_below, is_open, holds, own_offset};
+ghost use Rattle.ringcore.specs.Faults.{reserve_fault, is_body, has_room};
 ghost use Rattle.ringcore.specs.Answers.{is_same_word, next_number};
-ghost use Rattle.ringcore.specs.Views.{Knows, WhereKnown};
+ghost use Rattle.ringcore.specs.Views.{Knows, WhereKnown, AreFlipped};
 
 use crate::event::Half;
+use crate::step::StepFault;
 use cmdcodec::{Raw, RawList, closing_sync, encode};
 use qindex::{Control, Geometry};
 use std::marker::Model;
@@ -212,6 +216,33 @@ impl SenderView {
         self.progress = [UNTOUCHED; MOST_COMMANDS];
         number
     }
+
+    /// Takes note of so many commands of its reservation, from this offset on, that are flipped.
+    pub fn flips(&mut self, offset: u32, count: u32)
+        requires { offset + count ≤ 64 }
+        ensures { (run : Run) (s : ℕ) → Knows run s self.old → Knows ((Sender s, Flip offset count) ∷ run) s self.new }
+    {
+        mark_flipped(&mut self.progress, offset as usize, count as usize);
+    }
+
+    /// Why a reserve of this body is refused, if it is. What it looked at is of this geometry.
+    pub fn reserve_fault(&self, geometry: Geometry, body: &[Raw], closes: bool) -> Option<StepFault>
+        requires { (found : Control) → self.now.looked ≡ Some found → IsControl geometry found }
+        ensures { (ring : Ring) → ring.geometry ≡ geometry → ring.max_batches ≡ 4294967295 → WhereKnown self.now (λ run s mine. result ≡ reserve_fault ring mine body.now closes) }
+    {
+        if self.is_open() || self.batches == u32::MAX {
+            return Some(StepFault::NotSettled);
+        }
+        if !is_body(body) {
+            return Some(StepFault::BadBody);
+        }
+        let many = body.len() as u32 + u32::from(closes);
+        if has_room(geometry, &self.looked, many) {
+            None
+        } else {
+            Some(StepFault::NoRoom)
+        }
+    }
 }
 
 fn any_unflipped(commands: &[Progress]) -> bool
@@ -244,4 +275,49 @@ fn batch_commands(sender: u32, body: &RawList, number: Option<u32>) -> RawList
         commands.push(encode(&closing_sync(sender, number)));
     }
     commands
+}
+
+/// Marks so many commands, from the first one on, as flipped.
+fn mark_flipped(commands: &mut [Progress], first: usize, count: usize)
+    requires { first + count ≤ length commands.old }
+    ensures { AreFlipped commands.old commands.new first count }
+{
+    for place in first..first + count {
+        commands[place].flipped = true;
+    }
+}
+
+/// Whether it is a CMD_SYNC, legal or not.
+fn is_sync(raw: Raw) -> bool
+    ensures { result ≡ (opcode_of raw == 0x46) }
+{
+    raw.lo % 0x100 == 0x46
+}
+
+/// Whether a batch may have this body: 1 to 63 commands, none of them a CMD_SYNC.
+fn is_body(body: &[Raw]) -> bool
+    ensures { result ≡ is_body body.now }
+{
+    if body.is_empty() {
+        return false;
+    }
+    body.len() < MOST_COMMANDS && !any_sync(body)
+}
+
+fn any_sync(body: &[Raw]) -> bool
+    ensures { result ≡ list_any (λ raw. opcode_of raw == 0x46) body.now }
+{
+    body.iter().any(|raw| is_sync(*raw))
+}
+
+/// Whether by this look there is room for so many commands, and the ring is open.
+fn has_room(geometry: Geometry, looked: &Option<Control>, many: u32) -> bool
+    requires few { many ≤ 64 }
+    requires control { (found : Control) → looked.now ≡ Some found → IsControl geometry found }
+    ensures { (ring : Ring) → ring.geometry ≡ geometry → result ≡ has_room ring looked.now many }
+{
+    match looked {
+        None => false,
+        Some(found) => !found.closed && found.prod.distance(found.cons) + many <= geometry.size(),
+    }
 }

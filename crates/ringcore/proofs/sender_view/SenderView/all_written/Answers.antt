@@ -1,4 +1,4 @@
-use Rattle.std.proofs.Common.{◌≡◌, ℕ, ◌+◌, ◌-◌, ◌≤◌, length, take, drop, ap, ◌∙◌, arith}
+use Rattle.std.proofs.Common.{◌≡◌, ℕ, ◌+◌, ◌-◌, length, take, drop, ap, ◌∙◌, arith}
 use Rattle.ringcore.specs.Views.{SenderValue}
 use Rattle.ringcore.proofs.Known.{all_written_of, says_all_written, all_written_known}
 use Rattle.ringcore.proofs.sender_view.SenderView.all_written.Goals as goal

@@ -1,4 +1,4 @@
-use Rattle.std.proofs.Common.{◌≡◌, ℕ, ◌+◌, ◌-◌, ◌≤◌, length, take, drop, ap, ◌∙◌, arith}
+use Rattle.std.proofs.Common.{◌≡◌, ℕ, ◌+◌, ◌-◌, length, take, drop, ap, ◌∙◌, arith}
 use Rattle.ringcore.specs.Views.{SenderValue}
 use Rattle.ringcore.proofs.Known.{any_flipped_of, says_any_flipped, any_flipped_known}
 use Rattle.ringcore.proofs.sender_view.SenderView.any_flipped.Goals as goal

@@ -1,4 +1,4 @@
-use Rattle.std.proofs.Common.{◌≡◌, ◌≤◌, length, take, ap, ◌∙◌, arith}
+use Rattle.std.proofs.Common.{length, take, ap, ◌∙◌, arith}
 use Rattle.ringcore.specs.Views.{SenderValue}
 use Rattle.ringcore.proofs.Known.{says_open, any_unflipped_of, open_known}
 use Rattle.ringcore.proofs.sender_view.SenderView.is_open.Goals as goal

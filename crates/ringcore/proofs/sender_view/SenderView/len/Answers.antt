@@ -1,4 +1,4 @@
-use Rattle.std.proofs.Common.{◌≡◌, length, ap, ◌∙◌}
+use Rattle.std.proofs.Common.{length, ap, ◌∙◌}
 use Rattle.ringcore.specs.Views.{SenderValue}
 use Rattle.ringcore.proofs.Known.{length_known}
 use Rattle.ringcore.proofs.sender_view.SenderView.len.Goals as goal

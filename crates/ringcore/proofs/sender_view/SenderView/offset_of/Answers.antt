@@ -1,4 +1,4 @@
-use Rattle.std.proofs.Common.{rules, ◌≡◌, ℕ, ◌+◌, ◌-◌, ◌%◌, true, ap, sym, subst, ◌<◌, ◌∙◌, arith}
+use Rattle.std.proofs.Common.{rules, ◌≡◌, ◌+◌, ◌-◌, ◌%◌, true, ap, sym, subst, ◌<◌, ◌∙◌, arith}
 use Rattle.qindex.specs.Positions.{size}
 use Rattle.ringcore.specs.Views.{SenderValue}
 use Rattle.ringcore.proofs.Known.{offset_there, offset_none}

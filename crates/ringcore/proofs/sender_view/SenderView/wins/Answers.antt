@@ -1,4 +1,4 @@
-use Rattle.std.proofs.Common.{◌≡◌, ap, sym, subst, ◌∙◌}
+use Rattle.std.proofs.Common.{sym, subst}
 use Rattle.ringcore.specs.Views.{SenderValue, Knows}
 use Rattle.ringcore.proofs.Known.{counted, won_known}
 use Rattle.ringcore.proofs.sender_view.SenderView.wins.Goals as goal

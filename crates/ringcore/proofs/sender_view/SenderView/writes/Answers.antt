@@ -1,4 +1,4 @@
-use Rattle.std.proofs.Common.{◌≡◌, ◌<◌, ◌∷◌, length, sym, subst, arith}
+use Rattle.std.proofs.Common.{◌∷◌, sym, subst, arith}
 use Rattle.ringcore.specs.declared.event.Half.{Half}
 use Rattle.ringcore.specs.declared.event.Half.TheVariants.{Lo, Hi}
 use Rattle.ringcore.specs.declared.event.Who.TheVariants.{Sender}
