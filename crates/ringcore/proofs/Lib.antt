@@ -26,3 +26,7 @@ pub mod SyncCounts
 pub mod Judged
 pub mod ConsumerKnown
 pub mod Tallies
+pub mod Below
+pub mod Nearest
+pub mod Turned
+pub mod Known

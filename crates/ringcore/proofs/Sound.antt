@@ -40,7 +40,7 @@ length_from : (place s : ℕ) (number : Option ℕ) (raws : List Raw) → length
 length_from place s number [] = refl
 length_from place s number (raw ∷ raws) = ap suc (length_from (suc place) s number raws)
 
-length_commands : (s : ℕ) (number : Option ℕ) (body : List Raw) → length (commands s number body) ≡ batch_length body number
+pub length_commands : (s : ℕ) (number : Option ℕ) (body : List Raw) → length (commands s number body) ≡ batch_length body number
 length_commands s None body = refl
 length_commands s (Some number) body = length-append body _
 

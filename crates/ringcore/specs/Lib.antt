@@ -15,3 +15,4 @@ pub mod Stores
 pub mod FaultNames
 pub mod ConsumerViews
 pub mod SyncTallies
+pub mod Views
