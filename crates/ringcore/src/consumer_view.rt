@@ -1,6 +1,7 @@
 //! What the consumer knows at run time: what its own trail says, in a bounded size.
 ghost use Rattle.std.specs.Prelude.{◌≡◌, ◌+◌, ◌≤◌, ◌<◌, ◌^◌, ℕ, List, [], ◌∷◌, length, Option, Some, None};
 ghost use Rattle.cmdcodec.specs.declared.raw.Raw.{Raw};
+ghost use Rattle.qindex.specs.Positions.{size};
 ghost use Rattle.ringcore.specs.declared.event.Who.TheVariants.{Consumer};
 ghost use Rattle.ringcore.specs.declared.event.Half.TheVariants.{Lo, Hi};
 ghost use Rattle.ringcore.specs.declared.event.Event.TheVariants.{Test, Read, Advance};
@@ -11,7 +12,7 @@ ghost use Rattle.ringcore.specs.Faults.{advance_fault, tested_offset};
 ghost use Rattle.ringcore.specs.ConsumerViews.{ConsumerKnows, WhereConsumerKnows, both_halves};
 
 use crate::event::Half;
-use crate::step_fault::StepFault;
+use crate::slot_offset::offset_of_slot;
 use cmdcodec::Raw;
 use qindex::Geometry;
 use std::marker::Model;
@@ -117,5 +118,13 @@ impl ConsumerView {
         self.taken += u64::from(count);
         self.found = 0;
         self.read = [UNREAD; MOST_COMMANDS];
+    }
+
+    /// The offset from the head of a slot that the last test found, if it is one.
+    pub fn tested_offset(&self, geometry: Geometry, slot: u32) -> Option<u32>
+        requires { slot < size geometry }
+        ensures { (ring : Ring) → ring.geometry ≡ geometry → WhereConsumerKnows self.now (λ run mine. result ≡ tested_offset ring run slot) }
+    {
+        offset_of_slot(geometry, self.taken, self.found, slot)
     }
 }

@@ -8,6 +8,7 @@ pub mod laws;
 mod layout;
 mod ring_words;
 mod sender_view;
+mod slot_offset;
 mod step;
 mod step_fault;
 mod sync_tallies;
