@@ -22,10 +22,12 @@ pub record SenderValue : Type 0 where
   pub commands : List Raw
   pub progress : List Progress
 
--- The commands of a batch are 64 at most, and as many places are kept for what is done of them.
+-- The commands of a batch are 64 at most, and as many places are kept for what is done of them. No more batches
+-- have a number than were made.
 pub record IsBounded (view : SenderValue) : Type 0 where
   pub few : length view.commands ≤ 64
   pub places : length view.progress ≡ 64
+  pub numbered : view.numbers ≤ view.batches
 
 -- a command of which nothing is done
 abbrev pub untouched : Progress

@@ -87,6 +87,51 @@ impl SenderView {
         self.looked = Some(*found);
     }
 
+    /// Takes note of an exchange that was lost: what it looked at is used up.
+    pub fn loses(&mut self)
+        ensures { (run : Run) (s : ℕ) (body : List Raw) (closes : Bool) (found : Control) → Knows run s self.old → Knows ((Sender s, Lost body closes found) ∷ run) s self.new }
+    {
+        self.looked = None;
+    }
+
+    /// Takes note of a batch that was reserved from this position on, and answers the number of its
+    /// closing sync, if it has one.
+    pub fn wins(&mut self, sender: u32, body: &RawList, closes: bool, start: u64) -> Option<u32>
+        requires sender { sender < 256 }
+        requires body { length body.now.items ≤ 63 }
+        requires batches { self.old.batches < 4294967295 }
+        ensures number { WhereKnown self.old (λ run s mine. result ≡ next_number mine closes) }
+        ensures view { (run : Run) → Knows run sender self.old → start ≡ tail (world run) → Knows ((Sender sender, Won body.now.items result) ∷ run) sender self.new }
+    {
+        let number = self.next_number(closes);
+        self.looked = None;
+        self.batches += 1;
+        self.numbers += u32::from(closes);
+        self.start = start;
+        self.commands = batch_commands(sender, body, number);
+        self.progress = [UNTOUCHED; MOST_COMMANDS];
+        number
+    }
+
+    /// Takes note of a half of its reservation that is written.
+    pub fn writes(&mut self, offset: u32, half: Half)
+        requires { offset < 64 }
+        ensures { (run : Run) (s : ℕ) → Knows run s self.old → Knows ((Sender s, Write offset half) ∷ run) s self.new }
+    {
+        match half {
+            Half::Lo => self.progress[offset as usize].lo = true,
+            Half::Hi => self.progress[offset as usize].hi = true,
+        }
+    }
+
+    /// Takes note of so many commands of its reservation, from this offset on, that are flipped.
+    pub fn flips(&mut self, offset: u32, count: u32)
+        requires { offset + count ≤ 64 }
+        ensures { (run : Run) (s : ℕ) → Knows run s self.old → Knows ((Sender s, Flip offset count) ∷ run) s self.new }
+    {
+        mark_flipped(&mut self.progress, offset as usize, count as usize);
+    }
+
     /// How many commands its last reservation has.
     pub fn len(&self) -> u32
         ensures reservation { WhereKnown self.now (λ run s mine. result ≡ reserved_length mine) }
@@ -116,6 +161,23 @@ impl SenderView {
         ensures { WhereKnown self.now (λ run s mine. result ≡ holds run s position) }
     {
         self.is_open() && self.start <= position && position - self.start < u64::from(self.len())
+    }
+
+    /// The offset of a slot in its open reservation, if that holds the slot.
+    pub fn offset_of(&self, geometry: Geometry, slot: u32) -> Option<u32>
+        requires { slot < size geometry }
+        ensures { (ring : Ring) → ring.geometry ≡ geometry → WhereKnown self.now (λ run s mine. result ≡ own_offset ring run s slot) }
+    {
+        if !self.is_open() {
+            return None;
+        }
+        let size = u64::from(geometry.size());
+        let ahead = (u64::from(slot) + size - self.start % size) % size;
+        if ahead < u64::from(self.len()) {
+            Some(ahead as u32)
+        } else {
+            None
+        }
     }
 
     /// Whether any of so many commands of its reservation, from this offset on, is flipped.
@@ -156,73 +218,10 @@ impl SenderView {
 
     /// The number of the closing sync of its next batch, if that has one.
     pub fn next_number(&self, closes: bool) -> Option<u32>
-        requires { self.now.numbers < 4294967295 }
+        requires { self.now.batches < 4294967295 }
         ensures { WhereKnown self.now (λ run s mine. result ≡ next_number mine closes) }
     {
         if closes { Some(self.numbers + 1) } else { None }
-    }
-
-    /// Takes note of an exchange that was lost: what it looked at is used up.
-    pub fn loses(&mut self)
-        ensures { (run : Run) (s : ℕ) (body : List Raw) (closes : Bool) (found : Control) → Knows run s self.old → Knows ((Sender s, Lost body closes found) ∷ run) s self.new }
-    {
-        self.looked = None;
-    }
-
-    /// Takes note of a half of its reservation that is written.
-    pub fn writes(&mut self, offset: u32, half: Half)
-        requires { offset < 64 }
-        ensures { (run : Run) (s : ℕ) → Knows run s self.old → Knows ((Sender s, Write offset half) ∷ run) s self.new }
-    {
-        match half {
-            Half::Lo => self.progress[offset as usize].lo = true,
-            Half::Hi => self.progress[offset as usize].hi = true,
-        }
-    }
-
-    /// The offset of a slot in its open reservation, if that holds the slot.
-    pub fn offset_of(&self, geometry: Geometry, slot: u32) -> Option<u32>
-        requires { slot < size geometry }
-        ensures { (ring : Ring) → ring.geometry ≡ geometry → WhereKnown self.now (λ run s mine. result ≡ own_offset ring run s slot) }
-    {
-        if !self.is_open() {
-            return None;
-        }
-        let size = u64::from(geometry.size());
-        let ahead = (u64::from(slot) + size - self.start % size) % size;
-        if ahead < u64::from(self.len()) {
-            Some(ahead as u32)
-        } else {
-            None
-        }
-    }
-
-    /// Takes note of a batch that was reserved from this position on, and answers the number of its
-    /// closing sync, if it has one.
-    pub fn wins(&mut self, sender: u32, body: &RawList, closes: bool, start: u64) -> Option<u32>
-        requires sender { sender < 256 }
-        requires body { length body.now.items ≤ 63 }
-        requires batches { self.old.batches < 4294967295 }
-        requires numbers { self.old.numbers < 4294967295 }
-        ensures number { WhereKnown self.old (λ run s mine. result ≡ next_number mine closes) }
-        ensures view { (run : Run) → Knows run sender self.old → start ≡ tail (world run) → Knows ((Sender sender, Won body.now.items result) ∷ run) sender self.new }
-    {
-        let number = self.next_number(closes);
-        self.looked = None;
-        self.batches += 1;
-        self.numbers += u32::from(closes);
-        self.start = start;
-        self.commands = batch_commands(sender, body, number);
-        self.progress = [UNTOUCHED; MOST_COMMANDS];
-        number
-    }
-
-    /// Takes note of so many commands of its reservation, from this offset on, that are flipped.
-    pub fn flips(&mut self, offset: u32, count: u32)
-        requires { offset + count ≤ 64 }
-        ensures { (run : Run) (s : ℕ) → Knows run s self.old → Knows ((Sender s, Flip offset count) ∷ run) s self.new }
-    {
-        mark_flipped(&mut self.progress, offset as usize, count as usize);
     }
 
     /// Why a reserve of this body is refused, if it is. What it looked at is of this geometry.
