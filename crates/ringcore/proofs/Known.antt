@@ -91,47 +91,6 @@ module _ (run : Run) (s : ℕ) (view : SenderValue) (known : Knows run s view) w
       zero_plus : (k : ℕ) → 0 + k ≡ k
       zero_plus k = omega arith
 
--- ---- the offset of a slot
-
-module _ (ring : Ring) (run : Run) (s : ℕ) (view : SenderValue) (known : Knows run s view) (slot : ℕ) (there : slot < size ring.geometry) where
-  abbrev trail : Trail
-  trail = trail_of (Sender s) run
-
-  abbrev begin : ℕ
-  begin = (world run).start s
-
-  abbrev is_slot : ℕ → Bool
-  is_slot k = place ring.geometry (begin + k) == slot
-
-  abbrev pub far : ℕ
-  far = (slot + size ring.geometry - begin % size ring.geometry) % size ring.geometry
-
-  before : (k : ℕ) → k < far → is_slot k ≡ false
-  before k low = ne_eqb (place ring.geometry (begin + k)) slot (nearer ring.geometry begin slot there k low)
-
-  at_far : is_slot far ≡ true
-  at_far = eq-eqb (place ring.geometry (begin + far)) slot (here ring.geometry begin slot there)
-
-  opened : is_open trail ≡ true → own_offset ring run s slot ≡ first_below (reserved_length trail) is_slot
-  opened is = ap (λ (v : Bool). if v then first_below (reserved_length trail) is_slot else None) is
-
-  pub far_is : (n : ℕ) → n ≡ (slot + size ring.geometry - view.start % size ring.geometry) % size ring.geometry → n ≡ far
-  far_is n is = is ∙ ap (λ (x : ℕ). (slot + size ring.geometry - x % size ring.geometry) % size ring.geometry) known.start_is
-
-  pub offset_there : is_open trail ≡ true → (n : ℕ) → n ≡ (slot + size ring.geometry - view.start % size ring.geometry) % size ring.geometry
-      → n < length view.commands → Some n ≡ own_offset ring run s slot
-  offset_there unflipped n is low =
-      let many = length_known run s view known in
-      let at = far_is n is in
-      ap Some at ∙ sym (opened unflipped ∙ first_is is_slot far before at_far (reserved_length trail) (omega (arith, low, many, at)))
-
-  pub offset_none : is_open trail ≡ true → (n : ℕ) → n ≡ (slot + size ring.geometry - view.start % size ring.geometry) % size ring.geometry
-      → length view.commands ≤ n → None ≡ own_offset ring run s slot
-  offset_none unflipped n is high =
-      let many = length_known run s view known in
-      let at = far_is n is in
-      sym (opened unflipped ∙ first_not is_slot far before (reserved_length trail) (omega (arith, high, many, at)))
-
 -- ---- events
 
 own_trail : (run : Run) (s : ℕ) (e : Event) → trail_of (Sender s) ((Sender s, e) ∷ run) ≡ e ∷ trail_of (Sender s) run

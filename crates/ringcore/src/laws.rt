@@ -14,7 +14,7 @@ pub use steps::{
     acknowledge, advance, apart, ask, begin, close, flip, look, read, reserve_lost, reserve_won,
     start, test, write,
 };
-pub use views::{asks, closes, others};
+pub use views::sender_view;
 
 /// Every run of any length, of any number of senders, in a ring of any size, is ordered delivery: what is
 /// taken is a beginning of what was reserved, batches are numbered from 1, none is reserved after a close,

@@ -20,6 +20,7 @@ ghost use Rattle.ringcore.specs.Answers.{is_same_word, next_number};
 ghost use Rattle.ringcore.specs.Views.{Knows, WhereKnown, AreFlipped};
 
 use crate::event::Half;
+use crate::slot_offset::offset_of_slot;
 use crate::step_fault::StepFault;
 use cmdcodec::{Raw, RawList, closing_sync, encode};
 use qindex::{Control, Geometry};
@@ -168,13 +169,8 @@ impl SenderView {
         requires { slot < size geometry }
         ensures { (ring : Ring) → ring.geometry ≡ geometry → WhereKnown self.now (λ run s mine. result ≡ own_offset ring run s slot) }
     {
-        if !self.is_open() {
-            return None;
-        }
-        let size = u64::from(geometry.size());
-        let ahead = (u64::from(slot) + size - self.start % size) % size;
-        if ahead < u64::from(self.len()) {
-            Some(ahead as u32)
+        if self.is_open() {
+            offset_of_slot(geometry, self.start, self.len(), slot)
         } else {
             None
         }
