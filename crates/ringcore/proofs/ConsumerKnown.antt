@@ -1,20 +1,16 @@
 -- What the consumer's view says is what its trail says, and events leave it so.
-use Rattle.std.proofs.Common.{◌≡◌, ◌≢◌, ℕ, zero, suc, ◌+◌, ◌<◌, ◌≤◌, List, [], ◌∷◌, ◌++◌, length, map, Option, Some, None, refl, sym, ap, ap₂, ◌∙◌, subst, inl, inr, arith, length-append}
+use Rattle.std.proofs.Common.{◌≡◌, ℕ, ◌+◌, List, [], ◌∷◌, length, map, None, refl, ap, ◌∙◌, inl, inr, arith, length-append}
 use Rattle.std.proofs.lemmas.Bool.{cases_lt}
 use Rattle.std.proofs.lemmas.List.{length-map, get_or-replicate, get_or_past, length-replicate}
 use Rattle.std.specs.Prelude.{slice_index_or, replicate}
 use Rattle.cmdcodec.specs.declared.raw.Raw.{Raw}
-use Rattle.qindex.specs.declared.control.Control.{Control}
-use Rattle.ringcore.specs.declared.event.Who.TheVariants.{Consumer, Sender}
+use Rattle.ringcore.specs.declared.event.Who.TheVariants.{Consumer}
 use Rattle.ringcore.specs.declared.event.Half.{Half}
 use Rattle.ringcore.specs.declared.event.Half.TheVariants.{Lo, Hi}
-use Rattle.ringcore.specs.declared.event.Event.{Event}
 use Rattle.ringcore.specs.declared.event.Event.TheVariants.{Look, Won, Lost, Write, Flip, Test, Read, Advance, Close, Acknowledge, Ask}
-use Rattle.ringcore.specs.declared.consumer_view.ReadHalves.{ReadHalves}
-use Rattle.ringcore.specs.Trails.{Trail, Run, trail_of, found_ready, half_read}
-use Rattle.ringcore.specs.World.{World, taken_as, head, world}
-use Rattle.ringcore.specs.Allowed.{Shape, Allowed}
-use Rattle.ringcore.specs.ConsumerViews.{ConsumerValue, KnowsTaken, ConsumerKnows, unread, read_half, halves_at, SendersLeaveIt, ConsumersLookLeavesIt, AcknowledgementLeavesIt}
+use Rattle.ringcore.specs.Trails.{Run, trail_of}
+use Rattle.ringcore.specs.World.{taken_as, head, world}
+use Rattle.ringcore.specs.ConsumerViews.{ConsumerValue, KnowsTaken, ConsumerKnows, unread, read_half, SendersLeaveIt, ConsumersLookLeavesIt, AcknowledgementLeavesIt}
 
 nothing : (k : ℕ) (half : Half) → read_half half (slice_index_or (replicate 64 unread) k unread) ≡ None
 nothing k half = elim (cases_lt k 64) [

@@ -1,9 +1,9 @@
 -- A step without a fault is an event that is allowed.
-use Rattle.std.proofs.Common.{◌≡◌, ◌≢◌, ℕ, zero, suc, ◌+◌, ◌-◌, ◌*◌, ◌/◌, ◌%◌, ◌<◌, ◌≤◌, Bool, true, false, not, ◌==◌, ◌||◌, ◌&&◌, cond, List, [], ◌∷◌, ◌++◌, length, map, take, drop, Option, Some, None, refl, sym, ap, ap₂, ◌∙◌, subst, inl, inr, eqb-true, eq-eqb, ne_eqb, leb-true, ltb-true, arith}
+use Rattle.std.proofs.Common.{◌≡◌, ◌≢◌, ℕ, zero, suc, ◌+◌, ◌-◌, ◌/◌, ◌%◌, ◌<◌, ◌≤◌, Bool, true, false, not, ◌==◌, ◌||◌, ◌&&◌, cond, List, [], ◌∷◌, length, map, take, drop, Option, Some, None, refl, sym, ap, ap₂, ◌∙◌, subst, inl, inr, eqb-true, eq-eqb, leb-true, arith}
 use Rattle.std.proofs.Math.Nat.{mod-lt, mod-eq_of_lt}
-use Rattle.std.proofs.lemmas.Bool.{true≢false, and_parts, or_parts, cases_lt, cases_eq, eqb-false, not-true, false_from_ne_true, le-leb, lt-leb, lt-ltb}
+use Rattle.std.proofs.lemmas.Bool.{and_parts, or_parts, cases_lt, cases_eq, eqb-false, not-true, le-leb, lt-leb, lt-ltb}
 use Rattle.std.proofs.lemmas.Option.{slice_get_within}
-use Rattle.std.specs.Prelude.{slice_get, nat_le, nat_lt, is_some, if◌then◌else◌, ⊤}
+use Rattle.std.specs.Prelude.{slice_get, nat_le, nat_lt, is_some, if◌then◌else◌}
 use Rattle.std.specs.List.{list_any}
 use Rattle.cmdcodec.specs.declared.raw.Raw.{Raw}
 use Rattle.cmdcodec.specs.Opcodes.{opcode_of}
@@ -12,25 +12,23 @@ use Rattle.qindex.specs.Positions.{size, place}
 use Rattle.qindex.specs.Indexes.{IsGeometry, distance}
 use Rattle.qindex.specs.ControlWord.{packed}
 use Rattle.qindex.specs.Laws.{QueuesHaveAControl, WordsSayTheirControl, IndexesTellTheQueue}
-use Rattle.ringcore.specs.declared.event.Who.{Who}
 use Rattle.ringcore.specs.declared.event.Who.TheVariants.{Consumer, Sender}
 use Rattle.ringcore.specs.declared.event.Half.{Half}
 use Rattle.ringcore.specs.declared.event.Half.TheVariants.{Lo, Hi}
-use Rattle.ringcore.specs.declared.event.Event.{Event}
 use Rattle.ringcore.specs.declared.event.Event.TheVariants as event
 use Rattle.ringcore.specs.declared.step.Step.{Step}
 use Rattle.ringcore.specs.declared.step.Step.TheVariants.{Look, Reserve, Write, Flip, Test, Read, Advance, Close, Acknowledge, Ask}
 use Rattle.ringcore.specs.declared.step_fault.StepFault.{StepFault}
-use Rattle.ringcore.specs.declared.step_fault.StepFault.TheVariants.{Flipped, HalfMissing, NotSeenReady, NotTheHead, NotNext, NoSuchPlace, NoRoom, NotSettled, BadBody}
-use Rattle.ringcore.specs.Trails.{Trail, Run, trail_of, looked, batches_made, numbers_given, batch_length, reserved_length, has_written, has_flipped, IsSettled, found_ready, half_read}
+use Rattle.ringcore.specs.declared.step_fault.StepFault.TheVariants.{Flipped, HalfMissing, NotSeenReady, NotTheHead, NotNext, NoRoom, NotSettled, BadBody}
+use Rattle.ringcore.specs.Trails.{Trail, Run, trail_of, looked, batches_made, batch_length, reserved_length, has_written, has_flipped, IsSettled, found_ready, half_read}
 use Rattle.ringcore.specs.World.{Item, World, sync_raw, tail, head, world, control, half_of}
-use Rattle.ringcore.specs.Allowed.{Shape, IsInOneWord, IsBody, IsNextNumber, MayTry, MayWin, MayLose, length_with, MayWrite, MayFlip, FindsReady, MayRead, MayAdvance, SyncIsTaken, MayAcknowledge, Allowed, IsRun}
-use Rattle.ringcore.specs.Flags.{flag_bit, shared_word, ShareAWord}
+use Rattle.ringcore.specs.Allowed.{IsInOneWord, IsBody, IsNextNumber, MayTry, MayWin, MayLose, length_with, MayWrite, MayFlip, FindsReady, MayRead, MayAdvance, SyncIsTaken, MayAcknowledge, Allowed, IsRun}
+use Rattle.ringcore.specs.Flags.{flag_bit, shared_word}
 use Rattle.ringcore.specs.Shadow.{Ring, shape}
 use Rattle.ringcore.specs.Open.{some_below, all_below, first_below, is_open, own_offset}
-use Rattle.ringcore.specs.Faults.{is_count, share_a_word, is_body, has_room, reserve_fault, foreign, write_at, flip_at, tested_offset, read_fault, advance_fault, has_number, is_sync_of, sync_is_taken, acknowledge_fault, unless_missing, exists_who, fault_of}
-use Rattle.ringcore.specs.Answers.{offset_or_0, half_of_number, is_same_word, next_number, in_a_row, ready_count, half_in, half_at, next_commands, seat_of, event_of, seen_of}
-use Rattle.ringcore.specs.Played.{Played, unless_refused, with_answer, played_from, played, StepsAreAllowed, PlayedAreRuns}
+use Rattle.ringcore.specs.Faults.{is_count, share_a_word, is_body, has_room, reserve_fault, foreign, write_at, flip_at, tested_offset, read_fault, advance_fault, has_number, is_sync_of, sync_is_taken, acknowledge_fault, unless_missing, fault_of}
+use Rattle.ringcore.specs.Answers.{offset_or_0, half_of_number, is_same_word, next_number, in_a_row, ready_count, half_in, half_at, next_commands, event_of, seen_of}
+use Rattle.ringcore.specs.Played.{unless_refused, with_answer, played_from, StepsAreAllowed, PlayedAreRuns}
 use Rattle.ringcore.proofs.Lists.{off, some_one, none_some}
 use Rattle.ringcore.proofs.Sound.{Sound, sound}
 use Rattle.ringcore.proofs.Slots.{get_there}
@@ -217,7 +215,7 @@ module _ (ring : Ring) (run : Run) (ok : IsRun (shape ring) run) where
   reserve : WordsSayTheirControl → QueuesHaveAControl → IndexesTellTheQueue → IsGeometry ring.geometry → (s : ℕ) (body : List Raw) (closes : Bool)
       → reserve_fault ring (trail_of (Sender s) run) body closes ≡ None
       → Allowed (shape ring) w (trail_of (Sender s) run) (Sender s)
-        (if is_same_word (looked (trail_of (Sender s) run)) (control g w) then event.Won body (next_number (trail_of (Sender s) run) closes) else event.Lost body closes (control g w))
+      (if is_same_word (looked (trail_of (Sender s) run)) (control g w) then event.Won body (next_number (trail_of (Sender s) run) closes) else event.Lost body closes (control g w))
   reserve said queue tells is_geometry s body closes none = by_word (packed before == packed (control g w)) refl
     where
       mine : Trail
@@ -489,7 +487,7 @@ from_run law ring run place (step ∷ steps) is_geometry ok = by_fault (fault_of
     by_fault : (f : Option StepFault) → fault_of ring run step ≡ f
         → (fault_of ring run step ≡ None → IsRun (shape ring) (played_from ring (event_of ring run step ∷ run) (suc place) steps).run)
         → IsRun (shape ring) (unless_refused f run place
-          (with_answer (seen_of ring (world run) (event_of ring run step).0 (event_of ring run step).1) (played_from ring (event_of ring run step ∷ run) (suc place) steps))).run
+        (with_answer (seen_of ring (world run) (event_of ring run step).0 (event_of ring run step).1) (played_from ring (event_of ring run step ∷ run) (suc place) steps))).run
     by_fault None is later = later is
     by_fault (Some fault) is later = ok
 

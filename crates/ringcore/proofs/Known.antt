@@ -1,12 +1,11 @@
 -- What a sender's view says is what its trail says, and events leave it so.
-use Rattle.std.proofs.Common.{◌≡◌, ◌≢◌, ℕ, suc, ◌+◌, ◌-◌, ◌%◌, ◌<◌, ◌≤◌, Bool, true, false, not, cond, ◌||◌, ◌&&◌, List, [], ◌∷◌, length, take, drop, Option, Some, None, refl, sym, ap, ap₂, ◌∙◌, subst, inl, inr, eq-eqb, ne_eqb, arith}
+use Rattle.std.proofs.Common.{◌≡◌, ◌≢◌, ℕ, suc, ◌+◌, ◌<◌, ◌≤◌, Bool, true, false, not, cond, ◌||◌, ◌&&◌, List, [], ◌∷◌, length, take, drop, Option, None, refl, sym, ap, ap₂, ◌∙◌, subst, inl, inr, eq-eqb, ne_eqb, arith}
 use Rattle.std.proofs.lemmas.Bool.{cases_eq, cases_lt}
 use Rattle.std.proofs.lemmas.List.{get_or-set_same, get_or-set_other, get_or-replicate, get_or_past, length-replicate}
-use Rattle.std.specs.Prelude.{◌==◌, slice_set, slice_index_or, replicate, if◌then◌else◌}
+use Rattle.std.specs.Prelude.{◌==◌, slice_set, slice_index_or, replicate}
 use Rattle.std.specs.List.{list_any, list_all}
 use Rattle.std.specs.Int.{from_bool}
 use Rattle.cmdcodec.specs.declared.raw.Raw.{Raw}
-use Rattle.qindex.specs.Positions.{size, place}
 use Rattle.ringcore.specs.declared.event.Who.TheVariants.{Consumer, Sender}
 use Rattle.ringcore.specs.declared.event.Half.{Half}
 use Rattle.ringcore.specs.declared.event.Half.TheVariants.{Lo, Hi}
@@ -16,13 +15,11 @@ use Rattle.ringcore.specs.declared.sender_view.Progress.{Progress}
 use Rattle.ringcore.specs.Trails.{Trail, Run, same_half, trail_of, numbers_given, reserved_length, is_among, has_written, has_flipped}
 use Rattle.ringcore.specs.World.{tail, world, commands}
 use Rattle.ringcore.specs.Steps.{reserved_commands}
-use Rattle.ringcore.specs.Shadow.{Ring}
-use Rattle.ringcore.specs.Open.{some_below, all_below, first_below, is_open, own_offset}
+use Rattle.ringcore.specs.Open.{some_below, all_below, is_open}
 use Rattle.ringcore.specs.Answers.{next_number}
 use Rattle.ringcore.specs.Views.{SenderValue, KnowsTrail, Knows, untouched, is_written, progress_at, flipped_by, AreFlipped, OthersLeaveIt, CloseLeavesIt, AskLeavesIt}
 use Rattle.ringcore.proofs.Sound.{length_commands}
-use Rattle.ringcore.proofs.Below.{any_is, all_is, first_is, first_not}
-use Rattle.ringcore.proofs.Nearest.{here, nearer}
+use Rattle.ringcore.proofs.Below.{any_is, all_is}
 
 pub length_reserved : (s : ℕ) (t : Trail) → length (reserved_commands s t) ≡ reserved_length t
 length_reserved s [] = refl

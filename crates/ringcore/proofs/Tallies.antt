@@ -1,14 +1,11 @@
 -- The tallies of syncs follow the consumer's trail.
-use Rattle.std.proofs.Common.{◌≡◌, ℕ, ◌+◌, ◌<◌, Bool, true, false, cond, List, [], ◌∷◌, length, refl, sym, ap, ◌∙◌, subst, arith}
-use Rattle.std.specs.Prelude.{slice_index, replicate}
-use Rattle.cmdcodec.specs.declared.raw.Raw.{Raw}
-use Rattle.ringcore.specs.declared.event.Who.{Who}
+use Rattle.std.proofs.Common.{◌≡◌, ℕ, ◌+◌, ◌<◌, false, ◌∷◌, length, refl, sym, ap, ◌∙◌, subst}
 use Rattle.ringcore.specs.declared.event.Who.TheVariants.{Consumer, Sender}
 use Rattle.ringcore.specs.declared.event.Event.{Event}
 use Rattle.ringcore.specs.declared.event.Event.TheVariants.{Look, Won, Lost, Write, Flip, Test, Read, Advance, Close, Acknowledge, Ask}
-use Rattle.ringcore.specs.Trails.{Trail, Run, trail_of}
+use Rattle.ringcore.specs.Trails.{Trail, trail_of}
 use Rattle.ringcore.specs.Laws.{syncs_in, syncs_taken}
-use Rattle.ringcore.specs.SyncTallies.{AreTallies, AreCounted, AdvancesCount, is_advance, OthersDontCount}
+use Rattle.ringcore.specs.SyncTallies.{AdvancesCount, is_advance, OthersDontCount}
 use Rattle.ringcore.proofs.Lists.{off}
 
 pub advances_count : AdvancesCount

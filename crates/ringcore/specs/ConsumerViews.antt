@@ -1,5 +1,5 @@
 -- What the consumer knows of a run at run time: what its own trail says, and how many commands are taken.
-use Rattle.std.specs.Prelude.{◌≡◌, ◌≢◌, ℕ, ◌<◌, ◌≤◌, List, [], ◌∷◌, length, Option, Some, None, slice_get, slice_index, slice_index_or}
+use Rattle.std.specs.Prelude.{◌≡◌, ℕ, ◌<◌, List, ◌∷◌, Option, Some, None, slice_index_or}
 use Rattle.cmdcodec.specs.declared.raw.Raw.{Raw}
 use Rattle.qindex.specs.declared.control.Control.{Control}
 use Rattle.ringcore.specs.declared.event.Who.TheVariants.{Consumer, Sender}
@@ -9,7 +9,7 @@ use Rattle.ringcore.specs.declared.event.Event.{Event}
 use Rattle.ringcore.specs.declared.event.Event.TheVariants.{Look, Acknowledge}
 use Rattle.ringcore.specs.declared.consumer_view.ReadHalves.{ReadHalves}
 use Rattle.ringcore.specs.Trails.{Trail, Run, trail_of, found_ready, half_read}
-use Rattle.ringcore.specs.World.{head, world, half_of}
+use Rattle.ringcore.specs.World.{head, world}
 use Rattle.ringcore.specs.Allowed.{Shape, Allowed}
 
 -- the consumer's view as contracts see it

@@ -1,5 +1,5 @@
 -- How many closing syncs of each sender are taken, as it is kept at run time.
-use Rattle.std.specs.Prelude.{◌≡◌, ℕ, ◌+◌, ◌<◌, ◌≤◌, Bool, true, false, List, [], ◌∷◌, length, slice_index}
+use Rattle.std.specs.Prelude.{◌≡◌, ℕ, ◌+◌, ◌<◌, Bool, true, false, List, ◌∷◌, length, slice_index}
 use Rattle.cmdcodec.specs.declared.raw.Raw.{Raw}
 use Rattle.ringcore.specs.declared.event.Who.{Who}
 use Rattle.ringcore.specs.declared.event.Who.TheVariants.{Consumer}

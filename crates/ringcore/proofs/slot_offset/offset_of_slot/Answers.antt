@@ -1,4 +1,4 @@
-use Rattle.std.proofs.Common.{◌≡◌, ◌==◌, ℕ, Bool, true, false, Option, Some, None, ◌+◌, ◌-◌, ◌%◌, ◌<◌, ◌≤◌, ap, sym, ◌∙◌, eq-eqb, ne_eqb, arith}
+use Rattle.std.proofs.Common.{◌≡◌, ◌==◌, ℕ, Bool, true, false, Some, None, ◌+◌, ◌-◌, ◌%◌, ◌<◌, ◌≤◌, ap, sym, ◌∙◌, eq-eqb, ne_eqb, arith}
 use Rattle.qindex.specs.Positions.{size, place}
 use Rattle.ringcore.specs.Open.{first_below}
 use Rattle.ringcore.proofs.Below.{first_is, first_not}
