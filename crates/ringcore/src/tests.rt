@@ -2,3 +2,4 @@
 mod flags;
 mod layout;
 mod ring_words;
+mod sender_view;
