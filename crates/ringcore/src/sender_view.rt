@@ -2,9 +2,9 @@
 ghost use Rattle.std.specs.Prelude.{◌≡◌, ◌==◌, ◌+◌, ◌≤◌, ◌<◌, ◌&&◌, not, Bool, List, [], ◌∷◌, ℕ, length, Some, slice_get};
 ghost use Rattle.std.specs.List.{list_any, list_all};
 ghost use Rattle.cmdcodec.specs.declared.raw.Raw.{Raw};
+ghost use Rattle.cmdcodec.specs.Opcodes.{opcode_of};
 ghost use Rattle.qindex.specs.Positions.{size};
 ghost use Rattle.qindex.specs.ControlWord.{IsControl};
-ghost use Rattle.cmdcodec.specs.Opcodes.{opcode_of};
 ghost use Rattle.qindex.specs.declared.control.Control.{Control};
 ghost use Rattle.ringcore.specs.declared.sender_view.Progress.{Progress};
 ghost use Rattle.ringcore.specs.declared.event.Who.TheVariants.{Sender};

@@ -4,3 +4,4 @@ mod faults;
 mod flags;
 mod layout;
 mod ring_words;
+mod sender_view;
