@@ -1,7 +1,7 @@
 -- Where the flags of positions in a row stand, and that an index tells it as well as its position.
 use Rattle.std.proofs.Common.{◌≡◌, ◌⊎◌, ℕ, suc, ◌+◌, ◌-◌, ◌*◌, ◌/◌, ◌%◌, ◌^◌, ◌<◌, ◌≤◌, inl, inr, sym, ap, ◌∙◌, subst, add-zero, arith, div-add-mod'}
 use Rattle.std.proofs.lemmas.Bool.{cases_lt}
-use Rattle.std.proofs.lemmas.Nat.{pow_pos, pow-add, mod_below, mod-mul-add, div-mul-add}
+use Rattle.std.proofs.lemmas.Nat.{pow_pos, pow-add, mod-mul-add, div-mul-add}
 use Rattle.std.proofs.Math.Nat.{mod-mod}
 use Rattle.std.proofs.Math.Pow.{pow_mono}
 use Rattle.std.specs.Int.{bit_at}
@@ -9,12 +9,10 @@ use Rattle.qindex.specs.Positions.{IndexValue, size, place, lap, index_of}
 use Rattle.qindex.specs.Laws.{IndexesTellPlaceAndWrapBit}
 use Rattle.ringcore.specs.Layout.{flag_word}
 use Rattle.ringcore.specs.Flags.{flag_bit, polarity, ShareAWord, IsFlagOf, IsFlipMask, IsReadyRun}
+use Rattle.ringcore.proofs.Places.{place-lt}
 
 pub some_slots : (g : ℕ) → 0 < size g
 some_slots g = pow_pos g
-
-pub place-lt : (g p : ℕ) → place g p < size g
-place-lt g p = mod_below p (size g) (some_slots g)
 
 -- the flag words of a ring are whole, but for a ring's that has less than one
 pub whole_words : (g : ℕ) → (size g ≤ 64) ⊎ (size g ≡ 64 * (size g / 64))

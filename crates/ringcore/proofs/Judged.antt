@@ -34,7 +34,8 @@ use Rattle.ringcore.proofs.Sound.{Sound, sound}
 use Rattle.ringcore.proofs.Slots.{get_there}
 use Rattle.ringcore.proofs.Syncs.{is_sync}
 use Rattle.ringcore.proofs.Looked.{is_control, looked_is_control, one_control}
-use Rattle.ringcore.proofs.FlagPlaces.{place-lt, small_shares, large_shares}
+use Rattle.ringcore.proofs.Places.{place-lt}
+use Rattle.ringcore.proofs.FlagPlaces.{small_shares, large_shares}
 use Rattle.ringcore.proofs.Flipped.{one_of}
 
 -- ---- tests below a number

@@ -9,7 +9,8 @@ use mathlib.Core.Logic.{dite}
 use native.Mathlib.Decide.{ℕ_discrete}
 use Rattle.qindex.specs.Positions.{size, place}
 use Rattle.ringcore.specs.Flags.{flag_bit, ShareAWord, IsFlagOf, IsFlipMask}
-use Rattle.ringcore.proofs.FlagPlaces.{place-lt, further_bit, small_bit, next_bit, in_ring, shares_no_more}
+use Rattle.ringcore.proofs.Places.{place-lt}
+use Rattle.ringcore.proofs.FlagPlaces.{further_bit, small_bit, next_bit, in_ring, shares_no_more}
 
 -- The mask is count bits from first on.
 abbrev pub IsStretch : ℕ → ℕ → ℕ → Type 0

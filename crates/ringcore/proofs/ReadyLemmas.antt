@@ -11,7 +11,8 @@ use native.Mathlib.Decide.{dec_lt}
 use Rattle.qindex.specs.Positions.{size, place, lap}
 use Rattle.qindex.specs.ControlWord.{bit as bit_of}
 use Rattle.ringcore.specs.Flags.{flag_bit, polarity, ShareAWord, IsReadyRun}
-use Rattle.ringcore.proofs.FlagPlaces.{place-lt, further_bit, further_polarity, small_bit, next_bit, next_polarity, small_shares, large_shares, shares_no_more, in_ring}
+use Rattle.ringcore.proofs.Places.{place-lt}
+use Rattle.ringcore.proofs.FlagPlaces.{further_bit, further_polarity, small_bit, next_bit, next_polarity, small_shares, large_shares, shares_no_more, in_ring}
 
 -- ---- bits
 

@@ -1,4 +1,5 @@
-//! The ring as events on an abstract world: what every interleaving of its atomic steps keeps.
+//! The ring as events on an abstract world: what every interleaving of its atomic steps keeps, what each
+//! step does to the words of a ring, and what its seats know.
 #![tactic(auto)]
 
 mod consumer_view;
