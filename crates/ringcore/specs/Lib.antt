@@ -4,6 +4,7 @@ pub mod Allowed
 pub mod Delivery
 pub mod Laws
 pub mod Layout
+pub mod Machine
 pub mod Flags
 pub mod Shadow
 pub mod Steps

@@ -1,0 +1,72 @@
+-- What the machine with one owner stands for: a run, as its words and its seats know it.
+use Rattle.std.specs.Prelude.{◌≡◌, ℕ, ◌≤◌, List, ◌∷◌, length, Option, Some, None, Result, Ok, Err, slice_get}
+use Rattle.ringcore.specs.declared.step.Step.{Step}
+use Rattle.ringcore.specs.declared.step.Seen.{Seen}
+use Rattle.ringcore.specs.declared.step_fault.StepFault.{StepFault}
+use Rattle.ringcore.specs.Trails.{Run}
+use Rattle.ringcore.specs.World.{world}
+use Rattle.ringcore.specs.Laws.{OnlyOf}
+use Rattle.ringcore.specs.Shadow.{Ring, AreAfter}
+use Rattle.ringcore.specs.Stores.{WordsValue}
+use Rattle.ringcore.specs.Views.{SenderValue, Knows}
+use Rattle.ringcore.specs.ConsumerViews.{ConsumerValue, ConsumerKnows}
+use Rattle.ringcore.specs.SyncTallies.{AreTallies}
+use Rattle.ringcore.specs.Faults.{fault_of}
+use Rattle.ringcore.specs.Answers.{event_of, seen_of}
+
+-- the machine as contracts see it
+pub record CoreValue : Type 0 where
+  pub words : WordsValue
+  pub senders : List SenderValue
+  pub consumer : ConsumerValue
+  pub tallies : List ℕ
+
+-- Each sender may reserve as many batches as there are numbers.
+abbrev pub ring_with : ℕ → ℕ → Ring
+ring_with geometry senders = record { geometry = geometry; senders = senders; max_batches = 4294967295 }
+
+abbrev pub ring_of : CoreValue → Ring
+ring_of core = ring_with core.words.geometry core.words.senders
+
+-- After this run each sender knows its view.
+abbrev pub AllKnow : Run → List SenderValue → Type 0
+AllKnow run views = (s : ℕ) (view : SenderValue) → slice_get views s ≡ Some view → Knows run s view
+
+-- The machine stands as after this run: so do its words, only its seats took steps, and each seat knows what
+-- its trail says.
+pub record StandsFor (core : CoreValue) (run : Run) : Type 0 where
+  pub words_are : AreAfter (ring_of core) run core.words.words
+  pub only : OnlyOf core.words.senders run
+  pub senders_know : AllKnow run core.senders
+  pub consumer_knows : ConsumerKnows run core.consumer
+  pub tallies_are : AreTallies run core.tallies
+
+-- A machine has a view and a tally for each sender, and stands as after some run.
+pub record IsMachine (core : CoreValue) : Type 0 where
+  pub views : length core.senders ≡ core.words.senders
+  pub counts : length core.tallies ≡ core.words.senders
+  pub run : Run
+  pub stands : StandsFor core run
+
+-- ---- what a step does to it
+
+-- how a step is answered after a run
+abbrev pub answer_to : Ring → Run → Step → Seen
+answer_to ring run step = let event = event_of ring run step in seen_of ring (world run) event.0 event.1
+
+-- After each run that it stood for, the step has no fault and this answer, and the machine stands as after its event.
+pub record Takes (old new : CoreValue) (step : Step) (seen : Seen) (run : Run) : Type 0 where
+  pub no_fault : fault_of (ring_of old) run step ≡ None
+  pub answer : seen ≡ answer_to (ring_of old) run step
+  pub stands : StandsFor new (event_of (ring_of old) run step ∷ run)
+
+abbrev pub IsRefused : CoreValue → Step → StepFault → Type 0
+IsRefused core step fault = (run : Run) → StandsFor core run → fault_of (ring_of core) run step ≡ Some fault
+
+abbrev pub IsTaken : CoreValue → CoreValue → Step → Seen → Type 0
+IsTaken old new step seen = (run : Run) → StandsFor old run → Takes old new step seen run
+
+-- A step is taken or refused, and a refusal changes nothing.
+abbrev pub Applies : CoreValue → CoreValue → Step → Result Seen StepFault → Type 0
+Applies old new step (Ok seen) = IsTaken old new step seen × (ring_of new ≡ ring_of old)
+Applies old new step (Err fault) = IsRefused old step fault × (new ≡ old)
