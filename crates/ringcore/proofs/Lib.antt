@@ -30,3 +30,5 @@ pub mod Below
 pub mod Nearest
 pub mod Turned
 pub mod Known
+pub mod Standing
+pub mod SenderSteps

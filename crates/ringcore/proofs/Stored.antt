@@ -9,7 +9,7 @@ use Rattle.cmdcodec.specs.declared.raw.Raw.{Raw}
 use Rattle.qindex.specs.declared.control.Control.{Control}
 use Rattle.qindex.specs.Positions.{size, index_of}
 use Rattle.qindex.specs.Indexes.{distance}
-use Rattle.qindex.specs.ControlWord.{packed, control_in, close_mask, closed}
+use Rattle.qindex.specs.ControlWord.{IsControlWord, packed, control_in, close_mask, closed}
 use Rattle.qindex.specs.Laws.{QueuesHaveAControl, WordsSayTheirControl, IndexesTellTheQueue, OrCloses}
 use Rattle.ringcore.specs.declared.event.Who.{Who}
 use Rattle.ringcore.specs.declared.event.Who.TheVariants.{Consumer, Sender}
@@ -48,6 +48,10 @@ module _ (ring : Ring) (run : Run) (words : List ℕ) (is : AreAfter ring run wo
   pub found_is : WordsSayTheirControl → QueuesHaveAControl → control_in g (slice_index words control_word) ≡ control g w
   found_is said queue =
       ap (control_in g) is.shadow.control_is ∙ (said g (control g w) (is_control queue (shape ring) is.geometry_is run is.run_is)).says
+
+  pub is_control_word : WordsSayTheirControl → QueuesHaveAControl → IsControlWord g (slice_index words control_word)
+  is_control_word said queue =
+      subst (IsControlWord g) (sym is.shadow.control_is) (said g (control g w) (is_control queue (shape ring) is.geometry_is run is.run_is)).is_control_word
 
   pub look : WordsSayTheirControl → QueuesHaveAControl → (who : Who) → AreAfter ring ((who, Look (control_in g (slice_index words control_word))) ∷ run) words
   look said queue Consumer = quiet Consumer (Look (control_in g (slice_index words control_word))) (found_is said queue) same

@@ -5,7 +5,7 @@ use Rattle.cmdcodec.specs.declared.raw.Raw.{Raw}
 use Rattle.qindex.specs.declared.control.Control.{Control}
 use Rattle.qindex.specs.Positions.{IndexValue, index_of}
 use Rattle.qindex.specs.Indexes.{IsGeometry}
-use Rattle.qindex.specs.ControlWord.{packed, control_in, advance_mask, close_mask}
+use Rattle.qindex.specs.ControlWord.{IsControlWord, packed, control_in, advance_mask, close_mask}
 use Rattle.ringcore.specs.declared.event.Who.{Who}
 use Rattle.ringcore.specs.declared.event.Who.TheVariants.{Consumer, Sender}
 use Rattle.ringcore.specs.declared.event.Half.{Half}
@@ -27,6 +27,10 @@ OpensAllZero =
     (ring : Ring) (words : List ℕ) → IsGeometry ring.geometry → length words ≡ words_of ring.geometry ring.senders
     → ((i : ℕ) → slice_index words i ≡ 0)
     → AreAfter ring [] words
+
+-- The control word is one that a ring may have.
+abbrev pub HasAControlWord : Ring → Run → List ℕ → Type 0
+HasAControlWord ring run words = IsControlWord ring.geometry (slice_index words control_word)
 
 -- a load of the control word
 abbrev pub LooksByALoad : Ring → Run → List ℕ → Type 0

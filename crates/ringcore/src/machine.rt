@@ -1,15 +1,19 @@
 //! The ring with one owner: its words, and what each seat knows.
 ghost use Rattle.std.specs.Prelude.{◌≡◌, ◌<◌, ◌≤◌, [], IfOk, IfErr, OnErr};
-ghost use Rattle.ringcore.specs.declared.step.Step.TheVariants.{Look, Close, Ask};
-ghost use Rattle.ringcore.specs.Machine.{ring_of, ring_with, StandsFor, IsRefused, IsTaken, Applies};
+ghost use Rattle.qindex.specs.ControlWord.{IsControl};
+ghost use Rattle.ringcore.specs.Trails.{Run};
+ghost use Rattle.ringcore.specs.World.{world, control};
+ghost use Rattle.ringcore.specs.Machine.{StandsFor};
 
 use crate::consumer_view::ConsumerView;
+use crate::laws;
 use crate::ring_words::RingWords;
 use crate::sender_view::SenderView;
-use crate::step::{Seen, Step};
-use crate::step_fault::StepFault;
 use crate::sync_tallies::SyncTallies;
+use qindex::{Control, control_words_say_their_control, indexes_tell_the_queue};
 use std::marker::Model;
+
+mod sender_steps;
 
 /// A ring with one owner, who takes each step by itself: the words, and what each seat knows (own).
 #[derive(Drop)]
@@ -31,15 +35,14 @@ impl Model for Core {
 }
 
 impl Core {
-    /// Closes the ring.
-    pub fn close(&mut self, sender: u32) -> Result<Seen, StepFault>
-        ensures { Applies self.old self.new (Close sender) result }
+    /// What the control word says.
+    pub fn control(&self) -> Control
+        ensures says { (run : Run) → StandsFor self.now run → result ≡ control self.now.words.geometry (world run) }
+        ensures geometry { IsControl self.now.words.geometry result }
     {
-        if sender as usize >= self.senders.len() {
-            return Err(StepFault::NoSuchPlace);
-        }
-        self.words.close();
-        let found = self.words.control().unwrap();
-        Ok(Seen::Word(found))
+        laws::look();
+        control_words_say_their_control();
+        indexes_tell_the_queue();
+        self.words.control().unwrap()
     }
 }

@@ -1,6 +1,6 @@
 //! One law for each kind of atomic step: its one operation on one word reads what the event finds, and
 //! turns the words of the world before into those of the world after.
-ghost use Rattle.ringcore.specs.Steps.{Always, OpensAllZero, LooksByALoad, WinsByAnExchange, LosesByAnExchange, WritesByAStore, FlipsByAnExclusiveOr, TestsByALoad, ReadsByALoad, AdvancesByAnExclusiveOr, ClosesByAnOr, AcknowledgesByAStore, AsksByALoad, WordsAreApart, StartsWhereItLooked};
+ghost use Rattle.ringcore.specs.Steps.{Always, OpensAllZero, HasAControlWord, LooksByALoad, WinsByAnExchange, LosesByAnExchange, WritesByAStore, FlipsByAnExclusiveOr, TestsByALoad, ReadsByALoad, AdvancesByAnExclusiveOr, ClosesByAnOr, AcknowledgesByAStore, AsksByALoad, WordsAreApart, StartsWhereItLooked};
 
 use qindex::{
     control_words_say_their_control, indexes_tell_place_and_wrap_bit, indexes_tell_the_queue,
@@ -14,7 +14,8 @@ pub fn begin()
 
 /// A load of the control word finds what a look finds.
 pub fn look()
-    ensures { Always LooksByALoad }
+    ensures word { Always HasAControlWord }
+    ensures finds { Always LooksByALoad }
 {
     control_words_say_their_control();
     indexes_tell_the_queue();

@@ -1,0 +1,62 @@
+-- The steps of senders that reserve, write and flip nothing: a machine that took one stands for the longer run.
+use Rattle.std.proofs.Common.{◌≡◌, ℕ, ◌<◌, true, List, ◌∷◌, Some, None, refl, sym, ap, ap₂, ◌∙◌, subst}
+use Rattle.std.proofs.lemmas.Bool.{lt-ltb}
+use Rattle.std.specs.Prelude.{Bool, Option, nat_lt, bit_or, slice_set}
+use Rattle.qindex.specs.declared.control.Control.{Control}
+use Rattle.qindex.specs.ControlWord.{close_mask}
+use Rattle.ringcore.specs.declared.event.Who.TheVariants.{Sender}
+use Rattle.ringcore.specs.declared.event.Event.TheVariants as event
+use Rattle.ringcore.specs.declared.step.Step.TheVariants.{Look, Close}
+use Rattle.ringcore.specs.declared.step.Seen.{Seen}
+use Rattle.ringcore.specs.declared.step.Seen.TheVariants.{Word}
+use Rattle.ringcore.specs.declared.step_fault.StepFault.{StepFault}
+use Rattle.ringcore.specs.Trails.{Run}
+use Rattle.ringcore.specs.World.{world, control}
+use Rattle.ringcore.specs.Layout.{control_word}
+use Rattle.ringcore.specs.Steps.{Always, ClosesByAnOr}
+use Rattle.ringcore.specs.Stores.{WordsValue, word_at, with_word}
+use Rattle.ringcore.specs.Shadow.{Ring, AreAfter}
+use Rattle.ringcore.specs.Views.{SenderValue, Knows}
+use Rattle.ringcore.specs.Faults.{unless_missing}
+use Rattle.ringcore.specs.Machine.{CoreValue, ring_with, ring_of, AllKnow, StandsFor, IsMachine, IsTaken}
+use Rattle.ringcore.proofs.Known.{closed}
+use Rattle.ringcore.proofs.Standing.{sender_stands, stays_machine, all_left}
+
+-- the machine with other words, or other views
+abbrev pub with_words : CoreValue → WordsValue → CoreValue
+with_words core words = record core { words = words }
+
+abbrev pub with_view : CoreValue → ℕ → SenderValue → CoreValue
+with_view core s view = record core { senders = slice_set core.senders s view }
+
+-- A sender that there is has no fault of that.
+pub there_is : (s senders : ℕ) (later : Option StepFault) → s < senders → unless_missing (nat_lt s senders) later ≡ later
+there_is s senders later low = ap (λ b. unless_missing b later) (lt-ltb s senders low)
+
+-- ---- close
+
+module _ (law : Always ClosesByAnOr) (old : CoreValue) (words : WordsValue) (s : ℕ) (low : s < old.words.senders)
+    (is : words ≡ with_word old.words control_word (bit_or (word_at old.words control_word) close_mask)) where
+  closed_ring : ring_with words.geometry words.senders ≡ ring_of old
+  closed_ring = ap (λ (w : WordsValue). ring_with w.geometry w.senders) is
+
+  closed_stands : (run : Run) → StandsFor old run → StandsFor (with_words old words) ((Sender s, event.Close) ∷ run)
+  closed_stands run stands =
+      sender_stands old run s event.Close stands low words closed_ring
+      (subst (λ (w : WordsValue). AreAfter (ring_of old) ((Sender s, event.Close) ∷ run) w.words) (sym is) (law (ring_of old) run old.words.words stands.words_are s))
+      old.senders (all_left run s event.Close old.senders (λ view. closed run s view) stands.senders_know)
+
+  pub closed_machine : IsMachine old → IsMachine (with_words old words)
+  closed_machine was = stays_machine old (with_words old words) was closed_ring refl refl ((Sender s, event.Close) ∷ was.run) (closed_stands was.run was.stands)
+
+  pub close_taken : (found : Control) → ((run : Run) → StandsFor (with_words old words) run → found ≡ control words.geometry (world run))
+      → IsTaken old (with_words old words) (Close s) (Word found) × (ring_of (with_words old words) ≡ ring_of old)
+  close_taken found finds = (
+    λ run stands.
+        let after = closed_stands run stands in record {
+          no_fault = there_is s old.words.senders None low;
+          answer = ap Word (finds ((Sender s, event.Close) ∷ run) after ∙ ap (λ (r : Ring). control r.geometry (world ((Sender s, event.Close) ∷ run))) closed_ring);
+          stands = after;
+        },
+    closed_ring,
+  )
