@@ -1,15 +1,19 @@
 //! Where a write and a flip go.
 ghost use Rattle.std.specs.Prelude.{◌≡◌, ◌<◌, ◌≤◌, Some, IfOk, IfErr};
+ghost use Rattle.qindex.specs.Positions.{index_of};
 ghost use Rattle.ringcore.specs.declared.step.Step.TheVariants.{Write, Flip};
+ghost use Rattle.ringcore.specs.World.{half_of};
 ghost use Rattle.ringcore.specs.Open.{own_offset};
 ghost use Rattle.ringcore.specs.Faults.{foreign};
+ghost use Rattle.ringcore.specs.Answers.{half_of_number};
 ghost use Rattle.ringcore.specs.Machine.{ring_of, IsAccepted, IsRefused};
 
-use crate::flags::shared_word;
-use crate::held::{positions_are_held, slot_is_held, slots_are_held};
+use crate::event::Half;
+use crate::held::slot_is_held;
 use crate::machine::Core;
 use crate::step_fault::StepFault;
-use qindex::Index;
+use cmdcodec::Raw;
+use qindex::{Geometry, Index};
 
 /// The fault of what isn't the sender's own, by whether other reservations hold it.
 fn foreign(is_held: bool) -> StepFault
@@ -22,10 +26,36 @@ fn foreign(is_held: bool) -> StepFault
     }
 }
 
+/// The index of a position.
+pub(crate) fn index_of(geometry: Geometry, position: u64) -> Index
+    ensures { result ≡ index_of geometry position }
+{
+    let number = position % u64::from(2 * geometry.size());
+    Index::new(geometry, number as u32).unwrap()
+}
+
+/// A half by its number: 0 is lo, and any other is hi.
+pub(crate) fn half_of_number(half: u32) -> Half
+    ensures { result ≡ half_of_number half }
+{
+    if half == 0 { Half::Lo } else { Half::Hi }
+}
+
+/// A word of a command.
+pub(crate) fn half_of(half: Half, raw: Raw) -> u64
+    ensures { result ≡ half_of half raw }
+{
+    match half {
+        Half::Lo => raw.lo,
+        Half::Hi => raw.hi,
+    }
+}
+
 impl Core {
     /// The offset of a slot in the sender's reservation, if a half of it may be written.
     pub fn write_offset(&self, sender: u32, slot: u32, half: u32) -> Result<u32, StepFault>
         ensures there { IfOk result (λ offset. sender < self.now.words.senders) }
+        ensures few { IfOk result (λ offset. offset < 64) }
         ensures accepted { IfOk result (λ offset. IsAccepted self.now (Write sender slot half) (λ run. own_offset (ring_of self.now) run sender slot ≡ Some offset)) }
         ensures refused { IfErr result (λ fault. IsRefused self.now (Write sender slot half) fault) }
     {
