@@ -34,3 +34,4 @@ pub mod Standing
 pub mod SenderSteps
 pub mod HeldPlaces
 pub mod WriteSteps
+pub mod FlipSteps

@@ -24,6 +24,7 @@ use Rattle.ringcore.proofs.Bound.{reserved_bound}
 use Rattle.ringcore.proofs.ConsumerKnown.{senders_leave}
 use Rattle.ringcore.proofs.Known.{others}
 use Rattle.ringcore.proofs.Lists.{some_one}
+use Rattle.ringcore.proofs.Sound.{sound}
 use Rattle.ringcore.proofs.Stored.{found_is}
 use Rattle.ringcore.proofs.Tallies.{others_dont_count}
 
@@ -124,3 +125,9 @@ that_there (Some y) P v x iff e = some_one x y (sym e) ∙ iff.1
 pub control_found : WordsSayTheirControl → QueuesHaveAControl → (core : CoreValue) (run : Run) (found : Control) → StandsFor core run
     → found ≡ control_in core.words.geometry (word_at core.words control_word) → found ≡ control core.words.geometry (world run)
 control_found said queue core run found stands is = is ∙ found_is (ring_of core) run core.words.words stands.words_are said queue
+
+-- So a sender's last reservation starts at a position that fits too.
+pub start_fits : (core : CoreValue) → IsMachine core → (run : Run) → StandsFor core run → (s : ℕ) → (world run).start s ≤ 2 ^ 46
+start_fits core is run stands s =
+    let within = (sound (shape (ring_of core)) run stands.words_are.run_is).each_within s in
+    let few = few_reserved core is run stands in omega (arith, within, few)
