@@ -23,6 +23,7 @@ pub mod FlagPlaces
 pub mod MaskLemmas
 pub mod ReadyLemmas
 pub mod SyncCounts
+pub mod FewNumbers
 pub mod Judged
 pub mod ConsumerKnown
 pub mod Tallies
