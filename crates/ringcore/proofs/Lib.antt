@@ -33,3 +33,5 @@ pub mod Turned
 pub mod Known
 pub mod Standing
 pub mod SenderSteps
+pub mod HeldPlaces
+pub mod WriteSteps

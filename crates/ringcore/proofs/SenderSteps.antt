@@ -1,7 +1,7 @@
 -- The steps of senders that reserve, write and flip nothing: a machine that took one stands for the longer run.
-use Rattle.std.proofs.Common.{◌≡◌, ℕ, ◌<◌, true, List, ◌∷◌, Some, None, refl, sym, ap, ap₂, ◌∙◌, subst}
+use Rattle.std.proofs.Common.{◌≡◌, ℕ, ◌<◌, true, List, ◌∷◌, Some, None, refl, sym, ap, ap₂, ◌∙◌, subst, length-set}
 use Rattle.std.proofs.lemmas.Bool.{lt-ltb}
-use Rattle.std.specs.Prelude.{Bool, Option, nat_lt, bit_or, slice_set}
+use Rattle.std.specs.Prelude.{Bool, Option, nat_lt, bit_or, slice_get, slice_set}
 use Rattle.qindex.specs.declared.control.Control.{Control}
 use Rattle.qindex.specs.ControlWord.{close_mask}
 use Rattle.ringcore.specs.declared.event.Who.TheVariants.{Sender}
@@ -13,14 +13,14 @@ use Rattle.ringcore.specs.declared.step_fault.StepFault.{StepFault}
 use Rattle.ringcore.specs.Trails.{Run}
 use Rattle.ringcore.specs.World.{world, control}
 use Rattle.ringcore.specs.Layout.{control_word}
-use Rattle.ringcore.specs.Steps.{Always, ClosesByAnOr}
+use Rattle.ringcore.specs.Steps.{Always, LooksByALoad, ClosesByAnOr}
 use Rattle.ringcore.specs.Stores.{WordsValue, word_at, with_word}
 use Rattle.ringcore.specs.Shadow.{Ring, AreAfter}
 use Rattle.ringcore.specs.Views.{SenderValue, Knows}
 use Rattle.ringcore.specs.Faults.{unless_missing}
 use Rattle.ringcore.specs.Machine.{CoreValue, ring_with, ring_of, AllKnow, StandsFor, IsMachine, IsTaken}
 use Rattle.ringcore.proofs.Known.{closed}
-use Rattle.ringcore.proofs.Standing.{sender_stands, stays_machine, all_left}
+use Rattle.ringcore.proofs.Standing.{sender_stands, stays_machine, all_know, all_left}
 
 -- the machine with other words, or other views
 abbrev pub with_words : CoreValue → WordsValue → CoreValue
@@ -59,4 +59,34 @@ module _ (law : Always ClosesByAnOr) (old : CoreValue) (words : WordsValue) (s :
           stands = after;
         },
     closed_ring,
+  )
+
+-- ---- look
+
+module _ (law : Always LooksByALoad) (old : CoreValue) (s : ℕ) (low : s < old.words.senders) (found : Control)
+    (finds : (run : Run) → StandsFor old run → found ≡ control old.words.geometry (world run))
+    (before view : SenderValue) (there : slice_get old.senders s ≡ Some before)
+    (looks : (run : Run) (t : ℕ) → Knows run t before → Knows ((Sender t, event.Look found) ∷ run) t view) where
+  looked_stands : (run : Run) → StandsFor old run → StandsFor (with_view old s view) ((Sender s, event.Look (control old.words.geometry (world run))) ∷ run)
+  looked_stands run stands =
+      let are = law (ring_of old) run old.words.words stands.words_are (Sender s) in
+      sender_stands old run s (event.Look (control old.words.geometry (world run))) stands low old.words refl
+      (subst (λ c. AreAfter (ring_of old) ((Sender s, event.Look c) ∷ run) old.words.words) are.run_is.1 are)
+      (slice_set old.senders s view)
+      (all_know run s (event.Look (control old.words.geometry (world run))) old.senders view stands.senders_know
+          (subst (λ c. Knows ((Sender s, event.Look c) ∷ run) s view) (finds run stands) (looks run s (stands.senders_know s before there))))
+
+  pub looked_machine : IsMachine old → IsMachine (with_view old s view)
+  looked_machine was =
+      stays_machine old (with_view old s view) was refl (length-set old.senders s view) refl
+      ((Sender s, event.Look (control old.words.geometry (world was.run))) ∷ was.run) (looked_stands was.run was.stands)
+
+  pub look_taken : IsTaken old (with_view old s view) (Look (Some s)) (Word found) × (ring_of (with_view old s view) ≡ ring_of old)
+  look_taken = (
+    λ run stands. record {
+      no_fault = there_is s old.words.senders None low;
+      answer = ap Word (finds run stands);
+      stands = looked_stands run stands;
+    },
+    refl,
   )

@@ -32,6 +32,11 @@ ring_of core = ring_with core.words.geometry core.words.senders
 abbrev pub AllKnow : Run → List SenderValue → Type 0
 AllKnow run views = (s : ℕ) (view : SenderValue) → slice_get views s ≡ Some view → Knows run s view
 
+-- Where all senders of a ring know these views, this holds of the ring and the run.
+abbrev pub WhereAllKnow : List SenderValue → ℕ → (Ring → Run → Type 0) → Type 0
+WhereAllKnow views geometry P =
+    (ring : Ring) (run : Run) → ring.geometry ≡ geometry → ring.senders ≡ length views → AllKnow run views → P ring run
+
 -- The machine stands as after this run: so do its words, only its seats took steps, and each seat knows what
 -- its trail says.
 pub record StandsFor (core : CoreValue) (run : Run) : Type 0 where
@@ -59,6 +64,10 @@ pub record Takes (old new : CoreValue) (step : Step) (seen : Seen) (run : Run) :
   pub no_fault : fault_of (ring_of old) run step ≡ None
   pub answer : seen ≡ answer_to (ring_of old) run step
   pub stands : StandsFor new (event_of (ring_of old) run step ∷ run)
+
+-- After each run that the machine stands for the step has no fault, and this holds.
+abbrev pub IsAccepted : CoreValue → Step → (Run → Type 0) → Type 0
+IsAccepted core step P = (run : Run) → StandsFor core run → (fault_of (ring_of core) run step ≡ None) × P run
 
 abbrev pub IsRefused : CoreValue → Step → StepFault → Type 0
 IsRefused core step fault = (run : Run) → StandsFor core run → fault_of (ring_of core) run step ≡ Some fault

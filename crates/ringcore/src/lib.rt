@@ -5,6 +5,7 @@
 mod consumer_view;
 mod event;
 mod flags;
+mod held;
 pub mod laws;
 mod layout;
 mod machine;
