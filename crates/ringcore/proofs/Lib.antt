@@ -35,3 +35,4 @@ pub mod Standing
 pub mod SenderSteps
 pub mod HeldPlaces
 pub mod WriteSteps
+pub mod TakenSteps
