@@ -23,6 +23,7 @@ pub mod FlagPlaces
 pub mod MaskLemmas
 pub mod ReadyLemmas
 pub mod SyncCounts
+pub mod FewNumbers
 pub mod Judged
 pub mod ConsumerKnown
 pub mod Tallies
@@ -35,3 +36,4 @@ pub mod SenderSteps
 pub mod HeldPlaces
 pub mod WriteSteps
 pub mod FlipSteps
+pub mod TakenSteps

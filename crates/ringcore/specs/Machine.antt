@@ -54,6 +54,10 @@ pub record IsMachine (core : CoreValue) : Type 0 where
   pub run : Run
   pub stands : StandsFor core run
 
+-- A fact of each run that the machine may stand for.
+abbrev pub WhereItStands : CoreValue → (Run → Type 0) → Type 0
+WhereItStands core P = (run : Run) → StandsFor core run → P run
+
 -- ---- what a step does to it
 
 -- how a step is answered after a run

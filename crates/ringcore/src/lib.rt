@@ -18,7 +18,7 @@ mod sync_tallies;
 
 pub use consumer_view::ConsumerView;
 pub use event::{Event, Half, Outcome, Who};
-pub use flags::{flip_mask, polarity, ready_run, shared_word};
+pub use flags::{flip_mask, new_flags, polarity, ready_run, shared_word};
 pub use laws::{batches_law, counts_law, steps_law, world_law};
 pub use layout::{cell, control_word, data_word, flag_word, words};
 pub use machine::Core;

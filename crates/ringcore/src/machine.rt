@@ -14,6 +14,7 @@ use qindex::{Control, control_words_say_their_control, indexes_tell_the_queue};
 use std::marker::Model;
 
 mod places;
+mod consumer_steps;
 mod sender_steps;
 
 /// A ring with one owner, who takes each step by itself: the words, and what each seat knows (own).
