@@ -110,7 +110,7 @@ body_is body is =
       no_sync = no_sync_in body (not-true (list_any (λ raw. opcode_of raw == 0x46) body) a.1);
     }
 
-length_is : (mine : Trail) (body : List Raw) (closes : Bool) → batch_length body (next_number mine closes) ≡ length_with closes body
+pub length_is : (mine : Trail) (body : List Raw) (closes : Bool) → batch_length body (next_number mine closes) ≡ length_with closes body
 length_is mine body true = refl
 length_is mine body false = refl
 

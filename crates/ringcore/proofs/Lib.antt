@@ -36,4 +36,5 @@ pub mod SenderSteps
 pub mod HeldPlaces
 pub mod WriteSteps
 pub mod FlipSteps
+pub mod ReserveSteps
 pub mod TakenSteps

@@ -1,10 +1,12 @@
 -- What the machine with one owner stands for: a run, as its words and its seats know it.
-use Rattle.std.specs.Prelude.{◌≡◌, ℕ, ◌≤◌, List, ◌∷◌, length, Option, Some, None, Result, Ok, Err, slice_get}
+use Rattle.std.specs.Prelude.{◌≡◌, ℕ, ◌≤◌, Bool, List, ◌∷◌, length, Option, Some, None, Result, Ok, Err, slice_get}
+use Rattle.qindex.specs.declared.control.Control.{Control}
+use Rattle.ringcore.specs.declared.event.Who.TheVariants.{Sender}
 use Rattle.ringcore.specs.declared.step.Step.{Step}
 use Rattle.ringcore.specs.declared.step.Seen.{Seen}
 use Rattle.ringcore.specs.declared.step_fault.StepFault.{StepFault}
-use Rattle.ringcore.specs.Trails.{Run}
-use Rattle.ringcore.specs.World.{world}
+use Rattle.ringcore.specs.Trails.{Run, trail_of, looked}
+use Rattle.ringcore.specs.World.{world, control}
 use Rattle.ringcore.specs.Laws.{OnlyOf}
 use Rattle.ringcore.specs.Shadow.{Ring, AreAfter}
 use Rattle.ringcore.specs.Stores.{WordsValue}
@@ -12,7 +14,7 @@ use Rattle.ringcore.specs.Views.{SenderValue, Knows}
 use Rattle.ringcore.specs.ConsumerViews.{ConsumerValue, ConsumerKnows}
 use Rattle.ringcore.specs.SyncTallies.{AreTallies}
 use Rattle.ringcore.specs.Faults.{fault_of}
-use Rattle.ringcore.specs.Answers.{event_of, seen_of}
+use Rattle.ringcore.specs.Answers.{is_same_word, event_of, seen_of}
 
 -- the machine as contracts see it
 pub record CoreValue : Type 0 where
@@ -73,6 +75,11 @@ pub record Takes (old new : CoreValue) (step : Step) (seen : Seen) (run : Run) :
 -- After each run that the machine stands for the step has no fault, and this holds.
 abbrev pub IsAccepted : CoreValue → Step → (Run → Type 0) → Type 0
 IsAccepted core step P = (run : Run) → StandsFor core run → (fault_of (ring_of core) run step ≡ None) × P run
+
+-- The control word says this after a run, and whether it is still what the sender looked at.
+abbrev pub Finds : CoreValue → Run → ℕ → Control → Bool → Type 0
+Finds core run s found same =
+    (found ≡ control core.words.geometry (world run)) × (is_same_word (looked (trail_of (Sender s) run)) found ≡ same)
 
 abbrev pub IsRefused : CoreValue → Step → StepFault → Type 0
 IsRefused core step fault = (run : Run) → StandsFor core run → fault_of (ring_of core) run step ≡ Some fault

@@ -1,7 +1,7 @@
 //! The steps of the senders.
-ghost use Rattle.std.specs.Prelude.{◌≡◌, ◌<◌, ◌≤◌, Some};
-ghost use Rattle.ringcore.specs.declared.step.Step.TheVariants.{Look, Write, Flip, Close};
-ghost use Rattle.ringcore.specs.Machine.{Applies};
+ghost use Rattle.std.specs.Prelude.{◌≡◌, ◌<◌, ◌≤◌, Some, Ok, true, false};
+ghost use Rattle.ringcore.specs.declared.step.Step.TheVariants.{Look, Reserve, Write, Flip, Close};
+ghost use Rattle.ringcore.specs.Machine.{IsAccepted, Finds, Applies};
 
 use crate::flags::new_flags;
 use crate::laws;
@@ -10,7 +10,8 @@ use crate::machine::Core;
 use crate::machine::places::{half_of, half_of_number, index_of};
 use crate::step::Seen;
 use crate::step_fault::StepFault;
-use qindex::indexes_tell_place_and_wrap_bit;
+use cmdcodec::RawList;
+use qindex::{Control, control_words_say_their_control, indexes_tell_place_and_wrap_bit, indexes_tell_the_queue};
 
 impl Core {
     /// A load of the control word.
@@ -68,5 +69,63 @@ impl Core {
         self.words.flip(index_of(geometry, first), count);
         view.flips(offset, count);
         Ok(Seen::Flipped(new_flags(geometry, first, count)))
+    }
+
+    /// An exchange of the control word that the sender looked at, to reserve these commands.
+    pub fn reserve(&mut self, sender: u32, body: &RawList, closes: bool) -> Result<Seen, StepFault>
+        ensures { Applies self.old self.new (Reserve sender body.now closes) result }
+    {
+        if sender as usize >= self.senders.len() {
+            return Err(StepFault::NoSuchPlace);
+        }
+        let geometry = self.words.geometry();
+        let view = &self.senders[sender as usize];
+        control_words_say_their_control();
+        indexes_tell_the_queue();
+        if let Some(fault) = view.reserve_fault(geometry, body.as_slice(), closes) {
+            return Err(fault);
+        }
+        let found = self.control();
+        if view.expects(&found) {
+            Ok(self.win(sender, body, closes, &found))
+        } else {
+            Ok(self.lose(sender, body, closes, &found))
+        }
+    }
+
+    /// Reserves a batch where the control word is the one that the sender looked at.
+    pub fn win(&mut self, sender: u32, body: &RawList, closes: bool, found: &Control) -> Seen
+        requires there { sender < self.old.words.senders }
+        requires accepted { IsAccepted self.old (Reserve sender body.now closes) (λ run. Finds self.old run sender found.now true) }
+        ensures { Applies self.old self.new (Reserve sender body.now closes) (Ok result) }
+    {
+        laws::reserve_won();
+        steps_law();
+        indexes_tell_the_queue();
+        let head = self.consumer.taken();
+        let start = head + u64::from(found.prod.distance(found.cons));
+        let many = body.len() as u32 + u32::from(closes);
+        let after = Control {
+            prod: found.prod.forward(many),
+            cons: found.cons,
+            closed: found.closed,
+        };
+        self.words.exchange(found, &after);
+        let number = self.senders[sender as usize].wins(sender, body, closes, start);
+        Seen::Reserved {
+            first: found.prod,
+            number,
+        }
+    }
+
+    /// Reserves nothing where the control word is another.
+    pub fn lose(&mut self, sender: u32, body: &RawList, closes: bool, found: &Control) -> Seen
+        requires there { sender < self.old.words.senders }
+        requires accepted { IsAccepted self.old (Reserve sender body.now closes) (λ run. Finds self.old run sender found.now false) }
+        ensures { Applies self.old self.new (Reserve sender body.now closes) (Ok result) }
+    {
+        steps_law();
+        self.senders[sender as usize].loses();
+        Seen::Lost(*found)
     }
 }
