@@ -36,3 +36,5 @@ pub mod SenderSteps
 pub mod HeldPlaces
 pub mod WriteSteps
 pub mod TakenSteps
+pub mod ReadSteps
+pub mod AdvanceSteps

@@ -55,6 +55,13 @@ impl RingWords {
         self.geometry
     }
 
+    /// No ring has more than 256 senders.
+    pub fn few_senders(&self)
+        ensures { self.now.senders ≤ 256 }
+    {
+        let _senders = self.senders;
+    }
+
     /// What the control word says, if it is one that a ring may have.
     pub fn control(&self) -> Option<Control>
         ensures { SomeIff result (IsControlWord self.now.geometry (word_at self.now control_word)) (control_in self.now.geometry (word_at self.now control_word)) }
