@@ -35,6 +35,7 @@ pub mod Standing
 pub mod SenderSteps
 pub mod HeldPlaces
 pub mod WriteSteps
+pub mod FlipSteps
 pub mod TakenSteps
 pub mod ReadSteps
 pub mod AdvanceSteps

@@ -3,7 +3,6 @@ use Rattle.std.proofs.Common.{◌≡◌, ℕ, zero, suc, ◌+◌, ◌*◌, ◌%�
 use Rattle.std.proofs.lemmas.Bool.{lt-ltb}
 use Rattle.std.specs.Prelude.{slice_index, nat_lt, is_some, ◌&&◌, if◌then◌else◌}
 use Rattle.qindex.specs.Positions.{IndexValue, size, place, index_of}
-use Rattle.qindex.specs.Laws.{IndexesTellPlaceAndWrapBit}
 use Rattle.ringcore.specs.declared.event.Who.{Who}
 use Rattle.ringcore.specs.declared.event.Who.TheVariants.{Consumer}
 use Rattle.ringcore.specs.declared.event.Half.{Half}
@@ -27,7 +26,7 @@ use Rattle.ringcore.proofs.Judged.{first_is}
 use Rattle.ringcore.proofs.Looked.{same_is}
 use Rattle.ringcore.proofs.Sound.{sound}
 use Rattle.ringcore.proofs.Standing.{stays_machine}
-use Rattle.ringcore.proofs.TakenSteps.{consumer_stands, index_place}
+use Rattle.ringcore.proofs.TakenSteps.{consumer_stands}
 use Rattle.ringcore.proofs.Tallies.{others_dont_count}
 
 -- ---- how many a test finds
@@ -72,20 +71,7 @@ found_fits ring run ok n le =
 pub offset_found : (ring : Ring) (run : Run) (slot offset : ℕ) → tested_offset ring run slot ≡ Some offset → offset < found_ready (trail_of Consumer run)
 offset_found ring run slot offset is = (first_is (found_ready (trail_of Consumer run)) (λ k. place ring.geometry (head (world run) + k) == slot) offset is).0
 
--- ---- how a read is judged
-
-abbrev pub read_of : Option ℕ → Bool → Option StepFault
-read_of offset at_head = if is_some offset then None else if at_head then Some NotSeenReady else Some NotTheHead
-
-pub there_is : (core : CoreValue) (slot half : ℕ) (later : Option StepFault) → slot < size core.words.geometry → half < 2
-    → unless_missing (nat_lt slot (size core.words.geometry) && nat_lt half 2) later ≡ later
-there_is core slot half later low small = ap₂ (λ (a b : Bool). unless_missing (a && b) later) (lt-ltb slot (size core.words.geometry) low) (lt-ltb half 2 small)
-
 -- ---- the word that is read
-
-pub data_at : IndexesTellPlaceAndWrapBit → (g : ℕ) (index : IndexValue) (p : ℕ) (which : Half) → index ≡ index_of g p → data_word g index.number which ≡ data_word g p which
-data_at alike g index p which is =
-    ap (λ (n : ℕ). first_data_word g + 2 * n + half_number which) (ap (λ (i : IndexValue). place g i.number) is ∙ index_place alike g p)
 
 module _ (law : Always ReadsByALoad) (old : CoreValue) (slot half offset word : ℕ) (which : Half) (new : ConsumerValue)
     (which_is : which ≡ half_of_number half)

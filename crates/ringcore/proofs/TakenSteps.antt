@@ -4,7 +4,6 @@ use Rattle.std.proofs.lemmas.Bool.{cases_lt, cases_eq, lt-ltb, le-ltb}
 use Rattle.std.specs.Prelude.{slice_get, slice_index, slice_set, nat_lt, if◌then◌else◌}
 use Rattle.cmdcodec.specs.Opcodes.{opcode_of}
 use Rattle.qindex.specs.Positions.{IndexValue, size, place, index_of}
-use Rattle.qindex.specs.Laws.{IndexesTellPlaceAndWrapBit}
 use Rattle.ringcore.specs.declared.event.Who.TheVariants.{Consumer, Sender}
 use Rattle.ringcore.specs.declared.event.Event.{Event}
 use Rattle.ringcore.specs.declared.event.Event.TheVariants as event
@@ -51,14 +50,6 @@ consumer_stands old run e stands words ring are consumer knows tallies counted =
   tallies_are = counted;
 }
 
--- the place of the index of a position
-pub index_place : IndexesTellPlaceAndWrapBit → (g p : ℕ) → place g (p % (2 * size g)) ≡ place g p
-index_place alike g p =
-    ap (place g) (zero_on (p % (2 * size g))) ∙ (alike g (p % (2 * size g)) p 0 (index_of_number g p)).place ∙ ap (place g) (sym (zero_on p))
-  where
-    zero_on : (n : ℕ) → n ≡ n + 0
-    zero_on n = omega arith
-
 -- ---- test
 
 fewer_found : (ring : Shape) (w : World) (limit a b : ℕ) → FindsReady ring w limit a → FindsReady ring w limit b → a < b → ⊥
@@ -75,15 +66,6 @@ one_found ring w limit a b one two = elim (cases_lt a b) [
     | inr ge ↦ omega (arith, le, ge)
   ]
 ]
-
-pub ready_at : IndexesTellPlaceAndWrapBit → (g : ℕ) (words : List ℕ) (index : IndexValue) (p count found : ℕ) → index ≡ index_of g p
-    → IsReadyRun g (slice_index words (flag_word g index.number)) index.number count found
-    → IsReadyRun g (slice_index words (flag_word g p)) p count found
-ready_at alike g words index p count found is value =
-    let word : ℕ = slice_index words (flag_word g index.number) in
-    let place_is : place g index.number ≡ place g p = ap (λ (i : IndexValue). place g i.number) is ∙ index_place alike g p in
-    subst (λ x. IsReadyRun g x p count found) (ap (λ (n : ℕ). slice_index words (8 + n / 64)) place_is)
-    (run_at alike index word count found (subst (λ (h : ℕ). IsReadyRun h word index.number count found) (sym (ap (λ (i : IndexValue). i.geometry) is)) value) g p is)
 
 module _ (law : Always TestsByALoad) (allowed : StepsAreAllowed) (old : CoreValue) (slot count found : ℕ) (new : ConsumerValue)
     (no_fault : WhereItStands old (λ run. None ≡ fault_of (ring_of old) run (Test slot count)))

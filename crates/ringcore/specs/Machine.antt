@@ -46,8 +46,9 @@ pub record StandsFor (core : CoreValue) (run : Run) : Type 0 where
   pub consumer_knows : ConsumerKnows run core.consumer
   pub tallies_are : AreTallies run core.tallies
 
--- A machine has a view and a tally for each sender, and stands as after some run.
+-- A machine has at most 256 senders, a view and a tally for each, and stands as after some run.
 pub record IsMachine (core : CoreValue) : Type 0 where
+  pub few : core.words.senders ≤ 256
   pub views : length core.senders ≡ core.words.senders
   pub counts : length core.tallies ≡ core.words.senders
   pub run : Run

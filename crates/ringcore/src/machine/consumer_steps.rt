@@ -4,15 +4,13 @@ ghost use Rattle.qindex.specs.Positions.{size};
 ghost use Rattle.ringcore.specs.declared.step.Step.TheVariants.{Test, Read, Advance, Acknowledge, Ask};
 ghost use Rattle.ringcore.specs.World.{world};
 ghost use Rattle.ringcore.specs.Faults.{is_count, is_head, tested_offset, fault_of};
-ghost use Rattle.ringcore.specs.Answers.{half_of_number};
 ghost use Rattle.ringcore.specs.Machine.{ring_of, WhereItStands, IsAccepted, IsRefused, Applies};
 
-use crate::event::Half;
 use crate::laws;
 use crate::machine::Core;
+use crate::machine::places::half_of_number;
 use crate::step::Seen;
 use crate::step_fault::StepFault;
-use qindex::indexes_tell_place_and_wrap_bit;
 
 impl Core {
     /// A load of the head's flag word, which looks at so many flags at most.
@@ -24,7 +22,6 @@ impl Core {
         }
         laws::test();
         laws::steps_law();
-        indexes_tell_place_and_wrap_bit();
         let found = self.words.ready(self.control().cons, count);
         self.consumer.tests(found);
         Ok(Seen::Ready(found))
@@ -36,7 +33,6 @@ impl Core {
     {
         let offset = self.read_offset(slot, half)?;
         laws::read();
-        indexes_tell_place_and_wrap_bit();
         let which = half_of_number(half);
         let word = self.words.read(self.control().cons.forward(offset), which);
         self.consumer.reads(offset, which, word);
@@ -53,7 +49,6 @@ impl Core {
         laws::advance();
         laws::counts_law();
         laws::steps_law();
-        self.words.few_senders();
         let head = self.control().cons;
         self.words.advance(head, head.forward(count));
         self.tallies.takes_read(&self.consumer, count);
@@ -172,11 +167,4 @@ fn is_count(count: u32) -> bool
     ensures { result ≡ is_count count }
 {
     1 <= count && count <= 64
-}
-
-/// The half of a number: 0 is lo, and any other hi.
-fn half_of_number(half: u32) -> Half
-    ensures { result ≡ half_of_number half }
-{
-    if half == 0 { Half::Lo } else { Half::Hi }
 }

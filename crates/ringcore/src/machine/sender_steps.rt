@@ -1,10 +1,12 @@
 //! The steps of the senders.
 ghost use Rattle.std.specs.Prelude.{◌≡◌, ◌<◌, ◌≤◌, Some};
-ghost use Rattle.ringcore.specs.declared.step.Step.TheVariants.{Look, Close};
+ghost use Rattle.ringcore.specs.declared.step.Step.TheVariants.{Look, Write, Close};
 ghost use Rattle.ringcore.specs.Machine.{Applies};
 
 use crate::laws;
+use crate::laws::steps_law;
 use crate::machine::Core;
+use crate::machine::places::{half_of, half_of_number, index_of};
 use crate::step::Seen;
 use crate::step_fault::StepFault;
 
@@ -32,5 +34,21 @@ impl Core {
         laws::close();
         self.words.close();
         Ok(Seen::Word(self.control()))
+    }
+
+    /// A store of the word that the sender's reservation has for a half of the slot.
+    pub fn write(&mut self, sender: u32, slot: u32, half: u32) -> Result<Seen, StepFault>
+        ensures { Applies self.old self.new (Write sender slot half) result }
+    {
+        let offset = self.write_offset(sender, slot, half)?;
+        let half = half_of_number(half);
+        laws::write();
+        steps_law();
+        let view = &mut self.senders[sender as usize];
+        let word = half_of(half, view.command(offset));
+        let index = index_of(self.words.geometry(), view.start() + u64::from(offset));
+        self.words.write(index, half, word);
+        view.writes(offset, half);
+        Ok(Seen::Written)
     }
 }

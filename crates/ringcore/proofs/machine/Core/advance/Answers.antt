@@ -32,7 +32,7 @@ advances-requires c =
     let no_fault : WhereItStands core (λ run. None ≡ fault_of (ring_of core) run (Advance c.args.count)) =
     subst (λ (m : CoreValue). WhereItStands m (λ run. None ≡ fault_of (ring_of m) run (Advance c.args.count))) (sym c.self.view_is)
     (λ run stands. sym c.in_default.is ∙ c.advance_fault.ensures run stands) in
-    taken_fits c.steps_law.ensures.allowed core c.args.count no_fault c.self.invariant.run c.self.invariant.stands c.counts_law.ensures.bound c.few_senders.ensures
+    taken_fits c.steps_law.ensures.allowed core c.args.count no_fault c.self.invariant.run c.self.invariant.stands c.counts_law.ensures.bound c.self.invariant.few
 
 pub invariant_of-self : goal.invariant_of-self
 invariant_of-self c =

@@ -7,7 +7,7 @@ use Rattle.ringcore.specs.World.{head, world, control}
 use Rattle.ringcore.specs.Layout.{data_word}
 use Rattle.ringcore.specs.Faults.{tested_offset}
 use Rattle.ringcore.specs.Machine.{CoreValue, ring_of, WhereItStands, IsAccepted, IsTaken}
-use Rattle.ringcore.proofs.ReadSteps.{data_at, read_machine, read_taken}
+use Rattle.ringcore.proofs.ReadSteps.{read_machine, read_taken}
 use Rattle.ringcore.proofs.machine.Core.read.Goals as goal
 
 pub invariant_of-self : goal.invariant_of-self
@@ -20,11 +20,7 @@ invariant_of-self c =
     let says : WhereItStands core (λ run. c.control.result ≡ control core.words.geometry (world run)) =
     subst (λ (m : CoreValue). WhereItStands m (λ run. c.control.result ≡ control m.words.geometry (world run))) (sym c.self.view_is) c.control.ensures.says in
     let word_is : WhereItStands core (λ run. c.read-word.result ≡ slice_index core.words.words (data_word core.words.geometry (head (world run) + offset) which)) =
-    (λ run stands.
-    c.read-word.ensures
-    ∙ ap (slice_index core.words.words)
-    (data_at c.indexes_tell_place_and_wrap_bit.ensures.alike core.words.geometry c.forward.result (head (world run) + offset) which
-    (c.forward.ensures.position core.words.geometry (head (world run)) (ap (λ (k : Control). k.cons) (says run stands))))) in
+    (λ run stands. c.read-word.ensures.position core.words.geometry (head (world run) + offset) (c.forward.ensures.position core.words.geometry (head (world run)) (ap (λ (k : Control). k.cons) (says run stands)))) in
     read_machine c.read.ensures core c.args.slot c.args.half offset c.read-word.result which c.reads.new.self c.half_of_number-which.ensures accepted word_is c.reads.ensures c.self.invariant
 
 pub returns : goal.returns
@@ -37,11 +33,7 @@ returns c =
     let says : WhereItStands core (λ run. c.control.result ≡ control core.words.geometry (world run)) =
     subst (λ (m : CoreValue). WhereItStands m (λ run. c.control.result ≡ control m.words.geometry (world run))) (sym c.self.view_is) c.control.ensures.says in
     let word_is : WhereItStands core (λ run. c.read-word.result ≡ slice_index core.words.words (data_word core.words.geometry (head (world run) + offset) which)) =
-    (λ run stands.
-    c.read-word.ensures
-    ∙ ap (slice_index core.words.words)
-    (data_at c.indexes_tell_place_and_wrap_bit.ensures.alike core.words.geometry c.forward.result (head (world run) + offset) which
-    (c.forward.ensures.position core.words.geometry (head (world run)) (ap (λ (k : Control). k.cons) (says run stands))))) in
+    (λ run stands. c.read-word.ensures.position core.words.geometry (head (world run) + offset) (c.forward.ensures.position core.words.geometry (head (world run)) (ap (λ (k : Control). k.cons) (says run stands)))) in
     let new : CoreValue = record core { consumer = c.reads.new.self } in
     subst (λ (old : CoreValue). IsTaken old new (Read c.args.slot c.args.half) (Half c.read-word.result) × (ring_of new ≡ ring_of old)) c.self.view_is
     (read_taken c.read.ensures core c.args.slot c.args.half offset c.read-word.result which c.reads.new.self c.half_of_number-which.ensures accepted word_is c.reads.ensures)
