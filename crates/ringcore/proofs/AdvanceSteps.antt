@@ -1,8 +1,8 @@
 -- An advance: a machine that took one stands for the longer run.
-use Rattle.std.proofs.Common.{◌≡◌, ℕ, zero, suc, ◌+◌, ◌*◌, ◌^◌, ◌<◌, ◌≤◌, Bool, true, false, ◌&&◌, List, [], ◌∷◌, ◌++◌, length, map, take, drop, Option, Some, None, refl, sym, ap, ap₂, ◌∙◌, subst, inl, inr, leb-true, arith}
+use Rattle.std.proofs.Common.{◌≡◌, ℕ, zero, suc, ◌+◌, ◌*◌, ◌^◌, ◌<◌, ◌≤◌, Bool, true, false, List, [], ◌∷◌, ◌++◌, length, take, Some, None, refl, sym, ap, ap₂, ◌∙◌, subst, inl, inr, leb-true, arith}
 use Rattle.std.proofs.lemmas.Bool.{cases_lt, and_parts, lt-ltb}
 use Rattle.std.proofs.lemmas.List.{take_all}
-use Rattle.std.specs.Prelude.{slice_get, slice_index, nat_le, nat_lt, is_some, if◌then◌else◌}
+use Rattle.std.specs.Prelude.{slice_get, slice_index, nat_le, nat_lt, if◌then◌else◌}
 use Rattle.cmdcodec.specs.declared.raw.Raw.{Raw}
 use Rattle.qindex.specs.declared.control.Control.{Control}
 use Rattle.qindex.specs.Positions.{IndexValue, size, index_of}
@@ -12,10 +12,9 @@ use Rattle.ringcore.specs.declared.event.Half.TheVariants.{Lo, Hi}
 use Rattle.ringcore.specs.declared.event.Event.TheVariants as event
 use Rattle.ringcore.specs.declared.step.Step.TheVariants.{Advance}
 use Rattle.ringcore.specs.declared.step.Seen.TheVariants.{Word}
-use Rattle.ringcore.specs.declared.step_fault.StepFault.{StepFault}
 use Rattle.ringcore.specs.declared.step_fault.StepFault.TheVariants.{NotSeenReady, HalfMissing}
-use Rattle.ringcore.specs.Trails.{Trail, Run, trail_of, found_ready, half_read}
-use Rattle.ringcore.specs.World.{Item, tail, head, world, control}
+use Rattle.ringcore.specs.Trails.{Trail, Run, trail_of, found_ready}
+use Rattle.ringcore.specs.World.{tail, head, world, control}
 use Rattle.ringcore.specs.Allowed.{MayAdvance, IsRun}
 use Rattle.ringcore.specs.Layout.{control_word}
 use Rattle.ringcore.specs.Laws.{EveryRun, FewAreReserved, NumbersAreFew, SyncsAreCounted, syncs_in, syncs_taken}
@@ -24,8 +23,7 @@ use Rattle.ringcore.specs.Steps.{Always, AdvancesByAnExclusiveOr, turned}
 use Rattle.ringcore.specs.Stores.{WordsValue, with_turned}
 use Rattle.ringcore.specs.ConsumerViews.{ConsumerValue, KnowsTaken, ConsumerKnows, both_halves, command_at, and_command, commands_read}
 use Rattle.ringcore.specs.SyncTallies.{AreCounted}
-use Rattle.ringcore.specs.Open.{all_below}
-use Rattle.ringcore.specs.Faults.{is_count, advance_fault, unless_missing, fault_of}
+use Rattle.ringcore.specs.Faults.{is_count, advance_fault, fault_of}
 use Rattle.ringcore.specs.Answers.{next_commands}
 use Rattle.ringcore.specs.Played.{StepsAreAllowed}
 use Rattle.ringcore.specs.Machine.{CoreValue, ring_with, ring_of, StandsFor, IsMachine, WhereItStands, IsTaken}

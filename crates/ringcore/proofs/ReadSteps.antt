@@ -1,8 +1,7 @@
 -- A read: a machine that took one stands for the longer run.
-use Rattle.std.proofs.Common.{◌≡◌, ℕ, zero, suc, ◌+◌, ◌*◌, ◌%◌, ◌<◌, ◌≤◌, Bool, true, false, cond, ◌==◌, List, [], ◌∷◌, Option, Some, None, refl, sym, ap, ap₂, ◌∙◌, subst, arith}
-use Rattle.std.proofs.lemmas.Bool.{lt-ltb}
-use Rattle.std.specs.Prelude.{slice_index, nat_lt, is_some, ◌&&◌, if◌then◌else◌}
-use Rattle.qindex.specs.Positions.{IndexValue, size, place, index_of}
+use Rattle.std.proofs.Common.{◌≡◌, ℕ, zero, suc, ◌+◌, ◌<◌, ◌≤◌, Bool, true, false, cond, ◌==◌, [], ◌∷◌, Some, refl, sym, ap, ap₂, ◌∙◌, subst, arith}
+use Rattle.std.specs.Prelude.{slice_index}
+use Rattle.qindex.specs.Positions.{size, place}
 use Rattle.ringcore.specs.declared.event.Who.{Who}
 use Rattle.ringcore.specs.declared.event.Who.TheVariants.{Consumer}
 use Rattle.ringcore.specs.declared.event.Half.{Half}
@@ -10,16 +9,14 @@ use Rattle.ringcore.specs.declared.event.Event.{Event}
 use Rattle.ringcore.specs.declared.event.Event.TheVariants as event
 use Rattle.ringcore.specs.declared.step.Step.TheVariants.{Read}
 use Rattle.ringcore.specs.declared.step.Seen.TheVariants.{Half as HalfWord}
-use Rattle.ringcore.specs.declared.step_fault.StepFault.{StepFault}
-use Rattle.ringcore.specs.declared.step_fault.StepFault.TheVariants.{NotSeenReady, NotTheHead}
 use Rattle.ringcore.specs.Trails.{Trail, Run, same, trail_of, found_ready}
 use Rattle.ringcore.specs.World.{World, tail, head, world}
 use Rattle.ringcore.specs.Allowed.{Shape, Allowed, IsRun}
-use Rattle.ringcore.specs.Layout.{half_number, data_word, first_data_word}
-use Rattle.ringcore.specs.Shadow.{Ring, shape, AreAfter}
+use Rattle.ringcore.specs.Layout.{data_word}
+use Rattle.ringcore.specs.Shadow.{Ring, AreAfter}
 use Rattle.ringcore.specs.Steps.{Always, ReadsByALoad}
 use Rattle.ringcore.specs.ConsumerViews.{ConsumerValue, ConsumerKnows}
-use Rattle.ringcore.specs.Faults.{is_head, tested_offset, read_fault, unless_missing, fault_of}
+use Rattle.ringcore.specs.Faults.{tested_offset}
 use Rattle.ringcore.specs.Answers.{offset_or_0, half_of_number, half_in, half_at, event_of}
 use Rattle.ringcore.specs.Machine.{CoreValue, ring_of, StandsFor, IsMachine, WhereItStands, IsAccepted, IsTaken}
 use Rattle.ringcore.proofs.Judged.{first_is}

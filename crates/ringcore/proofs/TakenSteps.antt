@@ -1,14 +1,12 @@
 -- The steps of the consumer: a machine that took one stands for the longer run.
-use Rattle.std.proofs.Common.{◌≡◌, ◌≢◌, ℕ, zero, suc, ◌+◌, ◌*◌, ◌/◌, ◌%◌, ◌<◌, ◌≤◌, Bool, true, false, ◌==◌, ◌&&◌, ◌||◌, List, [], ◌∷◌, length, Option, Some, None, refl, sym, ap, ap₂, ◌∙◌, subst, inl, inr, eq-eqb, ne_eqb, arith}
+use Rattle.std.proofs.Common.{◌≡◌, ℕ, zero, suc, ◌+◌, ◌<◌, ◌≤◌, Bool, true, false, ◌==◌, ◌&&◌, ◌||◌, List, ◌∷◌, Option, Some, None, refl, sym, ap, ap₂, ◌∙◌, subst, inl, inr, eq-eqb, arith}
 use Rattle.std.proofs.lemmas.Bool.{cases_lt, cases_eq, lt-ltb, le-ltb}
-use Rattle.std.specs.Prelude.{slice_get, slice_index, slice_set, nat_lt, if◌then◌else◌}
+use Rattle.std.specs.Prelude.{slice_get, slice_index, nat_lt, if◌then◌else◌}
 use Rattle.cmdcodec.specs.Opcodes.{opcode_of}
-use Rattle.qindex.specs.Positions.{IndexValue, size, place, index_of}
 use Rattle.ringcore.specs.declared.event.Who.TheVariants.{Consumer, Sender}
 use Rattle.ringcore.specs.declared.event.Event.{Event}
 use Rattle.ringcore.specs.declared.event.Event.TheVariants as event
-use Rattle.ringcore.specs.declared.step.Step.{Step}
-use Rattle.ringcore.specs.declared.step.Step.TheVariants.{Test, Read, Advance, Acknowledge, Ask}
+use Rattle.ringcore.specs.declared.step.Step.TheVariants.{Test, Acknowledge, Ask}
 use Rattle.ringcore.specs.declared.step.Seen.TheVariants.{Ready, Acknowledged, Done}
 use Rattle.ringcore.specs.declared.step_fault.StepFault.{StepFault}
 use Rattle.ringcore.specs.declared.step_fault.StepFault.TheVariants.{NotNext, NoSuchPlace}
@@ -18,19 +16,18 @@ use Rattle.ringcore.specs.Allowed.{Shape, FindsReady, SyncIsTaken}
 use Rattle.ringcore.specs.Layout.{flag_word, cell}
 use Rattle.ringcore.specs.Flags.{IsReadyRun}
 use Rattle.ringcore.specs.Laws.{OnlyOf, syncs_taken, EveryRun, AcknowledgedAreTaken, SyncsAreCounted, NumbersAreFew}
-use Rattle.ringcore.specs.Shadow.{Ring, shape, AreAfter}
+use Rattle.ringcore.specs.Shadow.{shape, AreAfter}
 use Rattle.ringcore.specs.Steps.{Always, TestsByALoad, AcknowledgesByAStore, AsksByALoad}
 use Rattle.ringcore.specs.Stores.{WordsValue, with_word}
 use Rattle.ringcore.specs.ConsumerViews.{ConsumerValue, ConsumerKnows}
 use Rattle.ringcore.specs.SyncTallies.{AreTallies}
 use Rattle.ringcore.specs.Open.{some_below}
-use Rattle.ringcore.specs.Faults.{is_count, unless_missing, sync_is_taken, has_number, is_sync_of, acknowledge_fault, fault_of}
+use Rattle.ringcore.specs.Faults.{unless_missing, sync_is_taken, has_number, is_sync_of, acknowledge_fault, fault_of}
 use Rattle.ringcore.specs.Answers.{ready_count}
 use Rattle.ringcore.specs.Played.{StepsAreAllowed}
-use Rattle.ringcore.specs.Machine.{CoreValue, ring_with, ring_of, StandsFor, IsMachine, WhereItStands, Takes, IsTaken}
+use Rattle.ringcore.specs.Machine.{CoreValue, ring_with, ring_of, StandsFor, IsMachine, WhereItStands, IsTaken}
 use Rattle.ringcore.proofs.ConsumerKnown.{acknowledgement_leaves}
 use Rattle.ringcore.proofs.Below.{or_true}
-use Rattle.ringcore.proofs.FlagPlaces.{index_of_number, run_at}
 use Rattle.ringcore.proofs.Known.{others, asked}
 use Rattle.ringcore.proofs.Lists.{off}
 use Rattle.ringcore.proofs.Standing.{sender_stands, stays_machine, all_left}
