@@ -116,29 +116,6 @@ acknowledged_few taken few core run s stands = elim (cases_lt 0 ((world run).ack
   | inr none ↦ omega (arith, none)
 ]
 
--- A sender that there is has no fault of that, and one that there isn't has.
-pub no_sender : (s senders : ℕ) (later : Option StepFault) → senders ≤ s → Some NoSuchPlace ≡ unless_missing (nat_lt s senders) later
-no_sender s senders later high = sym (ap (λ b. unless_missing b later) (le-ltb s senders high))
-
-module _ (old : CoreValue) (s found : ℕ) (low : s < old.words.senders) (is : WhereItStands old (λ run. found ≡ (world run).acknowledged s))
-    (law : Always AsksByALoad) where
-  ask_stands : (run : Run) → StandsFor old run → StandsFor old ((Sender s, event.Ask ((world run).acknowledged s)) ∷ run)
-  ask_stands run stands =
-      let n : ℕ = (world run).acknowledged s in
-      sender_stands old run s (event.Ask n) stands low old.words refl
-      (subst (λ x. AreAfter (ring_of old) ((Sender s, event.Ask x) ∷ run) old.words.words) (cell_is old run s stands low) (law (ring_of old) run old.words.words stands.words_are s low))
-      old.senders (all_left run s (event.Ask n) old.senders (λ view. asked run s n view) stands.senders_know)
-
-  pub ask_taken : IsTaken old old (Ask s) (Done found) × (ring_of old ≡ ring_of old)
-  ask_taken = (
-    λ run stands. record {
-      no_fault = ap (λ b. unless_missing b None) (lt-ltb s old.words.senders low);
-      answer = ap Done (is run stands);
-      stands = ask_stands run stands;
-    },
-    refl,
-  )
-
 -- ---- acknowledge
 
 some_there : (n k : ℕ) (f : ℕ → Bool) → k < n → f k ≡ true → some_below n f ≡ true
