@@ -1,14 +1,16 @@
 //! The steps of the senders.
 ghost use Rattle.std.specs.Prelude.{◌≡◌, ◌<◌, ◌≤◌, Some};
-ghost use Rattle.ringcore.specs.declared.step.Step.TheVariants.{Look, Write, Close};
+ghost use Rattle.ringcore.specs.declared.step.Step.TheVariants.{Look, Write, Flip, Close};
 ghost use Rattle.ringcore.specs.Machine.{Applies};
 
+use crate::flags::new_flags;
 use crate::laws;
 use crate::laws::steps_law;
 use crate::machine::Core;
 use crate::machine::places::{half_of, half_of_number, index_of};
 use crate::step::Seen;
 use crate::step_fault::StepFault;
+use qindex::indexes_tell_place_and_wrap_bit;
 
 impl Core {
     /// A load of the control word.
@@ -50,5 +52,21 @@ impl Core {
         self.words.write(index, half, word);
         view.writes(offset, half);
         Ok(Seen::Written)
+    }
+
+    /// An exclusive or of a flag word, for so many slots of the sender's reservation.
+    pub fn flip(&mut self, sender: u32, slot: u32, count: u32) -> Result<Seen, StepFault>
+        ensures { Applies self.old self.new (Flip sender slot count) result }
+    {
+        let offset = self.flip_offset(sender, slot, count)?;
+        laws::flip();
+        steps_law();
+        indexes_tell_place_and_wrap_bit();
+        let geometry = self.words.geometry();
+        let view = &mut self.senders[sender as usize];
+        let first = view.start() + u64::from(offset);
+        self.words.flip(index_of(geometry, first), count);
+        view.flips(offset, count);
+        Ok(Seen::Flipped(new_flags(geometry, first, count)))
     }
 }
