@@ -1,7 +1,7 @@
 //! The steps of the consumer, and what a sender asks of it.
-ghost use Rattle.std.specs.Prelude.{◌≡◌, ◌<◌, ◌≤◌, ◌==◌, ℕ, Some, None, IfOk, IfErr};
+ghost use Rattle.std.specs.Prelude.{◌≡◌, ◌<◌, ◌≤◌, ◌==◌, ℕ, Some, None, Ok, IfOk, IfErr};
 ghost use Rattle.qindex.specs.Positions.{size};
-ghost use Rattle.ringcore.specs.declared.step.Step.TheVariants.{Test, Read, Advance, Acknowledge, Ask};
+ghost use Rattle.ringcore.specs.declared.step.Step.TheVariants.{Look, Test, Read, Advance, Acknowledge, Ask};
 ghost use Rattle.ringcore.specs.World.{world};
 ghost use Rattle.ringcore.specs.Faults.{is_count, is_head, tested_offset, fault_of};
 ghost use Rattle.ringcore.specs.Machine.{ring_of, WhereItStands, IsAccepted, IsRefused, Applies};
@@ -13,6 +13,14 @@ use crate::step::Seen;
 use crate::step_fault::StepFault;
 
 impl Core {
+    /// A load of the control word.
+    pub fn consumer_looks(&mut self) -> Seen
+        ensures { Applies self.old self.new (Look None) (Ok result) }
+    {
+        laws::look();
+        Seen::Word(self.control())
+    }
+
     /// A load of the head's flag word, which looks at so many flags at most.
     pub fn test(&mut self, slot: u32, count: u32) -> Result<Seen, StepFault>
         ensures { Applies self.old self.new (Test slot count) result }
