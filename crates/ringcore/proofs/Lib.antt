@@ -38,3 +38,5 @@ pub mod WriteSteps
 pub mod FlipSteps
 pub mod ReserveSteps
 pub mod TakenSteps
+pub mod ReadSteps
+pub mod AdvanceSteps

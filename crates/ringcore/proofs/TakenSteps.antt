@@ -1,15 +1,12 @@
 -- The steps of the consumer: a machine that took one stands for the longer run.
-use Rattle.std.proofs.Common.{◌≡◌, ◌≢◌, ℕ, zero, suc, ◌+◌, ◌*◌, ◌/◌, ◌%◌, ◌<◌, ◌≤◌, Bool, true, false, ◌==◌, ◌&&◌, ◌||◌, List, [], ◌∷◌, length, Option, Some, None, refl, sym, ap, ap₂, ◌∙◌, subst, inl, inr, eq-eqb, ne_eqb, arith}
+use Rattle.std.proofs.Common.{◌≡◌, ℕ, zero, suc, ◌+◌, ◌<◌, ◌≤◌, Bool, true, false, ◌==◌, ◌&&◌, ◌||◌, List, ◌∷◌, Option, Some, None, refl, sym, ap, ap₂, ◌∙◌, subst, inl, inr, eq-eqb, arith}
 use Rattle.std.proofs.lemmas.Bool.{cases_lt, cases_eq, lt-ltb, le-ltb}
-use Rattle.std.specs.Prelude.{slice_get, slice_index, slice_set, nat_lt, if◌then◌else◌}
+use Rattle.std.specs.Prelude.{slice_get, slice_index, nat_lt, if◌then◌else◌}
 use Rattle.cmdcodec.specs.Opcodes.{opcode_of}
-use Rattle.qindex.specs.Positions.{IndexValue, size, place, index_of}
-use Rattle.qindex.specs.Laws.{IndexesTellPlaceAndWrapBit}
 use Rattle.ringcore.specs.declared.event.Who.TheVariants.{Consumer, Sender}
 use Rattle.ringcore.specs.declared.event.Event.{Event}
 use Rattle.ringcore.specs.declared.event.Event.TheVariants as event
-use Rattle.ringcore.specs.declared.step.Step.{Step}
-use Rattle.ringcore.specs.declared.step.Step.TheVariants.{Test, Read, Advance, Acknowledge, Ask}
+use Rattle.ringcore.specs.declared.step.Step.TheVariants.{Test, Acknowledge, Ask}
 use Rattle.ringcore.specs.declared.step.Seen.TheVariants.{Ready, Acknowledged, Done}
 use Rattle.ringcore.specs.declared.step_fault.StepFault.{StepFault}
 use Rattle.ringcore.specs.declared.step_fault.StepFault.TheVariants.{NotNext, NoSuchPlace}
@@ -19,19 +16,18 @@ use Rattle.ringcore.specs.Allowed.{Shape, FindsReady, SyncIsTaken}
 use Rattle.ringcore.specs.Layout.{flag_word, cell}
 use Rattle.ringcore.specs.Flags.{IsReadyRun}
 use Rattle.ringcore.specs.Laws.{OnlyOf, syncs_taken, EveryRun, AcknowledgedAreTaken, SyncsAreCounted, NumbersAreFew}
-use Rattle.ringcore.specs.Shadow.{Ring, shape, AreAfter}
+use Rattle.ringcore.specs.Shadow.{shape, AreAfter}
 use Rattle.ringcore.specs.Steps.{Always, TestsByALoad, AcknowledgesByAStore, AsksByALoad}
 use Rattle.ringcore.specs.Stores.{WordsValue, with_word}
 use Rattle.ringcore.specs.ConsumerViews.{ConsumerValue, ConsumerKnows}
 use Rattle.ringcore.specs.SyncTallies.{AreTallies}
 use Rattle.ringcore.specs.Open.{some_below}
-use Rattle.ringcore.specs.Faults.{is_count, unless_missing, sync_is_taken, has_number, is_sync_of, acknowledge_fault, fault_of}
+use Rattle.ringcore.specs.Faults.{unless_missing, sync_is_taken, has_number, is_sync_of, acknowledge_fault, fault_of}
 use Rattle.ringcore.specs.Answers.{ready_count}
 use Rattle.ringcore.specs.Played.{StepsAreAllowed}
-use Rattle.ringcore.specs.Machine.{CoreValue, ring_with, ring_of, StandsFor, IsMachine, WhereItStands, Takes, IsTaken}
+use Rattle.ringcore.specs.Machine.{CoreValue, ring_with, ring_of, StandsFor, IsMachine, WhereItStands, IsTaken}
 use Rattle.ringcore.proofs.ConsumerKnown.{acknowledgement_leaves}
 use Rattle.ringcore.proofs.Below.{or_true}
-use Rattle.ringcore.proofs.FlagPlaces.{index_of_number, run_at}
 use Rattle.ringcore.proofs.Known.{others, asked}
 use Rattle.ringcore.proofs.Lists.{off}
 use Rattle.ringcore.proofs.Standing.{sender_stands, stays_machine, all_left}
@@ -51,14 +47,6 @@ consumer_stands old run e stands words ring are consumer knows tallies counted =
   tallies_are = counted;
 }
 
--- the place of the index of a position
-pub index_place : IndexesTellPlaceAndWrapBit → (g p : ℕ) → place g (p % (2 * size g)) ≡ place g p
-index_place alike g p =
-    ap (place g) (zero_on (p % (2 * size g))) ∙ (alike g (p % (2 * size g)) p 0 (index_of_number g p)).place ∙ ap (place g) (sym (zero_on p))
-  where
-    zero_on : (n : ℕ) → n ≡ n + 0
-    zero_on n = omega arith
-
 -- ---- test
 
 fewer_found : (ring : Shape) (w : World) (limit a b : ℕ) → FindsReady ring w limit a → FindsReady ring w limit b → a < b → ⊥
@@ -75,15 +63,6 @@ one_found ring w limit a b one two = elim (cases_lt a b) [
     | inr ge ↦ omega (arith, le, ge)
   ]
 ]
-
-pub ready_at : IndexesTellPlaceAndWrapBit → (g : ℕ) (words : List ℕ) (index : IndexValue) (p count found : ℕ) → index ≡ index_of g p
-    → IsReadyRun g (slice_index words (flag_word g index.number)) index.number count found
-    → IsReadyRun g (slice_index words (flag_word g p)) p count found
-ready_at alike g words index p count found is value =
-    let word : ℕ = slice_index words (flag_word g index.number) in
-    let place_is : place g index.number ≡ place g p = ap (λ (i : IndexValue). place g i.number) is ∙ index_place alike g p in
-    subst (λ x. IsReadyRun g x p count found) (ap (λ (n : ℕ). slice_index words (8 + n / 64)) place_is)
-    (run_at alike index word count found (subst (λ (h : ℕ). IsReadyRun h word index.number count found) (sym (ap (λ (i : IndexValue). i.geometry) is)) value) g p is)
 
 module _ (law : Always TestsByALoad) (allowed : StepsAreAllowed) (old : CoreValue) (slot count found : ℕ) (new : ConsumerValue)
     (no_fault : WhereItStands old (λ run. None ≡ fault_of (ring_of old) run (Test slot count)))
@@ -136,29 +115,6 @@ acknowledged_few taken few core run s stands = elim (cases_lt 0 ((world run).ack
       few (shape (ring_of core)) run ok s n (taken (shape (ring_of core)) run ok s n (omega (arith, some)) (omega arith))
   | inr none ↦ omega (arith, none)
 ]
-
--- A sender that there is has no fault of that, and one that there isn't has.
-pub no_sender : (s senders : ℕ) (later : Option StepFault) → senders ≤ s → Some NoSuchPlace ≡ unless_missing (nat_lt s senders) later
-no_sender s senders later high = sym (ap (λ b. unless_missing b later) (le-ltb s senders high))
-
-module _ (old : CoreValue) (s found : ℕ) (low : s < old.words.senders) (is : WhereItStands old (λ run. found ≡ (world run).acknowledged s))
-    (law : Always AsksByALoad) where
-  ask_stands : (run : Run) → StandsFor old run → StandsFor old ((Sender s, event.Ask ((world run).acknowledged s)) ∷ run)
-  ask_stands run stands =
-      let n : ℕ = (world run).acknowledged s in
-      sender_stands old run s (event.Ask n) stands low old.words refl
-      (subst (λ x. AreAfter (ring_of old) ((Sender s, event.Ask x) ∷ run) old.words.words) (cell_is old run s stands low) (law (ring_of old) run old.words.words stands.words_are s low))
-      old.senders (all_left run s (event.Ask n) old.senders (λ view. asked run s n view) stands.senders_know)
-
-  pub ask_taken : IsTaken old old (Ask s) (Done found) × (ring_of old ≡ ring_of old)
-  ask_taken = (
-    λ run stands. record {
-      no_fault = ap (λ b. unless_missing b None) (lt-ltb s old.words.senders low);
-      answer = ap Done (is run stands);
-      stands = ask_stands run stands;
-    },
-    refl,
-  )
 
 -- ---- acknowledge
 

@@ -1,4 +1,4 @@
-use Rattle.std.proofs.Common.{◌≡◌, ◌<◌, ◌≤◌, ◌+◌, ◌∙◌, None, Some, sym, ap, subst, arith}
+use Rattle.std.proofs.Common.{◌≡◌, ◌<◌, ◌∙◌, None, Some, subst, arith}
 use Rattle.ringcore.specs.declared.step.Step.TheVariants.{Acknowledge}
 use Rattle.ringcore.specs.declared.step_fault.StepFault.TheVariants.{NotNext}
 use Rattle.ringcore.specs.Faults.{fault_of}

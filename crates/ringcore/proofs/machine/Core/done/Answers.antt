@@ -1,5 +1,4 @@
 use Rattle.std.proofs.Common.{◌<◌, sym, subst, arith}
-use Rattle.ringcore.specs.World.{world}
 use Rattle.ringcore.specs.Machine.{CoreValue}
 use Rattle.ringcore.proofs.TakenSteps.{cell_is, acknowledged_few}
 use Rattle.ringcore.proofs.machine.Core.done.Goals as goal
