@@ -1,10 +1,12 @@
 -- What the machine with one owner stands for: a run, as its words and its seats know it.
-use Rattle.std.specs.Prelude.{◌≡◌, ℕ, ◌≤◌, Bool, List, ◌∷◌, length, Option, Some, None, Result, Ok, Err, slice_get}
+use Rattle.std.specs.Prelude.{◌≡◌, ℕ, ◌≤◌, Bool, not, ◌&&◌, nat_le, List, [], ◌∷◌, length, Option, Some, None, Result, Ok, Err, slice_get, if◌then◌else◌}
 use Rattle.qindex.specs.declared.control.Control.{Control}
 use Rattle.ringcore.specs.declared.event.Who.TheVariants.{Sender}
 use Rattle.ringcore.specs.declared.step.Step.{Step}
 use Rattle.ringcore.specs.declared.step.Seen.{Seen}
 use Rattle.ringcore.specs.declared.step_fault.StepFault.{StepFault}
+use Rattle.ringcore.specs.declared.core_fault.CoreFault.{CoreFault}
+use Rattle.ringcore.specs.declared.core_fault.CoreFault.TheVariants.{Size, Senders, Memory}
 use Rattle.ringcore.specs.Trails.{Run, trail_of, looked}
 use Rattle.ringcore.specs.World.{world, control}
 use Rattle.ringcore.specs.Laws.{OnlyOf}
@@ -14,6 +16,7 @@ use Rattle.ringcore.specs.Views.{SenderValue, Knows}
 use Rattle.ringcore.specs.ConsumerViews.{ConsumerValue, ConsumerKnows}
 use Rattle.ringcore.specs.SyncTallies.{AreTallies}
 use Rattle.ringcore.specs.Faults.{fault_of}
+use Rattle.ringcore.specs.Played.{played}
 use Rattle.ringcore.specs.Answers.{is_same_word, event_of, seen_of}
 
 -- the machine as contracts see it
@@ -91,3 +94,31 @@ IsTaken old new step seen = (run : Run) → StandsFor old run → Takes old new 
 abbrev pub Applies : CoreValue → CoreValue → Step → Result Seen StepFault → Type 0
 Applies old new step (Ok seen) = IsTaken old new step seen × (ring_of new ≡ ring_of old)
 Applies old new step (Err fault) = IsRefused old step fault × (new ≡ old)
+
+-- ---- how it is made, and a list of steps
+
+-- which of its numbers is out of range, the first one
+abbrev pub number_fault : ℕ → ℕ → Option CoreFault
+number_fault log2 senders =
+    if not (nat_le 1 log2 && nat_le log2 19) then Some Size
+    else if not (nat_le 1 senders && nat_le senders 256) then Some Senders
+    else None
+
+-- It isn't made for that fault, or for want of memory where there is none.
+abbrev pub IsNotMade : Option CoreFault → CoreFault → Type 0
+IsNotMade numbers (Memory error) = numbers ≡ None
+IsNotMade numbers fault = numbers ≡ Some fault
+
+-- A new machine, before the first step.
+pub record IsNew (core : CoreValue) (log2 senders : ℕ) : Type 0 where
+  pub numbers : number_fault log2 senders ≡ None
+  pub ring : ring_of core ≡ ring_with log2 senders
+  pub stands : StandsFor core []
+
+-- Steps were played from an empty ring: the machine stands as after them, and the one that was refused is told, if
+-- one was.
+pub record HasPlayed (log2 senders : ℕ) (steps : List Step) (core : CoreValue) (refused : Option (ℕ × StepFault)) : Type 0 where
+  pub numbers : number_fault log2 senders ≡ None
+  pub ring : ring_of core ≡ ring_with log2 senders
+  pub stands : StandsFor core (played (ring_with log2 senders) steps).run
+  pub refused_is : refused ≡ (played (ring_with log2 senders) steps).refused
