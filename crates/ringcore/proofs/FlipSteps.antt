@@ -83,7 +83,7 @@ module _ (may : StepsAreAllowed) (old : CoreValue) (s slot count k : ℕ)
   may_flip : (run : Run) → StandsFor old run → MayFlip (shape (ring_of old)) (trail_of (Sender s) run) ((world run).start s) k count
   may_flip run stands =
       (subst (λ (x : Who × Event). IsRun (shape (ring_of old)) (x ∷ run)) (flip_event run stands)
-          (may (ring_of old) run (Flip s slot count) stands.words_are.geometry_is stands.words_are.run_is (accepted run stands).0)).1
+      (may (ring_of old) run (Flip s slot count) stands.words_are.geometry_is stands.words_are.run_is (accepted run stands).0)).1
 
   pub flip_some : (run : Run) → StandsFor old run → 1 ≤ count
   flip_some run stands = (may_flip run stands).many.0
@@ -138,12 +138,12 @@ module _ (may : StepsAreAllowed) (old : CoreValue) (s slot count k : ℕ)
           let mask = subst (λ n. IsFlipMask old.words.geometry (n + k) count flipped.mask) starts flipped.mask_is in
           let are = law (ring_of old) run old.words.words stands.words_are s k count flipped.mask (may_flip run stands) mask in
           let same : words.words ≡ turned old.words.words (flag_word old.words.geometry ((world run).start s + k)) flipped.mask =
-              ap (λ (w : WordsValue). w.words) flipped.words ∙ ap (λ n. turned old.words.words (flag_word old.words.geometry (n + k)) flipped.mask) starts in
+          ap (λ (w : WordsValue). w.words) flipped.words ∙ ap (λ n. turned old.words.words (flag_word old.words.geometry (n + k)) flipped.mask) starts in
           subst (λ (x : Who × Event). StandsFor new (x ∷ run)) (sym (flip_event run stands))
           (sender_stands old run s (event.Flip k count) stands low words flipped_ring
-              (subst (AreAfter (ring_of old) ((Sender s, event.Flip k count) ∷ run)) (sym same) are)
-              (slice_set old.senders s view)
-              (all_know run s (event.Flip k count) old.senders view stands.senders_know (flips run s known)))
+          (subst (AreAfter (ring_of old) ((Sender s, event.Flip k count) ∷ run)) (sym same) are)
+          (slice_set old.senders s view)
+          (all_know run s (event.Flip k count) old.senders view stands.senders_know (flips run s known)))
 
       pub flipped_machine : IsMachine old → IsMachine new
       flipped_machine was =
@@ -157,7 +157,7 @@ module _ (may : StepsAreAllowed) (old : CoreValue) (s slot count k : ℕ)
             let starts = start_is run s (stands.senders_know s before there) in record {
               no_fault = (accepted run stands).0;
               answer = ap seen.Flipped (flags_are ∙ ap (λ n. new_flags old.words.geometry (n + k) count) starts)
-                ∙ sym (ap (λ (x : Who × Event). seen_of (ring_of old) (world run) x.0 x.1) (flip_event run stands));
+                  ∙ sym (ap (λ (x : Who × Event). seen_of (ring_of old) (world run) x.0 x.1) (flip_event run stands));
               stands = flipped_stands run stands;
             },
         flipped_ring,

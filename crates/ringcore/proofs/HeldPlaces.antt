@@ -56,7 +56,7 @@ first_is_some (suc n) f = by_rest (some_below n f) (first_is_some n f) (f n)
 
 -- A sender holds a slot exactly where the slot has an offset in its open reservation.
 pub holds_where : (ring : Ring) (run : Run) (s slot : ℕ) → is_some (own_offset ring run s slot) ≡ holds_slot ring run slot s
-holds_where ring run s slot = by_open (is_open (trail_of (Sender s) run)) _ _ 
+holds_where ring run s slot = by_open (is_open (trail_of (Sender s) run)) _ _
     (first_is_some (reserved_length (trail_of (Sender s) run)) (λ offset. place ring.geometry ((world run).start s + offset) == slot))
   where
     by_open : (b : Bool) (first : Option ℕ) (some : Bool) → is_some first ≡ some → is_some (if b then first else None) ≡ (b && some)

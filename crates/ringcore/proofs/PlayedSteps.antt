@@ -10,7 +10,9 @@ use Rattle.ringcore.specs.Trails.{Run}
 use Rattle.ringcore.specs.World.{world}
 use Rattle.qindex.specs.Indexes.{IsGeometry}
 use Rattle.ringcore.specs.Layout.{words_of}
-use Rattle.ringcore.specs.Shadow.{Ring, AreAfter}
+use Rattle.ringcore.specs.Delivery.{TakenInOrder, NumberedInOrder, NoneAfterClose, ToldWhenCompleted, IsOrderedDelivery}
+use Rattle.ringcore.specs.Laws.{EveryRun}
+use Rattle.ringcore.specs.Shadow.{Ring, shape, AreAfter}
 use Rattle.ringcore.specs.Steps.{OpensAllZero}
 use Rattle.ringcore.specs.Stores.{WordsValue}
 use Rattle.ringcore.specs.ConsumerViews.{ConsumerKnows}
@@ -71,7 +73,7 @@ module _ (ring : Ring) (steps : List Step) (core : CoreValue) (place : ℕ) (rea
   stops_there fault refused =
       let some : fault_of ring run step ≡ Some fault = ap (λ r. fault_of r run step) (sym reached.ring_is) ∙ refused run reached.stands in
       let went : played_from ring run place (drop place steps) ≡ unless_refused (Some fault) run place later =
-          ap (played_from ring run place) left ∙ ap (λ f. unless_refused f run place later) some in record {
+      ap (played_from ring run place) left ∙ ap (λ f. unless_refused f run place later) some in record {
         stands = subst (StandsFor core) (sym (ap (λ (p : Played). p.run) went) ∙ reached.same_run) reached.stands;
         refused = sym (ap (λ (p : Played). p.refused) went) ∙ reached.same_refused;
       }
@@ -118,10 +120,23 @@ opened law core g n is_geometry words know consumer tallies =
       ring,
       record {
         words_are = subst (λ (w : WordsValue). AreAfter (ring_with w.geometry w.senders) [] w.words) (sym words)
-        (law (ring_with g n) (replicate (words_of g n) 0) is_geometry (length-replicate (words_of g n) 0) (zeros (words_of g n)));
+            (law (ring_with g n) (replicate (words_of g n) 0) is_geometry (length-replicate (words_of g n) 0) (zeros (words_of g n)));
         only = tt;
         senders_know = know;
         consumer_knows = consumer;
         tallies_are = tallies;
       },
     )
+
+-- ---- ordered delivery of what was played
+
+pub delivered : EveryRun TakenInOrder → EveryRun NumberedInOrder → EveryRun NoneAfterClose → EveryRun ToldWhenCompleted
+    → (core : CoreValue) (run : Run) → StandsFor core run → IsOrderedDelivery run
+delivered taken numbered closed told core run stands =
+    let ok = stands.words_are.run_is in
+    let ring = shape (ring_of core) in record {
+      taken = taken ring run ok;
+      numbered = numbered ring run ok;
+      closed = closed ring run ok;
+      told = told ring run ok;
+    }

@@ -36,7 +36,7 @@ module _ (may : StepsAreAllowed) (old : CoreValue) (s : ℕ) (body : ArrayVec Ra
   -- the event, by whether the word is the one that was looked at
   reserve_event : (run : Run) → StandsFor old run
       → event_of (ring_of old) run (Reserve s body closes)
-        ≡ (Sender s, if same then event.Won body.items (next_number (trail_of (Sender s) run) closes) else event.Lost body.items closes found)
+      ≡ (Sender s, if same then event.Won body.items (next_number (trail_of (Sender s) run) closes) else event.Lost body.items closes found)
   reserve_event run stands =
       let finds = (accepted run stands).1 in
       let mine = trail_of (Sender s) run in
@@ -69,7 +69,7 @@ module _ (may : StepsAreAllowed) (old : CoreValue) (s : ℕ) (low : s < old.word
       } in
       subst (λ (x : Who × Event). StandsFor after_loss (x ∷ run)) (sym is)
       (sender_stands old run s e stands low old.words refl are (slice_set old.senders s view)
-          (all_know run s e old.senders view stands.senders_know (loses run s body.items closes found (stands.senders_know s before there))))
+      (all_know run s e old.senders view stands.senders_know (loses run s body.items closes found (stands.senders_know s before there))))
 
   pub lost_machine : IsMachine old → IsMachine after_loss
   lost_machine was =
@@ -145,8 +145,8 @@ module _ (may : StepsAreAllowed) (old : CoreValue) (s : ℕ) (body : ArrayVec Ra
       let within = sound (shape (ring_of old)) run stands.words_are.run_is in
       let behind = within.behind in
       let far : distance found.prod found.cons ≡ tail (world run) - head (world run) =
-          ap (λ (c : Control). distance c.prod c.cons) finds.0
-          ∙ (tells old.words.geometry (tail (world run)) (head (world run)) stands.words_are.geometry_is within.behind within.within).distance in record {
+      ap (λ (c : Control). distance c.prod c.cons) finds.0
+      ∙ (tells old.words.geometry (tail (world run)) (head (world run)) stands.words_are.geometry_is within.behind within.within).distance in record {
         looked_at = win.looked_at ∙ ap Some (sym finds.0);
         unclosed = ap (λ (c : Control). c.closed) finds.0 ∙ win.unclosed;
         settled = win.settled;
@@ -180,14 +180,14 @@ module _ (may : StepsAreAllowed) (old : CoreValue) (s : ℕ) (body : ArrayVec Ra
         let are = law (ring_of old) run old.words.words stands.words_are s body.items n found (may_try tells run stands) (may_win run stands).next (found_now run stands) in
         let long : many ≡ batch_length body.items n = many_is ∙ sym (length_is mine body.items closes) in
         let same : words.words ≡ slice_set old.words.words control_word (packed (record found { prod = index_of found.prod.geometry (found.prod.number + batch_length body.items n) })) =
-            ap (λ (w : WordsValue). w.words) (stored (found_now run stands))
-            ∙ ap (λ (i : IndexValue). slice_set old.words.words control_word (packed (record found { prod = i }))) (next_is ∙ ap (λ m. index_of found.prod.geometry (found.prod.number + m)) long) in
+        ap (λ (w : WordsValue). w.words) (stored (found_now run stands))
+        ∙ ap (λ (i : IndexValue). slice_set old.words.words control_word (packed (record found { prod = i }))) (next_is ∙ ap (λ m. index_of found.prod.geometry (found.prod.number + m)) long) in
         subst (λ (x : Who × Event). StandsFor after_win (x ∷ run)) (sym (won_event run stands))
         (sender_stands old run s (event.Won body.items n) stands low words (won_ring run stands)
-            (subst (AreAfter (ring_of old) ((Sender s, event.Won body.items n) ∷ run)) (sym same) are)
-            (slice_set old.senders s view)
-            (all_know run s (event.Won body.items n) old.senders view stands.senders_know
-                (subst (λ m. Knows ((Sender s, event.Won body.items m) ∷ run) s view) (number_is run s known) (wins run known (start_is run stands)))))
+        (subst (AreAfter (ring_of old) ((Sender s, event.Won body.items n) ∷ run)) (sym same) are)
+        (slice_set old.senders s view)
+        (all_know run s (event.Won body.items n) old.senders view stands.senders_know
+        (subst (λ m. Knows ((Sender s, event.Won body.items m) ∷ run) s view) (number_is run s known) (wins run known (start_is run stands)))))
 
     pub won_machine : IsMachine old → IsMachine after_win
     won_machine was =
@@ -200,7 +200,7 @@ module _ (may : StepsAreAllowed) (old : CoreValue) (s : ℕ) (body : ArrayVec Ra
           let known = stands.senders_know s before there in record {
             no_fault = (accepted run stands).0;
             answer = ap₂ seen.Reserved (ap (λ (c : Control). c.prod) (accepted run stands).1.0) (number_is run s known)
-              ∙ sym (ap (λ (x : Who × Event). seen_of (ring_of old) (world run) x.0 x.1) (won_event run stands));
+                ∙ sym (ap (λ (x : Who × Event). seen_of (ring_of old) (world run) x.0 x.1) (won_event run stands));
             stands = won_stands run stands;
           },
       won_ring was.run was.stands,

@@ -74,7 +74,7 @@ module _ (law : Always LooksByALoad) (old : CoreValue) (s : ℕ) (low : s < old.
       (subst (λ c. AreAfter (ring_of old) ((Sender s, event.Look c) ∷ run) old.words.words) are.run_is.1 are)
       (slice_set old.senders s view)
       (all_know run s (event.Look (control old.words.geometry (world run))) old.senders view stands.senders_know
-          (subst (λ c. Knows ((Sender s, event.Look c) ∷ run) s view) (finds run stands) (looks run s (stands.senders_know s before there))))
+      (subst (λ c. Knows ((Sender s, event.Look c) ∷ run) s view) (finds run stands) (looks run s (stands.senders_know s before there))))
 
   pub looked_machine : IsMachine old → IsMachine (with_view old s view)
   looked_machine was =

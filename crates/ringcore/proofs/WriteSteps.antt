@@ -44,7 +44,7 @@ module _ (ring : Ring) (run : Run) (s : ℕ) (view : SenderValue) (known : Knows
     write_judged : (o : Option ℕ) → own_offset ring run s slot ≡ o → fault_of ring run (Write s slot half) ≡ write_at ring run s slot o
     write_judged o is =
         let there : (nat_lt s ring.senders && nat_lt slot (size ring.geometry) && nat_lt half 2) ≡ true =
-            ap₂ (λ (a b : Bool). a && b) (ap₂ (λ (a b : Bool). a && b) (lt-ltb s ring.senders sender_there) (lt-ltb slot (size ring.geometry) slot_there)) (lt-ltb half 2 half_there) in
+        ap₂ (λ (a b : Bool). a && b) (ap₂ (λ (a b : Bool). a && b) (lt-ltb s ring.senders sender_there) (lt-ltb slot (size ring.geometry) slot_there)) (lt-ltb half 2 half_there) in
         ap (λ b. unless_missing b (write_at ring run s slot (own_offset ring run s slot))) there ∙ ap (write_at ring run s slot) is
 
     pub write_of_foreign : (held : Bool) (fault : StepFault) → own_offset ring run s slot ≡ None → held ≡ slot_is_held ring run slot → Some fault ≡ foreign held
@@ -74,7 +74,7 @@ module _ (may : StepsAreAllowed) (old : CoreValue) (s slot half k : ℕ) (h : Ha
   pub may_write : (run : Run) → StandsFor old run → MayWrite (trail_of (Sender s) run) k
   may_write run stands =
       (subst (λ (x : Who × Event). IsRun (shape (ring_of old)) (x ∷ run)) (write_event run stands)
-          (may (ring_of old) run (Write s slot half) stands.words_are.geometry_is stands.words_are.run_is (accepted run stands).0)).1
+      (may (ring_of old) run (Write s slot half) stands.words_are.geometry_is stands.words_are.run_is (accepted run stands).0)).1
 
   module _ (before : SenderValue) (there : slice_get old.senders s ≡ Some before) where
     pub write_inside : (run : Run) → StandsFor old run → k < length before.commands
@@ -106,12 +106,12 @@ module _ (may : StepsAreAllowed) (old : CoreValue) (s slot half k : ℕ) (h : Ha
             let known = stands.senders_know s before there in
             let are = law (ring_of old) run old.words.words stands.words_are s k h raw (may_write run stands) (raw_is run s known) in
             let same : words.words ≡ slice_set old.words.words (data_word old.words.geometry ((world run).start s + k) h) (half_of h raw) =
-                ap (λ (w : WordsValue). w.words) words_are ∙ ap (λ n. slice_set old.words.words (data_word old.words.geometry (n + k) h) (half_of h raw)) (start_is run s known) in
+            ap (λ (w : WordsValue). w.words) words_are ∙ ap (λ n. slice_set old.words.words (data_word old.words.geometry (n + k) h) (half_of h raw)) (start_is run s known) in
             subst (λ (x : Who × Event). StandsFor new (x ∷ run)) (sym (write_event run stands))
             (sender_stands old run s (event.Write k h) stands low words wrote_ring
-                (subst (AreAfter (ring_of old) ((Sender s, event.Write k h) ∷ run)) (sym same) are)
-                (slice_set old.senders s view)
-                (all_know run s (event.Write k h) old.senders view stands.senders_know (writes run s known)))
+            (subst (AreAfter (ring_of old) ((Sender s, event.Write k h) ∷ run)) (sym same) are)
+            (slice_set old.senders s view)
+            (all_know run s (event.Write k h) old.senders view stands.senders_know (writes run s known)))
 
         pub wrote_machine : IsMachine old → IsMachine new
         wrote_machine was =

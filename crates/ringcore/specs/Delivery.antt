@@ -82,3 +82,10 @@ pub record IsCompleted (run : Run) (s number : ℕ) : Type 0 where
 abbrev pub ToldWhenCompleted : Run → Type 0
 ToldWhenCompleted run =
     (later earlier : Run) (s number : ℕ) → run ≡ later ++ (Sender s, Ask number) ∷ earlier → 1 ≤ number → IsCompleted earlier s number
+
+-- all of this
+pub record IsOrderedDelivery (run : Run) : Type 0 where
+  pub taken : TakenInOrder run
+  pub numbered : NumberedInOrder run
+  pub closed : NoneAfterClose run
+  pub told : ToldWhenCompleted run

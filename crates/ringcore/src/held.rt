@@ -33,7 +33,12 @@ pub(crate) fn is_held(views: &[SenderView], position: u64) -> bool
 }
 
 /// Whether each of so many slots in a row is held, from this one on.
-pub(crate) fn slots_are_held(views: &[SenderView], geometry: Geometry, slot: u32, count: u32) -> bool
+pub(crate) fn slots_are_held(
+    views: &[SenderView],
+    geometry: Geometry,
+    slot: u32,
+    count: u32,
+) -> bool
     requires slot { slot < size geometry }
     requires few { count ≤ 64 }
     ensures { WhereAllKnow views.now geometry (λ ring run. result ≡ all_below count (λ k. slot_is_held ring run (place geometry (slot + k)))) }

@@ -3,6 +3,8 @@ ghost use Rattle.std.specs.Prelude.{◌≡◌, ◌<◌, ◌≤◌, [], length, I
 ghost use Rattle.qindex.specs.ControlWord.{IsControl};
 ghost use Rattle.ringcore.specs.Trails.{Run};
 ghost use Rattle.ringcore.specs.World.{world, control};
+ghost use Rattle.ringcore.specs.Delivery.{IsOrderedDelivery};
+ghost use Rattle.ringcore.specs.Played.{played};
 ghost use Rattle.ringcore.specs.Machine.{ring_of, ring_with, AllKnow, StandsFor, IsTaken, IsRefused, Applies, IsNew, IsNotMade, number_fault, HasPlayed};
 
 use crate::consumer_view::ConsumerView;
@@ -17,8 +19,8 @@ use qindex::{Control, Geometry, control_words_say_their_control, indexes_tell_th
 use std::alloc::{AllocError, Global};
 use std::marker::Model;
 
-mod places;
 mod consumer_steps;
+mod places;
 mod sender_steps;
 
 /// A ring with one owner, who takes each step by itself: the words, and what each seat knows (own).
@@ -31,6 +33,8 @@ pub struct Core {
 }
 
 impl Model for Core {
+    ghost use Rattle.ringcore.specs.Delivery.{IsOrderedDelivery};
+    ghost use Rattle.ringcore.specs.Played.{played};
     ghost use Rattle.ringcore.specs.Machine.{CoreValue, IsMachine};
 
     ghost Value = { CoreValue };
@@ -90,9 +94,17 @@ impl Core {
         match step {
             Step::Look { who: None } => Ok(self.consumer_looks()),
             Step::Look { who: Some(sender) } => self.sender_looks(*sender),
-            Step::Reserve { sender, body, closes } => self.reserve(*sender, body, *closes),
+            Step::Reserve {
+                sender,
+                body,
+                closes,
+            } => self.reserve(*sender, body, *closes),
             Step::Write { sender, slot, half } => self.write(*sender, *slot, *half),
-            Step::Flip { sender, slot, count } => self.flip(*sender, *slot, *count),
+            Step::Flip {
+                sender,
+                slot,
+                count,
+            } => self.flip(*sender, *slot, *count),
             Step::Test { slot, count } => self.test(*slot, *count),
             Step::Read { slot, half } => self.read(*slot, *half),
             Step::Advance { count } => self.advance(*count),
@@ -129,10 +141,17 @@ fn new_views(alloc: Global, senders: u32) -> Result<Vec<SenderView>, AllocError>
 /// 0, with its fault.
 ///
 /// Errors: as of `Core::new`.
-pub fn run(alloc: Global, log2: u32, senders: u32, steps: &[Step]) -> Result<(Core, Option<(usize, StepFault)>), CoreFault>
+pub fn run(
+    alloc: Global,
+    log2: u32,
+    senders: u32,
+    steps: &[Step],
+) -> Result<(Core, Option<(usize, StepFault)>), CoreFault>
     ensures played { IfOk result (λ told. HasPlayed log2 senders steps.now told.0 told.1) }
+    ensures delivery { IfOk result (λ told. IsOrderedDelivery (played (ring_with log2 senders) steps.now).run) }
     ensures refused { IfErr result (λ fault. IsNotMade (number_fault log2 senders) fault) }
 {
+    laws::world_law();
     let mut core = Core::new(alloc, log2, senders)?;
     for place in 0..steps.len() {
         if let Err(fault) = core.take(&steps[place]) {

@@ -14,7 +14,7 @@ use crate::step_fault::StepFault;
 
 impl Core {
     /// A load of the control word.
-    pub fn consumer_looks(&mut self) -> Seen
+    pub(super) fn consumer_looks(&mut self) -> Seen
         ensures { Applies self.old self.new (Look None) (Ok result) }
     {
         laws::look();
@@ -22,7 +22,7 @@ impl Core {
     }
 
     /// A load of the head's flag word, which looks at so many flags at most.
-    pub fn test(&mut self, slot: u32, count: u32) -> Result<Seen, StepFault>
+    pub(super) fn test(&mut self, slot: u32, count: u32) -> Result<Seen, StepFault>
         ensures { Applies self.old self.new (Test slot count) result }
     {
         if let Some(fault) = self.test_fault(slot, count) {
@@ -36,7 +36,7 @@ impl Core {
     }
 
     /// A load of a data word.
-    pub fn read(&mut self, slot: u32, half: u32) -> Result<Seen, StepFault>
+    pub(super) fn read(&mut self, slot: u32, half: u32) -> Result<Seen, StepFault>
         ensures { Applies self.old self.new (Read slot half) result }
     {
         let offset = self.read_offset(slot, half)?;
@@ -48,7 +48,7 @@ impl Core {
     }
 
     /// An exclusive or of the control word, to take so many commands.
-    pub fn advance(&mut self, count: u32) -> Result<Seen, StepFault>
+    pub(super) fn advance(&mut self, count: u32) -> Result<Seen, StepFault>
         ensures { Applies self.old self.new (Advance count) result }
     {
         if let Some(fault) = self.advance_fault(count) {
@@ -65,7 +65,7 @@ impl Core {
     }
 
     /// A load of the sender's completion cell.
-    pub fn ask(&mut self, sender: u32) -> Result<Seen, StepFault>
+    pub(super) fn ask(&mut self, sender: u32) -> Result<Seen, StepFault>
         ensures { Applies self.old self.new (Ask sender) result }
     {
         if sender as usize >= self.senders.len() {
@@ -76,7 +76,7 @@ impl Core {
     }
 
     /// A store in the sender's completion cell.
-    pub fn acknowledge(&mut self, sender: u32, number: u32) -> Result<Seen, StepFault>
+    pub(super) fn acknowledge(&mut self, sender: u32, number: u32) -> Result<Seen, StepFault>
         ensures { Applies self.old self.new (Acknowledge sender number) result }
     {
         if let Some(fault) = self.acknowledge_fault(sender, number) {
@@ -89,14 +89,14 @@ impl Core {
     }
 
     /// Whether a slot is that of the head.
-    pub fn is_head(&self, slot: u32) -> bool
+    fn is_head(&self, slot: u32) -> bool
         ensures { WhereItStands self.now (λ run. result ≡ is_head (ring_of self.now) run slot) }
     {
         self.control().cons.place() == slot
     }
 
     /// Why a test is refused, if it is.
-    pub fn test_fault(&self, slot: u32, count: u32) -> Option<StepFault>
+    fn test_fault(&self, slot: u32, count: u32) -> Option<StepFault>
         ensures { WhereItStands self.now (λ run. result ≡ fault_of (ring_of self.now) run (Test slot count)) }
     {
         if slot >= self.words.geometry().size() || !is_count(count) {
@@ -110,7 +110,7 @@ impl Core {
     }
 
     /// The offset from the head of a slot of which a half may be read.
-    pub fn read_offset(&self, slot: u32, half: u32) -> Result<u32, StepFault>
+    fn read_offset(&self, slot: u32, half: u32) -> Result<u32, StepFault>
         ensures few { IfOk result (λ offset. offset < 64) }
         ensures within { IfOk result (λ offset. offset ≤ size self.now.words.geometry) }
         ensures accepted { IfOk result (λ offset. IsAccepted self.now (Read slot half) (λ run. tested_offset (ring_of self.now) run slot ≡ Some offset)) }
@@ -131,7 +131,7 @@ impl Core {
     }
 
     /// Why an advance is refused, if it is.
-    pub fn advance_fault(&self, count: u32) -> Option<StepFault>
+    fn advance_fault(&self, count: u32) -> Option<StepFault>
         ensures { WhereItStands self.now (λ run. result ≡ fault_of (ring_of self.now) run (Advance count)) }
     {
         if !is_count(count) {
@@ -141,7 +141,7 @@ impl Core {
     }
 
     /// The number in a sender's completion cell.
-    pub fn done(&self, sender: u32) -> u32
+    fn done(&self, sender: u32) -> u32
         requires { sender < self.now.words.senders }
         ensures { WhereItStands self.now (λ run. result ≡ (world run).acknowledged sender) }
     {
@@ -151,7 +151,7 @@ impl Core {
     }
 
     /// Why an acknowledgement is refused, if it is.
-    pub fn acknowledge_fault(&self, sender: u32, number: u32) -> Option<StepFault>
+    fn acknowledge_fault(&self, sender: u32, number: u32) -> Option<StepFault>
         ensures { WhereItStands self.now (λ run. result ≡ fault_of (ring_of self.now) run (Acknowledge sender number)) }
     {
         if sender as usize >= self.senders.len() {

@@ -54,7 +54,7 @@ pub(crate) fn half_of(half: Half, raw: Raw) -> u64
 
 impl Core {
     /// The offset of a slot in the sender's reservation, if a half of it may be written.
-    pub fn write_offset(&self, sender: u32, slot: u32, half: u32) -> Result<u32, StepFault>
+    pub(super) fn write_offset(&self, sender: u32, slot: u32, half: u32) -> Result<u32, StepFault>
         ensures there { IfOk result (λ offset. sender < self.now.words.senders) }
         ensures few { IfOk result (λ offset. offset < 64) }
         ensures accepted { IfOk result (λ offset. IsAccepted self.now (Write sender slot half) (λ run. own_offset (ring_of self.now) run sender slot ≡ Some offset)) }
@@ -79,7 +79,11 @@ impl Core {
         ensures { result ≡ (has_sender (ring_of self.now) sender && has_slot (ring_of self.now) slot && is_count count && share_a_word (ring_of self.now) slot count) }
     {
         let geometry = self.words.geometry();
-        if sender as usize >= self.senders.len() || slot >= geometry.size() || count < 1 || count > 64 {
+        if sender as usize >= self.senders.len()
+            || slot >= geometry.size()
+            || count < 1
+            || count > 64
+        {
             return false;
         }
         count <= shared_word(index_of(geometry, u64::from(slot)))
@@ -87,7 +91,7 @@ impl Core {
 
     /// The offset of a slot in the sender's reservation, if the flags of so many slots from it on may be
     /// flipped.
-    pub fn flip_offset(&self, sender: u32, slot: u32, count: u32) -> Result<u32, StepFault>
+    pub(super) fn flip_offset(&self, sender: u32, slot: u32, count: u32) -> Result<u32, StepFault>
         ensures there { IfOk result (λ offset. sender < self.now.words.senders) }
         ensures few { IfOk result (λ offset. offset + count ≤ 64) }
         ensures accepted { IfOk result (λ offset. IsAccepted self.now (Flip sender slot count) (λ run. own_offset (ring_of self.now) run sender slot ≡ Some offset)) }

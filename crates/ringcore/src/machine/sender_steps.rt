@@ -11,11 +11,14 @@ use crate::machine::places::{half_of, half_of_number, index_of};
 use crate::step::Seen;
 use crate::step_fault::StepFault;
 use cmdcodec::RawList;
-use qindex::{Control, control_words_say_their_control, indexes_tell_place_and_wrap_bit, indexes_tell_the_queue};
+use qindex::{
+    Control, control_words_say_their_control, indexes_tell_place_and_wrap_bit,
+    indexes_tell_the_queue,
+};
 
 impl Core {
     /// A load of the control word.
-    pub fn sender_looks(&mut self, sender: u32) -> Result<Seen, StepFault>
+    pub(super) fn sender_looks(&mut self, sender: u32) -> Result<Seen, StepFault>
         ensures { Applies self.old self.new (Look (Some sender)) result }
     {
         if sender as usize >= self.senders.len() {
@@ -28,7 +31,7 @@ impl Core {
     }
 
     /// An or of the control word with the closed bit.
-    pub fn close(&mut self, sender: u32) -> Result<Seen, StepFault>
+    pub(super) fn close(&mut self, sender: u32) -> Result<Seen, StepFault>
         ensures { Applies self.old self.new (Close sender) result }
     {
         if sender as usize >= self.senders.len() {
@@ -40,7 +43,7 @@ impl Core {
     }
 
     /// A store of the word that the sender's reservation has for a half of the slot.
-    pub fn write(&mut self, sender: u32, slot: u32, half: u32) -> Result<Seen, StepFault>
+    pub(super) fn write(&mut self, sender: u32, slot: u32, half: u32) -> Result<Seen, StepFault>
         ensures { Applies self.old self.new (Write sender slot half) result }
     {
         let offset = self.write_offset(sender, slot, half)?;
@@ -56,7 +59,7 @@ impl Core {
     }
 
     /// An exclusive or of a flag word, for so many slots of the sender's reservation.
-    pub fn flip(&mut self, sender: u32, slot: u32, count: u32) -> Result<Seen, StepFault>
+    pub(super) fn flip(&mut self, sender: u32, slot: u32, count: u32) -> Result<Seen, StepFault>
         ensures { Applies self.old self.new (Flip sender slot count) result }
     {
         let offset = self.flip_offset(sender, slot, count)?;
@@ -72,7 +75,12 @@ impl Core {
     }
 
     /// An exchange of the control word that the sender looked at, to reserve these commands.
-    pub fn reserve(&mut self, sender: u32, body: &RawList, closes: bool) -> Result<Seen, StepFault>
+    pub(super) fn reserve(
+        &mut self,
+        sender: u32,
+        body: &RawList,
+        closes: bool,
+    ) -> Result<Seen, StepFault>
         ensures { Applies self.old self.new (Reserve sender body.now closes) result }
     {
         if sender as usize >= self.senders.len() {
@@ -94,7 +102,7 @@ impl Core {
     }
 
     /// Reserves a batch where the control word is the one that the sender looked at.
-    pub fn win(&mut self, sender: u32, body: &RawList, closes: bool, found: &Control) -> Seen
+    fn win(&mut self, sender: u32, body: &RawList, closes: bool, found: &Control) -> Seen
         requires there { sender < self.old.words.senders }
         requires accepted { IsAccepted self.old (Reserve sender body.now closes) (λ run. Finds self.old run sender found.now true) }
         ensures { Applies self.old self.new (Reserve sender body.now closes) (Ok result) }
@@ -119,7 +127,7 @@ impl Core {
     }
 
     /// Reserves nothing where the control word is another.
-    pub fn lose(&mut self, sender: u32, body: &RawList, closes: bool, found: &Control) -> Seen
+    fn lose(&mut self, sender: u32, body: &RawList, closes: bool, found: &Control) -> Seen
         requires there { sender < self.old.words.senders }
         requires accepted { IsAccepted self.old (Reserve sender body.now closes) (λ run. Finds self.old run sender found.now false) }
         ensures { Applies self.old self.new (Reserve sender body.now closes) (Ok result) }

@@ -24,8 +24,8 @@ module _ (inside outside : CoreValue) (is : inside ≡ outside) (s slot count : 
   there_inside =
       ltb-true s inside.words.senders
       (and_parts (has_sender (ring_of inside) s) (has_slot (ring_of inside) slot)
-          (and_parts (has_sender (ring_of inside) s && has_slot (ring_of inside) slot) (is_count count)
-              (and_parts (has_sender (ring_of inside) s && has_slot (ring_of inside) slot && is_count count) (share_a_word (ring_of inside) slot count) exists_inside).0).0).0
+      (and_parts (has_sender (ring_of inside) s && has_slot (ring_of inside) slot) (is_count count)
+      (and_parts (has_sender (ring_of inside) s && has_slot (ring_of inside) slot && is_count count) (share_a_word (ring_of inside) slot count) exists_inside).0).0).0
 
 pub returns-in_default-clause-refused : goal.returns-in_default-clause-refused
 returns-in_default-clause-refused c =
@@ -40,13 +40,13 @@ returns-in_default-clause-refused c =
     let same = c.geometry-geometry.ensures in
     subst (λ m. IsRefused m (Flip s slot count) c.foreign.result) c.self.view_is
     (λ run stands.
-        let known = stands.senders_know s c.index-view.result.now at in
-        flip_of_foreign (ring_of core) run s slot count exists c.slots_are_held.result c.foreign.result
-        (sym (c.offset_of.ensures.offset (ring_of core) (sym same) run s known) ∙ c.in_default.is)
-        (c.slots_are_held.ensures (ring_of core) run (sym same) (sym views ∙ ap length (sym c.as_slice.ensures.value))
-            (subst (AllKnow run) (sym c.as_slice.ensures.value) stands.senders_know)
-            ∙ ap (λ g. all_below count (λ k. slot_is_held (ring_of core) run (place g (slot + k)))) same)
-        c.foreign.ensures)
+    let known = stands.senders_know s c.index-view.result.now at in
+    flip_of_foreign (ring_of core) run s slot count exists c.slots_are_held.result c.foreign.result
+    (sym (c.offset_of.ensures.offset (ring_of core) (sym same) run s known) ∙ c.in_default.is)
+    (c.slots_are_held.ensures (ring_of core) run (sym same) (sym views ∙ ap length (sym c.as_slice.ensures.value))
+    (subst (AllKnow run) (sym c.as_slice.ensures.value) stands.senders_know)
+    ∙ ap (λ g. all_below count (λ k. slot_is_held (ring_of core) run (place g (slot + k)))) same)
+    c.foreign.ensures)
 
 pub overflow_add-first : goal.overflow_add-first
 overflow_add-first c =
@@ -87,16 +87,16 @@ returns-then-offset-count-clause-refused c =
     let same = c.geometry-geometry.ensures in
     subst (λ m. IsRefused m (Flip s slot count) c.foreign-then-offset-count.result) c.self.view_is
     (λ run stands.
-        let known = stands.senders_know s c.index-view.result.now at in
-        let many = c.len.ensures.reservation run s known in
-        let first : c.start.result + c.from.result ≡ (world run).start s + k = ap₂ (λ a b. a + b) (c.start.ensures run s known) c.from.ensures in
-        flip_past_end (ring_of core) run s slot count exists k
-        (sym (c.offset_of.ensures.offset (ring_of core) (sym same) run s known) ∙ c.in-Some.is)
-        c.positions_are_held.result c.foreign-then-offset-count.result (omega (arith, many, c.if-offset-count.true))
-        (c.positions_are_held.ensures core.words.geometry (ring_of core) run refl (sym views ∙ ap length (sym c.as_slice-then-offset-count.ensures.value))
-            (subst (AllKnow run) (sym c.as_slice-then-offset-count.ensures.value) stands.senders_know)
-            ∙ ap (λ p. all_below count (λ j. is_held (ring_of core) run (p + j))) first)
-        c.foreign-then-offset-count.ensures)
+    let known = stands.senders_know s c.index-view.result.now at in
+    let many = c.len.ensures.reservation run s known in
+    let first : c.start.result + c.from.result ≡ (world run).start s + k = ap₂ (λ a b. a + b) (c.start.ensures run s known) c.from.ensures in
+    flip_past_end (ring_of core) run s slot count exists k
+    (sym (c.offset_of.ensures.offset (ring_of core) (sym same) run s known) ∙ c.in-Some.is)
+    c.positions_are_held.result c.foreign-then-offset-count.result (omega (arith, many, c.if-offset-count.true))
+    (c.positions_are_held.ensures core.words.geometry (ring_of core) run refl (sym views ∙ ap length (sym c.as_slice-then-offset-count.ensures.value))
+    (subst (AllKnow run) (sym c.as_slice-then-offset-count.ensures.value) stands.senders_know)
+    ∙ ap (λ p. all_below count (λ j. is_held (ring_of core) run (p + j))) first)
+    c.foreign-then-offset-count.ensures)
 
 pub returns-then-any_flipped-clause-refused : goal.returns-then-any_flipped-clause-refused
 returns-then-any_flipped-clause-refused c =
@@ -112,14 +112,14 @@ returns-then-any_flipped-clause-refused c =
     let same = c.geometry-geometry.ensures in
     subst (λ m. IsRefused m (Flip s slot count) Flipped) c.self.view_is
     (λ run stands.
-        let known = stands.senders_know s c.index-view.result.now at in
-        let many = c.len.ensures.reservation run s known in
-        let inside : k + count ≤ reserved_length (trail_of (Sender s) run) = omega (arith, many, c.if-offset-count.false) in
-        let written : Bool = all_below count (λ j. has_written (k + j) Lo (trail_of (Sender s) run) && has_written (k + j) Hi (trail_of (Sender s) run)) in
-        flip_of_own (ring_of core) run s slot count exists k
-        (sym (c.offset_of.ensures.offset (ring_of core) (sym same) run s known) ∙ c.in-Some.is)
-        c.any_flipped.result written inside (c.any_flipped.ensures run s known inside) refl
-        ∙ ap (λ (b : Bool). if b then Some Flipped else if written then None else Some HalfMissing) c.if-any_flipped.true)
+    let known = stands.senders_know s c.index-view.result.now at in
+    let many = c.len.ensures.reservation run s known in
+    let inside : k + count ≤ reserved_length (trail_of (Sender s) run) = omega (arith, many, c.if-offset-count.false) in
+    let written : Bool = all_below count (λ j. has_written (k + j) Lo (trail_of (Sender s) run) && has_written (k + j) Hi (trail_of (Sender s) run)) in
+    flip_of_own (ring_of core) run s slot count exists k
+    (sym (c.offset_of.ensures.offset (ring_of core) (sym same) run s known) ∙ c.in-Some.is)
+    c.any_flipped.result written inside (c.any_flipped.ensures run s known inside) refl
+    ∙ ap (λ (b : Bool). if b then Some Flipped else if written then None else Some HalfMissing) c.if-any_flipped.true)
 
 pub returns-then-not-all_written-clause-refused : goal.returns-then-not-all_written-clause-refused
 returns-then-not-all_written-clause-refused c =
@@ -135,13 +135,13 @@ returns-then-not-all_written-clause-refused c =
     let same = c.geometry-geometry.ensures in
     subst (λ m. IsRefused m (Flip s slot count) HalfMissing) c.self.view_is
     (λ run stands.
-        let known = stands.senders_know s c.index-view.result.now at in
-        let many = c.len.ensures.reservation run s known in
-        let inside : k + count ≤ reserved_length (trail_of (Sender s) run) = omega (arith, many, c.if-offset-count.false) in
-        flip_of_own (ring_of core) run s slot count exists k
-        (sym (c.offset_of.ensures.offset (ring_of core) (sym same) run s known) ∙ c.in-Some.is)
-        c.any_flipped.result c.all_written.result inside (c.any_flipped.ensures run s known inside) (c.all_written.ensures run s known inside)
-        ∙ ap₂ (λ (b w : Bool). if b then Some Flipped else if w then None else Some HalfMissing) c.if-any_flipped.false c.if-not-all_written.true)
+    let known = stands.senders_know s c.index-view.result.now at in
+    let many = c.len.ensures.reservation run s known in
+    let inside : k + count ≤ reserved_length (trail_of (Sender s) run) = omega (arith, many, c.if-offset-count.false) in
+    flip_of_own (ring_of core) run s slot count exists k
+    (sym (c.offset_of.ensures.offset (ring_of core) (sym same) run s known) ∙ c.in-Some.is)
+    c.any_flipped.result c.all_written.result inside (c.any_flipped.ensures run s known inside) (c.all_written.ensures run s known inside)
+    ∙ ap₂ (λ (b w : Bool). if b then Some Flipped else if w then None else Some HalfMissing) c.if-any_flipped.false c.if-not-all_written.true)
 
 pub returns-clause-accepted : goal.returns-clause-accepted
 returns-clause-accepted c =
@@ -157,12 +157,12 @@ returns-clause-accepted c =
     let same = c.geometry-geometry.ensures in
     subst (λ m. IsAccepted m (Flip s slot count) (λ run. own_offset (ring_of m) run s slot ≡ Some k)) c.self.view_is
     (λ run stands.
-        let known = stands.senders_know s c.index-view.result.now at in
-        let many = c.len.ensures.reservation run s known in
-        let inside : k + count ≤ reserved_length (trail_of (Sender s) run) = omega (arith, many, c.if-offset-count.false) in
-        let own : own_offset (ring_of core) run s slot ≡ Some k = sym (c.offset_of.ensures.offset (ring_of core) (sym same) run s known) ∙ c.in-Some.is in (
-          flip_of_own (ring_of core) run s slot count exists k own
+    let known = stands.senders_know s c.index-view.result.now at in
+    let many = c.len.ensures.reservation run s known in
+    let inside : k + count ≤ reserved_length (trail_of (Sender s) run) = omega (arith, many, c.if-offset-count.false) in
+    let own : own_offset (ring_of core) run s slot ≡ Some k = sym (c.offset_of.ensures.offset (ring_of core) (sym same) run s known) ∙ c.in-Some.is in (
+      flip_of_own (ring_of core) run s slot count exists k own
           c.any_flipped.result c.all_written.result inside (c.any_flipped.ensures run s known inside) (c.all_written.ensures run s known inside)
           ∙ ap₂ (λ (b w : Bool). if b then Some Flipped else if w then None else Some HalfMissing) c.if-any_flipped.false c.if-not-all_written.false,
-          own,
-        ))
+      own,
+    ))

@@ -35,9 +35,9 @@ returns-in-Some c =
     let view = c.index-view.result.now in
     let at = slice_get_read core.senders core.words.senders s view (sym views) low c.index-view.ensures in
     let judged : (run : Run) → StandsFor core run → fault_of (ring_of core) run (Reserve s c.args.body.now c.args.closes) ≡ c.reserve_fault.result = λ run stands.
-        there_is s core.words.senders (reserve_fault (ring_of core) (trail_of (Sender s) run) c.args.body.now.items c.args.closes) low
-        ∙ sym (c.reserve_fault.ensures (ring_of core) (sym c.geometry-geometry.ensures) refl run s (stands.senders_know s view at)
-            ∙ ap (λ b. reserve_fault (ring_of core) (trail_of (Sender s) run) b c.args.closes) c.as_slice.ensures.value) in
+    there_is s core.words.senders (reserve_fault (ring_of core) (trail_of (Sender s) run) c.args.body.now.items c.args.closes) low
+    ∙ sym (c.reserve_fault.ensures (ring_of core) (sym c.geometry-geometry.ensures) refl run s (stands.senders_know s view at)
+    ∙ ap (λ b. reserve_fault (ring_of core) (trail_of (Sender s) run) b c.args.closes) c.as_slice.ensures.value) in
     (subst (λ m. IsRefused m (Reserve s c.args.body.now c.args.closes) c.in-Some.fault) c.self.view_is (λ run stands. judged run stands ∙ c.in-Some.is), refl)
 
 pub win-requires-clause-accepted : goal.win-requires-clause-accepted
@@ -50,9 +50,9 @@ win-requires-clause-accepted c =
     let view = c.index-view.result.now in
     let at = slice_get_read core.senders core.words.senders s view (sym views) low c.index-view.ensures in
     let judged : (run : Run) → StandsFor core run → fault_of (ring_of core) run (Reserve s c.args.body.now c.args.closes) ≡ c.reserve_fault.result = λ run stands.
-        there_is s core.words.senders (reserve_fault (ring_of core) (trail_of (Sender s) run) c.args.body.now.items c.args.closes) low
-        ∙ sym (c.reserve_fault.ensures (ring_of core) (sym c.geometry-geometry.ensures) refl run s (stands.senders_know s view at)
-            ∙ ap (λ b. reserve_fault (ring_of core) (trail_of (Sender s) run) b c.args.closes) c.as_slice.ensures.value) in
+    there_is s core.words.senders (reserve_fault (ring_of core) (trail_of (Sender s) run) c.args.body.now.items c.args.closes) low
+    ∙ sym (c.reserve_fault.ensures (ring_of core) (sym c.geometry-geometry.ensures) refl run s (stands.senders_know s view at)
+    ∙ ap (λ b. reserve_fault (ring_of core) (trail_of (Sender s) run) b c.args.closes) c.as_slice.ensures.value) in
     subst (λ m. IsAccepted m (Reserve s c.args.body.now c.args.closes) (λ run. Finds m run s c.control-found.result true)) c.self.view_is
     (λ run stands. (
       judged run stands ∙ c.in_default.is,
@@ -72,9 +72,9 @@ lose-requires-clause-accepted c =
     let view = c.index-view.result.now in
     let at = slice_get_read core.senders core.words.senders s view (sym views) low c.index-view.ensures in
     let judged : (run : Run) → StandsFor core run → fault_of (ring_of core) run (Reserve s c.args.body.now c.args.closes) ≡ c.reserve_fault.result = λ run stands.
-        there_is s core.words.senders (reserve_fault (ring_of core) (trail_of (Sender s) run) c.args.body.now.items c.args.closes) low
-        ∙ sym (c.reserve_fault.ensures (ring_of core) (sym c.geometry-geometry.ensures) refl run s (stands.senders_know s view at)
-            ∙ ap (λ b. reserve_fault (ring_of core) (trail_of (Sender s) run) b c.args.closes) c.as_slice.ensures.value) in
+    there_is s core.words.senders (reserve_fault (ring_of core) (trail_of (Sender s) run) c.args.body.now.items c.args.closes) low
+    ∙ sym (c.reserve_fault.ensures (ring_of core) (sym c.geometry-geometry.ensures) refl run s (stands.senders_know s view at)
+    ∙ ap (λ b. reserve_fault (ring_of core) (trail_of (Sender s) run) b c.args.closes) c.as_slice.ensures.value) in
     subst (λ m. IsAccepted m (Reserve s c.args.body.now c.args.closes) (λ run. Finds m run s c.control-found.result false)) c.self.view_is
     (λ run stands. (
       judged run stands ∙ c.in_default.is,

@@ -50,7 +50,7 @@ invariant_of-self c =
     let accepted = accepted_inside core c.args.self.now c.self.view_is s c.args.body.now c.args.closes c.args.found.now true c.requires.accepted in
     let many : c.len.result + c.from-2.result ≡ length_with c.args.closes c.args.body.now.items = counted_with c.args.closes c.args.body.now.items c.len.result c.from-2.result c.len.ensures.value c.from-2.ensures in
     let start : (run : Run) → StandsFor core run → c.taken-head.result + c.from.result ≡ tail (world run) = λ run stands.
-        ap (λ n. c.taken-head.result + n) c.from.ensures ∙ starts_at_tail c.steps_law.ensures.allowed core s c.args.body.now c.args.closes c.args.found.now accepted c.taken-head.result c.distance.result c.taken-head.ensures.head c.distance.ensures.positions run stands in
+    ap (λ n. c.taken-head.result + n) c.from.ensures ∙ starts_at_tail c.steps_law.ensures.allowed core s c.args.body.now c.args.closes c.args.found.now accepted c.taken-head.result c.distance.result c.taken-head.ensures.head c.distance.ensures.positions run stands in
     won_machine c.steps_law.ensures.allowed core s c.args.body.now c.args.closes c.args.found.now accepted
     c.indexes_tell_the_queue.ensures.queue c.reserve_won.ensures low c.forward.result (c.len.result + c.from-2.result) many c.forward.ensures.value
     c.exchange.new.self (λ now. (c.exchange.ensures.won now).1) before at (c.taken-head.result + c.from.result) start
@@ -67,7 +67,7 @@ returns c =
     let accepted = accepted_inside core c.args.self.now c.self.view_is s c.args.body.now c.args.closes c.args.found.now true c.requires.accepted in
     let many : c.len.result + c.from-2.result ≡ length_with c.args.closes c.args.body.now.items = counted_with c.args.closes c.args.body.now.items c.len.result c.from-2.result c.len.ensures.value c.from-2.ensures in
     let start : (run : Run) → StandsFor core run → c.taken-head.result + c.from.result ≡ tail (world run) = λ run stands.
-        ap (λ n. c.taken-head.result + n) c.from.ensures ∙ starts_at_tail c.steps_law.ensures.allowed core s c.args.body.now c.args.closes c.args.found.now accepted c.taken-head.result c.distance.result c.taken-head.ensures.head c.distance.ensures.positions run stands in
+    ap (λ n. c.taken-head.result + n) c.from.ensures ∙ starts_at_tail c.steps_law.ensures.allowed core s c.args.body.now c.args.closes c.args.found.now accepted c.taken-head.result c.distance.result c.taken-head.ensures.head c.distance.ensures.positions run stands in
     subst (λ old. Applies old (record core { words = c.exchange.new.self; senders = slice_set core.senders s c.wins-number.new.self }) (Reserve s c.args.body.now c.args.closes) (Ok (Reserved c.args.found.now.prod c.wins-number.result))) c.self.view_is
     (won_taken c.steps_law.ensures.allowed core s c.args.body.now c.args.closes c.args.found.now accepted
     c.indexes_tell_the_queue.ensures.queue c.reserve_won.ensures low c.forward.result (c.len.result + c.from-2.result) many c.forward.ensures.value

@@ -21,12 +21,12 @@ returns-in_default-clause-refused c =
     let at = slice_get_read core.senders core.words.senders s c.index-view.result.now (sym views) low c.index-view.ensures in
     subst (λ m. IsRefused m (Write s slot c.args.half) c.foreign.result) c.self.view_is
     (λ run stands.
-        let known = stands.senders_know s c.index-view.result.now at in
-        write_of_foreign (ring_of core) run s c.index-view.result.now known slot low slot_there c.args.half c.if-half-ge2.false c.slot_is_held.result c.foreign.result
-        (sym (c.offset_of.ensures.offset (ring_of core) (sym c.geometry-geometry.ensures) run s known) ∙ c.in_default.is)
-        (c.slot_is_held.ensures (ring_of core) run (sym c.geometry-geometry.ensures) (sym views ∙ ap length (sym c.as_slice.ensures.value))
-            (subst (AllKnow run) (sym c.as_slice.ensures.value) stands.senders_know))
-        c.foreign.ensures)
+    let known = stands.senders_know s c.index-view.result.now at in
+    write_of_foreign (ring_of core) run s c.index-view.result.now known slot low slot_there c.args.half c.if-half-ge2.false c.slot_is_held.result c.foreign.result
+    (sym (c.offset_of.ensures.offset (ring_of core) (sym c.geometry-geometry.ensures) run s known) ∙ c.in_default.is)
+    (c.slot_is_held.ensures (ring_of core) run (sym c.geometry-geometry.ensures) (sym views ∙ ap length (sym c.as_slice.ensures.value))
+    (subst (AllKnow run) (sym c.as_slice.ensures.value) stands.senders_know))
+    c.foreign.ensures)
 
 pub any_flipped-requires : goal.any_flipped-requires
 any_flipped-requires c = let below = c.in-Some.ensures.inside.1 in omega (arith, below)
@@ -43,11 +43,11 @@ returns-then-any_flipped-clause-refused c =
     let at = slice_get_read core.senders core.words.senders s c.index-view.result.now (sym views) low c.index-view.ensures in
     subst (λ m. IsRefused m (Write s slot c.args.half) Flipped) c.self.view_is
     (λ run stands.
-        let known = stands.senders_know s c.index-view.result.now at in
-        write_of_own (ring_of core) run s c.index-view.result.now known slot low slot_there c.args.half c.if-half-ge2.false c.in-Some.offset c.any_flipped.result
-        (sym (c.offset_of.ensures.offset (ring_of core) (sym c.geometry-geometry.ensures) run s known) ∙ c.in-Some.is)
-        c.in-Some.ensures.inside.0 (c.any_flipped.ensures run s known)
-        ∙ ap (λ (b : Bool). if b then Some Flipped else None) c.if-any_flipped.true)
+    let known = stands.senders_know s c.index-view.result.now at in
+    write_of_own (ring_of core) run s c.index-view.result.now known slot low slot_there c.args.half c.if-half-ge2.false c.in-Some.offset c.any_flipped.result
+    (sym (c.offset_of.ensures.offset (ring_of core) (sym c.geometry-geometry.ensures) run s known) ∙ c.in-Some.is)
+    c.in-Some.ensures.inside.0 (c.any_flipped.ensures run s known)
+    ∙ ap (λ (b : Bool). if b then Some Flipped else None) c.if-any_flipped.true)
 
 pub returns-clause-accepted : goal.returns-clause-accepted
 returns-clause-accepted c =
@@ -61,11 +61,11 @@ returns-clause-accepted c =
     let at = slice_get_read core.senders core.words.senders s c.index-view.result.now (sym views) low c.index-view.ensures in
     subst (λ m. IsAccepted m (Write s slot c.args.half) (λ run. own_offset (ring_of m) run s slot ≡ Some c.in-Some.offset)) c.self.view_is
     (λ run stands.
-        let known = stands.senders_know s c.index-view.result.now at in
-        let own : own_offset (ring_of core) run s slot ≡ Some c.in-Some.offset =
-            sym (c.offset_of.ensures.offset (ring_of core) (sym c.geometry-geometry.ensures) run s known) ∙ c.in-Some.is in (
-          write_of_own (ring_of core) run s c.index-view.result.now known slot low slot_there c.args.half c.if-half-ge2.false c.in-Some.offset c.any_flipped.result
+    let known = stands.senders_know s c.index-view.result.now at in
+    let own : own_offset (ring_of core) run s slot ≡ Some c.in-Some.offset =
+    sym (c.offset_of.ensures.offset (ring_of core) (sym c.geometry-geometry.ensures) run s known) ∙ c.in-Some.is in (
+      write_of_own (ring_of core) run s c.index-view.result.now known slot low slot_there c.args.half c.if-half-ge2.false c.in-Some.offset c.any_flipped.result
           own c.in-Some.ensures.inside.0 (c.any_flipped.ensures run s known)
           ∙ ap (λ (b : Bool). if b then Some Flipped else None) c.if-any_flipped.false,
-          own,
-        ))
+      own,
+    ))
