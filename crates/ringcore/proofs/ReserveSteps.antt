@@ -1,11 +1,11 @@
 -- What a reserve makes of a machine, won or lost.
-use Rattle.std.proofs.Common.{◌≡◌, ℕ, ◌+◌, ◌-◌, ◌^◌, ◌<◌, ◌≤◌, Bool, true, false, Option, Some, None, List, ◌∷◌, length, length-set, refl, sym, ap, ap₂, ◌∙◌, subst, arith}
+use Rattle.std.proofs.Common.{◌≡◌, ℕ, ◌+◌, ◌-◌, ◌^◌, ◌<◌, ◌≤◌, Bool, true, false, Option, Some, List, ◌∷◌, length, length-set, refl, sym, ap, ap₂, ◌∙◌, subst, arith}
 use Rattle.std.specs.Prelude.{slice_get, slice_set, if◌then◌else◌}
 use Rattle.std.specs.Int.{from_bool}
 use Rattle.arrayvec.specs.ArrayVec.{ArrayVec}
 use Rattle.cmdcodec.specs.declared.raw.Raw.{Raw}
 use Rattle.qindex.specs.declared.control.Control.{Control}
-use Rattle.qindex.specs.Positions.{IndexValue, size, index_of}
+use Rattle.qindex.specs.Positions.{IndexValue, index_of}
 use Rattle.qindex.specs.Indexes.{IsQueue, distance}
 use Rattle.qindex.specs.ControlWord.{packed}
 use Rattle.qindex.specs.Laws.{IndexesTellTheQueue}
@@ -16,8 +16,8 @@ use Rattle.ringcore.specs.declared.event.Event.TheVariants as event
 use Rattle.ringcore.specs.declared.step.Step.TheVariants.{Reserve}
 use Rattle.ringcore.specs.declared.step.Seen.TheVariants as seen
 use Rattle.ringcore.specs.Trails.{Run, trail_of, looked, batch_length}
-use Rattle.ringcore.specs.World.{tail, head, world, control}
-use Rattle.ringcore.specs.Allowed.{MayTry, MayWin, Allowed, IsRun, length_with}
+use Rattle.ringcore.specs.World.{tail, head, world}
+use Rattle.ringcore.specs.Allowed.{MayTry, MayWin, IsRun, length_with}
 use Rattle.ringcore.specs.Layout.{control_word}
 use Rattle.ringcore.specs.Shadow.{shape, AreAfter}
 use Rattle.ringcore.specs.Steps.{Always, WinsByAnExchange}

@@ -1,13 +1,12 @@
 -- The steps of senders that reserve, write and flip nothing: a machine that took one stands for the longer run.
-use Rattle.std.proofs.Common.{◌≡◌, ℕ, ◌<◌, true, List, ◌∷◌, Some, None, refl, sym, ap, ap₂, ◌∙◌, subst, length-set}
+use Rattle.std.proofs.Common.{◌≡◌, ℕ, ◌<◌, ◌∷◌, Some, None, refl, sym, ap, ◌∙◌, subst, length-set}
 use Rattle.std.proofs.lemmas.Bool.{lt-ltb}
-use Rattle.std.specs.Prelude.{Bool, Option, nat_lt, bit_or, slice_get, slice_set}
+use Rattle.std.specs.Prelude.{Option, nat_lt, bit_or, slice_get, slice_set}
 use Rattle.qindex.specs.declared.control.Control.{Control}
 use Rattle.qindex.specs.ControlWord.{close_mask}
 use Rattle.ringcore.specs.declared.event.Who.TheVariants.{Sender}
 use Rattle.ringcore.specs.declared.event.Event.TheVariants as event
 use Rattle.ringcore.specs.declared.step.Step.TheVariants.{Look, Close}
-use Rattle.ringcore.specs.declared.step.Seen.{Seen}
 use Rattle.ringcore.specs.declared.step.Seen.TheVariants.{Word}
 use Rattle.ringcore.specs.declared.step_fault.StepFault.{StepFault}
 use Rattle.ringcore.specs.Trails.{Run}
@@ -18,7 +17,7 @@ use Rattle.ringcore.specs.Stores.{WordsValue, word_at, with_word}
 use Rattle.ringcore.specs.Shadow.{Ring, AreAfter}
 use Rattle.ringcore.specs.Views.{SenderValue, Knows}
 use Rattle.ringcore.specs.Faults.{unless_missing}
-use Rattle.ringcore.specs.Machine.{CoreValue, ring_with, ring_of, AllKnow, StandsFor, IsMachine, IsTaken}
+use Rattle.ringcore.specs.Machine.{CoreValue, ring_with, ring_of, StandsFor, IsMachine, IsTaken}
 use Rattle.ringcore.proofs.Known.{closed}
 use Rattle.ringcore.proofs.Standing.{sender_stands, stays_machine, all_know, all_left}
 

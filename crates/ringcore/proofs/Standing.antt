@@ -1,13 +1,12 @@
 -- What stands of a machine after an event of a sender.
-use Rattle.std.proofs.Common.{◌≡◌, ◌≢◌, ℕ, zero, suc, ◌^◌, ◌<◌, ◌≤◌, false, List, [], ◌∷◌, length, Some, ◌⊎◌, inl, inr, refl, sym, ap, ap₂, ◌∙◌, subst, arith}
+use Rattle.std.proofs.Common.{◌≡◌, ◌≢◌, ℕ, zero, suc, ◌^◌, ◌<◌, ◌≤◌, false, List, [], ◌∷◌, length, Some, ◌⊎◌, inl, inr, refl, sym, ap, ◌∙◌, subst, arith}
 use Rattle.std.proofs.lemmas.Bool.{cases_eq}
 use Rattle.std.specs.Prelude.{None, Option, slice_get, slice_set}
 use Rattle.std.specs.Option.{SomeIff, IsSome}
 use Rattle.qindex.specs.declared.control.Control.{Control}
 use Rattle.qindex.specs.ControlWord.{control_in}
 use Rattle.qindex.specs.Laws.{QueuesHaveAControl, WordsSayTheirControl}
-use Rattle.ringcore.specs.declared.event.Who.{Who}
-use Rattle.ringcore.specs.declared.event.Who.TheVariants.{Consumer, Sender}
+use Rattle.ringcore.specs.declared.event.Who.TheVariants.{Sender}
 use Rattle.ringcore.specs.declared.event.Event.{Event}
 use Rattle.ringcore.specs.declared.event.Event.TheVariants.{Look, Won, Lost, Write, Flip, Test, Read, Advance, Close, Acknowledge, Ask}
 use Rattle.ringcore.specs.Trails.{Trail, Run, trail_of}

@@ -1,15 +1,15 @@
 -- The steps of the consumer: a machine that took one stands for the longer run.
 use Rattle.std.proofs.Common.{◌≡◌, ℕ, zero, suc, ◌+◌, ◌<◌, ◌≤◌, Bool, true, false, ◌==◌, ◌&&◌, ◌||◌, List, ◌∷◌, Option, Some, None, refl, sym, ap, ap₂, ◌∙◌, subst, inl, inr, eq-eqb, arith}
-use Rattle.std.proofs.lemmas.Bool.{cases_lt, cases_eq, lt-ltb, le-ltb}
+use Rattle.std.proofs.lemmas.Bool.{cases_lt, cases_eq, lt-ltb}
 use Rattle.std.specs.Prelude.{slice_get, slice_index, nat_lt, if◌then◌else◌}
 use Rattle.cmdcodec.specs.Opcodes.{opcode_of}
-use Rattle.ringcore.specs.declared.event.Who.TheVariants.{Consumer, Sender}
+use Rattle.ringcore.specs.declared.event.Who.TheVariants.{Consumer}
 use Rattle.ringcore.specs.declared.event.Event.{Event}
 use Rattle.ringcore.specs.declared.event.Event.TheVariants as event
-use Rattle.ringcore.specs.declared.step.Step.TheVariants.{Test, Acknowledge, Ask}
-use Rattle.ringcore.specs.declared.step.Seen.TheVariants.{Ready, Acknowledged, Done}
+use Rattle.ringcore.specs.declared.step.Step.TheVariants.{Test, Acknowledge}
+use Rattle.ringcore.specs.declared.step.Seen.TheVariants.{Ready, Acknowledged}
 use Rattle.ringcore.specs.declared.step_fault.StepFault.{StepFault}
-use Rattle.ringcore.specs.declared.step_fault.StepFault.TheVariants.{NotNext, NoSuchPlace}
+use Rattle.ringcore.specs.declared.step_fault.StepFault.TheVariants.{NotNext}
 use Rattle.ringcore.specs.Trails.{Run, trail_of}
 use Rattle.ringcore.specs.World.{Item, World, sync_raw, head, world}
 use Rattle.ringcore.specs.Allowed.{Shape, FindsReady, SyncIsTaken}
@@ -17,7 +17,7 @@ use Rattle.ringcore.specs.Layout.{flag_word, cell}
 use Rattle.ringcore.specs.Flags.{IsReadyRun}
 use Rattle.ringcore.specs.Laws.{OnlyOf, syncs_taken, EveryRun, AcknowledgedAreTaken, SyncsAreCounted, NumbersAreFew}
 use Rattle.ringcore.specs.Shadow.{shape, AreAfter}
-use Rattle.ringcore.specs.Steps.{Always, TestsByALoad, AcknowledgesByAStore, AsksByALoad}
+use Rattle.ringcore.specs.Steps.{Always, TestsByALoad, AcknowledgesByAStore}
 use Rattle.ringcore.specs.Stores.{WordsValue, with_word}
 use Rattle.ringcore.specs.ConsumerViews.{ConsumerValue, ConsumerKnows}
 use Rattle.ringcore.specs.SyncTallies.{AreTallies}
@@ -28,9 +28,9 @@ use Rattle.ringcore.specs.Played.{StepsAreAllowed}
 use Rattle.ringcore.specs.Machine.{CoreValue, ring_with, ring_of, StandsFor, IsMachine, WhereItStands, IsTaken}
 use Rattle.ringcore.proofs.ConsumerKnown.{acknowledgement_leaves}
 use Rattle.ringcore.proofs.Below.{or_true}
-use Rattle.ringcore.proofs.Known.{others, asked}
+use Rattle.ringcore.proofs.Known.{others}
 use Rattle.ringcore.proofs.Lists.{off}
-use Rattle.ringcore.proofs.Standing.{sender_stands, stays_machine, all_left}
+use Rattle.ringcore.proofs.Standing.{stays_machine}
 use Rattle.ringcore.proofs.Syncs.{sync_opcode}
 use Rattle.ringcore.proofs.Tallies.{others_dont_count}
 

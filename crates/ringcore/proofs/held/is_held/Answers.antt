@@ -1,6 +1,5 @@
 use Rattle.std.proofs.Common.{◌≡◌, ◌<◌, true, false, length, refl, sym, ◌∙◌, subst, arith}
 use Rattle.std.proofs.lemmas.Option.{slice_get_read}
-use Rattle.std.specs.Prelude.{◌||◌}
 use Rattle.ringcore.specs.Open.{some_below, holds}
 use Rattle.ringcore.proofs.HeldPlaces.{some_there, none_further}
 use Rattle.ringcore.proofs.held.is_held.Goals as goal

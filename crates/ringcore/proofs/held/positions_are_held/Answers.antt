@@ -1,5 +1,4 @@
 use Rattle.std.proofs.Common.{◌≡◌, ◌+◌, true, false, sym, ap, ◌∙◌, subst, arith}
-use Rattle.std.specs.Prelude.{◌&&◌}
 use Rattle.ringcore.specs.Open.{all_below, is_held}
 use Rattle.ringcore.proofs.HeldPlaces.{not_all, all_further}
 use Rattle.ringcore.proofs.held.positions_are_held.Goals as goal

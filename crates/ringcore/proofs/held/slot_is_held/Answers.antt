@@ -1,7 +1,7 @@
-use Rattle.std.proofs.Common.{◌≡◌, ◌<◌, true, false, length, refl, sym, ap, ap₂, ◌∙◌, subst, arith}
+use Rattle.std.proofs.Common.{◌≡◌, ◌<◌, true, false, length, refl, sym, ap, ◌∙◌, subst}
 use Rattle.std.proofs.lemmas.Option.{slice_get_read}
-use Rattle.std.specs.Prelude.{is_some, ◌||◌}
-use Rattle.ringcore.specs.Open.{some_below, holds_slot}
+use Rattle.std.specs.Prelude.{is_some}
+use Rattle.ringcore.specs.Open.{holds_slot}
 use Rattle.ringcore.proofs.HeldPlaces.{some_there, none_further, holds_where}
 use Rattle.ringcore.proofs.held.slot_is_held.Goals as goal
 

@@ -1,5 +1,5 @@
 use Rattle.std.proofs.Common.{◌≡◌, ◌+◌, true, false, sym, ap, ◌∙◌, subst, arith}
-use Rattle.std.specs.Prelude.{◌&&◌, ◌%◌}
+use Rattle.std.specs.Prelude.{◌%◌}
 use Rattle.qindex.specs.Positions.{place}
 use Rattle.ringcore.specs.Open.{all_below, slot_is_held}
 use Rattle.ringcore.proofs.HeldPlaces.{not_all, all_further}

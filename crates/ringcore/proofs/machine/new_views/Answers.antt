@@ -1,4 +1,4 @@
-use Rattle.std.proofs.Common.{◌≡◌, ◌+◌, ◌∷◌, [], length, length-append, sym, ap, ◌∙◌, subst, arith}
+use Rattle.std.proofs.Common.{◌∷◌, [], length, length-append, sym, ap, subst, arith}
 use Rattle.ringcore.specs.Machine.{AllKnow}
 use Rattle.ringcore.proofs.PlayedSteps.{one_more_knows}
 use Rattle.ringcore.proofs.machine.new_views.Goals as goal

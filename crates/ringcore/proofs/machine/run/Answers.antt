@@ -1,7 +1,7 @@
-use Rattle.std.proofs.Common.{◌≡◌, ◌<◌, ◌≤◌, ◌∙◌, Some, refl, sym, ap, subst, drop, arith}
+use Rattle.std.proofs.Common.{◌≡◌, ◌∙◌, sym, ap, subst}
 use Rattle.std.proofs.lemmas.List.{drop_all}
 use Rattle.ringcore.specs.Played.{played}
-use Rattle.ringcore.specs.Machine.{CoreValue, ring_with, ring_of, StandsFor}
+use Rattle.ringcore.specs.Machine.{ring_with, ring_of, StandsFor}
 use Rattle.ringcore.proofs.PlayedSteps.{reaches_further, stops_there, ends, delivered}
 use Rattle.ringcore.proofs.machine.run.Goals as goal
 

@@ -1,4 +1,4 @@
-use Rattle.std.proofs.Common.{◌≡◌, ◌<◌, ◌∙◌, refl, ap, sym, subst, arith}
+use Rattle.std.proofs.Common.{◌≡◌, ◌<◌, subst, arith}
 use Rattle.ringcore.specs.declared.step.Step.TheVariants.{Close}
 use Rattle.ringcore.specs.declared.step.Seen.TheVariants.{Word}
 use Rattle.ringcore.specs.Machine.{CoreValue, ring_of, IsTaken}

@@ -1,4 +1,4 @@
-use Rattle.std.proofs.Common.{◌≡◌, ℕ, ◌<◌, ◌≤◌, ◌+◌, refl, sym, ap, ap₂, ◌∙◌, subst, arith}
+use Rattle.std.proofs.Common.{◌≡◌, ℕ, ◌<◌, ◌+◌, sym, ap, ap₂, ◌∙◌, subst, arith}
 use Rattle.std.proofs.lemmas.Option.{slice_get_read}
 use Rattle.std.specs.Prelude.{Some, Ok, slice_set}
 use Rattle.qindex.specs.Positions.{index_of}
@@ -7,7 +7,7 @@ use Rattle.ringcore.specs.declared.step.Seen.TheVariants.{Flipped}
 use Rattle.ringcore.specs.Answers.{new_flags}
 use Rattle.ringcore.specs.Open.{own_offset}
 use Rattle.ringcore.specs.Machine.{CoreValue, ring_of, Applies, IsAccepted}
-use Rattle.ringcore.proofs.FlipSteps.{flip_some, flip_short, flip_fits, flip_shares, flipped_machine, flip_taken}
+use Rattle.ringcore.proofs.FlipSteps.{flip_fits, flip_shares, flipped_machine, flip_taken}
 use Rattle.ringcore.proofs.machine.Core.flip.Goals as goal
 
 module _ (inside outside : CoreValue) (is : inside ≡ outside) (s : ℕ) where

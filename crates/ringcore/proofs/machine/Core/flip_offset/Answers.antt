@@ -11,7 +11,7 @@ use Rattle.ringcore.specs.declared.step.Step.TheVariants.{Flip}
 use Rattle.ringcore.specs.declared.step_fault.StepFault.TheVariants.{Flipped, HalfMissing}
 use Rattle.ringcore.specs.Open.{all_below, is_held, slot_is_held, own_offset}
 use Rattle.ringcore.specs.Faults.{has_sender, has_slot, is_count, share_a_word}
-use Rattle.ringcore.specs.Machine.{CoreValue, ring_of, AllKnow, StandsFor, IsRefused, IsAccepted}
+use Rattle.ringcore.specs.Machine.{CoreValue, ring_of, AllKnow, IsRefused, IsAccepted}
 use Rattle.ringcore.proofs.FlipSteps.{has_run, flip_of_foreign, flip_past_end, flip_of_own}
 use Rattle.ringcore.proofs.Standing.{start_fits}
 use Rattle.ringcore.proofs.machine.Core.flip_offset.Goals as goal

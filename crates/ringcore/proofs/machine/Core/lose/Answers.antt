@@ -1,9 +1,9 @@
-use Rattle.std.proofs.Common.{◌≡◌, ◌+◌, ◌<◌, ℕ, true, false, refl, sym, ap, ap₂, ◌∙◌, subst, arith}
+use Rattle.std.proofs.Common.{◌<◌, false, sym, subst}
 use Rattle.std.proofs.lemmas.Option.{slice_get_read}
-use Rattle.std.specs.Prelude.{Some, Ok, slice_set}
+use Rattle.std.specs.Prelude.{Ok, slice_set}
 use Rattle.ringcore.specs.declared.step.Step.TheVariants.{Reserve}
-use Rattle.ringcore.specs.declared.step.Seen.TheVariants.{Reserved, Lost}
-use Rattle.ringcore.specs.Machine.{CoreValue, ring_of, Applies}
+use Rattle.ringcore.specs.declared.step.Seen.TheVariants.{Lost}
+use Rattle.ringcore.specs.Machine.{CoreValue, Applies}
 use Rattle.ringcore.proofs.ReserveSteps.{accepted_inside, lost_machine, lost_taken}
 use Rattle.ringcore.proofs.machine.Core.lose.Goals as goal
 

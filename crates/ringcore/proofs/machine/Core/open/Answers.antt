@@ -2,7 +2,7 @@ use Rattle.std.proofs.Common.{◌≡◌, ◌≤◌, ℕ, [], sym, ap, ◌∙◌,
 use Rattle.std.proofs.lemmas.List.{length-replicate}
 use Rattle.qindex.specs.Indexes.{IsGeometry}
 use Rattle.ringcore.specs.Stores.{WordsValue}
-use Rattle.ringcore.specs.Machine.{CoreValue, ring_of}
+use Rattle.ringcore.specs.Machine.{CoreValue}
 use Rattle.ringcore.proofs.PlayedSteps.{opened}
 use Rattle.ringcore.proofs.machine.Core.open.Goals as goal
 

@@ -1,11 +1,10 @@
-use Rattle.std.proofs.Common.{◌≡◌, ◌<◌, ◌+◌, ℕ, refl, sym, ap, ap₂, ◌∙◌, subst, arith}
+use Rattle.std.proofs.Common.{◌≡◌, ◌<◌, ◌+◌, ℕ, sym, ap, ap₂, ◌∙◌, subst, arith}
 use Rattle.std.proofs.lemmas.Option.{slice_get_read}
-use Rattle.std.specs.Prelude.{Some, Ok, slice_get, slice_set}
+use Rattle.std.specs.Prelude.{Some, Ok, slice_set}
 use Rattle.qindex.specs.Positions.{index_of}
 use Rattle.ringcore.specs.declared.step.Step.TheVariants.{Write}
 use Rattle.ringcore.specs.declared.step.Seen.TheVariants.{Written}
 use Rattle.ringcore.specs.Layout.{data_word}
-use Rattle.ringcore.specs.World.{half_of}
 use Rattle.ringcore.specs.Stores.{with_word}
 use Rattle.ringcore.specs.Open.{own_offset}
 use Rattle.ringcore.specs.Machine.{CoreValue, ring_of, Applies, IsAccepted}
