@@ -2,9 +2,10 @@
 use Rattle.std.specs.Prelude.{◌≡◌, ◌≢◌, ℕ, List, ◌++◌, ◌⊎◌, true, false, Option, codes, ⊤}
 use Rattle.std.specs.Io.KnownBytes.{Appends, Keeps}
 use Rattle.script.specs.Writing.{no_memory_line}
-use Rattle.smmuq.specs.declared.status.Status.{Status}
-use Rattle.smmuq.specs.declared.status.Status.TheVariants.{Good, Refused, NoMemory, Failed}
-use Rattle.smmuq.specs.Replay.{exit_status, ExitsAsReplay}
+use Rattle.script.specs.declared.status.Status.{Status}
+use Rattle.script.specs.declared.status.Status.TheVariants.{Good, Refused, NoMemory, Failed}
+use Rattle.script.specs.Statuses.{exit_status}
+use Rattle.smmuq.specs.Replay.{ExitsAsReplay}
 use Rattle.smmuq.specs.DecodeText.{decode_text}
 
 -- the line that says what a word means

@@ -7,9 +7,9 @@ ghost use Rattle.smmuq.specs.Program.{Decodes, ExitsAsDecode, ExitsAsTold, Exits
 
 use crate::decode::decode_text;
 use crate::serving::replay;
-use crate::status::Status;
 use clap::error::ErrorKind;
 use clap::{Arg, Command, Error};
+use script::Status;
 use std::alloc::{AllocError, Global};
 use std::io;
 use std::io::{Read, Write};
