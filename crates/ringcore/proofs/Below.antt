@@ -18,7 +18,7 @@ and_swap true false c = refl
 and_swap false true c = refl
 and_swap false false c = refl
 
-or_true : (a : Bool) → (a || true) ≡ true
+pub or_true : (a : Bool) → (a || true) ≡ true
 or_true true = refl
 or_true false = refl
 

@@ -165,7 +165,7 @@ module _ (alike : IndexesTellPlaceAndWrapBit) (g p q : ℕ) (is : index_of g p �
   alike_first : flag_word g p ≡ flag_word g q
   alike_first = ap (flag_word g) (sym (add-zero p)) ∙ alike_word 0 ∙ ap (flag_word g) (add-zero q)
 
-  alike_shares : (count : ℕ) → ShareAWord g p count → ShareAWord g q count
+  pub alike_shares : (count : ℕ) → ShareAWord g p count → ShareAWord g q count
   alike_shares count shares offset among = sym (alike_word offset) ∙ shares offset among ∙ alike_first
 
   alike_back : (count : ℕ) → ShareAWord g q count → ShareAWord g p count

@@ -66,7 +66,7 @@ one_below (suc n) f some = by_last (one_below n f) (f n) refl some
     by_last rest true is some = (n, (omega arith, is))
     by_last rest false is some = let r = rest some in (r.0, (let l = r.1.0 in omega (arith, l), r.1.1))
 
-first_is : (n : ℕ) (f : ℕ → Bool) (k : ℕ) → first_below n f ≡ Some k → (k < n) × (f k ≡ true)
+pub first_is : (n : ℕ) (f : ℕ → Bool) (k : ℕ) → first_below n f ≡ Some k → (k < n) × (f k ≡ true)
 first_is zero f k e = none_some k e
 first_is (suc n) f k e = by_front (first_is n f k) (some_below n f) (f n) refl e
   where
@@ -78,7 +78,7 @@ first_is (suc n) f k e = by_front (first_is n f k) (some_below n f) (f n) refl e
 
 -- ---- faults that don't apply
 
-exists : (v : Bool) (later : Option StepFault) → unless_missing v later ≡ None → (v ≡ true) × (later ≡ None)
+pub exists : (v : Bool) (later : Option StepFault) → unless_missing v later ≡ None → (v ≡ true) × (later ≡ None)
 exists true later e = (refl, e)
 exists false later e = absurd (cc)
 
@@ -110,7 +110,7 @@ body_is body is =
       no_sync = no_sync_in body (not-true (list_any (λ raw. opcode_of raw == 0x46) body) a.1);
     }
 
-length_is : (mine : Trail) (body : List Raw) (closes : Bool) → batch_length body (next_number mine closes) ≡ length_with closes body
+pub length_is : (mine : Trail) (body : List Raw) (closes : Bool) → batch_length body (next_number mine closes) ≡ length_with closes body
 length_is mine body true = refl
 length_is mine body false = refl
 
@@ -377,7 +377,7 @@ module _ (ring : Ring) (run : Run) (ok : IsRun (shape ring) run) where
   next_at (x ∷ items) (suc h) count j raw at =
       let r = next_at items h count j raw at in (r.0, (ap (slice_get (x ∷ items)) (let z : suc h + j ≡ suc (h + j) = omega arith in z) ∙ r.1.0, r.1.1))
 
-  as_many : (items : List Item) (h count : ℕ) → h + count ≤ length items → length (map (λ (item : Item). item.raw) (take count (drop h items))) ≡ count
+  pub as_many : (items : List Item) (h count : ℕ) → h + count ≤ length items → length (map (λ (item : Item). item.raw) (take count (drop h items))) ≡ count
   as_many items zero zero le = refl
   as_many [] zero (suc count) le = absurd (omega (arith, le))
   as_many (x ∷ items) zero (suc count) le = ap suc (as_many items zero count (omega (arith, le)))

@@ -23,6 +23,7 @@ pub mod FlagPlaces
 pub mod MaskLemmas
 pub mod ReadyLemmas
 pub mod SyncCounts
+pub mod FewNumbers
 pub mod Judged
 pub mod ConsumerKnown
 pub mod Tallies
@@ -32,3 +33,10 @@ pub mod Turned
 pub mod Known
 pub mod Standing
 pub mod SenderSteps
+pub mod HeldPlaces
+pub mod WriteSteps
+pub mod FlipSteps
+pub mod ReserveSteps
+pub mod TakenSteps
+pub mod ReadSteps
+pub mod AdvanceSteps

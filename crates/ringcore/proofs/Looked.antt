@@ -14,7 +14,7 @@ use Rattle.ringcore.specs.Allowed.{Shape, Allowed, IsRun}
 use Rattle.ringcore.proofs.Lists.{off, some_one, none_some}
 use Rattle.ringcore.proofs.Sound.{sound}
 
-same_is : (u v : Who) → same u v ≡ true → u ≡ v
+pub same_is : (u v : Who) → same u v ≡ true → u ≡ v
 same_is Consumer Consumer e = refl
 same_is Consumer (Sender t) e = off e
 same_is (Sender s) Consumer e = off e

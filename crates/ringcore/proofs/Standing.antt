@@ -1,5 +1,5 @@
 -- What stands of a machine after an event of a sender.
-use Rattle.std.proofs.Common.{◌≡◌, ◌≢◌, ℕ, zero, suc, ◌<◌, false, List, [], ◌∷◌, length, Some, ◌⊎◌, inl, inr, refl, sym, ap, ap₂, ◌∙◌, subst}
+use Rattle.std.proofs.Common.{◌≡◌, ◌≢◌, ℕ, zero, suc, ◌^◌, ◌<◌, ◌≤◌, false, List, [], ◌∷◌, length, Some, ◌⊎◌, inl, inr, refl, sym, ap, ap₂, ◌∙◌, subst, arith}
 use Rattle.std.proofs.lemmas.Bool.{cases_eq}
 use Rattle.std.specs.Prelude.{None, Option, slice_get, slice_set}
 use Rattle.std.specs.Option.{SomeIff, IsSome}
@@ -11,7 +11,7 @@ use Rattle.ringcore.specs.declared.event.Who.TheVariants.{Consumer, Sender}
 use Rattle.ringcore.specs.declared.event.Event.{Event}
 use Rattle.ringcore.specs.declared.event.Event.TheVariants.{Look, Won, Lost, Write, Flip, Test, Read, Advance, Close, Acknowledge, Ask}
 use Rattle.ringcore.specs.Trails.{Trail, Run, trail_of}
-use Rattle.ringcore.specs.World.{World, world, control}
+use Rattle.ringcore.specs.World.{World, tail, world, control}
 use Rattle.ringcore.specs.Allowed.{Shape, Allowed}
 use Rattle.ringcore.specs.Laws.{OnlyOf}
 use Rattle.ringcore.specs.Layout.{control_word}
@@ -20,9 +20,11 @@ use Rattle.ringcore.specs.Stores.{WordsValue, word_at}
 use Rattle.ringcore.specs.Views.{SenderValue, Knows}
 use Rattle.ringcore.specs.SyncTallies.{is_advance}
 use Rattle.ringcore.specs.Machine.{CoreValue, ring_with, ring_of, AllKnow, StandsFor, IsMachine}
+use Rattle.ringcore.proofs.Bound.{reserved_bound}
 use Rattle.ringcore.proofs.ConsumerKnown.{senders_leave}
 use Rattle.ringcore.proofs.Known.{others}
 use Rattle.ringcore.proofs.Lists.{some_one}
+use Rattle.ringcore.proofs.Sound.{sound}
 use Rattle.ringcore.proofs.Stored.{found_is}
 use Rattle.ringcore.proofs.Tallies.{others_dont_count}
 
@@ -96,11 +98,18 @@ pub stays_machine : (old new : CoreValue) → IsMachine old → ring_of new ≡ 
     → length new.senders ≡ length old.senders → length new.tallies ≡ length old.tallies
     → (run : Run) → StandsFor new run → IsMachine new
 stays_machine old new is ring views counts run stands = record {
+  few = subst (λ r. r.senders ≤ 256) (sym ring) is.few;
   views = views ∙ is.views ∙ sym (ap (λ r. r.senders) ring);
   counts = counts ∙ is.counts ∙ sym (ap (λ r. r.senders) ring);
   run = run;
   stands = stands;
 }
+
+-- So few commands are reserved that their positions fit a word.
+pub few_reserved : (core : CoreValue) → IsMachine core → (run : Run) → StandsFor core run → tail (world run) ≤ 2 ^ 46
+few_reserved core is run stands =
+    let bound = reserved_bound (shape (ring_of core)) core.words.senders run stands.only stands.words_are.run_is in
+    let few = is.few in omega (arith, bound, few)
 
 -- ---- what the control word says
 
@@ -116,3 +125,9 @@ that_there (Some y) P v x iff e = some_one x y (sym e) ∙ iff.1
 pub control_found : WordsSayTheirControl → QueuesHaveAControl → (core : CoreValue) (run : Run) (found : Control) → StandsFor core run
     → found ≡ control_in core.words.geometry (word_at core.words control_word) → found ≡ control core.words.geometry (world run)
 control_found said queue core run found stands is = is ∙ found_is (ring_of core) run core.words.words stands.words_are said queue
+
+-- So a sender's last reservation starts at a position that fits too.
+pub start_fits : (core : CoreValue) → IsMachine core → (run : Run) → StandsFor core run → (s : ℕ) → (world run).start s ≤ 2 ^ 46
+start_fits core is run stands s =
+    let within = (sound (shape (ring_of core)) run stands.words_are.run_is).each_within s in
+    let few = few_reserved core is run stands in omega (arith, within, few)

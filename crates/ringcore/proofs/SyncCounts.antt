@@ -23,7 +23,7 @@ use Rattle.ringcore.proofs.Syncs.{sync_opcode, IsSyncOf, is_sync, sync_numbers, 
 
 -- ---- the trail counts what is taken
 
-syncs_append : (s : ℕ) (xs ys : List Raw) → syncs_in s (xs ++ ys) ≡ syncs_in s xs + syncs_in s ys
+pub syncs_append : (s : ℕ) (xs ys : List Raw) → syncs_in s (xs ++ ys) ≡ syncs_in s xs + syncs_in s ys
 syncs_append s [] ys = omega arith
 syncs_append s (x ∷ xs) ys = by_kind (syncs_append s xs ys) (is_sync_to s x)
   where
@@ -95,7 +95,7 @@ counted_front first zero (x ∷ xs) ys e = absurd (cc)
 counted_front first (suc n) (x ∷ xs) ys e =
     let one : x ≡ first = cc in let more : xs ++ ys ≡ counted (suc first) n = cc in ap₂ (λ y m. y ∷ m) one (counted_front (suc first) n xs ys more)
 
-in_counted : (first n i k : ℕ) → slice_get (counted first n) i ≡ Some k → (k ≡ first + i) × (i < n)
+pub in_counted : (first n i k : ℕ) → slice_get (counted first n) i ≡ Some k → (k ≡ first + i) × (i < n)
 in_counted first zero i k e = none_some k e
 in_counted first (suc n) zero k e = (let one = some_one first k e in omega (arith, one), omega arith)
 in_counted first (suc n) (suc i) k e = let r = in_counted (suc first) n i k e in (omega (arith, r.0), omega (arith, r.1))
@@ -118,7 +118,7 @@ numbers_append s (x ∷ xs) ys = by_kind (numbers_append s xs ys) (s == x.sender
     by_kind rest false number = rest
 
 -- an item that is a sync of this sender and number is among them
-number_there : (s k : ℕ) (xs : List Item) (p : ℕ) (item : Item) → slice_get xs p ≡ Some item → item.sender ≡ s → item.number ≡ Some k → opcode_of item.raw ≡ 0x46
+pub number_there : (s k : ℕ) (xs : List Item) (p : ℕ) (item : Item) → slice_get xs p ≡ Some item → item.sender ≡ s → item.number ≡ Some k → opcode_of item.raw ≡ 0x46
     → (i : ℕ) × (slice_get (sync_numbers s xs) i ≡ Some k)
 number_there s k [] p item at sender number sync = none_some item at
 number_there s k (x ∷ xs) zero item at sender number sync =

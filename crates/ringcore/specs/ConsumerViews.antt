@@ -1,5 +1,5 @@
 -- What the consumer knows of a run at run time: what its own trail says, and how many commands are taken.
-use Rattle.std.specs.Prelude.{◌≡◌, ℕ, ◌<◌, List, ◌∷◌, Option, Some, None, slice_index_or}
+use Rattle.std.specs.Prelude.{◌≡◌, ℕ, zero, suc, ◌<◌, List, [], ◌∷◌, ◌++◌, Option, Some, None, slice_index_or}
 use Rattle.cmdcodec.specs.declared.raw.Raw.{Raw}
 use Rattle.qindex.specs.declared.control.Control.{Control}
 use Rattle.ringcore.specs.declared.event.Who.TheVariants.{Consumer, Sender}
@@ -47,6 +47,19 @@ WhereConsumerKnows view P = (run : Run) → ConsumerKnows run view → P run (tr
 abbrev pub both_halves : Option ℕ → Option ℕ → Option Raw
 both_halves (Some low) (Some high) = Some (record { lo = low; hi = high })
 both_halves low high = None
+
+-- the command that was read at an offset from the head
+abbrev pub command_at : ConsumerValue → ℕ → Option Raw
+command_at view k = both_halves (read_half Lo (halves_at view k)) (read_half Hi (halves_at view k))
+
+-- Those that were read of the first so many, in their order.
+abbrev pub and_command : List Raw → Option Raw → List Raw
+and_command raws None = raws
+and_command raws (Some raw) = raws ++ raw ∷ []
+
+abbrev pub commands_read : ConsumerValue → ℕ → List Raw
+commands_read view zero = []
+commands_read view (suc n) = and_command (commands_read view n) (command_at view n)
 
 -- An allowed event of a sender leaves what the consumer knows.
 abbrev pub SendersLeaveIt : Type 0

@@ -102,3 +102,8 @@ syncs_taken s (e ∷ es) = syncs_taken s es
 abbrev pub SyncsAreCounted : Run → Type 0
 SyncsAreCounted run =
     (s number : ℕ) → SyncIsTaken (world run) s number ↔ ((1 ≤ number) × (number ≤ syncs_taken s (trail_of Consumer run)))
+
+-- The number of a closing sync that is taken is one of as many as each sender may make batches.
+abbrev pub NumbersAreFew : Type 0
+NumbersAreFew =
+    (ring : Shape) (run : Run) → IsRun ring run → (s number : ℕ) → SyncIsTaken (world run) s number → number ≤ ring.max_batches

@@ -1,10 +1,14 @@
 -- What the machine with one owner stands for: a run, as its words and its seats know it.
-use Rattle.std.specs.Prelude.{◌≡◌, ℕ, ◌≤◌, List, ◌∷◌, length, Option, Some, None, Result, Ok, Err, slice_get}
+use Rattle.std.specs.Prelude.{◌≡◌, ℕ, ◌≤◌, Bool, not, ◌&&◌, nat_le, List, [], ◌∷◌, length, Option, Some, None, Result, Ok, Err, slice_get, if◌then◌else◌}
+use Rattle.qindex.specs.declared.control.Control.{Control}
+use Rattle.ringcore.specs.declared.event.Who.TheVariants.{Sender}
 use Rattle.ringcore.specs.declared.step.Step.{Step}
 use Rattle.ringcore.specs.declared.step.Seen.{Seen}
 use Rattle.ringcore.specs.declared.step_fault.StepFault.{StepFault}
-use Rattle.ringcore.specs.Trails.{Run}
-use Rattle.ringcore.specs.World.{world}
+use Rattle.ringcore.specs.declared.core_fault.CoreFault.{CoreFault}
+use Rattle.ringcore.specs.declared.core_fault.CoreFault.TheVariants.{Size, Senders, Memory}
+use Rattle.ringcore.specs.Trails.{Run, trail_of, looked}
+use Rattle.ringcore.specs.World.{world, control}
 use Rattle.ringcore.specs.Laws.{OnlyOf}
 use Rattle.ringcore.specs.Shadow.{Ring, AreAfter}
 use Rattle.ringcore.specs.Stores.{WordsValue}
@@ -12,7 +16,8 @@ use Rattle.ringcore.specs.Views.{SenderValue, Knows}
 use Rattle.ringcore.specs.ConsumerViews.{ConsumerValue, ConsumerKnows}
 use Rattle.ringcore.specs.SyncTallies.{AreTallies}
 use Rattle.ringcore.specs.Faults.{fault_of}
-use Rattle.ringcore.specs.Answers.{event_of, seen_of}
+use Rattle.ringcore.specs.Played.{played}
+use Rattle.ringcore.specs.Answers.{is_same_word, event_of, seen_of}
 
 -- the machine as contracts see it
 pub record CoreValue : Type 0 where
@@ -32,6 +37,11 @@ ring_of core = ring_with core.words.geometry core.words.senders
 abbrev pub AllKnow : Run → List SenderValue → Type 0
 AllKnow run views = (s : ℕ) (view : SenderValue) → slice_get views s ≡ Some view → Knows run s view
 
+-- Where all senders of a ring know these views, this holds of the ring and the run.
+abbrev pub WhereAllKnow : List SenderValue → ℕ → (Ring → Run → Type 0) → Type 0
+WhereAllKnow views geometry P =
+    (ring : Ring) (run : Run) → ring.geometry ≡ geometry → ring.senders ≡ length views → AllKnow run views → P ring run
+
 -- The machine stands as after this run: so do its words, only its seats took steps, and each seat knows what
 -- its trail says.
 pub record StandsFor (core : CoreValue) (run : Run) : Type 0 where
@@ -41,12 +51,17 @@ pub record StandsFor (core : CoreValue) (run : Run) : Type 0 where
   pub consumer_knows : ConsumerKnows run core.consumer
   pub tallies_are : AreTallies run core.tallies
 
--- A machine has a view and a tally for each sender, and stands as after some run.
+-- A machine has at most 256 senders, a view and a tally for each, and stands as after some run.
 pub record IsMachine (core : CoreValue) : Type 0 where
+  pub few : core.words.senders ≤ 256
   pub views : length core.senders ≡ core.words.senders
   pub counts : length core.tallies ≡ core.words.senders
   pub run : Run
   pub stands : StandsFor core run
+
+-- A fact of each run that the machine may stand for.
+abbrev pub WhereItStands : CoreValue → (Run → Type 0) → Type 0
+WhereItStands core P = (run : Run) → StandsFor core run → P run
 
 -- ---- what a step does to it
 
@@ -60,6 +75,15 @@ pub record Takes (old new : CoreValue) (step : Step) (seen : Seen) (run : Run) :
   pub answer : seen ≡ answer_to (ring_of old) run step
   pub stands : StandsFor new (event_of (ring_of old) run step ∷ run)
 
+-- After each run that the machine stands for the step has no fault, and this holds.
+abbrev pub IsAccepted : CoreValue → Step → (Run → Type 0) → Type 0
+IsAccepted core step P = (run : Run) → StandsFor core run → (fault_of (ring_of core) run step ≡ None) × P run
+
+-- The control word says this after a run, and whether it is still what the sender looked at.
+abbrev pub Finds : CoreValue → Run → ℕ → Control → Bool → Type 0
+Finds core run s found same =
+    (found ≡ control core.words.geometry (world run)) × (is_same_word (looked (trail_of (Sender s) run)) found ≡ same)
+
 abbrev pub IsRefused : CoreValue → Step → StepFault → Type 0
 IsRefused core step fault = (run : Run) → StandsFor core run → fault_of (ring_of core) run step ≡ Some fault
 
@@ -70,3 +94,31 @@ IsTaken old new step seen = (run : Run) → StandsFor old run → Takes old new 
 abbrev pub Applies : CoreValue → CoreValue → Step → Result Seen StepFault → Type 0
 Applies old new step (Ok seen) = IsTaken old new step seen × (ring_of new ≡ ring_of old)
 Applies old new step (Err fault) = IsRefused old step fault × (new ≡ old)
+
+-- ---- how it is made, and a list of steps
+
+-- which of its numbers is out of range, the first one
+abbrev pub number_fault : ℕ → ℕ → Option CoreFault
+number_fault log2 senders =
+    if not (nat_le 1 log2 && nat_le log2 19) then Some Size
+    else if not (nat_le 1 senders && nat_le senders 256) then Some Senders
+    else None
+
+-- It isn't made for that fault, or for want of memory where there is none.
+abbrev pub IsNotMade : Option CoreFault → CoreFault → Type 0
+IsNotMade numbers (Memory error) = numbers ≡ None
+IsNotMade numbers fault = numbers ≡ Some fault
+
+-- A new machine, before the first step.
+pub record IsNew (core : CoreValue) (log2 senders : ℕ) : Type 0 where
+  pub numbers : number_fault log2 senders ≡ None
+  pub ring : ring_of core ≡ ring_with log2 senders
+  pub stands : StandsFor core []
+
+-- Steps were played from an empty ring: the machine stands as after them, and the one that was refused is told, if
+-- one was.
+pub record HasPlayed (log2 senders : ℕ) (steps : List Step) (core : CoreValue) (refused : Option (ℕ × StepFault)) : Type 0 where
+  pub numbers : number_fault log2 senders ≡ None
+  pub ring : ring_of core ≡ ring_with log2 senders
+  pub stands : StandsFor core (played (ring_with log2 senders) steps).run
+  pub refused_is : refused ≡ (played (ring_with log2 senders) steps).refused

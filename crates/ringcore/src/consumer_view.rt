@@ -1,7 +1,9 @@
 //! What the consumer knows at run time: what its own trail says, in a bounded size.
-ghost use Rattle.std.specs.Prelude.{◌≡◌, ◌+◌, ◌≤◌, ◌<◌, ◌^◌, ℕ, List, [], ◌∷◌, length, Option, Some, None};
+ghost use Rattle.std.specs.Prelude.{◌≡◌, ◌+◌, ◌≤◌, ◌<◌, ◌^◌, ◌&&◌, ℕ, List, [], ◌∷◌, length, Option, Some, None, is_some};
+ghost use Rattle.std.specs.List.{list_all};
 ghost use Rattle.cmdcodec.specs.declared.raw.Raw.{Raw};
 ghost use Rattle.qindex.specs.Positions.{size};
+ghost use Rattle.ringcore.specs.declared.consumer_view.ReadHalves.{ReadHalves};
 ghost use Rattle.ringcore.specs.declared.event.Who.TheVariants.{Consumer};
 ghost use Rattle.ringcore.specs.declared.event.Half.TheVariants.{Lo, Hi};
 ghost use Rattle.ringcore.specs.declared.event.Event.TheVariants.{Test, Read, Advance};
@@ -9,10 +11,11 @@ ghost use Rattle.ringcore.specs.Trails.{Run, found_ready, half_read};
 ghost use Rattle.ringcore.specs.World.{head, world};
 ghost use Rattle.ringcore.specs.Shadow.{Ring};
 ghost use Rattle.ringcore.specs.Faults.{advance_fault, tested_offset};
-ghost use Rattle.ringcore.specs.ConsumerViews.{ConsumerKnows, WhereConsumerKnows, both_halves};
+ghost use Rattle.ringcore.specs.ConsumerViews.{ConsumerKnows, WhereConsumerKnows, both_halves, command_at};
 
 use crate::event::Half;
 use crate::slot_offset::offset_of_slot;
+use crate::step_fault::StepFault;
 use cmdcodec::Raw;
 use qindex::Geometry;
 use std::marker::Model;
@@ -101,7 +104,8 @@ impl ConsumerView {
     /// The command at this offset from the head, if both halves of it were read.
     pub fn command(&self, offset: u32) -> Option<Raw>
         requires { offset < 64 }
-        ensures { WhereConsumerKnows self.now (λ run mine. result ≡ both_halves (half_read offset Lo mine) (half_read offset Hi mine)) }
+        ensures value { result ≡ command_at self.now offset }
+        ensures trail { WhereConsumerKnows self.now (λ run mine. result ≡ both_halves (half_read offset Lo mine) (half_read offset Hi mine)) }
     {
         let halves = self.read[offset as usize];
         Some(Raw {
@@ -127,4 +131,29 @@ impl ConsumerView {
     {
         offset_of_slot(geometry, self.taken, self.found, slot)
     }
+
+    /// Why an advance past so many commands is refused, if it is.
+    pub fn advance_fault(&self, count: u32) -> Option<StepFault>
+        requires some { 1 ≤ count }
+        requires most { count ≤ 64 }
+        ensures { WhereConsumerKnows self.now (λ run mine. result ≡ advance_fault mine count) }
+    {
+        if self.found < count {
+            return Some(StepFault::NotSeenReady);
+        }
+        if all_read(&self.read[..count as usize]) {
+            None
+        } else {
+            Some(StepFault::HalfMissing)
+        }
+    }
+}
+
+/// Whether both halves of each of these commands were read.
+fn all_read(commands: &[ReadHalves]) -> bool
+    ensures { result ≡ list_all (λ (halves : ReadHalves). is_some halves.lo && is_some halves.hi) commands.now }
+{
+    commands
+        .iter()
+        .all(|halves| halves.lo.is_some() && halves.hi.is_some())
 }

@@ -1,12 +1,13 @@
 //! Flags of positions as bits of their flag word (own): the mask that flips a run of them, and how many in a
 //! row are flipped. Rings of at most 64 slots have one flag word, so there a run may go on past the last place.
-ghost use Rattle.std.specs.Prelude.{◌≡◌, ◌≢◌, ◌↔◌, ℕ, ◌+◌, ◌-◌, ◌<◌, ◌≤◌, ◌==◌};
+ghost use Rattle.std.specs.Prelude.{◌≡◌, ◌≢◌, ◌↔◌, ℕ, ◌+◌, ◌-◌, ◌<◌, ◌≤◌, ◌^◌, ◌==◌};
 ghost use Rattle.std.specs.Int.{bit_at};
 ghost use Rattle.qindex.specs.Positions.{size, index_of};
 ghost use Rattle.qindex.specs.ControlWord.{bit as bit_of};
+ghost use Rattle.ringcore.specs.Answers.{new_flags};
 ghost use Rattle.ringcore.specs.Flags.{polarity, shared_word, ShareAWord, IsFlipMask, IsReadyRun};
 
-use qindex::{Index, indexes_tell_place_and_wrap_bit};
+use qindex::{Geometry, Index, indexes_tell_place_and_wrap_bit};
 
 /// How many flags a flag word has.
 const FLAGS: u32 = 64;
@@ -55,6 +56,27 @@ pub fn flip_mask(first: Index, count: u32) -> u64
     } else {
         stretch(bit, to_end) | stretch(0, count - to_end)
     }
+}
+
+/// The new flags of `count` positions from this one on, 1 to 64, that of the first in bit 0.
+pub fn new_flags(geometry: Geometry, position: u64, count: u32) -> u64
+    requires some { 1 ≤ count }
+    requires most { count ≤ 64 }
+    requires within { position + count < 2 ^ 64 }
+    ensures { result ≡ new_flags geometry position count }
+{
+    let mut flags = 0;
+    for offset in 0..count {
+        flags += new_flag(geometry, position + u64::from(offset)) << offset;
+    }
+    flags
+}
+
+/// The new flag of a position.
+fn new_flag(geometry: Geometry, position: u64) -> u64
+    ensures { result ≡ polarity geometry position }
+{
+    1 - position / u64::from(geometry.size()) % 2
 }
 
 /// How many indexes in a row, from the head's on, its flag word says to be flipped: at most `limit`, and as far

@@ -1,6 +1,6 @@
 //! Laws of every run, each the contract of a function that does nothing.
 ghost use Rattle.ringcore.specs.Delivery.{TakenInOrder, NumberedInOrder, NoneAfterClose, ToldWhenCompleted};
-ghost use Rattle.ringcore.specs.Laws.{EveryRun, NeverMoreThanFull, AcknowledgedAreTaken, BatchesAreUnbroken, SendersOrderIsKept, EarlierStandsBefore, FewAreReserved, SyncsAreCounted};
+ghost use Rattle.ringcore.specs.Laws.{EveryRun, NeverMoreThanFull, AcknowledgedAreTaken, BatchesAreUnbroken, SendersOrderIsKept, EarlierStandsBefore, FewAreReserved, SyncsAreCounted, NumbersAreFew};
 ghost use Rattle.ringcore.specs.Played.{StepsAreAllowed, PlayedAreRuns};
 
 use qindex::{control_words_say_their_control, indexes_tell_the_queue};
@@ -37,10 +37,12 @@ pub fn batches_law()
 {}
 
 /// What is reserved has a bound, by the number of senders and of the batches that each may make: so no
-/// count of it wraps. And the consumer's own trail says which closing syncs are taken.
+/// count of it wraps. And the consumer's own trail says which closing syncs are taken, whose numbers have
+/// a bound too.
 pub fn counts_law()
     ensures bound { FewAreReserved }
     ensures syncs { EveryRun SyncsAreCounted }
+    ensures few { NumbersAreFew }
 {}
 
 /// What a step is answered is what happens: one that has no fault is an allowed event, after any run. So

@@ -1,18 +1,24 @@
 //! The ring with one owner: its words, and what each seat knows.
-ghost use Rattle.std.specs.Prelude.{◌≡◌, ◌<◌, ◌≤◌, [], IfOk, IfErr, OnErr};
+ghost use Rattle.std.specs.Prelude.{◌≡◌, ◌<◌, ◌≤◌, [], length, IfOk, IfErr, OnErr};
 ghost use Rattle.qindex.specs.ControlWord.{IsControl};
 ghost use Rattle.ringcore.specs.Trails.{Run};
 ghost use Rattle.ringcore.specs.World.{world, control};
-ghost use Rattle.ringcore.specs.Machine.{StandsFor};
+ghost use Rattle.ringcore.specs.Machine.{ring_of, AllKnow, StandsFor, IsTaken, IsRefused, Applies, IsNew, IsNotMade, number_fault, HasPlayed};
 
 use crate::consumer_view::ConsumerView;
+use crate::core_fault::CoreFault;
 use crate::laws;
 use crate::ring_words::RingWords;
 use crate::sender_view::SenderView;
+use crate::step::{Seen, Step};
+use crate::step_fault::StepFault;
 use crate::sync_tallies::SyncTallies;
-use qindex::{Control, control_words_say_their_control, indexes_tell_the_queue};
+use qindex::{Control, Geometry, control_words_say_their_control, indexes_tell_the_queue};
+use std::alloc::{AllocError, Global};
 use std::marker::Model;
 
+mod places;
+mod consumer_steps;
 mod sender_steps;
 
 /// A ring with one owner, who takes each step by itself: the words, and what each seat knows (own).
@@ -35,6 +41,56 @@ impl Model for Core {
 }
 
 impl Core {
+    /// A new ring of `2^log2` slots, for so many senders.
+    ///
+    /// Errors: N1 where log2 isn't 1 to 19, N2 where the senders aren't 1 to 256, N4 for want of memory.
+    pub fn new(alloc: Global, log2: u32, senders: u32) -> Result<Core, CoreFault>
+        ensures made { IfOk result (λ core. IsNew core log2 senders) }
+        ensures refused { IfErr result (λ fault. IsNotMade (number_fault log2 senders) fault) }
+    {
+        let Some(geometry) = Geometry::new(log2) else {
+            return Err(CoreFault::Size);
+        };
+        if senders < 1 || senders > 256 {
+            return Err(CoreFault::Senders);
+        }
+        laws::begin();
+        Ok(Core {
+            words: RingWords::new(alloc, geometry, senders)?,
+            senders: new_views(alloc, senders)?,
+            consumer: ConsumerView::new(),
+            tallies: SyncTallies::new(alloc, senders)?,
+        })
+    }
+
+    /// Takes a step, if it has no fault: else tells the first that it has, and changes nothing.
+    pub fn apply(&mut self, step: Step) -> Result<Seen, StepFault>
+        ensures accepted { IfOk result (λ seen. IsTaken self.old self.new step seen) }
+        ensures refused { IfErr result (λ fault. IsRefused self.old step fault) }
+        ensures kept { OnErr result (self.new ≡ self.old) }
+        ensures ring { ring_of self.new ≡ ring_of self.old }
+    {
+        self.take(&step)
+    }
+
+    fn take(&mut self, step: &Step) -> Result<Seen, StepFault>
+        ensures { Applies self.old self.new step.now result }
+    {
+        match step {
+            Step::Look { who: None } => Ok(self.consumer_looks()),
+            Step::Look { who: Some(sender) } => self.sender_looks(*sender),
+            Step::Reserve { sender, body, closes } => self.reserve(*sender, body, *closes),
+            Step::Write { sender, slot, half } => self.write(*sender, *slot, *half),
+            Step::Flip { sender, slot, count } => self.flip(*sender, *slot, *count),
+            Step::Test { slot, count } => self.test(*slot, *count),
+            Step::Read { slot, half } => self.read(*slot, *half),
+            Step::Advance { count } => self.advance(*count),
+            Step::Close { sender } => self.close(*sender),
+            Step::Acknowledge { sender, number } => self.acknowledge(*sender, *number),
+            Step::Ask { sender } => self.ask(*sender),
+        }
+    }
+
     /// What the control word says.
     pub fn control(&self) -> Control
         ensures says { (run : Run) → StandsFor self.now run → result ≡ control self.now.words.geometry (world run) }
@@ -45,4 +101,32 @@ impl Core {
         indexes_tell_the_queue();
         self.words.control().unwrap()
     }
+}
+
+/// What so many senders know before their first step.
+fn new_views(alloc: Global, senders: u32) -> Result<Vec<SenderView>, AllocError>
+    ensures { IfOk result (λ views. (length views.items ≡ senders) × AllKnow [] views.items) }
+{
+    let mut views = Vec::with_capacity(alloc, senders as usize)?;
+    for _ in 0..senders {
+        views.push(SenderView::new())?;
+    }
+    Ok(views)
+}
+
+/// Plays steps, one after another, in a new ring: up to the first that has a fault. That one is told by its place, from
+/// 0, with its fault.
+///
+/// Errors: as of `Core::new`.
+pub fn run(alloc: Global, log2: u32, senders: u32, steps: &[Step]) -> Result<(Core, Option<(usize, StepFault)>), CoreFault>
+    ensures played { IfOk result (λ told. HasPlayed log2 senders steps.now told.0 told.1) }
+    ensures refused { IfErr result (λ fault. IsNotMade (number_fault log2 senders) fault) }
+{
+    let mut core = Core::new(alloc, log2, senders)?;
+    for place in 0..steps.len() {
+        if let Err(fault) = core.take(&steps[place]) {
+            return Ok((core, Some((place, fault))));
+        }
+    }
+    Ok((core, None))
 }

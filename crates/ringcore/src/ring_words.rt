@@ -77,7 +77,8 @@ impl RingWords {
     /// Stores a half of the command of an index.
     pub fn write(&mut self, index: Index, half: Half, word: u64)
         requires { index.geometry ≡ self.old.geometry }
-        ensures { self.new ≡ with_word self.old (data_word self.old.geometry index.number half) word }
+        ensures value { self.new ≡ with_word self.old (data_word self.old.geometry index.number half) word }
+        ensures position { (geometry position : ℕ) → index ≡ index_of geometry position → self.new ≡ with_word self.old (data_word geometry position half) word }
     {
         self.words[data_word(index, half)] = word;
     }
@@ -88,7 +89,8 @@ impl RingWords {
         requires some { 1 ≤ count }
         requires within { count ≤ size first.geometry }
         requires word { ShareAWord first.geometry first.number count }
-        ensures { IsFlipped self.old self.new first.number count }
+        ensures value { IsFlipped self.old self.new first.number count }
+        ensures position { (geometry position : ℕ) → first ≡ index_of geometry position → IsFlipped self.old self.new position count }
     {
         self.words[flag_word(first)] ^= flip_mask(first, count);
     }
@@ -97,7 +99,8 @@ impl RingWords {
     /// as their flags stand in the head's flag word.
     pub fn ready(&self, head: Index, limit: u32) -> u32
         requires { head.geometry ≡ self.now.geometry }
-        ensures { IsReadyRun self.now.geometry (word_at self.now (flag_word self.now.geometry head.number)) head.number limit result }
+        ensures value { IsReadyRun self.now.geometry (word_at self.now (flag_word self.now.geometry head.number)) head.number limit result }
+        ensures position { (geometry position : ℕ) → head ≡ index_of geometry position → IsReadyRun geometry (word_at self.now (flag_word geometry position)) position limit result }
     {
         ready_run(self.words[flag_word(head)], head, limit)
     }
@@ -105,7 +108,8 @@ impl RingWords {
     /// A half of the command of an index.
     pub fn read(&self, index: Index, half: Half) -> u64
         requires { index.geometry ≡ self.now.geometry }
-        ensures { result ≡ word_at self.now (data_word self.now.geometry index.number half) }
+        ensures value { result ≡ word_at self.now (data_word self.now.geometry index.number half) }
+        ensures position { (geometry position : ℕ) → index ≡ index_of geometry position → result ≡ word_at self.now (data_word geometry position half) }
     {
         self.words[data_word(index, half)]
     }

@@ -1,5 +1,5 @@
 //! What one sender knows at run time: what its own trail says, in a bounded size.
-ghost use Rattle.std.specs.Prelude.{◌≡◌, ◌==◌, ◌+◌, ◌≤◌, ◌<◌, ◌&&◌, not, Bool, List, [], ◌∷◌, ℕ, length, Some, slice_get};
+ghost use Rattle.std.specs.Prelude.{◌≡◌, ◌==◌, ◌+◌, ◌≤◌, ◌<◌, ◌&&◌, not, Bool, List, [], ◌∷◌, ℕ, length, Some, IfSome, slice_get};
 ghost use Rattle.std.specs.List.{list_any, list_all};
 ghost use Rattle.cmdcodec.specs.declared.raw.Raw.{Raw};
 ghost use Rattle.cmdcodec.specs.Opcodes.{opcode_of};
@@ -167,7 +167,8 @@ impl SenderView {
     /// The offset of a slot in its open reservation, if that holds the slot.
     pub fn offset_of(&self, geometry: Geometry, slot: u32) -> Option<u32>
         requires { slot < size geometry }
-        ensures { (ring : Ring) → ring.geometry ≡ geometry → WhereKnown self.now (λ run s mine. result ≡ own_offset ring run s slot) }
+        ensures offset { (ring : Ring) → ring.geometry ≡ geometry → WhereKnown self.now (λ run s mine. result ≡ own_offset ring run s slot) }
+        ensures inside { IfSome result (λ offset. (offset < length self.now.commands) × (offset < 64)) }
     {
         if self.is_open() {
             offset_of_slot(geometry, self.start, self.len(), slot)

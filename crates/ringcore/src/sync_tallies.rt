@@ -1,8 +1,10 @@
 //! How many closing syncs of each sender are taken.
-ghost use Rattle.std.specs.Prelude.{◌≡◌, ◌+◌, ◌<◌, ◌≤◌, ◌==◌, ℕ, List, [], ◌∷◌, false, length, replicate, slice_index, IfOk, MatchOption};
-ghost use Rattle.ringcore.specs.Laws.{is_sync_to};
+ghost use Rattle.std.specs.Prelude.{◌≡◌, ◌+◌, ◌<◌, ◌≤◌, ◌^◌, ◌==◌, ℕ, List, [], ◌∷◌, false, length, replicate, slice_index, IfOk, MatchOption};
+ghost use Rattle.ringcore.specs.Laws.{is_sync_to, syncs_in};
+ghost use Rattle.ringcore.specs.ConsumerViews.{commands_read};
 ghost use Rattle.ringcore.specs.SyncTallies.{AreTallies, AreCounted};
 
+use crate::consumer_view::ConsumerView;
 use cmdcodec::Raw;
 use std::alloc::{AllocError, Global};
 use std::marker::Model;
@@ -48,12 +50,25 @@ impl SyncTallies {
 
     /// Takes note of a command that is taken.
     pub fn takes(&mut self, raw: Raw)
-        requires { (s : ℕ) → s < length self.old → slice_index self.old s < 4294967295 }
+        requires { (s : ℕ) → s < length self.old → slice_index self.old s + syncs_in s (raw ∷ []) < 2 ^ 32 }
         ensures { AreCounted self.old self.new (raw ∷ []) }
     {
         if let Some(sender) = sender_of(raw) {
             if sender < self.counts.len() as u64 {
                 self.counts[sender as usize] += 1;
+            }
+        }
+    }
+
+    /// Takes note of the commands that are taken: those that the consumer read of so many from the head on.
+    pub fn takes_read(&mut self, consumer: &ConsumerView, count: u32)
+        requires most { count ≤ 64 }
+        requires counts { (s : ℕ) → s < length self.old → slice_index self.old s + syncs_in s (commands_read consumer.now count) < 2 ^ 32 }
+        ensures { AreCounted self.old self.new (commands_read consumer.now count) }
+    {
+        for offset in 0..count {
+            if let Some(raw) = consumer.command(offset) {
+                self.takes(raw);
             }
         }
     }

@@ -1,12 +1,17 @@
 //! The steps of the senders.
-ghost use Rattle.std.specs.Prelude.{◌≡◌, ◌<◌, ◌≤◌, Some};
-ghost use Rattle.ringcore.specs.declared.step.Step.TheVariants.{Look, Close};
-ghost use Rattle.ringcore.specs.Machine.{Applies};
+ghost use Rattle.std.specs.Prelude.{◌≡◌, ◌<◌, ◌≤◌, Some, Ok, true, false};
+ghost use Rattle.ringcore.specs.declared.step.Step.TheVariants.{Look, Reserve, Write, Flip, Close};
+ghost use Rattle.ringcore.specs.Machine.{IsAccepted, Finds, Applies};
 
+use crate::flags::new_flags;
 use crate::laws;
+use crate::laws::steps_law;
 use crate::machine::Core;
+use crate::machine::places::{half_of, half_of_number, index_of};
 use crate::step::Seen;
 use crate::step_fault::StepFault;
+use cmdcodec::RawList;
+use qindex::{Control, control_words_say_their_control, indexes_tell_place_and_wrap_bit, indexes_tell_the_queue};
 
 impl Core {
     /// A load of the control word.
@@ -32,5 +37,95 @@ impl Core {
         laws::close();
         self.words.close();
         Ok(Seen::Word(self.control()))
+    }
+
+    /// A store of the word that the sender's reservation has for a half of the slot.
+    pub fn write(&mut self, sender: u32, slot: u32, half: u32) -> Result<Seen, StepFault>
+        ensures { Applies self.old self.new (Write sender slot half) result }
+    {
+        let offset = self.write_offset(sender, slot, half)?;
+        let half = half_of_number(half);
+        laws::write();
+        steps_law();
+        let view = &mut self.senders[sender as usize];
+        let word = half_of(half, view.command(offset));
+        let index = index_of(self.words.geometry(), view.start() + u64::from(offset));
+        self.words.write(index, half, word);
+        view.writes(offset, half);
+        Ok(Seen::Written)
+    }
+
+    /// An exclusive or of a flag word, for so many slots of the sender's reservation.
+    pub fn flip(&mut self, sender: u32, slot: u32, count: u32) -> Result<Seen, StepFault>
+        ensures { Applies self.old self.new (Flip sender slot count) result }
+    {
+        let offset = self.flip_offset(sender, slot, count)?;
+        laws::flip();
+        steps_law();
+        indexes_tell_place_and_wrap_bit();
+        let geometry = self.words.geometry();
+        let view = &mut self.senders[sender as usize];
+        let first = view.start() + u64::from(offset);
+        self.words.flip(index_of(geometry, first), count);
+        view.flips(offset, count);
+        Ok(Seen::Flipped(new_flags(geometry, first, count)))
+    }
+
+    /// An exchange of the control word that the sender looked at, to reserve these commands.
+    pub fn reserve(&mut self, sender: u32, body: &RawList, closes: bool) -> Result<Seen, StepFault>
+        ensures { Applies self.old self.new (Reserve sender body.now closes) result }
+    {
+        if sender as usize >= self.senders.len() {
+            return Err(StepFault::NoSuchPlace);
+        }
+        let geometry = self.words.geometry();
+        let view = &self.senders[sender as usize];
+        control_words_say_their_control();
+        indexes_tell_the_queue();
+        if let Some(fault) = view.reserve_fault(geometry, body.as_slice(), closes) {
+            return Err(fault);
+        }
+        let found = self.control();
+        if view.expects(&found) {
+            Ok(self.win(sender, body, closes, &found))
+        } else {
+            Ok(self.lose(sender, body, closes, &found))
+        }
+    }
+
+    /// Reserves a batch where the control word is the one that the sender looked at.
+    pub fn win(&mut self, sender: u32, body: &RawList, closes: bool, found: &Control) -> Seen
+        requires there { sender < self.old.words.senders }
+        requires accepted { IsAccepted self.old (Reserve sender body.now closes) (λ run. Finds self.old run sender found.now true) }
+        ensures { Applies self.old self.new (Reserve sender body.now closes) (Ok result) }
+    {
+        laws::reserve_won();
+        steps_law();
+        indexes_tell_the_queue();
+        let head = self.consumer.taken();
+        let start = head + u64::from(found.prod.distance(found.cons));
+        let many = body.len() as u32 + u32::from(closes);
+        let after = Control {
+            prod: found.prod.forward(many),
+            cons: found.cons,
+            closed: found.closed,
+        };
+        self.words.exchange(found, &after);
+        let number = self.senders[sender as usize].wins(sender, body, closes, start);
+        Seen::Reserved {
+            first: found.prod,
+            number,
+        }
+    }
+
+    /// Reserves nothing where the control word is another.
+    pub fn lose(&mut self, sender: u32, body: &RawList, closes: bool, found: &Control) -> Seen
+        requires there { sender < self.old.words.senders }
+        requires accepted { IsAccepted self.old (Reserve sender body.now closes) (λ run. Finds self.old run sender found.now false) }
+        ensures { Applies self.old self.new (Reserve sender body.now closes) (Ok result) }
+    {
+        steps_law();
+        self.senders[sender as usize].loses();
+        Seen::Lost(*found)
     }
 }

@@ -1,5 +1,6 @@
 use Rattle.ringcore.proofs.Bound.{reserved_bound}
 use Rattle.ringcore.proofs.SyncCounts.{syncs_counted}
+use Rattle.ringcore.proofs.FewNumbers.{numbers_few}
 use Rattle.ringcore.proofs.laws.counts_law.Goals as goal
 
 pub returns-clause-bound : goal.returns-clause-bound
@@ -7,3 +8,6 @@ returns-clause-bound c = reserved_bound
 
 pub returns-clause-syncs : goal.returns-clause-syncs
 returns-clause-syncs c = syncs_counted
+
+pub returns-clause-few : goal.returns-clause-few
+returns-clause-few c = numbers_few

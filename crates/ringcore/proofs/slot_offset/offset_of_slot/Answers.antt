@@ -21,16 +21,19 @@ module _ (g start slot : ℕ) (there : slot < size g) where
   missed : (n many : ℕ) → n ≡ ahead g start slot there → many ≤ n → None ≡ first_below many is_slot
   missed n many is high = sym (first_not is_slot (ahead g start slot there) before many (omega (arith, high, is)))
 
-pub returns-then-ahead-from : goal.returns-then-ahead-from
-returns-then-ahead-from c =
+pub returns-then-ahead-from-clause-inside : goal.returns-then-ahead-from-clause-inside
+returns-then-ahead-from-clause-inside c = omega (arith, c.if-ahead-from.true, c.from-2.ensures)
+
+pub returns-then-ahead-from-clause-value : goal.returns-then-ahead-from-clause-value
+returns-then-ahead-from-clause-value c =
     let size_is : c.from-size.result ≡ size c.args.geometry = c.from-size.ensures ∙ c.size.ensures.value in
     let slot_is : c.from.result ≡ c.args.slot = c.from.ensures in
     let n : ℕ = (c.from.result + c.from-size.result - c.args.position % c.from-size.result) % c.from-size.result in
     let is : n ≡ ahead c.args.geometry c.args.position c.args.slot c.requires = cc (size_is, slot_is) in
     found c.args.geometry c.args.position c.args.slot c.requires n c.args.many is (omega (arith, c.if-ahead-from.true, c.from-2.ensures))
 
-pub returns-else-ahead-from : goal.returns-else-ahead-from
-returns-else-ahead-from c =
+pub returns-else-ahead-from-clause-value : goal.returns-else-ahead-from-clause-value
+returns-else-ahead-from-clause-value c =
     let size_is : c.from-size.result ≡ size c.args.geometry = c.from-size.ensures ∙ c.size.ensures.value in
     let slot_is : c.from.result ≡ c.args.slot = c.from.ensures in
     let n : ℕ = (c.from.result + c.from-size.result - c.args.position % c.from-size.result) % c.from-size.result in

@@ -1,0 +1,116 @@
+//! Where a write and a flip go.
+ghost use Rattle.std.specs.Prelude.{◌≡◌, ◌+◌, ◌<◌, ◌≤◌, ◌&&◌, Some, IfOk, IfErr};
+ghost use Rattle.qindex.specs.Positions.{index_of};
+ghost use Rattle.ringcore.specs.declared.step.Step.TheVariants.{Write, Flip};
+ghost use Rattle.ringcore.specs.World.{half_of};
+ghost use Rattle.ringcore.specs.Open.{own_offset};
+ghost use Rattle.ringcore.specs.Faults.{foreign, has_sender, has_slot, is_count, share_a_word};
+ghost use Rattle.ringcore.specs.Answers.{half_of_number};
+ghost use Rattle.ringcore.specs.Machine.{ring_of, IsAccepted, IsRefused};
+
+use crate::event::Half;
+use crate::flags::shared_word;
+use crate::held::{positions_are_held, slot_is_held, slots_are_held};
+use crate::machine::Core;
+use crate::step_fault::StepFault;
+use cmdcodec::Raw;
+use qindex::{Geometry, Index};
+
+/// The fault of what isn't the sender's own, by whether other reservations hold it.
+fn foreign(is_held: bool) -> StepFault
+    ensures { Some result ≡ foreign is_held }
+{
+    if is_held {
+        StepFault::AnotherSenders
+    } else {
+        StepFault::NotReserved
+    }
+}
+
+/// The index of a position.
+pub(crate) fn index_of(geometry: Geometry, position: u64) -> Index
+    ensures { result ≡ index_of geometry position }
+{
+    let number = position % u64::from(2 * geometry.size());
+    Index::new(geometry, number as u32).unwrap()
+}
+
+/// A half by its number: 0 is lo, and any other is hi.
+pub(crate) fn half_of_number(half: u32) -> Half
+    ensures { result ≡ half_of_number half }
+{
+    if half == 0 { Half::Lo } else { Half::Hi }
+}
+
+/// A word of a command.
+pub(crate) fn half_of(half: Half, raw: Raw) -> u64
+    ensures { result ≡ half_of half raw }
+{
+    match half {
+        Half::Lo => raw.lo,
+        Half::Hi => raw.hi,
+    }
+}
+
+impl Core {
+    /// The offset of a slot in the sender's reservation, if a half of it may be written.
+    pub fn write_offset(&self, sender: u32, slot: u32, half: u32) -> Result<u32, StepFault>
+        ensures there { IfOk result (λ offset. sender < self.now.words.senders) }
+        ensures few { IfOk result (λ offset. offset < 64) }
+        ensures accepted { IfOk result (λ offset. IsAccepted self.now (Write sender slot half) (λ run. own_offset (ring_of self.now) run sender slot ≡ Some offset)) }
+        ensures refused { IfErr result (λ fault. IsRefused self.now (Write sender slot half) fault) }
+    {
+        let geometry = self.words.geometry();
+        if sender as usize >= self.senders.len() || slot >= geometry.size() || half >= 2 {
+            return Err(StepFault::NoSuchPlace);
+        }
+        let view = &self.senders[sender as usize];
+        let Some(offset) = view.offset_of(geometry, slot) else {
+            return Err(foreign(slot_is_held(self.senders.as_slice(), geometry, slot)));
+        };
+        if view.any_flipped(offset, 1) {
+            return Err(StepFault::Flipped);
+        }
+        Ok(offset)
+    }
+
+    /// Whether there are this sender, and so many slots from this one on whose flags share a flag word.
+    fn has_run(&self, sender: u32, slot: u32, count: u32) -> bool
+        ensures { result ≡ (has_sender (ring_of self.now) sender && has_slot (ring_of self.now) slot && is_count count && share_a_word (ring_of self.now) slot count) }
+    {
+        let geometry = self.words.geometry();
+        if sender as usize >= self.senders.len() || slot >= geometry.size() || count < 1 || count > 64 {
+            return false;
+        }
+        count <= shared_word(index_of(geometry, u64::from(slot)))
+    }
+
+    /// The offset of a slot in the sender's reservation, if the flags of so many slots from it on may be
+    /// flipped.
+    pub fn flip_offset(&self, sender: u32, slot: u32, count: u32) -> Result<u32, StepFault>
+        ensures there { IfOk result (λ offset. sender < self.now.words.senders) }
+        ensures few { IfOk result (λ offset. offset + count ≤ 64) }
+        ensures accepted { IfOk result (λ offset. IsAccepted self.now (Flip sender slot count) (λ run. own_offset (ring_of self.now) run sender slot ≡ Some offset)) }
+        ensures refused { IfErr result (λ fault. IsRefused self.now (Flip sender slot count) fault) }
+    {
+        if !self.has_run(sender, slot, count) {
+            return Err(StepFault::NoSuchPlace);
+        }
+        let geometry = self.words.geometry();
+        let view = &self.senders[sender as usize];
+        let Some(offset) = view.offset_of(geometry, slot) else {
+            return Err(foreign(slots_are_held(self.senders.as_slice(), geometry, slot, count)));
+        };
+        if offset + count > view.len() {
+            let first = view.start() + u64::from(offset);
+            return Err(foreign(positions_are_held(self.senders.as_slice(), first, count)));
+        }
+        if view.any_flipped(offset, count) {
+            return Err(StepFault::Flipped);
+        }
+        if !view.all_written(offset, count) {
+            return Err(StepFault::HalfMissing);
+        }
+        Ok(offset)
+    }
+}
