@@ -37,6 +37,7 @@ pub mod HeldPlaces
 pub mod WriteSteps
 pub mod FlipSteps
 pub mod ReserveSteps
+pub mod PlayedSteps
 pub mod TakenSteps
 pub mod ReadSteps
 pub mod AdvanceSteps

@@ -1,5 +1,5 @@
 //! Why a machine isn't made.
-ghost use Rattle.std.specs.Prelude.{Some};
+ghost use Rattle.std.specs.Prelude.{◌≡◌, Some};
 ghost use Rattle.ringcore.specs.FaultNames.{core_label};
 
 use std::alloc::AllocError;
@@ -18,7 +18,9 @@ pub enum CoreFault {
 }
 
 impl From<AllocError> for CoreFault {
-    fn from(error: AllocError) -> CoreFault {
+    fn from(error: AllocError) -> CoreFault
+        ensures { result ≡ CoreFault.Memory error }
+    {
         CoreFault::Memory(error)
     }
 }

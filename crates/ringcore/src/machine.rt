@@ -3,7 +3,7 @@ ghost use Rattle.std.specs.Prelude.{◌≡◌, ◌<◌, ◌≤◌, [], length, I
 ghost use Rattle.qindex.specs.ControlWord.{IsControl};
 ghost use Rattle.ringcore.specs.Trails.{Run};
 ghost use Rattle.ringcore.specs.World.{world, control};
-ghost use Rattle.ringcore.specs.Machine.{ring_of, AllKnow, StandsFor, IsTaken, IsRefused, Applies, IsNew, IsNotMade, number_fault, HasPlayed};
+ghost use Rattle.ringcore.specs.Machine.{ring_of, ring_with, AllKnow, StandsFor, IsTaken, IsRefused, Applies, IsNew, IsNotMade, number_fault, HasPlayed};
 
 use crate::consumer_view::ConsumerView;
 use crate::core_fault::CoreFault;
@@ -54,6 +54,17 @@ impl Core {
         if senders < 1 || senders > 256 {
             return Err(CoreFault::Senders);
         }
+        match Core::open(alloc, geometry, senders) {
+            Ok(core) => Ok(core),
+            Err(error) => Err(CoreFault::Memory(error)),
+        }
+    }
+
+    /// A machine before its first step.
+    fn open(alloc: Global, geometry: Geometry, senders: u32) -> Result<Core, AllocError>
+        requires { senders ≤ 256 }
+        ensures { IfOk result (λ core. (ring_of core ≡ ring_with geometry senders) × StandsFor core []) }
+    {
         laws::begin();
         Ok(Core {
             words: RingWords::new(alloc, geometry, senders)?,

@@ -1,5 +1,5 @@
 //! What the consumer knows after a test, reads and an advance.
-use crate::{ConsumerView, Half, SyncTallies};
+use crate::{ConsumerView, Half, StepFault, SyncTallies};
 use cmdcodec::{closing_sync, encode};
 use std::alloc::Global;
 
@@ -38,6 +38,29 @@ fn an_advance_ends_what_was_found(rt: HostRuntime) {
     }
     assert_eq!(rt; (view.taken(), view.found()), (1, 0));
     assert_eq!(rt; command(&view, 0), None);
+}
+
+/// Why an advance past so many commands is refused, for 1 to 64 of them.
+fn advance_fault(view: &ConsumerView, count: u32) -> Option<StepFault> {
+    if 1 <= count && count <= 64 {
+        view.advance_fault(count)
+    } else {
+        Some(StepFault::NoSuchPlace)
+    }
+}
+
+#[test]
+fn an_advance_is_of_what_was_found_and_read(rt: HostRuntime) {
+    let mut view = ConsumerView::new();
+    assert_eq!(rt; advance_fault(&view, 1), Some(StepFault::NotSeenReady));
+    view.tests(2);
+    assert_eq!(rt; advance_fault(&view, 1), Some(StepFault::HalfMissing));
+    assert_eq!(rt; advance_fault(&view, 3), Some(StepFault::NotSeenReady));
+    view.reads(0, Half::Lo, 7);
+    assert_eq!(rt; advance_fault(&view, 1), Some(StepFault::HalfMissing));
+    view.reads(0, Half::Hi, 8);
+    assert_eq!(rt; advance_fault(&view, 1), None);
+    assert_eq!(rt; advance_fault(&view, 2), Some(StepFault::HalfMissing));
 }
 
 /// How many syncs of senders 0 and 1 are taken, after one of sender 1 and a command that is none.

@@ -1,5 +1,5 @@
 //! Flags in rings of 2, 4, 64 and 128 slots, also across the ring's end and up to a flag word's end.
-use crate::{flip_mask, polarity, ready_run, shared_word};
+use crate::{flip_mask, new_flags, polarity, ready_run, shared_word};
 use qindex::{Geometry, Index};
 
 fn index(log2: u32, number: u32) -> Option<Index> {
@@ -17,6 +17,13 @@ fn mask(log2: u32, number: u32, count: u32) -> Option<u64> {
         return None;
     }
     Some(flip_mask(first, count))
+}
+
+fn new_run(log2: u32, position: u64, count: u32) -> Option<u64> {
+    if count == 0 || count > 64 || position > 1000 {
+        return None;
+    }
+    Some(new_flags(Geometry::new(log2)?, position, count))
 }
 
 fn ready(log2: u32, number: u32, word: u64, limit: u32) -> Option<u32> {
@@ -111,5 +118,21 @@ fn runs_end_where_a_flag_is_not_flipped(rt: HostRuntime) {
             Some(expected),
             "at {log2} {number} {word:x} {limit}"
         );
+    }
+}
+
+#[test]
+fn new_flags_turn_with_the_lap(rt: HostRuntime) {
+    let table = [
+        (2, 2, 4, 0b0011),
+        (2, 4, 4, 0),
+        (2, 6, 3, 0b100),
+        (6, 0, 64, u64::MAX),
+        (6, 64, 64, 0),
+        (7, 127, 1, 1),
+        (7, 128, 1, 0),
+    ];
+    for (log2, position, count, flags) in table {
+        assert_eq!(rt; new_run(log2, position, count), Some(flags));
     }
 }

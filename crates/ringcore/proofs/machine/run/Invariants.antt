@@ -1,0 +1,6 @@
+use Rattle.ringcore.specs.Machine.{ring_with}
+use Rattle.ringcore.proofs.PlayedSteps.{HasReached}
+use Rattle.ringcore.proofs.machine.run.Given as goal
+
+abbrev pub invariant-loop-place : goal.invariant-loop-place
+invariant-loop-place l = HasReached (ring_with l.log2 l.senders) l.steps l.core l.place
