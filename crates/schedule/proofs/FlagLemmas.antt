@@ -1,5 +1,5 @@
 -- Flags, told one after another.
-use Rattle.std.proofs.Common.{◌≡◌, ℕ, zero, suc, ◌+◌, ◌-◌, ◌<◌, ◌≤◌, ◌/◌, ◌%◌, List, [], ◌++◌, decimal, arith, ap}
+use Rattle.std.proofs.Common.{◌≡◌, ℕ, suc, ◌+◌, ◌-◌, ◌<◌, ◌≤◌, ◌/◌, ◌%◌, [], ◌++◌, decimal, arith, ap}
 use Rattle.schedule.specs.Texts.{flags_text}
 
 -- the flags that are left, the first of them told

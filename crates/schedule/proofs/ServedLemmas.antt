@@ -1,21 +1,22 @@
 -- From what a request's own part does to what the request, and then the line, does.
-use Rattle.std.proofs.Common.{◌≡◌, ℕ, ◌≤◌, Bool, true, false, cond, List, [], ◌∷◌, ◌++◌, length, ap, sym, ◌∙◌, refl, Option, Some, None, subst, append-nil, codes}
+use Rattle.std.proofs.Common.{◌≡◌, ℕ, ◌≤◌, Bool, true, false, cond, List, [], ◌∷◌, ◌++◌, length, ap, sym, ◌∙◌, Option, Some, None, subst, append-nil, codes}
 use Rattle.std.proofs.lemmas.Bool.{le-ltb}
 use Rattle.script.specs.Outcome.{fault_line}
 use Rattle.script.specs.Texts.{ring_text}
+use Rattle.ringcore.specs.declared.core_fault.CoreFault.{CoreFault}
 use Rattle.ringcore.specs.declared.step.Step.{Step}
 use Rattle.ringcore.specs.declared.step.Seen.{Seen}
 use Rattle.ringcore.specs.declared.step_fault.StepFault.{StepFault}
 use Rattle.ringcore.specs.Shadow.{Ring}
 use Rattle.ringcore.specs.Faults.{fault_of}
-use Rattle.ringcore.specs.FaultNames.{label_of}
+use Rattle.ringcore.specs.FaultNames.{label_of, core_label}
 use Rattle.ringcore.specs.Answers.{event_of}
-use Rattle.ringcore.specs.Machine.{CoreValue, StandsFor, ring_of, ring_with, IsRefused, IsTaken, answer_to as seen_by}
+use Rattle.ringcore.specs.Machine.{CoreValue, StandsFor, ring_of, IsNew, number_fault, IsRefused, IsTaken, answer_to as seen_by}
 use Rattle.schedule.specs.declared.request.Request.{Request}
 use Rattle.schedule.specs.declared.request.Request.TheVariants as asks
 use Rattle.schedule.specs.Lines.{request_of}
 use Rattle.schedule.specs.Texts.{answer_line}
-use Rattle.schedule.specs.ScheduleText.{State, Effect, answers, faults, made, ring_fault, ring_or_fault, taken, step_or_fault, step_effect, served, first_served, request_effect, asked_effect, line_effect}
+use Rattle.schedule.specs.ScheduleText.{State, Effect, answers, faults, made, ring_or_fault, taken, step_or_fault, step_effect, served, first_served, request_effect, asked_effect, line_effect}
 use Rattle.schedule.specs.Standing.{Stands, StandsAt, Produces, Acts, ActsAt}
 
 -- an effect that is known
@@ -131,25 +132,25 @@ first_step number request step is_counted core before after e text = record {
   produces = λ state s. produces_at (first_served number request) core (faults number (codes "no ring") None) (ap (first_served number) e) (λ on. absurd cc);
 }
 
-pub first_ring_is : (number : ℕ) (request : Request) (log2 senders : ℕ) → request ≡ asks.Ring log2 senders → (state : Option State) → first_served number request ≡ ring_or_fault number log2 senders (ring_fault log2 senders)
+pub first_ring_is : (number : ℕ) (request : Request) (log2 senders : ℕ) → request ≡ asks.Ring log2 senders → (state : Option State) → first_served number request ≡ ring_or_fault number log2 senders (number_fault log2 senders)
 unfolding first_served
 first_ring_is number request log2 senders e state = ap (first_served number) e
 
-pub ring_refused : (number log2 senders : ℕ) (name : List ℕ) (new : Option CoreValue) (before after : List ℕ) → ring_fault log2 senders ≡ Some name → after ≡ before ++ fault_line number name
-    → ActsAt (λ state. ring_or_fault number log2 senders (ring_fault log2 senders)) None new before after false
-ring_refused number log2 senders name new before after e text = record {
-  answer = fault_line number name;
+pub ring_refused : (number log2 senders : ℕ) (fault : CoreFault) (new : Option CoreValue) (before after : List ℕ) → number_fault log2 senders ≡ Some fault
+    → after ≡ before ++ fault_line number (core_label fault) → ActsAt (λ state. ring_or_fault number log2 senders (number_fault log2 senders)) None new before after false
+ring_refused number log2 senders fault new before after e text = record {
+  answer = fault_line number (core_label fault);
   text = text;
-  produces = λ state s. produces_at (ring_or_fault number log2 senders (ring_fault log2 senders)) new (faults number name None) (ap (ring_or_fault number log2 senders) e) (λ on. absurd cc);
+  produces = λ state s. produces_at (ring_or_fault number log2 senders (number_fault log2 senders)) new (faults number (core_label fault) None) (ap (ring_or_fault number log2 senders) e) (λ on. absurd cc);
 }
 
-pub ring_made : (number log2 senders : ℕ) (new : CoreValue) (before after : List ℕ) → ring_fault log2 senders ≡ None → ring_of new ≡ ring_with log2 senders → StandsFor new []
-    → after ≡ before ++ ring_text log2 → ActsAt (λ state. ring_or_fault number log2 senders (ring_fault log2 senders)) None (Some new) before after true
-ring_made number log2 senders new before after e same stands text = record {
+pub ring_made : (number log2 senders : ℕ) (new : CoreValue) (before after : List ℕ) → IsNew new log2 senders → after ≡ before ++ ring_text log2
+    → ActsAt (λ state. ring_or_fault number log2 senders (number_fault log2 senders)) None (Some new) before after true
+ring_made number log2 senders new before after fresh text = record {
   answer = ring_text log2;
   text = text;
-  produces = λ state s. produces_at (ring_or_fault number log2 senders (ring_fault log2 senders)) (Some new) (answers (ring_text log2) (made log2 senders)) (ap (ring_or_fault number log2 senders) e)
-      (λ on. record { ring = same; run = stands });
+  produces = λ state s. produces_at (ring_or_fault number log2 senders (number_fault log2 senders)) (Some new) (answers (ring_text log2) (made log2 senders))
+      (ap (ring_or_fault number log2 senders) fresh.numbers) (λ on. record { ring = fresh.ring; run = fresh.stands });
 }
 
 -- ---- either

@@ -1,17 +1,18 @@
 -- The text that a schedule is answered with.
-use Rattle.std.specs.Prelude.{ℕ, ◌+◌, nat_lt, nat_le, List, [], ◌∷◌, ◌++◌, Bool, true, false, not, ◌&&◌, Option, Some, None, length, codes, if◌then◌else◌}
+use Rattle.std.specs.Prelude.{ℕ, ◌+◌, nat_lt, List, [], ◌∷◌, Bool, true, false, Option, Some, None, length, codes, if◌then◌else◌}
 use Rattle.script.specs.Lines.{lines_of}
 use Rattle.script.specs.Outcome.{fault_line}
 use Rattle.script.specs.Answers.{Answer, with_text}
 use Rattle.script.specs.Texts.{ring_text}
+use Rattle.ringcore.specs.declared.core_fault.CoreFault.{CoreFault}
 use Rattle.ringcore.specs.declared.step.Step.{Step}
 use Rattle.ringcore.specs.declared.step_fault.StepFault.{StepFault}
 use Rattle.ringcore.specs.Trails.{Run}
 use Rattle.ringcore.specs.Shadow.{Ring}
 use Rattle.ringcore.specs.Faults.{fault_of}
-use Rattle.ringcore.specs.FaultNames.{label_of}
+use Rattle.ringcore.specs.FaultNames.{label_of, core_label}
 use Rattle.ringcore.specs.Answers.{event_of}
-use Rattle.ringcore.specs.Machine.{ring_with, answer_to as seen_by}
+use Rattle.ringcore.specs.Machine.{ring_with, number_fault, answer_to as seen_by}
 use Rattle.schedule.specs.declared.request.Request.{Request}
 use Rattle.schedule.specs.declared.request.Request.TheVariants as asks
 use Rattle.schedule.specs.Lines.{request_of}
@@ -41,23 +42,14 @@ faults number name state = record { text = fault_line number name; state = state
 abbrev pub made : ℕ → ℕ → State
 made log2 senders = record { ring = ring_with log2 senders; run = [] }
 
-abbrev pub is_within : ℕ → ℕ → ℕ → Bool
-is_within low high n = nat_le low n && nat_le n high
-
--- the first number of a ring line that is out of range
-abbrev pub ring_fault : ℕ → ℕ → Option (List ℕ)
-ring_fault log2 senders =
-    if not (is_within 1 19 log2) then Some (codes "N1")
-    else if not (is_within 1 256 senders) then Some (codes "N2")
-    else None
-
-abbrev pub ring_or_fault : ℕ → ℕ → ℕ → Option (List ℕ) → Effect
-ring_or_fault number log2 senders (Some name) = faults number name None
+-- by which of its numbers is out of range, if one is
+abbrev pub ring_or_fault : ℕ → ℕ → ℕ → Option CoreFault → Effect
+ring_or_fault number log2 senders (Some fault) = faults number (core_label fault) None
 ring_or_fault number log2 senders None = answers (ring_text log2) (made log2 senders)
 
 -- ---- steps
 
--- what was told once the step was taken
+-- how things stand once the step is taken
 abbrev pub taken : State → Step → State
 taken state step = record { ring = state.ring; run = event_of state.ring state.run step ∷ state.run }
 
@@ -80,7 +72,7 @@ served number (asks.Step step is_counted) state = step_effect number step is_cou
 -- what a request does before that
 unfoldable pub first_served : ℕ → Request → Effect
 first_served number asks.Nothing = record { text = []; state = None; goes_on = true }
-first_served number (asks.Ring log2 senders) = ring_or_fault number log2 senders (ring_fault log2 senders)
+first_served number (asks.Ring log2 senders) = ring_or_fault number log2 senders (number_fault log2 senders)
 first_served number (asks.Step step is_counted) = faults number (codes "no ring") None
 
 unfoldable pub request_effect : ℕ → Request → Option State → Effect

@@ -1,5 +1,5 @@
 -- The texts that the steps of a schedule are answered with.
-use Rattle.std.specs.Prelude.{ℕ, zero, suc, ◌/◌, ◌%◌, List, [], ◌++◌, Bool, true, false, Option, Some, None, codes, decimal, if◌then◌else◌}
+use Rattle.std.specs.Prelude.{ℕ, zero, suc, ◌/◌, ◌%◌, List, [], ◌++◌, Bool, false, Option, Some, None, codes, decimal, if◌then◌else◌}
 use Rattle.std.specs.Fmt.{digits}
 use Rattle.qindex.specs.declared.control.Control.{Control}
 use Rattle.ringcore.specs.declared.step.Step.{Step}

@@ -32,11 +32,7 @@ fn say_flags(count: u32, flags: u64, reply: &mut String) -> Result<(), AllocErro
     Ok(())
 }
 
-fn say_reserved(
-    first: Index,
-    number: Option<u32>,
-    reply: &mut String,
-) -> Result<(), AllocError>
+fn say_reserved(first: Index, number: Option<u32>, reply: &mut String) -> Result<(), AllocError>
     ensures { OnOk result (string_bytes reply.new ≡ string_bytes reply.old ++ (codes "reserved " ++ decimal first.number ++ number_text number)) }
 {
     let first = first.get();
@@ -59,7 +55,7 @@ fn say_ready(is_counted: bool, found: u32, reply: &mut String) -> Result<(), All
 }
 
 /// What the control word in a step's answer is.
-pub fn word_name(step: &Step) -> &'static str
+pub(crate) fn word_name(step: &Step) -> &'static str
     ensures { result.now ≡ word_name step.now }
 {
     match step {
@@ -70,7 +66,7 @@ pub fn word_name(step: &Step) -> &'static str
 }
 
 /// How many flags a step turns.
-pub fn flags_of(step: &Step) -> u32
+pub(crate) fn flags_of(step: &Step) -> u32
     ensures { result ≡ flags_of step.now }
 {
     match step {
@@ -111,7 +107,7 @@ fn say_seen(
 }
 
 /// Tells what a step of such a word and so many flags was answered, on a line of its own.
-pub fn say_answer(
+pub(crate) fn say_answer(
     name: &str,
     flags: u32,
     is_counted: bool,
@@ -125,7 +121,7 @@ pub fn say_answer(
 }
 
 /// Tells the fault of a step, which ends the run.
-pub fn say_step_fault(
+pub(crate) fn say_step_fault(
     number: u64,
     fault: StepFault,
     reply: &mut String,

@@ -1,7 +1,7 @@
-use Rattle.std.proofs.Common.{Some, ap, sym, ◌∙◌}
+use Rattle.std.proofs.Common.{ap, sym, ◌∙◌}
 use Rattle.script.specs.Words.{words_of}
 use Rattle.schedule.specs.Lines.{raws_of}
-use Rattle.schedule.proofs.BodyLemmas.{behind, raws_of-more, raws_of-bad, raws_of-end, body_of-start}
+use Rattle.schedule.proofs.BodyLemmas.{behind, raws_of-more, raws_of-bad, raws_of-end}
 use Rattle.schedule.proofs.parsing.parse_body.Goals as goal
 
 pub returns-in_default-raw : goal.returns-in_default-raw
