@@ -1,5 +1,5 @@
 -- From what a line does to what it and the lines after it may come to.
-use Rattle.std.proofs.Common.{◌≡◌, ℕ, ◌+◌, true, false, cond, List, [], ◌∷◌, ◌++◌, refl, ap, sym, ◌∙◌, append_assoc, Option, Some, None, subst}
+use Rattle.std.proofs.Common.{◌≡◌, ℕ, ◌+◌, true, false, cond, List, [], ◌∷◌, ◌++◌, refl, ap, sym, ◌∙◌, Option, subst}
 use Rattle.script.specs.Outcome.{Continues, Ends}
 use Rattle.script.specs.Answers.{Answer, with_text, EndsAs}
 use Rattle.script.proofs.AnswerLemmas.{ends_front}
