@@ -6,3 +6,5 @@ pub mod BufferLemmas
 pub mod ServedLines
 pub mod UnderWay
 pub mod Pauses
+pub mod MayLemmas
+pub mod AnswerLemmas

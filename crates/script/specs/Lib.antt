@@ -4,3 +4,7 @@ pub mod Outcome
 pub mod Errors
 pub mod Writing
 pub mod Serving
+pub mod Fields
+pub mod Texts
+pub mod Answers
+pub mod Statuses

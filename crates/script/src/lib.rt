@@ -3,17 +3,23 @@
 
 mod ending;
 mod error;
+mod fields;
 mod interpreter;
 mod pending;
 mod run;
 mod sending;
 mod serving;
+mod status;
+mod telling;
 mod words;
 
 pub use ending::Ending;
 pub use error::ServeError;
+pub use fields::{is_comment, is_end, is_text, next_u32, next_u64, raw};
 pub use interpreter::{Interpreter, LONGEST_LINE};
 pub use serving::serve;
+pub use status::{Status, status_of};
+pub use telling::{say_fault, say_ring};
 pub use words::{next_word, number};
 
 #[cfg(test)]

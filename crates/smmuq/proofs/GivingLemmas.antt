@@ -1,17 +1,12 @@
 -- From what a line does to what it and the lines after it may come to.
-use Rattle.std.proofs.Common.{◌≡◌, ℕ, ◌+◌, true, false, cond, List, [], ◌∷◌, ◌++◌, refl, ap, sym, ◌∙◌, append_assoc, Option, Some, None, subst}
-use Rattle.script.specs.declared.ending.Ending.{Ending}
-use Rattle.script.specs.declared.ending.Ending.TheVariants.{Finished, Refused}
+use Rattle.std.proofs.Common.{◌≡◌, ℕ, ◌+◌, true, false, cond, List, [], ◌∷◌, ◌++◌, refl, ap, sym, ◌∙◌, Option, subst}
 use Rattle.script.specs.Outcome.{Continues, Ends}
+use Rattle.script.specs.Answers.{Answer, with_text, EndsAs}
+use Rattle.script.proofs.AnswerLemmas.{ends_front}
 use Rattle.smmuq.specs.declared.smmu.Smmu.{Smmu}
-use Rattle.smmuq.specs.ReplayText.{State, Answer, Effect, line_effect, after_effect, with_text, answer_from}
+use Rattle.smmuq.specs.ReplayText.{State, Effect, line_effect, after_effect, answer_from}
 use Rattle.smmuq.specs.Standing.{ActsAt}
-use Rattle.smmuq.specs.Giving.{EndsAs, MayGive}
-
-ends_front : (text : List ℕ) (answer : Answer) (more : List ℕ) (ending : Option Ending) → EndsAs answer more ending → EndsAs (with_text text answer) (text ++ more) ending
-ends_front text answer more (Some Finished) e = ap (with_text text) e
-ends_front text answer more (Some Refused) e = ap (with_text text) e
-ends_front text answer more None e = (e.0, ap (λ t. text ++ t) e.1 ∙ sym (append_assoc text more e.0))
+use Rattle.smmuq.specs.Giving.{MayGive}
 
 -- the answer to a line and to those after it
 goes_on : (effect : Effect) (rest : Option State → Answer) (text : List ℕ) → effect.text ≡ text → effect.goes_on ≡ true → after_effect effect rest ≡ with_text text (rest effect.state)

@@ -1,17 +1,10 @@
 -- What lines may come to, under some choice of the lines at which memory is wanting.
-use Rattle.std.specs.Prelude.{◌≡◌, ℕ, List, ◌++◌, Bool, true, false, Option, Some, None}
-use Rattle.script.specs.declared.ending.Ending.{Ending}
-use Rattle.script.specs.declared.ending.Ending.TheVariants.{Finished, Refused}
+use Rattle.std.specs.Prelude.{ℕ, List, Bool, Option, None}
 use Rattle.script.specs.Outcome.{Outcome}
+use Rattle.script.specs.Answers.{EndsAs}
 use Rattle.smmuq.specs.declared.smmu.Smmu.{Smmu}
-use Rattle.smmuq.specs.ReplayText.{State, Answer, answer_from}
+use Rattle.smmuq.specs.ReplayText.{State, answer_from}
 use Rattle.smmuq.specs.Standing.{StandsAt}
-
--- The answer is this text and ends so; where no ending is given, it begins with the text.
-abbrev pub EndsAs : Answer → List ℕ → Option Ending → Type 0
-EndsAs answer text (Some Finished) = answer ≡ record { text = text; is_good = true }
-EndsAs answer text (Some Refused) = answer ≡ record { text = text; is_good = false }
-EndsAs answer text None = (rest : List ℕ) × (answer.text ≡ text ++ rest)
 
 -- what lines may come to from a state
 abbrev pub MayCome : Option State → ℕ → List (List ℕ) → Outcome → Type 0

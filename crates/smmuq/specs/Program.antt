@@ -2,9 +2,11 @@
 use Rattle.std.specs.Prelude.{◌≡◌, ◌≢◌, ℕ, List, ◌++◌, ◌⊎◌, true, false, Option, codes, ⊤}
 use Rattle.std.specs.Io.KnownBytes.{Appends, Keeps}
 use Rattle.script.specs.Writing.{no_memory_line}
-use Rattle.smmuq.specs.declared.status.Status.{Status}
-use Rattle.smmuq.specs.declared.status.Status.TheVariants.{Good, Refused, NoMemory, Failed}
-use Rattle.smmuq.specs.Replay.{exit_status, ExitsAsReplay}
+use Rattle.script.specs.declared.status.Status.{Status}
+use Rattle.script.specs.declared.status.Status.TheVariants.{Good, Refused, NoMemory, Failed}
+use Rattle.script.specs.Statuses.{exit_status}
+use Rattle.schedule.specs.Scheduling.{ExitsAsSchedule}
+use Rattle.smmuq.specs.Replay.{ExitsAsReplay}
 use Rattle.smmuq.specs.DecodeText.{decode_text}
 
 -- the line that says what a word means
@@ -23,13 +25,15 @@ Decodes Failed word before after = ⊤
 abbrev pub ExitsAsDecode : ℕ → List ℕ → Option (List ℕ) → Option (List ℕ) → Type 0
 ExitsAsDecode exit word before after = (status : Status) × (exit ≡ exit_status status) × Decodes status word before after
 
--- Neither was asked for, and help or a fault was told: the status isn't that of a refused word or script,
+-- None of these was asked for, and help or a fault was told: the status isn't that of a refused word or script,
 -- a fault of the command line goes elsewhere than answers, and want of memory is told by its line alone.
 abbrev pub ExitsAsTold : ℕ → Option (List ℕ) → Option (List ℕ) → Type 0
 ExitsAsTold exit before after = (exit ≢ 1) × (exit ≡ 2 → Keeps before after) × (exit ≡ 3 → Appends before after no_memory_line)
 
--- A script was replayed; or no input was read, and a word was decoded, or the command line asked for neither.
+-- A script was replayed, or played as a schedule; or no input was read, and a word was decoded, or the
+-- command line asked for none of these.
 abbrev pub ExitsAsProgram : ℕ → Option (List ℕ) → Option (List ℕ) → Option (List ℕ) → Option (List ℕ) → Type 0
 ExitsAsProgram exit input rest before after =
     ExitsAsReplay exit input before after
+    ⊎ ExitsAsSchedule exit input before after
     ⊎ (Keeps input rest × (((word : List ℕ) × ExitsAsDecode exit word before after) ⊎ ExitsAsTold exit before after))

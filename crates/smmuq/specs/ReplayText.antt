@@ -8,6 +8,8 @@ use Rattle.cmdcodec.specs.Words.{decoding}
 use Rattle.cmdcodec.specs.Text.{text_of}
 use Rattle.script.specs.Lines.{lines_of}
 use Rattle.script.specs.Outcome.{fault_line}
+use Rattle.script.specs.Answers.{Answer, with_text}
+use Rattle.script.specs.Texts.{ring_text}
 use Rattle.smmuq.specs.declared.request.Request.{Request}
 use Rattle.smmuq.specs.declared.request.Request.TheVariants as asks
 use Rattle.smmuq.specs.declared.shape.Shape.{Shape}
@@ -49,9 +51,6 @@ refused name = codes "refused " ++ name ++ codes "\n"
 
 abbrev pub made : Shape → State
 made shape = record { world = empty_world shape; history = []; removed = 0 }
-
-abbrev pub ring_text : ℕ → List ℕ
-ring_text log2 = codes "ring size " ++ decimal (2 ^ log2) ++ codes "\n"
 
 abbrev pub ring_or_fault : ℕ → Shape → Option ShapeFault → Effect
 ring_or_fault number shape (Some fault) = faults number (fault_label fault) None
@@ -218,14 +217,6 @@ unfoldable pub line_effect : ℕ → Bool → List ℕ → Option State → Effe
 line_effect number wanting line state =
     if nat_lt 4096 (length line) then faults number (codes "long line") state
     else asked_effect number wanting (request_of line) state
-
--- all that is written, and whether the run came to the end of the script
-pub record Answer : Type 0 where
-  pub text : List ℕ
-  pub is_good : Bool
-
-abbrev pub with_text : List ℕ → Answer → Answer
-with_text text answer = record { text = text ++ answer.text; is_good = answer.is_good }
 
 abbrev pub after_effect : Effect → (Option State → Answer) → Answer
 after_effect effect rest =

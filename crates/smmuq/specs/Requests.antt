@@ -1,38 +1,16 @@
 -- What the lines of a script ask for.
-use Rattle.std.specs.Prelude.{ℕ, ◌^◌, nat_lt, nat_le, List, [], ◌∷◌, ◌==◌, ◌||◌, ◌&&◌, Bool, true, false, Option, Some, None, is_none, Result, Ok, Err, codes, if◌then◌else◌}
+use Rattle.std.specs.Prelude.{ℕ, ◌^◌, nat_le, List, [], ◌∷◌, ◌==◌, ◌||◌, ◌&&◌, Bool, Option, Some, None, is_none, codes, if◌then◌else◌}
 use Rattle.std.specs.List.{list_all}
 use Rattle.std.specs.Str.{bytes_eq}
-use Rattle.hex.specs.Hex.{decode_sized}
-use Rattle.hex.specs.declared.error.FromHexError.{FromHexError}
 use Rattle.cmdcodec.specs.declared.raw.Raw.{Raw}
-use Rattle.cmdcodec.specs.Bytes.{raw_of}
 use Rattle.cmdcodec.specs.Opcodes.{opcode_of}
 use Rattle.cmdcodec.specs.Legality.{first_ill}
-use Rattle.script.specs.Words.{words_of, number_of}
+use Rattle.script.specs.Words.{words_of}
+use Rattle.script.specs.Fields.{◌>>=◌, guard, next_below, is_end, hex_of, is_comment, is_printable}
 use Rattle.smmuq.specs.declared.request.Request.{Request}
 use Rattle.smmuq.specs.declared.request.Request.TheVariants.{Nothing, Ring, Fill, Send, Step, Dump}
 use Rattle.smmuq.specs.declared.tag.Tag.{Tag}
 use Rattle.smmuq.specs.declared.tag.Tag.TheVariants.{Ste}
-
-infixl 10 ◌>>=◌
-abbrev pub ◌>>=◌ : {A B : Type 0} → Option A → (A → Option B) → Option B
-None >>= f = None
-(Some x) >>= f = f x
-
-abbrev pub guard : {A : Type 0} → Bool → A → Option A
-guard test x = if test then Some x else None
-
--- the number that the next word says, where it is below the limit, and the words after it
-unfoldable pub next_below : ℕ → List (List ℕ) → Option (ℕ × List (List ℕ))
-next_below limit [] = None
-next_below limit (word ∷ words) = do
-  number ← number_of word
-  guard (nat_lt number limit) (number, words)
-
--- no word is left
-abbrev pub is_end : List (List ℕ) → Bool
-is_end [] = true
-is_end (word ∷ words) = false
 
 -- `ring LOG2 SENDERS MAXBATCHES CAPACITY`
 unfoldable pub ring_of : List (List ℕ) → Option Request
@@ -55,14 +33,6 @@ fill_of words = do
   tag ← tag_of words
   value ← next_below (2 ^ 64) tag.1
   guard (is_end value.1) (Fill tag.0 value.0)
-
-abbrev pub raw_of_decoded : Result (List ℕ) FromHexError → Option Raw
-raw_of_decoded (Ok bytes) = Some (raw_of bytes)
-raw_of_decoded (Err e) = None
-
--- HEX: 32 hexadecimal digits of either case, the bytes of a command
-abbrev pub hex_of : List ℕ → Option Raw
-hex_of word = raw_of_decoded (decode_sized word 16)
 
 -- a legal command with an opcode that the ring takes yet
 abbrev pub is_sendable : Raw → Bool
@@ -104,18 +74,9 @@ named name words =
     else if bytes_eq name (codes "dump") then guard (is_end words) Dump
     else None
 
--- A word that begins with # makes its line a comment.
-abbrev pub is_comment : List ℕ → Bool
-is_comment [] = false
-is_comment (b ∷ bytes) = b == 35
-
 abbrev pub request_from : List (List ℕ) → Option Request
 request_from [] = Some Nothing
 request_from (name ∷ words) = if is_comment name then Some Nothing else named name words
-
--- a byte that a line may hold
-abbrev pub is_printable : ℕ → Bool
-is_printable b = nat_le 0x20 b && nat_le b 0x7e
 
 -- what a line asks for; None is a bad line
 unfoldable pub request_of : List ℕ → Option Request

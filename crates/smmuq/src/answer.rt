@@ -1,7 +1,6 @@
 //! The texts that answers are made of.
-ghost use Rattle.std.specs.Prelude.{◌≡◌, ◌≤◌, ◌++◌, OnOk, string_bytes};
-ghost use Rattle.script.specs.Outcome.{fault_line};
-ghost use Rattle.smmuq.specs.ReplayText.{ring_text, refused, replaced_text, sent_text, applied_text, register_line, registers_text, totals_text, entry_line};
+ghost use Rattle.std.specs.Prelude.{◌≡◌, ◌++◌, OnOk, string_bytes};
+ghost use Rattle.smmuq.specs.ReplayText.{refused, replaced_text, sent_text, applied_text, register_line, registers_text, totals_text, entry_line};
 
 use crate::counts::Counts;
 use crate::entries::Filling;
@@ -14,22 +13,6 @@ pub(crate) fn say(text: &str, reply: &mut String) -> Result<(), AllocError>
     ensures { OnOk result (string_bytes reply.new ≡ string_bytes reply.old ++ text.now) }
 {
     reply.push_str(text)
-}
-
-/// A fault, which ends the run.
-pub(crate) fn say_fault(number: u64, name: &str, reply: &mut String) -> Result<(), AllocError>
-    ensures { OnOk result (string_bytes reply.new ≡ string_bytes reply.old ++ fault_line number name.now) }
-{
-    write!(reply, "line {number}: {name}\n")
-}
-
-/// The size of a ring that was made.
-pub(crate) fn say_ring(log2: u32, reply: &mut String) -> Result<(), AllocError>
-    requires { log2 ≤ 19 }
-    ensures { OnOk result (string_bytes reply.new ≡ string_bytes reply.old ++ ring_text log2) }
-{
-    let size = 1u32 << log2;
-    write!(reply, "ring size {size}\n")
 }
 
 pub(crate) fn say_refused(label: &str, reply: &mut String) -> Result<(), AllocError>

@@ -1,43 +1,19 @@
 //! From a line to what it asks for.
-ghost use Rattle.std.specs.Prelude.{◌≡◌, ◌^◌, IfOk, option_map, Some, None};
-ghost use Rattle.std.specs.List.{list_all};
+ghost use Rattle.std.specs.Prelude.{◌≡◌, IfOk, option_map, Some, None};
 ghost use Rattle.script.specs.Words.{words_of};
-ghost use Rattle.smmuq.specs.Requests.{next_below, is_end, ring_of, tag_of, fill_of, hex_of, is_sendable, command_of, commands_of, send_of, counted_steps, steps_of, named, is_comment, request_from, request_of, is_printable};
+ghost use Rattle.smmuq.specs.Requests.{ring_of, tag_of, fill_of, is_sendable, command_of, commands_of, send_of, counted_steps, steps_of, named, request_from, request_of};
 ghost use Rattle.smmuq.specs.declared.request.Request.{Request};
 ghost use Rattle.cmdcodec.specs.declared.raw.Raw.{Raw};
 
 use crate::request::{Body, Request};
 use crate::shape::Shape;
 use crate::tag::Tag;
-use cmdcodec::{Command, Raw, Sid, decode, from_bytes};
-use script::{next_word, number};
+use cmdcodec::{Command, Raw, Sid, decode};
+use script::{is_comment, is_end, is_text, next_u32, next_u64, next_word, raw};
 use std::alloc::{AllocError, Global};
 
 /// The most steps that one line may ask for.
 const MOST_STEPS: u64 = 1_000_000;
-
-#[tactic(auto, unfolding(crate::specs::Requests::next_below))]
-fn next_u64(text: &[u8]) -> Option<(u64, &[u8])>
-    ensures { option_map (λ found. (found.0, words_of found.1.now)) result ≡ next_below (2 ^ 64) (words_of text.now) }
-{
-    let (word, rest) = next_word(text)?;
-    Some((number(word)?, rest))
-}
-
-#[tactic(auto, unfolding(crate::specs::Requests::next_below))]
-fn next_u32(text: &[u8]) -> Option<(u32, &[u8])>
-    ensures { option_map (λ found. (found.0, words_of found.1.now)) result ≡ next_below (2 ^ 32) (words_of text.now) }
-{
-    let (word, rest) = next_word(text)?;
-    let number = u32::try_from(number(word)?).ok()?;
-    Some((number, rest))
-}
-
-fn is_end(text: &[u8]) -> bool
-    ensures { result ≡ is_end (words_of text.now) }
-{
-    next_word(text).is_none()
-}
 
 #[tactic(auto, unfolding(crate::specs::Requests::ring_of))]
 fn parse_ring(text: &[u8]) -> Option<Request>
@@ -86,16 +62,6 @@ fn parse_fill(text: &[u8]) -> Option<Request>
     Some(Request::Fill { tag, value })
 }
 
-fn parse_hex(word: &[u8]) -> Option<Raw>
-    ensures { result ≡ hex_of word.now }
-{
-    let mut bytes = [0; 16];
-    match hex::decode_to_slice(word, &mut bytes) {
-        Ok(()) => Some(from_bytes(&bytes)),
-        Err(_) => None,
-    }
-}
-
 fn is_sendable(raw: Raw) -> bool
     ensures { result ≡ is_sendable raw }
 {
@@ -110,7 +76,7 @@ fn is_sendable(raw: Raw) -> bool
 fn parse_command(word: &[u8]) -> Option<Raw>
     ensures { result ≡ command_of word.now }
 {
-    let raw = parse_hex(word)?;
+    let raw = raw(word)?;
     if is_sendable(raw) { Some(raw) } else { None }
 }
 
@@ -166,12 +132,6 @@ fn parse_send(alloc: Global, text: &[u8]) -> Result<Option<Request>, AllocError>
     }
 }
 
-fn is_comment(name: &[u8]) -> bool
-    ensures { result ≡ is_comment name.now }
-{
-    !name.is_empty() && name[0] == b'#'
-}
-
 #[tactic(auto, unfolding(crate::specs::Requests::named))]
 fn parse_named(alloc: Global, name: &[u8], rest: &[u8]) -> Result<Option<Request>, AllocError>
     ensures { IfOk result (λ request. request ≡ named name.now (words_of rest.now)) }
@@ -202,12 +162,6 @@ fn parse_words(alloc: Global, line: &[u8]) -> Result<Option<Request>, AllocError
     } else {
         parse_named(alloc, name, rest)
     }
-}
-
-fn is_text(line: &[u8]) -> bool
-    ensures { result ≡ list_all is_printable line.now }
-{
-    line.iter().all(|b| 0x20 <= *b && *b <= 0x7e)
 }
 
 /// What a line asks for. None is a bad line.

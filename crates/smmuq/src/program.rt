@@ -2,20 +2,25 @@
 ghost use Rattle.std.specs.Prelude.{◌≡◌, ◌⊎◌, ◌++◌, OnOk, codes};
 ghost use Rattle.std.specs.Io.KnownBytes.{Appends};
 ghost use Rattle.script.specs.Writing.{no_memory_line};
+ghost use Rattle.schedule.specs.Scheduling.{ExitsAsSchedule};
 ghost use Rattle.smmuq.specs.Replay.{ExitsAsReplay};
 ghost use Rattle.smmuq.specs.Program.{Decodes, ExitsAsDecode, ExitsAsTold, ExitsAsProgram};
 
 use crate::decode::decode_text;
 use crate::serving::replay;
-use crate::status::Status;
 use clap::error::ErrorKind;
 use clap::{Arg, Command, Error};
+use schedule::schedule;
+use script::Status;
 use std::alloc::{AllocError, Global};
 use std::io;
 use std::io::{Read, Write};
 
 /// The exit status of a command line that isn't understood.
 const NOT_UNDERSTOOD: u8 = 2;
+
+/// The subcommand that plays a schedule.
+const SCHEDULE: &str = "schedule";
 
 /// The subcommand that decodes a word, and the name of that word.
 const DECODE: &str = "decode";
@@ -27,6 +32,8 @@ const HEX: &str = "HEX";
 enum Subcommand<'a> {
     /// That a script is served.
     Replay,
+    /// That a script is played as a schedule of a ring's atomic steps.
+    Schedule,
     /// That it is said what a word means as a command.
     Decode(&'a str),
 }
@@ -34,6 +41,9 @@ enum Subcommand<'a> {
 fn command_line<'a>(alloc: Global) -> Result<Command<'a>, AllocError> {
     let replay = Command::new(alloc, "replay").about(
         "Serves a script from standard input and answers it on standard output",
+    );
+    let schedule = Command::new(alloc, SCHEDULE).about(
+        "Plays a ring's atomic steps in the order of a script from standard input",
     );
     let decode = Command::new(alloc, DECODE)
         .about("Says what 32 hexadecimal digits mean as a command")
@@ -43,13 +53,17 @@ fn command_line<'a>(alloc: Global) -> Result<Command<'a>, AllocError> {
         .no_binary_name(true)
         .subcommand_required(true)
         .subcommand(replay)?
+        .subcommand(schedule)?
         .subcommand(decode)
 }
 
 fn understand<'a>(alloc: Global, words: &'a [&'a str]) -> Result<Subcommand<'a>, Error> {
     let matches = command_line(alloc)?.try_get_matches_from(words)?;
+    if matches.subcommand_matches(SCHEDULE).is_some() {
+        return Ok(Subcommand::Schedule);
+    }
     let decode = matches.subcommand_matches(DECODE);
-    // A `decode` without its word isn't understood, so only `replay` has none.
+    // A `decode` without its word isn't understood, so of these two only `replay` has none.
     match decode.and_then(|decode| decode.get_str(HEX)) {
         Some(word) => Ok(Subcommand::Decode(word)),
         None => Ok(Subcommand::Replay),
@@ -123,6 +137,12 @@ fn replay_to_exit<I: Read, O: Write>(alloc: Global, input: &mut I, output: &mut 
     replay(alloc, input, output) as u8
 }
 
+fn schedule_to_exit<I: Read, O: Write>(alloc: Global, input: &mut I, output: &mut O) -> u8
+    ensures { ExitsAsSchedule result (I.remaining input.old) (O.contents output.old) (O.contents output.new) }
+{
+    schedule(alloc, input, output) as u8
+}
+
 /// Does what the words ask, without the program's own name, and answers the exit status: 0 good,
 /// 1 refused input, 2 a command line that isn't understood, 3 want of memory, 4 a failed read or write.
 ///
@@ -135,11 +155,13 @@ pub fn program<'a, A: AllocGlobal, I: Read, O: Write, F: Write>(
     output: &mut O,
     faults: &mut F,
 ) -> u8
-    // Either a script was replayed; or no input was read, and a word was decoded, or help or a fault told.
+    // Either a script was replayed, or played as a schedule; or no input was read, and a word was decoded, or
+    // help or a fault told.
     ensures { ExitsAsProgram result (I.remaining input.old) (I.remaining input.new) (O.contents output.old) (O.contents output.new) }
 {
     match understand(rt.alloc(), words) {
         Ok(Subcommand::Replay) => replay_to_exit(rt.alloc(), input, output),
+        Ok(Subcommand::Schedule) => schedule_to_exit(rt.alloc(), input, output),
         Ok(Subcommand::Decode(word)) => decode_to_exit(rt.alloc(), word, output),
         Err(error) => tell(&error, output, faults),
     }

@@ -4,12 +4,11 @@ ghost use Rattle.smmuq.specs.Shapes.{shape_fault};
 ghost use Rattle.smmuq.specs.ReplayText.{ring_or_fault, first_served, request_effect, line_effect};
 ghost use Rattle.smmuq.specs.Standing.{ActsAt};
 
-use crate::answer::{say_fault, say_ring};
 use crate::parse::parse;
 use crate::request::Request;
 use crate::shape::{Shape, shape_fault};
 use crate::smmu::Smmu;
-use script::Interpreter;
+use script::{Interpreter, say_fault, say_ring};
 use std::alloc::{AllocError, Global};
 
 /// A replay between two lines.

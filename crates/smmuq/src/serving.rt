@@ -4,11 +4,10 @@ ghost use Rattle.std.specs.Io.KnownBytes.{IsAtEnd};
 ghost use Rattle.script.specs.Errors.{is_read, is_memory};
 ghost use Rattle.script.specs.Writing.{WritesAnswer, WritesNoMemory, WritesBeginning, AnswersWholeLines};
 ghost use Rattle.smmuq.specs.Giving.{MayAnswer};
-ghost use Rattle.smmuq.specs.Replay.{Replays, status_of};
+ghost use Rattle.smmuq.specs.Replay.{Replays};
 
 use crate::replay::Replay;
-use crate::status::Status;
-use script::{Ending, ServeError};
+use script::{Ending, ServeError, Status, status_of};
 use std::alloc::Global;
 use std::io::{Read, Write};
 
@@ -37,17 +36,6 @@ pub fn serve<R: Read, W: Write>(
 {
     let mut replay = Replay::new(alloc);
     script::serve(alloc, &mut replay, input, output)
-}
-
-fn status_of(served: &Result<Ending, ServeError>) -> Status
-    ensures { result ≡ status_of served.now }
-{
-    match served {
-        Ok(Ending::Finished) => Status::Good,
-        Ok(Ending::Refused) => Status::Refused,
-        Err(ServeError::Memory(_)) => Status::NoMemory,
-        Err(ServeError::Read(_) | ServeError::Write(_) | ServeError::Endless) => Status::Failed,
-    }
 }
 
 /// Reads a script and writes its answers, the line `no memory` among them, and says how it went.

@@ -2,7 +2,7 @@
 ghost use Rattle.std.specs.Prelude.{◌≡◌, IfOk, OnOk, None, string_bytes, true};
 
 use crate::answer::{
-    say, say_applied, say_fault, say_refused, say_registers, say_replaced, say_sent, say_totals,
+    say, say_applied, say_refused, say_registers, say_replaced, say_sent, say_totals,
 };
 use crate::counts::Counts;
 use crate::entries::{Entries, Fill, Filling};
@@ -12,6 +12,7 @@ use crate::request::Request;
 use crate::shape::Shape;
 use crate::tag::Tag;
 use cmdcodec::{Raw, decode};
+use script::say_fault;
 use std::alloc::{AllocError, Global};
 
 /// A ring with its senders, the commands that wait in it, and the caches that they are for.

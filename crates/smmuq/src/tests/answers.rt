@@ -1,6 +1,6 @@
 //! A script, and the answer that is wanted of it.
 use crate::serving::replay;
-use crate::status::Status;
+use script::Status;
 use std::process::Abort;
 
 /// Replays a script, and wants this text and this status of it.

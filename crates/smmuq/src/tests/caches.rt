@@ -1,6 +1,6 @@
 //! Filling, stepping and dumping.
 use super::answers::expect_answer;
-use crate::status::Status;
+use script::Status;
 
 #[test]
 fn caches(rt: HostRuntime) {

@@ -38,11 +38,36 @@ fn a_whole_script(rt: HostRuntime) -> Result<(), Fail> {
 }
 
 #[test]
+fn a_whole_schedule(rt: HostRuntime) -> Result<(), Fail> {
+    let mut input = b"ring 1 2\n\
+                      look 0\n\
+                      look 1\n\
+                      reserve 1 03000000050000000100000000000000\n\
+                      reserve 0 03000000050000000100000000000000\n\
+                      test 1\n"
+        .as_slice();
+    let mut output = Vec::new(rt.alloc());
+    let mut faults = Vec::new(rt.alloc());
+    let status = program(&rt, &["schedule"], &mut input, &mut output, &mut faults);
+    let text = "ring size 2\n\
+                control 0 0 open\n\
+                control 0 0 open\n\
+                reserved 0 number 1\n\
+                lost 2 0 open\n\
+                line 6: F5\n";
+    assert_eq!(rt; status, 1);
+    assert_eq!(rt; str::from_utf8(output.as_slice())?, text);
+    assert!(rt; faults.is_empty());
+    Ok(())
+}
+
+#[test]
 fn command_lines_that_are_not_understood(rt: HostRuntime) {
     for (name, words) in [
         ("no word", [].as_slice()),
         ("a word that means nothing", ["explode"].as_slice()),
         ("a word too many", ["replay", "more"].as_slice()),
+        ("a word behind schedule", ["schedule", "more"].as_slice()),
     ] {
         let mut input = b"ring 3 1 4 4\n".as_slice();
         let mut output = Vec::new(rt.alloc());

@@ -1,6 +1,6 @@
 //! What a line has to be: its characters, its words, its numbers and its length.
 use super::answers::expect_answer;
-use crate::status::Status;
+use script::Status;
 use std::test::Fail;
 
 #[test]

@@ -1,7 +1,7 @@
 //! Allocations that fail.
 use super::fakes::Sink;
 use crate::serving::replay;
-use crate::status::Status;
+use script::Status;
 use std::io::ErrorKind;
 
 const SCRIPT: &str = "ring 4 1 4 8\n\

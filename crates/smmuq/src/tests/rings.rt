@@ -1,6 +1,6 @@
 //! Making a ring, and what may stand before it and after it.
 use super::answers::expect_answer;
-use crate::status::Status;
+use script::Status;
 
 #[test]
 fn rings(rt: HostRuntime) {

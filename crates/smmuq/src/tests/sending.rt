@@ -1,6 +1,6 @@
 //! Which batches a ring takes, and which refusal comes first.
 use super::answers::expect_answer;
-use crate::status::Status;
+use script::Status;
 use std::alloc::AllocError;
 use std::test::Fail;
 

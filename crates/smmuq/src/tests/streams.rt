@@ -1,7 +1,7 @@
 //! Readers and writers that move a byte at a time, fail, or are interrupted.
 use super::fakes::{Sink, Source};
 use crate::serving::replay;
-use crate::status::Status;
+use script::Status;
 use std::io::ErrorKind;
 use std::test::Fail;
 

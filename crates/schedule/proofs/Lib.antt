@@ -1,0 +1,5 @@
+pub mod BodyLemmas
+pub mod FlagLemmas
+pub mod GivingLemmas
+pub mod ServedLemmas
+pub mod ComesLemmas

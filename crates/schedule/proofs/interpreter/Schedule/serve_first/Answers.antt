@@ -1,0 +1,20 @@
+use Rattle.std.proofs.Common.{string_bytes, subst, sym, None}
+use Rattle.ringcore.specs.Machine.{number_fault}
+use Rattle.schedule.specs.ScheduleText.{first_served, ring_or_fault}
+use Rattle.schedule.specs.Standing.{ActsAt}
+use Rattle.schedule.proofs.ServedLemmas.{acts_same_at, first_nothing, first_step, first_ring_is}
+use Rattle.schedule.proofs.interpreter.Schedule.serve_first.Goals as goal
+
+pub returns-in-Nothing : goal.returns-in-Nothing
+returns-in-Nothing c = first_nothing c.args.number c.args.request c.args.self.now.core (string_bytes c.args.reply.now) c.requires c.in-Nothing.is
+
+pub returns-in_ok-made-in-Ring : goal.returns-in_ok-made-in-Ring
+returns-in_ok-made-in-Ring c =
+    let made = c.in_ok-made-in-Ring.made in
+    subst (ActsAt (λ state. first_served c.args.number c.args.request) None made (string_bytes c.args.reply.now) (string_bytes c.first_ring.new.reply)) (sym c.is_some-is_made.ensures)
+    (acts_same_at (λ state. first_served c.args.number c.args.request) (λ state. ring_or_fault c.args.number c.in-Ring.log2 c.in-Ring.senders (number_fault c.in-Ring.log2 c.in-Ring.senders)) None made _ _ _
+    (first_ring_is c.args.number c.args.request c.in-Ring.log2 c.in-Ring.senders c.in-Ring.is) c.in_ok-made-in-Ring.ensures)
+
+pub returns-in_ok-say_fault-in-Step : goal.returns-in_ok-say_fault-in-Step
+returns-in_ok-say_fault-in-Step c =
+    first_step c.args.number c.args.request c.in-Step.step c.in-Step.is_counted c.args.self.now.core _ _ c.in-Step.is c.in_ok-say_fault-in-Step.ensures

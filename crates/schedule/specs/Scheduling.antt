@@ -1,0 +1,13 @@
+-- What the status of a schedule says.
+use Rattle.std.specs.Prelude.{ℕ, List, Option}
+use Rattle.script.specs.declared.status.Status.{Status}
+use Rattle.script.specs.Statuses.{Tells, ExitsAs}
+use Rattle.schedule.specs.Giving.{Answers}
+
+-- Of a reader that had this input, and a writer that held `before` and holds `after`.
+abbrev pub Schedules : Status → Option (List ℕ) → Option (List ℕ) → Option (List ℕ) → Type 0
+Schedules status input before after = Tells Answers status input before after
+
+-- It ended with the exit status of a run.
+abbrev pub ExitsAsSchedule : ℕ → Option (List ℕ) → Option (List ℕ) → Option (List ℕ) → Type 0
+ExitsAsSchedule exit input before after = ExitsAs Answers exit input before after

@@ -1,0 +1,179 @@
+//! The lines of a schedule, one after another.
+ghost use Rattle.std.specs.Prelude.{◌≡◌, ◌≤◌, IfOk, None, is_some, length, string_bytes};
+ghost use Rattle.ringcore.specs.Machine.{number_fault};
+ghost use Rattle.schedule.specs.ScheduleText.{ring_or_fault, step_effect, served, first_served, request_effect, line_effect};
+ghost use Rattle.schedule.specs.Standing.{Acts, ActsAt};
+
+use crate::parsing::parse;
+use crate::request::Request;
+use crate::telling::{flags_of, say_answer, say_step_fault, word_name};
+use ringcore::{Core, CoreFault, Step};
+use script::{Interpreter, say_fault, say_ring};
+use std::alloc::{AllocError, Global};
+
+/// A schedule between two lines.
+#[derive(Drop)]
+pub(crate) struct Schedule {
+    alloc: Global,
+    /// The ring, once a line made it.
+    pub core: Option<Core>,
+}
+
+/// Makes a ring, where its numbers are in range.
+fn first_ring(
+    alloc: Global,
+    number: u64,
+    log2: u32,
+    senders: u32,
+    reply: &mut String,
+) -> Result<Option<Core>, AllocError>
+    ensures { IfOk result (λ core. ActsAt (λ state. ring_or_fault number log2 senders (number_fault log2 senders)) None core (string_bytes reply.old) (string_bytes reply.new) (is_some core)) }
+{
+    match Core::new(alloc, log2, senders) {
+        Ok(core) => {
+            say_ring(log2, reply)?;
+            Ok(Some(core))
+        }
+        Err(CoreFault::Size) => {
+            say_fault(number, "N1", reply)?;
+            Ok(None)
+        }
+        Err(CoreFault::Senders) => {
+            say_fault(number, "N2", reply)?;
+            Ok(None)
+        }
+        Err(CoreFault::Memory(e)) => Err(e),
+    }
+}
+
+/// Takes a step, and says whether the run goes on.
+fn take_step(
+    core: &mut Core,
+    number: u64,
+    step: Step,
+    is_counted: bool,
+    reply: &mut String,
+) -> Result<bool, AllocError>
+    ensures { IfOk result (λ goes_on. Acts (step_effect number step is_counted) core.old core.new (string_bytes reply.old) (string_bytes reply.new) goes_on) }
+{
+    let name = word_name(&step);
+    let flags = flags_of(&step);
+    match core.apply(step) {
+        Ok(seen) => {
+            say_answer(name, flags, is_counted, seen, reply)?;
+            Ok(true)
+        }
+        Err(fault) => {
+            say_step_fault(number, fault, reply)?;
+            Ok(false)
+        }
+    }
+}
+
+/// Serves a request once the ring is made.
+fn serve_made(
+    core: &mut Core,
+    number: u64,
+    request: Request,
+    reply: &mut String,
+) -> Result<bool, AllocError>
+    ensures { IfOk result (λ goes_on. Acts (served number request) core.old core.new (string_bytes reply.old) (string_bytes reply.new) goes_on) }
+{
+    match request {
+        Request::Nothing => Ok(true),
+        Request::Ring { .. } => {
+            say_fault(number, "second ring", reply)?;
+            Ok(false)
+        }
+        Request::Step { step, is_counted } => take_step(core, number, step, is_counted, reply),
+    }
+}
+
+impl Schedule {
+    pub(crate) fn new(alloc: Global) -> Schedule
+        ensures { result.core ≡ None }
+    {
+        Schedule { alloc, core: None }
+    }
+
+    /// Serves a request where no ring is made yet.
+    fn serve_first(
+        &mut self,
+        number: u64,
+        request: Request,
+        reply: &mut String,
+    ) -> Result<bool, AllocError>
+        requires { self.old.core ≡ None }
+        ensures { IfOk result (λ goes_on. ActsAt (λ state. first_served number request) None self.new.core (string_bytes reply.old) (string_bytes reply.new) goes_on) }
+    {
+        match request {
+            Request::Nothing => Ok(true),
+            Request::Ring { log2, senders } => {
+                let made = first_ring(self.alloc, number, log2, senders, reply)?;
+                let is_made = made.is_some();
+                self.core = made;
+                Ok(is_made)
+            }
+            Request::Step { .. } => {
+                say_fault(number, "no ring", reply)?;
+                Ok(false)
+            }
+        }
+    }
+
+    fn serve_request(
+        &mut self,
+        number: u64,
+        request: Request,
+        reply: &mut String,
+    ) -> Result<bool, AllocError>
+        ensures { IfOk result (λ goes_on. ActsAt (request_effect number request) self.old.core self.new.core (string_bytes reply.old) (string_bytes reply.new) goes_on) }
+    {
+        match &mut self.core {
+            Some(core) => serve_made(core, number, request, reply),
+            None => self.serve_first(number, request, reply),
+        }
+    }
+
+    fn serve_text(
+        &mut self,
+        number: u64,
+        line: &[u8],
+        reply: &mut String,
+    ) -> Result<bool, AllocError>
+        requires { length line.now ≤ 4096 }
+        ensures { IfOk result (λ goes_on. ActsAt (line_effect number line.now) self.old.core self.new.core (string_bytes reply.old) (string_bytes reply.new) goes_on) }
+    {
+        match parse(line) {
+            Some(request) => self.serve_request(number, request, reply),
+            None => {
+                say_fault(number, "bad line", reply)?;
+                Ok(false)
+            }
+        }
+    }
+}
+
+impl Interpreter for Schedule {
+    ghost use Rattle.schedule.specs.Giving.{Gives};
+    ghost use Rattle.schedule.specs.GivingLaws as laws;
+
+    ghost gives = { λ schedule number lines outcome. Gives schedule.core number lines outcome };
+
+    ghost nothing_left = { λ schedule n. laws.nothing_left schedule.core n };
+
+    ghost long_line = { λ schedule n line lines long. laws.long_line schedule.core n line lines long };
+
+    ghost begins = { λ schedule n lines. laws.begins schedule.core n lines };
+
+    ghost cut = { λ schedule n lines outcome front rest gives split. laws.cut schedule.core n lines outcome front rest gives split };
+
+    fn serve_line(
+        &mut self,
+        number: u64,
+        line: &[u8],
+        reply: &mut String,
+    ) -> Result<bool, AllocError> {
+        self.serve_text(number, line, reply)
+    }
+}

@@ -1,0 +1,15 @@
+//! Schedules: any interleaving of a ring's atomic steps, played by a script of lines.
+#![tactic(auto)]
+
+mod interpreter;
+mod parsing;
+mod request;
+mod serving;
+mod telling;
+
+pub use parsing::parse;
+pub use request::Request;
+pub use serving::{schedule, serve};
+
+#[cfg(test)]
+mod tests;

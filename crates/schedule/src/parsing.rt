@@ -1,0 +1,289 @@
+//! From a line to what it asks for.
+ghost use Rattle.std.specs.Prelude.{◌≡◌, ◌≤◌, [], ◌∷◌, ◌++◌, length, take, option_map};
+ghost use Rattle.script.specs.Words.{words_of};
+ghost use Rattle.schedule.specs.Lines.{one_number, two_numbers, three_numbers, given_count, count_of, body_of, plain, ring_of, look_of_sender, look_of, reserve_of, write_of, flip_of, test_of, read_of, advance_of, close_of, ack_of, ask_of, consumer_line, sender_line, named, request_from, request_of};
+
+use crate::request::Request;
+use cmdcodec::{Raw, RawList};
+use ringcore::Step;
+use script::{is_comment, is_end, is_text, next_u32, next_word, raw};
+
+/// The most flags that one step goes over.
+const MOST_FLAGS: u32 = 64;
+
+#[tactic(auto, unfolding(crate::specs::Lines::one_number))]
+fn one_number(text: &[u8]) -> Option<u32>
+    ensures { result ≡ one_number (words_of text.now) }
+{
+    let (first, rest) = next_u32(text)?;
+    if is_end(rest) { Some(first) } else { None }
+}
+
+#[tactic(auto, unfolding(crate::specs::Lines::two_numbers))]
+fn two_numbers(text: &[u8]) -> Option<(u32, u32)>
+    ensures { result ≡ two_numbers (words_of text.now) }
+{
+    let (first, rest) = next_u32(text)?;
+    Some((first, one_number(rest)?))
+}
+
+#[tactic(auto, unfolding(crate::specs::Lines::three_numbers))]
+fn three_numbers(text: &[u8]) -> Option<(u32, u32, u32)>
+    ensures { result ≡ three_numbers (words_of text.now) }
+{
+    let (first, rest) = next_u32(text)?;
+    let (second, third) = two_numbers(rest)?;
+    Some((first, second, third))
+}
+
+#[tactic(auto, unfolding(crate::specs::Lines::given_count))]
+fn given_count(text: &[u8]) -> Option<u32>
+    ensures { result ≡ given_count (words_of text.now) }
+{
+    let count = one_number(text)?;
+    if 1 <= count && count <= MOST_FLAGS {
+        Some(count)
+    } else {
+        None
+    }
+}
+
+/// The count of a line, which is 1 where it has none, and whether it has one.
+#[tactic(auto, unfolding(crate::specs::Lines::count_of))]
+fn parse_count(text: &[u8]) -> Option<(u32, bool)>
+    ensures { result ≡ count_of (words_of text.now) }
+{
+    if is_end(text) {
+        return Some((1, false));
+    }
+    Some((given_count(text)?, true))
+}
+
+// Adds a command, where there are fewer than 64.
+fn hand_in(body: &mut RawList, raw: Raw)
+    ensures items { body.new.items ≡ take 64 (body.old.items ++ raw ∷ []) }
+    ensures fits { length body.new.items ≤ 64 }
+{
+    if body.is_full() {
+        return;
+    }
+    body.push(raw);
+}
+
+/// The first 64 commands that the words of a text say, if each word is one.
+fn parse_body(text: &[u8]) -> Option<RawList>
+    ensures { result ≡ body_of (words_of text.now) }
+{
+    let mut body = RawList::new();
+    let mut rest = text;
+    'words: while let Some((word, after)) = next_word(rest) {
+        let Some(command) = raw(word) else {
+            return None;
+        };
+        hand_in(&mut body, command);
+        rest = after;
+    }
+    Some(body)
+}
+
+#[tactic(auto, unfolding(crate::specs::Lines::ring_of))]
+fn parse_ring(text: &[u8]) -> Option<Request>
+    ensures { result ≡ ring_of (words_of text.now) }
+{
+    let (log2, senders) = two_numbers(text)?;
+    Some(Request::Ring { log2, senders })
+}
+
+// What a line without a COUNT asks for.
+fn plain(step: Step) -> Request
+    ensures { result ≡ plain step }
+{
+    Request::Step {
+        step,
+        is_counted: false,
+    }
+}
+
+#[tactic(auto, unfolding(crate::specs::Lines::look_of_sender))]
+fn parse_look_of_sender(text: &[u8]) -> Option<Request>
+    ensures { result ≡ look_of_sender (words_of text.now) }
+{
+    let sender = one_number(text)?;
+    Some(plain(Step::Look { who: Some(sender) }))
+}
+
+#[tactic(auto, unfolding(crate::specs::Lines::look_of))]
+fn parse_look(text: &[u8]) -> Option<Request>
+    ensures { result ≡ look_of (words_of text.now) }
+{
+    let (who, rest) = next_word(text)?;
+    if who != b"c".as_slice() {
+        return parse_look_of_sender(text);
+    }
+    if !is_end(rest) {
+        return None;
+    }
+    Some(plain(Step::Look { who: None }))
+}
+
+#[tactic(auto, unfolding(crate::specs::Lines::reserve_of))]
+fn parse_reserve(closes: bool, text: &[u8]) -> Option<Request>
+    ensures { result ≡ reserve_of closes (words_of text.now) }
+{
+    let (sender, rest) = next_u32(text)?;
+    let body = parse_body(rest)?;
+    Some(plain(Step::Reserve {
+        sender,
+        body,
+        closes,
+    }))
+}
+
+#[tactic(auto, unfolding(crate::specs::Lines::write_of))]
+fn parse_write(text: &[u8]) -> Option<Request>
+    ensures { result ≡ write_of (words_of text.now) }
+{
+    let (sender, slot, half) = three_numbers(text)?;
+    Some(plain(Step::Write { sender, slot, half }))
+}
+
+#[tactic(auto, unfolding(crate::specs::Lines::flip_of))]
+fn parse_flip(text: &[u8]) -> Option<Request>
+    ensures { result ≡ flip_of (words_of text.now) }
+{
+    let (sender, rest) = next_u32(text)?;
+    let (slot, rest) = next_u32(rest)?;
+    let (count, is_counted) = parse_count(rest)?;
+    let step = Step::Flip {
+        sender,
+        slot,
+        count,
+    };
+    Some(Request::Step { step, is_counted })
+}
+
+#[tactic(auto, unfolding(crate::specs::Lines::test_of))]
+fn parse_test(text: &[u8]) -> Option<Request>
+    ensures { result ≡ test_of (words_of text.now) }
+{
+    let (slot, rest) = next_u32(text)?;
+    let (count, is_counted) = parse_count(rest)?;
+    let step = Step::Test { slot, count };
+    Some(Request::Step { step, is_counted })
+}
+
+#[tactic(auto, unfolding(crate::specs::Lines::read_of))]
+fn parse_read(text: &[u8]) -> Option<Request>
+    ensures { result ≡ read_of (words_of text.now) }
+{
+    let (slot, half) = two_numbers(text)?;
+    Some(plain(Step::Read { slot, half }))
+}
+
+#[tactic(auto, unfolding(crate::specs::Lines::advance_of))]
+fn parse_advance(text: &[u8]) -> Option<Request>
+    ensures { result ≡ advance_of (words_of text.now) }
+{
+    let (count, is_counted) = parse_count(text)?;
+    let step = Step::Advance { count };
+    Some(Request::Step { step, is_counted })
+}
+
+#[tactic(auto, unfolding(crate::specs::Lines::close_of))]
+fn parse_close(text: &[u8]) -> Option<Request>
+    ensures { result ≡ close_of (words_of text.now) }
+{
+    let sender = one_number(text)?;
+    Some(plain(Step::Close { sender }))
+}
+
+#[tactic(auto, unfolding(crate::specs::Lines::ack_of))]
+fn parse_ack(text: &[u8]) -> Option<Request>
+    ensures { result ≡ ack_of (words_of text.now) }
+{
+    let (sender, number) = two_numbers(text)?;
+    Some(plain(Step::Acknowledge { sender, number }))
+}
+
+#[tactic(auto, unfolding(crate::specs::Lines::ask_of))]
+fn parse_ask(text: &[u8]) -> Option<Request>
+    ensures { result ≡ ask_of (words_of text.now) }
+{
+    let sender = one_number(text)?;
+    Some(plain(Step::Ask { sender }))
+}
+
+#[tactic(auto, unfolding(crate::specs::Lines::consumer_line))]
+fn parse_consumer_line(name: &[u8], rest: &[u8]) -> Option<Request>
+    ensures { result ≡ consumer_line name.now (words_of rest.now) }
+{
+    if name == b"test".as_slice() {
+        parse_test(rest)
+    } else if name == b"read".as_slice() {
+        parse_read(rest)
+    } else if name == b"advance".as_slice() {
+        parse_advance(rest)
+    } else if name == b"ack".as_slice() {
+        parse_ack(rest)
+    } else {
+        None
+    }
+}
+
+#[tactic(auto, unfolding(crate::specs::Lines::sender_line))]
+fn parse_sender_line(name: &[u8], rest: &[u8]) -> Option<Request>
+    ensures { result ≡ sender_line name.now (words_of rest.now) }
+{
+    if name == b"reserve".as_slice() {
+        parse_reserve(true, rest)
+    } else if name == b"bare".as_slice() {
+        parse_reserve(false, rest)
+    } else if name == b"write".as_slice() {
+        parse_write(rest)
+    } else if name == b"flip".as_slice() {
+        parse_flip(rest)
+    } else if name == b"close".as_slice() {
+        parse_close(rest)
+    } else if name == b"ask".as_slice() {
+        parse_ask(rest)
+    } else {
+        parse_consumer_line(name, rest)
+    }
+}
+
+#[tactic(auto, unfolding(crate::specs::Lines::named))]
+fn parse_named(name: &[u8], rest: &[u8]) -> Option<Request>
+    ensures { result ≡ named name.now (words_of rest.now) }
+{
+    if name == b"ring".as_slice() {
+        parse_ring(rest)
+    } else if name == b"look".as_slice() {
+        parse_look(rest)
+    } else {
+        parse_sender_line(name, rest)
+    }
+}
+
+fn parse_words(line: &[u8]) -> Option<Request>
+    ensures { result ≡ request_from (words_of line.now) }
+{
+    let Some((name, rest)) = next_word(line) else {
+        return Some(Request::Nothing);
+    };
+    if is_comment(name) {
+        return Some(Request::Nothing);
+    }
+    parse_named(name, rest)
+}
+
+/// What a line asks for. None is a bad line.
+#[tactic(auto, unfolding(crate::specs::Lines::request_of))]
+pub fn parse(line: &[u8]) -> Option<Request>
+    ensures { result ≡ request_of line.now }
+{
+    if is_text(line) {
+        parse_words(line)
+    } else {
+        None
+    }
+}

@@ -1,0 +1,93 @@
+//! What a line has to be, and what may stand before a ring is made and after.
+use super::playing::{expect_answer, expect_lines};
+use script::Status;
+use std::test::Fail;
+
+#[test]
+fn rings(rt: HostRuntime) {
+    for (script, text, status) in [
+        ("ring 20 2", "line 1: N1", Status::Refused),
+        ("ring 0 0", "line 1: N1", Status::Refused),
+        ("ring 1 257", "line 1: N2", Status::Refused),
+        ("ring 1 0", "line 1: N2", Status::Refused),
+        ("look 0", "line 1: no ring", Status::Refused),
+        ("#//ring 1 1", "ring size 2", Status::Good),
+        (
+            "ring 1 1/ring 0 0",
+            "ring size 2/line 2: second ring",
+            Status::Refused,
+        ),
+    ] {
+        expect_lines(&rt, script, text, status);
+    }
+}
+
+#[test]
+fn bad_lines(rt: HostRuntime) {
+    for line in [
+        "test 0 0",
+        "test 0 65",
+        "advance 65",
+        "flip 0 0 0",
+        "look",
+        "look d",
+        "look c c",
+        "look 0x100000000",
+        "write 0 0",
+        "write 0 0 0 0",
+        "reserve",
+        "reserve 0 03",
+        "bare 0 X 3",
+        "read 0",
+        "close 0 0",
+        "ack 0",
+        "ask c",
+        "step",
+        "ring 1",
+        "look 0\r",
+    ] {
+        let script = format!(in rt.alloc(); "ring 1 2/{line}").expect(&rt, "there is memory");
+        expect_lines(
+            &rt,
+            script.as_str(),
+            "ring size 2/line 2: bad line",
+            Status::Refused,
+        );
+    }
+}
+
+#[test]
+fn bytes_past_ascii_are_bad_also_in_comments(rt: HostRuntime) {
+    let script = b"#\x80\n".as_slice();
+    expect_answer(
+        &rt,
+        "a comment",
+        script,
+        "line 1: bad line\n",
+        Status::Refused,
+    );
+}
+
+#[test]
+fn more_than_64_commands_are_too_many(rt: HostRuntime) -> Result<(), Fail> {
+    let mut script = String::new(rt.alloc());
+    script.push_str("ring 7 1/look 0/reserve 0")?;
+    script.push_str(" X".repeat(rt.alloc(), 120)?.as_str())?;
+    let text = "ring size 128/control 0 0 open/line 3: F11";
+    expect_lines(&rt, script.as_str(), text, Status::Refused);
+    Ok(())
+}
+
+#[test]
+fn a_line_has_4096_bytes_at_most(rt: HostRuntime) -> Result<(), Fail> {
+    for (spaces, text, status) in [
+        (4096, "ring size 2\n", Status::Good),
+        (4097, "ring size 2\nline 2: long line\n", Status::Refused),
+    ] {
+        let mut script = String::new(rt.alloc());
+        script.push_str("ring 1 1\n")?;
+        script.push_str(" ".repeat(rt.alloc(), spaces)?.as_str())?;
+        expect_answer(&rt, "spaces", script.as_bytes(), text, status);
+    }
+    Ok(())
+}

@@ -1,0 +1,61 @@
+//! What the words of a line say, one after another.
+ghost use Rattle.std.specs.Prelude.{◌≡◌, ◌^◌, option_map};
+ghost use Rattle.std.specs.List.{list_all};
+ghost use Rattle.script.specs.Words.{words_of};
+ghost use Rattle.script.specs.Fields.{next_below, is_end, hex_of, is_comment, is_printable};
+
+use crate::words::{next_word, number};
+use cmdcodec::{Raw, from_bytes};
+
+/// The number below 2^64 that the next word says, and the rest of the text after it. None where no word
+/// is left, or where it says no such number.
+#[tactic(auto, unfolding(crate::specs::Fields::next_below))]
+pub fn next_u64(text: &[u8]) -> Option<(u64, &[u8])>
+    ensures { option_map (λ found. (found.0, words_of found.1.now)) result ≡ next_below (2 ^ 64) (words_of text.now) }
+{
+    let (word, rest) = next_word(text)?;
+    Some((number(word)?, rest))
+}
+
+/// The number below 2^32 that the next word says, and the rest of the text after it. None where no word
+/// is left, or where it says no such number.
+#[tactic(auto, unfolding(crate::specs::Fields::next_below))]
+pub fn next_u32(text: &[u8]) -> Option<(u32, &[u8])>
+    ensures { option_map (λ found. (found.0, words_of found.1.now)) result ≡ next_below (2 ^ 32) (words_of text.now) }
+{
+    let (word, rest) = next_word(text)?;
+    let number = u32::try_from(number(word)?).ok()?;
+    Some((number, rest))
+}
+
+/// Whether no word is left.
+pub fn is_end(text: &[u8]) -> bool
+    ensures { result ≡ is_end (words_of text.now) }
+{
+    next_word(text).is_none()
+}
+
+/// The command whose bytes a word of 32 hexadecimal digits says, whatever it is. None of any other word.
+pub fn raw(word: &[u8]) -> Option<Raw>
+    ensures { result ≡ hex_of word.now }
+{
+    let mut bytes = [0; 16];
+    match hex::decode_to_slice(word, &mut bytes) {
+        Ok(()) => Some(from_bytes(&bytes)),
+        Err(_) => None,
+    }
+}
+
+/// Whether a word makes its line a comment.
+pub fn is_comment(name: &[u8]) -> bool
+    ensures { result ≡ is_comment name.now }
+{
+    !name.is_empty() && name[0] == b'#'
+}
+
+/// Whether a line holds no bytes but those from the space to the tilde.
+pub fn is_text(line: &[u8]) -> bool
+    ensures { result ≡ list_all is_printable line.now }
+{
+    line.iter().all(|b| 0x20 <= *b && *b <= 0x7e)
+}
