@@ -1,4 +1,5 @@
-use crate::{Ending, Interpreter, ServeError, next_word, number, serve};
+use crate::{Ending, Interpreter, ServeError, next_u32, next_word, number, raw, serve};
+use cmdcodec::Raw;
 use std::alloc::AllocError;
 use std::fmt::Write as _;
 use std::io;
@@ -296,4 +297,35 @@ fn words(rt: HostRuntime) {
     }
     assert!(rt; next_word(b"".as_slice()).is_none());
     assert!(rt; next_word(b"  ".as_slice()).is_none());
+}
+
+#[test]
+fn numbers_of_32_bits(rt: HostRuntime) {
+    for (text, value) in [
+        (" 4294967295 7", Some(u32::MAX)),
+        ("0x100000000", None),
+        ("c", None),
+        (" ", None),
+    ] {
+        let found = next_u32(text.as_bytes());
+        assert_eq!(rt; found.map(|found| found.0), value, "{text}");
+    }
+}
+
+#[test]
+fn commands(rt: HostRuntime) {
+    let stream = Raw {
+        lo: 0x5_0000_0003,
+        hi: 0x0a00_0000_0000_0001,
+    };
+    for (word, command) in [
+        ("0300000005000000010000000000000a", Some(stream)),
+        ("0300000005000000010000000000000A", Some(stream)),
+        ("0300000005000000010000000000000", None),
+        ("0300000005000000010000000000000a00", None),
+        ("0300000005000000010000000000000g", None),
+        ("", None),
+    ] {
+        assert_eq!(rt; raw(word.as_bytes()), command, "{word}");
+    }
 }
