@@ -7,10 +7,9 @@ ghost use Rattle.smmuq.specs.Replay.{ExitsAsReplay};
 ghost use Rattle.smmuq.specs.Program.{Decodes, ExitsAsDecode, ExitsAsTold, ExitsAsProgram};
 
 use crate::decode::decode_text;
-use crate::serving::replay;
+use crate::serving::{replay, schedule};
 use clap::error::ErrorKind;
 use clap::{Arg, Command, Error};
-use schedule::schedule;
 use script::Status;
 use std::alloc::{AllocError, Global};
 use std::io;

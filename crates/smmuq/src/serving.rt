@@ -1,8 +1,9 @@
-//! `replay` from any reader to any writer.
+//! `replay` and `schedule` from any reader to any writer.
 ghost use Rattle.std.specs.Prelude.{◌≡◌, IfOk, IfErr, OnErr, true};
 ghost use Rattle.std.specs.Io.KnownBytes.{IsAtEnd};
 ghost use Rattle.script.specs.Errors.{is_read, is_memory};
 ghost use Rattle.script.specs.Writing.{WritesAnswer, WritesNoMemory, WritesBeginning, AnswersWholeLines};
+ghost use Rattle.schedule.specs.Scheduling.{Schedules};
 ghost use Rattle.smmuq.specs.Giving.{MayAnswer};
 ghost use Rattle.smmuq.specs.Replay.{Replays};
 
@@ -44,4 +45,12 @@ pub fn replay<R: Read, W: Write>(alloc: Global, input: &mut R, output: &mut W) -
 {
     let served = serve(alloc, input, output);
     status_of(&served)
+}
+
+/// Reads a script, plays it as a schedule of a ring's atomic steps, and writes its answers, the line
+/// `no memory` among them. Says how it went.
+pub fn schedule<R: Read, W: Write>(alloc: Global, input: &mut R, output: &mut W) -> Status
+    ensures { Schedules result (R.remaining input.old) (W.contents output.old) (W.contents output.new) }
+{
+    schedule::schedule(alloc, input, output)
 }
