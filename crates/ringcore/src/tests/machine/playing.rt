@@ -1,9 +1,12 @@
 //! Lists of steps, and what a machine is made of.
-use crate::tests::machine::making::Answer::{Open, Refused};
-use crate::tests::machine::making::{
-    acknowledge, advance, bare, flip, look, raw, read, reserve_raws, said, take, test, write,
+use crate::tests::machine::making::Answer::{
+    Acknowledged, Flipped, Half, Open, Ready, Refused, Reserved, Written,
 };
-use crate::{CoreFault, Step, StepFault, run};
+use crate::tests::machine::making::{
+    Answer, acknowledge, advance, bare, flip, look, raw, read, reserve_raws, said, take, test,
+    write,
+};
+use crate::{Core, CoreFault, Step, StepFault, run};
 use cmdcodec::RawList;
 use std::alloc::Global;
 
@@ -70,6 +73,58 @@ fn the_control_word_returns_after_two_laps(rt: HostRuntime) {
         take(&mut core, reserve_one(0)),
         Refused(StepFault::NotSettled)
     );
+}
+
+/// What these steps are answered, one after another.
+fn answers_of_two_laps() -> [Answer; 37] {
+    [
+        Open(0, 0),
+        Open(0, 0),
+        Reserved(0, 1),
+        Written,
+        Written,
+        Flipped(1),
+        Written,
+        Written,
+        Flipped(1),
+        Ready(1),
+        Half(0x5_0000_0003),
+        Half(0x1),
+        Open(2, 1),
+        Ready(1),
+        Half(0x1_0000_1046),
+        Half(0x4000_0004),
+        Open(2, 2),
+        Acknowledged,
+        Open(2, 2),
+        Reserved(2, 2),
+        Written,
+        Written,
+        Written,
+        Written,
+        Flipped(0),
+        Flipped(0),
+        Ready(1),
+        Half(0x5_0000_0003),
+        Half(0x1),
+        Open(0, 3),
+        Ready(1),
+        Half(0x2_0000_1046),
+        Half(0x4000_0004),
+        Open(0, 0),
+        // Sender 0 wins by its look of two laps before.
+        Reserved(0, 1),
+        Open(2, 0),
+        Refused(StepFault::NoRoom),
+    ]
+}
+
+#[test]
+fn two_laps_are_answered(rt: HostRuntime) {
+    let mut core = Core::new(rt.alloc(), 1, 2).expect(&rt, "a machine");
+    for (step, expected) in two_laps().into_iter().zip(answers_of_two_laps()) {
+        assert_eq!(rt; take(&mut core, step), expected);
+    }
 }
 
 #[test]
