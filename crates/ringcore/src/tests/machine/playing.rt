@@ -122,8 +122,9 @@ fn answers_of_two_laps() -> [Answer; 37] {
 #[test]
 fn two_laps_are_answered(rt: HostRuntime) {
     let mut core = Core::new(rt.alloc(), 1, 2).expect(&rt, "a machine");
-    for (step, expected) in two_laps().into_iter().zip(answers_of_two_laps()) {
-        assert_eq!(rt; take(&mut core, step), expected);
+    let expected = answers_of_two_laps();
+    for (place, (step, answer)) in two_laps().into_iter().zip(expected).enumerate() {
+        assert_eq!(rt; take(&mut core, step), answer, "at {place}");
     }
 }
 
