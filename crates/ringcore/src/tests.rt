@@ -3,5 +3,6 @@ mod consumer_view;
 mod faults;
 mod flags;
 mod layout;
+mod machine;
 mod ring_words;
 mod sender_view;

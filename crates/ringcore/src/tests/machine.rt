@@ -1,0 +1,8 @@
+//! The machine with one owner, step by step, with answers that were worked out by hand.
+mod laps;
+mod making;
+mod memory;
+mod overlapping;
+mod playing;
+mod refusals;
+mod runs;
