@@ -29,6 +29,3 @@ pub use sender_view::SenderView;
 pub use step::{Seen, Step};
 pub use step_fault::StepFault;
 pub use sync_tallies::SyncTallies;
-
-#[cfg(test)]
-mod tests;

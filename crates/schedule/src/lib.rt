@@ -10,6 +10,3 @@ mod telling;
 pub use parsing::parse;
 pub use request::Request;
 pub use serving::{schedule, serve};
-
-#[cfg(test)]
-mod tests;

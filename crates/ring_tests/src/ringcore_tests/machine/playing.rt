@@ -1,13 +1,13 @@
 //! Lists of steps, and what a machine is made of.
-use crate::tests::machine::making::Answer::{
+use crate::ringcore_tests::machine::making::Answer::{
     Acknowledged, Flipped, Half, Open, Ready, Refused, Reserved, Written,
 };
-use crate::tests::machine::making::{
+use crate::ringcore_tests::machine::making::{
     Answer, acknowledge, advance, bare, flip, look, raw, read, reserve_raws, said, take, test,
     write,
 };
-use crate::{Core, CoreFault, Step, StepFault, run};
 use cmdcodec::RawList;
+use ringcore::{Core, CoreFault, Step, StepFault, run};
 use std::alloc::Global;
 
 /// A reservation of one CMD_CFGI_STE with a closing sync.

@@ -1,6 +1,6 @@
 //! What the consumer knows after a test, reads and an advance.
-use crate::{ConsumerView, Half, StepFault, SyncTallies};
 use cmdcodec::{closing_sync, encode};
+use ringcore::{ConsumerView, Half, StepFault, SyncTallies};
 use std::alloc::Global;
 
 /// Both words of the command at an offset, if both were read.

@@ -1,7 +1,7 @@
 //! What sender 7 knows on the way of one batch, in a ring of 4 slots.
-use crate::{Half, SenderView, StepFault};
 use cmdcodec::{Raw, RawList};
 use qindex::{Control, Geometry};
+use ringcore::{Half, SenderView, StepFault};
 
 /// A CMD_CFGI_ALL.
 const CFGI_ALL: Raw = Raw { lo: 0x4, hi: 31 };

@@ -1,6 +1,6 @@
 //! Flags in rings of 2, 4, 64 and 128 slots, also across the ring's end and up to a flag word's end.
-use crate::{flip_mask, new_flags, polarity, ready_run, shared_word};
 use qindex::{Geometry, Index};
+use ringcore::{flip_mask, new_flags, polarity, ready_run, shared_word};
 
 fn index(log2: u32, number: u32) -> Option<Index> {
     Index::new(Geometry::new(log2)?, number)

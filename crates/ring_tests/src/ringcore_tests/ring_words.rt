@@ -1,6 +1,6 @@
 //! The steps of a batch, one operation after another, in a ring of 4 slots with 2 senders.
-use crate::{Half, RingWords, shared_word};
 use qindex::{Control, Geometry, Index};
+use ringcore::{Half, RingWords, shared_word};
 use std::alloc::Global;
 
 /// What the control word says: prod, cons and closed.

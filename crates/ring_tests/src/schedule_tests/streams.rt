@@ -1,6 +1,6 @@
 //! Readers and writers that move a byte at a time, or fail.
 use super::fakes::{Sink, Source};
-use crate::serving::schedule;
+use schedule::schedule;
 use script::Status;
 use std::io::ErrorKind;
 use std::test::Fail;

@@ -1,11 +1,11 @@
 //! Two open reservations of different laps that hold one slot, in a ring of 4 slots with 3 senders.
-use crate::tests::machine::making::Answer::{
+use crate::ringcore_tests::machine::making::Answer::{
     Acknowledged, Bare, Flipped, Half, Open, Ready, Refused, Reserved, Written,
 };
-use crate::tests::machine::making::{
+use crate::ringcore_tests::machine::making::{
     Answer, acknowledge, advance, bare, flip, look, play, read, reserve, test, write,
 };
-use crate::{Core, StepFault};
+use ringcore::{Core, StepFault};
 
 /// Sender 0 reserves positions 0 to 2, of which the first is taken; sender 1 reserves positions 3 and 4.
 /// Both hold slot 0.

@@ -1,6 +1,6 @@
 //! Words of rings of 2, 4, 64 and 128 slots.
-use crate::{Half, cell, control_word, data_word, flag_word, words};
 use qindex::{Geometry, Index};
+use ringcore::{Half, cell, control_word, data_word, flag_word, words};
 
 fn words_of(log2: u32, number: u32) -> Option<(usize, usize, usize)> {
     let index = Index::new(Geometry::new(log2)?, number)?;

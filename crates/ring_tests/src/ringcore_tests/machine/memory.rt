@@ -1,6 +1,6 @@
 //! Allocations that fail.
-use crate::tests::machine::making::{bare, look};
-use crate::{CoreFault, run};
+use crate::ringcore_tests::machine::making::{bare, look};
+use ringcore::{CoreFault, run};
 use std::alloc::Global;
 
 /// Plays two steps in a ring of 4 slots, and says how it went.

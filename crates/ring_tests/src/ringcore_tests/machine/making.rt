@@ -1,9 +1,9 @@
 //! Short forms of steps and answers, and their comparison.
 ghost use Rattle.std.specs.Prelude.{◌≤◌};
 
-use crate::{Core, Seen, Step, StepFault};
 use cmdcodec::{Raw, RawList};
 use qindex::{Control, Index};
+use ringcore::{Core, Seen, Step, StepFault};
 
 pub fn raw(lo: u64, hi: u64) -> Raw {
     Raw { lo, hi }

@@ -1,12 +1,12 @@
 //! Runs of slots over the ends of rings and of flag words.
-use crate::tests::machine::making::Answer::{
+use crate::ringcore_tests::machine::making::Answer::{
     Acknowledged, Bare, Flipped, Half, Open, Ready, Refused, Reserved, Written,
 };
-use crate::tests::machine::making::{
+use crate::ringcore_tests::machine::making::{
     Answer, acknowledge, advance, bare, flip, look, many, play, read, reserve, reserve_raws, take,
     test, write,
 };
-use crate::{Core, Step, StepFault};
+use ringcore::{Core, Step, StepFault};
 
 /// A reservation of so many commands without a closing sync.
 fn bare_of(count: u16) -> Step {

@@ -4,5 +4,4 @@ mod making;
 mod memory;
 mod overlapping;
 mod playing;
-mod refusals;
 mod runs;

@@ -1,14 +1,14 @@
 //! Four senders on four laps of a ring of 4 slots. Indexes are positions modulo 8, and flags are set on laps 0
 //! and 2.
-use crate::tests::machine::making::Answer::{
+use crate::ringcore_tests::machine::making::Answer::{
     Acknowledged, Bare, Closed, Done, Flipped, Half, LostClosed, Open, Ready, Refused, Reserved,
     Written,
 };
-use crate::tests::machine::making::{
+use crate::ringcore_tests::machine::making::{
     Answer, acknowledge, advance, ask, bare, close, consumer_looks, flip, look, play, read,
     reserve, test, write,
 };
-use crate::{Core, StepFault};
+use ringcore::{Core, StepFault};
 
 /// Sender 0 reserves positions 0 to 2, and sender 1 position 3, which is ready first.
 fn first_lap(core: &mut Core) -> Option<(usize, Answer)> {

@@ -1,5 +1,5 @@
 //! The numbers of faults.
-use crate::StepFault;
+use ringcore::StepFault;
 
 #[test]
 fn faults_have_their_numbers(rt: HostRuntime) {

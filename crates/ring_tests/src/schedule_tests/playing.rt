@@ -1,5 +1,5 @@
 //! A schedule, and the answer that is wanted of it.
-use crate::serving::schedule;
+use schedule::schedule;
 use script::Status;
 use std::process::Abort;
 

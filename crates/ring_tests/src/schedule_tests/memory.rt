@@ -1,6 +1,6 @@
 //! Allocations that fail.
 use super::fakes::Sink;
-use crate::serving::schedule;
+use schedule::schedule;
 use script::Status;
 use std::io::ErrorKind;
 

@@ -3,8 +3,10 @@ use Rattle.qindex.specs.ControlWord.{IsControl}
 use Rattle.ringcore.specs.declared.event.Who.TheVariants.{Sender}
 use Rattle.ringcore.specs.declared.event.Event.TheVariants.{Look}
 use Rattle.ringcore.specs.Views.{Knows}
-use Rattle.ringcore.proofs.Lists.{some_one}
-use Rattle.ringcore.proofs.tests.sender_view.refusal.Goals as goal
+use Rattle.ring_tests.proofs.ringcore_tests.sender_view.refusal.Goals as goal
+
+some_one : {A : Type 0} (x y : A) → Some x ≡ Some y → x ≡ y
+some_one x y e = cc
 
 pub reserve_fault-requires : goal.reserve_fault-requires
 reserve_fault-requires c = λ other is.
