@@ -91,3 +91,13 @@ fn a_line_has_4096_bytes_at_most(rt: HostRuntime) -> Result<(), Fail> {
     }
     Ok(())
 }
+
+#[test]
+fn a_comment_has_4096_bytes_at_most_too(rt: HostRuntime) -> Result<(), Fail> {
+    let mut script = String::new(rt.alloc());
+    script.push_str("#".repeat(rt.alloc(), 4097)?.as_str())?;
+    script.push_str("\n")?;
+    let text = "line 1: long line\n";
+    expect_answer(&rt, "a comment", script.as_bytes(), text, Status::Refused);
+    Ok(())
+}
