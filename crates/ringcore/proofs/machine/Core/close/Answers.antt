@@ -1,8 +1,8 @@
 use Rattle.std.proofs.Common.{◌≡◌, ◌<◌, subst, arith}
-use Rattle.ringcore.specs.declared.step.Step.TheVariants.{Close}
-use Rattle.ringcore.specs.declared.step.Seen.TheVariants.{Word}
-use Rattle.ringcore.specs.Machine.{CoreValue, ring_of, IsTaken}
-use Rattle.ringcore.proofs.SenderSteps.{with_words, closed_machine, close_taken}
+use Rattle.ringcore.specs.declared.machine.step.Step.TheVariants.{Close}
+use Rattle.ringcore.specs.declared.machine.step.Seen.TheVariants.{Word}
+use Rattle.ringcore.specs.machine.Core.{CoreValue, ring_of, IsTaken}
+use Rattle.ringcore.proofs.MachineLemmas.SenderSteps.{with_words, closed_machine, close_taken}
 use Rattle.ringcore.proofs.machine.Core.close.Goals as goal
 
 pub invariant_of-self : goal.invariant_of-self

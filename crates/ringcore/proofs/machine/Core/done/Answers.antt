@@ -1,6 +1,6 @@
 use Rattle.std.proofs.Common.{◌<◌, sym, subst, arith}
-use Rattle.ringcore.specs.Machine.{CoreValue}
-use Rattle.ringcore.proofs.TakenSteps.{cell_is, acknowledged_few}
+use Rattle.ringcore.specs.machine.Core.{CoreValue}
+use Rattle.ringcore.proofs.MachineLemmas.TakenSteps.{cell_is, acknowledged_few}
 use Rattle.ringcore.proofs.machine.Core.done.Goals as goal
 
 pub overflow_cast-result : goal.overflow_cast-result

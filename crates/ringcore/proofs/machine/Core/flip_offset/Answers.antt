@@ -3,17 +3,17 @@ use Rattle.std.proofs.lemmas.Bool.{and_parts, ltb-true}
 use Rattle.std.proofs.lemmas.Option.{slice_get_read}
 use Rattle.std.specs.Prelude.{Bool, Some, None, if◌then◌else◌}
 use Rattle.qindex.specs.Positions.{place}
-use Rattle.ringcore.specs.declared.event.Who.TheVariants.{Sender}
-use Rattle.ringcore.specs.declared.event.Half.TheVariants.{Lo, Hi}
-use Rattle.ringcore.specs.Trails.{trail_of, reserved_length, has_written}
-use Rattle.ringcore.specs.World.{world}
-use Rattle.ringcore.specs.declared.step.Step.TheVariants.{Flip}
-use Rattle.ringcore.specs.declared.step_fault.StepFault.TheVariants.{Flipped, HalfMissing}
-use Rattle.ringcore.specs.Open.{all_below, is_held, slot_is_held, own_offset}
-use Rattle.ringcore.specs.Faults.{has_sender, has_slot, is_count, share_a_word}
-use Rattle.ringcore.specs.Machine.{CoreValue, ring_of, AllKnow, IsRefused, IsAccepted}
-use Rattle.ringcore.proofs.FlipSteps.{has_run, flip_of_foreign, flip_past_end, flip_of_own}
-use Rattle.ringcore.proofs.Standing.{start_fits}
+use Rattle.ringcore.specs.declared.world.event.Who.TheVariants.{Sender}
+use Rattle.ringcore.specs.declared.world.event.Half.TheVariants.{Lo, Hi}
+use Rattle.ringcore.specs.world.Trails.{trail_of, reserved_length, has_written}
+use Rattle.ringcore.specs.world.World.{world}
+use Rattle.ringcore.specs.declared.machine.step.Step.TheVariants.{Flip}
+use Rattle.ringcore.specs.declared.machine.step_fault.StepFault.TheVariants.{Flipped, HalfMissing}
+use Rattle.ringcore.specs.machine.Open.{all_below, is_held, slot_is_held, own_offset}
+use Rattle.ringcore.specs.machine.Faults.{has_sender, has_slot, is_run_length, share_a_word}
+use Rattle.ringcore.specs.machine.Core.{CoreValue, ring_of, AllKnow, IsRefused, HasNoFault}
+use Rattle.ringcore.proofs.MachineLemmas.FlipSteps.{has_run, flip_of_foreign, flip_past_end, flip_of_own}
+use Rattle.ringcore.proofs.MachineLemmas.Standing.{start_fits}
 use Rattle.ringcore.proofs.machine.Core.flip_offset.Goals as goal
 
 module _ (inside outside : CoreValue) (is : inside ≡ outside) (s slot count : ℕ) (b : Bool) (found : b ≡ has_run (ring_of outside) s slot count) (true_is : b ≡ true) where
@@ -24,8 +24,8 @@ module _ (inside outside : CoreValue) (is : inside ≡ outside) (s slot count : 
   there_inside =
       ltb-true s inside.words.senders
       (and_parts (has_sender (ring_of inside) s) (has_slot (ring_of inside) slot)
-      (and_parts (has_sender (ring_of inside) s && has_slot (ring_of inside) slot) (is_count count)
-      (and_parts (has_sender (ring_of inside) s && has_slot (ring_of inside) slot && is_count count) (share_a_word (ring_of inside) slot count) exists_inside).0).0).0
+      (and_parts (has_sender (ring_of inside) s && has_slot (ring_of inside) slot) (is_run_length count)
+      (and_parts (has_sender (ring_of inside) s && has_slot (ring_of inside) slot && is_run_length count) (share_a_word (ring_of inside) slot count) exists_inside).0).0).0
 
 pub returns-in_default-clause-refused : goal.returns-in_default-clause-refused
 returns-in_default-clause-refused c =
@@ -155,7 +155,7 @@ returns-clause-accepted c =
     let low = there_inside core c.args.self.now c.self.view_is s slot count c.has_run.result c.has_run.ensures c.if-not-has_run.false in
     let at = slice_get_read core.senders core.words.senders s c.index-view.result.now (sym views) low c.index-view.ensures in
     let same = c.geometry-geometry.ensures in
-    subst (λ m. IsAccepted m (Flip s slot count) (λ run. own_offset (ring_of m) run s slot ≡ Some k)) c.self.view_is
+    subst (λ m. HasNoFault m (Flip s slot count) (λ run. own_offset (ring_of m) run s slot ≡ Some k)) c.self.view_is
     (λ run stands.
     let known = stands.senders_know s c.index-view.result.now at in
     let many = c.len.ensures.reservation run s known in

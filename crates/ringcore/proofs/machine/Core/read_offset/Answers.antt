@@ -1,9 +1,9 @@
 use Rattle.std.proofs.Common.{◌≡◌, ◌≤◌, Some, sym, subst, ◌∙◌, arith}
 use Rattle.qindex.specs.Positions.{size}
-use Rattle.ringcore.specs.Shadow.{shape}
-use Rattle.ringcore.specs.Faults.{tested_offset}
-use Rattle.ringcore.specs.Machine.{CoreValue, ring_of}
-use Rattle.ringcore.proofs.ReadSteps.{found_few, found_fits, offset_found}
+use Rattle.ringcore.specs.memory.Shadow.{shape}
+use Rattle.ringcore.specs.machine.Faults.{tested_offset}
+use Rattle.ringcore.specs.machine.Core.{CoreValue, ring_of}
+use Rattle.ringcore.proofs.MachineLemmas.ReadSteps.{found_few, found_fits, offset_found}
 use Rattle.ringcore.proofs.machine.Core.read_offset.Goals as goal
 
 pub returns-in-Some-clause-few : goal.returns-in-Some-clause-few

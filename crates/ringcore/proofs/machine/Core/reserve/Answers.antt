@@ -1,15 +1,15 @@
 use Rattle.std.proofs.Common.{◌≡◌, ◌<◌, true, false, refl, sym, ap, ◌∙◌, subst, arith}
 use Rattle.std.proofs.lemmas.Option.{slice_get_read}
 use Rattle.qindex.specs.ControlWord.{IsControl}
-use Rattle.ringcore.specs.declared.event.Who.TheVariants.{Sender}
-use Rattle.ringcore.specs.declared.step.Step.TheVariants.{Reserve}
-use Rattle.ringcore.specs.Trails.{Run, trail_of}
-use Rattle.ringcore.specs.World.{world, control}
-use Rattle.ringcore.specs.Shadow.{shape}
-use Rattle.ringcore.specs.Faults.{reserve_fault, fault_of}
-use Rattle.ringcore.specs.Machine.{CoreValue, ring_of, StandsFor, IsRefused, IsAccepted, Finds}
-use Rattle.ringcore.proofs.Looked.{looked_is_control}
-use Rattle.ringcore.proofs.SenderSteps.{there_is}
+use Rattle.ringcore.specs.declared.world.event.Who.TheVariants.{Sender}
+use Rattle.ringcore.specs.declared.machine.step.Step.TheVariants.{Reserve}
+use Rattle.ringcore.specs.world.Trails.{Run, trail_of}
+use Rattle.ringcore.specs.world.World.{world, control}
+use Rattle.ringcore.specs.memory.Shadow.{shape}
+use Rattle.ringcore.specs.machine.Faults.{reserve_fault, fault_of}
+use Rattle.ringcore.specs.machine.Core.{CoreValue, ring_of, StandsAfter, IsRefused, HasNoFault, FindsControl}
+use Rattle.ringcore.proofs.WorldLemmas.LookedControls.{looked_is_control}
+use Rattle.ringcore.proofs.MachineLemmas.SenderSteps.{there_is}
 use Rattle.ringcore.proofs.machine.Core.reserve.Goals as goal
 
 pub reserve_fault-requires : goal.reserve_fault-requires
@@ -34,7 +34,7 @@ returns-in-Some c =
     let low : s < core.words.senders = omega (arith, views, c.len.ensures, c.if-sender-len.false) in
     let view = c.index-view.result.now in
     let at = slice_get_read core.senders core.words.senders s view (sym views) low c.index-view.ensures in
-    let judged : (run : Run) → StandsFor core run → fault_of (ring_of core) run (Reserve s c.args.body.now c.args.closes) ≡ c.reserve_fault.result = λ run stands.
+    let judged : (run : Run) → StandsAfter core run → fault_of (ring_of core) run (Reserve s c.args.body.now c.args.closes) ≡ c.reserve_fault.result = λ run stands.
     there_is s core.words.senders (reserve_fault (ring_of core) (trail_of (Sender s) run) c.args.body.now.items c.args.closes) low
     ∙ sym (c.reserve_fault.ensures (ring_of core) (sym c.geometry-geometry.ensures) refl run s (stands.senders_know s view at)
     ∙ ap (λ b. reserve_fault (ring_of core) (trail_of (Sender s) run) b c.args.closes) c.as_slice.ensures.value) in
@@ -49,15 +49,15 @@ win-requires-clause-accepted c =
     let low : s < core.words.senders = omega (arith, views, c.len.ensures, c.if-sender-len.false) in
     let view = c.index-view.result.now in
     let at = slice_get_read core.senders core.words.senders s view (sym views) low c.index-view.ensures in
-    let judged : (run : Run) → StandsFor core run → fault_of (ring_of core) run (Reserve s c.args.body.now c.args.closes) ≡ c.reserve_fault.result = λ run stands.
+    let judged : (run : Run) → StandsAfter core run → fault_of (ring_of core) run (Reserve s c.args.body.now c.args.closes) ≡ c.reserve_fault.result = λ run stands.
     there_is s core.words.senders (reserve_fault (ring_of core) (trail_of (Sender s) run) c.args.body.now.items c.args.closes) low
     ∙ sym (c.reserve_fault.ensures (ring_of core) (sym c.geometry-geometry.ensures) refl run s (stands.senders_know s view at)
     ∙ ap (λ b. reserve_fault (ring_of core) (trail_of (Sender s) run) b c.args.closes) c.as_slice.ensures.value) in
-    subst (λ m. IsAccepted m (Reserve s c.args.body.now c.args.closes) (λ run. Finds m run s c.control-found.result true)) c.self.view_is
+    subst (λ m. HasNoFault m (Reserve s c.args.body.now c.args.closes) (λ run. FindsControl m run s c.control-found.result true)) c.self.view_is
     (λ run stands. (
       judged run stands ∙ c.in_default.is,
       (
-        c.control-found.ensures.says run (subst (λ m. StandsFor m run) c.self.view_is stands) ∙ ap (λ (m : CoreValue). control m.words.geometry (world run)) (sym c.self.view_is),
+        c.control-found.ensures.says run (subst (λ m. StandsAfter m run) c.self.view_is stands) ∙ ap (λ (m : CoreValue). control m.words.geometry (world run)) (sym c.self.view_is),
         sym (c.expects.ensures run s (stands.senders_know s view at)) ∙ c.if-expects.true,
       ),
     ))
@@ -71,15 +71,15 @@ lose-requires-clause-accepted c =
     let low : s < core.words.senders = omega (arith, views, c.len.ensures, c.if-sender-len.false) in
     let view = c.index-view.result.now in
     let at = slice_get_read core.senders core.words.senders s view (sym views) low c.index-view.ensures in
-    let judged : (run : Run) → StandsFor core run → fault_of (ring_of core) run (Reserve s c.args.body.now c.args.closes) ≡ c.reserve_fault.result = λ run stands.
+    let judged : (run : Run) → StandsAfter core run → fault_of (ring_of core) run (Reserve s c.args.body.now c.args.closes) ≡ c.reserve_fault.result = λ run stands.
     there_is s core.words.senders (reserve_fault (ring_of core) (trail_of (Sender s) run) c.args.body.now.items c.args.closes) low
     ∙ sym (c.reserve_fault.ensures (ring_of core) (sym c.geometry-geometry.ensures) refl run s (stands.senders_know s view at)
     ∙ ap (λ b. reserve_fault (ring_of core) (trail_of (Sender s) run) b c.args.closes) c.as_slice.ensures.value) in
-    subst (λ m. IsAccepted m (Reserve s c.args.body.now c.args.closes) (λ run. Finds m run s c.control-found.result false)) c.self.view_is
+    subst (λ m. HasNoFault m (Reserve s c.args.body.now c.args.closes) (λ run. FindsControl m run s c.control-found.result false)) c.self.view_is
     (λ run stands. (
       judged run stands ∙ c.in_default.is,
       (
-        c.control-found.ensures.says run (subst (λ m. StandsFor m run) c.self.view_is stands) ∙ ap (λ (m : CoreValue). control m.words.geometry (world run)) (sym c.self.view_is),
+        c.control-found.ensures.says run (subst (λ m. StandsAfter m run) c.self.view_is stands) ∙ ap (λ (m : CoreValue). control m.words.geometry (world run)) (sym c.self.view_is),
         sym (c.expects.ensures run s (stands.senders_know s view at)) ∙ c.if-expects.false,
       ),
     ))
