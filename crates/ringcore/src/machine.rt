@@ -45,13 +45,13 @@ pub struct Core {
 impl Model for Core {
     ghost use Rattle.ringcore.specs.world.Delivery.{IsOrderedDelivery};
     ghost use Rattle.ringcore.specs.machine.Played.{played};
-    ghost use Rattle.ringcore.specs.machine.Core.{CoreValue, IsMachine};
+    ghost use Rattle.ringcore.specs.machine.Core.{CoreValue, core_of, IsMachine};
 
     ghost Value = { CoreValue };
 
-    ghost view = { λ core. record { words = core.words; senders = core.senders.items; consumer = core.consumer; tallies = core.tallies } };
+    ghost view = { core_of };
 
-    ghost invariant = { λ core. IsMachine (record { words = core.words; senders = core.senders.items; consumer = core.consumer; tallies = core.tallies }) };
+    ghost invariant = { λ core. IsMachine (core_of core) };
 }
 
 impl Core {

@@ -7,6 +7,7 @@ use Rattle.ringcore.specs.declared.machine.step.Seen.{Seen}
 use Rattle.ringcore.specs.declared.machine.step_fault.StepFault.{StepFault}
 use Rattle.ringcore.specs.declared.machine.core_fault.CoreFault.{CoreFault}
 use Rattle.ringcore.specs.declared.machine.core_fault.CoreFault.TheVariants.{Size, Senders, Memory}
+use Rattle.ringcore.specs.declared.machine.Core.TheInside.{Inside}
 use Rattle.ringcore.specs.world.Trails.{Run, trail_of, looked}
 use Rattle.ringcore.specs.world.World.{world, control}
 use Rattle.ringcore.specs.world.Laws.{OnlyOf}
@@ -25,6 +26,10 @@ pub record CoreValue : Type 0 where
   pub senders : List SenderValue
   pub consumer : ConsumerValue
   pub tallies : List ℕ
+
+-- the value of a machine, by its fields
+abbrev pub core_of : Inside → CoreValue
+core_of inside = record { words = inside.words; senders = inside.senders.items; consumer = inside.consumer; tallies = inside.tallies }
 
 -- Each sender may reserve as many batches as there are numbers.
 abbrev pub ring_with : ℕ → ℕ → Ring
@@ -59,7 +64,7 @@ pub record IsMachine (core : CoreValue) : Type 0 where
   pub run : Run
   pub stands : StandsAfter core run
 
--- A fact of each run that the machine may stand for.
+-- This holds after each run that the machine may stand as after.
 abbrev pub AfterEachRun : CoreValue → (Run → Type 0) → Type 0
 AfterEachRun core P = (run : Run) → StandsAfter core run → P run
 
@@ -69,31 +74,31 @@ AfterEachRun core P = (run : Run) → StandsAfter core run → P run
 abbrev pub answer_to : Ring → Run → Step → Seen
 answer_to ring run step = let event = event_of ring run step in seen_of ring (world run) event.0 event.1
 
--- After each run that it stood for, the step has no fault and this answer, and the machine stands as after its event.
+-- After a run the step has no fault and this answer, and then the machine stands as after its event.
 pub record IsTakenAfter (old new : CoreValue) (step : Step) (seen : Seen) (run : Run) : Type 0 where
   pub no_fault : fault_of (ring_of old) run step ≡ None
   pub answer : seen ≡ answer_to (ring_of old) run step
   pub stands : StandsAfter new (event_of (ring_of old) run step ∷ run)
 
--- After each run that the machine stands for the step has no fault, and this holds.
-abbrev pub HasNoFault : CoreValue → Step → (Run → Type 0) → Type 0
-HasNoFault core step P = (run : Run) → StandsAfter core run → (fault_of (ring_of core) run step ≡ None) × P run
-
--- The control word says this after a run, and whether it is still what the sender looked at.
-abbrev pub FindsControl : CoreValue → Run → ℕ → Control → Bool → Type 0
-FindsControl core run s found same =
-    (found ≡ control core.words.geometry (world run)) × (is_same_word (looked (trail_of (Sender s) run)) found ≡ same)
+abbrev pub IsTaken : CoreValue → CoreValue → Step → Seen → Type 0
+IsTaken old new step seen = AfterEachRun old (IsTakenAfter old new step seen)
 
 abbrev pub IsRefused : CoreValue → Step → StepFault → Type 0
-IsRefused core step fault = (run : Run) → StandsAfter core run → fault_of (ring_of core) run step ≡ Some fault
-
-abbrev pub IsTaken : CoreValue → CoreValue → Step → Seen → Type 0
-IsTaken old new step seen = (run : Run) → StandsAfter old run → IsTakenAfter old new step seen run
+IsRefused core step fault = AfterEachRun core (λ run. fault_of (ring_of core) run step ≡ Some fault)
 
 -- A step is taken or refused, and a refusal changes nothing.
 abbrev pub IsTakenOrRefused : CoreValue → CoreValue → Step → Result Seen StepFault → Type 0
 IsTakenOrRefused old new step (Ok seen) = IsTaken old new step seen × (ring_of new ≡ ring_of old)
 IsTakenOrRefused old new step (Err fault) = IsRefused old step fault × (new ≡ old)
+
+-- The step has no fault, and this holds.
+abbrev pub HasNoFault : CoreValue → Step → (Run → Type 0) → Type 0
+HasNoFault core step P = AfterEachRun core (λ run. (fault_of (ring_of core) run step ≡ None) × P run)
+
+-- The control word says this after a run, and whether it is still what the sender looked at.
+abbrev pub FindsControl : CoreValue → Run → ℕ → Control → Bool → Type 0
+FindsControl core run s found same =
+    (found ≡ control core.words.geometry (world run)) × (is_same_word (looked (trail_of (Sender s) run)) found ≡ same)
 
 -- ---- how it is made, and a list of steps
 

@@ -2,13 +2,13 @@ use Rattle.std.proofs.Common.{◌≡◌, ◌<◌, ◌∙◌, None, Some, subst, 
 use Rattle.ringcore.specs.declared.machine.step.Step.TheVariants.{Acknowledge}
 use Rattle.ringcore.specs.declared.machine.step_fault.StepFault.TheVariants.{NotNext}
 use Rattle.ringcore.specs.machine.Faults.{fault_of}
-use Rattle.ringcore.specs.machine.Core.{CoreValue, ring_of, StandsAfter, AfterEachRun}
+use Rattle.ringcore.specs.machine.Core.{CoreValue, core_of, ring_of, StandsAfter, AfterEachRun}
 use Rattle.ringcore.proofs.MachineLemmas.TakenSteps.{is_next, is_not_next}
 use Rattle.ringcore.proofs.machine.Core.acknowledge_fault.Goals as goal
 
 pub returns-then-number-of : goal.returns-then-number-of
 returns-then-number-of c =
-    let core : CoreValue = record { words = c.self.inside.words; senders = c.self.inside.senders.items; consumer = c.self.inside.consumer; tallies = c.self.inside.tallies } in
+    let core = core_of c.self.inside in
     let views = c.self.invariant.views in
     let counts = c.self.invariant.counts in
     let low : c.args.sender < core.words.senders = omega (arith, views, c.len.ensures, c.if-sender-len.false) in
@@ -20,7 +20,7 @@ returns-then-number-of c =
 
 pub returns-else-number-of : goal.returns-else-number-of
 returns-else-number-of c =
-    let core : CoreValue = record { words = c.self.inside.words; senders = c.self.inside.senders.items; consumer = c.self.inside.consumer; tallies = c.self.inside.tallies } in
+    let core = core_of c.self.inside in
     let views = c.self.invariant.views in
     let counts = c.self.invariant.counts in
     let low : c.args.sender < core.words.senders = omega (arith, views, c.len.ensures, c.if-sender-len.false) in

@@ -5,13 +5,13 @@ use Rattle.ringcore.specs.declared.machine.step.Step.TheVariants.{Advance}
 use Rattle.ringcore.specs.declared.machine.step.Seen.TheVariants.{Word}
 use Rattle.ringcore.specs.world.World.{head, world, control}
 use Rattle.ringcore.specs.machine.Faults.{fault_of}
-use Rattle.ringcore.specs.machine.Core.{CoreValue, ring_of, AfterEachRun, IsTaken}
+use Rattle.ringcore.specs.machine.Core.{CoreValue, core_of, ring_of, AfterEachRun, IsTaken}
 use Rattle.ringcore.proofs.MachineLemmas.AdvanceSteps.{count_fits, taken_fits, tallies_fit, advanced_machine, advance_taken}
 use Rattle.ringcore.proofs.machine.Core.advance.Goals as goal
 
 pub forward-requires : goal.forward-requires
 forward-requires c =
-    let core : CoreValue = record { words = c.self.inside.words; senders = c.self.inside.senders.items; consumer = c.self.inside.consumer; tallies = c.self.inside.tallies } in
+    let core = core_of c.self.inside in
     let no_fault : AfterEachRun core (λ run. None ≡ fault_of (ring_of core) run (Advance c.args.count)) =
     subst (λ (m : CoreValue). AfterEachRun m (λ run. None ≡ fault_of (ring_of m) run (Advance c.args.count))) (sym c.self.view_is)
     (λ run stands. sym c.in_default.is ∙ c.advance_fault.ensures run stands) in
@@ -20,7 +20,7 @@ forward-requires c =
 
 pub takes_read-requires-clause-counts : goal.takes_read-requires-clause-counts
 takes_read-requires-clause-counts c =
-    let core : CoreValue = record { words = c.self.inside.words; senders = c.self.inside.senders.items; consumer = c.self.inside.consumer; tallies = c.self.inside.tallies } in
+    let core = core_of c.self.inside in
     let no_fault : AfterEachRun core (λ run. None ≡ fault_of (ring_of core) run (Advance c.args.count)) =
     subst (λ (m : CoreValue). AfterEachRun m (λ run. None ≡ fault_of (ring_of m) run (Advance c.args.count))) (sym c.self.view_is)
     (λ run stands. sym c.in_default.is ∙ c.advance_fault.ensures run stands) in
@@ -28,7 +28,7 @@ takes_read-requires-clause-counts c =
 
 pub advances-requires : goal.advances-requires
 advances-requires c =
-    let core : CoreValue = record { words = c.self.inside.words; senders = c.self.inside.senders.items; consumer = c.self.inside.consumer; tallies = c.self.inside.tallies } in
+    let core = core_of c.self.inside in
     let no_fault : AfterEachRun core (λ run. None ≡ fault_of (ring_of core) run (Advance c.args.count)) =
     subst (λ (m : CoreValue). AfterEachRun m (λ run. None ≡ fault_of (ring_of m) run (Advance c.args.count))) (sym c.self.view_is)
     (λ run stands. sym c.in_default.is ∙ c.advance_fault.ensures run stands) in
@@ -36,7 +36,7 @@ advances-requires c =
 
 pub invariant_of-self : goal.invariant_of-self
 invariant_of-self c =
-    let core : CoreValue = record { words = c.self.inside.words; senders = c.self.inside.senders.items; consumer = c.self.inside.consumer; tallies = c.self.inside.tallies } in
+    let core = core_of c.self.inside in
     let no_fault : AfterEachRun core (λ run. None ≡ fault_of (ring_of core) run (Advance c.args.count)) =
     subst (λ (m : CoreValue). AfterEachRun m (λ run. None ≡ fault_of (ring_of m) run (Advance c.args.count))) (sym c.self.view_is)
     (λ run stands. sym c.in_default.is ∙ c.advance_fault.ensures run stands) in
@@ -50,7 +50,7 @@ invariant_of-self c =
 
 pub returns : goal.returns
 returns c =
-    let core : CoreValue = record { words = c.self.inside.words; senders = c.self.inside.senders.items; consumer = c.self.inside.consumer; tallies = c.self.inside.tallies } in
+    let core = core_of c.self.inside in
     let no_fault : AfterEachRun core (λ run. None ≡ fault_of (ring_of core) run (Advance c.args.count)) =
     subst (λ (m : CoreValue). AfterEachRun m (λ run. None ≡ fault_of (ring_of m) run (Advance c.args.count))) (sym c.self.view_is)
     (λ run stands. sym c.in_default.is ∙ c.advance_fault.ensures run stands) in

@@ -6,7 +6,7 @@ use Rattle.ringcore.specs.declared.machine.step.Step.TheVariants.{Flip}
 use Rattle.ringcore.specs.declared.machine.step.Seen.TheVariants.{Flipped}
 use Rattle.ringcore.specs.machine.StepAnswers.{new_flags}
 use Rattle.ringcore.specs.machine.Open.{own_offset}
-use Rattle.ringcore.specs.machine.Core.{CoreValue, ring_of, IsTakenOrRefused, HasNoFault}
+use Rattle.ringcore.specs.machine.Core.{CoreValue, core_of, ring_of, IsTakenOrRefused, HasNoFault}
 use Rattle.ringcore.proofs.MachineLemmas.FlipSteps.{flip_fits, flip_shares, flipped_machine, flip_taken}
 use Rattle.ringcore.proofs.machine.Core.flip.Goals as goal
 
@@ -20,7 +20,7 @@ module _ (inside outside : CoreValue) (is : inside ≡ outside) (s : ℕ) where
 
 pub overflow_add-first : goal.overflow_add-first
 overflow_add-first c =
-    let core : CoreValue = record { words = c.self.inside.words; senders = c.self.inside.senders.items; consumer = c.self.inside.consumer; tallies = c.self.inside.tallies } in
+    let core = core_of c.self.inside in
     let s = c.args.sender in
     let slot = c.args.slot in
     let count = c.args.count in
@@ -35,7 +35,7 @@ overflow_add-first c =
 
 pub flip-requires-2-clause-word : goal.flip-requires-2-clause-word
 flip-requires-2-clause-word c =
-    let core : CoreValue = record { words = c.self.inside.words; senders = c.self.inside.senders.items; consumer = c.self.inside.consumer; tallies = c.self.inside.tallies } in
+    let core = core_of c.self.inside in
     let s = c.args.sender in
     let slot = c.args.slot in
     let count = c.args.count in
@@ -52,7 +52,7 @@ flip-requires-2-clause-word c =
 
 pub new_flags-requires-clause-within : goal.new_flags-requires-clause-within
 new_flags-requires-clause-within c =
-    let core : CoreValue = record { words = c.self.inside.words; senders = c.self.inside.senders.items; consumer = c.self.inside.consumer; tallies = c.self.inside.tallies } in
+    let core = core_of c.self.inside in
     let s = c.args.sender in
     let slot = c.args.slot in
     let count = c.args.count in
@@ -67,7 +67,7 @@ new_flags-requires-clause-within c =
 
 pub invariant_of-self : goal.invariant_of-self
 invariant_of-self c =
-    let core : CoreValue = record { words = c.self.inside.words; senders = c.self.inside.senders.items; consumer = c.self.inside.consumer; tallies = c.self.inside.tallies } in
+    let core = core_of c.self.inside in
     let s = c.args.sender in
     let slot = c.args.slot in
     let count = c.args.count in
@@ -84,7 +84,7 @@ invariant_of-self c =
 
 pub returns : goal.returns
 returns c =
-    let core : CoreValue = record { words = c.self.inside.words; senders = c.self.inside.senders.items; consumer = c.self.inside.consumer; tallies = c.self.inside.tallies } in
+    let core = core_of c.self.inside in
     let s = c.args.sender in
     let slot = c.args.slot in
     let count = c.args.count in

@@ -11,7 +11,7 @@ use Rattle.ringcore.specs.declared.machine.step.Step.TheVariants.{Flip}
 use Rattle.ringcore.specs.declared.machine.step_fault.StepFault.TheVariants.{Flipped, HalfMissing}
 use Rattle.ringcore.specs.machine.Open.{all_below, is_held, slot_is_held, own_offset}
 use Rattle.ringcore.specs.machine.Faults.{has_sender, has_slot, is_run_length, share_a_word}
-use Rattle.ringcore.specs.machine.Core.{CoreValue, ring_of, AllKnow, IsRefused, HasNoFault}
+use Rattle.ringcore.specs.machine.Core.{CoreValue, core_of, ring_of, AllKnow, IsRefused, HasNoFault}
 use Rattle.ringcore.proofs.MachineLemmas.FlipSteps.{has_run, flip_of_foreign, flip_past_end, flip_of_own}
 use Rattle.ringcore.proofs.MachineLemmas.Standing.{start_fits}
 use Rattle.ringcore.proofs.machine.Core.flip_offset.Goals as goal
@@ -29,7 +29,7 @@ module _ (inside outside : CoreValue) (is : inside ≡ outside) (s slot count : 
 
 pub returns-in_default-clause-refused : goal.returns-in_default-clause-refused
 returns-in_default-clause-refused c =
-    let core : CoreValue = record { words = c.self.inside.words; senders = c.self.inside.senders.items; consumer = c.self.inside.consumer; tallies = c.self.inside.tallies } in
+    let core = core_of c.self.inside in
     let s = c.args.sender in
     let slot = c.args.slot in
     let count = c.args.count in
@@ -50,7 +50,7 @@ returns-in_default-clause-refused c =
 
 pub overflow_add-first : goal.overflow_add-first
 overflow_add-first c =
-    let core : CoreValue = record { words = c.self.inside.words; senders = c.self.inside.senders.items; consumer = c.self.inside.consumer; tallies = c.self.inside.tallies } in
+    let core = core_of c.self.inside in
     let s = c.args.sender in
     let is = c.self.invariant in
     let low = there_inside core c.args.self.now c.self.view_is s c.args.slot c.args.count c.has_run.result c.has_run.ensures c.if-not-has_run.false in
@@ -62,7 +62,7 @@ overflow_add-first c =
 
 pub positions_are_held-requires : goal.positions_are_held-requires
 positions_are_held-requires c =
-    let core : CoreValue = record { words = c.self.inside.words; senders = c.self.inside.senders.items; consumer = c.self.inside.consumer; tallies = c.self.inside.tallies } in
+    let core = core_of c.self.inside in
     let s = c.args.sender in
     let is = c.self.invariant in
     let low = there_inside core c.args.self.now c.self.view_is s c.args.slot c.args.count c.has_run.result c.has_run.ensures c.if-not-has_run.false in
@@ -75,7 +75,7 @@ positions_are_held-requires c =
 
 pub returns-then-offset-count-clause-refused : goal.returns-then-offset-count-clause-refused
 returns-then-offset-count-clause-refused c =
-    let core : CoreValue = record { words = c.self.inside.words; senders = c.self.inside.senders.items; consumer = c.self.inside.consumer; tallies = c.self.inside.tallies } in
+    let core = core_of c.self.inside in
     let s = c.args.sender in
     let slot = c.args.slot in
     let count = c.args.count in
@@ -100,7 +100,7 @@ returns-then-offset-count-clause-refused c =
 
 pub returns-then-any_flipped-clause-refused : goal.returns-then-any_flipped-clause-refused
 returns-then-any_flipped-clause-refused c =
-    let core : CoreValue = record { words = c.self.inside.words; senders = c.self.inside.senders.items; consumer = c.self.inside.consumer; tallies = c.self.inside.tallies } in
+    let core = core_of c.self.inside in
     let s = c.args.sender in
     let slot = c.args.slot in
     let count = c.args.count in
@@ -123,7 +123,7 @@ returns-then-any_flipped-clause-refused c =
 
 pub returns-then-not-all_written-clause-refused : goal.returns-then-not-all_written-clause-refused
 returns-then-not-all_written-clause-refused c =
-    let core : CoreValue = record { words = c.self.inside.words; senders = c.self.inside.senders.items; consumer = c.self.inside.consumer; tallies = c.self.inside.tallies } in
+    let core = core_of c.self.inside in
     let s = c.args.sender in
     let slot = c.args.slot in
     let count = c.args.count in
@@ -145,7 +145,7 @@ returns-then-not-all_written-clause-refused c =
 
 pub returns-clause-accepted : goal.returns-clause-accepted
 returns-clause-accepted c =
-    let core : CoreValue = record { words = c.self.inside.words; senders = c.self.inside.senders.items; consumer = c.self.inside.consumer; tallies = c.self.inside.tallies } in
+    let core = core_of c.self.inside in
     let s = c.args.sender in
     let slot = c.args.slot in
     let count = c.args.count in

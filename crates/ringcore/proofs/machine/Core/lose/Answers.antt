@@ -3,13 +3,13 @@ use Rattle.std.proofs.lemmas.Option.{slice_get_read}
 use Rattle.std.specs.Prelude.{Ok, slice_set}
 use Rattle.ringcore.specs.declared.machine.step.Step.TheVariants.{Reserve}
 use Rattle.ringcore.specs.declared.machine.step.Seen.TheVariants.{Lost}
-use Rattle.ringcore.specs.machine.Core.{CoreValue, IsTakenOrRefused}
+use Rattle.ringcore.specs.machine.Core.{CoreValue, core_of, IsTakenOrRefused}
 use Rattle.ringcore.proofs.MachineLemmas.ReserveSteps.{accepted_inside, lost_machine, lost_taken}
 use Rattle.ringcore.proofs.machine.Core.lose.Goals as goal
 
 pub invariant_of-self : goal.invariant_of-self
 invariant_of-self c =
-    let core : CoreValue = record { words = c.self.inside.words; senders = c.self.inside.senders.items; consumer = c.self.inside.consumer; tallies = c.self.inside.tallies } in
+    let core = core_of c.self.inside in
     let s = c.args.sender in
     let is = c.self.invariant in
     let low : s < core.words.senders = subst (λ (m : CoreValue). s < m.words.senders) (sym c.self.view_is) c.requires.there in
@@ -20,7 +20,7 @@ invariant_of-self c =
 
 pub returns : goal.returns
 returns c =
-    let core : CoreValue = record { words = c.self.inside.words; senders = c.self.inside.senders.items; consumer = c.self.inside.consumer; tallies = c.self.inside.tallies } in
+    let core = core_of c.self.inside in
     let s = c.args.sender in
     let is = c.self.invariant in
     let low : s < core.words.senders = subst (λ (m : CoreValue). s < m.words.senders) (sym c.self.view_is) c.requires.there in

@@ -6,13 +6,13 @@ use Rattle.ringcore.specs.declared.machine.step.Seen.TheVariants.{Half}
 use Rattle.ringcore.specs.world.World.{head, world, control}
 use Rattle.ringcore.specs.memory.Layout.{data_word}
 use Rattle.ringcore.specs.machine.Faults.{tested_offset}
-use Rattle.ringcore.specs.machine.Core.{CoreValue, ring_of, AfterEachRun, HasNoFault, IsTaken}
+use Rattle.ringcore.specs.machine.Core.{CoreValue, core_of, ring_of, AfterEachRun, HasNoFault, IsTaken}
 use Rattle.ringcore.proofs.MachineLemmas.ReadSteps.{read_machine, read_taken}
 use Rattle.ringcore.proofs.machine.Core.read.Goals as goal
 
 pub invariant_of-self : goal.invariant_of-self
 invariant_of-self c =
-    let core : CoreValue = record { words = c.self.inside.words; senders = c.self.inside.senders.items; consumer = c.self.inside.consumer; tallies = c.self.inside.tallies } in
+    let core = core_of c.self.inside in
     let offset = c.in_ok-offset.offset in
     let which = c.half_of_number-which.result in
     let accepted : HasNoFault core (Read c.args.slot c.args.half) (λ run. tested_offset (ring_of core) run c.args.slot ≡ Some offset) =
@@ -25,7 +25,7 @@ invariant_of-self c =
 
 pub returns : goal.returns
 returns c =
-    let core : CoreValue = record { words = c.self.inside.words; senders = c.self.inside.senders.items; consumer = c.self.inside.consumer; tallies = c.self.inside.tallies } in
+    let core = core_of c.self.inside in
     let offset = c.in_ok-offset.offset in
     let which = c.half_of_number-which.result in
     let accepted : HasNoFault core (Read c.args.slot c.args.half) (λ run. tested_offset (ring_of core) run c.args.slot ≡ Some offset) =

@@ -7,14 +7,14 @@ use Rattle.ringcore.specs.world.Trails.{Run, trail_of}
 use Rattle.ringcore.specs.world.World.{world, control}
 use Rattle.ringcore.specs.memory.Shadow.{shape}
 use Rattle.ringcore.specs.machine.Faults.{reserve_fault, fault_of}
-use Rattle.ringcore.specs.machine.Core.{CoreValue, ring_of, StandsAfter, IsRefused, HasNoFault, FindsControl}
+use Rattle.ringcore.specs.machine.Core.{CoreValue, core_of, ring_of, StandsAfter, IsRefused, HasNoFault, FindsControl}
 use Rattle.ringcore.proofs.WorldLemmas.LookedControls.{looked_is_control}
 use Rattle.ringcore.proofs.MachineLemmas.SenderSteps.{there_is}
 use Rattle.ringcore.proofs.machine.Core.reserve.Goals as goal
 
 pub reserve_fault-requires : goal.reserve_fault-requires
 reserve_fault-requires c = λ found is_looked.
-    let core : CoreValue = record { words = c.self.inside.words; senders = c.self.inside.senders.items; consumer = c.self.inside.consumer; tallies = c.self.inside.tallies } in
+    let core = core_of c.self.inside in
     let s = c.args.sender in
     let is = c.self.invariant in
     let views = is.views in
@@ -27,7 +27,7 @@ reserve_fault-requires c = λ found is_looked.
 
 pub returns-in-Some : goal.returns-in-Some
 returns-in-Some c =
-    let core : CoreValue = record { words = c.self.inside.words; senders = c.self.inside.senders.items; consumer = c.self.inside.consumer; tallies = c.self.inside.tallies } in
+    let core = core_of c.self.inside in
     let s = c.args.sender in
     let is = c.self.invariant in
     let views = is.views in
@@ -42,7 +42,7 @@ returns-in-Some c =
 
 pub win-requires-clause-accepted : goal.win-requires-clause-accepted
 win-requires-clause-accepted c =
-    let core : CoreValue = record { words = c.self.inside.words; senders = c.self.inside.senders.items; consumer = c.self.inside.consumer; tallies = c.self.inside.tallies } in
+    let core = core_of c.self.inside in
     let s = c.args.sender in
     let is = c.self.invariant in
     let views = is.views in
@@ -64,7 +64,7 @@ win-requires-clause-accepted c =
 
 pub lose-requires-clause-accepted : goal.lose-requires-clause-accepted
 lose-requires-clause-accepted c =
-    let core : CoreValue = record { words = c.self.inside.words; senders = c.self.inside.senders.items; consumer = c.self.inside.consumer; tallies = c.self.inside.tallies } in
+    let core = core_of c.self.inside in
     let s = c.args.sender in
     let is = c.self.invariant in
     let views = is.views in

@@ -4,13 +4,13 @@ use Rattle.std.specs.Prelude.{Some}
 use Rattle.ringcore.specs.declared.machine.step.Step.TheVariants.{Look}
 use Rattle.ringcore.specs.declared.machine.step.Seen.TheVariants.{Word}
 use Rattle.ringcore.specs.world.World.{world, control}
-use Rattle.ringcore.specs.machine.Core.{CoreValue, ring_of, StandsAfter, IsTaken}
+use Rattle.ringcore.specs.machine.Core.{CoreValue, core_of, ring_of, StandsAfter, IsTaken}
 use Rattle.ringcore.proofs.MachineLemmas.SenderSteps.{with_view, looked_machine, look_taken}
 use Rattle.ringcore.proofs.machine.Core.sender_looks.Goals as goal
 
 pub invariant_of-self : goal.invariant_of-self
 invariant_of-self c =
-    let core : CoreValue = record { words = c.self.inside.words; senders = c.self.inside.senders.items; consumer = c.self.inside.consumer; tallies = c.self.inside.tallies } in
+    let core = core_of c.self.inside in
     let s = c.args.sender in
     let views = c.self.invariant.views in
     let low : s < core.words.senders = omega (arith, views, c.len.ensures, c.if-sender-len.false) in
@@ -19,7 +19,7 @@ invariant_of-self c =
 
 pub returns : goal.returns
 returns c =
-    let core : CoreValue = record { words = c.self.inside.words; senders = c.self.inside.senders.items; consumer = c.self.inside.consumer; tallies = c.self.inside.tallies } in
+    let core = core_of c.self.inside in
     let s = c.args.sender in
     let views = c.self.invariant.views in
     let low : s < core.words.senders = omega (arith, views, c.len.ensures, c.if-sender-len.false) in

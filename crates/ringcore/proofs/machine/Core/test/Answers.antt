@@ -7,13 +7,13 @@ use Rattle.ringcore.specs.world.World.{head, world, control}
 use Rattle.ringcore.specs.memory.Layout.{flag_word}
 use Rattle.ringcore.specs.memory.Flags.{IsReadyRun}
 use Rattle.ringcore.specs.machine.Faults.{fault_of}
-use Rattle.ringcore.specs.machine.Core.{CoreValue, ring_of, AfterEachRun, IsTaken}
+use Rattle.ringcore.specs.machine.Core.{CoreValue, core_of, ring_of, AfterEachRun, IsTaken}
 use Rattle.ringcore.proofs.MachineLemmas.TakenSteps.{test_machine, test_taken}
 use Rattle.ringcore.proofs.machine.Core.test.Goals as goal
 
 pub invariant_of-self : goal.invariant_of-self
 invariant_of-self c =
-    let core : CoreValue = record { words = c.self.inside.words; senders = c.self.inside.senders.items; consumer = c.self.inside.consumer; tallies = c.self.inside.tallies } in
+    let core = core_of c.self.inside in
     let no_fault : AfterEachRun core (λ run. None ≡ fault_of (ring_of core) run (Test c.args.slot c.args.count)) =
     subst (λ (m : CoreValue). AfterEachRun m (λ run. None ≡ fault_of (ring_of m) run (Test c.args.slot c.args.count))) (sym c.self.view_is)
     (λ run stands. sym c.in_default.is ∙ c.test_fault.ensures run stands) in
@@ -25,7 +25,7 @@ invariant_of-self c =
 
 pub returns : goal.returns
 returns c =
-    let core : CoreValue = record { words = c.self.inside.words; senders = c.self.inside.senders.items; consumer = c.self.inside.consumer; tallies = c.self.inside.tallies } in
+    let core = core_of c.self.inside in
     let no_fault : AfterEachRun core (λ run. None ≡ fault_of (ring_of core) run (Test c.args.slot c.args.count)) =
     subst (λ (m : CoreValue). AfterEachRun m (λ run. None ≡ fault_of (ring_of m) run (Test c.args.slot c.args.count))) (sym c.self.view_is)
     (λ run stands. sym c.in_default.is ∙ c.test_fault.ensures run stands) in

@@ -3,7 +3,7 @@ use Rattle.std.proofs.lemmas.Option.{slice_get_read}
 use Rattle.std.specs.Prelude.{Ok, slice_set}
 use Rattle.ringcore.specs.declared.machine.step.Step.TheVariants.{Reserve}
 use Rattle.ringcore.specs.declared.machine.step.Seen.TheVariants.{Reserved}
-use Rattle.ringcore.specs.machine.Core.{CoreValue, IsTakenOrRefused}
+use Rattle.ringcore.specs.machine.Core.{CoreValue, core_of, IsTakenOrRefused}
 use Rattle.ringcore.specs.world.Trails.{Run}
 use Rattle.ringcore.specs.world.World.{tail, world}
 use Rattle.ringcore.specs.world.Allowed.{length_with}
@@ -13,7 +13,7 @@ use Rattle.ringcore.proofs.machine.Core.win.Goals as goal
 
 pub distance-requires : goal.distance-requires
 distance-requires c =
-    let core : CoreValue = record { words = c.self.inside.words; senders = c.self.inside.senders.items; consumer = c.self.inside.consumer; tallies = c.self.inside.tallies } in
+    let core = core_of c.self.inside in
     let s = c.args.sender in
     let is = c.self.invariant in
     let accepted = accepted_inside core c.args.self.now c.self.view_is s c.args.body.now c.args.closes c.args.found.now true c.requires.accepted in
@@ -21,7 +21,7 @@ distance-requires c =
 
 pub overflow_add-start : goal.overflow_add-start
 overflow_add-start c =
-    let core : CoreValue = record { words = c.self.inside.words; senders = c.self.inside.senders.items; consumer = c.self.inside.consumer; tallies = c.self.inside.tallies } in
+    let core = core_of c.self.inside in
     let s = c.args.sender in
     let is = c.self.invariant in
     let accepted = accepted_inside core c.args.self.now c.self.view_is s c.args.body.now c.args.closes c.args.found.now true c.requires.accepted in
@@ -30,7 +30,7 @@ overflow_add-start c =
 
 pub wins-number-requires-clause-batches : goal.wins-number-requires-clause-batches
 wins-number-requires-clause-batches c =
-    let core : CoreValue = record { words = c.self.inside.words; senders = c.self.inside.senders.items; consumer = c.self.inside.consumer; tallies = c.self.inside.tallies } in
+    let core = core_of c.self.inside in
     let s = c.args.sender in
     let is = c.self.invariant in
     let low : s < core.words.senders = subst (λ (m : CoreValue). s < m.words.senders) (sym c.self.view_is) c.requires.there in
@@ -41,7 +41,7 @@ wins-number-requires-clause-batches c =
 
 pub invariant_of-self : goal.invariant_of-self
 invariant_of-self c =
-    let core : CoreValue = record { words = c.self.inside.words; senders = c.self.inside.senders.items; consumer = c.self.inside.consumer; tallies = c.self.inside.tallies } in
+    let core = core_of c.self.inside in
     let s = c.args.sender in
     let is = c.self.invariant in
     let low : s < core.words.senders = subst (λ (m : CoreValue). s < m.words.senders) (sym c.self.view_is) c.requires.there in
@@ -58,7 +58,7 @@ invariant_of-self c =
 
 pub returns : goal.returns
 returns c =
-    let core : CoreValue = record { words = c.self.inside.words; senders = c.self.inside.senders.items; consumer = c.self.inside.consumer; tallies = c.self.inside.tallies } in
+    let core = core_of c.self.inside in
     let s = c.args.sender in
     let is = c.self.invariant in
     let low : s < core.words.senders = subst (λ (m : CoreValue). s < m.words.senders) (sym c.self.view_is) c.requires.there in

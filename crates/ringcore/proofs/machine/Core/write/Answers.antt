@@ -7,7 +7,7 @@ use Rattle.ringcore.specs.declared.machine.step.Seen.TheVariants.{Written}
 use Rattle.ringcore.specs.memory.Layout.{data_word}
 use Rattle.ringcore.specs.memory.WordStores.{with_word}
 use Rattle.ringcore.specs.machine.Open.{own_offset}
-use Rattle.ringcore.specs.machine.Core.{CoreValue, ring_of, IsTakenOrRefused, HasNoFault}
+use Rattle.ringcore.specs.machine.Core.{CoreValue, core_of, ring_of, IsTakenOrRefused, HasNoFault}
 use Rattle.ringcore.proofs.MachineLemmas.WriteSteps.{write_inside, write_fits, wrote_machine, write_taken}
 use Rattle.ringcore.proofs.machine.Core.write.Goals as goal
 
@@ -21,7 +21,7 @@ module _ (inside outside : CoreValue) (is : inside ≡ outside) (s slot half k :
 
 pub command-requires : goal.command-requires
 command-requires c =
-    let core : CoreValue = record { words = c.self.inside.words; senders = c.self.inside.senders.items; consumer = c.self.inside.consumer; tallies = c.self.inside.tallies } in
+    let core = core_of c.self.inside in
     let s = c.args.sender in
     let k = c.in_ok-offset.offset in
     let is = c.self.invariant in
@@ -33,7 +33,7 @@ command-requires c =
 
 pub overflow_add-start : goal.overflow_add-start
 overflow_add-start c =
-    let core : CoreValue = record { words = c.self.inside.words; senders = c.self.inside.senders.items; consumer = c.self.inside.consumer; tallies = c.self.inside.tallies } in
+    let core = core_of c.self.inside in
     let s = c.args.sender in
     let k = c.in_ok-offset.offset in
     let is = c.self.invariant in
@@ -49,7 +49,7 @@ writes-requires c = c.in_ok-offset.ensures.few
 
 pub invariant_of-self : goal.invariant_of-self
 invariant_of-self c =
-    let core : CoreValue = record { words = c.self.inside.words; senders = c.self.inside.senders.items; consumer = c.self.inside.consumer; tallies = c.self.inside.tallies } in
+    let core = core_of c.self.inside in
     let s = c.args.sender in
     let k = c.in_ok-offset.offset in
     let is = c.self.invariant in
@@ -65,7 +65,7 @@ invariant_of-self c =
 
 pub returns : goal.returns
 returns c =
-    let core : CoreValue = record { words = c.self.inside.words; senders = c.self.inside.senders.items; consumer = c.self.inside.consumer; tallies = c.self.inside.tallies } in
+    let core = core_of c.self.inside in
     let s = c.args.sender in
     let k = c.in_ok-offset.offset in
     let is = c.self.invariant in

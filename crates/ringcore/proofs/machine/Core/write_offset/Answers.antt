@@ -5,13 +5,13 @@ use Rattle.qindex.specs.Positions.{size}
 use Rattle.ringcore.specs.declared.machine.step.Step.TheVariants.{Write}
 use Rattle.ringcore.specs.declared.machine.step_fault.StepFault.TheVariants.{Flipped}
 use Rattle.ringcore.specs.machine.Open.{own_offset}
-use Rattle.ringcore.specs.machine.Core.{CoreValue, ring_of, AllKnow, IsRefused, HasNoFault}
+use Rattle.ringcore.specs.machine.Core.{core_of, ring_of, AllKnow, IsRefused, HasNoFault}
 use Rattle.ringcore.proofs.MachineLemmas.WriteSteps.{write_of_foreign, write_of_own}
 use Rattle.ringcore.proofs.machine.Core.write_offset.Goals as goal
 
 pub returns-in_default-clause-refused : goal.returns-in_default-clause-refused
 returns-in_default-clause-refused c =
-    let core : CoreValue = record { words = c.self.inside.words; senders = c.self.inside.senders.items; consumer = c.self.inside.consumer; tallies = c.self.inside.tallies } in
+    let core = core_of c.self.inside in
     let s = c.args.sender in
     let slot = c.args.slot in
     let views = c.self.invariant.views in
@@ -33,7 +33,7 @@ any_flipped-requires c = let below = c.in-Some.ensures.inside.1 in omega (arith,
 
 pub returns-then-any_flipped-clause-refused : goal.returns-then-any_flipped-clause-refused
 returns-then-any_flipped-clause-refused c =
-    let core : CoreValue = record { words = c.self.inside.words; senders = c.self.inside.senders.items; consumer = c.self.inside.consumer; tallies = c.self.inside.tallies } in
+    let core = core_of c.self.inside in
     let s = c.args.sender in
     let slot = c.args.slot in
     let views = c.self.invariant.views in
@@ -51,7 +51,7 @@ returns-then-any_flipped-clause-refused c =
 
 pub returns-clause-accepted : goal.returns-clause-accepted
 returns-clause-accepted c =
-    let core : CoreValue = record { words = c.self.inside.words; senders = c.self.inside.senders.items; consumer = c.self.inside.consumer; tallies = c.self.inside.tallies } in
+    let core = core_of c.self.inside in
     let s = c.args.sender in
     let slot = c.args.slot in
     let views = c.self.invariant.views in
