@@ -2,7 +2,7 @@
 use Rattle.std.proofs.Common.{◌≡◌, ◌≢◌, ℕ, zero, suc, ◌+◌, ◌-◌, ◌/◌, ◌%◌, ◌<◌, ◌≤◌, Bool, true, false, not, ◌==◌, ◌||◌, ◌&&◌, cond, List, [], ◌∷◌, length, map, take, drop, Option, Some, None, refl, sym, ap, ap₂, ◌∙◌, subst, inl, inr, eqb-true, eq-eqb, leb-true, arith}
 use Rattle.std.proofs.Math.Nat.{mod-lt, mod-eq_of_lt}
 use Rattle.std.proofs.lemmas.Bool.{and_parts, or_parts, cases_lt, cases_eq, eqb-false, not-true, le-leb, lt-leb, lt-ltb}
-use Rattle.std.proofs.lemmas.Option.{slice_get_within}
+use Rattle.std.proofs.lemmas.Option.{slice_get_within, same_Some}
 use Rattle.std.specs.Prelude.{slice_get, nat_le, nat_lt, is_some, if◌then◌else◌}
 use Rattle.std.specs.List.{list_any}
 use Rattle.cmdcodec.specs.declared.raw.Raw.{Raw}
@@ -29,7 +29,7 @@ use Rattle.ringcore.specs.machine.Open.{some_below, all_below, first_below, is_o
 use Rattle.ringcore.specs.machine.Faults.{is_run_length, share_a_word, is_body, has_room, reserve_fault, foreign, write_at, flip_at, tested_offset, read_fault, advance_fault, has_number, is_sync_of, sync_is_taken, acknowledge_fault, unless_missing, fault_of}
 use Rattle.ringcore.specs.machine.StepAnswers.{offset_or_0, half_of_number, is_same_word, next_number, in_a_row, ready_count, half_in, half_at, next_commands, event_of, seen_of}
 use Rattle.ringcore.specs.machine.Played.{unless_refused, with_answer, played_from, StepsAreAllowed, PlayedAreRuns}
-use Rattle.ringcore.proofs.WorldLemmas.Lists.{off, some_one, none_some}
+use Rattle.ringcore.proofs.WorldLemmas.Lists.{off, none_some}
 use Rattle.ringcore.proofs.WorldLemmas.Sound.{Sound, sound}
 use Rattle.ringcore.proofs.WorldLemmas.Slots.{get_there}
 use Rattle.ringcore.proofs.WorldLemmas.Syncs.{is_sync}
@@ -72,7 +72,7 @@ first_is (suc n) f k e = by_front (first_is n f k) (some_below n f) (f n) refl e
     by_front : (first_below n f ≡ Some k → (k < n) × (f k ≡ true)) → (v last : Bool) → f n ≡ last
         → (if v then first_below n f else (if last then Some n else None)) ≡ Some k → (k < suc n) × (f k ≡ true)
     by_front rest true last is e = let r = rest e in (let l = r.0 in omega (arith, l), r.1)
-    by_front rest false true is e = let one = some_one n k e in (omega (arith, one), ap f (sym one) ∙ is)
+    by_front rest false true is e = let one = same_Some n k e in (omega (arith, one), ap f (sym one) ∙ is)
     by_front rest false false is e = none_some k e
 
 -- ---- faults that don't apply
@@ -96,7 +96,7 @@ no_sync_in : (raws : List Raw) → list_any (λ raw. opcode_of raw == 0x46) raws
 no_sync_in [] none i raw at = none_some raw at
 no_sync_in (x ∷ xs) none zero raw at =
     let both = or_parts (opcode_of x == 0x46) (list_any (λ raw. opcode_of raw == 0x46) xs) none in
-    subst (λ (r : Raw). opcode_of r ≢ 0x46) (some_one x raw at) (eqb-false (opcode_of x) 0x46 both.0)
+    subst (λ (r : Raw). opcode_of r ≢ 0x46) (same_Some x raw at) (eqb-false (opcode_of x) 0x46 both.0)
 no_sync_in (x ∷ xs) none (suc i) raw at =
     no_sync_in xs (or_parts (opcode_of x == 0x46) (list_any (λ raw. opcode_of raw == 0x46) xs) none).1 i raw at
 
@@ -368,7 +368,7 @@ module _ (ring : Ring) (run : Run) (ok : IsRun (shape ring) run) where
       → (item : Item) × ((slice_get items (h + j) ≡ Some item) × (item.raw ≡ raw))
   next_at items zero zero j raw at = none_some raw at
   next_at [] zero (suc count) j raw at = none_some raw at
-  next_at (x ∷ items) zero (suc count) zero raw at = (x, (refl, some_one x.raw raw at))
+  next_at (x ∷ items) zero (suc count) zero raw at = (x, (refl, same_Some x.raw raw at))
   next_at (x ∷ items) zero (suc count) (suc j) raw at =
       let r = next_at items zero count j raw at in (r.0, (ap (slice_get (x ∷ items)) (let z : 0 + suc j ≡ suc (0 + j) = omega arith in z) ∙ r.1.0, r.1.1))
   next_at [] (suc h) zero j raw at = none_some raw at
@@ -417,7 +417,7 @@ module _ (ring : Ring) (run : Run) (ok : IsRun (shape ring) run) where
                 let word = each_half j (each_below count halves b_is j less) half in
                 let its = i.reading j half word.0 word.1 in
                 let next = next_at w.reserved (head w) count j raw at in
-                let one : its.0 ≡ next.0 = some_one its.0 next.0 (sym its.1 ∙ next.1.0) in
+                let one : its.0 ≡ next.0 = same_Some its.0 next.0 (sym its.1 ∙ next.1.0) in
                 word.1 ∙ ap Some (its.2 ∙ ap (half_of half) (ap (λ (x : Item). x.raw) one ∙ next.1.1));
           }
 
@@ -445,7 +445,7 @@ module _ (ring : Ring) (run : Run) (ok : IsRun (shape ring) run) where
           let sync = is_sync (shape ring) run ok p item at (eqb-true (opcode_of item.raw) 0x46 a.1) in
           let sender : item.sender ≡ s = eqb-true item.sender s b.0 in
           let its : item.number ≡ Some number = number_there item.number b.1 in
-          let one : sync.number ≡ number = some_one sync.number number (sym sync.number_is ∙ its) in record {
+          let one : sync.number ≡ number = same_Some sync.number number (sym sync.number_is ∙ its) in record {
             position = p;
             place = item.place;
             below = below;

@@ -1,5 +1,6 @@
 -- What open reservations hold, as it is found view by view.
 use Rattle.std.proofs.Common.{◌≡◌, ℕ, zero, suc, ◌+◌, ◌<◌, true, false, inl, inr, refl, sym, ap, ap₂, ◌∙◌, subst, arith}
+use Rattle.std.proofs.Math.Bool.{or-true, and-false}
 use Rattle.std.proofs.lemmas.Bool.{cases_lt}
 use Rattle.std.specs.Prelude.{Bool, Option, Some, None, is_some, ◌==◌, ◌||◌, ◌&&◌, if◌then◌else◌}
 use Rattle.qindex.specs.Positions.{place}
@@ -9,30 +10,11 @@ use Rattle.ringcore.specs.world.World.{world}
 use Rattle.ringcore.specs.memory.Shadow.{Ring}
 use Rattle.ringcore.specs.machine.Open.{some_below, all_below, first_below, is_open, own_offset, holds_slot}
 
-or_true : (a : Bool) → (a || true) ≡ true
-or_true true = refl
-or_true false = refl
-
-or_false : (a : Bool) → (a || false) ≡ a
-or_false true = refl
-or_false false = refl
-
--- One that passes is enough, and so is one that doesn't.
-pub some_there : (f : ℕ → Bool) (d : ℕ) → f d ≡ true → (n : ℕ) → d < n → some_below n f ≡ true
-some_there f d here zero low = absurd (omega (arith, low))
-some_there f d here (suc n) low = elim (cases_lt d n) [
-  | inl less ↦ ap (λ v. f n || v) (some_there f d here n less) ∙ or_true (f n)
-  | inr more ↦ let last : d ≡ n = omega (arith, low, more) in ap (λ v. v || some_below n f) (sym (ap f last) ∙ here)
-]
-
-and_false : (a : Bool) → (a && false) ≡ false
-and_false true = refl
-and_false false = refl
-
+-- One that doesn't pass is enough.
 pub not_all : (f : ℕ → Bool) (d : ℕ) → f d ≡ false → (n : ℕ) → d < n → all_below n f ≡ false
 not_all f d here zero low = absurd (omega (arith, low))
 not_all f d here (suc n) low = elim (cases_lt d n) [
-  | inl less ↦ ap (λ v. f n && v) (not_all f d here n less) ∙ and_false (f n)
+  | inl less ↦ ap (λ v. f n && v) (not_all f d here n less) ∙ and-false (f n)
   | inr more ↦ let last : d ≡ n = omega (arith, low, more) in ap (λ v. v && all_below n f) (sym (ap f last) ∙ here)
 ]
 
@@ -50,7 +32,7 @@ first_is_some (suc n) f = by_rest (some_below n f) (first_is_some n f) (f n)
   where
     by_rest : (b : Bool) → is_some (first_below n f) ≡ b → (here : Bool)
         → is_some (if b then first_below n f else (if here then Some n else None)) ≡ (here || b)
-    by_rest true rest here = rest ∙ sym (or_true here)
+    by_rest true rest here = rest ∙ sym (or-true here)
     by_rest false rest true = refl
     by_rest false rest false = refl
 

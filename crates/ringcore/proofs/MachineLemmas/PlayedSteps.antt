@@ -1,5 +1,6 @@
 -- How far a machine is that plays a list of steps.
 use Rattle.std.proofs.Common.{◌≡◌, ℕ, zero, suc, ◌+◌, ◌<◌, List, [], ◌∷◌, ◌++◌, Some, None, ◌⊎◌, inl, inr, length, drop, refl, sym, ap, ◌∙◌, subst, arith}
+use Rattle.std.proofs.lemmas.Option.{same_Some}
 use Rattle.std.proofs.lemmas.List.{drop_more, get_or-replicate, get_or_past, length-replicate}
 use Rattle.std.proofs.lemmas.Bool.{cases_lt}
 use Rattle.std.specs.Prelude.{replicate, slice_get, slice_index, slice_index_or}
@@ -22,7 +23,6 @@ use Rattle.ringcore.specs.machine.StepAnswers.{event_of, seen_of}
 use Rattle.ringcore.specs.machine.Played.{Played, played_from, played, unless_refused, with_answer}
 use Rattle.ringcore.specs.machine.SenderViews.{SenderValue, Knows}
 use Rattle.ringcore.specs.machine.Core.{CoreValue, ring_with, ring_of, AllKnow, StandsAfter, IsTaken, IsRefused}
-use Rattle.ringcore.proofs.WorldLemmas.Lists.{some_one}
 
 -- So many steps were taken, none refused, and what is left of them is played from there on.
 pub record HasReached (ring : Ring) (steps : List Step) (core : CoreValue) (place : ℕ) : Type 0 where
@@ -91,7 +91,7 @@ ends ring steps core place reached none = record {
 -- ---- the views of a new machine
 
 get_last : {A : Type 0} (xs : List A) (y v : A) (i : ℕ) → slice_get (xs ++ y ∷ []) i ≡ Some v → (slice_get xs i ≡ Some v) ⊎ (y ≡ v)
-get_last [] y v zero e = inr (some_one y v e)
+get_last [] y v zero e = inr (same_Some y v e)
 get_last [] y v (suc i) e = inl e
 get_last (x ∷ xs) y v zero e = inl e
 get_last (x ∷ xs) y v (suc i) e = get_last xs y v i e

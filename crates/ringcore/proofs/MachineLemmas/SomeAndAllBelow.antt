@@ -1,5 +1,6 @@
 -- Some and all of the numbers below a bound, as a list's elements tell them.
 use Rattle.std.proofs.Common.{◌≡◌, ℕ, zero, suc, ◌+◌, ◌<◌, ◌≤◌, Bool, true, false, ◌||◌, ◌&&◌, List, [], ◌∷◌, Some, None, length, take, drop, refl, sym, ap, ap₂, ◌∙◌, inl, inr, arith}
+use Rattle.std.proofs.Math.Bool.{or-true}
 use Rattle.std.proofs.lemmas.List.{length-drop, get_or-drop}
 use Rattle.std.proofs.lemmas.Bool.{cases_lt}
 use Rattle.std.specs.Prelude.{slice_index_or, if◌then◌else◌}
@@ -17,10 +18,6 @@ and_swap true true c = refl
 and_swap true false c = refl
 and_swap false true c = refl
 and_swap false false c = refl
-
-pub or_true : (a : Bool) → (a || true) ≡ true
-or_true true = refl
-or_true false = refl
 
 some_first : (n : ℕ) (f : ℕ → Bool) → some_below (suc n) f ≡ (f 0 || some_below n (λ k. f (suc k)))
 some_first zero f = refl
@@ -59,6 +56,14 @@ module _ {A : Type 0} (p : A → Bool) (d : A) where
       let left = length-drop offset xs in
       all_of_below (drop offset xs) n f (omega (arith, within, left)) (λ k low. ap p (get_or-drop offset xs k d) ∙ is k low)
 
+-- One that passes is enough.
+pub some_there : (f : ℕ → Bool) (d : ℕ) → f d ≡ true → (n : ℕ) → d < n → some_below n f ≡ true
+some_there f d here zero low = absurd (omega (arith, low))
+some_there f d here (suc n) low = elim (cases_lt d n) [
+  | inl less ↦ ap (λ v. f n || v) (some_there f d here n less) ∙ or-true (f n)
+  | inr more ↦ let last : d ≡ n = omega (arith, low, more) in ap (λ v. v || some_below n f) (sym (ap f last) ∙ here)
+]
+
 -- ---- the first that passes
 
 module _ (f : ℕ → Bool) (d : ℕ) (before : (k : ℕ) → k < d → f k ≡ false) where
@@ -75,18 +80,11 @@ module _ (f : ℕ → Bool) (d : ℕ) (before : (k : ℕ) → k < d → f k ≡ 
     at_end : (n : ℕ) → n ≡ d → f n ≡ true
     at_end n is = ap f is ∙ here
 
-    some_is : (n : ℕ) → d < n → some_below n f ≡ true
-    some_is zero lt = absurd (omega (arith, lt))
-    some_is (suc n) lt = elim (cases_lt d n) [
-      | inl low ↦ ap (λ v. f n || v) (some_is n low) ∙ or_true (f n)
-      | inr high ↦ ap (λ v. v || some_below n f) (at_end n (omega (arith, lt, high)))
-    ]
-
     pub first_is : (n : ℕ) → d < n → first_below n f ≡ Some d
     first_is zero lt = absurd (omega (arith, lt))
     first_is (suc n) lt = elim (cases_lt d n) [
       | inl low ↦
-          ap (λ (a : Bool). if a then first_below n f else (if f n then Some n else None)) (some_is n low) ∙ first_is n low
+          ap (λ (a : Bool). if a then first_below n f else (if f n then Some n else None)) (some_there f d here n low) ∙ first_is n low
       | inr high ↦
           let last : n ≡ d = omega (arith, lt, high) in
           ap₂ (λ (a b : Bool). if a then first_below n f else (if b then Some n else None)) (some_not n (omega (arith, last))) (at_end n last)

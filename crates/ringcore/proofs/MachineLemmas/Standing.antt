@@ -1,5 +1,6 @@
 -- What stands of a machine after an event of a sender.
 use Rattle.std.proofs.Common.{◌≡◌, ◌≢◌, ℕ, zero, suc, ◌^◌, ◌<◌, ◌≤◌, false, List, [], ◌∷◌, length, Some, ◌⊎◌, inl, inr, refl, sym, ap, ◌∙◌, subst, arith}
+use Rattle.std.proofs.lemmas.Option.{same_Some}
 use Rattle.std.proofs.lemmas.Bool.{cases_eq}
 use Rattle.std.specs.Prelude.{None, Option, slice_get, slice_set}
 use Rattle.std.specs.Option.{SomeIff, IsSome}
@@ -22,7 +23,6 @@ use Rattle.ringcore.specs.machine.Core.{CoreValue, ring_with, ring_of, AllKnow, 
 use Rattle.ringcore.proofs.WorldLemmas.Bound.{reserved_bound}
 use Rattle.ringcore.proofs.MachineLemmas.ConsumerKnows.{senders_leave}
 use Rattle.ringcore.proofs.MachineLemmas.SenderKnows.{others}
-use Rattle.ringcore.proofs.WorldLemmas.Lists.{some_one}
 use Rattle.ringcore.proofs.WorldLemmas.Sound.{sound}
 use Rattle.ringcore.proofs.MemoryLemmas.ControlWord.{found_is}
 use Rattle.ringcore.proofs.MachineLemmas.Tallies.{others_dont_count}
@@ -33,7 +33,7 @@ use Rattle.ringcore.proofs.MachineLemmas.Tallies.{others_dont_count}
 pub get_set : {A : Type 0} (xs : List A) (i t : ℕ) (y v : A) → slice_get (slice_set xs i y) t ≡ Some v
     → ((t ≡ i) × (y ≡ v)) ⊎ ((t ≢ i) × (slice_get xs t ≡ Some v))
 get_set [] i t y v e = absurd (cc)
-get_set (x ∷ xs) zero zero y v e = inl (refl, some_one y v e)
+get_set (x ∷ xs) zero zero y v e = inl (refl, same_Some y v e)
 get_set (x ∷ xs) zero (suc t) y v e = inr (λ is. cc, e)
 get_set (x ∷ xs) (suc i) zero y v e = inr (λ is. cc, e)
 get_set (x ∷ xs) (suc i) (suc t) y v e = elim (get_set xs i t y v e) [
@@ -118,7 +118,7 @@ is_there (Some x) P v iff p = refl
 
 pub that_there : {A : Type 0} (o : Option A) (P : Type 0) (v x : A) → SomeIff o P v → o ≡ Some x → x ≡ v
 that_there None P v x iff e = absurd (cc)
-that_there (Some y) P v x iff e = some_one x y (sym e) ∙ iff.1
+that_there (Some y) P v x iff e = same_Some x y (sym e) ∙ iff.1
 
 -- What the control word says after a run is what a look finds then.
 pub control_found : WordsSayTheirControl → QueuesHaveAControl → (core : CoreValue) (run : Run) (found : Control) → StandsAfter core run

@@ -1,5 +1,6 @@
 -- The steps of the consumer: a machine that took one stands for the longer run.
 use Rattle.std.proofs.Common.{◌≡◌, ℕ, zero, suc, ◌+◌, ◌<◌, ◌≤◌, Bool, true, false, ◌==◌, ◌&&◌, ◌||◌, List, ◌∷◌, Option, Some, None, refl, sym, ap, ap₂, ◌∙◌, subst, inl, inr, eq-eqb, arith}
+use Rattle.ringcore.proofs.MachineLemmas.SomeAndAllBelow.{some_there}
 use Rattle.std.proofs.lemmas.Bool.{cases_lt, cases_eq, lt-ltb}
 use Rattle.std.specs.Prelude.{slice_get, slice_index, nat_lt, if◌then◌else◌}
 use Rattle.cmdcodec.specs.Opcodes.{opcode_of}
@@ -27,7 +28,6 @@ use Rattle.ringcore.specs.machine.StepAnswers.{ready_count}
 use Rattle.ringcore.specs.machine.Played.{StepsAreAllowed}
 use Rattle.ringcore.specs.machine.Core.{CoreValue, ring_with, ring_of, StandsAfter, IsMachine, AfterEachRun, IsTaken}
 use Rattle.ringcore.proofs.MachineLemmas.ConsumerKnows.{acknowledgement_leaves}
-use Rattle.ringcore.proofs.MachineLemmas.SomeAndAllBelow.{or_true}
 use Rattle.ringcore.proofs.MachineLemmas.SenderKnows.{others}
 use Rattle.ringcore.proofs.WorldLemmas.Lists.{off}
 use Rattle.ringcore.proofs.MachineLemmas.Standing.{stays_machine}
@@ -118,13 +118,6 @@ acknowledged_few taken few core run s stands = elim (cases_lt 0 ((world run).ack
 
 -- ---- acknowledge
 
-some_there : (n k : ℕ) (f : ℕ → Bool) → k < n → f k ≡ true → some_below n f ≡ true
-some_there zero k f less is = absurd (omega (arith, less))
-some_there (suc n) k f less is = elim (cases_eq k n) [
-  | inl one ↦ ap (λ v. v || some_below n f) (ap f (sym one) ∙ is)
-  | inr other ↦ ap (λ v. f n || v) (some_there n k f (omega (arith, less, other)) is) ∙ or_true (f n)
-]
-
 is_its_sync : (s number : ℕ) (item : Item) → item.sender ≡ s → item.number ≡ Some number → opcode_of item.raw ≡ 0x46 → is_sync_of s number (Some item) ≡ true
 is_its_sync s number item sender its sync =
     ap₂ (λ (a b : Bool). a && b)
@@ -133,9 +126,10 @@ is_its_sync s number item sender its sync =
 
 sync_below : (w : World) (s number : ℕ) → SyncIsTaken w s number → sync_is_taken w s number ≡ true
 sync_below w s number taken =
-    some_there (head w) taken.position (λ position. is_sync_of s number (slice_get w.reserved position)) taken.below
+    some_there (λ position. is_sync_of s number (slice_get w.reserved position)) taken.position
     (ap (is_sync_of s number) taken.there
     ∙ is_its_sync s number record { sender = s; number = Some number; place = taken.place; raw = sync_raw s number } refl refl (sync_opcode s number))
+    (head w) taken.below
 
 -- how an acknowledgement is judged by the cell and the tally
 module _ (core : CoreValue) (run : Run) (stands : StandsAfter core run) (s number done : ℕ) (low : s < core.words.senders) (done_is : done ≡ (world run).acknowledged s) where

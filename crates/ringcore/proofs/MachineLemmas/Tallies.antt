@@ -37,9 +37,6 @@ others_dont_count run (Sender t) e counts no_advance are s inside = are s inside
 
 -- ---- commands that are counted one after another
 
-pub counted_none : (counts : List ℕ) → AreCounted counts counts []
-counted_none counts = record { same_senders = refl; counts = λ s inside. omega arith }
-
 pub counted_more : (old between new : List ℕ) (xs ys : List Raw) → AreCounted old between xs → AreCounted between new ys → AreCounted old new (xs ++ ys)
 counted_more old between new xs ys first then = record {
   same_senders = then.same_senders ∙ first.same_senders;

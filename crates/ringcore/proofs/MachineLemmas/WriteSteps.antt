@@ -1,5 +1,6 @@
 -- How a write and a flip are judged, and what they make of a machine.
 use Rattle.std.proofs.Common.{◌≡◌, ℕ, ◌+◌, ◌^◌, ◌<◌, ◌≤◌, Bool, true, false, Option, Some, None, ◌∷◌, ◌&&◌, ◌||◌, length, length-set, refl, sym, ap, ap₂, ◌∙◌, subst, arith}
+use Rattle.std.proofs.Math.Bool.{or-false}
 use Rattle.std.proofs.lemmas.Bool.{lt-ltb}
 use Rattle.std.specs.Prelude.{nat_lt, slice_get, slice_set, if◌then◌else◌}
 use Rattle.cmdcodec.specs.declared.raw.Raw.{Raw}
@@ -30,10 +31,6 @@ use Rattle.ringcore.proofs.MachineLemmas.SenderKnows.{length_known}
 use Rattle.ringcore.proofs.WorldLemmas.Sound.{sound}
 use Rattle.ringcore.proofs.MachineLemmas.Standing.{all_know, sender_stands, stays_machine, few_reserved}
 
-or_false : (a : Bool) → (a || false) ≡ a
-or_false true = refl
-or_false false = refl
-
 module _ (ring : Ring) (run : Run) (s : ℕ) (view : SenderValue) (known : Knows run s view) (slot : ℕ)
     (sender_there : s < ring.senders) (slot_there : slot < size ring.geometry) where
   abbrev mine : Trail
@@ -56,7 +53,7 @@ module _ (ring : Ring) (run : Run) (s : ℕ) (view : SenderValue) (known : Knows
     flipped_there k b inside says =
         let many = length_known run s view known in
         let same : k ≡ k + 0 = omega arith in
-        ap (λ n. has_flipped n mine) same ∙ sym (or_false (has_flipped (k + 0) mine)) ∙ sym (says (omega (arith, inside, many)))
+        ap (λ n. has_flipped n mine) same ∙ sym (or-false (has_flipped (k + 0) mine)) ∙ sym (says (omega (arith, inside, many)))
 
     pub write_of_own : (k : ℕ) (b : Bool) → own_offset ring run s slot ≡ Some k → k < length view.commands
         → (k + 1 ≤ reserved_length mine → b ≡ some_below 1 (λ j. has_flipped (k + j) mine))

@@ -1,5 +1,6 @@
 -- The steps on the data words: write and read.
 use Rattle.std.proofs.Common.{◌≡◌, ℕ, zero, suc, ◌+◌, ◌<◌, ◌≤◌, false, ◌==◌, ◌&&◌, List, [], ◌∷◌, Option, Some, refl, sym, ap, ap₂, ◌∙◌, subst, inl, inr, eqb-true, arith, length-set}
+use Rattle.std.proofs.lemmas.Option.{same_Some}
 use Rattle.std.proofs.lemmas.Bool.{true≢false, cases_lt, cases_eq, or_cases, and_parts}
 use Rattle.std.specs.Prelude.{slice_get, slice_index, slice_set}
 use Rattle.cmdcodec.specs.declared.raw.Raw.{Raw}
@@ -15,7 +16,7 @@ use Rattle.ringcore.specs.world.Allowed.{MayWrite, MayRead}
 use Rattle.ringcore.specs.memory.Layout.{control_word, data_word, cell}
 use Rattle.ringcore.specs.memory.Shadow.{Ring, shape, AreAfter}
 use Rattle.ringcore.specs.memory.StepLaws.{reserved_commands}
-use Rattle.ringcore.proofs.WorldLemmas.Lists.{some_one, none_some}
+use Rattle.ringcore.proofs.WorldLemmas.Lists.{none_some}
 use Rattle.ringcore.proofs.WorldLemmas.Sound.{Sound, sound, half_is}
 use Rattle.ringcore.proofs.WorldLemmas.Slots.{Deep, deep, last_items, get_there}
 use Rattle.ringcore.proofs.MemoryLemmas.Places.{data_within, control_not_data, flag_not_data, data_not_cell, same_data, others_stay, is_stored, flags_stay}
@@ -23,7 +24,7 @@ use Rattle.ringcore.proofs.MemoryLemmas.Places.{data_within, control_not_data, f
 as_item : (place s : ℕ) (number : Option ℕ) (raws : List Raw) (k : ℕ) (raw : Raw) → slice_get raws k ≡ Some raw
     → (item : Item) × ((slice_get (items_from place s number raws) k ≡ Some item) × (item.raw ≡ raw))
 as_item place s number [] k raw is = none_some raw is
-as_item place s number (x ∷ xs) zero raw is = (record { sender = s; number = number; place = place; raw = x }, (refl, some_one x raw is))
+as_item place s number (x ∷ xs) zero raw is = (record { sender = s; number = number; place = place; raw = x }, (refl, same_Some x raw is))
 as_item place s number (x ∷ xs) (suc k) raw is = as_item (suc place) s number xs k raw is
 
 -- a command of a sender's last reservation, as an item
@@ -99,7 +100,7 @@ module _ (ring : Ring) (run : Run) (words : List ℕ) (is : AreAfter ring run wo
                 let both = and_parts (q == p) (same_half other half) new in
                 let q_is : q ≡ p = eqb-true q p both.0 in
                 let other_is : other ≡ half = half_is other half both.1 in
-                let item_is : own.0 ≡ item = some_one own.0 item (sym placed ∙ ap (slice_get w.reserved) (sym q_is) ∙ found) in
+                let item_is : own.0 ≡ item = same_Some own.0 item (sym placed ∙ ap (slice_get w.reserved) (sym q_is) ∙ found) in
                 ap₂ (λ (n : ℕ) (h : Half). slice_index (slice_set words at x) (data_word g n h)) q_is other_is
                 ∙ is_stored words at x (subst (λ n. at < n) (sym is.shadow.many) (data_within g p ring.senders half))
                 ∙ ap₂ half_of (sym other_is) (sym own.1.1 ∙ ap (λ (z : Item). z.raw) item_is)
@@ -107,7 +108,7 @@ module _ (ring : Ring) (run : Run) (words : List ℕ) (is : AreAfter ring run wo
               | inl one ↦
                   let both = same_data g q p other half one in
                   let q_is : q ≡ p = one_place g (head w) q p low (below_top q (i.written_below q other old)) here.low here.high both.0 in
-                  let item_is : own.0 ≡ item = some_one own.0 item (sym placed ∙ ap (slice_get w.reserved) (sym q_is) ∙ found) in
+                  let item_is : own.0 ≡ item = same_Some own.0 item (sym placed ∙ ap (slice_get w.reserved) (sym q_is) ∙ found) in
                   ap₂ (λ (n : ℕ) (h : Half). slice_index (slice_set words at x) (data_word g n h)) q_is both.1
                   ∙ is_stored words at x (subst (λ n. at < n) (sym is.shadow.many) (data_within g p ring.senders half))
                   ∙ ap₂ half_of (sym both.1) (sym own.1.1 ∙ ap (λ (z : Item). z.raw) item_is)

@@ -12,8 +12,8 @@ use Rattle.ringcore.specs.world.Allowed.{ShareAWord}
 use Rattle.ringcore.specs.memory.Flags.{flag_bit, polarity, IsFlagOf, IsFlipMask, IsReadyRun}
 use Rattle.ringcore.proofs.MemoryLemmas.Places.{place-lt}
 
-pub some_slots : (g : ℕ) → 0 < size g
-some_slots g = pow_pos g
+pub polarity-lt : (g p : ℕ) → polarity g p < 2
+polarity-lt g p = let l : ℕ = lap g p in let is : 1 - l % 2 < 2 = omega arith in is
 
 -- the flag words of a ring are whole, but for a ring's that has less than one
 pub whole_words : (g : ℕ) → (size g ≤ 64) ⊎ (size g ≡ 64 * (size g / 64))

@@ -1,5 +1,6 @@
 -- The steps on the flags: flip and test, and advance, which opens places for the lap that follows.
 use Rattle.std.proofs.Common.{◌≡◌, ◌≢◌, ℕ, zero, suc, ◌+◌, ◌-◌, ◌/◌, ◌%◌, ◌<◌, ◌≤◌, Bool, true, false, ◌==◌, ◌||◌, ◌&&◌, List, ◌∷◌, ◌++◌, length, map, refl, sym, ap, ap₂, ◌∙◌, subst, inl, inr, eqb-true, eq-eqb, ne_eqb, arith, length-append, length-set, bit_xor}
+use Rattle.ringcore.proofs.MemoryLemmas.FlagPlaces.{polarity-lt}
 use Rattle.std.proofs.lemmas.Bool.{true≢false, cases_lt, cases_eq, false_from_ne_true, le-leb, lt-ltb, eqb-false}
 use Rattle.std.proofs.lemmas.List.{length-map}
 use Rattle.std.proofs.lemmas.Nat.Bits.{bit_at_xor, bit_at-lt}
@@ -37,18 +38,10 @@ other_bit (suc zero) (suc zero) b_lt p_lt not = absurd (not refl)
 other_bit (suc (suc b)) p b_lt p_lt not = absurd (omega (arith, b_lt))
 other_bit b (suc (suc p)) b_lt p_lt not = absurd (omega (arith, p_lt))
 
-same_bit : (b p : ℕ) → b < 2 → (b == p) ≡ true → ((b + 0) % 2 == p) ≡ true
-same_bit zero p b_lt e = e
-same_bit (suc zero) p b_lt e = e
-same_bit (suc (suc b)) p b_lt e = absurd (omega (arith, b_lt))
-
 kept_bit : (b : ℕ) → b < 2 → (b + 0) % 2 ≡ b
 kept_bit zero l = refl
 kept_bit (suc zero) l = refl
 kept_bit (suc (suc b)) l = absurd (omega (arith, l))
-
-polarity-lt : (g p : ℕ) → polarity g p < 2
-polarity-lt g p = let n : ℕ = wrap_bit g p in let l : 1 - n < 2 = omega arith in l
 
 no_bit : (b : ℕ) → b < 2 → (b ≡ 1 → ⊥) → b ≡ 0
 no_bit zero l not = refl

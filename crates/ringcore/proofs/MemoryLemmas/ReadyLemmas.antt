@@ -13,7 +13,7 @@ use Rattle.qindex.specs.ControlWord.{bit as bit_of}
 use Rattle.ringcore.specs.world.Allowed.{ShareAWord}
 use Rattle.ringcore.specs.memory.Flags.{flag_bit, polarity, IsReadyRun}
 use Rattle.ringcore.proofs.MemoryLemmas.Places.{place-lt}
-use Rattle.ringcore.proofs.MemoryLemmas.FlagPlaces.{further_bit, further_polarity, small_bit, next_bit, next_polarity, small_shares, large_shares, shares_no_more, in_ring}
+use Rattle.ringcore.proofs.MemoryLemmas.FlagPlaces.{further_bit, further_polarity, small_bit, next_bit, next_polarity, small_shares, large_shares, shares_no_more, in_ring, polarity-lt}
 
 -- ---- bits
 
@@ -118,9 +118,6 @@ module _ (g p word limit found : ℕ) (fits : place g p + found ≤ size g) (wit
   one_lap most ends = record { most = most; in_word = shares_here; ready = ready_here; no_more = no_more_here ends }
 
 -- ---- the run that goes on past the ring's end
-
-pub polarity-lt : (g p : ℕ) → polarity g p < 2
-polarity-lt g p = let l : ℕ = lap g p in let is : 1 - l % 2 < 2 = omega arith in is
 
 module _ (g p word limit here more found : ℕ) (small : size g ≤ 64) (to_end : place g p + here ≡ size g)
     (first : (bit : ℕ) → flag_bit g p ≤ bit → bit < flag_bit g p + here → bit_at word bit ≡ polarity g p)

@@ -1,15 +1,12 @@
 -- Facts of lists and tests that the laws use.
 use Rattle.std.proofs.Common.{◌≡◌, ℕ, zero, suc, ◌+◌, ◌<◌, ◌≤◌, true, false, List, [], ◌∷◌, ◌++◌, length, map, Some, None, refl, sym, ap, ap₂, ◌∙◌, arith}
 use Rattle.std.proofs.lemmas.Bool.{true≢false}
-use Rattle.std.proofs.lemmas.Option.{slice_get_within}
+use Rattle.std.proofs.lemmas.Option.{slice_get_within, same_Some}
 use Rattle.std.specs.Prelude.{slice_get}
 use Rattle.ringcore.specs.world.Delivery.{Begins}
 
 pub off : {X : Type 0} → false ≡ true → X
 off e = absurd (true≢false (sym e))
-
-pub some_one : {A : Type 0} (x y : A) → Some x ≡ Some y → x ≡ y
-some_one x y e = cc
 
 pub none_some : {A X : Type 0} (x : A) → None ≡ Some x → X
 none_some x e = absurd (cc)
@@ -33,7 +30,7 @@ get_shorter (x ∷ xs) ys (suc i) h = get_shorter xs ys i (omega (arith, h))
 
 pub get_map : {A B : Type 0} (f : A → B) (xs : List A) (i : ℕ) (x : A) → slice_get xs i ≡ Some x → slice_get (map f xs) i ≡ Some (f x)
 get_map f [] i x e = none_some x e
-get_map f (y ∷ xs) zero x e = ap (λ z. Some (f z)) (some_one y x e)
+get_map f (y ∷ xs) zero x e = ap (λ z. Some (f z)) (same_Some y x e)
 get_map f (y ∷ xs) (suc i) x e = get_map f xs i x e
 
 -- ---- beginnings
@@ -42,7 +39,7 @@ pub follows : {A : Type 0} (rest xs : List A) → ((i : ℕ) (x : A) → slice_g
 follows rest [] f = (rest, refl)
 follows [] (x ∷ xs) f = none_some x (f 0 x refl)
 follows (y ∷ rest) (x ∷ xs) f =
-    let more = follows rest xs (λ i z e. f (suc i) z e) in (more.0, ap₂ (λ z l. z ∷ l) (some_one y x (f 0 x refl)) more.1)
+    let more = follows rest xs (λ i z e. f (suc i) z e) in (more.0, ap₂ (λ z l. z ∷ l) (same_Some y x (f 0 x refl)) more.1)
 
 pub get_begun : {A : Type 0} (xs ys : List A) → Begins xs ys → (i : ℕ) → i < length xs → slice_get ys i ≡ slice_get xs i
 get_begun xs ys begins i h = ap (λ l. slice_get l i) begins.1 ∙ get_shorter xs begins.0 i h

@@ -1,5 +1,6 @@
 -- The control word says the control of the world, and what a seat looked at was one.
 use Rattle.std.proofs.Common.{◌≡◌, ℕ, Bool, true, false, cond, [], ◌∷◌, Some, refl, sym, ap, ◌∙◌, subst, eqb-true}
+use Rattle.std.proofs.lemmas.Option.{same_Some}
 use Rattle.qindex.specs.declared.control.Control.{Control}
 use Rattle.qindex.specs.Indexes.{IsGeometry}
 use Rattle.qindex.specs.ControlWord.{IsControl, packed, control_in}
@@ -11,7 +12,7 @@ use Rattle.ringcore.specs.declared.world.event.Event.TheVariants.{Look, Won, Los
 use Rattle.ringcore.specs.world.Trails.{Run, same, trail_of, looked}
 use Rattle.ringcore.specs.world.World.{tail, head, world, control}
 use Rattle.ringcore.specs.world.Allowed.{Shape, Allowed, IsRun}
-use Rattle.ringcore.proofs.WorldLemmas.Lists.{off, some_one, none_some}
+use Rattle.ringcore.proofs.WorldLemmas.Lists.{off, none_some}
 use Rattle.ringcore.proofs.WorldLemmas.Sound.{sound}
 
 pub same_is : (u v : Who) → same u v ≡ true → u ≡ v
@@ -31,7 +32,7 @@ module _ (queue : QueuesHaveAControl) (ring : Shape) (is_geometry : IsGeometry r
   now = is_control queue ring is_geometry xs ok
 
   step : (who : Who) (e : Event) → Allowed ring (world xs) (trail_of who xs) who e → (c : Control) → looked (e ∷ trail_of who xs) ≡ Some c → IsControl ring.geometry c
-  step Consumer (Look found) a c is = subst (IsControl ring.geometry) (sym a ∙ some_one found c is) now
+  step Consumer (Look found) a c is = subst (IsControl ring.geometry) (sym a ∙ same_Some found c is) now
   step Consumer (Won body number) a c is = absurd a
   step Consumer (Lost body closes found) a c is = absurd a
   step Consumer (Write offset half) a c is = absurd a
@@ -42,7 +43,7 @@ module _ (queue : QueuesHaveAControl) (ring : Shape) (is_geometry : IsGeometry r
   step Consumer Close a c is = absurd a
   step Consumer (Acknowledge sender number) a c is = earlier Consumer c is
   step Consumer (Ask found) a c is = absurd a
-  step (Sender s) (Look found) a c is = subst (IsControl ring.geometry) (sym a ∙ some_one found c is) now
+  step (Sender s) (Look found) a c is = subst (IsControl ring.geometry) (sym a ∙ same_Some found c is) now
   step (Sender s) (Won body number) a c is = none_some c is
   step (Sender s) (Lost body closes found) a c is = none_some c is
   step (Sender s) (Write offset half) a c is = earlier (Sender s) c is

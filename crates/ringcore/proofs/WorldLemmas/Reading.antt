@@ -1,9 +1,10 @@
 -- What the world and the events both say of a run.
 use Rattle.std.proofs.Common.{◌≡◌, ℕ, zero, suc, true, List, [], ◌∷◌, ◌++◌, length, map, Option, Some, refl, sym, ap, ap₂, ◌∙◌, append_assoc, append-nil}
+use Rattle.std.proofs.lemmas.Option.{same_Some}
 use Rattle.std.proofs.lemmas.List.{length-map, map-append}
 use Rattle.std.specs.Prelude.{slice_get}
 use Rattle.cmdcodec.specs.declared.raw.Raw.{Raw}
-use Rattle.ringcore.proofs.WorldLemmas.Lists.{none_some, some_one}
+use Rattle.ringcore.proofs.WorldLemmas.Lists.{none_some}
 use Rattle.ringcore.specs.declared.world.event.Who.{Who}
 use Rattle.ringcore.specs.declared.world.event.Who.TheVariants.{Consumer, Sender}
 use Rattle.ringcore.specs.declared.world.event.Event.{Event}
@@ -66,7 +67,7 @@ pub item_of : (place s : ℕ) (number : Option ℕ) (raws : List Raw) (i : ℕ) 
     → IsItemOf s number raws i item
 item_of place s number [] i item is = none_some item is
 item_of place s number (raw ∷ raws) zero item is =
-    let same = sym (some_one _ item is) in record {
+    let same = sym (same_Some _ item is) in record {
       raw_is = ap (λ (x : Item). Some x.raw) (sym same);
       sender_is = ap (λ (x : Item). x.sender) same;
       number_is = ap (λ (x : Item). x.number) same;

@@ -1,5 +1,6 @@
 -- What every run keeps of each sender's slots.
 use Rattle.std.proofs.Common.{◌≡◌, ◌≢◌, ℕ, zero, suc, ◌+◌, ◌-◌, ◌<◌, Bool, true, false, cond, ◌||◌, ◌&&◌, List, [], ◌∷◌, ◌++◌, length, map, Option, Some, refl, sym, ap, ap₂, ◌∙◌, inl, inr, eqb-true, eq-eqb, ne_eqb, arith, length-append}
+use Rattle.std.proofs.lemmas.Option.{same_Some}
 use Rattle.std.proofs.lemmas.Bool.{true≢false, cases_lt, cases_eq, false_from_ne_true, lt-ltb, le-ltb, le-leb, lt-leb, or_cases, or_right}
 use Rattle.std.proofs.lemmas.List.{length-map}
 use Rattle.std.specs.Prelude.{slice_get, ◌==◌, nat_le, nat_lt}
@@ -12,7 +13,7 @@ use Rattle.ringcore.specs.declared.world.event.Event.TheVariants.{Look, Won, Los
 use Rattle.ringcore.specs.world.Trails.{Trail, Run, same, same_half, trail_of, is_among, reserved_length, has_written, has_flipped}
 use Rattle.ringcore.specs.world.World.{Item, World, commands, items, taken_as, with_at, tail, head, after, world}
 use Rattle.ringcore.specs.world.Allowed.{Shape, MayWrite, MayFlip, MayAdvance, Allowed, IsRun}
-use Rattle.ringcore.proofs.WorldLemmas.Lists.{off, some_one, none_some, get_longer, get_behind}
+use Rattle.ringcore.proofs.WorldLemmas.Lists.{off, none_some, get_longer, get_behind}
 use Rattle.ringcore.proofs.WorldLemmas.Reading.{item_of}
 use Rattle.ringcore.proofs.WorldLemmas.Sound.{Sound, sound, among, length_items}
 
@@ -100,7 +101,7 @@ apart w s u mine other a b j i j_in i_in not same =
     let wide = length_of_last u other in
     let x = get_there (last_items s mine) j (omega (arith, j_in, long)) in
     let y = get_there (last_items u other) i (omega (arith, i_in, wide)) in
-    let one : y.0 ≡ x.0 = some_one y.0 x.0 (sym (b.placed i y.0 y.1) ∙ ap (slice_get w.reserved) same ∙ a.placed j x.0 x.1) in
+    let one : y.0 ≡ x.0 = same_Some y.0 x.0 (sym (b.placed i y.0 y.1) ∙ ap (slice_get w.reserved) same ∙ a.placed j x.0 x.1) in
     not (sym (sender_of_last u other i y.0 y.1) ∙ ap (λ (z : Item). z.sender) one ∙ sender_of_last s mine j x.0 x.1)
 
 by_trail : (w v : World) (s : ℕ) (b : Bool) (e : Event) (t : Trail) → (Owns w s t → Owns v s (e ∷ t)) → (Owns w s t → Owns v s t) → Owns w s t → Owns v s (cond b (e ∷ t) t)

@@ -1,6 +1,7 @@
 -- What every run keeps: the ring is never more than full, what is taken begins what is reserved, and what the
 -- consumer tested and read is so.
 use Rattle.std.proofs.Common.{◌≡◌, ℕ, suc, ◌+◌, ◌<◌, ◌≤◌, Bool, true, false, cond, ◌&&◌, List, [], ◌∷◌, ◌++◌, length, map, Option, Some, None, refl, sym, ap, ap₂, ◌∙◌, subst, inl, inr, eqb-true, ltb-true, leb-true, arith, length-append, append_assoc}
+use Rattle.std.proofs.lemmas.Option.{same_Some}
 use Rattle.std.proofs.lemmas.Bool.{or_cases, and_parts, or_right}
 use Rattle.std.proofs.lemmas.List.{length-map, map-append}
 use Rattle.std.specs.Prelude.{slice_get, ◌==◌, nat_le, nat_lt}
@@ -16,7 +17,7 @@ use Rattle.ringcore.specs.world.Trails.{Trail, Run, same, same_half, trail_of, i
 use Rattle.ringcore.specs.world.World.{Item, Taken, World, commands, items_from, items, taken_as, tail, head, after, world, half_of}
 use Rattle.ringcore.specs.world.Allowed.{Shape, MayWin, MayWrite, MayFlip, FindsReady, MayRead, MayAdvance, Allowed, IsRun}
 use Rattle.ringcore.specs.world.Delivery.{Begins}
-use Rattle.ringcore.proofs.WorldLemmas.Lists.{off, some_one, none_some, get_longer, get_behind, get_map, follows}
+use Rattle.ringcore.proofs.WorldLemmas.Lists.{off, none_some, get_longer, get_behind, get_map, follows}
 use Rattle.ringcore.proofs.WorldLemmas.Reading.{raws_of, raws_taken, taken_again}
 
 -- This word is that half of the command at the offset from the head.
@@ -172,7 +173,7 @@ module _ (ring : Shape) (xs : Run) (i : Sound ring xs) where
           let both = and_parts (k == offset) (same_half h half) here in (
             a.item,
             ap (λ n. slice_get w.reserved (head w + n)) (eqb-true k offset both.0) ∙ a.there,
-            sym (some_one word x is) ∙ a.found ∙ ap (λ g. half_of g a.item.raw) (sym (half_is h half both.1)),
+            sym (same_Some word x is) ∙ a.found ∙ ap (λ g. half_of g a.item.raw) (sym (half_is h half both.1)),
           )
       by_half k h x false else is = i.reading k h x is
 
@@ -183,7 +184,7 @@ module _ (ring : Shape) (xs : Run) (i : Sound ring xs) where
       let next = follows rest raws (λ k raw at.
       let low = i.reading k Lo raw.lo (a.read k raw Lo at) in
       let high = i.reading k Hi raw.hi (a.read k raw Hi at) in
-      let one : low.0 ≡ high.0 = some_one low.0 high.0 (sym low.1 ∙ high.1) in
+      let one : low.0 ≡ high.0 = same_Some low.0 high.0 (sym low.1 ∙ high.1) in
       let is : low.0.raw ≡ raw = (λ j. record { lo = (sym low.2) j; hi = (ap (λ (x : Item). x.raw.hi) one ∙ sym high.2) j }) in
       let here : length before + k ≡ head w + k = ap (λ n. n + k) (length-map w.taken (λ (t : Taken). t.raw)) in
       sym (get_behind before rest k) ∙ ap₂ slice_get (sym i.delivered.1) here

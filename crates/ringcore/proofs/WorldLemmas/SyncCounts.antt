@@ -1,8 +1,9 @@
 -- The consumer's trail says which closing syncs are taken.
 use Rattle.std.proofs.Common.{◌≡◌, ℕ, zero, suc, ◌+◌, ◌-◌, ◌*◌, ◌<◌, ◌≤◌, Bool, true, false, cond, ◌==◌, ◌&&◌, List, [], ◌∷◌, ◌++◌, length, map, Option, Some, None, refl, sym, ap, ap₂, ◌∙◌, subst, inl, inr, eqb-true, eq-eqb, ne_eqb, arith}
+use Rattle.std.proofs.Math.Bool.{and-false}
 use Rattle.std.proofs.lemmas.Bool.{and_parts, cases_eq}
 use Rattle.std.proofs.lemmas.List.{length-map, map-append}
-use Rattle.std.proofs.lemmas.Option.{slice_get_within}
+use Rattle.std.proofs.lemmas.Option.{slice_get_within, same_Some}
 use Rattle.std.specs.Prelude.{slice_get}
 use Rattle.cmdcodec.specs.declared.raw.Raw.{Raw}
 use Rattle.cmdcodec.specs.Opcodes.{opcode_of}
@@ -16,7 +17,7 @@ use Rattle.ringcore.specs.world.World.{Item, Taken, World, sync_raw, taken_as, h
 use Rattle.ringcore.specs.world.Allowed.{Shape, SyncIsTaken, Allowed, IsRun}
 use Rattle.ringcore.specs.world.Delivery.{number_of, counted}
 use Rattle.ringcore.specs.world.Laws.{is_sync_to, syncs_in, syncs_taken, SyncsAreCounted}
-use Rattle.ringcore.proofs.WorldLemmas.Lists.{some_one, none_some, get_shorter}
+use Rattle.ringcore.proofs.WorldLemmas.Lists.{none_some, get_shorter}
 use Rattle.ringcore.proofs.WorldLemmas.Reading.{raws_of, raws_taken, taken_again}
 use Rattle.ringcore.proofs.WorldLemmas.Sound.{Sound, sound}
 use Rattle.ringcore.proofs.WorldLemmas.Syncs.{sync_opcode, IsSyncOf, is_sync, sync_numbers, syncs_numbered}
@@ -97,7 +98,7 @@ counted_front first (suc n) (x ∷ xs) ys e =
 
 pub in_counted : (first n i k : ℕ) → slice_get (counted first n) i ≡ Some k → (k ≡ first + i) × (i < n)
 in_counted first zero i k e = none_some k e
-in_counted first (suc n) zero k e = (let one = some_one first k e in omega (arith, one), omega arith)
+in_counted first (suc n) zero k e = (let one = same_Some first k e in omega (arith, one), omega arith)
 in_counted first (suc n) (suc i) k e = let r = in_counted (suc first) n i k e in (omega (arith, r.0), omega (arith, r.1))
 
 counted_at : (first n i : ℕ) → i < n → slice_get (counted first n) i ≡ Some (first + i)
@@ -122,7 +123,7 @@ pub number_there : (s k : ℕ) (xs : List Item) (p : ℕ) (item : Item) → slic
     → (i : ℕ) × (slice_get (sync_numbers s xs) i ≡ Some k)
 number_there s k [] p item at sender number sync = none_some item at
 number_there s k (x ∷ xs) zero item at sender number sync =
-    let is : x ≡ item = some_one x item at in
+    let is : x ≡ item = same_Some x item at in
     let kind : (s == x.sender && opcode_of x.raw == 0x46) ≡ true =
     ap₂ (λ a b. a && b) (eq-eqb s x.sender (sym (ap (λ (i : Item). i.sender) is ∙ sender))) (eq-eqb (opcode_of x.raw) 0x46 (ap (λ (i : Item). opcode_of i.raw) is ∙ sync)) in (
       0,
@@ -190,16 +191,13 @@ kind_is s item all = elim (cases_eq (opcode_of item.raw) 0x46) [
       ap₂ (λ a b. a && b) opcode same ∙ sym (and_true (s == item.sender)) ∙ ap (λ b. s == item.sender && b) (sym opcode)
   | inr other ↦
       let opcode : (opcode_of item.raw == 0x46) ≡ false = ne_eqb (opcode_of item.raw) 0x46 other in
-      ap (λ b. b && item.raw.hi == 0x40000000 + 4 * s) opcode ∙ sym (and_false (s == item.sender)) ∙ ap (λ b. s == item.sender && b) (sym opcode)
+      ap (λ b. b && item.raw.hi == 0x40000000 + 4 * s) opcode ∙ sym (and-false (s == item.sender)) ∙ ap (λ b. s == item.sender && b) (sym opcode)
 ]
   where
     and_true : (b : Bool) → (b && true) ≡ b
     and_true true = refl
     and_true false = refl
 
-    and_false : (b : Bool) → (b && false) ≡ false
-    and_false true = refl
-    and_false false = refl
 
 as_many : (s : ℕ) (xs : List Item) → AllSyncs xs → length (sync_numbers s xs) ≡ syncs_in s (raws_of xs)
 as_many s [] all = refl
@@ -275,7 +273,7 @@ syncs_counted ring run ok s k = (there, back)
         let at : slice_get (sync_numbers s parts.front) j ≡ Some k = ap (λ l. slice_get l j) in_a_row ∙ counted_at 1 (length (sync_numbers s parts.front)) j inside ∙ ap Some is in
         let r = item_of_number s k parts.front j at in
         let sync = is_sync ring run ok r.position r.item (whole r.position r.item r.there) r.sync in
-        let number : sync.number ≡ k = some_one sync.number k (sym sync.number_is ∙ r.number_is) in
+        let number : sync.number ≡ k = same_Some sync.number k (sym sync.number_is ∙ r.number_is) in
         let raw : r.item.raw ≡ sync_raw s k = sync.raw_is ∙ ap₂ sync_raw r.sender_is number in record {
           position = r.position;
           place = r.item.place;

@@ -1,8 +1,9 @@
 -- The closing syncs in the reserved list: each is that of one batch, and a sender's are numbered 1, 2, 3 and so on.
 use Rattle.std.proofs.Common.{◌≡◌, ◌≢◌, ℕ, suc, ◌+◌, ◌-◌, Bool, true, false, cond, ◌&&◌, List, [], ◌∷◌, ◌++◌, length, Option, Some, None, refl, sym, ap, ◌∙◌, inl, inr, ne_eqb, eq-eqb, arith, length-append, append_assoc}
+use Rattle.std.proofs.Math.Bool.{and-false}
 use Rattle.std.proofs.lemmas.Bool.{cases_lt}
 use Rattle.std.proofs.lemmas.List.{length-map}
-use Rattle.std.proofs.lemmas.Option.{slice_get_within}
+use Rattle.std.proofs.lemmas.Option.{slice_get_within, same_Some}
 use Rattle.std.specs.Prelude.{slice_get, ◌==◌}
 use Rattle.cmdcodec.specs.declared.raw.Raw.{Raw}
 use Rattle.cmdcodec.specs.Opcodes.{opcode_of}
@@ -12,7 +13,7 @@ use Rattle.ringcore.specs.declared.world.event.Who.TheVariants.{Sender}
 use Rattle.ringcore.specs.world.World.{Item, sync_raw, commands, items_from, items, world}
 use Rattle.ringcore.specs.world.Allowed.{Shape, IsBody, IsRun}
 use Rattle.ringcore.specs.world.Delivery.{Batch, batches, joined, number_of, numbers, counted}
-use Rattle.ringcore.proofs.WorldLemmas.Lists.{none_some, some_one, get_shorter, get_behind}
+use Rattle.ringcore.proofs.WorldLemmas.Lists.{none_some, get_shorter, get_behind}
 use Rattle.ringcore.proofs.WorldLemmas.Reading.{item_of, batch_items, all_items, raws_of_batch, is_read}
 use Rattle.ringcore.proofs.WorldLemmas.Numbering.{AllBodies, is_kept}
 
@@ -106,7 +107,7 @@ sync_of s None body item sender_is number_is at =
 sync_of s (Some number) body item sender_is number_is at =
     let last : slice_get (body ++ sync_raw s number ∷ []) (length body + 0) ≡ Some (sync_raw s number) = get_behind body (sync_raw s number ∷ []) 0 in
     let here : length body + 0 ≡ length body = omega arith in
-    let raw : item.raw ≡ sync_raw s number = some_one item.raw (sync_raw s number) (sym at ∙ ap (slice_get (body ++ sync_raw s number ∷ [])) (sym here) ∙ last) in
+    let raw : item.raw ≡ sync_raw s number = same_Some item.raw (sync_raw s number) (sym at ∙ ap (slice_get (body ++ sync_raw s number ∷ [])) (sym here) ∙ last) in
     record { number = number; number_is = number_is; raw_is = raw ∙ ap (λ t. sync_raw t number) (sym sender_is) }
 
 pub is_sync : (ring : Shape) (run : Run) → IsRun ring run → (position : ℕ) (item : Item) → slice_get (world run).reserved position ≡ Some item
@@ -115,14 +116,6 @@ is_sync ring run ok position item at sync =
     let there = ap (λ l. slice_get l position) (sym (is_read run).reserved) ∙ at in
     let r = batch_of_sync (batches run) (is_kept ring run ok).bodies position item there sync in
     sync_of r.batch.sender r.batch.number r.batch.body item r.sender_is r.number_is r.raw_is
-
--- Two senders' syncs, and two numbers', are two commands.
-pub one_sync : (s t k n : ℕ) → sync_raw s k ≡ sync_raw t n → (s ≡ t) × (k ≡ n)
-unfolding encoding
-one_sync s t k n is =
-    let lo = ap (λ (r : Raw). r.lo) is in
-    let hi = ap (λ (r : Raw). r.hi) is in
-    (omega (arith, hi), omega (arith, lo))
 
 -- ---- the numbers of the syncs in the reserved list
 
@@ -135,13 +128,9 @@ none_in_body : (s place t : ℕ) (number : Option ℕ) (body : List Raw) (rest :
     → sync_numbers s (items_from place t number body ++ rest) ≡ sync_numbers s rest
 none_in_body s place t number [] rest no_sync = refl
 none_in_body s place t number (raw ∷ body) rest no_sync =
-    let here : (s == t && opcode_of raw == 0x46) ≡ false = ap (λ b. s == t && b) (ne_eqb (opcode_of raw) 0x46 (no_sync 0 raw refl)) ∙ and_false (s == t) in
+    let here : (s == t && opcode_of raw == 0x46) ≡ false = ap (λ b. s == t && b) (ne_eqb (opcode_of raw) 0x46 (no_sync 0 raw refl)) ∙ and-false (s == t) in
     ap (λ b. cond b (number_of number (sync_numbers s (items_from (suc place) t number body ++ rest))) (sync_numbers s (items_from (suc place) t number body ++ rest))) here
     ∙ none_in_body s (suc place) t number body rest (λ i r at. no_sync (suc i) r at)
-  where
-    and_false : (b : Bool) → (b && false) ≡ false
-    and_false true = refl
-    and_false false = refl
 
 items_append : (place t : ℕ) (number : Option ℕ) (xs ys : List Raw) → items_from place t number (xs ++ ys) ≡ items_from place t number xs ++ items_from (place + length xs) t number ys
 items_append place t number [] ys = ap (λ p. items_from p t number ys) (let z : place ≡ place + 0 = omega arith in z)

@@ -1,7 +1,8 @@
 use Rattle.std.proofs.Common.{◌≡◌, ◌<◌, true, false, length, refl, sym, ◌∙◌, subst, arith}
+use Rattle.ringcore.proofs.MachineLemmas.SomeAndAllBelow.{some_there}
 use Rattle.std.proofs.lemmas.Option.{slice_get_read}
 use Rattle.ringcore.specs.machine.Open.{some_below, holds}
-use Rattle.ringcore.proofs.MachineLemmas.HeldPlaces.{some_there, none_further}
+use Rattle.ringcore.proofs.MachineLemmas.HeldPlaces.{none_further}
 use Rattle.ringcore.proofs.machine.held.is_held.Goals as goal
 
 pub returns-then-holds : goal.returns-then-holds

@@ -1,8 +1,9 @@
 use Rattle.std.proofs.Common.{◌≡◌, ◌<◌, true, false, length, refl, sym, ap, ◌∙◌, subst}
+use Rattle.ringcore.proofs.MachineLemmas.SomeAndAllBelow.{some_there}
 use Rattle.std.proofs.lemmas.Option.{slice_get_read}
 use Rattle.std.specs.Prelude.{is_some}
 use Rattle.ringcore.specs.machine.Open.{holds_slot}
-use Rattle.ringcore.proofs.MachineLemmas.HeldPlaces.{some_there, none_further, holds_where}
+use Rattle.ringcore.proofs.MachineLemmas.HeldPlaces.{none_further, holds_where}
 use Rattle.ringcore.proofs.machine.held.slot_is_held.Goals as goal
 
 pub returns-then-is_some : goal.returns-then-is_some
