@@ -272,22 +272,3 @@ won_known run s view body number numbers first raws at k count raws_are =
       flipped_is = λ n low. ap (λ (c : Progress). c.flipped) (fresh n);
     } in
     subst (λ (t : Trail). KnowsTrail s t now new) (sym (own_trail run s e)) known
-
--- ---- a run of commands is flipped
-
-written_kept : (half : Half) (command : Progress) (first count k : ℕ) → is_written half (flipped_by first count k command) ≡ is_written half command
-written_kept Lo command first count k = refl
-written_kept Hi command first count k = refl
-
-pub flipped_known : (run : Run) (s : ℕ) (view : SenderValue) (offset count : ℕ) (new : List Progress) → AreFlipped view.progress new offset count
-    → Knows run s view
-    → Knows ((Sender s, Flip offset count) ∷ run) s (record view { progress = new })
-flipped_known run s view offset count new are k = own run s (Flip offset count) (record view { progress = new }) refl record {
-  looked_is = k.looked_is;
-  batches_is = k.batches_is;
-  numbers_is = k.numbers_is;
-  start_is = k.start_is;
-  commands_are = k.commands_are;
-  written_is = λ n half low. ap (is_written half) (are n) ∙ written_kept half (progress_at view n) offset count n ∙ k.written_is n half low;
-  flipped_is = λ n low. ap (λ (c : Progress). c.flipped) (are n) ∙ ap (λ (v : Bool). is_among offset count n || v) (k.flipped_is n low);
-}
