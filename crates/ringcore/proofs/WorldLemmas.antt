@@ -9,7 +9,6 @@ pub mod Completed
 pub mod Order
 pub mod Slots
 pub mod Bound
-pub mod Unflipped
 pub mod LookedControls
 pub mod SyncCounts
 pub mod FewNumbers

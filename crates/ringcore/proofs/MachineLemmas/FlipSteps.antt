@@ -86,23 +86,6 @@ module _ (may : StepsAreAllowed) (old : CoreValue) (s slot count k : ℕ)
       (subst (λ (x : Who × Event). IsRun (shape (ring_of old)) (x ∷ run)) (flip_event run stands)
       (may (ring_of old) run (Flip s slot count) stands.words_are.geometry_is stands.words_are.run_is (accepted run stands).0)).1
 
-  pub flip_some : (run : Run) → StandsAfter old run → 1 ≤ count
-  flip_some run stands = (may_flip run stands).many.0
-
-  -- An open reservation lies in the window, so that its run is no longer than the ring.
-  pub flip_short : (run : Run) → StandsAfter old run → count ≤ size old.words.geometry
-  flip_short run stands =
-      let allowed = may_flip run stands in
-      let some = allowed.many.0 in
-      let inside = allowed.inside in
-      let first : k < reserved_length (trail_of (Sender s) run) = omega (arith, some, inside) in
-      let same : k + 0 ≡ k = omega arith in
-      let window = open_slot (ring_of old) run old.words.words stands.words_are s k first (subst (λ n. has_flipped n (trail_of (Sender s) run) ≡ false) same (allowed.unflipped 0 (omega (arith, some)))) in
-      let sounds = sound (shape (ring_of old)) run stands.words_are.run_is in
-      let within = sounds.each_within s in
-      let top = sounds.within in
-      let low = window.low in omega (arith, inside, within, top, low)
-
   module _ (before : SenderValue) (there : slice_get old.senders s ≡ Some before)
       (start : ℕ) (start_is : WhereKnown before (λ run t mine. start ≡ (world run).start t)) where
     pub flip_fits : IsMachine old → (run : Run) → StandsAfter old run → start + k + count ≤ 2 ^ 46

@@ -32,9 +32,6 @@ pub record HasReached (ring : Ring) (steps : List Step) (core : CoreValue) (plac
   pub same_run : (played_from ring run place (drop place steps)).run ≡ (played ring steps).run
   pub same_refused : (played_from ring run place (drop place steps)).refused ≡ (played ring steps).refused
 
-pub begins : (ring : Ring) (steps : List Step) (core : CoreValue) → ring_of core ≡ ring → StandsAfter core [] → HasReached ring steps core 0
-begins ring steps core ring_is stands = record { ring_is = ring_is; run = []; stands = stands; same_run = refl; same_refused = refl }
-
 module _ (ring : Ring) (steps : List Step) (core : CoreValue) (place : ℕ) (reached : HasReached ring steps core place)
     (inside : place < length steps) (step : Step) (at : step ≡ slice_index_or steps place step) where
   abbrev rest : List Step
