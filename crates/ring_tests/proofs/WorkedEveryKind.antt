@@ -8,11 +8,11 @@ use Rattle.ringcore.specs.declared.world.event.Half.TheVariants.{Lo, Hi}
 use Rattle.ringcore.specs.declared.world.event.Event.TheVariants.{Look, Won, Lost, Write, Flip, Test, Read, Advance, Close, Acknowledge, Ask}
 use Rattle.ringcore.specs.world.Trails.{Run, trail_of}
 use Rattle.ringcore.specs.world.World.{sync_raw, world}
-use Rattle.ringcore.specs.world.Allowed.{Shape, IsRun}
+use Rattle.ringcore.specs.world.Allowed.{Ring, IsRun}
 use Rattle.ring_tests.proofs.WorkedCases.{none, one, two, three, halves_of_one, halves_of_two, halves_of_three, read_all, x, body_of_one, body_of_two, shows}
 
-abbrev every_kind_ring : Shape
-every_kind_ring = record { geometry = 2; max_batches = 4; flags = 64 }
+abbrev every_kind_ring : Ring
+every_kind_ring = record { geometry = 2; senders = 2; max_batches = 4; flags = 64 }
 
 abbrev every_kind_01 : Run
 every_kind_01 = (Sender 0, Look (shows 2 0 0 false)) ∷ []

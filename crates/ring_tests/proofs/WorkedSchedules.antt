@@ -9,7 +9,7 @@ use Rattle.ringcore.specs.declared.machine.step_fault.StepFault.{StepFault}
 use Rattle.ringcore.specs.declared.machine.step_fault.StepFault.TheVariants.{AnotherSenders, NotReserved, Flipped, HalfMissing, NotTheHead, NotSeenReady, NotNext, NoSuchPlace, NoRoom, NotSettled, BadBody}
 use Rattle.ringcore.specs.declared.machine.step.Seen.{Seen}
 use Rattle.ringcore.specs.declared.machine.step.Seen.TheVariants.{Word, Reserved, Lost, Written, Flipped as FlippedTo, Ready, Half as HalfWord, Acknowledged, Done}
-use Rattle.ringcore.specs.memory.Shadow.{Ring}
+use Rattle.ringcore.specs.world.Allowed.{Ring}
 use Rattle.ringcore.specs.machine.Played.{played}
 use Rattle.ring_tests.proofs.WorkedCases.{x, shows}
 
@@ -17,7 +17,7 @@ abbrev raws : List Raw → ArrayVec Raw
 raws l = record { items = l }
 
 abbrev ring : ℕ → ℕ → Ring
-ring geometry senders = record { geometry = geometry; senders = senders; max_batches = 4294967295 }
+ring geometry senders = record { geometry = geometry; senders = senders; max_batches = 4294967295; flags = 64 }
 
 abbrev ArePlayed : ℕ → ℕ → List Step → List Seen → Option (ℕ × StepFault) → Type 0
 ArePlayed geometry senders steps answers refused =

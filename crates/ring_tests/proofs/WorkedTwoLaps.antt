@@ -7,11 +7,11 @@ use Rattle.ringcore.specs.declared.world.event.Half.TheVariants.{Lo, Hi}
 use Rattle.ringcore.specs.declared.world.event.Event.TheVariants.{Look, Won, Write, Flip, Test, Read, Advance, Acknowledge}
 use Rattle.ringcore.specs.world.Trails.{Run, trail_of}
 use Rattle.ringcore.specs.world.World.{sync_raw, world, control}
-use Rattle.ringcore.specs.world.Allowed.{Shape, IsRun}
+use Rattle.ringcore.specs.world.Allowed.{Ring, IsRun}
 use Rattle.ring_tests.proofs.WorkedCases.{none, one, two, halves_of_one, read_all, x, body_of_one, shows}
 
-abbrev two_laps_ring : Shape
-two_laps_ring = record { geometry = 1; max_batches = 4; flags = 64 }
+abbrev two_laps_ring : Ring
+two_laps_ring = record { geometry = 1; senders = 2; max_batches = 4; flags = 64 }
 
 abbrev two_laps_01 : Run
 two_laps_01 = (Sender 0, Look (shows 1 0 0 false)) ∷ []

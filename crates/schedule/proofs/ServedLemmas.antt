@@ -7,7 +7,7 @@ use Rattle.ringcore.specs.declared.machine.core_fault.CoreFault.{CoreFault}
 use Rattle.ringcore.specs.declared.machine.step.Step.{Step}
 use Rattle.ringcore.specs.declared.machine.step.Seen.{Seen}
 use Rattle.ringcore.specs.declared.machine.step_fault.StepFault.{StepFault}
-use Rattle.ringcore.specs.memory.Shadow.{Ring}
+use Rattle.ringcore.specs.world.Allowed.{Ring}
 use Rattle.ringcore.specs.machine.Faults.{fault_of}
 use Rattle.ringcore.specs.machine.FaultNames.{label_of, core_label}
 use Rattle.ringcore.specs.machine.StepAnswers.{event_of}

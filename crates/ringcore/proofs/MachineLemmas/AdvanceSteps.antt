@@ -15,10 +15,10 @@ use Rattle.ringcore.specs.declared.machine.step.Seen.TheVariants.{Word}
 use Rattle.ringcore.specs.declared.machine.step_fault.StepFault.TheVariants.{NotSeenReady, HalfMissing}
 use Rattle.ringcore.specs.world.Trails.{Trail, Run, trail_of, found_ready}
 use Rattle.ringcore.specs.world.World.{tail, head, world, control}
-use Rattle.ringcore.specs.world.Allowed.{MayAdvance, IsRun}
+use Rattle.ringcore.specs.world.Allowed.{Ring, MayAdvance, IsRun}
 use Rattle.ringcore.specs.memory.Layout.{control_word}
 use Rattle.ringcore.specs.world.Laws.{EveryRun, FewAreReserved, NumbersAreFew, SyncsAreCounted, syncs_in, syncs_taken}
-use Rattle.ringcore.specs.memory.Shadow.{Ring, shape, AreAfter}
+use Rattle.ringcore.specs.memory.Shadow.{AreAfter}
 use Rattle.ringcore.specs.memory.StepLaws.{Always, AdvancesByAnExclusiveOr, turned}
 use Rattle.ringcore.specs.memory.WordStores.{WordsValue, with_turned}
 use Rattle.ringcore.specs.machine.ConsumerViews.{ConsumerValue, KnowsTaken, ConsumerKnows, both_halves, command_at, and_command, commands_read}
@@ -69,8 +69,8 @@ module _ (allowed : StepsAreAllowed) (old : CoreValue) (count : ℕ) (no_fault :
     abbrev mine : Trail
     mine = trail_of Consumer run
 
-    longer : IsRun (shape ring) ((Consumer, event.Advance (raws_of run)) ∷ run)
-    longer = allowed ring run (Advance count) stands.words_are.geometry_is stands.words_are.run_is (sym (no_fault run stands))
+    longer : IsRun ring ((Consumer, event.Advance (raws_of run)) ∷ run)
+    longer = allowed ring run (Advance count) stands.words_are.geometry_is stands.words_are.flags_are stands.words_are.run_is (sym (no_fault run stands))
 
     may : MayAdvance mine (raws_of run)
     may = longer.1
@@ -92,10 +92,10 @@ module _ (allowed : StepsAreAllowed) (old : CoreValue) (count : ℕ) (no_fault :
         first_test false b e = refl
 
     below : head (world run) + count ≤ tail (world run)
-    below = found_below (shape ring) run stands.words_are.run_is count ready
+    below = found_below ring run stands.words_are.run_is count ready
 
     pub count_fits : count ≤ size old.words.geometry
-    count_fits = found_fits (shape ring) run stands.words_are.run_is count ready
+    count_fits = found_fits ring run stands.words_are.run_is count ready
 
     pub raws_long : length (raws_of run) ≡ count
     raws_long = as_many ring run stands.words_are.run_is (world run).reserved (head (world run)) count below
@@ -106,7 +106,7 @@ module _ (allowed : StepsAreAllowed) (old : CoreValue) (count : ℕ) (no_fault :
     -- Positions stay far below 2^64, and counts of syncs below 2^32.
     pub taken_fits : FewAreReserved → old.words.senders ≤ 256 → old.consumer.taken + count < 2 ^ 64
     taken_fits bound few =
-        let most = bound (shape ring) old.words.senders run stands.only stands.words_are.run_is in
+        let most = bound ring old.words.senders run stands.only stands.words_are.run_is in
         let taken = stands.consumer_knows.taken_is in
         let here = below in
         let senders : ℕ = old.words.senders in
@@ -121,7 +121,7 @@ module _ (allowed : StepsAreAllowed) (old : CoreValue) (count : ℕ) (no_fault :
         let all : ℕ = syncs_taken s mine + syncs_in s (raws_of run) in
         let later : Run = (Consumer, event.Advance (raws_of run)) ∷ run in
         let most : all ≤ 4294967295 = elim (cases_lt 0 all) [
-          | inl some ↦ few (shape ring) later longer s all ((counted (shape ring) later longer s all).1 (omega (arith, some), omega arith))
+          | inl some ↦ few ring later longer s all ((counted ring later longer s all).1 (omega (arith, some), omega arith))
           | inr none ↦ omega (arith, none)
         ] in
         omega (arith, is, same, most)

@@ -22,9 +22,8 @@ use Rattle.ringcore.specs.declared.machine.step_fault.StepFault.{StepFault}
 use Rattle.ringcore.specs.declared.machine.step_fault.StepFault.TheVariants.{Flipped, HalfMissing, NotSeenReady, NotTheHead, NotNext, NoRoom, NotSettled, BadBody}
 use Rattle.ringcore.specs.world.Trails.{Trail, Run, trail_of, looked, batches_made, batch_length, reserved_length, has_written, has_flipped, IsSettled, found_ready, half_read}
 use Rattle.ringcore.specs.world.World.{Item, World, sync_raw, tail, head, world, control, half_of}
-use Rattle.ringcore.specs.world.Allowed.{ShareAWord, IsBody, IsNextNumber, MayTry, MayWin, MayLose, length_with, MayWrite, MayFlip, FindsReady, MayRead, MayAdvance, SyncIsTaken, MayAcknowledge, Allowed, IsRun}
+use Rattle.ringcore.specs.world.Allowed.{Ring, ShareAWord, IsBody, IsNextNumber, MayTry, MayWin, MayLose, length_with, MayWrite, MayFlip, FindsReady, MayRead, MayAdvance, SyncIsTaken, MayAcknowledge, Allowed, IsRun}
 use Rattle.ringcore.specs.memory.Flags.{flag_bit, shared_word}
-use Rattle.ringcore.specs.memory.Shadow.{Ring, shape}
 use Rattle.ringcore.specs.machine.Open.{some_below, all_below, first_below, is_open, own_offset}
 use Rattle.ringcore.specs.machine.Faults.{is_run_length, share_a_word, is_body, has_room, reserve_fault, foreign, write_at, flip_at, tested_offset, read_fault, advance_fault, has_number, is_sync_of, sync_is_taken, acknowledge_fault, unless_missing, fault_of}
 use Rattle.ringcore.specs.machine.StepAnswers.{offset_or_0, half_of_number, is_same_word, next_number, in_a_row, ready_count, half_in, half_at, next_commands, event_of, seen_of}
@@ -122,7 +121,7 @@ NoFault ring body closes a b c =
     (if a then Some NotSettled else if not b then Some BadBody else if has_room ring c (length_with closes body) then None else Some NoRoom) ≡ None
 
 may_try : (ring : Ring) (mine : Trail) (body : List Raw) (closes : Bool) → reserve_fault ring mine body closes ≡ None
-    → (before : Control) × MayTry (shape ring) mine body (length_with closes body) before
+    → (before : Control) × MayTry ring mine body (length_with closes body) before
 may_try ring mine body closes none =
     by_tests (is_open mine || nat_le ring.max_batches (batches_made mine)) refl (is_body body) refl (looked mine) refl none
   where
@@ -131,7 +130,7 @@ may_try ring mine body closes none =
     by_room false e = absurd (cc)
 
     by_tests : (a : Bool) → (is_open mine || nat_le ring.max_batches (batches_made mine)) ≡ a → (b : Bool) → is_body body ≡ b → (c : Option Control) → looked mine ≡ c
-        → NoFault ring body closes a b c → (before : Control) × MayTry (shape ring) mine body (length_with closes body) before
+        → NoFault ring body closes a b c → (before : Control) × MayTry ring mine body (length_with closes body) before
     by_tests true a_is b b_is c c_is e = absurd (cc)
     by_tests false a_is false b_is c c_is e = absurd (cc)
     by_tests false a_is true b_is None c_is e = absurd (cc)
@@ -155,11 +154,11 @@ may_try ring mine body closes none =
 -- ---- flags that share a word
 
 -- of a position and of its place the flag word and the bit are one
-shares : (ring : Ring) (p slot count : ℕ) → place ring.geometry p ≡ slot → share_a_word ring slot count ≡ true → ShareAWord 64 ring.geometry p count
-shares ring p slot count at fits =
+shares : (ring : Ring) (p slot count : ℕ) → place ring.geometry p ≡ slot → share_a_word ring slot count ≡ true → ring.flags ≡ 64 → ShareAWord ring.flags ring.geometry p count
+shares ring p slot count at fits flags =
     let g : ℕ = ring.geometry in
     let below : count ≤ shared_word g slot = leb-true count (shared_word g slot) fits in
-    elim (cases_lt 64 (size g)) [
+    subst (λ f. ShareAWord f g p count) (sym flags) (elim (cases_lt 64 (size g)) [
       | inl large ↦
           let bit : flag_bit g p ≡ slot % 64 = ap (λ (n : ℕ). n % 64) at in
           let word : shared_word g slot ≡ 64 - place g slot % 64 = ap (λ (v : Bool). cond v (size g) (64 - place g slot % 64)) (lt-leb (size g) 64 large) in
@@ -170,7 +169,7 @@ shares ring p slot count at fits =
           let most' : count ≤ 64 - r = most in
           large_shares g p count large (let b : flag_bit g p ≡ r = bit in omega (arith, b, most', r-lt))
       | inr tiny ↦ small_shares g p count tiny
-    ]
+    ])
 
 -- ---- how many in a row
 
@@ -202,41 +201,41 @@ is_there : (v : Option ℕ) → is_some v ≡ true → (x : ℕ) × (v ≡ Some 
 is_there None e = off e
 is_there (Some x) e = (x, refl)
 
-module _ (ring : Ring) (run : Run) (ok : IsRun (shape ring) run) where
+module _ (ring : Ring) (run : Run) (ok : IsRun ring run) where
   abbrev g : ℕ
   g = ring.geometry
 
   abbrev w : World
   w = world run
 
-  i : Sound (shape ring) run
-  i = sound (shape ring) run ok
+  i : Sound ring run
+  i = sound ring run ok
 
   reserve : WordsSayTheirControl → QueuesHaveAControl → IndexesTellTheQueue → IsGeometry ring.geometry → (s : ℕ) (body : List Raw) (closes : Bool)
       → reserve_fault ring (trail_of (Sender s) run) body closes ≡ None
-      → Allowed (shape ring) w (trail_of (Sender s) run) (Sender s)
+      → Allowed ring w (trail_of (Sender s) run) (Sender s)
       (if is_same_word (looked (trail_of (Sender s) run)) (control g w) then event.Won body (next_number (trail_of (Sender s) run) closes) else event.Lost body closes (control g w))
   reserve said queue tells is_geometry s body closes none = by_word (packed before == packed (control g w)) refl
     where
       mine : Trail
       mine = trail_of (Sender s) run
 
-      tried : (before : Control) × MayTry (shape ring) mine body (length_with closes body) before
+      tried : (before : Control) × MayTry ring mine body (length_with closes body) before
       tried = may_try ring mine body closes none
 
       before : Control
       before = tried.0
 
-      may : MayTry (shape ring) mine body (length_with closes body) before
+      may : MayTry ring mine body (length_with closes body) before
       may = tried.1
 
       same : is_same_word (looked mine) (control g w) ≡ (packed before == packed (control g w))
       same = ap (λ c. is_same_word c (control g w)) may.looked_at
 
-      win : packed before ≡ packed (control g w) → MayWin (shape ring) w mine body (next_number mine closes)
+      win : packed before ≡ packed (control g w) → MayWin ring w mine body (next_number mine closes)
       win e =
           let one : before ≡ control g w =
-          one_control said g before (control g w) (looked_is_control queue (shape ring) is_geometry run ok (Sender s) before may.looked_at) (is_control queue (shape ring) is_geometry run ok) e in
+          one_control said g before (control g w) (looked_is_control queue ring is_geometry run ok (Sender s) before may.looked_at) (is_control queue ring is_geometry run ok) e in
           let far : distance before.prod before.cons ≡ tail w - head w =
           ap (λ (c : Control). distance c.prod c.cons) one ∙ (tells g (tail w) (head w) is_geometry i.behind i.within).distance in
           let behind = i.behind in let room = may.room in let long = length_is mine body closes in record {
@@ -250,14 +249,14 @@ module _ (ring : Ring) (run : Run) (ok : IsRun (shape ring) run) where
           }
 
       by_word : (v : Bool) → (packed before == packed (control g w)) ≡ v
-          → Allowed (shape ring) w mine (Sender s) (if is_same_word (looked mine) (control g w) then event.Won body (next_number mine closes) else event.Lost body closes (control g w))
+          → Allowed ring w mine (Sender s) (if is_same_word (looked mine) (control g w) then event.Won body (next_number mine closes) else event.Lost body closes (control g w))
       by_word true e =
-          subst (λ (v : Bool). Allowed (shape ring) w mine (Sender s) (if v then event.Won body (next_number mine closes) else event.Lost body closes (control g w))) (sym (same ∙ e))
+          subst (λ (v : Bool). Allowed ring w mine (Sender s) (if v then event.Won body (next_number mine closes) else event.Lost body closes (control g w))) (sym (same ∙ e))
           (win (eqb-true (packed before) (packed (control g w)) e))
       by_word false e =
-          let may_lose : MayLose (shape ring) w mine body closes (control g w) =
+          let may_lose : MayLose ring w mine body closes (control g w) =
           record { before = before; tries = may; found_is = refl; other = λ is. eqb-false (packed before) (packed (control g w)) e (ap packed (sym is)) } in
-          subst (λ (v : Bool). Allowed (shape ring) w mine (Sender s) (if v then event.Won body (next_number mine closes) else event.Lost body closes (control g w))) (sym (same ∙ e)) may_lose
+          subst (λ (v : Bool). Allowed ring w mine (Sender s) (if v then event.Won body (next_number mine closes) else event.Lost body closes (control g w))) (sym (same ∙ e)) may_lose
 
   -- the offset of a slot that is its own
   own : (s slot k : ℕ) → own_offset ring run s slot ≡ Some k → (k < reserved_length (trail_of (Sender s) run)) × (place g (w.start s + k) ≡ slot)
@@ -281,9 +280,10 @@ module _ (ring : Ring) (run : Run) (ok : IsRun (shape ring) run) where
       by_offset None is e = foreign_is_some _ e
       by_offset (Some k) is e = record { inside = (own s slot k is).0; unflipped = unflipped (has_flipped k (trail_of (Sender s) run)) e }
 
-  flip : (s slot count : ℕ) → is_run_length count ≡ true → share_a_word ring slot count ≡ true → flip_at ring run s slot count (own_offset ring run s slot) ≡ None
-      → MayFlip (shape ring) (trail_of (Sender s) run) (w.start s) (offset_or_0 (own_offset ring run s slot)) count
-  flip s slot count counted share none = by_offset (own_offset ring run s slot) refl none
+  flip : (s slot count : ℕ) → is_run_length count ≡ true → share_a_word ring slot count ≡ true → ring.flags ≡ 64
+      → flip_at ring run s slot count (own_offset ring run s slot) ≡ None
+      → MayFlip ring (trail_of (Sender s) run) (w.start s) (offset_or_0 (own_offset ring run s slot)) count
+  flip s slot count counted share flags none = by_offset (own_offset ring run s slot) refl none
     where
       mine : Trail
       mine = trail_of (Sender s) run
@@ -302,7 +302,7 @@ module _ (ring : Ring) (run : Run) (ok : IsRun (shape ring) run) where
       each_half k e Lo = (and_parts (has_written k Lo mine) (has_written k Hi mine) e).0
       each_half k e Hi = (and_parts (has_written k Lo mine) (has_written k Hi mine) e).1
 
-      by_offset : (o : Option ℕ) → own_offset ring run s slot ≡ o → flip_at ring run s slot count o ≡ None → MayFlip (shape ring) mine (w.start s) (offset_or_0 o) count
+      by_offset : (o : Option ℕ) → own_offset ring run s slot ≡ o → flip_at ring run s slot count o ≡ None → MayFlip ring mine (w.start s) (offset_or_0 o) count
       by_offset None is e = foreign_is_some _ e
       by_offset (Some k) is e =
           let at = own s slot k is in
@@ -313,23 +313,24 @@ module _ (ring : Ring) (run : Run) (ok : IsRun (shape ring) run) where
               | inl over ↦ off (sym p.0 ∙ lt-ltb (reserved_length mine) (k + count) over)
               | inr le ↦ le
             ];
-            in_word = shares ring (w.start s + k) slot count at.1 share;
+            in_word = shares ring (w.start s + k) slot count at.1 share flags;
             unflipped = λ d less. none_below count (λ d. has_flipped (k + d) mine) p.1.0 d less;
             written = λ d half less. each_half (k + d) (each_below count (λ d. has_written (k + d) Lo mine && has_written (k + d) Hi mine) p.1.1 d less) half;
           }
 
-  test : (count : ℕ) → is_run_length count ≡ true → FindsReady (shape ring) w count (ready_count ring w count)
-  test count counted =
+  test : (count : ℕ) → is_run_length count ≡ true → ring.flags ≡ 64 → FindsReady ring w count (ready_count ring w count)
+  test count counted flags =
       let n = and_parts (nat_le 1 count) (nat_le count 64) counted in
       let f : ℕ → Bool = λ k. w.flipped (head w + k) && place g (head w + k) / 64 == place g (head w) / 64 in
       let s = streak f count in record {
         many = (leb-true 1 count n.0, leb-true count 64 n.1);
         most = s.most;
-        in_word = λ k less. eqb-true (place g (head w + k) / 64) (place g (head w) / 64) (and_parts (w.flipped (head w + k)) (place g (head w + k) / 64 == place g (head w) / 64) (s.all k less)).1;
+        in_word = subst (λ f. ShareAWord f g (head w) (ready_count ring w count)) (sym flags)
+            (λ k less. eqb-true (place g (head w + k) / 64) (place g (head w) / 64) (and_parts (w.flipped (head w + k)) (place g (head w + k) / 64 == place g (head w) / 64) (s.all k less)).1);
         ready = λ k less. (and_parts (w.flipped (head w + k)) (place g (head w + k) / 64 == place g (head w) / 64) (s.all k less)).0;
         no_more = λ less share.
             let found : ℕ = ready_count ring w count in
-            let shared : (place g (head w + found) / 64 == place g (head w) / 64) ≡ true = eq-eqb (place g (head w + found) / 64) (place g (head w) / 64) (share found (omega arith)) in
+            let shared : (place g (head w + found) / 64 == place g (head w) / 64) ≡ true = eq-eqb (place g (head w + found) / 64) (place g (head w) / 64) (subst (λ f. ShareAWord f g (head w) (suc found)) flags share found (omega arith)) in
             drop_true (w.flipped (head w + found)) (place g (head w + found) / 64 == place g (head w) / 64) shared (s.stop less);
       }
     where
@@ -442,7 +443,7 @@ module _ (ring : Ring) (run : Run) (ok : IsRun (shape ring) run) where
       taken p below (Some item) at e =
           let a = and_parts (item.sender == s && has_number number item.number) (opcode_of item.raw == 0x46) e in
           let b = and_parts (item.sender == s) (has_number number item.number) a.0 in
-          let sync = is_sync (shape ring) run ok p item at (eqb-true (opcode_of item.raw) 0x46 a.1) in
+          let sync = is_sync ring run ok p item at (eqb-true (opcode_of item.raw) 0x46 a.1) in
           let sender : item.sender ≡ s = eqb-true item.sender s b.0 in
           let its : item.number ≡ Some number = number_there item.number b.1 in
           let one : sync.number ≡ number = same_Some sync.number number (sym sync.number_is ∙ its) in record {
@@ -455,41 +456,41 @@ module _ (ring : Ring) (run : Run) (ok : IsRun (shape ring) run) where
 -- ---- all of them
 
 pub allowed : WordsSayTheirControl → QueuesHaveAControl → IndexesTellTheQueue → StepsAreAllowed
-allowed said queue tells ring run (Look None) is_geometry ok none = (ok, refl)
-allowed said queue tells ring run (Look (Some s)) is_geometry ok none = (ok, refl)
-allowed said queue tells ring run (Reserve s body closes) is_geometry ok none =
+allowed said queue tells ring run (Look None) is_geometry flags ok none = (ok, refl)
+allowed said queue tells ring run (Look (Some s)) is_geometry flags ok none = (ok, refl)
+allowed said queue tells ring run (Reserve s body closes) is_geometry flags ok none =
     (ok, reserve ring run ok said queue tells is_geometry s body.items closes (exists (nat_lt s ring.senders) _ none).1)
-allowed said queue tells ring run (Write s slot half) is_geometry ok none =
+allowed said queue tells ring run (Write s slot half) is_geometry flags ok none =
     (ok, write ring run ok s slot (exists (nat_lt s ring.senders && nat_lt slot (size ring.geometry) && nat_lt half 2) _ none).1)
-allowed said queue tells ring run (Flip s slot count) is_geometry ok none =
+allowed said queue tells ring run (Flip s slot count) is_geometry flags ok none =
     let e = exists (nat_lt s ring.senders && nat_lt slot (size ring.geometry) && is_run_length count && share_a_word ring slot count) _ none in
     let share = and_parts (nat_lt s ring.senders && nat_lt slot (size ring.geometry) && is_run_length count) (share_a_word ring slot count) e.0 in
     let counted = and_parts (nat_lt s ring.senders && nat_lt slot (size ring.geometry)) (is_run_length count) share.0 in
-    (ok, flip ring run ok s slot count counted.1 share.1 e.1)
-allowed said queue tells ring run (Test slot count) is_geometry ok none =
+    (ok, flip ring run ok s slot count counted.1 share.1 flags e.1)
+allowed said queue tells ring run (Test slot count) is_geometry flags ok none =
     let e = exists (nat_lt slot (size ring.geometry) && is_run_length count) _ none in
-    (ok, test ring run ok count (and_parts (nat_lt slot (size ring.geometry)) (is_run_length count) e.0).1)
-allowed said queue tells ring run (Read slot half) is_geometry ok none =
+    (ok, test ring run ok count (and_parts (nat_lt slot (size ring.geometry)) (is_run_length count) e.0).1 flags)
+allowed said queue tells ring run (Read slot half) is_geometry flags ok none =
     (ok, read ring run ok slot (half_of_number half) (exists (nat_lt slot (size ring.geometry) && nat_lt half 2) _ none).1)
-allowed said queue tells ring run (Advance count) is_geometry ok none =
+allowed said queue tells ring run (Advance count) is_geometry flags ok none =
     let e = exists (is_run_length count) _ none in (ok, advance ring run ok count e.0 e.1)
-allowed said queue tells ring run (Close s) is_geometry ok none = (ok, tt)
-allowed said queue tells ring run (Acknowledge s number) is_geometry ok none =
+allowed said queue tells ring run (Close s) is_geometry flags ok none = (ok, tt)
+allowed said queue tells ring run (Acknowledge s number) is_geometry flags ok none =
     (ok, acknowledge ring run ok s number (exists (nat_lt s ring.senders) _ none).1)
-allowed said queue tells ring run (Ask s) is_geometry ok none = (ok, refl)
+allowed said queue tells ring run (Ask s) is_geometry flags ok none = (ok, refl)
 
-from_run : StepsAreAllowed → (ring : Ring) (run : Run) (place : ℕ) (steps : List Step) → IsGeometry ring.geometry → IsRun (shape ring) run
-    → IsRun (shape ring) (played_from ring run place steps).run
-from_run law ring run place [] is_geometry ok = ok
-from_run law ring run place (step ∷ steps) is_geometry ok = by_fault (fault_of ring run step) refl
-    (λ none. from_run law ring (event_of ring run step ∷ run) (suc place) steps is_geometry (law ring run step is_geometry ok none))
+from_run : StepsAreAllowed → (ring : Ring) (run : Run) (place : ℕ) (steps : List Step) → IsGeometry ring.geometry → ring.flags ≡ 64 → IsRun ring run
+    → IsRun ring (played_from ring run place steps).run
+from_run law ring run place [] is_geometry flags ok = ok
+from_run law ring run place (step ∷ steps) is_geometry flags ok = by_fault (fault_of ring run step) refl
+    (λ none. from_run law ring (event_of ring run step ∷ run) (suc place) steps is_geometry flags (law ring run step is_geometry flags ok none))
   where
     by_fault : (f : Option StepFault) → fault_of ring run step ≡ f
-        → (fault_of ring run step ≡ None → IsRun (shape ring) (played_from ring (event_of ring run step ∷ run) (suc place) steps).run)
-        → IsRun (shape ring) (unless_refused f run place
+        → (fault_of ring run step ≡ None → IsRun ring (played_from ring (event_of ring run step ∷ run) (suc place) steps).run)
+        → IsRun ring (unless_refused f run place
         (with_answer (seen_of ring (world run) (event_of ring run step).0 (event_of ring run step).1) (played_from ring (event_of ring run step ∷ run) (suc place) steps))).run
     by_fault None is later = later is
     by_fault (Some fault) is later = ok
 
 pub are_runs : StepsAreAllowed → PlayedAreRuns
-are_runs law ring steps is_geometry = from_run law ring [] 0 steps is_geometry tt
+are_runs law ring steps is_geometry flags = from_run law ring [] 0 steps is_geometry flags tt

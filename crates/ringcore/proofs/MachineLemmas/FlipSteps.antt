@@ -15,11 +15,11 @@ use Rattle.ringcore.specs.declared.machine.step_fault.StepFault.{StepFault}
 use Rattle.ringcore.specs.declared.machine.step_fault.StepFault.TheVariants.{Flipped, HalfMissing}
 use Rattle.ringcore.specs.world.Trails.{Trail, Run, trail_of, reserved_length, has_written, has_flipped}
 use Rattle.ringcore.specs.world.World.{world}
-use Rattle.ringcore.specs.world.Allowed.{MayFlip, IsRun}
+use Rattle.ringcore.specs.world.Allowed.{Ring, MayFlip, IsRun}
 use Rattle.ringcore.specs.memory.Layout.{first_flag_word, flag_word}
 use Rattle.ringcore.specs.world.Allowed.{ShareAWord}
 use Rattle.ringcore.specs.memory.Flags.{IsFlipMask}
-use Rattle.ringcore.specs.memory.Shadow.{Ring, shape, AreAfter}
+use Rattle.ringcore.specs.memory.Shadow.{AreAfter}
 use Rattle.ringcore.specs.memory.StepLaws.{Always, FlipsByAnExclusiveOr, turned}
 use Rattle.ringcore.specs.memory.WordStores.{WordsValue, IsFlipped}
 use Rattle.ringcore.specs.machine.SenderViews.{SenderValue, Knows, WhereKnown}
@@ -81,17 +81,17 @@ module _ (may : StepsAreAllowed) (old : CoreValue) (s slot count k : ℕ)
   flip_event : (run : Run) → StandsAfter old run → event_of (ring_of old) run (Flip s slot count) ≡ (Sender s, event.Flip k count)
   flip_event run stands = ap (λ (o : Option ℕ). (Sender s, event.Flip (offset_or_0 o) count)) (accepted run stands).1
 
-  may_flip : (run : Run) → StandsAfter old run → MayFlip (shape (ring_of old)) (trail_of (Sender s) run) ((world run).start s) k count
+  may_flip : (run : Run) → StandsAfter old run → MayFlip (ring_of old) (trail_of (Sender s) run) ((world run).start s) k count
   may_flip run stands =
-      (subst (λ (x : Who × Event). IsRun (shape (ring_of old)) (x ∷ run)) (flip_event run stands)
-      (may (ring_of old) run (Flip s slot count) stands.words_are.geometry_is stands.words_are.run_is (accepted run stands).0)).1
+      (subst (λ (x : Who × Event). IsRun (ring_of old) (x ∷ run)) (flip_event run stands)
+      (may (ring_of old) run (Flip s slot count) stands.words_are.geometry_is stands.words_are.flags_are stands.words_are.run_is (accepted run stands).0)).1
 
   module _ (before : SenderValue) (there : slice_get old.senders s ≡ Some before)
       (start : ℕ) (start_is : WhereKnown before (λ run t mine. start ≡ (world run).start t)) where
     pub flip_fits : IsMachine old → (run : Run) → StandsAfter old run → start + k + count ≤ 2 ^ 46
     flip_fits is run stands =
         let inside = (may_flip run stands).inside in
-        let within = (sound (shape (ring_of old)) run stands.words_are.run_is).each_within s in
+        let within = (sound (ring_of old) run stands.words_are.run_is).each_within s in
         let starts = start_is run s (stands.senders_know s before there) in
         let few = few_reserved old is run stands in omega (arith, inside, within, starts, few)
 

@@ -7,7 +7,7 @@ use Rattle.qindex.specs.Positions.{place}
 use Rattle.ringcore.specs.declared.world.event.Who.TheVariants.{Sender}
 use Rattle.ringcore.specs.world.Trails.{Run, trail_of, reserved_length}
 use Rattle.ringcore.specs.world.World.{world}
-use Rattle.ringcore.specs.memory.Shadow.{Ring}
+use Rattle.ringcore.specs.world.Allowed.{Ring}
 use Rattle.ringcore.specs.machine.Open.{some_below, all_below, first_below, is_open, own_offset, holds_slot}
 
 -- One that doesn't pass is enough.

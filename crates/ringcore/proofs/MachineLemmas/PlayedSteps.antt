@@ -13,7 +13,8 @@ use Rattle.qindex.specs.Indexes.{IsGeometry}
 use Rattle.ringcore.specs.memory.Layout.{words_of}
 use Rattle.ringcore.specs.world.Delivery.{TakenInOrder, NumberedInOrder, NoneAfterClose, ToldWhenCompleted, IsOrderedDelivery}
 use Rattle.ringcore.specs.world.Laws.{EveryRun}
-use Rattle.ringcore.specs.memory.Shadow.{Ring, shape, AreAfter}
+use Rattle.ringcore.specs.world.Allowed.{Ring}
+use Rattle.ringcore.specs.memory.Shadow.{AreAfter}
 use Rattle.ringcore.specs.memory.StepLaws.{OpensAllZero}
 use Rattle.ringcore.specs.memory.WordStores.{WordsValue}
 use Rattle.ringcore.specs.machine.ConsumerViews.{ConsumerKnows}
@@ -117,7 +118,7 @@ opened law core g n is_geometry words know consumer tallies =
       ring,
       record {
         words_are = subst (λ (w : WordsValue). AreAfter (ring_with w.geometry w.senders) [] w.words) (sym words)
-            (law (ring_with g n) (replicate (words_of g n) 0) is_geometry (length-replicate (words_of g n) 0) (zeros (words_of g n)));
+            (law (ring_with g n) (replicate (words_of g n) 0) is_geometry refl (length-replicate (words_of g n) 0) (zeros (words_of g n)));
         only = tt;
         senders_know = know;
         consumer_knows = consumer;
@@ -131,7 +132,7 @@ pub delivered : EveryRun TakenInOrder → EveryRun NumberedInOrder → EveryRun 
     → (core : CoreValue) (run : Run) → StandsAfter core run → IsOrderedDelivery run
 delivered taken numbered closed told core run stands =
     let ok = stands.words_are.run_is in
-    let ring = shape (ring_of core) in record {
+    let ring = ring_of core in record {
       taken = taken ring run ok;
       numbered = numbered ring run ok;
       closed = closed ring run ok;

@@ -11,9 +11,9 @@ use Rattle.ringcore.specs.declared.machine.step.Step.TheVariants.{Read}
 use Rattle.ringcore.specs.declared.machine.step.Seen.TheVariants.{Half as HalfWord}
 use Rattle.ringcore.specs.world.Trails.{Trail, Run, same, trail_of, found_ready}
 use Rattle.ringcore.specs.world.World.{World, tail, head, world}
-use Rattle.ringcore.specs.world.Allowed.{Shape, Allowed, IsRun}
+use Rattle.ringcore.specs.world.Allowed.{Ring, Allowed, IsRun}
 use Rattle.ringcore.specs.memory.Layout.{data_word}
-use Rattle.ringcore.specs.memory.Shadow.{Ring, AreAfter}
+use Rattle.ringcore.specs.memory.Shadow.{AreAfter}
 use Rattle.ringcore.specs.memory.StepLaws.{Always, ReadsByALoad}
 use Rattle.ringcore.specs.machine.ConsumerViews.{ConsumerValue, ConsumerKnows}
 use Rattle.ringcore.specs.machine.Faults.{tested_offset}
@@ -28,7 +28,7 @@ use Rattle.ringcore.proofs.MachineLemmas.Tallies.{others_dont_count}
 
 -- ---- how many a test finds
 
-found_more : (ring : Shape) (w : World) (mine : Trail) (e : Event) → Allowed ring w mine Consumer e → found_ready mine ≤ 64 → found_ready (e ∷ mine) ≤ 64
+found_more : (ring : Ring) (w : World) (mine : Trail) (e : Event) → Allowed ring w mine Consumer e → found_ready mine ≤ 64 → found_ready (e ∷ mine) ≤ 64
 found_more ring w mine (event.Look found) a le = le
 found_more ring w mine (event.Won body number) a le = le
 found_more ring w mine (event.Lost body closes found) a le = le
@@ -41,7 +41,7 @@ found_more ring w mine event.Close a le = le
 found_more ring w mine (event.Acknowledge sender number) a le = le
 found_more ring w mine (event.Ask found) a le = le
 
-pub found_few : (ring : Shape) (run : Run) → IsRun ring run → found_ready (trail_of Consumer run) ≤ 64
+pub found_few : (ring : Ring) (run : Run) → IsRun ring run → found_ready (trail_of Consumer run) ≤ 64
 found_few ring [] ok = omega arith
 found_few ring (x ∷ xs) ok = by_seat (found_few ring xs ok.0) x.0 x.1 ok.1 (same Consumer x.0) refl
   where
@@ -52,14 +52,14 @@ found_few ring (x ∷ xs) ok = by_seat (found_few ring xs ok.0) x.0 x.1 ok.1 (sa
     by_seat le who e a false is = le
 
 -- What a test found is reserved, and so within the ring.
-pub found_below : (ring : Shape) (run : Run) → IsRun ring run → (n : ℕ) → n ≤ found_ready (trail_of Consumer run) → head (world run) + n ≤ tail (world run)
+pub found_below : (ring : Ring) (run : Run) → IsRun ring run → (n : ℕ) → n ≤ found_ready (trail_of Consumer run) → head (world run) + n ≤ tail (world run)
 found_below ring run ok zero le = let behind = (sound ring run ok).behind in omega (arith, behind)
 found_below ring run ok (suc n) le =
     let s = sound ring run ok in
     let below = s.flipped_below (head (world run) + n) (s.ready n (omega (arith, le))) in
     omega (arith, below)
 
-pub found_fits : (ring : Shape) (run : Run) → IsRun ring run → (n : ℕ) → n ≤ found_ready (trail_of Consumer run) → n ≤ size ring.geometry
+pub found_fits : (ring : Ring) (run : Run) → IsRun ring run → (n : ℕ) → n ≤ found_ready (trail_of Consumer run) → n ≤ size ring.geometry
 found_fits ring run ok n le =
     let below = found_below ring run ok n le in
     let within = (sound ring run ok).within in

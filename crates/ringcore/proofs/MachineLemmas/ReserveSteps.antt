@@ -19,7 +19,7 @@ use Rattle.ringcore.specs.world.Trails.{Run, trail_of, looked, batch_length}
 use Rattle.ringcore.specs.world.World.{tail, head, world}
 use Rattle.ringcore.specs.world.Allowed.{MayTry, MayWin, IsRun, length_with}
 use Rattle.ringcore.specs.memory.Layout.{control_word}
-use Rattle.ringcore.specs.memory.Shadow.{shape, AreAfter}
+use Rattle.ringcore.specs.memory.Shadow.{AreAfter}
 use Rattle.ringcore.specs.memory.StepLaws.{Always, WinsByAnExchange}
 use Rattle.ringcore.specs.memory.WordStores.{WordsValue, word_at, with_word}
 use Rattle.ringcore.specs.machine.SenderViews.{SenderValue, Knows, WhereKnown}
@@ -44,10 +44,10 @@ module _ (may : StepsAreAllowed) (old : CoreValue) (s : ℕ) (body : ArrayVec Ra
       ∙ ap (λ (b : Bool). (Sender s, if b then event.Won body.items (next_number mine closes) else event.Lost body.items closes found)) finds.1
 
   reserve_run : (run : Run) (e : Event) → StandsAfter old run → event_of (ring_of old) run (Reserve s body closes) ≡ (Sender s, e)
-      → IsRun (shape (ring_of old)) ((Sender s, e) ∷ run)
+      → IsRun (ring_of old) ((Sender s, e) ∷ run)
   reserve_run run e stands is =
-      subst (λ (x : Who × Event). IsRun (shape (ring_of old)) (x ∷ run)) is
-      (may (ring_of old) run (Reserve s body closes) stands.words_are.geometry_is stands.words_are.run_is (accepted run stands).0)
+      subst (λ (x : Who × Event). IsRun (ring_of old) (x ∷ run)) is
+      (may (ring_of old) run (Reserve s body closes) stands.words_are.geometry_is stands.words_are.flags_are stands.words_are.run_is (accepted run stands).0)
 
 -- ---- lost
 
@@ -63,7 +63,7 @@ module _ (may : StepsAreAllowed) (old : CoreValue) (s : ℕ) (low : s < old.word
       let e : Event = event.Lost body.items closes found in
       let is = reserve_event may old s body closes found false accepted run stands in
       let are : AreAfter (ring_of old) ((Sender s, e) ∷ run) old.words.words = record {
-        geometry_is = stands.words_are.geometry_is;
+        geometry_is = stands.words_are.geometry_is; flags_are = stands.words_are.flags_are;
         run_is = reserve_run may old s body closes found false accepted run e stands is;
         shadow = stands.words_are.shadow;
       } in
@@ -95,11 +95,11 @@ module _ (may : StepsAreAllowed) (old : CoreValue) (s : ℕ) (body : ArrayVec Ra
   won_event run stands = reserve_event may old s body closes found true accepted run stands
 
   won_run : (run : Run) → StandsAfter old run
-      → IsRun (shape (ring_of old)) ((Sender s, event.Won body.items (next_number (trail_of (Sender s) run) closes)) ∷ run)
+      → IsRun (ring_of old) ((Sender s, event.Won body.items (next_number (trail_of (Sender s) run) closes)) ∷ run)
   won_run run stands = reserve_run may old s body closes found true accepted run _ stands (won_event run stands)
 
   may_win : (run : Run) → StandsAfter old run
-      → MayWin (shape (ring_of old)) (world run) (trail_of (Sender s) run) body.items (next_number (trail_of (Sender s) run) closes)
+      → MayWin (ring_of old) (world run) (trail_of (Sender s) run) body.items (next_number (trail_of (Sender s) run) closes)
   may_win run stands = (won_run run stands).1
 
   pub one_ring : (run : Run) → StandsAfter old run → found.prod.geometry ≡ found.cons.geometry
@@ -115,7 +115,7 @@ module _ (may : StepsAreAllowed) (old : CoreValue) (s : ℕ) (body : ArrayVec Ra
   is_queue : (run : Run) → StandsAfter old run → IsQueue found.prod found.cons old.words.geometry (tail (world run)) (head (world run))
   is_queue run stands =
       let finds = (accepted run stands).1 in
-      let within = sound (shape (ring_of old)) run stands.words_are.run_is in record {
+      let within = sound (ring_of old) run stands.words_are.run_is in record {
         prod_is = ap (λ (c : Control). c.prod) finds.0;
         cons_is = ap (λ (c : Control). c.cons) finds.0;
         order = within.behind;
@@ -128,7 +128,7 @@ module _ (may : StepsAreAllowed) (old : CoreValue) (s : ℕ) (body : ArrayVec Ra
     starts_at_tail run stands =
         let at = taken_is run stands.consumer_knows in
         let far = waiting_is old.words.geometry (tail (world run)) (head (world run)) (is_queue run stands) in
-        let behind = (sound (shape (ring_of old)) run stands.words_are.run_is).behind in omega (arith, at, far, behind)
+        let behind = (sound (ring_of old) run stands.words_are.run_is).behind in omega (arith, at, far, behind)
 
     pub start_is_small : IsMachine old → (run : Run) → StandsAfter old run → taken + waiting ≤ 2 ^ 46
     start_is_small is run stands =
@@ -137,12 +137,12 @@ module _ (may : StepsAreAllowed) (old : CoreValue) (s : ℕ) (body : ArrayVec Ra
 
   -- By the look there is room.
   may_try : IndexesTellTheQueue → (run : Run) → StandsAfter old run
-      → MayTry (shape (ring_of old)) (trail_of (Sender s) run) body.items (batch_length body.items (next_number (trail_of (Sender s) run) closes)) found
+      → MayTry (ring_of old) (trail_of (Sender s) run) body.items (batch_length body.items (next_number (trail_of (Sender s) run) closes)) found
   may_try tells run stands =
       let finds = (accepted run stands).1 in
       let win = may_win run stands in
       let room = win.room in
-      let within = sound (shape (ring_of old)) run stands.words_are.run_is in
+      let within = sound (ring_of old) run stands.words_are.run_is in
       let behind = within.behind in
       let far : distance found.prod found.cons ≡ tail (world run) - head (world run) =
       ap (λ (c : Control). distance c.prod c.cons) finds.0

@@ -14,7 +14,8 @@ use Rattle.ringcore.specs.world.World.{world, control}
 use Rattle.ringcore.specs.memory.Layout.{control_word}
 use Rattle.ringcore.specs.memory.StepLaws.{Always, LooksByALoad, ClosesByAnOr}
 use Rattle.ringcore.specs.memory.WordStores.{WordsValue, word_at, with_word}
-use Rattle.ringcore.specs.memory.Shadow.{Ring, AreAfter}
+use Rattle.ringcore.specs.world.Allowed.{Ring}
+use Rattle.ringcore.specs.memory.Shadow.{AreAfter}
 use Rattle.ringcore.specs.machine.SenderViews.{SenderValue, Knows}
 use Rattle.ringcore.specs.machine.Faults.{unless_missing}
 use Rattle.ringcore.specs.machine.Core.{CoreValue, ring_with, ring_of, StandsAfter, IsMachine, IsTaken}

@@ -12,10 +12,10 @@ use Rattle.ringcore.specs.declared.world.event.Event.{Event}
 use Rattle.ringcore.specs.declared.world.event.Event.TheVariants.{Look, Won, Lost, Write, Flip, Test, Read, Advance, Close, Acknowledge, Ask}
 use Rattle.ringcore.specs.world.Trails.{Trail, Run, trail_of}
 use Rattle.ringcore.specs.world.World.{World, tail, world, control}
-use Rattle.ringcore.specs.world.Allowed.{Shape, Allowed}
+use Rattle.ringcore.specs.world.Allowed.{Ring, Allowed}
 use Rattle.ringcore.specs.world.Laws.{OnlyOf}
 use Rattle.ringcore.specs.memory.Layout.{control_word}
-use Rattle.ringcore.specs.memory.Shadow.{shape, AreAfter}
+use Rattle.ringcore.specs.memory.Shadow.{AreAfter}
 use Rattle.ringcore.specs.memory.WordStores.{WordsValue, word_at}
 use Rattle.ringcore.specs.machine.SenderViews.{SenderValue, Knows}
 use Rattle.ringcore.specs.machine.SyncTallies.{is_advance}
@@ -65,7 +65,7 @@ all_left run s e views own all t view at = elim (cases_eq s t) [
 
 -- ---- an event of a sender
 
-not_advance : (ring : Shape) (w : World) (mine : Trail) (s : ℕ) (e : Event) → Allowed ring w mine (Sender s) e → is_advance e ≡ false
+not_advance : (ring : Ring) (w : World) (mine : Trail) (s : ℕ) (e : Event) → Allowed ring w mine (Sender s) e → is_advance e ≡ false
 not_advance ring w mine s (Look found) a = refl
 not_advance ring w mine s (Won body number) a = refl
 not_advance ring w mine s (Lost body closes found) a = refl
@@ -88,8 +88,8 @@ sender_stands old run s e stands low words ring are views know =
       words_are = subst (λ r. AreAfter r ((Sender s, e) ∷ run) words.words) (sym ring) are;
       only = subst (λ r. OnlyOf r.senders ((Sender s, e) ∷ run)) (sym ring) (low, stands.only);
       senders_know = know;
-      consumer_knows = senders_leave (shape (ring_of old)) run s old.consumer e allowed stands.consumer_knows;
-      tallies_are = others_dont_count run (Sender s) e old.tallies (not_advance (shape (ring_of old)) (world run) (trail_of (Sender s) run) s e allowed) stands.tallies_are;
+      consumer_knows = senders_leave (ring_of old) run s old.consumer e allowed stands.consumer_knows;
+      tallies_are = others_dont_count run (Sender s) e old.tallies (not_advance (ring_of old) (world run) (trail_of (Sender s) run) s e allowed) stands.tallies_are;
     }
 
 -- A machine stays one where it stands for a longer run.
@@ -107,7 +107,7 @@ stays_machine old new is ring views counts run stands = record {
 -- So few commands are reserved that their positions fit a word.
 pub few_reserved : (core : CoreValue) → IsMachine core → (run : Run) → StandsAfter core run → tail (world run) ≤ 2 ^ 46
 few_reserved core is run stands =
-    let bound = reserved_bound (shape (ring_of core)) core.words.senders run stands.only stands.words_are.run_is in
+    let bound = reserved_bound (ring_of core) core.words.senders run stands.only stands.words_are.run_is in
     let few = is.few in omega (arith, bound, few)
 
 -- ---- what the control word says
@@ -128,5 +128,5 @@ control_found said queue core run found stands is = is ∙ found_is (ring_of cor
 -- So a sender's last reservation starts at a position that fits too.
 pub start_fits : (core : CoreValue) → IsMachine core → (run : Run) → StandsAfter core run → (s : ℕ) → (world run).start s ≤ 2 ^ 46
 start_fits core is run stands s =
-    let within = (sound (shape (ring_of core)) run stands.words_are.run_is).each_within s in
+    let within = (sound (ring_of core) run stands.words_are.run_is).each_within s in
     let few = few_reserved core is run stands in omega (arith, within, few)

@@ -13,11 +13,11 @@ use Rattle.ringcore.specs.declared.machine.step_fault.StepFault.{StepFault}
 use Rattle.ringcore.specs.declared.machine.step_fault.StepFault.TheVariants.{NotNext}
 use Rattle.ringcore.specs.world.Trails.{Run, trail_of}
 use Rattle.ringcore.specs.world.World.{Item, World, sync_raw, head, world}
-use Rattle.ringcore.specs.world.Allowed.{Shape, FindsReady, SyncIsTaken}
+use Rattle.ringcore.specs.world.Allowed.{Ring, FindsReady, SyncIsTaken}
 use Rattle.ringcore.specs.memory.Layout.{flag_word, cell}
 use Rattle.ringcore.specs.memory.Flags.{IsReadyRun}
 use Rattle.ringcore.specs.world.Laws.{OnlyOf, syncs_taken, EveryRun, AcknowledgedAreTaken, SyncsAreCounted, NumbersAreFew}
-use Rattle.ringcore.specs.memory.Shadow.{shape, AreAfter}
+use Rattle.ringcore.specs.memory.Shadow.{AreAfter}
 use Rattle.ringcore.specs.memory.StepLaws.{Always, TestsByALoad, AcknowledgesByAStore}
 use Rattle.ringcore.specs.memory.WordStores.{WordsValue, with_word}
 use Rattle.ringcore.specs.machine.ConsumerViews.{ConsumerValue, ConsumerKnows}
@@ -49,13 +49,13 @@ consumer_stands old run e stands words ring are consumer knows tallies counted =
 
 -- ---- test
 
-fewer_found : (ring : Shape) (w : World) (limit a b : ℕ) → FindsReady ring w limit a → FindsReady ring w limit b → a < b → ⊥
+fewer_found : (ring : Ring) (w : World) (limit a b : ℕ) → FindsReady ring w limit a → FindsReady ring w limit b → a < b → ⊥
 fewer_found ring w limit a b one two less =
     let most = two.most in
     let unready : w.flipped (head w + a) ≡ false = one.no_more (omega (arith, less, most)) (λ i inside. two.in_word i (omega (arith, inside, less))) in
     off (sym unready ∙ two.ready a less)
 
-one_found : (ring : Shape) (w : World) (limit a b : ℕ) → FindsReady ring w limit a → FindsReady ring w limit b → a ≡ b
+one_found : (ring : Ring) (w : World) (limit a b : ℕ) → FindsReady ring w limit a → FindsReady ring w limit b → a ≡ b
 one_found ring w limit a b one two = elim (cases_lt a b) [
   | inl less ↦ absurd (fewer_found ring w limit a b one two less)
   | inr le ↦ elim (cases_lt b a) [
@@ -71,15 +71,15 @@ module _ (law : Always TestsByALoad) (allowed : StepsAreAllowed) (old : CoreValu
   abbrev tested : CoreValue
   tested = record old { consumer = new }
 
-  may_test : (run : Run) → StandsAfter old run → FindsReady (shape (ring_of old)) (world run) count (ready_count (ring_of old) (world run) count)
-  may_test run stands = (allowed (ring_of old) run (Test slot count) stands.words_are.geometry_is stands.words_are.run_is (sym (no_fault run stands))).1
+  may_test : (run : Run) → StandsAfter old run → FindsReady (ring_of old) (world run) count (ready_count (ring_of old) (world run) count)
+  may_test run stands = (allowed (ring_of old) run (Test slot count) stands.words_are.geometry_is stands.words_are.flags_are stands.words_are.run_is (sym (no_fault run stands))).1
 
   test_are : (run : Run) → StandsAfter old run → AreAfter (ring_of old) ((Consumer, event.Test count found) ∷ run) old.words.words
   test_are run stands = law (ring_of old) run old.words.words stands.words_are count found (may_test run stands).many (ready run stands)
 
   found_is : (run : Run) → StandsAfter old run → found ≡ ready_count (ring_of old) (world run) count
   found_is run stands =
-      one_found (shape (ring_of old)) (world run) count found (ready_count (ring_of old) (world run) count) (test_are run stands).run_is.1 (may_test run stands)
+      one_found (ring_of old) (world run) count found (ready_count (ring_of old) (world run) count) (test_are run stands).run_is.1 (may_test run stands)
 
   test_stands : (run : Run) → StandsAfter old run → StandsAfter tested ((Consumer, event.Test count found) ∷ run)
   test_stands run stands =
@@ -112,7 +112,7 @@ acknowledged_few taken few core run s stands = elim (cases_lt 0 ((world run).ack
   | inl some ↦
       let ok = stands.words_are.run_is in
       let n : ℕ = (world run).acknowledged s in
-      few (shape (ring_of core)) run ok s n (taken (shape (ring_of core)) run ok s n (omega (arith, some)) (omega arith))
+      few (ring_of core) run ok s n (taken (ring_of core) run ok s n (omega (arith, some)) (omega arith))
   | inr none ↦ omega (arith, none)
 ]
 
@@ -144,7 +144,7 @@ module _ (core : CoreValue) (run : Run) (stands : StandsAfter core run) (s numbe
 
   pub is_next : EveryRun SyncsAreCounted → number ≡ done + 1 → number ≤ tally → None ≡ fault_of (ring_of core) run (Acknowledge s number)
   is_next counted next few =
-      let taken = (counted (shape (ring_of core)) run stands.words_are.run_is s number).1 (omega (arith, next), few) in
+      let taken = (counted (ring_of core) run stands.words_are.run_is s number).1 (omega (arith, next), few) in
       sym (there (acknowledge_fault (world run) s number)
       ∙ ap₂ (λ (a b : Bool). if a && b then None else Some NotNext)
       (eq-eqb number (suc ((world run).acknowledged s)) (omega (arith, next, done_is))) (sync_below (world run) s number taken))
@@ -158,9 +158,9 @@ module _ (core : CoreValue) (run : Run) (stands : StandsAfter core run) (s numbe
       by_test false is = refl
       by_test true is =
           let none : fault_of (ring_of core) run (Acknowledge s number) ≡ None = there (acknowledge_fault (world run) s number) ∙ ap (λ (v : Bool). if v then None else Some NotNext) is in
-          let may = (allowed (ring_of core) run (Acknowledge s number) stands.words_are.geometry_is stands.words_are.run_is none).1 in
+          let may = (allowed (ring_of core) run (Acknowledge s number) stands.words_are.geometry_is stands.words_are.flags_are stands.words_are.run_is none).1 in
           let next = may.next in
-          absurd (not (omega (arith, next, done_is)) ((counted (shape (ring_of core)) run stands.words_are.run_is s number).0 may.taken).1)
+          absurd (not (omega (arith, next, done_is)) ((counted (ring_of core) run stands.words_are.run_is s number).0 may.taken).1)
 
 module _ (law : Always AcknowledgesByAStore) (allowed : StepsAreAllowed) (old : CoreValue) (words : WordsValue) (s number : ℕ)
     (is : words ≡ with_word old.words (cell old.words.geometry s) number)
@@ -173,7 +173,7 @@ module _ (law : Always AcknowledgesByAStore) (allowed : StepsAreAllowed) (old : 
 
   done_stands : (run : Run) → StandsAfter old run → StandsAfter done ((Consumer, event.Acknowledge s number) ∷ run)
   done_stands run stands =
-      let may = (allowed (ring_of old) run (Acknowledge s number) stands.words_are.geometry_is stands.words_are.run_is (sym (no_fault run stands))).1 in
+      let may = (allowed (ring_of old) run (Acknowledge s number) stands.words_are.geometry_is stands.words_are.flags_are stands.words_are.run_is (sym (no_fault run stands))).1 in
       consumer_stands old run (event.Acknowledge s number) stands words done_ring
       (subst (λ (w : WordsValue). AreAfter (ring_of old) ((Consumer, event.Acknowledge s number) ∷ run) w.words) (sym is) (law (ring_of old) run old.words.words stands.words_are s number may))
       old.consumer (acknowledgement_leaves run s number old.consumer stands.consumer_knows)

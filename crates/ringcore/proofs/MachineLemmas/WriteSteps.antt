@@ -16,9 +16,9 @@ use Rattle.ringcore.specs.declared.machine.step_fault.StepFault.{StepFault}
 use Rattle.ringcore.specs.declared.machine.step_fault.StepFault.TheVariants.{Flipped}
 use Rattle.ringcore.specs.world.Trails.{Trail, Run, trail_of, reserved_length, has_flipped}
 use Rattle.ringcore.specs.world.World.{world, half_of}
-use Rattle.ringcore.specs.world.Allowed.{MayWrite, IsRun}
+use Rattle.ringcore.specs.world.Allowed.{Ring, MayWrite, IsRun}
 use Rattle.ringcore.specs.memory.Layout.{data_word}
-use Rattle.ringcore.specs.memory.Shadow.{Ring, shape, AreAfter}
+use Rattle.ringcore.specs.memory.Shadow.{AreAfter}
 use Rattle.ringcore.specs.memory.StepLaws.{Always, WritesByAStore, reserved_commands}
 use Rattle.ringcore.specs.memory.WordStores.{WordsValue, with_word}
 use Rattle.ringcore.specs.machine.SenderViews.{SenderValue, Knows, WhereKnown}
@@ -70,8 +70,8 @@ module _ (may : StepsAreAllowed) (old : CoreValue) (s slot half k : ℕ) (h : Ha
 
   pub may_write : (run : Run) → StandsAfter old run → MayWrite (trail_of (Sender s) run) k
   may_write run stands =
-      (subst (λ (x : Who × Event). IsRun (shape (ring_of old)) (x ∷ run)) (write_event run stands)
-      (may (ring_of old) run (Write s slot half) stands.words_are.geometry_is stands.words_are.run_is (accepted run stands).0)).1
+      (subst (λ (x : Who × Event). IsRun (ring_of old) (x ∷ run)) (write_event run stands)
+      (may (ring_of old) run (Write s slot half) stands.words_are.geometry_is stands.words_are.flags_are stands.words_are.run_is (accepted run stands).0)).1
 
   module _ (before : SenderValue) (there : slice_get old.senders s ≡ Some before) where
     pub write_inside : (run : Run) → StandsAfter old run → k < length before.commands
@@ -84,7 +84,7 @@ module _ (may : StepsAreAllowed) (old : CoreValue) (s slot half k : ℕ) (h : Ha
       write_fits is run stands =
           let may_be = may_write run stands in
           let inside = may_be.inside in
-          let within = (sound (shape (ring_of old)) run stands.words_are.run_is).each_within s in
+          let within = (sound (ring_of old) run stands.words_are.run_is).each_within s in
           let starts = start_is run s (stands.senders_know s before there) in
           let few = few_reserved old is run stands in omega (arith, inside, within, starts, few)
 

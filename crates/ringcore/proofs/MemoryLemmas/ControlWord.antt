@@ -17,10 +17,10 @@ use Rattle.ringcore.specs.declared.world.event.Event.{Event}
 use Rattle.ringcore.specs.declared.world.event.Event.TheVariants.{Look, Won, Lost, Close, Acknowledge, Ask}
 use Rattle.ringcore.specs.world.Trails.{Run, trail_of, batch_length}
 use Rattle.ringcore.specs.world.World.{World, items, tail, head, after, world, control}
-use Rattle.ringcore.specs.world.Allowed.{Allowed, MayTry, MayWin, MayLose, IsNextNumber, MayAcknowledge, length_with}
+use Rattle.ringcore.specs.world.Allowed.{Ring, Allowed, MayTry, MayWin, MayLose, IsNextNumber, MayAcknowledge, length_with}
 use Rattle.ringcore.specs.memory.Layout.{control_word, flag_word, data_word, cell}
 use Rattle.ringcore.specs.memory.Flags.{flag_bit, polarity}
-use Rattle.ringcore.specs.memory.Shadow.{Ring, shape, IsShadow, AreAfter}
+use Rattle.ringcore.specs.memory.Shadow.{IsShadow, AreAfter}
 use Rattle.ringcore.specs.memory.StepLaws.{OpensAllZero, with_reserved, StartsWhereItLooked}
 use Rattle.ringcore.proofs.WorldLemmas.Lists.{off, get_shorter}
 use Rattle.ringcore.proofs.WorldLemmas.Sound.{Sound, sound, length_items}
@@ -35,23 +35,23 @@ module _ (ring : Ring) (run : Run) (words : List ℕ) (is : AreAfter ring run wo
   abbrev w : World
   w = world run
 
-  i : Sound (shape ring) run
-  i = sound (shape ring) run is.run_is
+  i : Sound ring run
+  i = sound ring run is.run_is
 
   -- an event that leaves the world as it was
-  pub quiet : (who : Who) (e : Event) → Allowed (shape ring) w (trail_of who run) who e → IsShadow ring words (after w who e) → AreAfter ring ((who, e) ∷ run) words
-  quiet who e a shadow = record { geometry_is = is.geometry_is; run_is = (is.run_is, a); shadow = shadow }
+  pub quiet : (who : Who) (e : Event) → Allowed ring w (trail_of who run) who e → IsShadow ring words (after w who e) → AreAfter ring ((who, e) ∷ run) words
+  quiet who e a shadow = record { geometry_is = is.geometry_is; flags_are = is.flags_are; run_is = (is.run_is, a); shadow = shadow }
 
   same : IsShadow ring words w
   same = is.shadow
 
   pub found_is : WordsSayTheirControl → QueuesHaveAControl → control_in g (slice_index words control_word) ≡ control g w
   found_is said queue =
-      ap (control_in g) is.shadow.control_is ∙ (said g (control g w) (is_control queue (shape ring) is.geometry_is run is.run_is)).says
+      ap (control_in g) is.shadow.control_is ∙ (said g (control g w) (is_control queue ring is.geometry_is run is.run_is)).says
 
   pub is_control_word : WordsSayTheirControl → QueuesHaveAControl → IsControlWord g (slice_index words control_word)
   is_control_word said queue =
-      subst (IsControlWord g) (sym is.shadow.control_is) (said g (control g w) (is_control queue (shape ring) is.geometry_is run is.run_is)).is_control_word
+      subst (IsControlWord g) (sym is.shadow.control_is) (said g (control g w) (is_control queue ring is.geometry_is run is.run_is)).is_control_word
 
   pub look : WordsSayTheirControl → QueuesHaveAControl → (who : Who) → AreAfter ring ((who, Look (control_in g (slice_index words control_word))) ∷ run) words
   look said queue Consumer = quiet Consumer (Look (control_in g (slice_index words control_word))) (found_is said queue) same
@@ -61,7 +61,7 @@ module _ (ring : Ring) (run : Run) (words : List ℕ) (is : AreAfter ring run wo
   ask s there = quiet (Sender s) (Ask (slice_index words (cell g s))) (is.shadow.cells s there) same
 
   pub start : StartsWhereItLooked ring run words
-  start = starts_there (shape ring) run is.run_is
+  start = starts_there ring run is.run_is
 
   -- ---- a store in the control word
 
@@ -69,7 +69,7 @@ module _ (ring : Ring) (run : Run) (words : List ℕ) (is : AreAfter ring run wo
   stored_control x = is_stored words control_word x (subst (λ n. control_word < n) (sym is.shadow.many) (control_within g ring.senders))
 
   pub won : WordsSayTheirControl → QueuesHaveAControl → IndexesTellTheQueue → (s : ℕ) (body : List Raw) (number : Option ℕ) (before : Control)
-      → MayTry (shape ring) (trail_of (Sender s) run) body (batch_length body number) before
+      → MayTry ring (trail_of (Sender s) run) body (batch_length body number) before
       → IsNextNumber (trail_of (Sender s) run) number
       → slice_index words control_word ≡ packed before
       → AreAfter ring ((Sender s, Won body number) ∷ run) (slice_set words control_word (packed (with_reserved before (batch_length body number))))
@@ -78,12 +78,12 @@ module _ (ring : Ring) (run : Run) (words : List ℕ) (is : AreAfter ring run wo
       let new : World = after w (Sender s) (Won body number) in
       let x : ℕ = packed (with_reserved before k) in
       let before_is : before ≡ control g w =
-      one_control said g before (control g w) (looked_is_control queue (shape ring) is.geometry_is run is.run_is (Sender s) before a.looked_at)
-      (is_control queue (shape ring) is.geometry_is run is.run_is) (sym word ∙ is.shadow.control_is) in
+      one_control said g before (control g w) (looked_is_control queue ring is.geometry_is run is.run_is (Sender s) before a.looked_at)
+      (is_control queue ring is.geometry_is run is.run_is) (sym word ∙ is.shadow.control_is) in
       let far : distance before.prod before.cons ≡ tail w - head w =
       ap (λ (c : Control). distance c.prod c.cons) before_is ∙ (tells g (tail w) (head w) is.geometry_is i.behind i.within).distance in
       let behind = i.behind in let room = a.room in
-      let may : MayWin (shape ring) w (trail_of (Sender s) run) body number = record {
+      let may : MayWin ring w (trail_of (Sender s) run) body number = record {
         looked_at = a.looked_at ∙ ap Some before_is;
         unclosed = sym (ap (λ (c : Control). c.closed) before_is) ∙ a.unclosed;
         settled = a.settled;
@@ -99,7 +99,7 @@ module _ (ring : Ring) (run : Run) (words : List ℕ) (is : AreAfter ring run wo
       ap (λ (c : Control). packed (with_reserved c k)) before_is
       ∙ ap (λ (n : ℕ). let c : Control = record { prod = record { geometry = g; number = n }; cons = index_of g (head w); closed = w.closed } in packed c) prod in
       record {
-        geometry_is = is.geometry_is;
+        geometry_is = is.geometry_is; flags_are = is.flags_are;
         run_is = (is.run_is, may);
         shadow = record {
           many = length-set words control_word x ∙ is.shadow.many;
@@ -114,12 +114,12 @@ module _ (ring : Ring) (run : Run) (words : List ℕ) (is : AreAfter ring run wo
       }
 
   pub lost : WordsSayTheirControl → QueuesHaveAControl → (s : ℕ) (body : List Raw) (closes : Bool) (before : Control)
-      → MayTry (shape ring) (trail_of (Sender s) run) body (length_with closes body) before
+      → MayTry ring (trail_of (Sender s) run) body (length_with closes body) before
       → slice_index words control_word ≢ packed before
       → AreAfter ring ((Sender s, Lost body closes (control_in g (slice_index words control_word))) ∷ run) words
   lost said queue s body closes before a other =
       let found = control_in g (slice_index words control_word) in
-      let may : MayLose (shape ring) w (trail_of (Sender s) run) body closes found = record {
+      let may : MayLose ring w (trail_of (Sender s) run) body closes found = record {
         before = before;
         tries = a;
         found_is = found_is said queue;
@@ -131,9 +131,9 @@ module _ (ring : Ring) (run : Run) (words : List ℕ) (is : AreAfter ring run wo
   close queue closes s =
       let x : ℕ = bit_or (slice_index words control_word) close_mask in
       let word_is : x ≡ packed (closed (control g w)) =
-      ap (λ (y : ℕ). bit_or y close_mask) is.shadow.control_is ∙ closes g (control g w) (is_control queue (shape ring) is.geometry_is run is.run_is) in
+      ap (λ (y : ℕ). bit_or y close_mask) is.shadow.control_is ∙ closes g (control g w) (is_control queue ring is.geometry_is run is.run_is) in
       record {
-        geometry_is = is.geometry_is;
+        geometry_is = is.geometry_is; flags_are = is.flags_are;
         run_is = (is.run_is, tt);
         shadow = record {
           many = length-set words control_word x ∙ is.shadow.many;
@@ -149,7 +149,7 @@ module _ (ring : Ring) (run : Run) (words : List ℕ) (is : AreAfter ring run wo
 
   pub acknowledge : (s number : ℕ) → MayAcknowledge w s number → AreAfter ring ((Consumer, Acknowledge s number) ∷ run) (slice_set words (cell g s) number)
   acknowledge s number a = record {
-    geometry_is = is.geometry_is;
+    geometry_is = is.geometry_is; flags_are = is.flags_are;
     run_is = (is.run_is, a);
     shadow = record {
       many = length-set words (cell g s) number ∙ is.shadow.many;
@@ -172,8 +172,9 @@ module _ (ring : Ring) (run : Run) (words : List ℕ) (is : AreAfter ring run wo
 -- ---- before the first event
 
 pub opens : OpensAllZero
-opens ring words geometry_is many zeros = record {
+opens ring words geometry_is flags_are many zeros = record {
   geometry_is = geometry_is;
+  flags_are = flags_are;
   run_is = tt;
   shadow = record {
     many = many;

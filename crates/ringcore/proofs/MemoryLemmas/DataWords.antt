@@ -12,9 +12,9 @@ use Rattle.ringcore.specs.declared.world.event.Event.{Event}
 use Rattle.ringcore.specs.declared.world.event.Event.TheVariants.{Look, Won, Lost, Write, Flip, Test, Read, Advance, Close, Acknowledge, Ask}
 use Rattle.ringcore.specs.world.Trails.{Run, trail_of, same_half, reserved_length, has_flipped, found_ready}
 use Rattle.ringcore.specs.world.World.{Item, World, commands, items_from, tail, head, world, half_of}
-use Rattle.ringcore.specs.world.Allowed.{MayWrite, MayRead}
+use Rattle.ringcore.specs.world.Allowed.{Ring, MayWrite, MayRead}
 use Rattle.ringcore.specs.memory.Layout.{control_word, data_word, cell}
-use Rattle.ringcore.specs.memory.Shadow.{Ring, shape, AreAfter}
+use Rattle.ringcore.specs.memory.Shadow.{AreAfter}
 use Rattle.ringcore.specs.memory.StepLaws.{reserved_commands}
 use Rattle.ringcore.proofs.WorldLemmas.Lists.{none_some}
 use Rattle.ringcore.proofs.WorldLemmas.Sound.{Sound, sound, half_is}
@@ -50,11 +50,11 @@ module _ (ring : Ring) (run : Run) (words : List ℕ) (is : AreAfter ring run wo
   abbrev w : World
   w = world run
 
-  i : Sound (shape ring) run
-  i = sound (shape ring) run is.run_is
+  i : Sound ring run
+  i = sound ring run is.run_is
 
   d : Deep run
-  d = deep (shape ring) run is.run_is
+  d = deep ring run is.run_is
 
   pub record InWindow (p : ℕ) : Type 0 where
     pub low : head w ≤ p
@@ -89,7 +89,7 @@ module _ (ring : Ring) (run : Run) (words : List ℕ) (is : AreAfter ring run wo
       let here = open_slot s k a.inside a.unflipped in
       let each = i.each_within s in let inside = a.inside in
       record {
-        geometry_is = is.geometry_is;
+        geometry_is = is.geometry_is; flags_are = is.flags_are;
         run_is = (is.run_is, a);
         shadow = record {
           many = length-set words at x ∙ is.shadow.many;
@@ -131,4 +131,4 @@ module _ (ring : Ring) (run : Run) (words : List ℕ) (is : AreAfter ring run wo
         item = at.0;
         there = at.1;
         found = is.shadow.commands p half at.0 low (d.whole p half flipped) at.1;
-      } in record { geometry_is = is.geometry_is; run_is = (is.run_is, may); shadow = is.shadow }
+      } in record { geometry_is = is.geometry_is; flags_are = is.flags_are; run_is = (is.run_is, may); shadow = is.shadow }

@@ -15,10 +15,10 @@ use Rattle.ringcore.specs.declared.world.event.Who.TheVariants.{Consumer, Sender
 use Rattle.ringcore.specs.declared.world.event.Event.TheVariants.{Flip, Test, Advance}
 use Rattle.ringcore.specs.world.Trails.{Run, trail_of, is_among, found_ready}
 use Rattle.ringcore.specs.world.World.{World, taken_as, tail, head, after, world, control}
-use Rattle.ringcore.specs.world.Allowed.{MayFlip, FindsReady, MayAdvance, IsRunLength, ShareAWord, IsRun}
+use Rattle.ringcore.specs.world.Allowed.{Ring, MayFlip, FindsReady, MayAdvance, IsRunLength, ShareAWord, IsRun}
 use Rattle.ringcore.specs.memory.Layout.{control_word, flag_word, data_word, cell}
 use Rattle.ringcore.specs.memory.Flags.{flag_bit, polarity, says_flipped, IsFlipMask, IsReadyRun}
-use Rattle.ringcore.specs.memory.Shadow.{Ring, shape, AreAfter}
+use Rattle.ringcore.specs.memory.Shadow.{AreAfter}
 use Rattle.ringcore.specs.memory.StepLaws.{turned}
 use Rattle.ringcore.proofs.WorldLemmas.Sound.{Sound, sound, among}
 use Rattle.ringcore.proofs.WorldLemmas.Slots.{Deep, deep}
@@ -58,15 +58,15 @@ module _ (ring : Ring) (run : Run) (words : List ℕ) (is : AreAfter ring run wo
   abbrev w : World
   w = world run
 
-  i : Sound (shape ring) run
-  i = sound (shape ring) run is.run_is
+  i : Sound ring run
+  i = sound ring run is.run_is
 
   d : Deep run
-  d = deep (shape ring) run is.run_is
+  d = deep ring run is.run_is
 
   -- ---- flip
 
-  module _ (one_place : SlotsAreApart) (s offset count mask : ℕ) (a : MayFlip (shape ring) (trail_of (Sender s) run) (w.start s) offset count)
+  module _ (one_place : SlotsAreApart) (s offset count mask : ℕ) (a : MayFlip ring (trail_of (Sender s) run) (w.start s) offset count)
       (m : IsFlipMask g (w.start s + offset) count mask) where
     abbrev p : ℕ
     p = w.start s + offset
@@ -135,13 +135,13 @@ module _ (ring : Ring) (run : Run) (words : List ℕ) (is : AreAfter ring run wo
             let k : ℕ = q - p in
             let q_is : q ≡ p + k = omega (arith, its.0) in
             let less : k < count = omega (arith, its.0, its.1) in
-            let one : flag_word g q ≡ at = ap (flag_word g) q_is ∙ in_one_word g p count a.in_word k less in
+            let one : flag_word g q ≡ at = ap (flag_word g) q_is ∙ in_one_word g p count (subst (λ f. ShareAWord f g p count) is.flags_are a.in_word) k less in
             let set : bit_at mask (flag_bit g q) ≡ 1 = (m.bits (flag_bit g q)).1 record { offset = k; among = less; is_its = ap (flag_bit g) q_is } in
             turns q here one set (ap w.flipped q_is ∙ not_flipped k less)
         by_run false outside = stays q here (λ set one.
             let its = (m.bits (flag_bit g q)).0 set in
             let k : ℕ = its.offset in
-            let share : flag_word g (p + k) ≡ at = in_one_word g p count a.in_word k its.among in
+            let share : flag_word g (p + k) ≡ at = in_one_word g p count (subst (λ f. ShareAWord f g p count) is.flags_are a.in_word) k its.among in
             let place_is : place g q ≡ place g (p + k) = same_flag g q (p + k) (one ∙ sym share) its.is_its in
             let window = own k its.among in
             let q_is : q ≡ p + k = one_place g (head w) q (p + k) low high window.low window.high place_is in
@@ -149,7 +149,7 @@ module _ (ring : Ring) (run : Run) (words : List ℕ) (is : AreAfter ring run wo
 
     pub flip : AreAfter ring ((Sender s, Flip offset count) ∷ run) (turned words at mask)
     flip = record {
-      geometry_is = is.geometry_is;
+      geometry_is = is.geometry_is; flags_are = is.flags_are;
       run_is = (is.run_is, a);
       shadow = record {
         many = length-set words at y ∙ is.shadow.many;
@@ -165,7 +165,7 @@ module _ (ring : Ring) (run : Run) (words : List ℕ) (is : AreAfter ring run wo
   pub test : WrapBitsTurnByLap → (limit found : ℕ) → IsRunLength limit
       → IsReadyRun g (slice_index words (flag_word g (head w))) (head w) limit found
       → AreAfter ring ((Consumer, Test limit found) ∷ run) words
-  test laps limit found many r = record { geometry_is = is.geometry_is; run_is = (is.run_is, may); shadow = is.shadow }
+  test laps limit found many r = record { geometry_is = is.geometry_is; flags_are = is.flags_are; run_is = (is.run_is, may); shadow = is.shadow }
     where
       h : ℕ
       h = head w
@@ -189,18 +189,21 @@ module _ (ring : Ring) (run : Run) (words : List ℕ) (is : AreAfter ring run wo
       at_most : found ≤ size g
       at_most = elim (cases_lt (size g) found) [ inl over ↦ absurd (not_round over) | inr le ↦ le ]
 
-      may : FindsReady (shape ring) w limit found
+      shared : ShareAWord ring.flags g h (suc found) → ShareAWord 64 g h (suc found)
+      shared = subst (λ f. ShareAWord f g h (suc found)) is.flags_are
+
+      may : FindsReady ring w limit found
       may = record {
         many = many;
         most = r.most;
-        in_word = r.in_word;
+        in_word = subst (λ f. ShareAWord f g h found) (sym is.flags_are) r.in_word;
         ready = λ k less.
             let high : h + k < h + size g = omega (arith, less, at_most) in
             sym (is.shadow.flags (h + k) (omega arith) high) ∙ says k (in_one_word g h found r.in_word k less) ∙ eq-eqb _ _ (r.ready k less);
         no_more = λ less share. elim (cases_lt found (size g)) [
           | inl inside ↦
               let high : h + found < h + size g = omega (arith, inside) in
-              sym (is.shadow.flags (h + found) (omega arith) high) ∙ says found (in_one_word g h (suc found) share found (omega arith)) ∙ ne_eqb _ _ (r.no_more less share)
+              sym (is.shadow.flags (h + found) (omega arith) high) ∙ says found (in_one_word g h (suc found) (shared share) found (omega arith)) ∙ ne_eqb _ _ (r.no_more less (shared share))
           | inr whole ↦ false_from_ne_true (w.flipped (h + found)) (λ f.
               let below = i.flipped_below (h + found) f in let top = i.within in omega (arith, below, top, whole))
         ];
@@ -211,7 +214,7 @@ module _ (ring : Ring) (run : Run) (words : List ℕ) (is : AreAfter ring run wo
   pub advance : QueuesHaveAControl → IndexesArePlaceAndWrapBit → WrapBitsTurnByLap → XorAdvances → (raws : List Raw) → MayAdvance (trail_of Consumer run) raws
       → AreAfter ring ((Consumer, Advance raws) ∷ run) (turned words control_word (advance_mask (index_of g (head w)) (index_of g (head w + length raws))))
   advance queue indexes laps advances raws a = record {
-    geometry_is = is.geometry_is;
+    geometry_is = is.geometry_is; flags_are = is.flags_are;
     run_is = longer;
     shadow = record {
       many = length-set words control_word x ∙ is.shadow.many;
@@ -236,7 +239,7 @@ module _ (ring : Ring) (run : Run) (words : List ℕ) (is : AreAfter ring run wo
       x : ℕ
       x = bit_xor (slice_index words control_word) mask
 
-      longer : IsRun (shape ring) ((Consumer, Advance raws) ∷ run)
+      longer : IsRun ring ((Consumer, Advance raws) ∷ run)
       longer = (is.run_is, a)
 
       grown : length (w.taken ++ map taken_as raws) ≡ head w + length raws
@@ -245,12 +248,12 @@ module _ (ring : Ring) (run : Run) (words : List ℕ) (is : AreAfter ring run wo
       word_is : x ≡ packed (control g (after w Consumer (Advance raws)))
       word_is =
           ap (λ (y : ℕ). bit_xor y mask) is.shadow.control_is
-          ∙ advances g (control g w) (index_of g (head w + length raws)) (is_control queue (shape ring) is.geometry_is run is.run_is)
+          ∙ advances g (control g w) (index_of g (head w + length raws)) (is_control queue ring is.geometry_is run is.run_is)
           (indexes g (head w + length raws) is.geometry_is).index
           ∙ ap (λ (n : ℕ). let c : Control = record { prod = index_of g (tail w); cons = index_of g n; closed = w.closed } in packed c) (sym grown)
 
       within : head w + length raws ≤ tail w
-      within = let behind = (sound (shape ring) ((Consumer, Advance raws) ∷ run) longer).behind in omega (arith, behind, grown)
+      within = let behind = (sound ring ((Consumer, Advance raws) ∷ run) longer).behind in omega (arith, behind, grown)
 
       shows : (q : ℕ) → head w + length raws ≤ q → q < head w + length raws + size g → says_flipped g words q ≡ w.flipped q
       shows q low high = elim (cases_lt q (head w + size g)) [

@@ -9,7 +9,7 @@ use Rattle.ringcore.specs.declared.world.event.Event.{Event}
 use Rattle.ringcore.specs.declared.world.event.Event.TheVariants.{Look, Won, Lost, Write, Flip, Test, Read, Advance, Close, Acknowledge, Ask}
 use Rattle.ringcore.specs.world.Trails.{Trail, Run, trail_of}
 use Rattle.ringcore.specs.world.World.{World, Taken, items, taken_as, after, world}
-use Rattle.ringcore.specs.world.Allowed.{Shape, SyncIsTaken, MayAcknowledge, Allowed, IsRun}
+use Rattle.ringcore.specs.world.Allowed.{Ring, SyncIsTaken, MayAcknowledge, Allowed, IsRun}
 use Rattle.ringcore.specs.world.Laws.{AcknowledgedAreTaken}
 use Rattle.ringcore.proofs.WorldLemmas.Lists.{get_longer}
 
@@ -67,7 +67,7 @@ quiet w v r t a i s k some up =
       there = ap (λ l. slice_get l was.position) r ∙ was.there;
     }
 
-grows : (ring : Shape) (w : World) (mine : Trail) (who : Who) (e : Event) → Allowed ring w mine who e → AllTaken w → AllTaken (after w who e)
+grows : (ring : Ring) (w : World) (mine : Trail) (who : Who) (e : Event) → Allowed ring w mine who e → AllTaken w → AllTaken (after w who e)
 grows ring w mine Consumer (Look found) a i = quiet w (after w Consumer (Look found)) refl refl refl i
 grows ring w mine Consumer (Won body number) a i = absurd a
 grows ring w mine Consumer (Lost body closes found) a i = absurd a
@@ -91,6 +91,6 @@ grows ring w mine (Sender s) Close a i = quiet w (after w (Sender s) Close) refl
 grows ring w mine (Sender s) (Acknowledge sender number) a i = absurd a
 grows ring w mine (Sender s) (Ask found) a i = quiet w (after w (Sender s) (Ask found)) refl refl refl i
 
-pub acknowledged : (ring : Shape) (run : Run) → IsRun ring run → AcknowledgedAreTaken run
+pub acknowledged : (ring : Ring) (run : Run) → IsRun ring run → AcknowledgedAreTaken run
 acknowledged ring [] ok = λ s k some up. absurd (omega (arith, some, up))
 acknowledged ring (x ∷ xs) ok = grows ring (world xs) (trail_of x.0 xs) x.0 x.1 ok.1 (acknowledged ring xs ok.0)

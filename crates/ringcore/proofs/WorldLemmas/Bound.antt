@@ -8,7 +8,7 @@ use Rattle.ringcore.specs.declared.world.event.Event.{Event}
 use Rattle.ringcore.specs.declared.world.event.Event.TheVariants.{Look, Won, Lost, Write, Flip, Test, Read, Advance, Close, Acknowledge, Ask}
 use Rattle.ringcore.specs.world.Trails.{Trail, Run, same, trail_of, batches_made, batch_length}
 use Rattle.ringcore.specs.world.World.{items, tail, world}
-use Rattle.ringcore.specs.world.Allowed.{Shape, IsBody, MayWin, Allowed, IsRun}
+use Rattle.ringcore.specs.world.Allowed.{Ring, IsBody, MayWin, Allowed, IsRun}
 use Rattle.ringcore.specs.world.Laws.{IsOne, OnlyOf}
 use Rattle.ringcore.proofs.WorldLemmas.Sound.{length_items}
 
@@ -54,7 +54,7 @@ total_most (suc n) most f each =
 
 -- ---- a run's
 
-record IsBound (ring : Shape) (senders : ℕ) (run : Run) : Type 0 where
+record IsBound (ring : Ring) (senders : ℕ) (run : Run) : Type 0 where
   pub each : (s : ℕ) → made run s ≤ ring.max_batches
   pub all : tail (world run) ≤ 64 * total senders (made run)
 
@@ -62,7 +62,7 @@ same_made : (v : Bool) (e : Event) (t : Trail) → batches_made (e ∷ t) ≡ ba
 same_made true e t is = is
 same_made false e t is = refl
 
-quiet : (ring : Shape) (senders : ℕ) (who : Who) (e : Event) (xs : Run) → tail (world ((who, e) ∷ xs)) ≡ tail (world xs)
+quiet : (ring : Ring) (senders : ℕ) (who : Who) (e : Event) (xs : Run) → tail (world ((who, e) ∷ xs)) ≡ tail (world xs)
     → ((t : Trail) → batches_made (e ∷ t) ≡ batches_made t) → IsBound ring senders xs → IsBound ring senders ((who, e) ∷ xs)
 unfolding made
 quiet ring senders who e xs same_tail same_count i =
@@ -75,7 +75,7 @@ batch_fits : (body : List Raw) (number : Option ℕ) → IsBody body → batch_l
 batch_fits body None is = let few = is.few in omega (arith, few)
 batch_fits body (Some number) is = let few = is.few in omega (arith, few)
 
-reserves : (ring : Shape) (senders s : ℕ) (body : List Raw) (number : Option ℕ) (xs : Run) → s < senders
+reserves : (ring : Ring) (senders s : ℕ) (body : List Raw) (number : Option ℕ) (xs : Run) → s < senders
     → MayWin ring (world xs) (trail_of (Sender s) xs) body number → IsBound ring senders xs → IsBound ring senders ((Sender s, Won body number) ∷ xs)
 unfolding made
 reserves ring senders s body number xs one a i =
@@ -96,7 +96,7 @@ reserves ring senders s body number xs one a i =
       all = omega (arith, sum, fits, grown, many, all);
     }
 
-grows : (ring : Shape) (senders : ℕ) (who : Who) (e : Event) (xs : Run) → IsOne senders who → Allowed ring (world xs) (trail_of who xs) who e
+grows : (ring : Ring) (senders : ℕ) (who : Who) (e : Event) (xs : Run) → IsOne senders who → Allowed ring (world xs) (trail_of who xs) who e
     → IsBound ring senders xs → IsBound ring senders ((who, e) ∷ xs)
 grows ring senders Consumer (Look found) xs one a i = quiet ring senders Consumer (Look found) xs refl (λ t. refl) i
 grows ring senders Consumer (Won body number) xs one a i = absurd a
@@ -121,13 +121,13 @@ grows ring senders (Sender s) Close xs one a i = quiet ring senders (Sender s) C
 grows ring senders (Sender s) (Acknowledge sender number) xs one a i = absurd a
 grows ring senders (Sender s) (Ask found) xs one a i = quiet ring senders (Sender s) (Ask found) xs refl (λ t. refl) i
 
-is_bound : (ring : Shape) (senders : ℕ) (run : Run) → OnlyOf senders run → IsRun ring run → IsBound ring senders run
+is_bound : (ring : Ring) (senders : ℕ) (run : Run) → OnlyOf senders run → IsRun ring run → IsBound ring senders run
 unfolding total made
 is_bound ring senders [] only ok = record { each = λ s. omega arith; all = omega arith }
 is_bound ring senders (x ∷ xs) only ok = grows ring senders x.0 x.1 xs only.0 ok.1 (is_bound ring senders xs only.1 ok.0)
 
 -- No more is reserved than 64 commands for each batch that each sender may make.
-pub reserved_bound : (ring : Shape) (senders : ℕ) (run : Run) → OnlyOf senders run → IsRun ring run → tail (world run) ≤ 64 * (senders * ring.max_batches)
+pub reserved_bound : (ring : Ring) (senders : ℕ) (run : Run) → OnlyOf senders run → IsRun ring run → tail (world run) ≤ 64 * (senders * ring.max_batches)
 reserved_bound ring senders run only ok =
     let is = is_bound ring senders run only ok in
     let all = is.all in

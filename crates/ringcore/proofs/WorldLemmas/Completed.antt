@@ -7,7 +7,7 @@ use Rattle.ringcore.specs.declared.world.event.Who.TheVariants.{Sender}
 use Rattle.ringcore.specs.declared.world.event.Event.TheVariants.{Won, Ask}
 use Rattle.ringcore.specs.world.Trails.{Run}
 use Rattle.ringcore.specs.world.World.{Item, Taken, sync_raw, head, world}
-use Rattle.ringcore.specs.world.Allowed.{Shape, SyncIsTaken, IsRun}
+use Rattle.ringcore.specs.world.Allowed.{Ring, SyncIsTaken, IsRun}
 use Rattle.ringcore.specs.world.Delivery.{Batch, batches, joined, advanced, Begins, TakenInOrder, NoneAfterClose, IsCompleted, ToldWhenCompleted}
 use Rattle.ringcore.specs.world.Laws.{BatchesAreUnbroken}
 use Rattle.ringcore.proofs.WorldLemmas.Lists.{get_longer, get_behind, get_begun, begins_shorter}
@@ -19,17 +19,17 @@ use Rattle.ringcore.proofs.WorldLemmas.Acknowledged.{acknowledged}
 
 -- ---- closed
 
-earlier_run : (ring : Shape) (later earlier : Run) → IsRun ring (later ++ earlier) → IsRun ring earlier
+earlier_run : (ring : Ring) (later earlier : Run) → IsRun ring (later ++ earlier) → IsRun ring earlier
 earlier_run ring [] earlier ok = ok
 earlier_run ring (x ∷ later) earlier ok = earlier_run ring later earlier ok.0
 
-pub none_after_close : (ring : Shape) (run : Run) → IsRun ring run → NoneAfterClose run
+pub none_after_close : (ring : Ring) (run : Run) → IsRun ring run → NoneAfterClose run
 none_after_close ring run ok later earlier s body number is =
     let won = earlier_run ring later ((Sender s, Won body number) ∷ earlier) (subst (IsRun ring) is ok) in sym (is_read earlier).closed ∙ won.1.unclosed
 
 -- ---- taken
 
-pub taken_in_order : (ring : Shape) (run : Run) → IsRun ring run → TakenInOrder run
+pub taken_in_order : (ring : Ring) (run : Run) → IsRun ring run → TakenInOrder run
 taken_in_order ring run ok =
     let d = (sound ring run ok).delivered in
     (d.0, sym (reserved_raws run) ∙ d.1 ∙ ap (λ l. l ++ d.0) (is_read run).taken)
@@ -60,7 +60,7 @@ completed run s number body ahead behind taken is less =
     }
 
 -- The sync that stands below the head is that of a batch.
-of_taken : (ring : Shape) (run : Run) → IsRun ring run → (s number : ℕ) → SyncIsTaken (world run) s number → IsCompleted run s number
+of_taken : (ring : Ring) (run : Run) → IsRun ring run → (s number : ℕ) → SyncIsTaken (world run) s number → IsCompleted run s number
 of_taken ring run ok s number t =
     let read = is_read run in
     let item : Item = record { sender = s; number = Some number; place = t.place; raw = sync_raw s number } in
@@ -74,7 +74,7 @@ of_taken ring run ok s number t =
     (r.whole ∙ ap (λ (x : Batch). r.ahead ++ x ∷ r.behind) b)
     (omega (arith, below, many, position))
 
-pub told : (ring : Shape) (run : Run) → IsRun ring run → ToldWhenCompleted run
+pub told : (ring : Ring) (run : Run) → IsRun ring run → ToldWhenCompleted run
 told ring run ok later earlier s number is some =
     let ask = earlier_run ring later ((Sender s, Ask number) ∷ earlier) (subst (IsRun ring) is ok) in
     let found = ask.1 in

@@ -7,7 +7,7 @@ use Rattle.ringcore.specs.declared.world.event.Event.{Event}
 use Rattle.ringcore.specs.declared.world.event.Event.TheVariants.{Look, Won, Lost, Write, Flip, Test, Read, Advance, Close, Acknowledge, Ask}
 use Rattle.ringcore.specs.world.Trails.{Trail, Run, same, trail_of, batches_made, numbers_given}
 use Rattle.ringcore.specs.world.World.{Item, World, sync_raw, world}
-use Rattle.ringcore.specs.world.Allowed.{Shape, Allowed, IsRun}
+use Rattle.ringcore.specs.world.Allowed.{Ring, Allowed, IsRun}
 use Rattle.ringcore.specs.world.Laws.{NumbersAreFew}
 use Rattle.ringcore.proofs.WorldLemmas.LookedControls.{same_is}
 use Rattle.ringcore.proofs.WorldLemmas.Syncs.{sync_opcode, syncs_numbered}
@@ -32,7 +32,7 @@ fewer (Ask found ∷ es) = fewer es
 
 -- ---- of which a sender makes no more than it may
 
-one_more : (ring : Shape) (w : World) (mine : Trail) (s : ℕ) (e : Event) → Allowed ring w mine (Sender s) e → batches_made mine ≤ ring.max_batches
+one_more : (ring : Ring) (w : World) (mine : Trail) (s : ℕ) (e : Event) → Allowed ring w mine (Sender s) e → batches_made mine ≤ ring.max_batches
     → batches_made (e ∷ mine) ≤ ring.max_batches
 one_more ring w mine s (Look found) a le = le
 one_more ring w mine s (Won body number) a le = let left = a.left in omega (arith, left)
@@ -46,7 +46,7 @@ one_more ring w mine s Close a le = le
 one_more ring w mine s (Acknowledge sender number) a le = le
 one_more ring w mine s (Ask found) a le = le
 
-made : (ring : Shape) (run : Run) → IsRun ring run → (s : ℕ) → batches_made (trail_of (Sender s) run) ≤ ring.max_batches
+made : (ring : Ring) (run : Run) → IsRun ring run → (s : ℕ) → batches_made (trail_of (Sender s) run) ≤ ring.max_batches
 made ring [] ok s = omega arith
 made ring (x ∷ xs) ok s = by_seat (made ring xs ok.0 s) x.0 x.1 ok.1 (same (Sender s) x.0) refl
   where

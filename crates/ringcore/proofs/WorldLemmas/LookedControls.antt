@@ -11,7 +11,7 @@ use Rattle.ringcore.specs.declared.world.event.Event.{Event}
 use Rattle.ringcore.specs.declared.world.event.Event.TheVariants.{Look, Won, Lost, Write, Flip, Test, Read, Advance, Close, Acknowledge, Ask}
 use Rattle.ringcore.specs.world.Trails.{Run, same, trail_of, looked}
 use Rattle.ringcore.specs.world.World.{tail, head, world, control}
-use Rattle.ringcore.specs.world.Allowed.{Shape, Allowed, IsRun}
+use Rattle.ringcore.specs.world.Allowed.{Ring, Allowed, IsRun}
 use Rattle.ringcore.proofs.WorldLemmas.Lists.{off, none_some}
 use Rattle.ringcore.proofs.WorldLemmas.Sound.{sound}
 
@@ -22,11 +22,11 @@ same_is (Sender s) Consumer e = off e
 same_is (Sender s) (Sender t) e = ap Sender (eqb-true s t e)
 
 -- a look always finds a control
-pub is_control : QueuesHaveAControl → (ring : Shape) → IsGeometry ring.geometry → (run : Run) → IsRun ring run → IsControl ring.geometry (control ring.geometry (world run))
+pub is_control : QueuesHaveAControl → (ring : Ring) → IsGeometry ring.geometry → (run : Run) → IsRun ring run → IsControl ring.geometry (control ring.geometry (world run))
 is_control queue ring is run ok =
     let i = sound ring run ok in queue ring.geometry (tail (world run)) (head (world run)) (world run).closed is i.behind i.within
 
-module _ (queue : QueuesHaveAControl) (ring : Shape) (is_geometry : IsGeometry ring.geometry) (xs : Run) (ok : IsRun ring xs)
+module _ (queue : QueuesHaveAControl) (ring : Ring) (is_geometry : IsGeometry ring.geometry) (xs : Run) (ok : IsRun ring xs)
     (earlier : (who : Who) (c : Control) → looked (trail_of who xs) ≡ Some c → IsControl ring.geometry c) where
   now : IsControl ring.geometry (control ring.geometry (world xs))
   now = is_control queue ring is_geometry xs ok
@@ -60,7 +60,7 @@ module _ (queue : QueuesHaveAControl) (ring : Shape) (is_geometry : IsGeometry r
   grown who e a seat true here c is = step who e a c (ap (λ u. looked (e ∷ trail_of u xs)) (sym (same_is seat who here)) ∙ is)
   grown who e a seat false else c is = earlier seat c is
 
-pub looked_is_control : QueuesHaveAControl → (ring : Shape) → IsGeometry ring.geometry → (run : Run) → IsRun ring run → (who : Who) (c : Control)
+pub looked_is_control : QueuesHaveAControl → (ring : Ring) → IsGeometry ring.geometry → (run : Run) → IsRun ring run → (who : Who) (c : Control)
     → looked (trail_of who run) ≡ Some c → IsControl ring.geometry c
 looked_is_control queue ring is_geometry [] ok who c is = none_some c is
 looked_is_control queue ring is_geometry (x ∷ xs) ok who c is =

@@ -8,7 +8,7 @@ use Rattle.ringcore.specs.declared.world.event.Event.{Event}
 use Rattle.ringcore.specs.declared.world.event.Event.TheVariants.{Look, Won, Lost, Write, Flip, Test, Read, Advance, Close, Acknowledge, Ask}
 use Rattle.ringcore.specs.world.Trails.{Trail, Run, same, trail_of, numbers_given}
 use Rattle.ringcore.specs.world.World.{world}
-use Rattle.ringcore.specs.world.Allowed.{Shape, IsBody, IsNextNumber, MayWin, Allowed, IsRun}
+use Rattle.ringcore.specs.world.Allowed.{Ring, IsBody, IsNextNumber, MayWin, Allowed, IsRun}
 use Rattle.ringcore.specs.world.Delivery.{Batch, batches, number_of, numbers, counted, NumberedInOrder}
 use Rattle.ringcore.specs.world.Laws.{batches_of, own_batches, SendersOrderIsKept}
 
@@ -78,7 +78,7 @@ quiet who e xs b n o i = record {
     owned s true t = o s t
     owned s false t = refl
 
-reserves : (ring : Shape) (s : ℕ) (body : List Raw) (number : Option ℕ) (xs : Run) → MayWin ring (world xs) (trail_of (Sender s) xs) body number
+reserves : (ring : Ring) (s : ℕ) (body : List Raw) (number : Option ℕ) (xs : Run) → MayWin ring (world xs) (trail_of (Sender s) xs) body number
     → IsKept xs → IsKept ((Sender s, Won body number) ∷ xs)
 reserves ring s body number xs a i = let b : Batch = record { sender = s; number = number; body = body } in record {
   numbers = λ t. numbers_append t (batches xs) (b ∷ []) ∙ ap (λ l. l ++ numbers t (b ∷ [])) (i.numbers t) ∙ given t (t == s) refl number a.next;
@@ -105,7 +105,7 @@ reserves ring s body number xs a i = let b : Batch = record { sender = s; number
         ap (λ (u : ℕ). own_batches t (trail_of (Sender t) xs) ++ record { sender = u; number = number; body = body } ∷ []) at
     owned t false is = append-nil _
 
-grows : (ring : Shape) (who : Who) (e : Event) (xs : Run) → Allowed ring (world xs) (trail_of who xs) who e → IsKept xs → IsKept ((who, e) ∷ xs)
+grows : (ring : Ring) (who : Who) (e : Event) (xs : Run) → Allowed ring (world xs) (trail_of who xs) who e → IsKept xs → IsKept ((who, e) ∷ xs)
 grows ring Consumer (Look found) xs a i = quiet Consumer (Look found) xs refl (λ t. refl) (λ u t. refl) i
 grows ring Consumer (Won body number) xs a i = absurd a
 grows ring Consumer (Lost body closes found) xs a i = absurd a
@@ -129,14 +129,14 @@ grows ring (Sender s) Close xs a i = quiet (Sender s) Close xs refl (λ t. refl)
 grows ring (Sender s) (Acknowledge sender number) xs a i = absurd a
 grows ring (Sender s) (Ask found) xs a i = quiet (Sender s) (Ask found) xs refl (λ t. refl) (λ u t. refl) i
 
-pub is_kept : (ring : Shape) (run : Run) → IsRun ring run → IsKept run
+pub is_kept : (ring : Ring) (run : Run) → IsRun ring run → IsKept run
 is_kept ring [] ok = record { numbers = λ s. refl; own = λ s. refl; bodies = tt }
 is_kept ring (x ∷ xs) ok = grows ring x.0 x.1 xs ok.1 (is_kept ring xs ok.0)
 
-pub numbered : (ring : Shape) (run : Run) → IsRun ring run → NumberedInOrder run
+pub numbered : (ring : Ring) (run : Run) → IsRun ring run → NumberedInOrder run
 numbered ring run ok s =
     let is = (is_kept ring run ok).numbers s in
     is ∙ ap (counted 1) (sym (ap length is ∙ counted_length 1 (numbers_given (trail_of (Sender s) run))))
 
-pub senders_order : (ring : Shape) (run : Run) → IsRun ring run → SendersOrderIsKept run
+pub senders_order : (ring : Ring) (run : Run) → IsRun ring run → SendersOrderIsKept run
 senders_order ring run ok s = (is_kept ring run ok).own s

@@ -3,7 +3,7 @@ use Rattle.std.proofs.Common.{◌≡◌, ℕ, Bool, true, false, cond, List, [],
 use Rattle.std.specs.Prelude.{◌==◌}
 use Rattle.ringcore.specs.world.Trails.{Run}
 use Rattle.ringcore.specs.world.World.{commands}
-use Rattle.ringcore.specs.world.Allowed.{Shape, IsRun}
+use Rattle.ringcore.specs.world.Allowed.{Ring, IsRun}
 use Rattle.ringcore.specs.world.Delivery.{Batch, batches, joined}
 use Rattle.ringcore.specs.world.Laws.{batches_of, EarlierStandsBefore}
 use Rattle.ringcore.proofs.WorldLemmas.Reading.{joined_append}
@@ -34,7 +34,7 @@ among_all s (b ∷ bs) before one later is = by_sender (s == b.sender) before is
         record { ahead = []; behind = bs; whole = ap (λ x. x ∷ bs) here; later_is = others }
     by_sender true (x ∷ front) is rest = let others : batches_of s bs ≡ front ++ one ∷ later = cc in more (rest front one later others)
 
-pub earlier_first : (ring : Shape) (run : Run) → IsRun ring run → EarlierStandsBefore run
+pub earlier_first : (ring : Ring) (run : Run) → IsRun ring run → EarlierStandsBefore run
 earlier_first ring run ok s before between after one two is =
     let first = among_all s (batches run) before one (between ++ two ∷ after) ((is_kept ring run ok).own s ∙ is) in
     let second = among_all s first.behind between two after first.later_is in

@@ -12,7 +12,7 @@ use Rattle.ringcore.specs.declared.world.event.Event.{Event}
 use Rattle.ringcore.specs.declared.world.event.Event.TheVariants.{Look, Won, Lost, Write, Flip, Test, Read, Advance, Close, Acknowledge, Ask}
 use Rattle.ringcore.specs.world.Trails.{Trail, Run, same, same_half, trail_of, is_among, reserved_length, has_written, has_flipped}
 use Rattle.ringcore.specs.world.World.{Item, World, commands, items, taken_as, with_at, tail, head, after, world}
-use Rattle.ringcore.specs.world.Allowed.{Shape, MayWrite, MayFlip, MayAdvance, Allowed, IsRun}
+use Rattle.ringcore.specs.world.Allowed.{Ring, MayWrite, MayFlip, MayAdvance, Allowed, IsRun}
 use Rattle.ringcore.proofs.WorldLemmas.Lists.{off, none_some, get_longer, get_behind}
 use Rattle.ringcore.proofs.WorldLemmas.Reading.{item_of}
 use Rattle.ringcore.proofs.WorldLemmas.Sound.{Sound, sound, among, length_items}
@@ -108,7 +108,7 @@ by_trail : (w v : World) (s : ℕ) (b : Bool) (e : Event) (t : Trail) → (Owns 
 by_trail w v s true e t f g o = f o
 by_trail w v s false e t f g o = g o
 
-module _ (ring : Shape) (xs : Run) (ok : IsRun ring xs) (d : Deep xs) where
+module _ (ring : Ring) (xs : Run) (ok : IsRun ring xs) (d : Deep xs) where
   abbrev w : World
   w = world xs
 
@@ -262,7 +262,7 @@ module _ (ring : Shape) (xs : Run) (ok : IsRun ring xs) (d : Deep xs) where
   grows (Sender s) (Acknowledge sender number) a = absurd a
   grows (Sender s) (Ask found) a = record { owns = λ u. by_trail w (after w (Sender s) (Ask found)) u (u == s) (Ask found) (mine u) (λ o. record { placed = o.placed; written_is = o.written_is; flipped_is = o.flipped_is }) (λ o. record { placed = o.placed; written_is = o.written_is; flipped_is = o.flipped_is }) (d.owns u); whole = d.whole; passed = d.passed }
 
-pub deep : (ring : Shape) (run : Run) → IsRun ring run → Deep run
+pub deep : (ring : Ring) (run : Run) → IsRun ring run → Deep run
 deep ring [] ok = record {
   owns = λ s. record { placed = λ j item there. none_some item there; written_is = λ j half inside. absurd (omega (arith, inside)); flipped_is = λ j inside. absurd (omega (arith, inside)) };
   whole = λ p half f. off f;

@@ -15,7 +15,7 @@ use Rattle.ringcore.specs.declared.world.event.Event.{Event}
 use Rattle.ringcore.specs.declared.world.event.Event.TheVariants.{Look, Won, Lost, Write, Flip, Test, Read, Advance, Close, Acknowledge, Ask}
 use Rattle.ringcore.specs.world.Trails.{Trail, Run, same, same_half, trail_of, is_among, batch_length, reserved_length, found_ready, half_read}
 use Rattle.ringcore.specs.world.World.{Item, Taken, World, commands, items_from, items, taken_as, tail, head, after, world, half_of}
-use Rattle.ringcore.specs.world.Allowed.{Shape, MayWin, MayWrite, MayFlip, FindsReady, MayRead, MayAdvance, Allowed, IsRun}
+use Rattle.ringcore.specs.world.Allowed.{Ring, MayWin, MayWrite, MayFlip, FindsReady, MayRead, MayAdvance, Allowed, IsRun}
 use Rattle.ringcore.specs.world.Delivery.{Begins}
 use Rattle.ringcore.proofs.WorldLemmas.Lists.{off, none_some, get_longer, get_behind, get_map, follows}
 use Rattle.ringcore.proofs.WorldLemmas.Reading.{raws_of, raws_taken, taken_again}
@@ -24,7 +24,7 @@ use Rattle.ringcore.proofs.WorldLemmas.Reading.{raws_of, raws_taken, taken_again
 abbrev pub AtHead : World → ℕ → Half → ℕ → Type 0
 AtHead w offset half word = (item : Item) × (slice_get w.reserved (head w + offset) ≡ Some item) × (word ≡ half_of half item.raw)
 
-pub record Stands (ring : Shape) (w : World) (trail : Who → Trail) : Type 0 where
+pub record Stands (ring : Ring) (w : World) (trail : Who → Trail) : Type 0 where
   pub behind : head w ≤ tail w
   pub within : tail w ≤ head w + size ring.geometry
   pub delivered : Begins (raws_taken w.taken) (raws_of w.reserved)
@@ -34,7 +34,7 @@ pub record Stands (ring : Shape) (w : World) (trail : Who → Trail) : Type 0 wh
   pub ready : (i : ℕ) → i < found_ready (trail Consumer) → w.flipped (head w + i) ≡ true
   pub reading : (i : ℕ) (half : Half) (word : ℕ) → half_read i half (trail Consumer) ≡ Some word → AtHead w i half word
 
-abbrev pub Sound : Shape → Run → Type 0
+abbrev pub Sound : Ring → Run → Type 0
 Sound ring run = Stands ring (world run) (λ who. trail_of who run)
 
 length_from : (place s : ℕ) (number : Option ℕ) (raws : List Raw) → length (items_from place s number raws) ≡ length raws
@@ -63,7 +63,7 @@ half_is Lo Hi is = off is
 half_is Hi Lo is = off is
 half_is Hi Hi is = refl
 
-module _ (ring : Shape) (xs : Run) (i : Sound ring xs) where
+module _ (ring : Ring) (xs : Run) (i : Sound ring xs) where
   abbrev w : World
   w = world xs
 
@@ -259,7 +259,7 @@ module _ (ring : Shape) (xs : Run) (i : Sound ring xs) where
   grows (Sender s) (Acknowledge sender number) a = absurd a
   grows (Sender s) (Ask found) a = silent s (Ask found) refl (λ t. refl)
 
-pub sound : (ring : Shape) (run : Run) → IsRun ring run → Sound ring run
+pub sound : (ring : Ring) (run : Run) → IsRun ring run → Sound ring run
 sound ring [] ok = record {
   behind = omega arith;
   within = omega arith;

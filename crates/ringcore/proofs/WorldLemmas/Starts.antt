@@ -11,7 +11,7 @@ use Rattle.ringcore.specs.declared.world.event.Event.{Event}
 use Rattle.ringcore.specs.declared.world.event.Event.TheVariants.{Look, Won, Lost, Write, Flip, Test, Read, Advance, Close, Acknowledge, Ask}
 use Rattle.ringcore.specs.world.Trails.{Trail, Run, same, trail_of, looked, prod_of, start_index}
 use Rattle.ringcore.specs.world.World.{World, tail, after, world}
-use Rattle.ringcore.specs.world.Allowed.{Shape, MayWin, Allowed, IsRun}
+use Rattle.ringcore.specs.world.Allowed.{Ring, MayWin, Allowed, IsRun}
 
 abbrev StartsThere : ℕ → World → ℕ → Trail → Type 0
 StartsThere geometry w s mine = index_of geometry (w.start s) ≡ start_index geometry mine
@@ -21,7 +21,7 @@ same_start : (geometry : ℕ) (v : Bool) (e : Event) (t : Trail) → start_index
 same_start geometry true e t is = is
 same_start geometry false e t is = refl
 
-module _ (ring : Shape) (xs : Run) (i : (s : ℕ) → StartsThere ring.geometry (world xs) s (trail_of (Sender s) xs)) where
+module _ (ring : Ring) (xs : Run) (i : (s : ℕ) → StartsThere ring.geometry (world xs) s (trail_of (Sender s) xs)) where
   abbrev w : World
   w = world xs
 
@@ -61,7 +61,7 @@ module _ (ring : Shape) (xs : Run) (i : (s : ℕ) → StartsThere ring.geometry 
   grows (Sender u) (Acknowledge sender number) a s = absurd a
   grows (Sender u) (Ask found) a s = quiet s (Sender u) (Ask found) (λ t. refl)
 
-pub starts_there : (ring : Shape) (run : Run) → IsRun ring run → (s : ℕ) → index_of ring.geometry ((world run).start s) ≡ start_index ring.geometry (trail_of (Sender s) run)
+pub starts_there : (ring : Ring) (run : Run) → IsRun ring run → (s : ℕ) → index_of ring.geometry ((world run).start s) ≡ start_index ring.geometry (trail_of (Sender s) run)
 starts_there ring [] ok s = λ j. record { geometry = ring.geometry; number = none j }
   where
     none : 0 % (2 * size ring.geometry) ≡ 0

@@ -14,7 +14,7 @@ use Rattle.ringcore.specs.declared.world.event.Event.{Event}
 use Rattle.ringcore.specs.declared.world.event.Event.TheVariants.{Look, Won, Lost, Write, Flip, Test, Read, Advance, Close, Acknowledge, Ask}
 use Rattle.ringcore.specs.world.Trails.{Run, trail_of}
 use Rattle.ringcore.specs.world.World.{Item, Taken, World, sync_raw, taken_as, head, world}
-use Rattle.ringcore.specs.world.Allowed.{Shape, SyncIsTaken, Allowed, IsRun}
+use Rattle.ringcore.specs.world.Allowed.{Ring, SyncIsTaken, Allowed, IsRun}
 use Rattle.ringcore.specs.world.Delivery.{number_of, counted}
 use Rattle.ringcore.specs.world.Laws.{is_sync_to, syncs_in, syncs_taken, SyncsAreCounted}
 use Rattle.ringcore.proofs.WorldLemmas.Lists.{none_some, get_shorter}
@@ -35,7 +35,7 @@ syncs_append s (x ∷ xs) ys = by_kind (syncs_append s xs ys) (is_sync_to s x)
 abbrev CountsTaken : ℕ → Run → Type 0
 CountsTaken s run = syncs_taken s (trail_of Consumer run) ≡ syncs_in s (raws_taken (world run).taken)
 
-grows : (ring : Shape) (xs : Run) (s : ℕ) (who : Who) (e : Event) → Allowed ring (world xs) (trail_of who xs) who e → CountsTaken s xs → CountsTaken s ((who, e) ∷ xs)
+grows : (ring : Ring) (xs : Run) (s : ℕ) (who : Who) (e : Event) → Allowed ring (world xs) (trail_of who xs) who e → CountsTaken s xs → CountsTaken s ((who, e) ∷ xs)
 grows ring xs s Consumer (Look found) a is = is
 grows ring xs s Consumer (Won body number) a is = absurd a
 grows ring xs s Consumer (Lost body closes found) a is = absurd a
@@ -62,7 +62,7 @@ grows ring xs s (Sender t) Close a is = is
 grows ring xs s (Sender t) (Acknowledge sender number) a is = absurd a
 grows ring xs s (Sender t) (Ask found) a is = is
 
-counts : (ring : Shape) (run : Run) → IsRun ring run → (s : ℕ) → CountsTaken s run
+counts : (ring : Ring) (run : Run) → IsRun ring run → (s : ℕ) → CountsTaken s run
 counts ring [] ok s = refl
 counts ring (x ∷ xs) ok s = grows ring xs s x.0 x.1 ok.1 (counts ring xs ok.0 s)
 
@@ -222,7 +222,7 @@ as_many s (x ∷ xs) all = by_kind (as_many s xs (λ p item at sync. all (suc p)
 
 -- ---- the law
 
-pub syncs_counted : (ring : Shape) (run : Run) → IsRun ring run → SyncsAreCounted run
+pub syncs_counted : (ring : Ring) (run : Run) → IsRun ring run → SyncsAreCounted run
 syncs_counted ring run ok s k = (there, back)
   where
     w : World

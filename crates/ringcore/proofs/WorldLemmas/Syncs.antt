@@ -11,7 +11,7 @@ use Rattle.cmdcodec.specs.Words.{encoding}
 use Rattle.ringcore.specs.world.Trails.{Run, trail_of, numbers_given}
 use Rattle.ringcore.specs.declared.world.event.Who.TheVariants.{Sender}
 use Rattle.ringcore.specs.world.World.{Item, sync_raw, commands, items_from, items, world}
-use Rattle.ringcore.specs.world.Allowed.{Shape, IsBody, IsRun}
+use Rattle.ringcore.specs.world.Allowed.{Ring, IsBody, IsRun}
 use Rattle.ringcore.specs.world.Delivery.{Batch, batches, joined, number_of, numbers, counted}
 use Rattle.ringcore.proofs.WorldLemmas.Lists.{none_some, get_shorter, get_behind}
 use Rattle.ringcore.proofs.WorldLemmas.Reading.{item_of, batch_items, all_items, raws_of_batch, is_read}
@@ -110,7 +110,7 @@ sync_of s (Some number) body item sender_is number_is at =
     let raw : item.raw ≡ sync_raw s number = same_Some item.raw (sync_raw s number) (sym at ∙ ap (slice_get (body ++ sync_raw s number ∷ [])) (sym here) ∙ last) in
     record { number = number; number_is = number_is; raw_is = raw ∙ ap (λ t. sync_raw t number) (sym sender_is) }
 
-pub is_sync : (ring : Shape) (run : Run) → IsRun ring run → (position : ℕ) (item : Item) → slice_get (world run).reserved position ≡ Some item
+pub is_sync : (ring : Ring) (run : Run) → IsRun ring run → (position : ℕ) (item : Item) → slice_get (world run).reserved position ≡ Some item
     → opcode_of item.raw ≡ 0x46 → IsSyncOf item
 is_sync ring run ok position item at sync =
     let there = ap (λ l. slice_get l position) (sym (is_read run).reserved) ∙ at in
@@ -167,7 +167,7 @@ of_batches s (b ∷ bs) all =
     ∙ ap (λ l. cond (s == b.sender) (number_of b.number l) l) (of_batches s bs all.1)
 
 -- A sender's syncs are numbered 1, 2, 3 and so on, as many as its trail says.
-pub syncs_numbered : (ring : Shape) (run : Run) → IsRun ring run → (s : ℕ) → sync_numbers s (world run).reserved ≡ counted 1 (numbers_given (trail_of (Sender s) run))
+pub syncs_numbered : (ring : Ring) (run : Run) → IsRun ring run → (s : ℕ) → sync_numbers s (world run).reserved ≡ counted 1 (numbers_given (trail_of (Sender s) run))
 syncs_numbered ring run ok s =
     let kept = is_kept ring run ok in
     ap (sync_numbers s) (is_read run).reserved ∙ of_batches s (batches run) kept.bodies ∙ kept.numbers s

@@ -10,7 +10,7 @@ use Rattle.ringcore.specs.declared.world.event.Event.TheVariants.{Look, Acknowle
 use Rattle.ringcore.specs.declared.machine.consumer_view.ReadHalves.{ReadHalves}
 use Rattle.ringcore.specs.world.Trails.{Trail, Run, trail_of, found_ready, half_read}
 use Rattle.ringcore.specs.world.World.{head, world}
-use Rattle.ringcore.specs.world.Allowed.{Shape, Allowed}
+use Rattle.ringcore.specs.world.Allowed.{Ring, Allowed}
 
 -- the consumer's view as contracts see it
 pub record ConsumerValue : Type 0 where
@@ -64,7 +64,7 @@ commands_read view (suc n) = and_command (commands_read view n) (command_at view
 -- An allowed event of a sender leaves what the consumer knows.
 abbrev pub SendersLeaveIt : Type 0
 SendersLeaveIt =
-    (ring : Shape) (run : Run) (s : ℕ) (view : ConsumerValue) (e : Event)
+    (ring : Ring) (run : Run) (s : ℕ) (view : ConsumerValue) (e : Event)
     → Allowed ring (world run) (trail_of (Sender s) run) (Sender s) e → ConsumerKnows run view → ConsumerKnows ((Sender s, e) ∷ run) view
 
 -- A look and an acknowledgement of its own leave it too.

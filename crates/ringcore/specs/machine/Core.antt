@@ -11,7 +11,8 @@ use Rattle.ringcore.specs.declared.machine.Core.TheInside.{Inside}
 use Rattle.ringcore.specs.world.Trails.{Run, trail_of, looked}
 use Rattle.ringcore.specs.world.World.{world, control}
 use Rattle.ringcore.specs.world.Laws.{OnlyOf}
-use Rattle.ringcore.specs.memory.Shadow.{Ring, AreAfter}
+use Rattle.ringcore.specs.world.Allowed.{Ring}
+use Rattle.ringcore.specs.memory.Shadow.{AreAfter}
 use Rattle.ringcore.specs.memory.WordStores.{WordsValue}
 use Rattle.ringcore.specs.machine.SenderViews.{SenderValue, Knows}
 use Rattle.ringcore.specs.machine.ConsumerViews.{ConsumerValue, ConsumerKnows}
@@ -33,7 +34,7 @@ core_of inside = record { words = inside.words; senders = inside.senders.items; 
 
 -- Each sender may reserve as many batches as there are numbers.
 abbrev pub ring_with : ℕ → ℕ → Ring
-ring_with geometry senders = record { geometry = geometry; senders = senders; max_batches = 4294967295 }
+ring_with geometry senders = record { geometry = geometry; senders = senders; max_batches = 4294967295; flags = 64 }
 
 abbrev pub ring_of : CoreValue → Ring
 ring_of core = ring_with core.words.geometry core.words.senders

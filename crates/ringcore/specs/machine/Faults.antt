@@ -14,9 +14,8 @@ use Rattle.ringcore.specs.declared.machine.step_fault.StepFault.{StepFault}
 use Rattle.ringcore.specs.declared.machine.step_fault.StepFault.TheVariants.{AnotherSenders, NotReserved, Flipped, HalfMissing, NotTheHead, NotSeenReady, NotNext, NoSuchPlace, NoRoom, NotSettled, BadBody}
 use Rattle.ringcore.specs.world.Trails.{Trail, Run, trail_of, looked, batches_made, reserved_length, has_written, has_flipped, found_ready, half_read}
 use Rattle.ringcore.specs.world.World.{Item, World, head, world}
-use Rattle.ringcore.specs.world.Allowed.{length_with}
+use Rattle.ringcore.specs.world.Allowed.{Ring, length_with}
 use Rattle.ringcore.specs.memory.Flags.{shared_word}
-use Rattle.ringcore.specs.memory.Shadow.{Ring}
 use Rattle.ringcore.specs.machine.Open.{some_below, all_below, first_below, is_open, is_held, own_offset, slot_is_held}
 
 -- ---- what doesn't exist

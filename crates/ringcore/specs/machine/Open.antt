@@ -4,7 +4,7 @@ use Rattle.qindex.specs.Positions.{place}
 use Rattle.ringcore.specs.declared.world.event.Who.TheVariants.{Sender}
 use Rattle.ringcore.specs.world.Trails.{Trail, Run, trail_of, is_among, reserved_length, has_flipped}
 use Rattle.ringcore.specs.world.World.{world}
-use Rattle.ringcore.specs.memory.Shadow.{Ring}
+use Rattle.ringcore.specs.world.Allowed.{Ring}
 
 -- whether some number below many, or each, passes a test
 abbrev pub some_below : ℕ → (ℕ → Bool) → Bool

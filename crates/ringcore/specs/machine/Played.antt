@@ -6,8 +6,7 @@ use Rattle.ringcore.specs.declared.machine.step.Seen.{Seen}
 use Rattle.ringcore.specs.world.Trails.{Run}
 use Rattle.ringcore.specs.world.World.{world}
 use Rattle.qindex.specs.Indexes.{IsGeometry}
-use Rattle.ringcore.specs.world.Allowed.{IsRun}
-use Rattle.ringcore.specs.memory.Shadow.{Ring, shape}
+use Rattle.ringcore.specs.world.Allowed.{Ring, IsRun}
 use Rattle.ringcore.specs.machine.Faults.{fault_of}
 use Rattle.ringcore.specs.machine.StepAnswers.{event_of, seen_of}
 
@@ -38,12 +37,12 @@ played ring steps = played_from ring [] 0 steps
 
 -- ---- what is played is a run
 
--- A step that has no fault is an event that is allowed.
+-- A step that has no fault is an event that is allowed, where flags stand in words of 64.
 abbrev pub StepsAreAllowed : Type 0
 StepsAreAllowed =
-    (ring : Ring) (run : Run) (step : Step) → IsGeometry ring.geometry → IsRun (shape ring) run → fault_of ring run step ≡ None
-    → IsRun (shape ring) (event_of ring run step ∷ run)
+    (ring : Ring) (run : Run) (step : Step) → IsGeometry ring.geometry → ring.flags ≡ 64 → IsRun ring run → fault_of ring run step ≡ None
+    → IsRun ring (event_of ring run step ∷ run)
 
 -- So whatever list of steps is played, what was played is a run.
 abbrev pub PlayedAreRuns : Type 0
-PlayedAreRuns = (ring : Ring) (steps : List Step) → IsGeometry ring.geometry → IsRun (shape ring) (played ring steps).run
+PlayedAreRuns = (ring : Ring) (steps : List Step) → IsGeometry ring.geometry → ring.flags ≡ 64 → IsRun ring (played ring steps).run

@@ -17,7 +17,7 @@ use Rattle.ringcore.specs.declared.machine.step.Seen.TheVariants.{Word, Reserved
 use Rattle.ringcore.specs.world.Trails.{Trail, Run, trail_of, looked, numbers_given}
 use Rattle.ringcore.specs.world.World.{Item, World, tail, head, after, world, control, half_of}
 use Rattle.ringcore.specs.memory.Flags.{polarity}
-use Rattle.ringcore.specs.memory.Shadow.{Ring}
+use Rattle.ringcore.specs.world.Allowed.{Ring}
 use Rattle.ringcore.specs.machine.Open.{own_offset}
 use Rattle.ringcore.specs.machine.Faults.{tested_offset}
 

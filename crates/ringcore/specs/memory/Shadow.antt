@@ -6,19 +6,9 @@ use Rattle.qindex.specs.ControlWord.{packed}
 use Rattle.ringcore.specs.declared.world.event.Half.{Half}
 use Rattle.ringcore.specs.world.Trails.{Run}
 use Rattle.ringcore.specs.world.World.{Item, World, head, world, control, half_of}
-use Rattle.ringcore.specs.world.Allowed.{Shape, IsRun}
+use Rattle.ringcore.specs.world.Allowed.{Ring, IsRun}
 use Rattle.ringcore.specs.memory.Layout.{control_word, data_word, cell, words_of}
 use Rattle.ringcore.specs.memory.Flags.{says_flipped}
-
--- what a ring of words is made with: the log2 of its slots, its senders, and how many batches each may reserve
-pub record Ring : Type 0 where
-  pub geometry : ℕ
-  pub senders : ℕ
-  pub max_batches : ℕ
-
--- Flags stand in words of 64.
-abbrev pub shape : Ring → Shape
-shape ring = record { geometry = ring.geometry; max_batches = ring.max_batches; flags = 64 }
 
 -- The control word packs the tail and the head, and whether the ring is closed. Of the positions from the head on,
 -- as many as there are slots, each flag says whether it is flipped, and each half that is written stands in its
@@ -32,8 +22,9 @@ pub record IsShadow (ring : Ring) (words : List ℕ) (w : World) : Type 0 where
       → slice_index words (data_word ring.geometry position half) ≡ half_of half item.raw
   pub cells : (sender : ℕ) → sender < ring.senders → slice_index words (cell ring.geometry sender) ≡ w.acknowledged sender
 
--- The words may stand as these after this run.
+-- The words may stand as these after this run. Flags stand in words of 64.
 pub record AreAfter (ring : Ring) (run : Run) (words : List ℕ) : Type 0 where
   pub geometry_is : IsGeometry ring.geometry
-  pub run_is : IsRun (shape ring) run
+  pub flags_are : ring.flags ≡ 64
+  pub run_is : IsRun ring run
   pub shadow : IsShadow ring words (world run)

@@ -12,10 +12,10 @@ use Rattle.ringcore.specs.declared.world.event.Half.{Half}
 use Rattle.ringcore.specs.declared.world.event.Event.TheVariants.{Look, Won, Lost, Write, Flip, Test, Read, Advance, Close, Acknowledge, Ask}
 use Rattle.ringcore.specs.world.Trails.{Trail, Run, trail_of, looked, batch_length, found_ready, start_index}
 use Rattle.ringcore.specs.world.World.{head, world, commands, half_of}
-use Rattle.ringcore.specs.world.Allowed.{MayTry, IsNextNumber, MayWrite, MayFlip, IsRunLength, MayAdvance, MayAcknowledge, length_with}
+use Rattle.ringcore.specs.world.Allowed.{Ring, MayTry, IsNextNumber, MayWrite, MayFlip, IsRunLength, MayAdvance, MayAcknowledge, length_with}
 use Rattle.ringcore.specs.memory.Layout.{control_word, flag_word, data_word, cell, words_of}
 use Rattle.ringcore.specs.memory.Flags.{IsFlipMask, IsReadyRun}
-use Rattle.ringcore.specs.memory.Shadow.{Ring, shape, AreAfter}
+use Rattle.ringcore.specs.memory.Shadow.{AreAfter}
 
 -- a fact of every run and all words that stand as after it
 abbrev pub Always : (Ring → Run → List ℕ → Type 0) → Type 0
@@ -24,7 +24,7 @@ Always P = (ring : Ring) (run : Run) (words : List ℕ) → AreAfter ring run wo
 -- no event, and all words 0
 abbrev pub OpensAllZero : Type 0
 OpensAllZero =
-    (ring : Ring) (words : List ℕ) → IsGeometry ring.geometry → length words ≡ words_of ring.geometry ring.senders
+    (ring : Ring) (words : List ℕ) → IsGeometry ring.geometry → ring.flags ≡ 64 → length words ≡ words_of ring.geometry ring.senders
     → ((i : ℕ) → slice_index words i ≡ 0)
     → AreAfter ring [] words
 
@@ -45,7 +45,7 @@ with_reserved control many = record control { prod = index_of control.prod.geome
 abbrev pub WinsByAnExchange : Ring → Run → List ℕ → Type 0
 WinsByAnExchange ring run words =
     (s : ℕ) (body : List Raw) (number : Option ℕ) (before : Control)
-    → MayTry (shape ring) (trail_of (Sender s) run) body (batch_length body number) before
+    → MayTry ring (trail_of (Sender s) run) body (batch_length body number) before
     → IsNextNumber (trail_of (Sender s) run) number
     → slice_index words control_word ≡ packed before
     → AreAfter ring ((Sender s, Won body number) ∷ run) (slice_set words control_word (packed (with_reserved before (batch_length body number))))
@@ -54,7 +54,7 @@ WinsByAnExchange ring run words =
 abbrev pub LosesByAnExchange : Ring → Run → List ℕ → Type 0
 LosesByAnExchange ring run words =
     (s : ℕ) (body : List Raw) (closes : Bool) (before : Control)
-    → MayTry (shape ring) (trail_of (Sender s) run) body (length_with closes body) before
+    → MayTry ring (trail_of (Sender s) run) body (length_with closes body) before
     → slice_index words control_word ≢ packed before
     → AreAfter ring ((Sender s, Lost body closes (control_in ring.geometry (slice_index words control_word))) ∷ run) words
 
@@ -80,7 +80,7 @@ turned words at mask = slice_set words at (bit_xor (slice_index words at) mask)
 abbrev pub FlipsByAnExclusiveOr : Ring → Run → List ℕ → Type 0
 FlipsByAnExclusiveOr ring run words =
     (s offset count mask : ℕ)
-    → MayFlip (shape ring) (trail_of (Sender s) run) ((world run).start s) offset count
+    → MayFlip ring (trail_of (Sender s) run) ((world run).start s) offset count
     → IsFlipMask ring.geometry ((world run).start s + offset) count mask
     → AreAfter ring ((Sender s, Flip offset count) ∷ run) (turned words (flag_word ring.geometry ((world run).start s + offset)) mask)
 

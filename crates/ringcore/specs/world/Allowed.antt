@@ -13,10 +13,11 @@ use Rattle.ringcore.specs.declared.world.event.Event.TheVariants.{Look, Won, Los
 use Rattle.ringcore.specs.world.Trails.{Trail, Run, trail_of, looked, batches_made, numbers_given, batch_length, reserved_length, has_written, has_flipped, IsSettled, found_ready, half_read}
 use Rattle.ringcore.specs.world.World.{Item, World, tail, head, sync_raw, world, control, half_of}
 
--- What a ring is made with: the log2 of its slots, how many batches each sender may reserve, and how many
--- flags stand in one flag word.
-pub record Shape : Type 0 where
+-- What a ring is made with: the log2 of its slots, its senders, how many batches each may reserve, and how many flags
+-- stand in one flag word.
+pub record Ring : Type 0 where
   pub geometry : ℕ
+  pub senders : ℕ
   pub max_batches : ℕ
   pub flags : ℕ
 
@@ -44,7 +45,7 @@ IsNextNumber mine (Some number) = number ≡ suc (numbers_given mine)
 
 -- Of its own trail: what it looked at since its last exchange is open, no reservation of its is open, it has
 -- a batch left, and by that look there is room for as many commands.
-pub record MayTry (ring : Shape) (mine : Trail) (body : List Raw) (many : ℕ) (before : Control) : Type 0 where
+pub record MayTry (ring : Ring) (mine : Trail) (body : List Raw) (many : ℕ) (before : Control) : Type 0 where
   pub looked_at : looked mine ≡ Some before
   pub unclosed : before.closed ≡ false
   pub settled : IsSettled mine
@@ -53,7 +54,7 @@ pub record MayTry (ring : Shape) (mine : Trail) (body : List Raw) (many : ℕ) (
   pub room : distance before.prod before.cons + many ≤ size ring.geometry
 
 -- Won: what it looked at is what a look finds now.
-pub record MayWin (ring : Shape) (w : World) (mine : Trail) (body : List Raw) (number : Option ℕ) : Type 0 where
+pub record MayWin (ring : Ring) (w : World) (mine : Trail) (body : List Raw) (number : Option ℕ) : Type 0 where
   pub looked_at : looked mine ≡ Some (control ring.geometry w)
   pub unclosed : w.closed ≡ false
   pub settled : IsSettled mine
@@ -68,7 +69,7 @@ length_with true body = length body + 1
 length_with false body = length body
 
 -- Lost: a look finds something else now.
-pub record MayLose (ring : Shape) (w : World) (mine : Trail) (body : List Raw) (closes : Bool) (found : Control) : Type 0 where
+pub record MayLose (ring : Ring) (w : World) (mine : Trail) (body : List Raw) (closes : Bool) (found : Control) : Type 0 where
   pub before : Control
   pub tries : MayTry ring mine body (length_with closes body) before
   pub found_is : found ≡ control ring.geometry w
@@ -82,7 +83,7 @@ pub record MayWrite (mine : Trail) (offset : ℕ) : Type 0 where
   pub unflipped : has_flipped offset mine ≡ false
 
 -- 1 to 64 commands of the open reservation that aren't flipped, both halves of each written, their flags in one word.
-pub record MayFlip (ring : Shape) (mine : Trail) (start offset count : ℕ) : Type 0 where
+pub record MayFlip (ring : Ring) (mine : Trail) (start offset count : ℕ) : Type 0 where
   pub many : IsRunLength count
   pub inside : offset + count ≤ reserved_length mine
   pub in_word : ShareAWord ring.flags ring.geometry (start + offset) count
@@ -92,7 +93,7 @@ pub record MayFlip (ring : Shape) (mine : Trail) (start offset count : ℕ) : Ty
 -- ---- test, read and advance
 
 -- A test finds how many positions in a row from the head on are flipped, up to its limit, in one flag word.
-pub record FindsReady (ring : Shape) (w : World) (limit found : ℕ) : Type 0 where
+pub record FindsReady (ring : Ring) (w : World) (limit found : ℕ) : Type 0 where
   pub many : IsRunLength limit
   pub most : found ≤ limit
   pub in_word : ShareAWord ring.flags ring.geometry (head w) found
@@ -130,7 +131,7 @@ pub record MayAcknowledge (w : World) (sender number : ℕ) : Type 0 where
 -- ---- all of them
 
 -- One line for each kind, with the seat whose step it is. An event that isn't named is never allowed.
-abbrev pub Allowed : Shape → World → Trail → Who → Event → Type 0
+abbrev pub Allowed : Ring → World → Trail → Who → Event → Type 0
 Allowed ring w mine who (Look found) = found ≡ control ring.geometry w
 Allowed ring w mine (Sender s) (Won body number) = MayWin ring w mine body number
 Allowed ring w mine (Sender s) (Lost body closes found) = MayLose ring w mine body closes found
@@ -145,6 +146,6 @@ Allowed ring w mine Consumer (Acknowledge sender number) = MayAcknowledge w send
 Allowed ring w mine who e = ⊥
 
 -- A run: each event is allowed after those before it, from the opening world.
-abbrev pub IsRun : Shape → Run → Type 0
+abbrev pub IsRun : Ring → Run → Type 0
 IsRun ring [] = ⊤
 IsRun ring (x ∷ xs) = IsRun ring xs × Allowed ring (world xs) (trail_of x.0 xs) x.0 x.1

@@ -8,19 +8,19 @@ use Rattle.ringcore.specs.declared.world.event.Who.TheVariants.{Consumer, Sender
 use Rattle.ringcore.specs.declared.world.event.Event.TheVariants.{Won, Advance}
 use Rattle.ringcore.specs.world.Trails.{Trail, Run, trail_of}
 use Rattle.ringcore.specs.world.World.{commands, Item, World, items, tail, head, world}
-use Rattle.ringcore.specs.world.Allowed.{Shape, SyncIsTaken, IsRun}
+use Rattle.ringcore.specs.world.Allowed.{Ring, SyncIsTaken, IsRun}
 use Rattle.ringcore.specs.world.Delivery.{Batch, batches, joined}
 
 abbrev pub EveryRun : (Run → Type 0) → Type 0
-EveryRun P = (ring : Shape) (run : Run) → IsRun ring run → P run
+EveryRun P = (ring : Ring) (run : Run) → IsRun ring run → P run
 
 -- The ring is never more than full: H ≤ T ≤ H + N.
-pub record IsWithin (ring : Shape) (w : World) : Type 0 where
+pub record IsWithin (ring : Ring) (w : World) : Type 0 where
   pub behind : head w ≤ tail w
   pub within : tail w ≤ head w + size ring.geometry
 
 abbrev pub NeverMoreThanFull : Type 0
-NeverMoreThanFull = (ring : Shape) (run : Run) → IsRun ring run → IsWithin ring (world run)
+NeverMoreThanFull = (ring : Ring) (run : Run) → IsRun ring run → IsWithin ring (world run)
 
 -- The sync of each number up to the one in a sender's completion cell stands below the head.
 abbrev pub AcknowledgedAreTaken : Run → Type 0
@@ -82,7 +82,7 @@ OnlyOf senders (x ∷ xs) = IsOne senders x.0 × OnlyOf senders xs
 -- No more is reserved than 64 commands for each batch that each sender may make.
 abbrev pub FewAreReserved : Type 0
 FewAreReserved =
-    (ring : Shape) (senders : ℕ) (run : Run) → OnlyOf senders run → IsRun ring run → tail (world run) ≤ 64 * (senders * ring.max_batches)
+    (ring : Ring) (senders : ℕ) (run : Run) → OnlyOf senders run → IsRun ring run → tail (world run) ≤ 64 * (senders * ring.max_batches)
 
 -- whether a command is a closing sync of this sender: a CMD_SYNC that writes into its completion cell
 abbrev pub is_sync_to : ℕ → Raw → Bool
@@ -106,4 +106,4 @@ SyncsAreCounted run =
 -- The number of a closing sync that is taken is one of as many as each sender may make batches.
 abbrev pub NumbersAreFew : Type 0
 NumbersAreFew =
-    (ring : Shape) (run : Run) → IsRun ring run → (s number : ℕ) → SyncIsTaken (world run) s number → number ≤ ring.max_batches
+    (ring : Ring) (run : Run) → IsRun ring run → (s number : ℕ) → SyncIsTaken (world run) s number → number ≤ ring.max_batches

@@ -9,7 +9,7 @@ ghost use Rattle.ringcore.specs.declared.world.event.Half.TheVariants.{Lo, Hi};
 ghost use Rattle.ringcore.specs.declared.world.event.Event.TheVariants.{Test, Read, Advance};
 ghost use Rattle.ringcore.specs.world.Trails.{Run, found_ready, half_read};
 ghost use Rattle.ringcore.specs.world.World.{head, world};
-ghost use Rattle.ringcore.specs.memory.Shadow.{Ring};
+ghost use Rattle.ringcore.specs.world.Allowed.{Ring};
 ghost use Rattle.ringcore.specs.machine.Faults.{advance_fault, tested_offset};
 ghost use Rattle.ringcore.specs.machine.ConsumerViews.{ConsumerKnows, WhereConsumerKnows, both_halves, command_at};
 

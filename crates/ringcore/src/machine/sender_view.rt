@@ -13,7 +13,7 @@ ghost use Rattle.ringcore.specs.declared.world.event.Event.TheVariants.{Look, Wo
 ghost use Rattle.ringcore.specs.world.Trails.{Run, looked, trail_of, reserved_length, has_written, has_flipped};
 ghost use Rattle.ringcore.specs.world.World.{tail, world, commands};
 ghost use Rattle.ringcore.specs.memory.StepLaws.{reserved_commands};
-ghost use Rattle.ringcore.specs.memory.Shadow.{Ring};
+ghost use Rattle.ringcore.specs.world.Allowed.{Ring};
 ghost use Rattle.ringcore.specs.machine.Open.{some_below, all_below, is_open, holds, own_offset};
 ghost use Rattle.ringcore.specs.machine.Faults.{reserve_fault, is_body, has_room};
 ghost use Rattle.ringcore.specs.machine.StepAnswers.{is_same_word, next_number};

@@ -5,7 +5,6 @@ use Rattle.ringcore.specs.declared.world.event.Who.TheVariants.{Sender}
 use Rattle.ringcore.specs.declared.machine.step.Step.TheVariants.{Reserve}
 use Rattle.ringcore.specs.world.Trails.{Run, trail_of}
 use Rattle.ringcore.specs.world.World.{world, control}
-use Rattle.ringcore.specs.memory.Shadow.{shape}
 use Rattle.ringcore.specs.machine.Faults.{reserve_fault, fault_of}
 use Rattle.ringcore.specs.machine.Core.{CoreValue, core_of, ring_of, StandsAfter, IsRefused, HasNoFault, FindsControl}
 use Rattle.ringcore.proofs.WorldLemmas.LookedControls.{looked_is_control}
@@ -23,7 +22,7 @@ reserve_fault-requires c = λ found is_looked.
     let at = slice_get_read core.senders core.words.senders s view (sym views) low c.index-view.ensures in
     let looked_is = (is.stands.senders_know s view at).looked_is in
     subst (λ g. IsControl g found) (sym c.geometry-geometry.ensures)
-    (looked_is_control c.indexes_tell_the_queue.ensures.control (shape (ring_of core)) is.stands.words_are.geometry_is is.run is.stands.words_are.run_is (Sender s) found (sym looked_is ∙ is_looked))
+    (looked_is_control c.indexes_tell_the_queue.ensures.control (ring_of core) is.stands.words_are.geometry_is is.run is.stands.words_are.run_is (Sender s) found (sym looked_is ∙ is_looked))
 
 pub returns-in-Some : goal.returns-in-Some
 returns-in-Some c =
