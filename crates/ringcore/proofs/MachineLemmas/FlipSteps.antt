@@ -1,5 +1,5 @@
 -- How a flip is judged, and what it makes of a machine.
-use Rattle.std.proofs.Common.{◌≡◌, ℕ, ◌+◌, ◌*◌, ◌%◌, ◌^◌, ◌<◌, ◌≤◌, Bool, true, false, Option, Some, None, ◌∷◌, ◌&&◌, length-set, refl, sym, ap, ap₂, ◌∙◌, subst, arith}
+use Rattle.std.proofs.Common.{◌≡◌, ℕ, ◌+◌, ◌*◌, ◌%◌, ◌^◌, ◌<◌, ◌≤◌, Bool, true, Option, Some, None, ◌∷◌, ◌&&◌, length-set, refl, sym, ap, ap₂, ◌∙◌, subst, arith}
 use Rattle.std.proofs.lemmas.Bool.{lt-ltb, le-ltb}
 use Rattle.std.specs.Prelude.{slice_get, slice_set, if◌then◌else◌}
 use Rattle.qindex.specs.Positions.{IndexValue, size, place, index_of}
@@ -16,7 +16,7 @@ use Rattle.ringcore.specs.declared.machine.step_fault.StepFault.TheVariants.{Fli
 use Rattle.ringcore.specs.world.Trails.{Trail, Run, trail_of, reserved_length, has_written, has_flipped}
 use Rattle.ringcore.specs.world.World.{world}
 use Rattle.ringcore.specs.world.Allowed.{Ring, MayFlip, IsRun}
-use Rattle.ringcore.specs.memory.Layout.{first_flag_word, flag_word}
+use Rattle.ringcore.specs.memory.Layout.{flag_word}
 use Rattle.ringcore.specs.world.Allowed.{ShareAWord}
 use Rattle.ringcore.specs.memory.Flags.{IsFlipMask}
 use Rattle.ringcore.specs.memory.Shadow.{AreAfter}
@@ -29,7 +29,6 @@ use Rattle.ringcore.specs.machine.StepAnswers.{offset_or_0, event_of, new_flags,
 use Rattle.ringcore.specs.machine.Played.{StepsAreAllowed}
 use Rattle.ringcore.specs.machine.Core.{CoreValue, ring_with, ring_of, StandsAfter, IsMachine, HasNoFault, IsTaken}
 use Rattle.ringcore.proofs.MemoryLemmas.FlagPlaces.{index_of_number, alike_shares}
-use Rattle.ringcore.proofs.MemoryLemmas.DataWords.{open_slot}
 use Rattle.ringcore.proofs.WorldLemmas.Sound.{sound}
 use Rattle.ringcore.proofs.MachineLemmas.Standing.{all_know, sender_stands, stays_machine, few_reserved}
 

@@ -63,7 +63,8 @@ module _ (may : StepsAreAllowed) (old : CoreValue) (s : ℕ) (low : s < old.word
       let e : Event = event.Lost body.items closes found in
       let is = reserve_event may old s body closes found false accepted run stands in
       let are : AreAfter (ring_of old) ((Sender s, e) ∷ run) old.words.words = record {
-        geometry_is = stands.words_are.geometry_is; flags_are = stands.words_are.flags_are;
+        geometry_is = stands.words_are.geometry_is;
+        flags_are = stands.words_are.flags_are;
         run_is = reserve_run may old s body closes found false accepted run e stands is;
         shadow = stands.words_are.shadow;
       } in

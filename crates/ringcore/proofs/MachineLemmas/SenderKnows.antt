@@ -12,12 +12,12 @@ use Rattle.ringcore.specs.declared.world.event.Half.TheVariants.{Lo, Hi}
 use Rattle.ringcore.specs.declared.world.event.Event.{Event}
 use Rattle.ringcore.specs.declared.world.event.Event.TheVariants.{Look, Won, Lost, Write, Flip, Test, Read, Advance, Close, Acknowledge, Ask}
 use Rattle.ringcore.specs.declared.machine.sender_view.Progress.{Progress}
-use Rattle.ringcore.specs.world.Trails.{Trail, Run, same_half, trail_of, numbers_given, reserved_length, is_among, has_written, has_flipped}
+use Rattle.ringcore.specs.world.Trails.{Trail, Run, same_half, trail_of, numbers_given, reserved_length, has_written, has_flipped}
 use Rattle.ringcore.specs.world.World.{tail, world, commands}
 use Rattle.ringcore.specs.memory.StepLaws.{reserved_commands}
 use Rattle.ringcore.specs.machine.Open.{some_below, all_below, is_open}
 use Rattle.ringcore.specs.machine.StepAnswers.{next_number}
-use Rattle.ringcore.specs.machine.SenderViews.{SenderValue, KnowsTrail, Knows, untouched, is_written, progress_at, flipped_by, AreFlipped, OthersLeaveIt, CloseLeavesIt, AskLeavesIt}
+use Rattle.ringcore.specs.machine.SenderViews.{SenderValue, KnowsTrail, Knows, untouched, is_written, progress_at, OthersLeaveIt, CloseLeavesIt, AskLeavesIt}
 use Rattle.ringcore.proofs.WorldLemmas.Sound.{length_commands}
 use Rattle.ringcore.proofs.MachineLemmas.SomeAndAllBelow.{any_is, all_is}
 

@@ -1,7 +1,7 @@
 -- The steps of the consumer: a machine that took one stands for the longer run.
-use Rattle.std.proofs.Common.{◌≡◌, ℕ, zero, suc, ◌+◌, ◌<◌, ◌≤◌, Bool, true, false, ◌==◌, ◌&&◌, ◌||◌, List, ◌∷◌, Option, Some, None, refl, sym, ap, ap₂, ◌∙◌, subst, inl, inr, eq-eqb, arith}
+use Rattle.std.proofs.Common.{◌≡◌, ℕ, suc, ◌+◌, ◌<◌, ◌≤◌, Bool, true, false, ◌==◌, ◌&&◌, List, ◌∷◌, Option, Some, None, refl, sym, ap, ap₂, ◌∙◌, subst, inl, inr, eq-eqb, arith}
 use Rattle.ringcore.proofs.MachineLemmas.SomeAndAllBelow.{some_there}
-use Rattle.std.proofs.lemmas.Bool.{cases_lt, cases_eq, lt-ltb}
+use Rattle.std.proofs.lemmas.Bool.{cases_lt, lt-ltb}
 use Rattle.std.specs.Prelude.{slice_get, slice_index, nat_lt, if◌then◌else◌}
 use Rattle.cmdcodec.specs.Opcodes.{opcode_of}
 use Rattle.ringcore.specs.declared.world.event.Who.TheVariants.{Consumer}
@@ -22,7 +22,6 @@ use Rattle.ringcore.specs.memory.StepLaws.{Always, TestsByALoad, AcknowledgesByA
 use Rattle.ringcore.specs.memory.WordStores.{WordsValue, with_word}
 use Rattle.ringcore.specs.machine.ConsumerViews.{ConsumerValue, ConsumerKnows}
 use Rattle.ringcore.specs.machine.SyncTallies.{AreTallies}
-use Rattle.ringcore.specs.machine.Open.{some_below}
 use Rattle.ringcore.specs.machine.Faults.{unless_missing, sync_is_taken, has_number, is_sync_of, acknowledge_fault, fault_of}
 use Rattle.ringcore.specs.machine.StepAnswers.{ready_count}
 use Rattle.ringcore.specs.machine.Played.{StepsAreAllowed}

@@ -99,7 +99,8 @@ module _ (ring : Ring) (run : Run) (words : List ℕ) (is : AreAfter ring run wo
       ap (λ (c : Control). packed (with_reserved c k)) before_is
       ∙ ap (λ (n : ℕ). let c : Control = record { prod = record { geometry = g; number = n }; cons = index_of g (head w); closed = w.closed } in packed c) prod in
       record {
-        geometry_is = is.geometry_is; flags_are = is.flags_are;
+        geometry_is = is.geometry_is;
+        flags_are = is.flags_are;
         run_is = (is.run_is, may);
         shadow = record {
           many = length-set words control_word x ∙ is.shadow.many;
@@ -133,7 +134,8 @@ module _ (ring : Ring) (run : Run) (words : List ℕ) (is : AreAfter ring run wo
       let word_is : x ≡ packed (closed (control g w)) =
       ap (λ (y : ℕ). bit_or y close_mask) is.shadow.control_is ∙ closes g (control g w) (is_control queue ring is.geometry_is run is.run_is) in
       record {
-        geometry_is = is.geometry_is; flags_are = is.flags_are;
+        geometry_is = is.geometry_is;
+        flags_are = is.flags_are;
         run_is = (is.run_is, tt);
         shadow = record {
           many = length-set words control_word x ∙ is.shadow.many;
@@ -149,7 +151,8 @@ module _ (ring : Ring) (run : Run) (words : List ℕ) (is : AreAfter ring run wo
 
   pub acknowledge : (s number : ℕ) → MayAcknowledge w s number → AreAfter ring ((Consumer, Acknowledge s number) ∷ run) (slice_set words (cell g s) number)
   acknowledge s number a = record {
-    geometry_is = is.geometry_is; flags_are = is.flags_are;
+    geometry_is = is.geometry_is;
+    flags_are = is.flags_are;
     run_is = (is.run_is, a);
     shadow = record {
       many = length-set words (cell g s) number ∙ is.shadow.many;

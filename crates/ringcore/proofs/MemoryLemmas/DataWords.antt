@@ -89,7 +89,8 @@ module _ (ring : Ring) (run : Run) (words : List ℕ) (is : AreAfter ring run wo
       let here = open_slot s k a.inside a.unflipped in
       let each = i.each_within s in let inside = a.inside in
       record {
-        geometry_is = is.geometry_is; flags_are = is.flags_are;
+        geometry_is = is.geometry_is;
+        flags_are = is.flags_are;
         run_is = (is.run_is, a);
         shadow = record {
           many = length-set words at x ∙ is.shadow.many;

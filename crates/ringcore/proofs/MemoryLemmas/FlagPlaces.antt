@@ -1,13 +1,12 @@
 -- Where the flags of positions in a row stand, and that an index tells it as well as its position.
 use Rattle.std.proofs.Common.{◌≡◌, ◌⊎◌, ℕ, suc, ◌+◌, ◌-◌, ◌*◌, ◌/◌, ◌%◌, ◌^◌, ◌<◌, ◌≤◌, inl, inr, sym, ap, ◌∙◌, subst, add-zero, arith, div-add-mod'}
 use Rattle.std.proofs.lemmas.Bool.{cases_lt}
-use Rattle.std.proofs.lemmas.Nat.{pow_pos, pow-add, mod-mul-add, div-mul-add}
+use Rattle.std.proofs.lemmas.Nat.{pow-add, mod-mul-add, div-mul-add}
 use Rattle.std.proofs.Math.Nat.{mod-mod}
 use Rattle.std.proofs.Math.Pow.{pow_mono}
 use Rattle.std.specs.Int.{bit_at}
 use Rattle.qindex.specs.Positions.{IndexValue, size, place, lap, index_of}
 use Rattle.qindex.specs.Laws.{IndexesTellPlaceAndWrapBit}
-use Rattle.ringcore.specs.memory.Layout.{flag_word}
 use Rattle.ringcore.specs.world.Allowed.{ShareAWord}
 use Rattle.ringcore.specs.memory.Flags.{flag_bit, polarity, IsFlagOf, IsFlipMask, IsReadyRun}
 use Rattle.ringcore.proofs.MemoryLemmas.Places.{place-lt}

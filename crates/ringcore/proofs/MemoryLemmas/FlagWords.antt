@@ -149,7 +149,8 @@ module _ (ring : Ring) (run : Run) (words : List ℕ) (is : AreAfter ring run wo
 
     pub flip : AreAfter ring ((Sender s, Flip offset count) ∷ run) (turned words at mask)
     flip = record {
-      geometry_is = is.geometry_is; flags_are = is.flags_are;
+      geometry_is = is.geometry_is;
+      flags_are = is.flags_are;
       run_is = (is.run_is, a);
       shadow = record {
         many = length-set words at y ∙ is.shadow.many;
@@ -214,7 +215,8 @@ module _ (ring : Ring) (run : Run) (words : List ℕ) (is : AreAfter ring run wo
   pub advance : QueuesHaveAControl → IndexesArePlaceAndWrapBit → WrapBitsTurnByLap → XorAdvances → (raws : List Raw) → MayAdvance (trail_of Consumer run) raws
       → AreAfter ring ((Consumer, Advance raws) ∷ run) (turned words control_word (advance_mask (index_of g (head w)) (index_of g (head w + length raws))))
   advance queue indexes laps advances raws a = record {
-    geometry_is = is.geometry_is; flags_are = is.flags_are;
+    geometry_is = is.geometry_is;
+    flags_are = is.flags_are;
     run_is = longer;
     shadow = record {
       many = length-set words control_word x ∙ is.shadow.many;

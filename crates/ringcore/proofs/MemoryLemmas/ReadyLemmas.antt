@@ -8,7 +8,7 @@ use Rattle.std.specs.Int.{bit_at, trailing_ones, bit_not}
 use Rattle.std.specs.Int.Count.{trailing_of_zero, count_trailing_zeros}
 use mathlib.Core.Logic.{dite}
 use native.Mathlib.Decide.{dec_lt}
-use Rattle.qindex.specs.Positions.{size, place, lap}
+use Rattle.qindex.specs.Positions.{size, place}
 use Rattle.qindex.specs.ControlWord.{bit as bit_of}
 use Rattle.ringcore.specs.world.Allowed.{ShareAWord}
 use Rattle.ringcore.specs.memory.Flags.{flag_bit, polarity, IsReadyRun}

@@ -198,7 +198,6 @@ kind_is s item all = elim (cases_eq (opcode_of item.raw) 0x46) [
     and_true true = refl
     and_true false = refl
 
-
 as_many : (s : ℕ) (xs : List Item) → AllSyncs xs → length (sync_numbers s xs) ≡ syncs_in s (raws_of xs)
 as_many s [] all = refl
 as_many s (x ∷ xs) all = by_kind (as_many s xs (λ p item at sync. all (suc p) item at sync)) (s == x.sender && opcode_of x.raw == 0x46) refl

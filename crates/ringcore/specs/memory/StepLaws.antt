@@ -1,16 +1,16 @@
 -- Each kind of atomic step: the one operation on one word that does it. Where the words stand as after a run, and
 -- the event is the seat's to take, they stand after the operation as after the run with that event.
-use Rattle.std.specs.Prelude.{◌≡◌, ◌≢◌, ℕ, ◌+◌, ◌<◌, ◌≤◌, Bool, List, [], ◌∷◌, length, Option, Some, None, slice_get, slice_index, slice_set, bit_or, bit_xor}
+use Rattle.std.specs.Prelude.{◌≡◌, ◌≢◌, ℕ, ◌+◌, ◌<◌, ◌≤◌, Bool, List, [], ◌∷◌, length, Option, Some, slice_get, slice_index, slice_set, bit_or, bit_xor}
 use Rattle.cmdcodec.specs.declared.raw.Raw.{Raw}
 use Rattle.qindex.specs.declared.control.Control.{Control}
-use Rattle.qindex.specs.Positions.{IndexValue, index_of}
+use Rattle.qindex.specs.Positions.{index_of}
 use Rattle.qindex.specs.Indexes.{IsGeometry}
 use Rattle.qindex.specs.ControlWord.{IsControlWord, packed, control_in, advance_mask, close_mask}
 use Rattle.ringcore.specs.declared.world.event.Who.{Who}
 use Rattle.ringcore.specs.declared.world.event.Who.TheVariants.{Consumer, Sender}
 use Rattle.ringcore.specs.declared.world.event.Half.{Half}
 use Rattle.ringcore.specs.declared.world.event.Event.TheVariants.{Look, Won, Lost, Write, Flip, Test, Read, Advance, Close, Acknowledge, Ask}
-use Rattle.ringcore.specs.world.Trails.{Trail, Run, trail_of, looked, batch_length, found_ready, start_index}
+use Rattle.ringcore.specs.world.Trails.{Trail, Run, trail_of, batch_length, found_ready, start_index}
 use Rattle.ringcore.specs.world.World.{head, world, commands, half_of}
 use Rattle.ringcore.specs.world.Allowed.{Ring, MayTry, IsNextNumber, MayWrite, MayFlip, IsRunLength, MayAdvance, MayAcknowledge, length_with}
 use Rattle.ringcore.specs.memory.Layout.{control_word, flag_word, data_word, cell, words_of}
