@@ -1,24 +1,24 @@
 use Rattle.std.proofs.Common.{◌≡◌, None, sym, subst, ◌∙◌}
-use Rattle.ringcore.specs.declared.step.Step.TheVariants.{Acknowledge}
-use Rattle.ringcore.specs.declared.step.Seen.TheVariants.{Acknowledged}
-use Rattle.ringcore.specs.Faults.{fault_of}
-use Rattle.ringcore.specs.Machine.{CoreValue, ring_of, WhereItStands, IsTaken}
-use Rattle.ringcore.proofs.TakenSteps.{done_machine, done_taken}
+use Rattle.ringcore.specs.declared.machine.step.Step.TheVariants.{Acknowledge}
+use Rattle.ringcore.specs.declared.machine.step.Seen.TheVariants.{Acknowledged}
+use Rattle.ringcore.specs.machine.Faults.{fault_of}
+use Rattle.ringcore.specs.machine.Core.{CoreValue, core_of, ring_of, AfterEachRun, IsTaken}
+use Rattle.ringcore.proofs.MachineLemmas.TakenSteps.{done_machine, done_taken}
 use Rattle.ringcore.proofs.machine.Core.acknowledge.Goals as goal
 
 pub invariant_of-self : goal.invariant_of-self
 invariant_of-self c =
-    let core : CoreValue = record { words = c.self.inside.words; senders = c.self.inside.senders.items; consumer = c.self.inside.consumer; tallies = c.self.inside.tallies } in
-    let no_fault : WhereItStands core (λ run. None ≡ fault_of (ring_of core) run (Acknowledge c.args.sender c.args.number)) =
-    subst (λ (m : CoreValue). WhereItStands m (λ run. None ≡ fault_of (ring_of m) run (Acknowledge c.args.sender c.args.number))) (sym c.self.view_is)
+    let core = core_of c.self.inside in
+    let no_fault : AfterEachRun core (λ run. None ≡ fault_of (ring_of core) run (Acknowledge c.args.sender c.args.number)) =
+    subst (λ (m : CoreValue). AfterEachRun m (λ run. None ≡ fault_of (ring_of m) run (Acknowledge c.args.sender c.args.number))) (sym c.self.view_is)
     (λ run stands. sym c.in_default.is ∙ c.acknowledge_fault.ensures run stands) in
     done_machine c.acknowledge.ensures c.steps_law.ensures.allowed core c.acknowledge-2.new.self c.args.sender c.args.number c.acknowledge-2.ensures no_fault c.self.invariant
 
 pub returns : goal.returns
 returns c =
-    let core : CoreValue = record { words = c.self.inside.words; senders = c.self.inside.senders.items; consumer = c.self.inside.consumer; tallies = c.self.inside.tallies } in
-    let no_fault : WhereItStands core (λ run. None ≡ fault_of (ring_of core) run (Acknowledge c.args.sender c.args.number)) =
-    subst (λ (m : CoreValue). WhereItStands m (λ run. None ≡ fault_of (ring_of m) run (Acknowledge c.args.sender c.args.number))) (sym c.self.view_is)
+    let core = core_of c.self.inside in
+    let no_fault : AfterEachRun core (λ run. None ≡ fault_of (ring_of core) run (Acknowledge c.args.sender c.args.number)) =
+    subst (λ (m : CoreValue). AfterEachRun m (λ run. None ≡ fault_of (ring_of m) run (Acknowledge c.args.sender c.args.number))) (sym c.self.view_is)
     (λ run stands. sym c.in_default.is ∙ c.acknowledge_fault.ensures run stands) in
     let new : CoreValue = record core { words = c.acknowledge-2.new.self } in
     subst (λ (old : CoreValue). IsTaken old new (Acknowledge c.args.sender c.args.number) Acknowledged × (ring_of new ≡ ring_of old)) c.self.view_is

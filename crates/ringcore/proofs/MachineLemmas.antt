@@ -1,0 +1,17 @@
+pub mod FaultlessIsAllowed
+pub mod ConsumerKnows
+pub mod Tallies
+pub mod SomeAndAllBelow
+pub mod SlotsAhead
+pub mod MarkedFlipped
+pub mod SenderKnows
+pub mod Standing
+pub mod SenderSteps
+pub mod HeldPlaces
+pub mod WriteSteps
+pub mod FlipSteps
+pub mod ReserveSteps
+pub mod PlayedSteps
+pub mod TakenSteps
+pub mod ReadSteps
+pub mod AdvanceSteps
