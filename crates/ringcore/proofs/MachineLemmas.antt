@@ -6,6 +6,7 @@ pub mod SlotsAhead
 pub mod MarkedFlipped
 pub mod SenderKnows
 pub mod Standing
+pub mod Inside
 pub mod SenderSteps
 pub mod HeldPlaces
 pub mod WriteSteps

@@ -211,10 +211,3 @@ module _ (may : StepsAreAllowed) (old : CoreValue) (s : ℕ) (body : ArrayVec Ra
 pub counted_with : (closes : Bool) (body : List Raw) (l m : ℕ) → l ≡ length body → m ≡ from_bool closes → l + m ≡ length_with closes body
 counted_with true body l m l_is m_is = ap₂ (λ a b. a + b) l_is m_is
 counted_with false body l m l_is m_is = let none : m ≡ 0 = m_is in omega (arith, l_is, none)
-
--- Where the machine is seen from inside, the same is accepted.
-pub accepted_inside : (inside outside : CoreValue) → inside ≡ outside → (s : ℕ) (body : ArrayVec Raw) (closes : Bool) (found : Control) (same : Bool)
-    → HasNoFault outside (Reserve s body closes) (λ run. FindsControl outside run s found same)
-    → HasNoFault inside (Reserve s body closes) (λ run. FindsControl inside run s found same)
-accepted_inside inside outside is s body closes found same =
-    subst (λ m. HasNoFault m (Reserve s body closes) (λ run. FindsControl m run s found same)) (sym is)

@@ -8,15 +8,8 @@ use Rattle.ringcore.specs.machine.StepAnswers.{new_flags}
 use Rattle.ringcore.specs.machine.Open.{own_offset}
 use Rattle.ringcore.specs.machine.Core.{CoreValue, core_of, ring_of, IsTakenOrRefused, HasNoFault}
 use Rattle.ringcore.proofs.MachineLemmas.FlipSteps.{flip_fits, flip_shares, flipped_machine, flip_taken}
+use Rattle.ringcore.proofs.MachineLemmas.Inside.{there_inside, accepted_inside}
 use Rattle.ringcore.proofs.machine.Core.flip.Goals as goal
-
-module _ (inside outside : CoreValue) (is : inside ≡ outside) (s : ℕ) where
-  at_inside : (slot count k : ℕ) → HasNoFault outside (Flip s slot count) (λ run. own_offset (ring_of outside) run s slot ≡ Some k)
-      → HasNoFault inside (Flip s slot count) (λ run. own_offset (ring_of inside) run s slot ≡ Some k)
-  at_inside slot count k = subst (λ m. HasNoFault m (Flip s slot count) (λ run. own_offset (ring_of m) run s slot ≡ Some k)) (sym is)
-
-  there_inside : s < outside.words.senders → s < inside.words.senders
-  there_inside = subst (λ (m : CoreValue). s < m.words.senders) (sym is)
 
 pub overflow_add-first : goal.overflow_add-first
 overflow_add-first c =
@@ -27,7 +20,7 @@ overflow_add-first c =
     let k = c.in_ok-offset.offset in
     let is = c.self.invariant in
     let low = there_inside core c.args.self.now c.self.view_is s c.in_ok-offset.ensures.there in
-    let accepted = at_inside core c.args.self.now c.self.view_is s slot count k c.in_ok-offset.ensures.accepted in
+    let accepted = accepted_inside core c.args.self.now c.self.view_is (Flip s slot count) (λ m run. own_offset (ring_of m) run s slot ≡ Some k) c.in_ok-offset.ensures.accepted in
     let before = c.index_mut-view.result.now in
     let at = slice_get_read core.senders core.words.senders s before (sym is.views) low c.index_mut-view.ensures.value in
     let fits = flip_fits c.steps_law.ensures.allowed core s slot count k accepted before at c.start.result c.start.ensures is is.run is.stands in
@@ -42,7 +35,7 @@ flip-requires-2-clause-word c =
     let k = c.in_ok-offset.offset in
     let is = c.self.invariant in
     let low = there_inside core c.args.self.now c.self.view_is s c.in_ok-offset.ensures.there in
-    let accepted = at_inside core c.args.self.now c.self.view_is s slot count k c.in_ok-offset.ensures.accepted in
+    let accepted = accepted_inside core c.args.self.now c.self.view_is (Flip s slot count) (λ m run. own_offset (ring_of m) run s slot ≡ Some k) c.in_ok-offset.ensures.accepted in
     let before = c.index_mut-view.result.now in
     let at = slice_get_read core.senders core.words.senders s before (sym is.views) low c.index_mut-view.ensures.value in
     let first : c.start.result + c.from.result ≡ c.start.result + k = ap (λ n. c.start.result + n) c.from.ensures in
@@ -59,7 +52,7 @@ new_flags-requires-clause-within c =
     let k = c.in_ok-offset.offset in
     let is = c.self.invariant in
     let low = there_inside core c.args.self.now c.self.view_is s c.in_ok-offset.ensures.there in
-    let accepted = at_inside core c.args.self.now c.self.view_is s slot count k c.in_ok-offset.ensures.accepted in
+    let accepted = accepted_inside core c.args.self.now c.self.view_is (Flip s slot count) (λ m run. own_offset (ring_of m) run s slot ≡ Some k) c.in_ok-offset.ensures.accepted in
     let before = c.index_mut-view.result.now in
     let at = slice_get_read core.senders core.words.senders s before (sym is.views) low c.index_mut-view.ensures.value in
     let fits = flip_fits c.steps_law.ensures.allowed core s slot count k accepted before at c.start.result c.start.ensures is is.run is.stands in
@@ -74,7 +67,7 @@ invariant_of-self c =
     let k = c.in_ok-offset.offset in
     let is = c.self.invariant in
     let low = there_inside core c.args.self.now c.self.view_is s c.in_ok-offset.ensures.there in
-    let accepted = at_inside core c.args.self.now c.self.view_is s slot count k c.in_ok-offset.ensures.accepted in
+    let accepted = accepted_inside core c.args.self.now c.self.view_is (Flip s slot count) (λ m run. own_offset (ring_of m) run s slot ≡ Some k) c.in_ok-offset.ensures.accepted in
     let before = c.index_mut-view.result.now in
     let at = slice_get_read core.senders core.words.senders s before (sym is.views) low c.index_mut-view.ensures.value in
     let first : c.start.result + c.from.result ≡ c.start.result + k = ap (λ n. c.start.result + n) c.from.ensures in
@@ -91,7 +84,7 @@ returns c =
     let k = c.in_ok-offset.offset in
     let is = c.self.invariant in
     let low = there_inside core c.args.self.now c.self.view_is s c.in_ok-offset.ensures.there in
-    let accepted = at_inside core c.args.self.now c.self.view_is s slot count k c.in_ok-offset.ensures.accepted in
+    let accepted = accepted_inside core c.args.self.now c.self.view_is (Flip s slot count) (λ m run. own_offset (ring_of m) run s slot ≡ Some k) c.in_ok-offset.ensures.accepted in
     let before = c.index_mut-view.result.now in
     let at = slice_get_read core.senders core.words.senders s before (sym is.views) low c.index_mut-view.ensures.value in
     let first : c.start.result + c.from.result ≡ c.start.result + k = ap (λ n. c.start.result + n) c.from.ensures in

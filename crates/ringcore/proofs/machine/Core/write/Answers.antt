@@ -9,15 +9,8 @@ use Rattle.ringcore.specs.memory.WordStores.{with_word}
 use Rattle.ringcore.specs.machine.Open.{own_offset}
 use Rattle.ringcore.specs.machine.Core.{CoreValue, core_of, ring_of, IsTakenOrRefused, HasNoFault}
 use Rattle.ringcore.proofs.MachineLemmas.WriteSteps.{write_inside, write_fits, wrote_machine, write_taken}
+use Rattle.ringcore.proofs.MachineLemmas.Inside.{there_inside, accepted_inside}
 use Rattle.ringcore.proofs.machine.Core.write.Goals as goal
-
-module _ (inside outside : CoreValue) (is : inside ≡ outside) (s slot half k : ℕ) where
-  at_inside : HasNoFault outside (Write s slot half) (λ run. own_offset (ring_of outside) run s slot ≡ Some k)
-      → HasNoFault inside (Write s slot half) (λ run. own_offset (ring_of inside) run s slot ≡ Some k)
-  at_inside = subst (λ m. HasNoFault m (Write s slot half) (λ run. own_offset (ring_of m) run s slot ≡ Some k)) (sym is)
-
-  there_inside : s < outside.words.senders → s < inside.words.senders
-  there_inside = subst (λ (m : CoreValue). s < m.words.senders) (sym is)
 
 pub command-requires : goal.command-requires
 command-requires c =
@@ -25,8 +18,8 @@ command-requires c =
     let s = c.args.sender in
     let k = c.in_ok-offset.offset in
     let is = c.self.invariant in
-    let low = there_inside core c.args.self.now c.self.view_is s c.args.slot c.args.half k c.in_ok-offset.ensures.there in
-    let accepted = at_inside core c.args.self.now c.self.view_is s c.args.slot c.args.half k c.in_ok-offset.ensures.accepted in
+    let low = there_inside core c.args.self.now c.self.view_is s c.in_ok-offset.ensures.there in
+    let accepted = accepted_inside core c.args.self.now c.self.view_is (Write s c.args.slot c.args.half) (λ m run. own_offset (ring_of m) run s c.args.slot ≡ Some k) c.in_ok-offset.ensures.accepted in
     let before = c.index_mut-view.result.now in
     let at = slice_get_read core.senders core.words.senders s before (sym is.views) low c.index_mut-view.ensures.value in
     write_inside c.steps_law.ensures.allowed core s c.args.slot c.args.half k c.half_of_number-half.result c.half_of_number-half.ensures accepted before at is.run is.stands
@@ -37,8 +30,8 @@ overflow_add-start c =
     let s = c.args.sender in
     let k = c.in_ok-offset.offset in
     let is = c.self.invariant in
-    let low = there_inside core c.args.self.now c.self.view_is s c.args.slot c.args.half k c.in_ok-offset.ensures.there in
-    let accepted = at_inside core c.args.self.now c.self.view_is s c.args.slot c.args.half k c.in_ok-offset.ensures.accepted in
+    let low = there_inside core c.args.self.now c.self.view_is s c.in_ok-offset.ensures.there in
+    let accepted = accepted_inside core c.args.self.now c.self.view_is (Write s c.args.slot c.args.half) (λ m run. own_offset (ring_of m) run s c.args.slot ≡ Some k) c.in_ok-offset.ensures.accepted in
     let before = c.index_mut-view.result.now in
     let at = slice_get_read core.senders core.words.senders s before (sym is.views) low c.index_mut-view.ensures.value in
     let fits = write_fits c.steps_law.ensures.allowed core s c.args.slot c.args.half k c.half_of_number-half.result c.half_of_number-half.ensures accepted before at c.start.result c.start.ensures is is.run is.stands in
@@ -53,8 +46,8 @@ invariant_of-self c =
     let s = c.args.sender in
     let k = c.in_ok-offset.offset in
     let is = c.self.invariant in
-    let low = there_inside core c.args.self.now c.self.view_is s c.args.slot c.args.half k c.in_ok-offset.ensures.there in
-    let accepted = at_inside core c.args.self.now c.self.view_is s c.args.slot c.args.half k c.in_ok-offset.ensures.accepted in
+    let low = there_inside core c.args.self.now c.self.view_is s c.in_ok-offset.ensures.there in
+    let accepted = accepted_inside core c.args.self.now c.self.view_is (Write s c.args.slot c.args.half) (λ m run. own_offset (ring_of m) run s c.args.slot ≡ Some k) c.in_ok-offset.ensures.accepted in
     let before = c.index_mut-view.result.now in
     let at = slice_get_read core.senders core.words.senders s before (sym is.views) low c.index_mut-view.ensures.value in
     let index_is = c.index_of-index.ensures ∙ ap₂ index_of c.geometry.ensures (ap (λ n. c.start.result + n) c.from.ensures) in
@@ -69,8 +62,8 @@ returns c =
     let s = c.args.sender in
     let k = c.in_ok-offset.offset in
     let is = c.self.invariant in
-    let low = there_inside core c.args.self.now c.self.view_is s c.args.slot c.args.half k c.in_ok-offset.ensures.there in
-    let accepted = at_inside core c.args.self.now c.self.view_is s c.args.slot c.args.half k c.in_ok-offset.ensures.accepted in
+    let low = there_inside core c.args.self.now c.self.view_is s c.in_ok-offset.ensures.there in
+    let accepted = accepted_inside core c.args.self.now c.self.view_is (Write s c.args.slot c.args.half) (λ m run. own_offset (ring_of m) run s c.args.slot ≡ Some k) c.in_ok-offset.ensures.accepted in
     let before = c.index_mut-view.result.now in
     let at = slice_get_read core.senders core.words.senders s before (sym is.views) low c.index_mut-view.ensures.value in
     let index_is = c.index_of-index.ensures ∙ ap₂ index_of c.geometry.ensures (ap (λ n. c.start.result + n) c.from.ensures) in
