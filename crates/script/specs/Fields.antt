@@ -1,5 +1,6 @@
 -- What the words of a line say, one after another.
 use Rattle.std.specs.Prelude.{ℕ, nat_lt, nat_le, List, [], ◌∷◌, ◌==◌, ◌&&◌, Bool, true, false, Option, Some, None, Result, Ok, Err, if◌then◌else◌}
+use Rattle.std.specs.Str.{bytes_eq}
 use Rattle.hex.specs.Hex.{decode_sized}
 use Rattle.hex.specs.declared.error.FromHexError.{FromHexError}
 use Rattle.cmdcodec.specs.declared.raw.Raw.{Raw}
@@ -20,6 +21,13 @@ next_below limit [] = None
 next_below limit (word ∷ words) = do
   number ← number_of word
   guard (nat_lt number limit) (number, words)
+
+-- none where the next word is this one, else the number below the limit that it says, and the words after it
+unfoldable pub next_below_or : List ℕ → ℕ → List (List ℕ) → Option (Option ℕ × List (List ℕ))
+next_below_or mark limit [] = None
+next_below_or mark limit (word ∷ words) =
+    if bytes_eq word mark then Some (None, words)
+    else (next_below limit (word ∷ words) >>= λ found. Some (Some found.0, found.1))
 
 -- no word is left
 abbrev pub is_end : List (List ℕ) → Bool

@@ -2,7 +2,7 @@
 ghost use Rattle.std.specs.Prelude.{◌≡◌, ◌^◌, option_map};
 ghost use Rattle.std.specs.List.{list_all};
 ghost use Rattle.script.specs.Words.{words_of};
-ghost use Rattle.script.specs.Fields.{next_below, is_end, hex_of, is_comment, is_printable};
+ghost use Rattle.script.specs.Fields.{next_below, next_below_or, is_end, hex_of, is_comment, is_printable};
 
 use crate::words::{next_word, number};
 use cmdcodec::{Raw, from_bytes};
@@ -26,6 +26,46 @@ pub fn next_u32(text: &[u8]) -> Option<(u32, &[u8])>
     let (word, rest) = next_word(text)?;
     let number = u32::try_from(number(word)?).ok()?;
     Some((number, rest))
+}
+
+/// The number below 2^8 that the next word says, and the rest of the text after it. None where no word
+/// is left, or where it says no such number.
+#[tactic(auto, unfolding(crate::specs::Fields::next_below))]
+pub fn next_u8(text: &[u8]) -> Option<(u8, &[u8])>
+    ensures { option_map (λ found. (found.0, words_of found.1.now)) result ≡ next_below (2 ^ 8) (words_of text.now) }
+{
+    let (word, rest) = next_word(text)?;
+    let number = u8::try_from(number(word)?).ok()?;
+    Some((number, rest))
+}
+
+/// The number below a limit that the next word says, and the rest of the text after it. None where no word
+/// is left, or where it says no such number.
+#[tactic(auto, unfolding(crate::specs::Fields::next_below))]
+pub fn next_below(limit: u64, text: &[u8]) -> Option<(u64, &[u8])>
+    ensures { option_map (λ found. (found.0, words_of found.1.now)) result ≡ next_below limit (words_of text.now) }
+{
+    let (word, rest) = next_word(text)?;
+    let number = number(word)?;
+    if number < limit {
+        Some((number, rest))
+    } else {
+        None
+    }
+}
+
+/// What the next word says, and the rest of the text after it: none where the word is `mark`, else a number
+/// below a limit. None where no word is left, or where it says neither.
+#[tactic(auto, unfolding(crate::specs::Fields::next_below_or))]
+pub fn next_below_or<'a>(mark: &[u8], limit: u64, text: &'a [u8]) -> Option<(Option<u64>, &'a [u8])>
+    ensures { option_map (λ found. (found.0, words_of found.1.now)) result ≡ next_below_or mark.now limit (words_of text.now) }
+{
+    let (word, rest) = next_word(text)?;
+    if word == mark {
+        return Some((None, rest));
+    }
+    let (number, rest) = next_below(limit, text)?;
+    Some((Some(number), rest))
 }
 
 /// Whether no word is left.

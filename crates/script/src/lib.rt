@@ -15,7 +15,9 @@ mod words;
 
 pub use ending::Ending;
 pub use error::ServeError;
-pub use fields::{is_comment, is_end, is_text, next_u32, next_u64, raw};
+pub use fields::{
+    is_comment, is_end, is_text, next_below, next_below_or, next_u8, next_u32, next_u64, raw,
+};
 pub use interpreter::{Interpreter, LONGEST_LINE};
 pub use serving::serve;
 pub use status::{Status, status_of};

@@ -1,7 +1,10 @@
 //! Lines from readers to writers, and the words and numbers in them.
 use cmdcodec::Raw;
 use fake_streams::{Sink, Source};
-use script::{Ending, Interpreter, ServeError, next_u32, next_word, number, raw, serve};
+use script::{
+    Ending, Interpreter, ServeError, next_below, next_below_or, next_u8, next_u32, next_word,
+    number, raw, serve,
+};
 use std::alloc::AllocError;
 use std::fmt::Write as _;
 use std::io::{BufWriter, ErrorKind};
@@ -222,6 +225,37 @@ fn numbers_of_32_bits(rt: HostRuntime) {
         (" ", None),
     ] {
         let found = next_u32(text.as_bytes());
+        assert_eq!(rt; found.map(|found| found.0), value, "{text}");
+    }
+}
+
+#[test]
+fn numbers_below_a_limit(rt: HostRuntime) {
+    for (text, limit, value) in [
+        ("1048575 7", 1 << 20, Some(1_048_575)),
+        ("1048576", 1 << 20, None),
+        ("0xfffffffffffff", 1 << 52, Some(0xf_ffff_ffff_ffff)),
+        ("g", 1 << 16, None),
+    ] {
+        let found = next_below(limit, text.as_bytes());
+        assert_eq!(rt; found.map(|found| found.0), value, "{text}");
+    }
+    for (text, value) in [("255", Some(255)), ("256", None)] {
+        let found = next_u8(text.as_bytes());
+        assert_eq!(rt; found.map(|found| found.0), value, "{text}");
+    }
+}
+
+#[test]
+fn a_mark_stands_for_no_number(rt: HostRuntime) {
+    for (text, value) in [
+        ("g 1", Some(None)),
+        ("0x10", Some(Some(16))),
+        ("65536", None),
+        ("gg", None),
+        ("", None),
+    ] {
+        let found = next_below_or(b"g".as_slice(), 1 << 16, text.as_bytes());
         assert_eq!(rt; found.map(|found| found.0), value, "{text}");
     }
 }
