@@ -1,6 +1,6 @@
 -- What a run writes, by what its reader had. `may` says what lines may come to, the first of them
 -- having the number that it is given.
-use Rattle.std.specs.Prelude.{◌≡◌, ℕ, List, ◌++◌, ◌⊎◌, Option, Some, None, IfSome, codes}
+use Rattle.std.specs.Prelude.{◌≡◌, ◌≤◌, ℕ, List, ◌++◌, ◌⊎◌, Option, Some, None, IfSome, length, codes}
 use Rattle.std.specs.Io.KnownBytes.{Consumes, Appends}
 use Rattle.script.specs.declared.ending.Ending.{Ending}
 use Rattle.script.specs.declared.ending.Ending.TheVariants.{Finished}
@@ -54,3 +54,7 @@ pub record AnswersWholeLines (may : ℕ → List (List ℕ) → Outcome → Type
   pub no_end : HasNoEnd part
   pub comes : ComesTo may whole answers (Some Finished)
   pub written : Appends before after answers
+
+-- at least so many bytes were read
+abbrev pub ReadsAtLeast : ℕ → Option (List ℕ) → Option (List ℕ) → Type 0
+ReadsAtLeast least input rest = (bytes : List ℕ) × Consumes input rest bytes × (least ≤ length bytes)
