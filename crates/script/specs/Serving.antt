@@ -96,4 +96,4 @@ GivesNoMemory may old_may rest now then old =
 abbrev pub GivesBeginning : (ℕ → List (List ℕ) → Outcome → Type 0) → (ℕ → List (List ℕ) → Outcome → Type 0)
     → Option (List ℕ) → Option (List ℕ) → Option (List ℕ) → Run → Type 0
 GivesBeginning may old_may rest now then old =
-    (input before : Option (List ℕ)) → IsUnderWay may old_may input rest before now old → WritesBeginning may input before then
+    (input before : Option (List ℕ)) → IsUnderWay may old_may input rest before now old → WritesBeginning may input rest before then

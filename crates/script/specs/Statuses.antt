@@ -9,13 +9,13 @@ use Rattle.script.specs.declared.status.Status.TheVariants.{Good, Refused, NoMem
 use Rattle.script.specs.Outcome.{Outcome}
 use Rattle.script.specs.Writing.{WritesAnswer, WritesNoMemory, WritesBeginning}
 
--- Of a reader that had this input, and a writer that held `before` and holds `after`. `may` says what
--- the lines of a script may come to.
-abbrev pub Tells : (ℕ → List (List ℕ) → Outcome → Type 0) → Status → Option (List ℕ) → Option (List ℕ) → Option (List ℕ) → Type 0
-Tells may Good input before after = WritesAnswer may input before after endings.Finished
-Tells may Refused input before after = WritesAnswer may input before after endings.Refused
-Tells may NoMemory input before after = WritesNoMemory may input before after
-Tells may Failed input before after = WritesBeginning may input before after
+-- Of a reader that had this input and has `rest` left, and a writer that held `before` and holds `after`.
+-- `may` says what the lines of a script may come to.
+abbrev pub Tells : (ℕ → List (List ℕ) → Outcome → Type 0) → Status → Option (List ℕ) → Option (List ℕ) → Option (List ℕ) → Option (List ℕ) → Type 0
+Tells may Good input rest before after = WritesAnswer may input before after endings.Finished
+Tells may Refused input rest before after = WritesAnswer may input before after endings.Refused
+Tells may NoMemory input rest before after = WritesNoMemory may input before after
+Tells may Failed input rest before after = WritesBeginning may input rest before after
 
 -- the status of a run, by how it was served
 abbrev pub status_of : Result Ending ServeError → Status
@@ -34,5 +34,5 @@ exit_status NoMemory = 3
 exit_status Failed = 4
 
 -- It ended with the exit status of a run.
-abbrev pub ExitsAs : (ℕ → List (List ℕ) → Outcome → Type 0) → ℕ → Option (List ℕ) → Option (List ℕ) → Option (List ℕ) → Type 0
-ExitsAs may exit input before after = (status : Status) × (exit ≡ exit_status status) × Tells may status input before after
+abbrev pub ExitsAs : (ℕ → List (List ℕ) → Outcome → Type 0) → ℕ → Option (List ℕ) → Option (List ℕ) → Option (List ℕ) → Option (List ℕ) → Type 0
+ExitsAs may exit input rest before after = (status : Status) × (exit ≡ exit_status status) × Tells may status input rest before after

@@ -28,8 +28,8 @@ pub fn serve<I: Interpreter, R: Read, W: Write>(
     ensures memory { IfErr result (λ e. is_memory e ≡ true
         → WritesNoMemory (I.gives interpreter.old) (R.remaining input.old) (W.contents output.old) (W.contents output.new)) }
 
-    // After any error, what was written is a beginning of one of these texts.
-    ensures beginning { OnErr result (WritesBeginning (I.gives interpreter.old) (R.remaining input.old) (W.contents output.old) (W.contents output.new)) }
+    // After any error, what was written is a beginning of one of these texts, whatever follows what was read.
+    ensures beginning { OnErr result (WritesBeginning (I.gives interpreter.old) (R.remaining input.old) (R.remaining input.new) (W.contents output.old) (W.contents output.new)) }
 
     // Where the reader failed, each line whose end was read had been answered: no answer waits for a later read.
     ensures read { IfErr result (λ e. is_read e ≡ true

@@ -1,7 +1,7 @@
 use Rattle.std.proofs.Common.{◌+◌, length, ap, arith}
 use Rattle.std.proofs.lemmas.Result.{err_from_is_err_and, IfOk-weaker, IfErr-weaker, on_err_weaker}
 use Rattle.script.proofs.Pauses.{drained_is_not_ended}
-use Rattle.script.proofs.UnderWay.{under_way_begins, under_way_read, under_way_read_failed, no_memory_at_once, no_memory_part_at_once}
+use Rattle.script.proofs.UnderWay.{under_way_begins, under_way_kept, under_way_read, under_way_read_failed, no_memory_at_once, no_memory_part_at_once}
 use Rattle.script.proofs.TakenBytes.{has_read_part, endless_lines}
 use Rattle.script.proofs.serving.serve.Goals as goal
 
@@ -30,8 +30,10 @@ pub returns-in_err-read_more-clause-beginning : goal.returns-in_err-read_more-cl
 returns-in_err-read_more-clause-beginning g c =
     let returned = err_from_is_err_and c.from_residual-in_err-read_more.result c.from_residual-in_err-read_more.ensures.1 in
     let delivered = c.in_ok-deliver.ensures.goes_on (drained_is_not_ended _ c.in-Drained.is) c.args.interpreter.now _ _ _ c.turns.invariant.under_way in
-    rw returned.1 (under_way_begins (g.I.Interpreter.gives c.args.interpreter.now) (g.I.Interpreter.gives c.deliver.new.interpreter) _ _ _ _ c.deliver.new.self
-    (g.met.I.Interpreter.cut c.args.interpreter.now) (g.met.I.Interpreter.begins c.deliver.new.interpreter) delivered)
+    let may = g.I.Interpreter.gives c.args.interpreter.now in
+    let then_may = g.I.Interpreter.gives c.deliver.new.interpreter in
+    rw returned.1 (under_way_begins may then_may _ _ _ _ c.deliver.new.self (g.met.I.Interpreter.cut c.args.interpreter.now) (g.met.I.Interpreter.begins c.deliver.new.interpreter)
+    (under_way_kept may then_may _ _ _ _ _ c.deliver.new.self delivered c.in_err-read_more.ensures.err))
 
 pub returns-in_err-read_more-clause-read : goal.returns-in_err-read_more-clause-read
 returns-in_err-read_more-clause-read g c =
