@@ -11,6 +11,3 @@ mod range;
 pub use body::Batch;
 pub use fault::BatchFault;
 pub use laws::ranges_are_reached_exactly;
-
-#[cfg(test)]
-mod tests;

@@ -18,6 +18,3 @@ pub use laws::{
     ranges_cover_their_pages, uncovered_entries_stay, whole_spaces_are_covered,
 };
 pub use tag::{Entry, Scope, Tag};
-
-#[cfg(test)]
-mod tests;

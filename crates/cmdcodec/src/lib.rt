@@ -33,6 +33,3 @@ pub use laws::{free_bits_are_ignored, legal_words_spell_one_command, runs_are_of
 pub use opcode::Opcode;
 pub use raw::{Raw, RawList, from_bytes, to_bytes};
 pub use reach::{Granule, PageRun, Reach};
-
-#[cfg(test)]
-mod tests;

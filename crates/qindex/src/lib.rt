@@ -13,6 +13,3 @@ pub use laws::{
     control_words_say_their_control, indexes_tell_place_and_wrap_bit, indexes_tell_the_queue,
     or_closes, xor_advances_cons,
 };
-
-#[cfg(test)]
-mod tests;

@@ -21,6 +21,3 @@ pub use serving::serve;
 pub use status::{Status, status_of};
 pub use telling::{say_fault, say_ring};
 pub use words::{next_word, number};
-
-#[cfg(test)]
-mod tests;

@@ -6,8 +6,8 @@ use Rattle.script.specs.declared.status.Status.{Status}
 use Rattle.script.specs.declared.status.Status.TheVariants.{Good, Refused, NoMemory, Failed}
 use Rattle.script.specs.Statuses.{exit_status}
 use Rattle.schedule.specs.Scheduling.{ExitsAsSchedule}
-use Rattle.smmuq.specs.Replay.{ExitsAsReplay}
-use Rattle.smmuq.specs.DecodeText.{decode_text}
+use Rattle.replay.specs.Replaying.{ExitsAsReplay}
+use Rattle.decode.specs.DecodeText.{decode_text}
 
 -- the line that says what a word means
 abbrev pub decode_line : List ℕ → List ℕ

@@ -3,11 +3,10 @@ ghost use Rattle.std.specs.Prelude.{◌≡◌, ◌⊎◌, ◌++◌, OnOk, codes}
 ghost use Rattle.std.specs.Io.KnownBytes.{Appends};
 ghost use Rattle.script.specs.Writing.{no_memory_line};
 ghost use Rattle.schedule.specs.Scheduling.{ExitsAsSchedule};
-ghost use Rattle.smmuq.specs.Replay.{ExitsAsReplay};
+ghost use Rattle.replay.specs.Replaying.{ExitsAsReplay};
 ghost use Rattle.smmuq.specs.Program.{Decodes, ExitsAsDecode, ExitsAsTold, ExitsAsProgram};
 
-use crate::decode::decode_text;
-use crate::serving::{replay, schedule};
+use crate::serving::{decode_text, replay, schedule};
 use clap::error::ErrorKind;
 use clap::{Arg, Command, Error};
 use script::Status;

@@ -1,50 +1,18 @@
-//! `replay` and `schedule` from any reader to any writer.
-ghost use Rattle.std.specs.Prelude.{◌≡◌, IfOk, IfErr, OnErr, true};
-ghost use Rattle.std.specs.Io.KnownBytes.{IsAtEnd};
-ghost use Rattle.script.specs.Errors.{is_read, is_memory};
-ghost use Rattle.script.specs.Writing.{WritesAnswer, WritesNoMemory, WritesBeginning, AnswersWholeLines};
+//! The subcommands, from any reader to any writer and from any word to its text.
+ghost use Rattle.std.specs.Prelude.{◌≡◌, IfOk, string_bytes};
+ghost use Rattle.decode.specs.DecodeText.{decode_text};
+ghost use Rattle.replay.specs.Replaying.{Replays};
 ghost use Rattle.schedule.specs.Scheduling.{Schedules};
-ghost use Rattle.smmuq.specs.Giving.{MayAnswer};
-ghost use Rattle.smmuq.specs.Replay.{Replays};
 
-use crate::replay::Replay;
-use script::{Ending, ServeError, Status, status_of};
-use std::alloc::Global;
+use script::Status;
+use std::alloc::{AllocError, Global};
 use std::io::{Read, Write};
-
-/// Reads a script, serves its lines in order, and writes their answers.
-///
-/// Each answer is written and flushed before the read that follows its line. A `write` may take any
-/// count from 1 on, and an interrupted call is made again.
-pub fn serve<R: Read, W: Write>(
-    alloc: Global,
-    input: &mut R,
-    output: &mut W,
-) -> Result<Ending, ServeError>
-    // Where no error came, what was written is the text of the script.
-    ensures answer { IfOk result (λ ending. WritesAnswer MayAnswer (R.remaining input.old) (W.contents output.old) (W.contents output.new) ending) }
-    ensures end { IfOk result (λ ending. ending ≡ Ending.Finished → IsAtEnd (R.remaining input.new)) }
-
-    // Where memory was wanting, the answers to whole lines and then `no memory`.
-    ensures memory { IfErr result (λ e. is_memory e ≡ true → WritesNoMemory MayAnswer (R.remaining input.old) (W.contents output.old) (W.contents output.new)) }
-
-    // After any error, a beginning of one of these.
-    ensures beginning { OnErr result (WritesBeginning MayAnswer (R.remaining input.old) (W.contents output.old) (W.contents output.new)) }
-
-    // Where the reader failed, each line whose end was read had been answered: no answer waits for a later read.
-    ensures read { IfErr result (λ e. is_read e ≡ true
-        → AnswersWholeLines MayAnswer (R.remaining input.old) (R.remaining input.new) (W.contents output.old) (W.contents output.new)) }
-{
-    let mut replay = Replay::new(alloc);
-    script::serve(alloc, &mut replay, input, output)
-}
 
 /// Reads a script and writes its answers, the line `no memory` among them, and says how it went.
 pub fn replay<R: Read, W: Write>(alloc: Global, input: &mut R, output: &mut W) -> Status
     ensures { Replays result (R.remaining input.old) (W.contents output.old) (W.contents output.new) }
 {
-    let served = serve(alloc, input, output);
-    status_of(&served)
+    replay::replay(alloc, input, output)
 }
 
 /// Reads a script, plays it as a schedule of a ring's atomic steps, and writes its answers, the line
@@ -53,4 +21,11 @@ pub fn schedule<R: Read, W: Write>(alloc: Global, input: &mut R, output: &mut W)
     ensures { Schedules result (R.remaining input.old) (W.contents output.old) (W.contents output.new) }
 {
     schedule::schedule(alloc, input, output)
+}
+
+/// Says what a word of hexadecimal digits means as a command, and whether it is a legal one.
+pub fn decode_text(alloc: Global, word: &str) -> Result<(String, bool), AllocError>
+    ensures { IfOk result (λ told. (string_bytes told.0 ≡ (decode_text word.now).0) × (told.1 ≡ (decode_text word.now).1)) }
+{
+    decode::decode_text(alloc, word)
 }

@@ -1,11 +1,3 @@
-//! What no clause says: scripts and their answers, words that are decoded, the command line, and readers, writers and allocations that fail.
-mod answers;
-mod caches;
+//! What no clause says: the command line, words that are decoded from there on, and writers and allocations that fail.
 mod command_line;
 mod decoding;
-mod fakes;
-mod lines;
-mod memory;
-mod rings;
-mod sending;
-mod streams;

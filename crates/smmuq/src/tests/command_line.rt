@@ -1,6 +1,6 @@
 //! The words of the command line, and the exit status.
-use super::fakes::{Sink, Source};
 use crate::program::program;
+use fake_streams::{Sink, Source};
 use std::io::ErrorKind;
 use std::test::Fail;
 

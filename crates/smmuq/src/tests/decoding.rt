@@ -1,7 +1,7 @@
 //! Words that are decoded, from the command line on.
-use super::fakes::{Sink, Source};
-use crate::decode::decode_text;
 use crate::program::program;
+use crate::serving::decode_text;
+use fake_streams::{Sink, Source};
 use std::io::ErrorKind;
 use std::process::Abort;
 use std::test::Fail;

@@ -1,0 +1,46 @@
+-- From what a line does to what it and the lines after it may come to.
+use Rattle.std.proofs.Common.{◌≡◌, ℕ, ◌+◌, true, false, cond, List, [], ◌∷◌, ◌++◌, refl, ap, sym, ◌∙◌, Option, subst}
+use Rattle.script.specs.Outcome.{Continues, Ends}
+use Rattle.script.specs.Answers.{Answer, with_text, EndsAs}
+use Rattle.script.proofs.AnswerLemmas.{ends_front}
+use Rattle.replay.specs.declared.smmu.Smmu.{Smmu}
+use Rattle.replay.specs.ReplayText.{State, Effect, line_effect, after_effect, answer_from}
+use Rattle.replay.specs.Standing.{ActsAt}
+use Rattle.replay.specs.Giving.{MayGive}
+
+-- the answer to a line and to those after it
+goes_on : (effect : Effect) (rest : Option State → Answer) (text : List ℕ) → effect.text ≡ text → effect.goes_on ≡ true → after_effect effect rest ≡ with_text text (rest effect.state)
+goes_on effect rest text t on =
+    ap (λ b. cond b (with_text effect.text (rest effect.state)) (record { text = effect.text; is_good = false })) on ∙ ap (λ x. with_text x (rest effect.state)) t
+
+is_over : (effect : Effect) (rest : Option State → Answer) (text : List ℕ) → effect.text ≡ text → effect.goes_on ≡ false → after_effect effect rest ≡ record { text = text; is_good = false }
+is_over effect rest text t off =
+    ap (λ b. cond b (with_text effect.text (rest effect.state)) (record { text = effect.text; is_good = false })) off ∙ ap (λ x. record { text = x; is_good = false }) t
+
+pub continues : (old new : Option Smmu) (number : ℕ) (line before after : List ℕ) → ActsAt (λ wanting state. line_effect number wanting line state) old new before after true
+    → Continues (MayGive old) (MayGive new) number line before after
+unfolding answer_from
+continues old new number line before after acts = record {
+  answer = acts.answer;
+  text = acts.text;
+  rest = λ lines outcome may state stands.
+      let done = acts.produces state stands in
+      let effect = line_effect number done.wanting line state in
+      let later = may effect.state (done.after refl) in (
+        done.wanting ∷ later.0,
+        subst (λ (a : Answer). EndsAs a (acts.answer ++ outcome.text) outcome.ending)
+            (sym (goes_on effect (λ left. answer_from (number + 1) later.0 left lines) acts.answer done.text done.ending))
+            (ends_front acts.answer (answer_from (number + 1) later.0 effect.state lines) outcome.text outcome.ending later.1),
+      );
+}
+
+pub ends : (old new : Option Smmu) (number : ℕ) (line before after : List ℕ) → ActsAt (λ wanting state. line_effect number wanting line state) old new before after false
+    → Ends (MayGive old) number line before after
+unfolding answer_from
+ends old new number line before after acts = record {
+  answer = acts.answer;
+  text = acts.text;
+  rest = λ lines state stands.
+      let done = acts.produces state stands in
+      (done.wanting ∷ [], is_over (line_effect number done.wanting line state) (λ left. answer_from (number + 1) [] left lines) acts.answer done.text done.ending);
+}

@@ -1,0 +1,13 @@
+-- What the status of a replay says.
+use Rattle.std.specs.Prelude.{ℕ, List, Option}
+use Rattle.script.specs.declared.status.Status.{Status}
+use Rattle.script.specs.Statuses.{Tells, ExitsAs}
+use Rattle.replay.specs.Giving.{MayAnswer}
+
+-- Of a reader that had this input, and a writer that held `before` and holds `after`.
+abbrev pub Replays : Status → Option (List ℕ) → Option (List ℕ) → Option (List ℕ) → Type 0
+Replays status input before after = Tells MayAnswer status input before after
+
+-- It ended with the exit status of a run.
+abbrev pub ExitsAsReplay : ℕ → Option (List ℕ) → Option (List ℕ) → Option (List ℕ) → Type 0
+ExitsAsReplay exit input before after = ExitsAs MayAnswer exit input before after

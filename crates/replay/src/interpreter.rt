@@ -1,0 +1,127 @@
+//! The lines of a replay, one after another.
+ghost use Rattle.std.specs.Prelude.{◌≡◌, ◌≤◌, IfOk, None, is_some, length, string_bytes};
+ghost use Rattle.replay.specs.Shapes.{shape_fault};
+ghost use Rattle.replay.specs.ReplayText.{ring_or_fault, first_served, request_effect, line_effect};
+ghost use Rattle.replay.specs.Standing.{ActsAt};
+
+use crate::parse::parse;
+use crate::request::Request;
+use crate::shape::{Shape, shape_fault};
+use crate::smmu::Smmu;
+use script::{Interpreter, say_fault, say_ring};
+use std::alloc::{AllocError, Global};
+
+/// A replay between two lines.
+#[derive(Drop)]
+pub(crate) struct Replay {
+    alloc: Global,
+    /// The ring and the caches, once a line made them.
+    pub smmu: Option<Smmu>,
+}
+
+/// Makes a ring, where its numbers are in range.
+fn first_ring(
+    alloc: Global,
+    number: u64,
+    shape: Shape,
+    reply: &mut String,
+) -> Result<Option<Smmu>, AllocError>
+    ensures { IfOk result (λ smmu. ActsAt (λ wanting state. ring_or_fault number shape (shape_fault shape)) None smmu (string_bytes reply.old) (string_bytes reply.new) (is_some smmu)) }
+{
+    if let Some(fault) = shape_fault(&shape) {
+        say_fault(number, fault.label(), reply)?;
+        return Ok(None);
+    }
+    let smmu = Smmu::new(alloc, shape)?;
+    say_ring(shape.log2, reply)?;
+    Ok(Some(smmu))
+}
+
+impl Replay {
+    pub(crate) fn new(alloc: Global) -> Replay
+        ensures { result.smmu ≡ None }
+    {
+        Replay { alloc, smmu: None }
+    }
+
+    /// Serves a request where no ring is made yet.
+    fn serve_first(
+        &mut self,
+        number: u64,
+        request: &Request,
+        reply: &mut String,
+    ) -> Result<bool, AllocError>
+        requires { self.old.smmu ≡ None }
+        ensures { IfOk result (λ goes_on. ActsAt (λ wanting state. first_served number request.now) None self.new.smmu (string_bytes reply.old) (string_bytes reply.new) goes_on) }
+    {
+        match request {
+            Request::Nothing => Ok(true),
+            Request::Ring(shape) => {
+                let made = first_ring(self.alloc, number, *shape, reply)?;
+                let is_made = made.is_some();
+                self.smmu = made;
+                Ok(is_made)
+            }
+            Request::Fill { .. } | Request::Send { .. } | Request::Step { .. } | Request::Dump => {
+                say_fault(number, "no ring", reply)?;
+                Ok(false)
+            }
+        }
+    }
+
+    fn serve_request(
+        &mut self,
+        number: u64,
+        request: &Request,
+        reply: &mut String,
+    ) -> Result<bool, AllocError>
+        ensures { IfOk result (λ goes_on. ActsAt (λ wanting state. request_effect number wanting request.now state) self.old.smmu self.new.smmu (string_bytes reply.old) (string_bytes reply.new) goes_on) }
+    {
+        match &mut self.smmu {
+            Some(smmu) => smmu.serve(number, request, reply),
+            None => self.serve_first(number, request, reply),
+        }
+    }
+
+    fn serve_text(
+        &mut self,
+        number: u64,
+        line: &[u8],
+        reply: &mut String,
+    ) -> Result<bool, AllocError>
+        requires { length line.now ≤ 4096 }
+        ensures { IfOk result (λ goes_on. ActsAt (λ wanting state. line_effect number wanting line.now state) self.old.smmu self.new.smmu (string_bytes reply.old) (string_bytes reply.new) goes_on) }
+    {
+        match parse(self.alloc, line)? {
+            Some(request) => self.serve_request(number, &request, reply),
+            None => {
+                say_fault(number, "bad line", reply)?;
+                Ok(false)
+            }
+        }
+    }
+}
+
+impl Interpreter for Replay {
+    ghost use Rattle.replay.specs.Giving.{MayGive};
+    ghost use Rattle.replay.specs.GivingLaws as laws;
+
+    ghost gives = { λ replay number lines outcome. MayGive replay.smmu number lines outcome };
+
+    ghost nothing_left = { λ replay n. laws.nothing_left replay.smmu n };
+
+    ghost long_line = { λ replay n line lines long. laws.long_line replay.smmu n line lines long };
+
+    ghost begins = { λ replay n lines. laws.begins replay.smmu n lines };
+
+    ghost cut = { λ replay n lines outcome front rest may split. laws.cut replay.smmu n lines outcome front rest may split };
+
+    fn serve_line(
+        &mut self,
+        number: u64,
+        line: &[u8],
+        reply: &mut String,
+    ) -> Result<bool, AllocError> {
+        self.serve_text(number, line, reply)
+    }
+}
