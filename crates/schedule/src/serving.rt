@@ -30,7 +30,7 @@ pub fn serve<R: Read, W: Write>(
     // After any error, a beginning of one of these, whatever follows what was read.
     ensures beginning { OnErr result (WritesBeginning Answers (R.remaining input.old) (R.remaining input.new) (W.contents output.old) (W.contents output.new)) }
 
-    // Where the reader failed, each line whose end was read had been answered: no answer waits for a later read.
+    // Where the reader failed, just the lines whose ends were read were answered, all of them.
     ensures read { IfErr result (λ e. is_read e ≡ true
         → AnswersWholeLines Answers (R.remaining input.old) (R.remaining input.new) (W.contents output.old) (W.contents output.new)) }
 
