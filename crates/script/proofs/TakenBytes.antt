@@ -1,7 +1,7 @@
 -- How many bytes were read, against the lines that were served and the turns of the loop.
-use Rattle.std.proofs.Common.{◌≡◌, ℕ, ◌+◌, ◌*◌, ◌^◌, ◌<◌, ◌≤◌, List, [], ◌++◌, Option, length, ap, arith, length-append, inl, inr, true, ◌⊎◌}
+use Rattle.std.proofs.Common.{◌≡◌, ℕ, ◌+◌, ◌*◌, ◌^◌, ◌<◌, ◌≤◌, List, ◌++◌, Option, length, ap, arith, length-append, inl, inr, true, ◌⊎◌}
 use Rattle.std.specs.Io.KnownBytes.{Consumes}
-use Rattle.std.proofs.KnownBytes.{Consumes-nil, Consumes-trans}
+use Rattle.std.proofs.KnownBytes.{Consumes-trans}
 use Rattle.script.specs.declared.error.ServeError.{ServeError}
 use Rattle.script.specs.declared.error.ServeError.TheVariants.{Memory, Read, Write, Endless}
 use Rattle.script.specs.declared.run.Run.{Run}

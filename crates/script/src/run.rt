@@ -63,7 +63,6 @@ impl Run {
         ensures text { OnOk result (string_bytes self.new.text ≡ string_bytes self.old.text ++ string_bytes self.old.reply) }
         ensures err { OnErr result (string_bytes self.new.text ≡ string_bytes self.old.text) }
         ensures error { IfErr result (λ e. is_memory e ≡ true) }
-        ensures not_read { IfErr result (λ e. is_read e ≡ false) }
     {
         match self.text.push_str(self.reply.as_str()) {
             Ok(()) => Ok(()),
@@ -87,7 +86,6 @@ impl Run {
             → Ends (I.gives interpreter.old) (self.old.lines + 1) (take end self.old.pending) (string_bytes self.old.text) (string_bytes self.new.text)) }
         ensures err { OnErr result (string_bytes self.new.text ≡ string_bytes self.old.text) }
         ensures error { IfErr result (λ e. WantsMemoryOrNumber e (self.old.lines + 1)) }
-        ensures not_read { IfErr result (λ e. is_read e ≡ false) }
     {
         let Some(number) = self.lines.checked_add(1) else {
             return Err(ServeError::Endless);
@@ -108,7 +106,6 @@ impl Run {
         ensures text { OnOk result (string_bytes self.new.text ≡ string_bytes self.old.text ++ fault_line (self.old.lines + 1) (codes "long line")) }
         ensures err { OnErr result (string_bytes self.new.text ≡ string_bytes self.old.text) }
         ensures error { IfErr result (λ e. WantsMemoryOrNumber e (self.old.lines + 1)) }
-        ensures not_read { IfErr result (λ e. is_read e ≡ false) }
     {
         let Some(number) = self.lines.checked_add(1) else {
             return Err(ServeError::Endless);
@@ -133,7 +130,6 @@ impl Run {
         ensures stops { IfOk result (λ goes_on. goes_on ≡ false → Stops (I.gives interpreter.old) self.old self.new) }
         ensures err { OnErr result (string_bytes self.new.text ≡ string_bytes self.old.text) }
         ensures error { IfErr result (λ e. WantsMemoryOrNumber e (self.old.lines + 1)) }
-        ensures not_read { IfErr result (λ e. is_read e ≡ false) }
     {
         if end > LONGEST_LINE {
             self.refuse_long_line()?;
@@ -155,7 +151,6 @@ impl Run {
         ensures stops { IfOk result (λ pause. pause ≡ Pause.Ended → Stops (I.gives interpreter.old) self.old self.new) }
         ensures halts { OnErr result (Halts (I.gives interpreter.old) self.old self.new) }
         ensures error { IfErr result (λ e. WantsMemoryOrNumber e (self.old.lines + length self.old.pending + 1)) }
-        ensures not_read { IfErr result (λ e. is_read e ≡ false) }
     {
         'lines: while let Some(end) = memchr(b'\n', self.pending.as_slice()) {
             if !self.serve_next(interpreter, end)? {
@@ -180,7 +175,6 @@ impl Run {
         ensures closes { IfOk result (Closes (I.gives interpreter.old) self.old self.new) }
         ensures halts { OnErr result (Halts (I.gives interpreter.old) self.old self.new) }
         ensures error { IfErr result (λ e. WantsMemoryOrNumber e (self.old.lines + 1)) }
-        ensures not_read { IfErr result (λ e. is_read e ≡ false) }
     {
         let count = self.pending.as_slice().len();
         if count == 0 {
@@ -202,7 +196,7 @@ impl Run {
         ensures more { IfOk result (λ more. more ≡ true → length self.old.pending < length self.new.pending) }
         ensures end { IfOk result (λ more. more ≡ false → (self.new.pending ≡ self.old.pending) × IsAtEnd (R.remaining input.new)) }
         ensures err { OnErr result (Keeps (R.remaining input.old) (R.remaining input.new)) }
-        ensures error { IfErr result (λ e. (is_read e ≡ true) × (is_memory e ≡ false)) }
+        ensures error { IfErr result (λ e. is_read e ≡ true) }
     {
         match self.pending.fill(input) {
             Ok(more) => Ok(more),
@@ -215,7 +209,7 @@ impl Run {
         ensures same { SameButText self.old self.new }
         ensures ok { OnOk result ((string_bytes self.new.text ≡ []) × Appends (W.contents output.old) (W.contents output.new) (string_bytes self.old.text)) }
         ensures err { OnErr result (WritesFront (W.contents output.old) (W.contents output.new) (string_bytes self.old.text)) }
-        ensures is_write { IfErr result (λ e. (is_write e ≡ true) × (is_read e ≡ false) × (is_memory e ≡ false)) }
+        ensures error { IfErr result (λ e. is_write e ≡ true) }
     {
         write_whole(output, self.text.as_bytes())?;
         self.text.clear();
@@ -227,7 +221,6 @@ impl Run {
         ensures told { is_memory result ≡ true → Appends (W.contents output.old) (W.contents output.new) (string_bytes self.old.text ++ no_memory_line) }
         ensures part { WritesFront (W.contents output.old) (W.contents output.new) (string_bytes self.old.text ++ no_memory_line) }
         ensures error { (result ≡ e) ⊎ (is_write result ≡ true) }
-        ensures not_read { is_read e ≡ false → is_read result ≡ false }
     {
         if let Err(failed) = self.send_text(output) {
             return failed;
@@ -257,7 +250,6 @@ impl Run {
         ensures err { OnErr result ((first : I) (rest : Option (List ℕ))
             → GivesBeginning (I.gives first) (I.gives interpreter.old) rest (W.contents output.old) (W.contents output.new) self.old) }
         ensures error { IfErr result (λ e. (is_write e ≡ true) ⊎ WantsMemoryOrNumber e (self.old.lines + length self.old.pending + 1)) }
-        ensures not_read { IfErr result (λ e. is_read e ≡ false) }
     {
         match self.serve_lines(interpreter) {
             Ok(pause) => {
@@ -283,7 +275,6 @@ impl Run {
         ensures err { OnErr result ((first : I) (rest : Option (List ℕ)) → IsAtEnd rest
             → GivesBeginning (I.gives first) (I.gives interpreter.old) rest (W.contents output.old) (W.contents output.new) self.old) }
         ensures error { IfErr result (λ e. (is_write e ≡ true) ⊎ WantsMemoryOrNumber e (self.old.lines + 1)) }
-        ensures not_read { IfErr result (λ e. is_read e ≡ false) }
     {
         match self.serve_last(interpreter) {
             Ok(ending) => {

@@ -42,6 +42,7 @@ pub fn serve<I: Interpreter, R: Read, W: Write>(
         Ok(run) => run,
         Err(e) => return Err(tell_of_memory(output, e)),
     };
+    // Each turn takes bytes away, or reads some, or is the last.
     'turns: for turn in 0..u64::MAX {
         match run.deliver(interpreter, output)? {
             Pause::Ended => return Ok(Ending::Refused),
