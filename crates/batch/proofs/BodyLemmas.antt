@@ -1,6 +1,6 @@
 -- What a body is made of.
-use Rattle.std.proofs.Common.{◌≡◌, ℕ, zero, suc, ◌+◌, ◌-◌, ◌*◌, ◌^◌, ◌<◌, ◌≤◌, ◌==◌, true, false, inl, inr, None, List, ◌++◌, length, map, refl, ap, sym, ◌∙◌, length-append, arith}
-use Rattle.std.proofs.lemmas.Bool.{cases_Bool, eqb-true, or_from}
+use Rattle.std.proofs.Common.{◌≡◌, ℕ, zero, suc, ◌+◌, ◌-◌, ◌*◌, ◌^◌, ◌<◌, ◌≤◌, ◌==◌, true, false, inl, inr, List, ◌++◌, length, map, refl, ap, ◌∙◌, length-append, arith}
+use Rattle.std.proofs.lemmas.Bool.{cases_Bool, or_from}
 use Rattle.std.proofs.lemmas.List.{length-map}
 use Rattle.std.proofs.lemmas.List.Folds.{list_any-append}
 use Rattle.std.specs.List.{list_any}
@@ -10,19 +10,10 @@ use Rattle.cmdcodec.specs.declared.command.Command.TheVariants.{TlbiNhVa}
 use Rattle.cmdcodec.specs.declared.reach.Reach.{Reach}
 use Rattle.cmdcodec.specs.declared.reach.Reach.TheVariants.{Page, Range}
 use Rattle.cmdcodec.specs.Fields.{field}
-use Rattle.cmdcodec.specs.Opcodes.{opcode_named}
 use Rattle.cmdcodec.specs.Words.{encoding, steps_word}
-use Rattle.batch.specs.Bodies.{is_sync, IsBody}
+use Rattle.cmdcodec.specs.Opcodes.{is_sync}
+use Rattle.cmdcodec.specs.Bodies.{IsBody}
 use Rattle.batch.specs.Ranges.{reached_of, reach_of, commands_up_to, range_commands}
-
--- The opcode of a CMD_SYNC is one of the profile.
-pub unnamed_is_no_sync : (opcode : ℕ) → opcode_named opcode ≡ None → (opcode == 0x46) ≡ false
-unfolding opcode_named
-unnamed_is_no_sync opcode none =
-    elim (cases_Bool (opcode == 0x46)) [
-      | inr other ↦ other
-      | inl is ↦ let named = sym (ap opcode_named (eqb-true opcode 0x46 is)) ∙ none in absurd cc
-    ]
 
 -- A body with some more commands is a body, where they are few and none of them is a CMD_SYNC.
 pub longer_body : (old new : List Raw) (commands : List Command) → new ≡ old ++ map encoding commands → 0 < length commands → length new ≤ 63

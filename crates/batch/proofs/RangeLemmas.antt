@@ -10,7 +10,8 @@ use Rattle.cmdcodec.specs.declared.raw.Raw.{Raw}
 use Rattle.cmdcodec.specs.declared.command.Command.TheVariants.{TlbiNhVa}
 use Rattle.cmdcodec.specs.Words.{encoding}
 use Rattle.batch.specs.declared.fault.BatchFault.TheVariants.{Full}
-use Rattle.batch.specs.Bodies.{is_sync, IsBody}
+use Rattle.cmdcodec.specs.Opcodes.{is_sync}
+use Rattle.cmdcodec.specs.Bodies.{IsBody}
 use Rattle.batch.specs.Refusals.{unless, room_refusal}
 use Rattle.batch.specs.Ranges.{scale_of, count_of, reached_of, reach_of, commands_up_to, range_commands}
 use Rattle.batch.proofs.BodyLemmas.{longer_body, range_no_sync}

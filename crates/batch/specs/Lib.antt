@@ -1,5 +1,4 @@
 pub mod Faults
-pub mod Bodies
 pub mod Ranges
 pub mod Detaching
 pub mod Refusals

@@ -4,7 +4,7 @@ use Rattle.std.specs.List.{list_any}
 use Rattle.cmdcodec.specs.declared.raw.Raw.{Raw}
 use Rattle.batch.specs.declared.fault.BatchFault.{BatchFault}
 use Rattle.batch.specs.declared.fault.BatchFault.TheVariants.{Full, SyncInside, NoPages, PastEnd, Empty}
-use Rattle.batch.specs.Bodies.{is_sync}
+use Rattle.cmdcodec.specs.Opcodes.{is_sync}
 use Rattle.batch.specs.Ranges.{range_commands}
 
 -- the fault, or what is answered where there is none

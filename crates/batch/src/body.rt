@@ -1,9 +1,10 @@
 //! A batch, command by command.
-ghost use Rattle.std.specs.Prelude.{◌≡◌, ◌++◌, ◌∷◌, [], List, OnOk, OnErr, IfSome, length, slice_get, map, false};
+ghost use Rattle.std.specs.Prelude.{◌≡◌, ◌++◌, ◌∷◌, [], List, Ok, OnOk, OnErr, IfSome, length, slice_get, map, false};
 ghost use Rattle.std.specs.List.{list_any};
 ghost use Rattle.cmdcodec.specs.declared.raw.Raw.{Raw};
 ghost use Rattle.cmdcodec.specs.Words.{encoding};
-ghost use Rattle.batch.specs.Bodies.{is_sync, IsBody};
+ghost use Rattle.cmdcodec.specs.Opcodes.{is_sync};
+ghost use Rattle.cmdcodec.specs.Bodies.{IsBody};
 ghost use Rattle.batch.specs.Ranges.{range_commands};
 ghost use Rattle.batch.specs.Detaching.{detach_commands};
 ghost use Rattle.batch.specs.Refusals.{unless, new_refusal, list_refusal, push_refusal, room_refusal, range_refusal};
@@ -12,14 +13,11 @@ use crate::detach::{DETACH_COMMANDS, append_detach};
 use crate::fault::BatchFault;
 use crate::range::append_range;
 use arrayvec::ArrayVec;
-use cmdcodec::{Asid, Command, Opcode, Page, Raw, Sid, Vmid, encode};
+use cmdcodec::{Asid, Command, MOST_BODY_COMMANDS, Page, Raw, Sid, Vmid, encode};
 use std::marker::Model;
 
-/// The most commands of a batch: with the CMD_SYNC behind them they are 64.
-const MOST_COMMANDS: usize = 63;
-
 /// Commands on their way into a batch.
-pub(crate) type Commands = ArrayVec<Raw, MOST_COMMANDS>;
+pub(crate) type Commands = ArrayVec<Raw, MOST_BODY_COMMANDS>;
 
 /// The commands of a batch: 1 to 63, legal or not, none of them a CMD_SYNC (own).
 #[derive(Debug, Drop)]
@@ -40,7 +38,7 @@ impl Batch {
     pub fn new(first: Raw) -> Result<Batch, BatchFault>
         ensures { result ≡ unless (new_refusal first) (first ∷ []) }
     {
-        if is_sync(first) {
+        if first.is_sync() {
             return Err(BatchFault::SyncInside);
         }
         let mut commands = Commands::new();
@@ -79,13 +77,13 @@ impl Batch {
     }
 
     /// A batch that detaches a stream: CMD_CFGI_STE with Leaf 1, CMD_CFGI_CD_ALL, and CMD_ATC_INV for all
-    /// pages, in this order (own).
-    pub fn detach(sid: Sid) -> Batch
-        ensures { result ≡ map encoding (detach_commands sid) }
+    /// pages, in this order (own). It is never refused.
+    pub fn detach(sid: Sid) -> Result<Batch, BatchFault>
+        ensures { result ≡ Ok (map encoding (detach_commands sid)) }
     {
         let mut commands = Commands::new();
         append_detach(&mut commands, sid);
-        Batch { commands }
+        Ok(Batch { commands })
     }
 
     /// Appends the words of a command. The first of B2 and B1 that applies refuses it.
@@ -103,7 +101,7 @@ impl Batch {
         ensures appended { OnOk result (self.new ≡ self.old ++ raw ∷ []) }
         ensures unchanged { OnErr result (self.new ≡ self.old) }
     {
-        if is_sync(raw) {
+        if raw.is_sync() {
             return Err(BatchFault::SyncInside);
         }
         if self.commands.is_full() {
@@ -161,13 +159,5 @@ impl Batch {
 fn has_sync(raws: &[Raw]) -> bool
     ensures { result ≡ list_any is_sync raws.now }
 {
-    raws.iter().any(|raw| is_sync(*raw))
-}
-
-/// Whether it is a CMD_SYNC, legal or not.
-#[tactic(auto, using(crate::proofs::BodyLemmas::unnamed_is_no_sync))]
-pub(crate) fn is_sync(raw: Raw) -> bool
-    ensures { result ≡ is_sync raw }
-{
-    matches!(raw.opcode(), Some(Opcode::CmdSync))
+    raws.iter().any(|raw| raw.is_sync())
 }

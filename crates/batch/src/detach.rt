@@ -2,7 +2,8 @@
 ghost use Rattle.std.specs.Prelude.{◌≡◌, ◌≤◌, ◌+◌, ◌++◌, false, length, map};
 ghost use Rattle.std.specs.List.{list_any};
 ghost use Rattle.cmdcodec.specs.Words.{encoding};
-ghost use Rattle.batch.specs.Bodies.{is_sync, IsBody};
+ghost use Rattle.cmdcodec.specs.Opcodes.{is_sync};
+ghost use Rattle.cmdcodec.specs.Bodies.{IsBody};
 ghost use Rattle.batch.specs.Detaching.{detach_commands};
 
 use crate::body::Commands;

@@ -3,7 +3,8 @@ ghost use Rattle.std.specs.Prelude.{◌≡◌, ◌<◌, ◌≤◌, ◌+◌, ◌^
 ghost use Rattle.std.specs.List.{list_any};
 ghost use Rattle.cmdcodec.specs.declared.command.Command.TheVariants.{TlbiNhVa};
 ghost use Rattle.cmdcodec.specs.Words.{encoding};
-ghost use Rattle.batch.specs.Bodies.{is_sync, IsBody};
+ghost use Rattle.cmdcodec.specs.Opcodes.{is_sync};
+ghost use Rattle.cmdcodec.specs.Bodies.{IsBody};
 ghost use Rattle.batch.specs.Ranges.{scale_of, count_of, reached_of, reach_of, range_commands};
 ghost use Rattle.batch.specs.Refusals.{unless, room_refusal, range_refusal};
 

@@ -9,7 +9,7 @@ use Rattle.std.specs.Ordering.{eq_by_cmp, is_eq, is_lt, ordering_reverse}
 use Rattle.std.specs.Cmp.{IsTotalOrder, eq_by_cmp_equiv, Equal-is}
 use Rattle.std.specs.Map.{lookup, keys_of}
 use Rattle.std.specs.FinMap as finite
-use Rattle.std.specs.FinMap.{IsAntisymmetric, find, is_sorted, same_map, get-from_entries, get-from_sorted, entries-from_sorted}
+use Rattle.std.specs.FinMap.{IsAntisymmetric, find, is_sorted, same_map, get-entries, get-from_entries, get-from_sorted, entries-from_sorted}
 use Rattle.std.specs.FinMap.Entries.{below_all}
 use Rattle.std.proofs.lemmas.List.{length-map, get_or-map}
 use Rattle.std.proofs.lemmas.List.Elements.{All-head, All-tail, Contains-get_or}
@@ -22,7 +22,8 @@ use Rattle.caches.specs.declared.key.Key.{Key}
 use Rattle.caches.specs.declared.caches.Caches.TheInside.{Inside}
 use Rattle.caches.specs.Keys.{tag_of, IsKept}
 use Rattle.caches.specs.TagOrder.{tag_cmp, tag_cmp_total, tag_cmp_exact}
-use Rattle.caches.specs.Views.{tagged, AreCaches}
+use Rattle.caches.specs.Views.{tagged, stored, AreCaches}
+use Rattle.caches.specs.Held.{Entries}
 use Rattle.caches.proofs.KeyOrder.{key_cmp, key_total}
 use Rattle.caches.proofs.Kept.{distinct_sorted, find_lookup}
 use Rattle.caches.proofs.Viewed.{same_key, key_back, keeping, same_option}
@@ -126,3 +127,17 @@ all_own a h o = λ k e lt.
     let here : Key × Entry = slice_index_or a.map.entries k e in
     let kept : IsKept (tag_of here.0) here.1 = keeping a h.kept here.0 here.1 (found a.map.entries (IsDistinct-from_sorted key_cmp (keys_of a.map.entries) o) k e lt) in
     kept.own
+
+-- and is found under it
+pub values_own : (a : Inside) → AreCaches a → All (λ (e : Entry). finite.get (stored a).entries e.tag ≡ Some e) (finite.values (stored a).entries)
+values_own a h = λ k e lt.
+    let m : Entries = (stored a).entries in
+    let es : List (Tag × Entry) = finite.entries m in
+    let there : k < length es = omega (arith, length-map es (λ (p : Tag × Entry). p.1), lt) in
+    let here : Tag × Entry = slice_index_or es k (e.tag, e) in
+    let at = get_or-map (λ (p : Tag × Entry). p.1) es k (e.tag, e) e there in
+    let found : finite.get m here.0 ≡ Some here.1 =
+    get-entries m here.0 ∙ find_lookup tag_cmp here.0 es
+    ∙ lookup-from_Contains (eq_by_cmp_equiv tag_cmp_total) here.0 here.1 es (distinct_sorted tag_cmp es (finite.entries_sorted m)) (Contains-get_or es k (e.tag, e) there) in
+    let own : finite.get m here.1.tag ≡ Some here.1 = ap (finite.get m) (h.kept here.0 here.1 found).own ∙ found in
+    subst (λ (x : Entry). finite.get m x.tag ≡ Some x) (sym at) own

@@ -1,5 +1,5 @@
 -- The ordered map as a finite map of tags: what it has at a tag, and how long it is.
-use Rattle.std.proofs.Common.{◌≡◌, ◌+◌, Bool, true, false, not, Option, Some, None, is_some, refl, sym, ◌∙◌, ap, subst, List, [], ◌∷◌, length, arith, cond}
+use Rattle.std.proofs.Common.{IfSome, ◌≡◌, ◌+◌, Bool, true, false, not, Option, Some, None, is_some, refl, sym, ◌∙◌, ap, subst, List, [], ◌∷◌, length, arith, cond}
 use Rattle.std.specs.declared.cmp.Ordering.{Ordering}
 use Rattle.std.specs.declared.cmp.Ordering.TheVariants.{Less, Equal, Greater}
 use Rattle.std.specs.Ordering.{eq_by_cmp, is_eq}
@@ -130,3 +130,8 @@ stored_insert a b t e u = same_map tag_cmp_total tag_cmp_exact _ _ (λ q. update
 
 pub stored_remove : (a b : Inside) (t : Tag) → Updates key_cmp a.map b.map (key_of t) None → (stored b).entries ≡ finite.remove (stored a).entries t
 stored_remove a b t u = same_map tag_cmp_total tag_cmp_exact _ _ (λ q. updated a b t None u q ∙ sym (get-remove tag_cmp_total (stored a).entries t q))
+
+-- what is found under a tag has it, where each that is found does
+pub own_tag : (found : Option Entry) (t : Tag) → ((e : Entry) → found ≡ Some e → e.tag ≡ t) → IfSome found (λ e. e.tag ≡ t)
+own_tag None t own = tt
+own_tag (Some e) t own = own e refl

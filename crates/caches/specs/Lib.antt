@@ -1,3 +1,4 @@
+pub mod Faults
 pub mod Blocks
 pub mod Covers
 pub mod Held

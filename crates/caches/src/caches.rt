@@ -1,5 +1,5 @@
 //! The caches: each entry in one ordered map.
-ghost use Rattle.std.specs.Prelude.{◌≡◌, ◌+◌, ◌<◌, ◌≤◌, ◌↔◌, IfOk, OnOk, OnErr, Err, None, [], ◌∷◌};
+ghost use Rattle.std.specs.Prelude.{◌≡◌, ◌+◌, ◌<◌, ◌≤◌, ◌↔◌, All, IfOk, IfSome, OnOk, OnErr, Err, None, Some, [], ◌∷◌};
 ghost use Rattle.std.specs.FinMap as finite;
 ghost use Rattle.std.specs.List.Sorted.{IsPermutation, IsSortedByKey};
 ghost use Rattle.caches.specs.TagOrder.{tag_cmp, numbers};
@@ -21,6 +21,7 @@ use std::marker::Model;
 /// What an SMMU and the endpoints behind it remember: at most `capacity` entries, of each tag one.
 #[derive(Drop)]
 pub struct Caches {
+    alloc: Global,
     capacity: u32,
     map: BTreeMap<Key, Entry>,
 }
@@ -52,6 +53,7 @@ impl Caches {
             return Err(CacheFault::BadCapacity);
         }
         Ok(Caches {
+            alloc,
             capacity,
             map: BTreeMap::new(alloc),
         })
@@ -59,7 +61,8 @@ impl Caches {
 
     /// The entry of this tag that is held, if one is.
     pub fn lookup(&self, tag: &Tag) -> Option<Entry>
-        ensures { result ≡ finite.get self.now.entries tag.now }
+        ensures value { result ≡ finite.get self.now.entries tag.now }
+        ensures own { IfSome result (λ entry. entry.tag ≡ tag.now) }
     {
         self.map.get(&Key::of(tag)).copied()
     }
@@ -76,11 +79,13 @@ impl Caches {
     /// All entries that are held, in the order of their tags.
     ///
     /// Errors: C3 for want of memory, and no other.
-    pub fn entries(&self, alloc: Global) -> Result<Vec<Entry>, CacheFault>
+    pub fn entries(&self) -> Result<Vec<Entry>, CacheFault>
         ensures ok { IfOk result (λ list. list.items ≡ finite.values self.now.entries) }
+        // Each stands under its own tag.
+        ensures own { IfOk result (λ list. All (λ entry. finite.get self.now.entries entry.tag ≡ Some entry) list.items) }
         ensures err { OnErr result (result ≡ Err CacheFault.NoMemory) }
     {
-        match self.map.values().copied().collect::<Vec<Entry>>(alloc) {
+        match self.map.values().copied().collect::<Vec<Entry>>(self.alloc) {
             Ok(mut list) => {
                 sort_by_tag(&mut list);
                 Ok(list)
@@ -94,6 +99,7 @@ impl Caches {
         ensures after { self.new.entries ≡ without_covered command.now self.old.entries }
         ensures capacity { self.new.capacity ≡ self.old.capacity }
         ensures removed { result + finite.len self.new.entries ≡ finite.len self.old.entries }
+        ensures few { result ≤ 65536 }
         ensures held { (h : History) → self.old.entries ≡ held h → self.new.entries ≡ held (Take command.now ∷ h) }
     {
         let before = self.len();

@@ -4,3 +4,4 @@ pub mod SpellingLemmas
 pub mod PageRunLemmas
 pub mod LawLemmas
 pub mod FreeBitLemmas
+pub mod ClosingLemmas

@@ -58,6 +58,10 @@ opcode_named number =
     else if number == 0x46 then Some CmdSync
     else None
 
+-- a CMD_SYNC, by its opcode alone, whatever the other fields say
+abbrev pub is_sync : Raw → Bool
+is_sync raw = opcode_of raw == number_of CmdSync
+
 -- Commands that the profile keeps as they are: it says nothing of their fields.
 abbrev pub is_kept : ℕ → Bool
 is_kept number = number == 0x01 || number == 0x02 || number == 0x41 || number == 0x44 || number == 0x45

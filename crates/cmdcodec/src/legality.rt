@@ -1,7 +1,7 @@
 //! What is illegal in two words.
 ghost use Rattle.std.specs.Prelude.{◌≡◌, ◌==◌, IfSome};
 ghost use Rattle.cmdcodec.specs.Fields.{field};
-ghost use Rattle.cmdcodec.specs.Opcodes.{opcode_of, opcode_named, number_of};
+ghost use Rattle.cmdcodec.specs.Opcodes.{opcode_of, opcode_named, number_of, is_sync};
 ghost use Rattle.cmdcodec.specs.Legality.{first_ill};
 
 use crate::bits::field;
@@ -22,6 +22,13 @@ impl Raw {
         ensures number { IfSome result (λ opcode. number_of opcode ≡ opcode_of self) }
     {
         Opcode::new(field(self.lo, 7, 0))
+    }
+
+    /// Whether it is a CMD_SYNC, legal or not.
+    pub fn is_sync(self) -> bool
+        ensures { result ≡ is_sync self }
+    {
+        field(self.lo, 7, 0) == Opcode::CmdSync as u64
     }
 }
 

@@ -14,11 +14,12 @@ mod kept;
 mod laws;
 mod layout;
 mod legality;
+mod limits;
 mod opcode;
 mod raw;
 mod reach;
 
-pub use closing::closing_sync;
+pub use closing::{cell_address, cell_owner, closing_sync};
 pub use command::Command;
 pub use decoding::decode;
 pub use display::text;
@@ -30,6 +31,7 @@ pub use fields::{
 pub use ill::Ill;
 pub use kept::KeptRaw;
 pub use laws::{free_bits_are_ignored, legal_words_spell_one_command, runs_are_of_whole_granules};
+pub use limits::{MOST_BATCH_COMMANDS, MOST_BATCHES, MOST_BODY_COMMANDS};
 pub use opcode::Opcode;
 pub use raw::{Raw, RawList, from_bytes, to_bytes};
 pub use reach::{Granule, PageRun, Reach};

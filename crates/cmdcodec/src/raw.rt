@@ -2,6 +2,7 @@
 ghost use Rattle.std.specs.Prelude.{◌≡◌};
 ghost use Rattle.cmdcodec.specs.Bytes.{bytes_of, raw_of};
 
+use crate::limits::MOST_BATCH_COMMANDS;
 use arrayvec::ArrayVec;
 use byteorder::{ByteOrder, LittleEndian};
 
@@ -14,8 +15,8 @@ pub struct Raw {
     pub hi: u64,
 }
 
-/// At most 64 commands, kept without memory of their own.
-pub type RawList = ArrayVec<Raw, 64>;
+/// At most as many commands as a batch has, kept without memory of their own.
+pub type RawList = ArrayVec<Raw, MOST_BATCH_COMMANDS>;
 
 /// The bytes of a command as they lie in the queue: lo first, each word with its lowest byte first.
 pub fn to_bytes(raw: Raw) -> [u8; 16]

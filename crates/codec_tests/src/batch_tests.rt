@@ -95,7 +95,7 @@ fn a_range_is_appended_whole_or_not(rt: HostRuntime) {
 #[test]
 fn a_stream_is_detached(rt: HostRuntime) {
     let sid = Sid::new(5).unwrap();
-    let batch = Batch::detach(sid);
+    let batch = Batch::detach(sid).unwrap();
     assert_eq!(rt; batch.get(0), words(0x5_0000_0003, 0x1));
     assert_eq!(rt; batch.get(1), words(0x5_0000_0006, 0x0));
     assert_eq!(rt; batch.get(2), words(0x5_0000_0040, 0x34));

@@ -2,7 +2,7 @@
 use Rattle.std.proofs.Common.{◌≡◌, ℕ, true, false, List, ◌++◌, length, ap, sym, ◌∙◌, append_assoc, Some, codes}
 use Rattle.std.specs.Prelude.{flat_map, count_by}
 use Rattle.replay.specs.declared.smmu.Smmu.{Smmu}
-use Rattle.replay.specs.Refusals.{is_sync}
+use Rattle.cmdcodec.specs.Opcodes.{is_sync}
 use Rattle.replay.specs.History.{entries_of}
 use Rattle.replay.specs.World.{index_of}
 use Rattle.replay.specs.ReplayText.{State, answers, registers_text, totals_text, entry_line, dump_text, dump_effect}

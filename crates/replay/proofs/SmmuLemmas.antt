@@ -13,7 +13,7 @@ use Rattle.replay.specs.declared.shape.Shape.{Shape}
 use Rattle.replay.specs.declared.smmu.Smmu.{Smmu}
 use Rattle.replay.specs.declared.entries.Filling.{Filling}
 use Rattle.replay.specs.declared.tag.Tag.{Tag}
-use Rattle.replay.specs.Refusals.{is_sync}
+use Rattle.cmdcodec.specs.Opcodes.{is_sync}
 use Rattle.replay.specs.History.{Event, Filled, Took, held, entries_of, tag_cmp, covered}
 use Rattle.replay.specs.World.{reserved, size_of, index_of, batches_by, after_batch, after_take}
 use Rattle.replay.specs.ReplayText.{State, made, filled}

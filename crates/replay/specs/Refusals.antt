@@ -1,8 +1,8 @@
 -- Why a batch is refused.
-use Rattle.std.specs.Prelude.{ℕ, ◌+◌, nat_lt, nat_le, List, ◌==◌, Bool, Option, Some, None, length, codes, if◌then◌else◌}
+use Rattle.std.specs.Prelude.{ℕ, ◌+◌, nat_lt, nat_le, List, ◌==◌, Option, Some, None, length, codes, if◌then◌else◌}
 use Rattle.std.specs.List.{list_any}
 use Rattle.cmdcodec.specs.declared.raw.Raw.{Raw}
-use Rattle.cmdcodec.specs.Opcodes.{opcode_of}
+use Rattle.cmdcodec.specs.Opcodes.{is_sync}
 use Rattle.replay.specs.declared.refusal.Refusal.{Refusal}
 use Rattle.replay.specs.declared.refusal.Refusal.TheVariants.{Empty, TooMany, SyncInside, TooLong, Exhausted, NoRoom}
 
@@ -13,9 +13,6 @@ label_of SyncInside = codes "B2"
 label_of TooLong = codes "Q4"
 label_of Exhausted = codes "Q5"
 label_of NoRoom = codes "Q2"
-
-abbrev pub is_sync : Raw → Bool
-is_sync raw = opcode_of raw == 0x46
 
 -- of a body by itself
 abbrev pub body_refusal : List Raw → Option Refusal

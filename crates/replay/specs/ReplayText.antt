@@ -20,7 +20,8 @@ use Rattle.replay.specs.declared.entries.Filling.{Filling}
 use Rattle.replay.specs.declared.refusal.Refusal.{Refusal}
 use Rattle.replay.specs.Requests.{request_of}
 use Rattle.replay.specs.Shapes.{fault_label, shape_fault}
-use Rattle.replay.specs.Refusals.{label_of, is_sync, refusal_of}
+use Rattle.cmdcodec.specs.Opcodes.{is_sync}
+use Rattle.replay.specs.Refusals.{label_of, refusal_of}
 use Rattle.replay.specs.World.{World, reserved, size_of, index_of, batches_by, after_batch, head_of, after_take, empty_world}
 use Rattle.replay.specs.History.{Event, Filled, Took, entries_of, entry_at, covered_count}
 

@@ -3,7 +3,8 @@ use Rattle.std.specs.Prelude.{ℕ, ◌^◌, nat_le, List, [], ◌∷◌, ◌==�
 use Rattle.std.specs.List.{list_all}
 use Rattle.std.specs.Str.{bytes_eq}
 use Rattle.cmdcodec.specs.declared.raw.Raw.{Raw}
-use Rattle.cmdcodec.specs.Opcodes.{opcode_of}
+use Rattle.cmdcodec.specs.declared.opcode.Opcode.TheVariants.{CfgiSte, CfgiSteRange}
+use Rattle.cmdcodec.specs.Opcodes.{opcode_of, number_of, is_sync}
 use Rattle.cmdcodec.specs.Legality.{first_ill}
 use Rattle.script.specs.Words.{words_of}
 use Rattle.script.specs.Fields.{◌>>=◌, guard, next_below, is_end, hex_of, is_comment, is_printable}
@@ -36,7 +37,7 @@ fill_of words = do
 
 -- a legal command with an opcode that the ring takes yet
 abbrev pub is_sendable : Raw → Bool
-is_sendable raw = is_none (first_ill raw) && (opcode_of raw == 0x03 || opcode_of raw == 0x04 || opcode_of raw == 0x46)
+is_sendable raw = is_none (first_ill raw) && (opcode_of raw == number_of CfgiSte || opcode_of raw == number_of CfgiSteRange || is_sync raw)
 
 unfoldable pub command_of : List ℕ → Option Raw
 command_of word = hex_of word >>= λ raw. guard (is_sendable raw) raw

@@ -1,7 +1,7 @@
 -- When what the program keeps stands for a state of the definition, and what its parts do to it.
 use Rattle.std.specs.Prelude.{◌≡◌, ℕ, ◌<◌, ◌^◌, List, ◌++◌, Bool, true, Option, Some, None, length, get_or, count_by}
 use Rattle.replay.specs.declared.smmu.Smmu.{Smmu}
-use Rattle.replay.specs.Refusals.{is_sync}
+use Rattle.cmdcodec.specs.Opcodes.{is_sync}
 use Rattle.replay.specs.History.{entries_of}
 use Rattle.replay.specs.World.{reserved, index_of, batches_by}
 use Rattle.replay.specs.ReplayText.{State, Effect, Step}

@@ -1,9 +1,10 @@
 //! Why a batch isn't sent.
 ghost use Rattle.std.specs.Prelude.{◌≡◌, ◌≤◌, length, None};
 ghost use Rattle.std.specs.List.{list_any};
-ghost use Rattle.replay.specs.Refusals.{label_of, is_sync, body_refusal};
+ghost use Rattle.cmdcodec.specs.Opcodes.{is_sync};
+ghost use Rattle.replay.specs.Refusals.{label_of, body_refusal};
 
-use cmdcodec::Raw;
+use cmdcodec::{MOST_BODY_COMMANDS, Raw};
 
 /// Why a batch isn't sent. The first that applies is told.
 #[derive(Clone, Copy, Debug, PartialEq, Eq)]
@@ -44,7 +45,7 @@ pub(crate) fn body_refusal(body: &[Raw]) -> Option<Refusal>
 {
     if body.is_empty() {
         Some(Refusal::Empty)
-    } else if body.len() > 63 {
+    } else if body.len() > MOST_BODY_COMMANDS {
         Some(Refusal::TooMany)
     } else if has_sync(body) {
         Some(Refusal::SyncInside)
@@ -56,12 +57,5 @@ pub(crate) fn body_refusal(body: &[Raw]) -> Option<Refusal>
 fn has_sync(body: &[Raw]) -> bool
     ensures { result ≡ list_any is_sync body.now }
 {
-    body.iter().any(|raw| is_sync(raw))
-}
-
-/// Whether a command is a CMD_SYNC, legal or not.
-pub(crate) fn is_sync(raw: &Raw) -> bool
-    ensures { result ≡ is_sync raw.now }
-{
-    raw.lo & 0xff == 0x46
+    body.iter().any(|raw| raw.is_sync())
 }

@@ -7,7 +7,6 @@ use crate::answer::{
 use crate::counts::Counts;
 use crate::entries::{Entries, Fill, Filling};
 use crate::queue::Queue;
-use crate::refusal::is_sync;
 use crate::request::Request;
 use crate::shape::Shape;
 use crate::tag::Tag;
@@ -100,7 +99,7 @@ impl Smmu {
         };
         self.queue.take();
         let removed = self.entries.apply(&command);
-        self.counts.add(is_sync(&raw), removed);
+        self.counts.add(raw.is_sync(), removed);
         say_applied(&command, removed, reply)?;
         Ok(true)
     }

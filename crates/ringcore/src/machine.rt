@@ -1,27 +1,37 @@
 //! The ring with one owner: its words, and what each seat knows.
 ghost use Rattle.std.specs.Prelude.{◌≡◌, ◌<◌, ◌≤◌, [], length, IfOk, IfErr, OnErr};
 ghost use Rattle.qindex.specs.ControlWord.{IsControl};
-ghost use Rattle.ringcore.specs.Trails.{Run};
-ghost use Rattle.ringcore.specs.World.{world, control};
-ghost use Rattle.ringcore.specs.Delivery.{IsOrderedDelivery};
-ghost use Rattle.ringcore.specs.Played.{played};
-ghost use Rattle.ringcore.specs.Machine.{ring_of, ring_with, AllKnow, StandsFor, IsTaken, IsRefused, Applies, IsNew, IsNotMade, number_fault, HasPlayed};
+ghost use Rattle.ringcore.specs.world.Trails.{Run};
+ghost use Rattle.ringcore.specs.world.World.{world, control};
+ghost use Rattle.ringcore.specs.world.Delivery.{IsOrderedDelivery};
+ghost use Rattle.ringcore.specs.machine.Played.{played};
+ghost use Rattle.ringcore.specs.machine.Core.{ring_of, ring_with, AllKnow, StandsAfter, IsTaken, IsRefused, IsTakenOrRefused, IsNew, IsNotMade, number_fault, HasPlayed};
 
-use crate::consumer_view::ConsumerView;
-use crate::core_fault::CoreFault;
-use crate::laws;
-use crate::ring_words::RingWords;
-use crate::sender_view::SenderView;
-use crate::step::{Seen, Step};
-use crate::step_fault::StepFault;
-use crate::sync_tallies::SyncTallies;
+use crate::memory::{RingWords, laws as word_laws};
+use crate::world::laws::world_law;
 use qindex::{Control, Geometry, control_words_say_their_control, indexes_tell_the_queue};
 use std::alloc::{AllocError, Global};
 use std::marker::Model;
 
 mod consumer_steps;
+mod consumer_view;
+mod core_fault;
+mod held;
+pub mod laws;
 mod places;
 mod sender_steps;
+mod sender_view;
+mod slot_offset;
+mod step;
+mod step_fault;
+mod sync_tallies;
+
+pub use consumer_view::ConsumerView;
+pub use core_fault::CoreFault;
+pub use sender_view::SenderView;
+pub use step::{Seen, Step};
+pub use step_fault::StepFault;
+pub use sync_tallies::SyncTallies;
 
 /// A ring with one owner, who takes each step by itself: the words, and what each seat knows (own).
 #[derive(Drop)]
@@ -33,15 +43,15 @@ pub struct Core {
 }
 
 impl Model for Core {
-    ghost use Rattle.ringcore.specs.Delivery.{IsOrderedDelivery};
-    ghost use Rattle.ringcore.specs.Played.{played};
-    ghost use Rattle.ringcore.specs.Machine.{CoreValue, IsMachine};
+    ghost use Rattle.ringcore.specs.world.Delivery.{IsOrderedDelivery};
+    ghost use Rattle.ringcore.specs.machine.Played.{played};
+    ghost use Rattle.ringcore.specs.machine.Core.{CoreValue, core_of, IsMachine};
 
     ghost Value = { CoreValue };
 
-    ghost view = { λ core. record { words = core.words; senders = core.senders.items; consumer = core.consumer; tallies = core.tallies } };
+    ghost view = { core_of };
 
-    ghost invariant = { λ core. IsMachine (record { words = core.words; senders = core.senders.items; consumer = core.consumer; tallies = core.tallies }) };
+    ghost invariant = { λ core. IsMachine (core_of core) };
 }
 
 impl Core {
@@ -67,9 +77,9 @@ impl Core {
     /// A machine before its first step.
     fn open(alloc: Global, geometry: Geometry, senders: u32) -> Result<Core, AllocError>
         requires { senders ≤ 256 }
-        ensures { IfOk result (λ core. (ring_of core ≡ ring_with geometry senders) × StandsFor core []) }
+        ensures { IfOk result (λ core. (ring_of core ≡ ring_with geometry senders) × StandsAfter core []) }
     {
-        laws::begin();
+        word_laws::begin();
         Ok(Core {
             words: RingWords::new(alloc, geometry, senders)?,
             senders: new_views(alloc, senders)?,
@@ -89,7 +99,7 @@ impl Core {
     }
 
     fn take(&mut self, step: &Step) -> Result<Seen, StepFault>
-        ensures { Applies self.old self.new step.now result }
+        ensures { IsTakenOrRefused self.old self.new step.now result }
     {
         match step {
             Step::Look { who: None } => Ok(self.consumer_looks()),
@@ -116,10 +126,10 @@ impl Core {
 
     /// What the control word says.
     pub fn control(&self) -> Control
-        ensures says { (run : Run) → StandsFor self.now run → result ≡ control self.now.words.geometry (world run) }
+        ensures says { (run : Run) → StandsAfter self.now run → result ≡ control self.now.words.geometry (world run) }
         ensures geometry { IsControl self.now.words.geometry result }
     {
-        laws::look();
+        word_laws::look();
         control_words_say_their_control();
         indexes_tell_the_queue();
         self.words.control().unwrap()
@@ -151,7 +161,7 @@ pub fn run(
     ensures delivery { IfOk result (λ told. IsOrderedDelivery (played (ring_with log2 senders) steps.now).run) }
     ensures refused { IfErr result (λ fault. IsNotMade (number_fault log2 senders) fault) }
 {
-    laws::world_law();
+    world_law();
     let mut core = Core::new(alloc, log2, senders)?;
     for place in 0..steps.len() {
         if let Err(fault) = core.take(&steps[place]) {

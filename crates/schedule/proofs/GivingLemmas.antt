@@ -3,7 +3,7 @@ use Rattle.std.proofs.Common.{◌≡◌, ℕ, ◌+◌, true, false, cond, List, 
 use Rattle.script.specs.Outcome.{Continues, Ends}
 use Rattle.script.specs.Answers.{Answer, with_text, EndsAs}
 use Rattle.script.proofs.AnswerLemmas.{ends_front}
-use Rattle.ringcore.specs.Machine.{CoreValue}
+use Rattle.ringcore.specs.machine.Core.{CoreValue}
 use Rattle.schedule.specs.ScheduleText.{State, Effect, line_effect, after_effect, answer_from}
 use Rattle.schedule.specs.Standing.{ActsAt}
 use Rattle.schedule.specs.Giving.{Gives}

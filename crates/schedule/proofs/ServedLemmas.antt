@@ -3,15 +3,15 @@ use Rattle.std.proofs.Common.{◌≡◌, ℕ, ◌≤◌, Bool, true, false, cond
 use Rattle.std.proofs.lemmas.Bool.{le-ltb}
 use Rattle.script.specs.Outcome.{fault_line}
 use Rattle.script.specs.Texts.{ring_text}
-use Rattle.ringcore.specs.declared.core_fault.CoreFault.{CoreFault}
-use Rattle.ringcore.specs.declared.step.Step.{Step}
-use Rattle.ringcore.specs.declared.step.Seen.{Seen}
-use Rattle.ringcore.specs.declared.step_fault.StepFault.{StepFault}
-use Rattle.ringcore.specs.Shadow.{Ring}
-use Rattle.ringcore.specs.Faults.{fault_of}
-use Rattle.ringcore.specs.FaultNames.{label_of, core_label}
-use Rattle.ringcore.specs.Answers.{event_of}
-use Rattle.ringcore.specs.Machine.{CoreValue, StandsFor, ring_of, IsNew, number_fault, IsRefused, IsTaken, answer_to as seen_by}
+use Rattle.ringcore.specs.declared.machine.core_fault.CoreFault.{CoreFault}
+use Rattle.ringcore.specs.declared.machine.step.Step.{Step}
+use Rattle.ringcore.specs.declared.machine.step.Seen.{Seen}
+use Rattle.ringcore.specs.declared.machine.step_fault.StepFault.{StepFault}
+use Rattle.ringcore.specs.world.Allowed.{Ring}
+use Rattle.ringcore.specs.machine.Faults.{fault_of}
+use Rattle.ringcore.specs.machine.FaultNames.{label_of, core_label}
+use Rattle.ringcore.specs.machine.StepAnswers.{event_of}
+use Rattle.ringcore.specs.machine.Core.{CoreValue, StandsAfter, ring_of, IsNew, number_fault, IsRefused, IsTaken, answer_to as seen_by}
 use Rattle.schedule.specs.declared.request.Request.{Request}
 use Rattle.schedule.specs.declared.request.Request.TheVariants as asks
 use Rattle.schedule.specs.Lines.{request_of}
@@ -67,11 +67,11 @@ step_refused number step is_counted fault old new before after refused text = re
       (ap (step_or_fault number step is_counted state) (fault_is old state step (Some fault) s (refused state.run s.run))) (λ on. absurd cc);
 }
 
-stands_taken : (old new : CoreValue) (state : State) (step : Step) → Stands old state → ring_of new ≡ ring_of old → StandsFor new (event_of (ring_of old) state.run step ∷ state.run)
+stands_taken : (old new : CoreValue) (state : State) (step : Step) → Stands old state → ring_of new ≡ ring_of old → StandsAfter new (event_of (ring_of old) state.run step ∷ state.run)
     → Stands new (taken state step)
 stands_taken old new state step s same stands = record {
   ring = same ∙ s.ring;
-  run = subst (λ (ring : Ring). StandsFor new (event_of ring state.run step ∷ state.run)) s.ring stands;
+  run = subst (λ (ring : Ring). StandsAfter new (event_of ring state.run step ∷ state.run)) s.ring stands;
 }
 
 pub step_taken : (number : ℕ) (step : Step) (is_counted : Bool) (seen : Seen) (old new : CoreValue) (before after : List ℕ) → IsTaken old new step seen → ring_of new ≡ ring_of old

@@ -2,7 +2,7 @@
 use Rattle.std.specs.Prelude.{ℕ, List, Option, None}
 use Rattle.script.specs.Outcome.{Outcome}
 use Rattle.script.specs.Answers.{EndsAs}
-use Rattle.ringcore.specs.Machine.{CoreValue}
+use Rattle.ringcore.specs.machine.Core.{CoreValue}
 use Rattle.schedule.specs.ScheduleText.{State, answer_from}
 use Rattle.schedule.specs.Standing.{StandsAt}
 

@@ -5,7 +5,7 @@ use Rattle.std.proofs.lemmas.Bool.{lt-ltb}
 use Rattle.script.specs.declared.ending.Ending.TheVariants.{Finished}
 use Rattle.script.specs.Outcome.{Outcome, fault}
 use Rattle.script.proofs.AnswerLemmas.{ends_cut}
-use Rattle.ringcore.specs.Machine.{CoreValue}
+use Rattle.ringcore.specs.machine.Core.{CoreValue}
 use Rattle.schedule.specs.Lines.{request_of}
 use Rattle.schedule.specs.ScheduleText.{faults, asked_effect, line_effect, after_effect, answer_from}
 use Rattle.schedule.specs.Giving.{Gives}

@@ -6,8 +6,8 @@ use Rattle.arrayvec.specs.ArrayVec.{ArrayVec}
 use Rattle.cmdcodec.specs.declared.raw.Raw.{Raw}
 use Rattle.script.specs.Words.{words_of}
 use Rattle.script.specs.Fields.{◌>>=◌, guard, next_below, is_end, hex_of, is_comment, is_printable}
-use Rattle.ringcore.specs.declared.step.Step.{Step}
-use Rattle.ringcore.specs.declared.step.Step.TheVariants as steps
+use Rattle.ringcore.specs.declared.machine.step.Step.{Step}
+use Rattle.ringcore.specs.declared.machine.step.Step.TheVariants as steps
 use Rattle.schedule.specs.declared.request.Request.{Request}
 use Rattle.schedule.specs.declared.request.Request.TheVariants as asks
 

@@ -4,15 +4,15 @@ use Rattle.script.specs.Lines.{lines_of}
 use Rattle.script.specs.Outcome.{fault_line}
 use Rattle.script.specs.Answers.{Answer, with_text}
 use Rattle.script.specs.Texts.{ring_text}
-use Rattle.ringcore.specs.declared.core_fault.CoreFault.{CoreFault}
-use Rattle.ringcore.specs.declared.step.Step.{Step}
-use Rattle.ringcore.specs.declared.step_fault.StepFault.{StepFault}
-use Rattle.ringcore.specs.Trails.{Run}
-use Rattle.ringcore.specs.Shadow.{Ring}
-use Rattle.ringcore.specs.Faults.{fault_of}
-use Rattle.ringcore.specs.FaultNames.{label_of, core_label}
-use Rattle.ringcore.specs.Answers.{event_of}
-use Rattle.ringcore.specs.Machine.{ring_with, number_fault, answer_to as seen_by}
+use Rattle.ringcore.specs.declared.machine.core_fault.CoreFault.{CoreFault}
+use Rattle.ringcore.specs.declared.machine.step.Step.{Step}
+use Rattle.ringcore.specs.declared.machine.step_fault.StepFault.{StepFault}
+use Rattle.ringcore.specs.world.Trails.{Run}
+use Rattle.ringcore.specs.world.Allowed.{Ring}
+use Rattle.ringcore.specs.machine.Faults.{fault_of}
+use Rattle.ringcore.specs.machine.FaultNames.{label_of, core_label}
+use Rattle.ringcore.specs.machine.StepAnswers.{event_of}
+use Rattle.ringcore.specs.machine.Core.{ring_with, number_fault, answer_to as seen_by}
 use Rattle.schedule.specs.declared.request.Request.{Request}
 use Rattle.schedule.specs.declared.request.Request.TheVariants as asks
 use Rattle.schedule.specs.Lines.{request_of}

@@ -1,12 +1,12 @@
 -- When a machine stands for a state of the definition, and what its parts do to it.
 use Rattle.std.specs.Prelude.{◌≡◌, ℕ, List, ◌++◌, Bool, true, Option, Some, None}
-use Rattle.ringcore.specs.Machine.{CoreValue, StandsFor, ring_of}
+use Rattle.ringcore.specs.machine.Core.{CoreValue, StandsAfter, ring_of}
 use Rattle.schedule.specs.ScheduleText.{State, Effect}
 
 -- The machine has the state's ring, and stands as after its run.
 pub record Stands (core : CoreValue) (state : State) : Type 0 where
   pub ring : ring_of core ≡ state.ring
-  pub run : StandsFor core state.run
+  pub run : StandsAfter core state.run
 
 -- The same, before the ring is made too.
 abbrev pub StandsAt : Option CoreValue → Option State → Type 0

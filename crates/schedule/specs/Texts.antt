@@ -2,10 +2,10 @@
 use Rattle.std.specs.Prelude.{ℕ, zero, suc, ◌/◌, ◌%◌, List, [], ◌++◌, Bool, false, Option, Some, None, codes, decimal, if◌then◌else◌}
 use Rattle.std.specs.Fmt.{digits}
 use Rattle.qindex.specs.declared.control.Control.{Control}
-use Rattle.ringcore.specs.declared.step.Step.{Step}
-use Rattle.ringcore.specs.declared.step.Step.TheVariants as steps
-use Rattle.ringcore.specs.declared.step.Seen.{Seen}
-use Rattle.ringcore.specs.declared.step.Seen.TheVariants.{Word, Reserved, Lost, Written, Flipped, Ready, Half, Acknowledged, Done}
+use Rattle.ringcore.specs.declared.machine.step.Step.{Step}
+use Rattle.ringcore.specs.declared.machine.step.Step.TheVariants as steps
+use Rattle.ringcore.specs.declared.machine.step.Seen.{Seen}
+use Rattle.ringcore.specs.declared.machine.step.Seen.TheVariants.{Word, Reserved, Lost, Written, Flipped, Ready, Half, Acknowledged, Done}
 
 -- `PROD CONS open` or `PROD CONS closed`
 abbrev pub control_text : Control → List ℕ

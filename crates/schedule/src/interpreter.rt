@@ -1,6 +1,6 @@
 //! The lines of a schedule, one after another.
 ghost use Rattle.std.specs.Prelude.{◌≡◌, ◌≤◌, IfOk, None, is_some, length, string_bytes};
-ghost use Rattle.ringcore.specs.Machine.{number_fault};
+ghost use Rattle.ringcore.specs.machine.Core.{number_fault};
 ghost use Rattle.schedule.specs.ScheduleText.{ring_or_fault, step_effect, served, first_served, request_effect, line_effect};
 ghost use Rattle.schedule.specs.Standing.{Acts, ActsAt};
 

@@ -1,6 +1,6 @@
 //! The texts that the steps of a schedule are answered with.
 ghost use Rattle.std.specs.Prelude.{◌≡◌, ◌++◌, OnOk, codes, decimal, string_bytes};
-ghost use Rattle.ringcore.specs.FaultNames.{label_of};
+ghost use Rattle.ringcore.specs.machine.FaultNames.{label_of};
 ghost use Rattle.script.specs.Outcome.{fault_line};
 ghost use Rattle.schedule.specs.Texts.{control_text, flags_text, number_text, ready_text, word_name, flags_of, seen_text};
 

@@ -81,3 +81,16 @@ fn blocks_are_refused_by_their_form(rt: HostRuntime) {
     );
     assert_eq!(rt; caches.lookup(&stage1(1, of(2), 0, 255)), None);
 }
+
+#[test]
+fn faults_have_their_numbers(rt: HostRuntime) {
+    for (fault, text) in [
+        (CacheFault::Full, "C1"),
+        (CacheFault::BadBlock, "C2"),
+        (CacheFault::NoMemory, "C3"),
+        (CacheFault::BadCapacity, "C4"),
+    ] {
+        let told = fault.to_string(rt.alloc()).expect(&rt, "memory");
+        assert_eq!(rt; told.as_str(), text);
+    }
+}

@@ -6,7 +6,7 @@ use std::alloc::Global;
 #[test]
 fn entries_stand_in_the_order_of_tags(rt: HostRuntime) {
     let mut caches = Caches::new(rt.alloc(), 32).unwrap();
-    assert!(rt; lists(&caches, rt.alloc(), &[]));
+    assert!(rt; lists(&caches, &[]));
     let listed = [
         entry(ste(0)),
         entry(ste(9)),
@@ -28,13 +28,13 @@ fn entries_stand_in_the_order_of_tags(rt: HostRuntime) {
     for place in 0..16usize {
         assert_eq!(rt; caches.fill(listed[15 - place]), Ok(None));
     }
-    assert!(rt; lists(&caches, rt.alloc(), &listed));
+    assert!(rt; lists(&caches, &listed));
     assert_eq!(rt; caches.len(), 16);
 }
 
 /// Whether stream table entries of streams 0 to 32,767 are listed, and then a context descriptor of each.
-fn lists_both_of_each_stream(caches: &Caches, alloc: Global) -> bool {
-    match caches.entries(alloc) {
+fn lists_both_of_each_stream(caches: &Caches) -> bool {
+    match caches.entries() {
         Ok(list) => {
             list.len() == 65_536
                 && list.as_slice().get(0) == Some(&entry(ste(0)))
@@ -53,5 +53,5 @@ fn as_many_entries_as_there_may_be(rt: HostRuntime) {
         assert_eq!(rt; caches.fill(entry(cd(stream, 1))), Ok(None));
         assert_eq!(rt; caches.fill(entry(ste(stream))), Ok(None));
     }
-    assert!(rt; lists_both_of_each_stream(&caches, rt.alloc()));
+    assert!(rt; lists_both_of_each_stream(&caches));
 }

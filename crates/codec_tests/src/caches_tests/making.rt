@@ -101,8 +101,8 @@ pub fn cd(stream: u32, substream: u16) -> Tag {
 }
 
 /// Whether just these entries are listed, in this order.
-pub fn lists(caches: &Caches, alloc: Global, wanted: &[Entry]) -> bool {
-    match caches.entries(alloc) {
+pub fn lists(caches: &Caches, wanted: &[Entry]) -> bool {
+    match caches.entries() {
         Ok(list) => list.as_slice() == wanted,
         Err(_) => false,
     }

@@ -21,8 +21,8 @@ fn fill(caches: &mut Caches, new: Entry) -> Option<bool> {
 }
 
 /// The sum of the values that are listed.
-fn sum(caches: &Caches, alloc: Global) -> Option<u64> {
-    match caches.entries(alloc) {
+fn sum(caches: &Caches) -> Option<u64> {
+    match caches.entries() {
         Ok(list) => Some(
             list.iter()
                 .fold(0, |sum: u64, held| sum.wrapping_add(held.value)),
@@ -47,11 +47,11 @@ fn run(alloc: Global) -> &'static str {
             }
         }
     }
-    let first = sum(&caches, alloc);
+    let first = sum(&caches);
     if first.is_none() {
         outcome = "refused";
     }
-    match first.or(sum(&caches, alloc)) {
+    match first.or(sum(&caches)) {
         Some(280) if caches.len() == 40 => outcome,
         _ => "wrong",
     }

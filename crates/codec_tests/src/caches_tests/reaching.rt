@@ -1,6 +1,6 @@
 //! Invalidations by range: each with a block that it reaches and one that it just doesn't.
-use crate::caches_tests::making::{el2, of, parts_by, stage1, stage2};
-use caches::Scope;
+use crate::caches_tests::making::{el2, entry, lists, of, parts_by, removed_by, stage1, stage2};
+use caches::{Caches, Scope};
 
 #[test]
 fn two_pages_from_page_8(rt: HostRuntime) {
@@ -80,4 +80,26 @@ fn a_range_ends_with_the_address_space(rt: HostRuntime) {
     let last = stage1(1, of(2), 0xff_ffff_ffff, 0);
     let behind = stage1(1, of(2), 0x100_0000_0000, 0);
     assert!(rt; parts_by(rt.alloc(), lo, hi, last, behind));
+}
+
+#[test]
+fn of_six_entries_three_are_reached(rt: HostRuntime) {
+    let mut caches = Caches::new(rt.alloc(), 6).unwrap();
+    let left = [
+        entry(stage1(1, of(2), 0x0, 4)),
+        entry(stage1(1, of(2), 0xf, 0)),
+        entry(stage1(1, of(2), 0x20, 0)),
+    ];
+    let reached = [
+        entry(stage1(1, of(2), 0x10, 0)),
+        entry(stage1(1, of(2), 0x1c, 2)),
+        entry(stage1(1, of(2), 0x1f, 0)),
+    ];
+    for held in left.into_iter().chain(reached) {
+        assert_eq!(rt; caches.fill(held), Ok(None));
+    }
+    // TLBI_NH_VA of vmid 1, asid 2: from page 0x10, four times four pages.
+    let removed = removed_by(&mut caches, 0x0002_0001_0020_3012, 0x1_0400);
+    assert_eq!(rt; removed, Some(3));
+    assert!(rt; lists(&caches, &left));
 }

@@ -27,7 +27,7 @@ fn leaves(alloc: Global, lo: u64, hi: u64, left: &[Entry]) -> bool {
                 filled &= caches.fill(held).is_ok();
             }
             let removed = removed_by(&mut caches, lo, hi);
-            filled && removed == Some((6 - left.len().min(6)) as u32) && lists(&caches, alloc, left)
+            filled && removed == Some((6 - left.len().min(6)) as u32) && lists(&caches, left)
         }
     }
 }

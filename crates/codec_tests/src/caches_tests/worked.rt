@@ -35,7 +35,7 @@ fn blocks_of_streams_and_born(rt: HostRuntime) {
     assert_eq!(rt; removed_by(&mut caches, 0x0000_0005_0000_0004, 0), Some(3));
     assert_eq!(rt; caches.fill(filled(ste(5), 8, 2)), Ok(None));
     let left = [filled(ste(5), 8, 2), filled(ste(6), 3, 0)];
-    assert!(rt; lists(&caches, rt.alloc(), &left));
+    assert!(rt; lists(&caches, &left));
 }
 
 #[test]

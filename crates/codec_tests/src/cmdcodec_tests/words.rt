@@ -1,5 +1,8 @@
 //! Words, bytes and lists of commands.
-use cmdcodec::{Opcode, Raw, RawList, closing_sync, decode, encode, from_bytes, to_bytes};
+use cmdcodec::{
+    Opcode, Raw, RawList, cell_address, cell_owner, closing_sync, decode, encode, from_bytes,
+    to_bytes,
+};
 
 #[test]
 fn closing_syncs_write_the_number_into_the_cell(rt: HostRuntime) {
@@ -41,6 +44,7 @@ fn the_opcode_is_the_lowest_byte(rt: HostRuntime) {
         hi: 0,
     };
     assert_eq!(rt; raw.opcode(), Some(Opcode::CmdSync));
+    assert!(rt; raw.is_sync());
     assert_eq!(rt; Opcode::new(0x2a), Some(Opcode::TlbiS2Ipa));
     assert_eq!(rt; Opcode::new(0x146), None);
 }
@@ -53,4 +57,18 @@ fn a_list_holds_64(rt: HostRuntime) {
     }
     assert!(rt; list.try_push(Raw::default()).is_err());
     assert_eq!(rt; list.len(), 64);
+}
+
+#[test]
+fn cells_follow_one_another(rt: HostRuntime) {
+    assert_eq!(rt; cell_address(0), 0x4000_0000);
+    assert_eq!(rt; cell_address(255), 0x4000_03fc);
+    for (address, owner) in [
+        (0x4000_0000, Some(0)),
+        (0x4000_0004, Some(1)),
+        (0x4000_0006, None),
+        (0x3fff_fffc, None),
+    ] {
+        assert_eq!(rt; cell_owner(address), owner, "{address:x}");
+    }
 }

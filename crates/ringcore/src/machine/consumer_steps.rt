@@ -1,21 +1,19 @@
 //! The steps of the consumer, and what a sender asks of it.
 ghost use Rattle.std.specs.Prelude.{◌≡◌, ◌<◌, ◌≤◌, ◌==◌, ℕ, Some, None, Ok, IfOk, IfErr};
 ghost use Rattle.qindex.specs.Positions.{size};
-ghost use Rattle.ringcore.specs.declared.step.Step.TheVariants.{Look, Test, Read, Advance, Acknowledge, Ask};
-ghost use Rattle.ringcore.specs.World.{world};
-ghost use Rattle.ringcore.specs.Faults.{is_count, is_head, tested_offset, fault_of};
-ghost use Rattle.ringcore.specs.Machine.{ring_of, WhereItStands, IsAccepted, IsRefused, Applies};
+ghost use Rattle.ringcore.specs.declared.machine.step.Step.TheVariants.{Look, Test, Read, Advance, Acknowledge, Ask};
+ghost use Rattle.ringcore.specs.world.World.{world};
+ghost use Rattle.ringcore.specs.machine.Faults.{is_run_length, is_head, tested_offset, fault_of};
+ghost use Rattle.ringcore.specs.machine.Core.{ring_of, AfterEachRun, HasNoFault, IsRefused, IsTakenOrRefused};
 
 use crate::laws;
-use crate::machine::Core;
 use crate::machine::places::half_of_number;
-use crate::step::Seen;
-use crate::step_fault::StepFault;
+use crate::machine::{Core, Seen, StepFault};
 
 impl Core {
     /// A load of the control word.
     pub(super) fn consumer_looks(&mut self) -> Seen
-        ensures { Applies self.old self.new (Look None) (Ok result) }
+        ensures { IsTakenOrRefused self.old self.new (Look None) (Ok result) }
     {
         laws::look();
         Seen::Word(self.control())
@@ -23,7 +21,7 @@ impl Core {
 
     /// A load of the head's flag word, which looks at so many flags at most.
     pub(super) fn test(&mut self, slot: u32, count: u32) -> Result<Seen, StepFault>
-        ensures { Applies self.old self.new (Test slot count) result }
+        ensures { IsTakenOrRefused self.old self.new (Test slot count) result }
     {
         if let Some(fault) = self.test_fault(slot, count) {
             return Err(fault);
@@ -37,7 +35,7 @@ impl Core {
 
     /// A load of a data word.
     pub(super) fn read(&mut self, slot: u32, half: u32) -> Result<Seen, StepFault>
-        ensures { Applies self.old self.new (Read slot half) result }
+        ensures { IsTakenOrRefused self.old self.new (Read slot half) result }
     {
         let offset = self.read_offset(slot, half)?;
         laws::read();
@@ -49,7 +47,7 @@ impl Core {
 
     /// An exclusive or of the control word, to take so many commands.
     pub(super) fn advance(&mut self, count: u32) -> Result<Seen, StepFault>
-        ensures { Applies self.old self.new (Advance count) result }
+        ensures { IsTakenOrRefused self.old self.new (Advance count) result }
     {
         if let Some(fault) = self.advance_fault(count) {
             return Err(fault);
@@ -66,7 +64,7 @@ impl Core {
 
     /// A load of the sender's completion cell.
     pub(super) fn ask(&mut self, sender: u32) -> Result<Seen, StepFault>
-        ensures { Applies self.old self.new (Ask sender) result }
+        ensures { IsTakenOrRefused self.old self.new (Ask sender) result }
     {
         if sender as usize >= self.senders.len() {
             return Err(StepFault::NoSuchPlace);
@@ -77,7 +75,7 @@ impl Core {
 
     /// A store in the sender's completion cell.
     pub(super) fn acknowledge(&mut self, sender: u32, number: u32) -> Result<Seen, StepFault>
-        ensures { Applies self.old self.new (Acknowledge sender number) result }
+        ensures { IsTakenOrRefused self.old self.new (Acknowledge sender number) result }
     {
         if let Some(fault) = self.acknowledge_fault(sender, number) {
             return Err(fault);
@@ -90,16 +88,16 @@ impl Core {
 
     /// Whether a slot is that of the head.
     fn is_head(&self, slot: u32) -> bool
-        ensures { WhereItStands self.now (λ run. result ≡ is_head (ring_of self.now) run slot) }
+        ensures { AfterEachRun self.now (λ run. result ≡ is_head (ring_of self.now) run slot) }
     {
         self.control().cons.place() == slot
     }
 
     /// Why a test is refused, if it is.
     fn test_fault(&self, slot: u32, count: u32) -> Option<StepFault>
-        ensures { WhereItStands self.now (λ run. result ≡ fault_of (ring_of self.now) run (Test slot count)) }
+        ensures { AfterEachRun self.now (λ run. result ≡ fault_of (ring_of self.now) run (Test slot count)) }
     {
-        if slot >= self.words.geometry().size() || !is_count(count) {
+        if slot >= self.words.geometry().size() || !is_run_length(count) {
             return Some(StepFault::NoSuchPlace);
         }
         if self.is_head(slot) {
@@ -113,7 +111,7 @@ impl Core {
     fn read_offset(&self, slot: u32, half: u32) -> Result<u32, StepFault>
         ensures few { IfOk result (λ offset. offset < 64) }
         ensures within { IfOk result (λ offset. offset ≤ size self.now.words.geometry) }
-        ensures accepted { IfOk result (λ offset. IsAccepted self.now (Read slot half) (λ run. tested_offset (ring_of self.now) run slot ≡ Some offset)) }
+        ensures accepted { IfOk result (λ offset. HasNoFault self.now (Read slot half) (λ run. tested_offset (ring_of self.now) run slot ≡ Some offset)) }
         ensures refused { IfErr result (λ fault. IsRefused self.now (Read slot half) fault) }
     {
         let geometry = self.words.geometry();
@@ -132,9 +130,9 @@ impl Core {
 
     /// Why an advance is refused, if it is.
     fn advance_fault(&self, count: u32) -> Option<StepFault>
-        ensures { WhereItStands self.now (λ run. result ≡ fault_of (ring_of self.now) run (Advance count)) }
+        ensures { AfterEachRun self.now (λ run. result ≡ fault_of (ring_of self.now) run (Advance count)) }
     {
-        if !is_count(count) {
+        if !is_run_length(count) {
             return Some(StepFault::NoSuchPlace);
         }
         self.consumer.advance_fault(count)
@@ -143,7 +141,7 @@ impl Core {
     /// The number in a sender's completion cell.
     fn done(&self, sender: u32) -> u32
         requires { sender < self.now.words.senders }
-        ensures { WhereItStands self.now (λ run. result ≡ (world run).acknowledged sender) }
+        ensures { AfterEachRun self.now (λ run. result ≡ (world run).acknowledged sender) }
     {
         laws::world_law();
         laws::counts_law();
@@ -152,7 +150,7 @@ impl Core {
 
     /// Why an acknowledgement is refused, if it is.
     fn acknowledge_fault(&self, sender: u32, number: u32) -> Option<StepFault>
-        ensures { WhereItStands self.now (λ run. result ≡ fault_of (ring_of self.now) run (Acknowledge sender number)) }
+        ensures { AfterEachRun self.now (λ run. result ≡ fault_of (ring_of self.now) run (Acknowledge sender number)) }
     {
         if sender as usize >= self.senders.len() {
             return Some(StepFault::NoSuchPlace);
@@ -171,8 +169,8 @@ impl Core {
 }
 
 /// Whether a step may name so many slots in a row: 1 to 64.
-fn is_count(count: u32) -> bool
-    ensures { result ≡ is_count count }
+fn is_run_length(count: u32) -> bool
+    ensures { result ≡ is_run_length count }
 {
     1 <= count && count <= 64
 }

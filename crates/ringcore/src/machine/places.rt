@@ -1,18 +1,17 @@
 //! Where a write and a flip go.
 ghost use Rattle.std.specs.Prelude.{◌≡◌, ◌+◌, ◌<◌, ◌≤◌, ◌&&◌, Some, IfOk, IfErr};
 ghost use Rattle.qindex.specs.Positions.{index_of};
-ghost use Rattle.ringcore.specs.declared.step.Step.TheVariants.{Write, Flip};
-ghost use Rattle.ringcore.specs.World.{half_of};
-ghost use Rattle.ringcore.specs.Open.{own_offset};
-ghost use Rattle.ringcore.specs.Faults.{foreign, has_sender, has_slot, is_count, share_a_word};
-ghost use Rattle.ringcore.specs.Answers.{half_of_number};
-ghost use Rattle.ringcore.specs.Machine.{ring_of, IsAccepted, IsRefused};
+ghost use Rattle.ringcore.specs.declared.machine.step.Step.TheVariants.{Write, Flip};
+ghost use Rattle.ringcore.specs.world.World.{half_of};
+ghost use Rattle.ringcore.specs.machine.Open.{own_offset};
+ghost use Rattle.ringcore.specs.machine.Faults.{foreign, has_sender, has_slot, is_run_length, share_a_word};
+ghost use Rattle.ringcore.specs.machine.StepAnswers.{half_of_number};
+ghost use Rattle.ringcore.specs.machine.Core.{ring_of, HasNoFault, IsRefused};
 
-use crate::event::Half;
-use crate::flags::shared_word;
-use crate::held::{positions_are_held, slot_is_held, slots_are_held};
-use crate::machine::Core;
-use crate::step_fault::StepFault;
+use crate::machine::held::{positions_are_held, slot_is_held, slots_are_held};
+use crate::machine::{Core, StepFault};
+use crate::memory::shared_word;
+use crate::world::Half;
 use cmdcodec::Raw;
 use qindex::{Geometry, Index};
 
@@ -57,7 +56,7 @@ impl Core {
     pub(super) fn write_offset(&self, sender: u32, slot: u32, half: u32) -> Result<u32, StepFault>
         ensures there { IfOk result (λ offset. sender < self.now.words.senders) }
         ensures few { IfOk result (λ offset. offset < 64) }
-        ensures accepted { IfOk result (λ offset. IsAccepted self.now (Write sender slot half) (λ run. own_offset (ring_of self.now) run sender slot ≡ Some offset)) }
+        ensures accepted { IfOk result (λ offset. HasNoFault self.now (Write sender slot half) (λ run. own_offset (ring_of self.now) run sender slot ≡ Some offset)) }
         ensures refused { IfErr result (λ fault. IsRefused self.now (Write sender slot half) fault) }
     {
         let geometry = self.words.geometry();
@@ -76,7 +75,7 @@ impl Core {
 
     /// Whether there are this sender, and so many slots from this one on whose flags share a flag word.
     fn has_run(&self, sender: u32, slot: u32, count: u32) -> bool
-        ensures { result ≡ (has_sender (ring_of self.now) sender && has_slot (ring_of self.now) slot && is_count count && share_a_word (ring_of self.now) slot count) }
+        ensures { result ≡ (has_sender (ring_of self.now) sender && has_slot (ring_of self.now) slot && is_run_length count && share_a_word (ring_of self.now) slot count) }
     {
         let geometry = self.words.geometry();
         if sender as usize >= self.senders.len()
@@ -94,7 +93,7 @@ impl Core {
     pub(super) fn flip_offset(&self, sender: u32, slot: u32, count: u32) -> Result<u32, StepFault>
         ensures there { IfOk result (λ offset. sender < self.now.words.senders) }
         ensures few { IfOk result (λ offset. offset + count ≤ 64) }
-        ensures accepted { IfOk result (λ offset. IsAccepted self.now (Flip sender slot count) (λ run. own_offset (ring_of self.now) run sender slot ≡ Some offset)) }
+        ensures accepted { IfOk result (λ offset. HasNoFault self.now (Flip sender slot count) (λ run. own_offset (ring_of self.now) run sender slot ≡ Some offset)) }
         ensures refused { IfErr result (λ fault. IsRefused self.now (Flip sender slot count) fault) }
     {
         if !self.has_run(sender, slot, count) {

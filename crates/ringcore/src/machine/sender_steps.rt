@@ -1,15 +1,13 @@
 //! The steps of the senders.
 ghost use Rattle.std.specs.Prelude.{◌≡◌, ◌<◌, ◌≤◌, Some, Ok, true, false};
-ghost use Rattle.ringcore.specs.declared.step.Step.TheVariants.{Look, Reserve, Write, Flip, Close};
-ghost use Rattle.ringcore.specs.Machine.{IsAccepted, Finds, Applies};
+ghost use Rattle.ringcore.specs.declared.machine.step.Step.TheVariants.{Look, Reserve, Write, Flip, Close};
+ghost use Rattle.ringcore.specs.machine.Core.{HasNoFault, FindsControl, IsTakenOrRefused};
 
-use crate::flags::new_flags;
 use crate::laws;
 use crate::laws::steps_law;
-use crate::machine::Core;
 use crate::machine::places::{half_of, half_of_number, index_of};
-use crate::step::Seen;
-use crate::step_fault::StepFault;
+use crate::machine::{Core, Seen, StepFault};
+use crate::memory::new_flags;
 use cmdcodec::RawList;
 use qindex::{
     Control, control_words_say_their_control, indexes_tell_place_and_wrap_bit,
@@ -19,7 +17,7 @@ use qindex::{
 impl Core {
     /// A load of the control word.
     pub(super) fn sender_looks(&mut self, sender: u32) -> Result<Seen, StepFault>
-        ensures { Applies self.old self.new (Look (Some sender)) result }
+        ensures { IsTakenOrRefused self.old self.new (Look (Some sender)) result }
     {
         if sender as usize >= self.senders.len() {
             return Err(StepFault::NoSuchPlace);
@@ -32,7 +30,7 @@ impl Core {
 
     /// An or of the control word with the closed bit.
     pub(super) fn close(&mut self, sender: u32) -> Result<Seen, StepFault>
-        ensures { Applies self.old self.new (Close sender) result }
+        ensures { IsTakenOrRefused self.old self.new (Close sender) result }
     {
         if sender as usize >= self.senders.len() {
             return Err(StepFault::NoSuchPlace);
@@ -44,7 +42,7 @@ impl Core {
 
     /// A store of the word that the sender's reservation has for a half of the slot.
     pub(super) fn write(&mut self, sender: u32, slot: u32, half: u32) -> Result<Seen, StepFault>
-        ensures { Applies self.old self.new (Write sender slot half) result }
+        ensures { IsTakenOrRefused self.old self.new (Write sender slot half) result }
     {
         let offset = self.write_offset(sender, slot, half)?;
         let half = half_of_number(half);
@@ -60,7 +58,7 @@ impl Core {
 
     /// An exclusive or of a flag word, for so many slots of the sender's reservation.
     pub(super) fn flip(&mut self, sender: u32, slot: u32, count: u32) -> Result<Seen, StepFault>
-        ensures { Applies self.old self.new (Flip sender slot count) result }
+        ensures { IsTakenOrRefused self.old self.new (Flip sender slot count) result }
     {
         let offset = self.flip_offset(sender, slot, count)?;
         laws::flip();
@@ -81,7 +79,7 @@ impl Core {
         body: &RawList,
         closes: bool,
     ) -> Result<Seen, StepFault>
-        ensures { Applies self.old self.new (Reserve sender body.now closes) result }
+        ensures { IsTakenOrRefused self.old self.new (Reserve sender body.now closes) result }
     {
         if sender as usize >= self.senders.len() {
             return Err(StepFault::NoSuchPlace);
@@ -104,8 +102,8 @@ impl Core {
     /// Reserves a batch where the control word is the one that the sender looked at.
     fn win(&mut self, sender: u32, body: &RawList, closes: bool, found: &Control) -> Seen
         requires there { sender < self.old.words.senders }
-        requires accepted { IsAccepted self.old (Reserve sender body.now closes) (λ run. Finds self.old run sender found.now true) }
-        ensures { Applies self.old self.new (Reserve sender body.now closes) (Ok result) }
+        requires accepted { HasNoFault self.old (Reserve sender body.now closes) (λ run. FindsControl self.old run sender found.now true) }
+        ensures { IsTakenOrRefused self.old self.new (Reserve sender body.now closes) (Ok result) }
     {
         laws::reserve_won();
         steps_law();
@@ -129,8 +127,8 @@ impl Core {
     /// Reserves nothing where the control word is another.
     fn lose(&mut self, sender: u32, body: &RawList, closes: bool, found: &Control) -> Seen
         requires there { sender < self.old.words.senders }
-        requires accepted { IsAccepted self.old (Reserve sender body.now closes) (λ run. Finds self.old run sender found.now false) }
-        ensures { Applies self.old self.new (Reserve sender body.now closes) (Ok result) }
+        requires accepted { HasNoFault self.old (Reserve sender body.now closes) (λ run. FindsControl self.old run sender found.now false) }
+        ensures { IsTakenOrRefused self.old self.new (Reserve sender body.now closes) (Ok result) }
     {
         steps_law();
         self.senders[sender as usize].loses();

@@ -1,6 +1,6 @@
 use Rattle.std.proofs.Common.{◌∷◌, [], length, length-append, sym, ap, subst, arith}
-use Rattle.ringcore.specs.Machine.{AllKnow}
-use Rattle.ringcore.proofs.PlayedSteps.{one_more_knows}
+use Rattle.ringcore.specs.machine.Core.{AllKnow}
+use Rattle.ringcore.proofs.MachineLemmas.PlayedSteps.{one_more_knows}
 use Rattle.ringcore.proofs.machine.new_views.Goals as goal
 
 pub loop-preserved : goal.loop-preserved

@@ -1,5 +1,5 @@
 use Rattle.std.proofs.Common.{◌≡◌, [], length}
-use Rattle.ringcore.specs.Machine.{AllKnow}
+use Rattle.ringcore.specs.machine.Core.{AllKnow}
 use Rattle.ringcore.proofs.machine.new_views.Given as goal
 
 abbrev pub invariant-loop : goal.invariant-loop

@@ -1,8 +1,8 @@
 use Rattle.std.proofs.Common.{◌≡◌, ◌∙◌, sym, ap, subst}
 use Rattle.std.proofs.lemmas.List.{drop_all}
-use Rattle.ringcore.specs.Played.{played}
-use Rattle.ringcore.specs.Machine.{ring_with, ring_of, StandsFor}
-use Rattle.ringcore.proofs.PlayedSteps.{reaches_further, stops_there, ends, delivered}
+use Rattle.ringcore.specs.machine.Played.{played}
+use Rattle.ringcore.specs.machine.Core.{ring_with, ring_of, StandsAfter}
+use Rattle.ringcore.proofs.MachineLemmas.PlayedSteps.{reaches_further, stops_there, ends, delivered}
 use Rattle.ringcore.proofs.machine.run.Goals as goal
 
 pub returns-in-Err-clause-played : goal.returns-in-Err-clause-played
@@ -12,7 +12,7 @@ returns-in-Err-clause-played c =
     let same : c.take.new.self ≡ c.loop-place.core = c.in-Err.ensures.1 in record {
       numbers = c.in_ok-core.ensures.made.numbers;
       ring = ap ring_of same ∙ c.loop-place.invariant.ring_is;
-      stands = subst (λ m. StandsFor m (played ring c.args.steps.now).run) (sym same) at.stands;
+      stands = subst (λ m. StandsAfter m (played ring c.args.steps.now).run) (sym same) at.stands;
       refused_is = at.refused;
     }
 

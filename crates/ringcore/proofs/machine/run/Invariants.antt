@@ -1,5 +1,5 @@
-use Rattle.ringcore.specs.Machine.{ring_with}
-use Rattle.ringcore.proofs.PlayedSteps.{HasReached}
+use Rattle.ringcore.specs.machine.Core.{ring_with}
+use Rattle.ringcore.proofs.MachineLemmas.PlayedSteps.{HasReached}
 use Rattle.ringcore.proofs.machine.run.Given as goal
 
 abbrev pub invariant-loop-place : goal.invariant-loop-place

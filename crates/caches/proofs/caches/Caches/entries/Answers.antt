@@ -1,11 +1,12 @@
-use Rattle.std.proofs.Common.{◌≡◌, ◌∙◌, sym, ap, subst, IfOk}
+use Rattle.std.proofs.Common.{◌≡◌, ◌∙◌, sym, ap, subst, IfOk, All, Some}
 use Rattle.std.specs.Prelude.{map}
 use Rattle.std.specs.FinMap as finite
 use Rattle.std.specs.List.Sorted.{IsPermutation}
 use Rattle.std.proofs.lemmas.Iterator.{items_from_collect}
 use Rattle.std.proofs.lemmas.Iterator.Consumers.{YieldsList-from_rest, YieldsList-from_copied, YieldsList-at}
+use Rattle.caches.specs.declared.tag.Entry.{Entry}
 use Rattle.caches.specs.Stored.{Stored}
-use Rattle.caches.proofs.InOrder.{in_order, all_own}
+use Rattle.caches.proofs.InOrder.{in_order, all_own, values_own}
 use Rattle.caches.proofs.caches.Caches.entries.Goals as goal
 
 pub returns-in-Ok-clause-ok : goal.returns-in-Ok-clause-ok
@@ -16,3 +17,8 @@ returns-in-Ok-clause-ok c =
     sym (in_order c.self.inside.map.entries c.sort_by_tag.new.list.items c.values.ensures.ordered (all_own c.self.inside c.self.invariant c.values.ensures.ordered)
     (subst (λ es. IsPermutation es c.sort_by_tag.new.list.items) copied c.sort_by_tag.ensures.permutation) c.sort_by_tag.ensures.sorted)
     ∙ ap (λ (s : Stored). finite.values s.entries) c.self.view_is
+
+pub returns-in-Ok-clause-own : goal.returns-in-Ok-clause-own
+returns-in-Ok-clause-own c =
+    subst (All (λ (e : Entry). finite.get c.args.self.now.entries e.tag ≡ Some e)) (sym (returns-in-Ok-clause-ok c))
+    (subst (λ (s : Stored). All (λ (e : Entry). finite.get s.entries e.tag ≡ Some e) (finite.values s.entries)) c.self.view_is (values_own c.self.inside c.self.invariant))

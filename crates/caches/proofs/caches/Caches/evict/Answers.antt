@@ -9,7 +9,7 @@ use Rattle.caches.proofs.Kept.{are_evicted}
 use Rattle.caches.proofs.caches.Caches.evict.Goals as goal
 
 pub invariant_of-self : goal.invariant_of-self
-invariant_of-self c = are_evicted c.self.inside (record { capacity = c.self.inside.capacity; map = c.remove.new.self }) c.args.tag.now refl c.self.invariant
+invariant_of-self c = are_evicted c.self.inside (record c.self.inside { map = c.remove.new.self }) c.args.tag.now refl c.self.invariant
     (subst (λ k. Updates key_cmp c.self.inside.map c.remove.new.self k None) c.of.ensures.key c.remove.ensures.updates)
 
 pub returns-clause-was : goal.returns-clause-was
@@ -17,7 +17,7 @@ returns-clause-was c = c.remove.ensures.value ∙ ap (tree.get key_cmp c.self.in
     ∙ ap (λ (s : Stored). finite.get s.entries c.args.tag.now) c.self.view_is
 
 pub returns-clause-after : goal.returns-clause-after
-returns-clause-after c = stored_remove c.self.inside (record { capacity = c.self.inside.capacity; map = c.remove.new.self }) c.args.tag.now
+returns-clause-after c = stored_remove c.self.inside (record c.self.inside { map = c.remove.new.self }) c.args.tag.now
     (subst (λ k. Updates key_cmp c.self.inside.map c.remove.new.self k None) c.of.ensures.key c.remove.ensures.updates)
     ∙ ap (λ (s : Stored). finite.remove s.entries c.args.tag.now) c.self.view_is
 

@@ -11,10 +11,10 @@ pub invariant_of-self : goal.invariant_of-self
 invariant_of-self c =
     let room : finite.get (stored c.self.inside).entries c.args.entry.tag ≡ None → finite.len (stored c.self.inside).entries < c.self.inside.capacity =
     λ e. rw (← c.self.view_is) at c.requires.room e in
-    put_are c.self.inside (record { capacity = c.self.inside.capacity; map = c.put_entry.new.map }) c.args.entry c.put_entry.result refl c.self.invariant c.requires.block
+    put_are c.self.inside (record c.self.inside { map = c.put_entry.new.map }) c.args.entry c.put_entry.result refl c.self.invariant c.requires.block
     (subst (λ k. page_of k < 2 ^ 52) c.of.ensures.key c.of.ensures.page) room
     (subst (λ k. IsPut key_cmp c.self.inside.map k c.args.entry c.put_entry.new.map c.put_entry.result) c.of.ensures.key c.put_entry.ensures)
 
 pub returns-clause-put : goal.returns-clause-put
-returns-clause-put c = put_filled c.self.inside (record { capacity = c.self.inside.capacity; map = c.put_entry.new.map }) c.args.self.now c.args.entry c.put_entry.result c.self.view_is
+returns-clause-put c = put_filled c.self.inside (record c.self.inside { map = c.put_entry.new.map }) c.args.self.now c.args.entry c.put_entry.result c.self.view_is
     (subst (λ k. IsPut key_cmp c.self.inside.map k c.args.entry c.put_entry.new.map c.put_entry.result) c.of.ensures.key c.put_entry.ensures)

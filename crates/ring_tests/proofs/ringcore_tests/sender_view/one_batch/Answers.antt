@@ -1,7 +1,7 @@
 use Rattle.std.proofs.Common.{◌≡◌, [], ◌∷◌, arith}
-use Rattle.ringcore.specs.declared.event.Who.TheVariants.{Sender}
-use Rattle.ringcore.specs.declared.event.Event.TheVariants.{Look}
-use Rattle.ringcore.specs.Views.{Knows}
+use Rattle.ringcore.specs.declared.world.event.Who.TheVariants.{Sender}
+use Rattle.ringcore.specs.declared.world.event.Event.TheVariants.{Look}
+use Rattle.ringcore.specs.machine.SenderViews.{Knows}
 use Rattle.ring_tests.proofs.ringcore_tests.sender_view.one_batch.Goals as goal
 
 pub wins-requires-clause-batches : goal.wins-requires-clause-batches

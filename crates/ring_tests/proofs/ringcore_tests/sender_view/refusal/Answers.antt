@@ -1,8 +1,8 @@
 use Rattle.std.proofs.Common.{◌≡◌, [], ◌∷◌, Some, sym, subst, ◌∙◌}
 use Rattle.qindex.specs.ControlWord.{IsControl}
-use Rattle.ringcore.specs.declared.event.Who.TheVariants.{Sender}
-use Rattle.ringcore.specs.declared.event.Event.TheVariants.{Look}
-use Rattle.ringcore.specs.Views.{Knows}
+use Rattle.ringcore.specs.declared.world.event.Who.TheVariants.{Sender}
+use Rattle.ringcore.specs.declared.world.event.Event.TheVariants.{Look}
+use Rattle.ringcore.specs.machine.SenderViews.{Knows}
 use Rattle.ring_tests.proofs.ringcore_tests.sender_view.refusal.Goals as goal
 
 some_one : {A : Type 0} (x y : A) → Some x ≡ Some y → x ≡ y

@@ -1,13 +1,14 @@
 use Rattle.std.proofs.Common.{◌<◌, sym, subst, arith}
-use Rattle.ringcore.specs.Machine.{CoreValue}
-use Rattle.ringcore.proofs.TakenSteps.{cell_is, acknowledged_few}
+use Rattle.ringcore.specs.machine.Core.{CoreValue, core_of}
+use Rattle.ringcore.proofs.MachineLemmas.TakenSteps.{cell_is, acknowledged_few}
+use Rattle.ringcore.proofs.MachineLemmas.Inside.{there_inside}
 use Rattle.ringcore.proofs.machine.Core.done.Goals as goal
 
 pub overflow_cast-result : goal.overflow_cast-result
 overflow_cast-result c =
-    let core : CoreValue = record { words = c.self.inside.words; senders = c.self.inside.senders.items; consumer = c.self.inside.consumer; tallies = c.self.inside.tallies } in
+    let core = core_of c.self.inside in
     let is = c.self.invariant in
-    let low : c.args.sender < core.words.senders = subst (λ (m : CoreValue). c.args.sender < m.words.senders) (sym c.self.view_is) c.requires in
+    let low = there_inside core c.args.self.now c.self.view_is c.args.sender c.requires in
     let cell = cell_is core is.run c.args.sender is.stands low in
     let few = acknowledged_few c.world_law.ensures.acknowledged c.counts_law.ensures.few core is.run c.args.sender is.stands in
     omega (arith, c.acknowledged.ensures, cell, few)

@@ -2,32 +2,25 @@ use Rattle.std.proofs.Common.{◌≡◌, ℕ, ◌<◌, ◌+◌, sym, ap, ap₂, 
 use Rattle.std.proofs.lemmas.Option.{slice_get_read}
 use Rattle.std.specs.Prelude.{Some, Ok, slice_set}
 use Rattle.qindex.specs.Positions.{index_of}
-use Rattle.ringcore.specs.declared.step.Step.TheVariants.{Flip}
-use Rattle.ringcore.specs.declared.step.Seen.TheVariants.{Flipped}
-use Rattle.ringcore.specs.Answers.{new_flags}
-use Rattle.ringcore.specs.Open.{own_offset}
-use Rattle.ringcore.specs.Machine.{CoreValue, ring_of, Applies, IsAccepted}
-use Rattle.ringcore.proofs.FlipSteps.{flip_fits, flip_shares, flipped_machine, flip_taken}
+use Rattle.ringcore.specs.declared.machine.step.Step.TheVariants.{Flip}
+use Rattle.ringcore.specs.declared.machine.step.Seen.TheVariants.{Flipped}
+use Rattle.ringcore.specs.machine.StepAnswers.{new_flags}
+use Rattle.ringcore.specs.machine.Open.{own_offset}
+use Rattle.ringcore.specs.machine.Core.{CoreValue, core_of, ring_of, IsTakenOrRefused, HasNoFault}
+use Rattle.ringcore.proofs.MachineLemmas.FlipSteps.{flip_fits, flip_shares, flipped_machine, flip_taken}
+use Rattle.ringcore.proofs.MachineLemmas.Inside.{there_inside, accepted_inside}
 use Rattle.ringcore.proofs.machine.Core.flip.Goals as goal
-
-module _ (inside outside : CoreValue) (is : inside ≡ outside) (s : ℕ) where
-  at_inside : (slot count k : ℕ) → IsAccepted outside (Flip s slot count) (λ run. own_offset (ring_of outside) run s slot ≡ Some k)
-      → IsAccepted inside (Flip s slot count) (λ run. own_offset (ring_of inside) run s slot ≡ Some k)
-  at_inside slot count k = subst (λ m. IsAccepted m (Flip s slot count) (λ run. own_offset (ring_of m) run s slot ≡ Some k)) (sym is)
-
-  there_inside : s < outside.words.senders → s < inside.words.senders
-  there_inside = subst (λ (m : CoreValue). s < m.words.senders) (sym is)
 
 pub overflow_add-first : goal.overflow_add-first
 overflow_add-first c =
-    let core : CoreValue = record { words = c.self.inside.words; senders = c.self.inside.senders.items; consumer = c.self.inside.consumer; tallies = c.self.inside.tallies } in
+    let core = core_of c.self.inside in
     let s = c.args.sender in
     let slot = c.args.slot in
     let count = c.args.count in
     let k = c.in_ok-offset.offset in
     let is = c.self.invariant in
     let low = there_inside core c.args.self.now c.self.view_is s c.in_ok-offset.ensures.there in
-    let accepted = at_inside core c.args.self.now c.self.view_is s slot count k c.in_ok-offset.ensures.accepted in
+    let accepted = accepted_inside core c.args.self.now c.self.view_is (Flip s slot count) (λ m run. own_offset (ring_of m) run s slot ≡ Some k) c.in_ok-offset.ensures.accepted in
     let before = c.index_mut-view.result.now in
     let at = slice_get_read core.senders core.words.senders s before (sym is.views) low c.index_mut-view.ensures.value in
     let fits = flip_fits c.steps_law.ensures.allowed core s slot count k accepted before at c.start.result c.start.ensures is is.run is.stands in
@@ -35,14 +28,14 @@ overflow_add-first c =
 
 pub flip-requires-2-clause-word : goal.flip-requires-2-clause-word
 flip-requires-2-clause-word c =
-    let core : CoreValue = record { words = c.self.inside.words; senders = c.self.inside.senders.items; consumer = c.self.inside.consumer; tallies = c.self.inside.tallies } in
+    let core = core_of c.self.inside in
     let s = c.args.sender in
     let slot = c.args.slot in
     let count = c.args.count in
     let k = c.in_ok-offset.offset in
     let is = c.self.invariant in
     let low = there_inside core c.args.self.now c.self.view_is s c.in_ok-offset.ensures.there in
-    let accepted = at_inside core c.args.self.now c.self.view_is s slot count k c.in_ok-offset.ensures.accepted in
+    let accepted = accepted_inside core c.args.self.now c.self.view_is (Flip s slot count) (λ m run. own_offset (ring_of m) run s slot ≡ Some k) c.in_ok-offset.ensures.accepted in
     let before = c.index_mut-view.result.now in
     let at = slice_get_read core.senders core.words.senders s before (sym is.views) low c.index_mut-view.ensures.value in
     let first : c.start.result + c.from.result ≡ c.start.result + k = ap (λ n. c.start.result + n) c.from.ensures in
@@ -52,14 +45,14 @@ flip-requires-2-clause-word c =
 
 pub new_flags-requires-clause-within : goal.new_flags-requires-clause-within
 new_flags-requires-clause-within c =
-    let core : CoreValue = record { words = c.self.inside.words; senders = c.self.inside.senders.items; consumer = c.self.inside.consumer; tallies = c.self.inside.tallies } in
+    let core = core_of c.self.inside in
     let s = c.args.sender in
     let slot = c.args.slot in
     let count = c.args.count in
     let k = c.in_ok-offset.offset in
     let is = c.self.invariant in
     let low = there_inside core c.args.self.now c.self.view_is s c.in_ok-offset.ensures.there in
-    let accepted = at_inside core c.args.self.now c.self.view_is s slot count k c.in_ok-offset.ensures.accepted in
+    let accepted = accepted_inside core c.args.self.now c.self.view_is (Flip s slot count) (λ m run. own_offset (ring_of m) run s slot ≡ Some k) c.in_ok-offset.ensures.accepted in
     let before = c.index_mut-view.result.now in
     let at = slice_get_read core.senders core.words.senders s before (sym is.views) low c.index_mut-view.ensures.value in
     let fits = flip_fits c.steps_law.ensures.allowed core s slot count k accepted before at c.start.result c.start.ensures is is.run is.stands in
@@ -67,14 +60,14 @@ new_flags-requires-clause-within c =
 
 pub invariant_of-self : goal.invariant_of-self
 invariant_of-self c =
-    let core : CoreValue = record { words = c.self.inside.words; senders = c.self.inside.senders.items; consumer = c.self.inside.consumer; tallies = c.self.inside.tallies } in
+    let core = core_of c.self.inside in
     let s = c.args.sender in
     let slot = c.args.slot in
     let count = c.args.count in
     let k = c.in_ok-offset.offset in
     let is = c.self.invariant in
     let low = there_inside core c.args.self.now c.self.view_is s c.in_ok-offset.ensures.there in
-    let accepted = at_inside core c.args.self.now c.self.view_is s slot count k c.in_ok-offset.ensures.accepted in
+    let accepted = accepted_inside core c.args.self.now c.self.view_is (Flip s slot count) (λ m run. own_offset (ring_of m) run s slot ≡ Some k) c.in_ok-offset.ensures.accepted in
     let before = c.index_mut-view.result.now in
     let at = slice_get_read core.senders core.words.senders s before (sym is.views) low c.index_mut-view.ensures.value in
     let first : c.start.result + c.from.result ≡ c.start.result + k = ap (λ n. c.start.result + n) c.from.ensures in
@@ -84,19 +77,19 @@ invariant_of-self c =
 
 pub returns : goal.returns
 returns c =
-    let core : CoreValue = record { words = c.self.inside.words; senders = c.self.inside.senders.items; consumer = c.self.inside.consumer; tallies = c.self.inside.tallies } in
+    let core = core_of c.self.inside in
     let s = c.args.sender in
     let slot = c.args.slot in
     let count = c.args.count in
     let k = c.in_ok-offset.offset in
     let is = c.self.invariant in
     let low = there_inside core c.args.self.now c.self.view_is s c.in_ok-offset.ensures.there in
-    let accepted = at_inside core c.args.self.now c.self.view_is s slot count k c.in_ok-offset.ensures.accepted in
+    let accepted = accepted_inside core c.args.self.now c.self.view_is (Flip s slot count) (λ m run. own_offset (ring_of m) run s slot ≡ Some k) c.in_ok-offset.ensures.accepted in
     let before = c.index_mut-view.result.now in
     let at = slice_get_read core.senders core.words.senders s before (sym is.views) low c.index_mut-view.ensures.value in
     let first : c.start.result + c.from.result ≡ c.start.result + k = ap (λ n. c.start.result + n) c.from.ensures in
     let index_is = c.index_of.ensures ∙ ap₂ index_of c.geometry-geometry.ensures first in
-    subst (λ old. Applies old (record core { words = c.flip-2.new.self; senders = slice_set core.senders s c.flips.new.self }) (Flip s slot count) (Ok (Flipped c.new_flags.result))) c.self.view_is
+    subst (λ old. IsTakenOrRefused old (record core { words = c.flip-2.new.self; senders = slice_set core.senders s c.flips.new.self }) (Flip s slot count) (Ok (Flipped c.new_flags.result))) c.self.view_is
     (flip_taken c.steps_law.ensures.allowed core s slot count k accepted before at c.start.result c.start.ensures
     c.flip.ensures low c.flip-2.new.self (c.flip-2.ensures.position core.words.geometry (c.start.result + k) index_is) c.flips.new.self c.flips.ensures
     c.new_flags.result (c.new_flags.ensures ∙ ap₂ (λ g n. new_flags g n count) c.geometry-geometry.ensures first))

@@ -3,17 +3,17 @@ use Rattle.std.proofs.lemmas.Bool.{and_parts, ltb-true}
 use Rattle.std.proofs.lemmas.Option.{slice_get_read}
 use Rattle.std.specs.Prelude.{Bool, Some, None, if◌then◌else◌}
 use Rattle.qindex.specs.Positions.{place}
-use Rattle.ringcore.specs.declared.event.Who.TheVariants.{Sender}
-use Rattle.ringcore.specs.declared.event.Half.TheVariants.{Lo, Hi}
-use Rattle.ringcore.specs.Trails.{trail_of, reserved_length, has_written}
-use Rattle.ringcore.specs.World.{world}
-use Rattle.ringcore.specs.declared.step.Step.TheVariants.{Flip}
-use Rattle.ringcore.specs.declared.step_fault.StepFault.TheVariants.{Flipped, HalfMissing}
-use Rattle.ringcore.specs.Open.{all_below, is_held, slot_is_held, own_offset}
-use Rattle.ringcore.specs.Faults.{has_sender, has_slot, is_count, share_a_word}
-use Rattle.ringcore.specs.Machine.{CoreValue, ring_of, AllKnow, IsRefused, IsAccepted}
-use Rattle.ringcore.proofs.FlipSteps.{has_run, flip_of_foreign, flip_past_end, flip_of_own}
-use Rattle.ringcore.proofs.Standing.{start_fits}
+use Rattle.ringcore.specs.declared.world.event.Who.TheVariants.{Sender}
+use Rattle.ringcore.specs.declared.world.event.Half.TheVariants.{Lo, Hi}
+use Rattle.ringcore.specs.world.Trails.{trail_of, reserved_length, has_written}
+use Rattle.ringcore.specs.world.World.{world}
+use Rattle.ringcore.specs.declared.machine.step.Step.TheVariants.{Flip}
+use Rattle.ringcore.specs.declared.machine.step_fault.StepFault.TheVariants.{Flipped, HalfMissing}
+use Rattle.ringcore.specs.machine.Open.{all_below, is_held, slot_is_held, own_offset}
+use Rattle.ringcore.specs.machine.Faults.{has_sender, has_slot, is_run_length, share_a_word}
+use Rattle.ringcore.specs.machine.Core.{CoreValue, core_of, ring_of, AllKnow, IsRefused, HasNoFault}
+use Rattle.ringcore.proofs.MachineLemmas.FlipSteps.{has_run, flip_of_foreign, flip_past_end, flip_of_own}
+use Rattle.ringcore.proofs.MachineLemmas.Standing.{start_fits}
 use Rattle.ringcore.proofs.machine.Core.flip_offset.Goals as goal
 
 module _ (inside outside : CoreValue) (is : inside ≡ outside) (s slot count : ℕ) (b : Bool) (found : b ≡ has_run (ring_of outside) s slot count) (true_is : b ≡ true) where
@@ -24,12 +24,12 @@ module _ (inside outside : CoreValue) (is : inside ≡ outside) (s slot count : 
   there_inside =
       ltb-true s inside.words.senders
       (and_parts (has_sender (ring_of inside) s) (has_slot (ring_of inside) slot)
-      (and_parts (has_sender (ring_of inside) s && has_slot (ring_of inside) slot) (is_count count)
-      (and_parts (has_sender (ring_of inside) s && has_slot (ring_of inside) slot && is_count count) (share_a_word (ring_of inside) slot count) exists_inside).0).0).0
+      (and_parts (has_sender (ring_of inside) s && has_slot (ring_of inside) slot) (is_run_length count)
+      (and_parts (has_sender (ring_of inside) s && has_slot (ring_of inside) slot && is_run_length count) (share_a_word (ring_of inside) slot count) exists_inside).0).0).0
 
 pub returns-in_default-clause-refused : goal.returns-in_default-clause-refused
 returns-in_default-clause-refused c =
-    let core : CoreValue = record { words = c.self.inside.words; senders = c.self.inside.senders.items; consumer = c.self.inside.consumer; tallies = c.self.inside.tallies } in
+    let core = core_of c.self.inside in
     let s = c.args.sender in
     let slot = c.args.slot in
     let count = c.args.count in
@@ -50,7 +50,7 @@ returns-in_default-clause-refused c =
 
 pub overflow_add-first : goal.overflow_add-first
 overflow_add-first c =
-    let core : CoreValue = record { words = c.self.inside.words; senders = c.self.inside.senders.items; consumer = c.self.inside.consumer; tallies = c.self.inside.tallies } in
+    let core = core_of c.self.inside in
     let s = c.args.sender in
     let is = c.self.invariant in
     let low = there_inside core c.args.self.now c.self.view_is s c.args.slot c.args.count c.has_run.result c.has_run.ensures c.if-not-has_run.false in
@@ -62,7 +62,7 @@ overflow_add-first c =
 
 pub positions_are_held-requires : goal.positions_are_held-requires
 positions_are_held-requires c =
-    let core : CoreValue = record { words = c.self.inside.words; senders = c.self.inside.senders.items; consumer = c.self.inside.consumer; tallies = c.self.inside.tallies } in
+    let core = core_of c.self.inside in
     let s = c.args.sender in
     let is = c.self.invariant in
     let low = there_inside core c.args.self.now c.self.view_is s c.args.slot c.args.count c.has_run.result c.has_run.ensures c.if-not-has_run.false in
@@ -75,7 +75,7 @@ positions_are_held-requires c =
 
 pub returns-then-offset-count-clause-refused : goal.returns-then-offset-count-clause-refused
 returns-then-offset-count-clause-refused c =
-    let core : CoreValue = record { words = c.self.inside.words; senders = c.self.inside.senders.items; consumer = c.self.inside.consumer; tallies = c.self.inside.tallies } in
+    let core = core_of c.self.inside in
     let s = c.args.sender in
     let slot = c.args.slot in
     let count = c.args.count in
@@ -100,7 +100,7 @@ returns-then-offset-count-clause-refused c =
 
 pub returns-then-any_flipped-clause-refused : goal.returns-then-any_flipped-clause-refused
 returns-then-any_flipped-clause-refused c =
-    let core : CoreValue = record { words = c.self.inside.words; senders = c.self.inside.senders.items; consumer = c.self.inside.consumer; tallies = c.self.inside.tallies } in
+    let core = core_of c.self.inside in
     let s = c.args.sender in
     let slot = c.args.slot in
     let count = c.args.count in
@@ -123,7 +123,7 @@ returns-then-any_flipped-clause-refused c =
 
 pub returns-then-not-all_written-clause-refused : goal.returns-then-not-all_written-clause-refused
 returns-then-not-all_written-clause-refused c =
-    let core : CoreValue = record { words = c.self.inside.words; senders = c.self.inside.senders.items; consumer = c.self.inside.consumer; tallies = c.self.inside.tallies } in
+    let core = core_of c.self.inside in
     let s = c.args.sender in
     let slot = c.args.slot in
     let count = c.args.count in
@@ -145,7 +145,7 @@ returns-then-not-all_written-clause-refused c =
 
 pub returns-clause-accepted : goal.returns-clause-accepted
 returns-clause-accepted c =
-    let core : CoreValue = record { words = c.self.inside.words; senders = c.self.inside.senders.items; consumer = c.self.inside.consumer; tallies = c.self.inside.tallies } in
+    let core = core_of c.self.inside in
     let s = c.args.sender in
     let slot = c.args.slot in
     let count = c.args.count in
@@ -155,7 +155,7 @@ returns-clause-accepted c =
     let low = there_inside core c.args.self.now c.self.view_is s slot count c.has_run.result c.has_run.ensures c.if-not-has_run.false in
     let at = slice_get_read core.senders core.words.senders s c.index-view.result.now (sym views) low c.index-view.ensures in
     let same = c.geometry-geometry.ensures in
-    subst (λ m. IsAccepted m (Flip s slot count) (λ run. own_offset (ring_of m) run s slot ≡ Some k)) c.self.view_is
+    subst (λ m. HasNoFault m (Flip s slot count) (λ run. own_offset (ring_of m) run s slot ≡ Some k)) c.self.view_is
     (λ run stands.
     let known = stands.senders_know s c.index-view.result.now at in
     let many = c.len.ensures.reservation run s known in

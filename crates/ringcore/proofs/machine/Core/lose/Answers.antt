@@ -1,31 +1,32 @@
 use Rattle.std.proofs.Common.{◌<◌, false, sym, subst}
 use Rattle.std.proofs.lemmas.Option.{slice_get_read}
 use Rattle.std.specs.Prelude.{Ok, slice_set}
-use Rattle.ringcore.specs.declared.step.Step.TheVariants.{Reserve}
-use Rattle.ringcore.specs.declared.step.Seen.TheVariants.{Lost}
-use Rattle.ringcore.specs.Machine.{CoreValue, Applies}
-use Rattle.ringcore.proofs.ReserveSteps.{accepted_inside, lost_machine, lost_taken}
+use Rattle.ringcore.specs.declared.machine.step.Step.TheVariants.{Reserve}
+use Rattle.ringcore.specs.declared.machine.step.Seen.TheVariants.{Lost}
+use Rattle.ringcore.specs.machine.Core.{CoreValue, core_of, IsTakenOrRefused, FindsControl}
+use Rattle.ringcore.proofs.MachineLemmas.ReserveSteps.{lost_machine, lost_taken}
+use Rattle.ringcore.proofs.MachineLemmas.Inside.{there_inside, accepted_inside}
 use Rattle.ringcore.proofs.machine.Core.lose.Goals as goal
 
 pub invariant_of-self : goal.invariant_of-self
 invariant_of-self c =
-    let core : CoreValue = record { words = c.self.inside.words; senders = c.self.inside.senders.items; consumer = c.self.inside.consumer; tallies = c.self.inside.tallies } in
+    let core = core_of c.self.inside in
     let s = c.args.sender in
     let is = c.self.invariant in
-    let low : s < core.words.senders = subst (λ (m : CoreValue). s < m.words.senders) (sym c.self.view_is) c.requires.there in
+    let low = there_inside core c.args.self.now c.self.view_is s c.requires.there in
     let before = c.index_mut.result.now in
     let at = slice_get_read core.senders core.words.senders s before (sym is.views) low c.index_mut.ensures.value in
-    let accepted = accepted_inside core c.args.self.now c.self.view_is s c.args.body.now c.args.closes c.args.found.now false c.requires.accepted in
+    let accepted = accepted_inside core c.args.self.now c.self.view_is (Reserve s c.args.body.now c.args.closes) (λ m run. FindsControl m run s c.args.found.now false) c.requires.accepted in
     lost_machine c.steps_law.ensures.allowed core s low c.args.body.now c.args.closes c.args.found.now accepted before at c.loses.new.self c.loses.ensures is
 
 pub returns : goal.returns
 returns c =
-    let core : CoreValue = record { words = c.self.inside.words; senders = c.self.inside.senders.items; consumer = c.self.inside.consumer; tallies = c.self.inside.tallies } in
+    let core = core_of c.self.inside in
     let s = c.args.sender in
     let is = c.self.invariant in
-    let low : s < core.words.senders = subst (λ (m : CoreValue). s < m.words.senders) (sym c.self.view_is) c.requires.there in
+    let low = there_inside core c.args.self.now c.self.view_is s c.requires.there in
     let before = c.index_mut.result.now in
     let at = slice_get_read core.senders core.words.senders s before (sym is.views) low c.index_mut.ensures.value in
-    let accepted = accepted_inside core c.args.self.now c.self.view_is s c.args.body.now c.args.closes c.args.found.now false c.requires.accepted in
-    subst (λ old. Applies old (record core { senders = slice_set core.senders s c.loses.new.self }) (Reserve s c.args.body.now c.args.closes) (Ok (Lost c.args.found.now))) c.self.view_is
+    let accepted = accepted_inside core c.args.self.now c.self.view_is (Reserve s c.args.body.now c.args.closes) (λ m run. FindsControl m run s c.args.found.now false) c.requires.accepted in
+    subst (λ old. IsTakenOrRefused old (record core { senders = slice_set core.senders s c.loses.new.self }) (Reserve s c.args.body.now c.args.closes) (Ok (Lost c.args.found.now))) c.self.view_is
     (lost_taken c.steps_law.ensures.allowed core s low c.args.body.now c.args.closes c.args.found.now accepted before at c.loses.new.self c.loses.ensures)

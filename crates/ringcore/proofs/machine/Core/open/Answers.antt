@@ -1,9 +1,9 @@
 use Rattle.std.proofs.Common.{◌≡◌, ◌≤◌, ℕ, [], sym, ap, ◌∙◌, subst, length}
 use Rattle.std.proofs.lemmas.List.{length-replicate}
 use Rattle.qindex.specs.Indexes.{IsGeometry}
-use Rattle.ringcore.specs.Stores.{WordsValue}
-use Rattle.ringcore.specs.Machine.{CoreValue}
-use Rattle.ringcore.proofs.PlayedSteps.{opened}
+use Rattle.ringcore.specs.memory.WordStores.{WordsValue}
+use Rattle.ringcore.specs.machine.Core.{CoreValue}
+use Rattle.ringcore.proofs.MachineLemmas.PlayedSteps.{opened}
 use Rattle.ringcore.proofs.machine.Core.open.Goals as goal
 
 pub invariant_of-result : goal.invariant_of-result

@@ -1,37 +1,32 @@
 use Rattle.std.proofs.Common.{◌≡◌, None, sym, ap, subst, ◌∙◌}
 use Rattle.std.specs.Prelude.{slice_index}
 use Rattle.qindex.specs.declared.control.Control.{Control}
-use Rattle.ringcore.specs.declared.step.Step.TheVariants.{Test}
-use Rattle.ringcore.specs.declared.step.Seen.TheVariants.{Ready}
-use Rattle.ringcore.specs.World.{head, world, control}
-use Rattle.ringcore.specs.Layout.{flag_word}
-use Rattle.ringcore.specs.Flags.{IsReadyRun}
-use Rattle.ringcore.specs.Faults.{fault_of}
-use Rattle.ringcore.specs.Machine.{CoreValue, ring_of, WhereItStands, IsTaken}
-use Rattle.ringcore.proofs.TakenSteps.{test_machine, test_taken}
+use Rattle.ringcore.specs.declared.machine.step.Step.TheVariants.{Test}
+use Rattle.ringcore.specs.declared.machine.step.Seen.TheVariants.{Ready}
+use Rattle.ringcore.specs.world.World.{head, world, control}
+use Rattle.ringcore.specs.memory.Layout.{flag_word}
+use Rattle.ringcore.specs.memory.Flags.{IsReadyRun}
+use Rattle.ringcore.specs.machine.Faults.{fault_of}
+use Rattle.ringcore.specs.machine.Core.{CoreValue, core_of, ring_of, AfterEachRun, IsTaken}
+use Rattle.ringcore.proofs.MachineLemmas.TakenSteps.{test_machine, test_taken}
+use Rattle.ringcore.proofs.MachineLemmas.Inside.{no_fault_inside, control_inside}
 use Rattle.ringcore.proofs.machine.Core.test.Goals as goal
 
 pub invariant_of-self : goal.invariant_of-self
 invariant_of-self c =
-    let core : CoreValue = record { words = c.self.inside.words; senders = c.self.inside.senders.items; consumer = c.self.inside.consumer; tallies = c.self.inside.tallies } in
-    let no_fault : WhereItStands core (λ run. None ≡ fault_of (ring_of core) run (Test c.args.slot c.args.count)) =
-    subst (λ (m : CoreValue). WhereItStands m (λ run. None ≡ fault_of (ring_of m) run (Test c.args.slot c.args.count))) (sym c.self.view_is)
-    (λ run stands. sym c.in_default.is ∙ c.test_fault.ensures run stands) in
-    let says : WhereItStands core (λ run. c.control.result ≡ control core.words.geometry (world run)) =
-    subst (λ (m : CoreValue). WhereItStands m (λ run. c.control.result ≡ control m.words.geometry (world run))) (sym c.self.view_is) c.control.ensures.says in
-    let ready : WhereItStands core (λ run. IsReadyRun core.words.geometry (slice_index core.words.words (flag_word core.words.geometry (head (world run)))) (head (world run)) c.args.count c.ready-found.result) =
+    let core = core_of c.self.inside in
+    let no_fault = no_fault_inside core c.args.self.now c.self.view_is (Test c.args.slot c.args.count) c.test_fault.result c.in_default.is c.test_fault.ensures in
+    let says = control_inside core c.args.self.now c.self.view_is c.control.result c.control.ensures.says in
+    let ready : AfterEachRun core (λ run. IsReadyRun core.words.geometry (slice_index core.words.words (flag_word core.words.geometry (head (world run)))) (head (world run)) c.args.count c.ready-found.result) =
     (λ run stands. c.ready-found.ensures.position core.words.geometry (head (world run)) (ap (λ (k : Control). k.cons) (says run stands))) in
     test_machine c.test.ensures c.steps_law.ensures.allowed core c.args.slot c.args.count c.ready-found.result c.tests.new.self no_fault c.tests.ensures ready c.self.invariant
 
 pub returns : goal.returns
 returns c =
-    let core : CoreValue = record { words = c.self.inside.words; senders = c.self.inside.senders.items; consumer = c.self.inside.consumer; tallies = c.self.inside.tallies } in
-    let no_fault : WhereItStands core (λ run. None ≡ fault_of (ring_of core) run (Test c.args.slot c.args.count)) =
-    subst (λ (m : CoreValue). WhereItStands m (λ run. None ≡ fault_of (ring_of m) run (Test c.args.slot c.args.count))) (sym c.self.view_is)
-    (λ run stands. sym c.in_default.is ∙ c.test_fault.ensures run stands) in
-    let says : WhereItStands core (λ run. c.control.result ≡ control core.words.geometry (world run)) =
-    subst (λ (m : CoreValue). WhereItStands m (λ run. c.control.result ≡ control m.words.geometry (world run))) (sym c.self.view_is) c.control.ensures.says in
-    let ready : WhereItStands core (λ run. IsReadyRun core.words.geometry (slice_index core.words.words (flag_word core.words.geometry (head (world run)))) (head (world run)) c.args.count c.ready-found.result) =
+    let core = core_of c.self.inside in
+    let no_fault = no_fault_inside core c.args.self.now c.self.view_is (Test c.args.slot c.args.count) c.test_fault.result c.in_default.is c.test_fault.ensures in
+    let says = control_inside core c.args.self.now c.self.view_is c.control.result c.control.ensures.says in
+    let ready : AfterEachRun core (λ run. IsReadyRun core.words.geometry (slice_index core.words.words (flag_word core.words.geometry (head (world run)))) (head (world run)) c.args.count c.ready-found.result) =
     (λ run stands. c.ready-found.ensures.position core.words.geometry (head (world run)) (ap (λ (k : Control). k.cons) (says run stands))) in
     let new : CoreValue = record core { consumer = c.tests.new.self } in
     subst (λ (old : CoreValue). IsTaken old new (Test c.args.slot c.args.count) (Ready c.ready-found.result) × (ring_of new ≡ ring_of old)) c.self.view_is

@@ -2,43 +2,36 @@ use Rattle.std.proofs.Common.{◌≡◌, ◌<◌, ◌+◌, ℕ, sym, ap, ap₂, 
 use Rattle.std.proofs.lemmas.Option.{slice_get_read}
 use Rattle.std.specs.Prelude.{Some, Ok, slice_set}
 use Rattle.qindex.specs.Positions.{index_of}
-use Rattle.ringcore.specs.declared.step.Step.TheVariants.{Write}
-use Rattle.ringcore.specs.declared.step.Seen.TheVariants.{Written}
-use Rattle.ringcore.specs.Layout.{data_word}
-use Rattle.ringcore.specs.Stores.{with_word}
-use Rattle.ringcore.specs.Open.{own_offset}
-use Rattle.ringcore.specs.Machine.{CoreValue, ring_of, Applies, IsAccepted}
-use Rattle.ringcore.proofs.WriteSteps.{write_inside, write_fits, wrote_machine, write_taken}
+use Rattle.ringcore.specs.declared.machine.step.Step.TheVariants.{Write}
+use Rattle.ringcore.specs.declared.machine.step.Seen.TheVariants.{Written}
+use Rattle.ringcore.specs.memory.Layout.{data_word}
+use Rattle.ringcore.specs.memory.WordStores.{with_word}
+use Rattle.ringcore.specs.machine.Open.{own_offset}
+use Rattle.ringcore.specs.machine.Core.{CoreValue, core_of, ring_of, IsTakenOrRefused, HasNoFault}
+use Rattle.ringcore.proofs.MachineLemmas.WriteSteps.{write_inside, write_fits, wrote_machine, write_taken}
+use Rattle.ringcore.proofs.MachineLemmas.Inside.{there_inside, accepted_inside}
 use Rattle.ringcore.proofs.machine.Core.write.Goals as goal
-
-module _ (inside outside : CoreValue) (is : inside ≡ outside) (s slot half k : ℕ) where
-  at_inside : IsAccepted outside (Write s slot half) (λ run. own_offset (ring_of outside) run s slot ≡ Some k)
-      → IsAccepted inside (Write s slot half) (λ run. own_offset (ring_of inside) run s slot ≡ Some k)
-  at_inside = subst (λ m. IsAccepted m (Write s slot half) (λ run. own_offset (ring_of m) run s slot ≡ Some k)) (sym is)
-
-  there_inside : s < outside.words.senders → s < inside.words.senders
-  there_inside = subst (λ (m : CoreValue). s < m.words.senders) (sym is)
 
 pub command-requires : goal.command-requires
 command-requires c =
-    let core : CoreValue = record { words = c.self.inside.words; senders = c.self.inside.senders.items; consumer = c.self.inside.consumer; tallies = c.self.inside.tallies } in
+    let core = core_of c.self.inside in
     let s = c.args.sender in
     let k = c.in_ok-offset.offset in
     let is = c.self.invariant in
-    let low = there_inside core c.args.self.now c.self.view_is s c.args.slot c.args.half k c.in_ok-offset.ensures.there in
-    let accepted = at_inside core c.args.self.now c.self.view_is s c.args.slot c.args.half k c.in_ok-offset.ensures.accepted in
+    let low = there_inside core c.args.self.now c.self.view_is s c.in_ok-offset.ensures.there in
+    let accepted = accepted_inside core c.args.self.now c.self.view_is (Write s c.args.slot c.args.half) (λ m run. own_offset (ring_of m) run s c.args.slot ≡ Some k) c.in_ok-offset.ensures.accepted in
     let before = c.index_mut-view.result.now in
     let at = slice_get_read core.senders core.words.senders s before (sym is.views) low c.index_mut-view.ensures.value in
     write_inside c.steps_law.ensures.allowed core s c.args.slot c.args.half k c.half_of_number-half.result c.half_of_number-half.ensures accepted before at is.run is.stands
 
 pub overflow_add-start : goal.overflow_add-start
 overflow_add-start c =
-    let core : CoreValue = record { words = c.self.inside.words; senders = c.self.inside.senders.items; consumer = c.self.inside.consumer; tallies = c.self.inside.tallies } in
+    let core = core_of c.self.inside in
     let s = c.args.sender in
     let k = c.in_ok-offset.offset in
     let is = c.self.invariant in
-    let low = there_inside core c.args.self.now c.self.view_is s c.args.slot c.args.half k c.in_ok-offset.ensures.there in
-    let accepted = at_inside core c.args.self.now c.self.view_is s c.args.slot c.args.half k c.in_ok-offset.ensures.accepted in
+    let low = there_inside core c.args.self.now c.self.view_is s c.in_ok-offset.ensures.there in
+    let accepted = accepted_inside core c.args.self.now c.self.view_is (Write s c.args.slot c.args.half) (λ m run. own_offset (ring_of m) run s c.args.slot ≡ Some k) c.in_ok-offset.ensures.accepted in
     let before = c.index_mut-view.result.now in
     let at = slice_get_read core.senders core.words.senders s before (sym is.views) low c.index_mut-view.ensures.value in
     let fits = write_fits c.steps_law.ensures.allowed core s c.args.slot c.args.half k c.half_of_number-half.result c.half_of_number-half.ensures accepted before at c.start.result c.start.ensures is is.run is.stands in
@@ -49,12 +42,12 @@ writes-requires c = c.in_ok-offset.ensures.few
 
 pub invariant_of-self : goal.invariant_of-self
 invariant_of-self c =
-    let core : CoreValue = record { words = c.self.inside.words; senders = c.self.inside.senders.items; consumer = c.self.inside.consumer; tallies = c.self.inside.tallies } in
+    let core = core_of c.self.inside in
     let s = c.args.sender in
     let k = c.in_ok-offset.offset in
     let is = c.self.invariant in
-    let low = there_inside core c.args.self.now c.self.view_is s c.args.slot c.args.half k c.in_ok-offset.ensures.there in
-    let accepted = at_inside core c.args.self.now c.self.view_is s c.args.slot c.args.half k c.in_ok-offset.ensures.accepted in
+    let low = there_inside core c.args.self.now c.self.view_is s c.in_ok-offset.ensures.there in
+    let accepted = accepted_inside core c.args.self.now c.self.view_is (Write s c.args.slot c.args.half) (λ m run. own_offset (ring_of m) run s c.args.slot ≡ Some k) c.in_ok-offset.ensures.accepted in
     let before = c.index_mut-view.result.now in
     let at = slice_get_read core.senders core.words.senders s before (sym is.views) low c.index_mut-view.ensures.value in
     let index_is = c.index_of-index.ensures ∙ ap₂ index_of c.geometry.ensures (ap (λ n. c.start.result + n) c.from.ensures) in
@@ -65,16 +58,16 @@ invariant_of-self c =
 
 pub returns : goal.returns
 returns c =
-    let core : CoreValue = record { words = c.self.inside.words; senders = c.self.inside.senders.items; consumer = c.self.inside.consumer; tallies = c.self.inside.tallies } in
+    let core = core_of c.self.inside in
     let s = c.args.sender in
     let k = c.in_ok-offset.offset in
     let is = c.self.invariant in
-    let low = there_inside core c.args.self.now c.self.view_is s c.args.slot c.args.half k c.in_ok-offset.ensures.there in
-    let accepted = at_inside core c.args.self.now c.self.view_is s c.args.slot c.args.half k c.in_ok-offset.ensures.accepted in
+    let low = there_inside core c.args.self.now c.self.view_is s c.in_ok-offset.ensures.there in
+    let accepted = accepted_inside core c.args.self.now c.self.view_is (Write s c.args.slot c.args.half) (λ m run. own_offset (ring_of m) run s c.args.slot ≡ Some k) c.in_ok-offset.ensures.accepted in
     let before = c.index_mut-view.result.now in
     let at = slice_get_read core.senders core.words.senders s before (sym is.views) low c.index_mut-view.ensures.value in
     let index_is = c.index_of-index.ensures ∙ ap₂ index_of c.geometry.ensures (ap (λ n. c.start.result + n) c.from.ensures) in
-    subst (λ old. Applies old (record core { words = c.write-2.new.self; senders = slice_set core.senders s c.writes.new.self }) (Write s c.args.slot c.args.half) (Ok Written)) c.self.view_is
+    subst (λ old. IsTakenOrRefused old (record core { words = c.write-2.new.self; senders = slice_set core.senders s c.writes.new.self }) (Write s c.args.slot c.args.half) (Ok Written)) c.self.view_is
     (write_taken c.steps_law.ensures.allowed core s c.args.slot c.args.half k c.half_of_number-half.result c.half_of_number-half.ensures accepted before at c.start.result c.start.ensures
     c.write.ensures low c.command.result c.command.ensures
     c.write-2.new.self (c.write-2.ensures.position core.words.geometry (c.start.result + k) index_is ∙ ap (with_word core.words (data_word core.words.geometry (c.start.result + k) c.half_of_number-half.result)) c.half_of-word.ensures)

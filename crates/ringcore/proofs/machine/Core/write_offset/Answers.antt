@@ -2,16 +2,16 @@ use Rattle.std.proofs.Common.{◌≡◌, ◌<◌, length, sym, ap, ◌∙◌, su
 use Rattle.std.proofs.lemmas.Option.{slice_get_read}
 use Rattle.std.specs.Prelude.{Bool, Some, None, if◌then◌else◌}
 use Rattle.qindex.specs.Positions.{size}
-use Rattle.ringcore.specs.declared.step.Step.TheVariants.{Write}
-use Rattle.ringcore.specs.declared.step_fault.StepFault.TheVariants.{Flipped}
-use Rattle.ringcore.specs.Open.{own_offset}
-use Rattle.ringcore.specs.Machine.{CoreValue, ring_of, AllKnow, IsRefused, IsAccepted}
-use Rattle.ringcore.proofs.WriteSteps.{write_of_foreign, write_of_own}
+use Rattle.ringcore.specs.declared.machine.step.Step.TheVariants.{Write}
+use Rattle.ringcore.specs.declared.machine.step_fault.StepFault.TheVariants.{Flipped}
+use Rattle.ringcore.specs.machine.Open.{own_offset}
+use Rattle.ringcore.specs.machine.Core.{core_of, ring_of, AllKnow, IsRefused, HasNoFault}
+use Rattle.ringcore.proofs.MachineLemmas.WriteSteps.{write_of_foreign, write_of_own}
 use Rattle.ringcore.proofs.machine.Core.write_offset.Goals as goal
 
 pub returns-in_default-clause-refused : goal.returns-in_default-clause-refused
 returns-in_default-clause-refused c =
-    let core : CoreValue = record { words = c.self.inside.words; senders = c.self.inside.senders.items; consumer = c.self.inside.consumer; tallies = c.self.inside.tallies } in
+    let core = core_of c.self.inside in
     let s = c.args.sender in
     let slot = c.args.slot in
     let views = c.self.invariant.views in
@@ -33,7 +33,7 @@ any_flipped-requires c = let below = c.in-Some.ensures.inside.1 in omega (arith,
 
 pub returns-then-any_flipped-clause-refused : goal.returns-then-any_flipped-clause-refused
 returns-then-any_flipped-clause-refused c =
-    let core : CoreValue = record { words = c.self.inside.words; senders = c.self.inside.senders.items; consumer = c.self.inside.consumer; tallies = c.self.inside.tallies } in
+    let core = core_of c.self.inside in
     let s = c.args.sender in
     let slot = c.args.slot in
     let views = c.self.invariant.views in
@@ -51,7 +51,7 @@ returns-then-any_flipped-clause-refused c =
 
 pub returns-clause-accepted : goal.returns-clause-accepted
 returns-clause-accepted c =
-    let core : CoreValue = record { words = c.self.inside.words; senders = c.self.inside.senders.items; consumer = c.self.inside.consumer; tallies = c.self.inside.tallies } in
+    let core = core_of c.self.inside in
     let s = c.args.sender in
     let slot = c.args.slot in
     let views = c.self.invariant.views in
@@ -59,7 +59,7 @@ returns-clause-accepted c =
     let same_size = ap size c.geometry-geometry.ensures in
     let slot_there : slot < size core.words.geometry = omega (arith, same_size, c.size.ensures.value, c.if-slot-size.false) in
     let at = slice_get_read core.senders core.words.senders s c.index-view.result.now (sym views) low c.index-view.ensures in
-    subst (λ m. IsAccepted m (Write s slot c.args.half) (λ run. own_offset (ring_of m) run s slot ≡ Some c.in-Some.offset)) c.self.view_is
+    subst (λ m. HasNoFault m (Write s slot c.args.half) (λ run. own_offset (ring_of m) run s slot ≡ Some c.in-Some.offset)) c.self.view_is
     (λ run stands.
     let known = stands.senders_know s c.index-view.result.now at in
     let own : own_offset (ring_of core) run s slot ≡ Some c.in-Some.offset =

@@ -1,5 +1,5 @@
 use Rattle.std.proofs.Common.{string_bytes, subst, sym, None}
-use Rattle.ringcore.specs.Machine.{number_fault}
+use Rattle.ringcore.specs.machine.Core.{number_fault}
 use Rattle.schedule.specs.ScheduleText.{first_served, ring_or_fault}
 use Rattle.schedule.specs.Standing.{ActsAt}
 use Rattle.schedule.proofs.ServedLemmas.{acts_same_at, first_nothing, first_step, first_ring_is}

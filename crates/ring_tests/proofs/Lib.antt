@@ -1,0 +1,4 @@
+pub mod WorkedCases
+pub mod WorkedTwoLaps
+pub mod WorkedEveryKind
+pub mod WorkedSchedules

@@ -1,0 +1,14 @@
+pub mod Lists
+pub mod Reading
+pub mod Numbering
+pub mod Syncs
+pub mod Starts
+pub mod Sound
+pub mod Acknowledged
+pub mod Completed
+pub mod Order
+pub mod Slots
+pub mod Bound
+pub mod LookedControls
+pub mod SyncCounts
+pub mod FewNumbers

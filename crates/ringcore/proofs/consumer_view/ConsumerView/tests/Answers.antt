@@ -1,9 +1,0 @@
-use Rattle.std.proofs.Common.{sym, subst}
-use Rattle.ringcore.specs.ConsumerViews.{ConsumerValue, ConsumerKnows}
-use Rattle.ringcore.proofs.ConsumerKnown.{tested_known}
-use Rattle.ringcore.proofs.consumer_view.ConsumerView.tests.Goals as goal
-
-pub returns : goal.returns
-returns c = λ run limit known.
-    let view : ConsumerValue = record { taken = c.self.inside.taken; found = c.self.inside.found; read = c.self.inside.read } in
-    tested_known run view limit c.args.found (subst (ConsumerKnows run) (sym c.self.view_is) known)

@@ -1,6 +1,0 @@
-use Rattle.std.proofs.Common.{◌≡◌, ◌<◌, ◌^◌}
-use Rattle.ringcore.specs.Answers.{new_flags}
-use Rattle.ringcore.proofs.flags.new_flags.Given as goal
-
-abbrev pub invariant-loop-offset : goal.invariant-loop-offset
-invariant-loop-offset l = record { flags_are : l.flags ≡ new_flags l.geometry l.position l.offset; small : l.flags < 2 ^ l.offset }

@@ -1,7 +1,0 @@
-use Rattle.std.proofs.Common.{◌≡◌, ℕ, false}
-use Rattle.ringcore.specs.Open.{some_below, holds}
-use Rattle.ringcore.specs.Machine.{WhereAllKnow}
-use Rattle.ringcore.proofs.held.is_held.Given as goal
-
-abbrev pub invariant-loop-sender : goal.invariant-loop-sender
-invariant-loop-sender l = (geometry : ℕ) → WhereAllKnow l.views geometry (λ ring run. some_below l.sender (λ s. holds run s l.position) ≡ false)

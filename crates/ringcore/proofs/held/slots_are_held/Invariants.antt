@@ -1,8 +1,0 @@
-use Rattle.std.proofs.Common.{◌≡◌, ◌+◌, true}
-use Rattle.qindex.specs.Positions.{place}
-use Rattle.ringcore.specs.Open.{all_below, slot_is_held}
-use Rattle.ringcore.specs.Machine.{WhereAllKnow}
-use Rattle.ringcore.proofs.held.slots_are_held.Given as goal
-
-abbrev pub invariant-loop-ahead : goal.invariant-loop-ahead
-invariant-loop-ahead l = WhereAllKnow l.views l.geometry (λ ring run. all_below l.ahead (λ k. slot_is_held ring run (place l.geometry (l.slot + k))) ≡ true)

@@ -1,5 +1,0 @@
-use Rattle.ringcore.proofs.Flipped.{flip}
-use Rattle.ringcore.proofs.laws.steps.flip.Goals as goal
-
-pub returns : goal.returns
-returns c = λ ring run words is. flip ring run words is c.indexes_tell_place_and_wrap_bit.ensures.apart

@@ -1,5 +1,0 @@
-use Rattle.ringcore.proofs.Stored.{won}
-use Rattle.ringcore.proofs.laws.steps.reserve_won.Goals as goal
-
-pub returns : goal.returns
-returns c = λ ring run words is. won ring run words is c.control_words_say_their_control.ensures.said c.indexes_tell_the_queue.ensures.control c.indexes_tell_the_queue.ensures.queue

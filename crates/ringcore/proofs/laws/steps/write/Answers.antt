@@ -1,5 +1,0 @@
-use Rattle.ringcore.proofs.Shown.{write}
-use Rattle.ringcore.proofs.laws.steps.write.Goals as goal
-
-pub returns : goal.returns
-returns c = λ ring run words is. write ring run words is c.indexes_tell_place_and_wrap_bit.ensures.apart

@@ -1,0 +1,13 @@
+use Rattle.ringcore.proofs.WorldLemmas.Bound.{reserved_bound}
+use Rattle.ringcore.proofs.WorldLemmas.SyncCounts.{syncs_counted}
+use Rattle.ringcore.proofs.WorldLemmas.FewNumbers.{numbers_few}
+use Rattle.ringcore.proofs.world.laws.counts_law.Goals as goal
+
+pub returns-clause-bound : goal.returns-clause-bound
+returns-clause-bound c = reserved_bound
+
+pub returns-clause-syncs : goal.returns-clause-syncs
+returns-clause-syncs c = syncs_counted
+
+pub returns-clause-few : goal.returns-clause-few
+returns-clause-few c = numbers_few

@@ -1,0 +1,9 @@
+pub mod Open
+pub mod Faults
+pub mod FaultNames
+pub mod StepAnswers
+pub mod Played
+pub mod SenderViews
+pub mod ConsumerViews
+pub mod SyncTallies
+pub mod Core

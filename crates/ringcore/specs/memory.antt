@@ -1,0 +1,5 @@
+pub mod Layout
+pub mod Flags
+pub mod Shadow
+pub mod StepLaws
+pub mod WordStores

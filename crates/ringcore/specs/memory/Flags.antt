@@ -1,0 +1,43 @@
+-- The flags: one bit for each slot, which says whether the command of this lap stands in it (own). A flag of an
+-- even lap says so by 1, and one of an odd lap by 0: so a slot that is taken needs no clearing.
+use Rattle.std.specs.Prelude.{◌≡◌, ◌≢◌, ◌↔◌, ℕ, suc, ◌+◌, ◌-◌, ◌%◌, ◌^◌, ◌<◌, ◌≤◌, Bool, cond, nat_le, ◌==◌, List, slice_index}
+use Rattle.std.specs.Int.{bit_at}
+use Rattle.qindex.specs.Positions.{size, place, wrap_bit}
+use Rattle.ringcore.specs.world.Allowed.{ShareAWord}
+use Rattle.ringcore.specs.memory.Layout.{flag_word}
+
+-- the bit of its flag word in which a position's flag stands
+abbrev pub flag_bit : ℕ → ℕ → ℕ
+flag_bit geometry position = place geometry position % 64
+
+-- the bit by which a flag says 'flipped' of a position
+abbrev pub polarity : ℕ → ℕ → ℕ
+polarity geometry position = 1 - wrap_bit geometry position
+
+-- whether the words say of a position that it is flipped
+abbrev pub says_flipped : ℕ → List ℕ → ℕ → Bool
+says_flipped geometry words position =
+    bit_at (slice_index words (flag_word geometry position)) (flag_bit geometry position) == polarity geometry position
+
+-- how many positions from this one on, at most the size, have their flags in one flag word with its own
+abbrev pub shared_word : ℕ → ℕ → ℕ
+shared_word geometry position = cond (nat_le (size geometry) 64) (size geometry) (64 - flag_bit geometry position)
+
+-- A bit of the mask is set just where it is the flag of one of count positions from this one on.
+pub record IsFlagOf (geometry position count bit : ℕ) : Type 0 where
+  pub offset : ℕ
+  pub among : offset < count
+  pub is_its : bit ≡ flag_bit geometry (position + offset)
+
+pub record IsFlipMask (geometry position count mask : ℕ) : Type 0 where
+  pub fits : mask < 2 ^ 64
+  pub bits : (bit : ℕ) → (bit_at mask bit ≡ 1) ↔ IsFlagOf geometry position count bit
+
+-- In a flag word so many positions in a row, from this one on, are said to be flipped: at most limit, and as far
+-- as their flags stand in this word.
+pub record IsReadyRun (geometry word position limit found : ℕ) : Type 0 where
+  pub most : found ≤ limit
+  pub in_word : ShareAWord 64 geometry position found
+  pub ready : (offset : ℕ) → offset < found → bit_at word (flag_bit geometry (position + offset)) ≡ polarity geometry (position + offset)
+  pub no_more : found < limit → ShareAWord 64 geometry position (suc found)
+      → bit_at word (flag_bit geometry (position + found)) ≢ polarity geometry (position + found)

@@ -1,0 +1,47 @@
+-- Which word is where among the words of a ring (own). Between the control word, the flag words, the data words
+-- and each completion cell stand unused words: so many that no two of these share 64 bytes, wherever the first is.
+use Rattle.std.specs.Prelude.{ℕ, ◌+◌, ◌*◌, ◌/◌}
+use Rattle.qindex.specs.Positions.{size, place}
+use Rattle.ringcore.specs.declared.world.event.Half.{Half}
+use Rattle.ringcore.specs.declared.world.event.Half.TheVariants.{Lo, Hi}
+
+-- with the word ahead of them, 64 bytes
+abbrev pub unused : ℕ
+unused = 7
+
+abbrev pub control_word : ℕ
+control_word = 0
+
+-- one flag word for each 64 slots, and one for fewer
+abbrev pub first_flag_word : ℕ
+first_flag_word = control_word + 1 + unused
+
+abbrev pub flag_words : ℕ → ℕ
+flag_words geometry = (size geometry + 63) / 64
+
+-- the word in which a position's flag stands
+abbrev pub flag_word : ℕ → ℕ → ℕ
+flag_word geometry position = first_flag_word + place geometry position / 64
+
+-- two data words for each slot, lo ahead of hi
+abbrev pub first_data_word : ℕ → ℕ
+first_data_word geometry = first_flag_word + flag_words geometry + unused
+
+abbrev pub half_number : Half → ℕ
+half_number Lo = 0
+half_number Hi = 1
+
+-- the word in which a half of a position's command stands
+abbrev pub data_word : ℕ → ℕ → Half → ℕ
+data_word geometry position half = first_data_word geometry + 2 * place geometry position + half_number half
+
+-- the completion cell of each sender
+abbrev pub first_cell : ℕ → ℕ
+first_cell geometry = first_data_word geometry + 2 * size geometry + unused
+
+abbrev pub cell : ℕ → ℕ → ℕ
+cell geometry sender = first_cell geometry + sender * (1 + unused)
+
+-- how many words a ring has
+abbrev pub words_of : ℕ → ℕ → ℕ
+words_of geometry senders = first_cell geometry + senders * (1 + unused)

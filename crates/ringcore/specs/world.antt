@@ -1,0 +1,5 @@
+pub mod Trails
+pub mod World
+pub mod Allowed
+pub mod Delivery
+pub mod Laws

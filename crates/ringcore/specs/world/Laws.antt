@@ -1,0 +1,109 @@
+-- What every run is held to, of any length, in a ring of any size.
+use Rattle.std.specs.Prelude.{◌≡◌, ◌↔◌, ℕ, suc, ◌+◌, ◌*◌, ◌<◌, ◌≤◌, Bool, cond, ◌==◌, ◌&&◌, List, [], ◌∷◌, ◌++◌, length, Some, slice_get, ⊤}
+use Rattle.cmdcodec.specs.declared.raw.Raw.{Raw}
+use Rattle.cmdcodec.specs.Opcodes.{opcode_of}
+use Rattle.qindex.specs.Positions.{size}
+use Rattle.ringcore.specs.declared.world.event.Who.{Who}
+use Rattle.ringcore.specs.declared.world.event.Who.TheVariants.{Consumer, Sender}
+use Rattle.ringcore.specs.declared.world.event.Event.TheVariants.{Won, Advance}
+use Rattle.ringcore.specs.world.Trails.{Trail, Run, trail_of}
+use Rattle.ringcore.specs.world.World.{commands, Item, World, items, tail, head, world}
+use Rattle.ringcore.specs.world.Allowed.{Ring, SyncIsTaken, IsRun}
+use Rattle.ringcore.specs.world.Delivery.{Batch, batches, joined}
+
+abbrev pub EveryRun : (Run → Type 0) → Type 0
+EveryRun P = (ring : Ring) (run : Run) → IsRun ring run → P run
+
+-- The ring is never more than full: H ≤ T ≤ H + N.
+pub record IsWithin (ring : Ring) (w : World) : Type 0 where
+  pub behind : head w ≤ tail w
+  pub within : tail w ≤ head w + size ring.geometry
+
+abbrev pub NeverMoreThanFull : Type 0
+NeverMoreThanFull = (ring : Ring) (run : Run) → IsRun ring run → IsWithin ring (world run)
+
+-- The sync of each number up to the one in a sender's completion cell stands below the head.
+abbrev pub AcknowledgedAreTaken : Run → Type 0
+AcknowledgedAreTaken run =
+    (s number : ℕ) → 1 ≤ number → number ≤ (world run).acknowledged s → SyncIsTaken (world run) s number
+
+-- ---- batches, as a driver's author knows them
+
+-- Position by position from here on stand the commands of this batch.
+abbrev pub StandsAt : World → ℕ → Batch → Type 0
+StandsAt w start b =
+    (place : ℕ) (item : Item) → slice_get (items b.sender b.number b.body) place ≡ Some item → slice_get w.reserved (start + place) ≡ Some item
+
+-- Each batch stands in one piece, behind all that was reserved before it.
+abbrev pub BatchesAreUnbroken : Run → Type 0
+BatchesAreUnbroken run =
+    (ahead behind : List Batch) (b : Batch) → batches run ≡ ahead ++ b ∷ behind → StandsAt (world run) (length (joined ahead)) b
+
+-- the batches of one sender
+abbrev pub batches_of : ℕ → List Batch → List Batch
+batches_of s [] = []
+batches_of s (b ∷ bs) = cond (s == b.sender) (b ∷ batches_of s bs) (batches_of s bs)
+
+-- the batches of a sender's own trail, in their order
+abbrev pub own_batches : ℕ → Trail → List Batch
+own_batches s [] = []
+own_batches s (Won body number ∷ es) = own_batches s es ++ record { sender = s; number = number; body = body } ∷ []
+own_batches s (e ∷ es) = own_batches s es
+
+-- Each sender's batches stand in the order in which it reserved them.
+abbrev pub SendersOrderIsKept : Run → Type 0
+SendersOrderIsKept run = (s : ℕ) → batches_of s (batches run) ≡ own_batches s (trail_of (Sender s) run)
+
+-- Of two batches that a sender reserved, the earlier one stands before the other.
+pub record StandInOrder (w : World) (one two : Batch) : Type 0 where
+  pub first : ℕ
+  pub second : ℕ
+  pub first_is : StandsAt w first one
+  pub second_is : StandsAt w second two
+  pub order : first + length (commands one.sender one.number one.body) ≤ second
+
+abbrev pub EarlierStandsBefore : Run → Type 0
+EarlierStandsBefore run =
+    (s : ℕ) (before between after : List Batch) (one two : Batch)
+    → own_batches s (trail_of (Sender s) run) ≡ before ++ one ∷ (between ++ two ∷ after)
+    → StandInOrder (world run) one two
+
+-- ---- what seats may know
+
+-- Nobody but the consumer and the senders below this number takes a step.
+abbrev pub IsOne : ℕ → Who → Type 0
+IsOne senders Consumer = ⊤
+IsOne senders (Sender s) = s < senders
+
+abbrev pub OnlyOf : ℕ → Run → Type 0
+OnlyOf senders [] = ⊤
+OnlyOf senders (x ∷ xs) = IsOne senders x.0 × OnlyOf senders xs
+
+-- No more is reserved than 64 commands for each batch that each sender may make.
+abbrev pub FewAreReserved : Type 0
+FewAreReserved =
+    (ring : Ring) (senders : ℕ) (run : Run) → OnlyOf senders run → IsRun ring run → tail (world run) ≤ 64 * (senders * ring.max_batches)
+
+-- whether a command is a closing sync of this sender: a CMD_SYNC that writes into its completion cell
+abbrev pub is_sync_to : ℕ → Raw → Bool
+is_sync_to s raw = opcode_of raw == 0x46 && raw.hi == 0x40000000 + 4 * s
+
+abbrev pub syncs_in : ℕ → List Raw → ℕ
+syncs_in s [] = 0
+syncs_in s (raw ∷ raws) = cond (is_sync_to s raw) (suc (syncs_in s raws)) (syncs_in s raws)
+
+-- how many closing syncs of a sender were taken, by the consumer's trail
+abbrev pub syncs_taken : ℕ → Trail → ℕ
+syncs_taken s [] = 0
+syncs_taken s (Advance raws ∷ es) = syncs_taken s es + syncs_in s raws
+syncs_taken s (e ∷ es) = syncs_taken s es
+
+-- The consumer knows by its own trail which closing syncs are taken: those up to as many as it took.
+abbrev pub SyncsAreCounted : Run → Type 0
+SyncsAreCounted run =
+    (s number : ℕ) → SyncIsTaken (world run) s number ↔ ((1 ≤ number) × (number ≤ syncs_taken s (trail_of Consumer run)))
+
+-- The number of a closing sync that is taken is one of as many as each sender may make batches.
+abbrev pub NumbersAreFew : Type 0
+NumbersAreFew =
+    (ring : Ring) (run : Run) → IsRun ring run → (s number : ℕ) → SyncIsTaken (world run) s number → number ≤ ring.max_batches

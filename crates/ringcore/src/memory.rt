@@ -1,0 +1,10 @@
+//! The words of a ring: which is where, what its flags say, and what one operation on one of them does for each kind
+//! of step.
+mod flags;
+pub mod laws;
+mod layout;
+mod ring_words;
+
+pub use flags::{flip_mask, new_flags, polarity, ready_run, shared_word};
+pub use layout::{cell, control_word, data_word, flag_word, words};
+pub use ring_words::RingWords;
