@@ -1,8 +1,8 @@
 //! `replay` from any reader to any writer.
-ghost use Rattle.std.specs.Prelude.{◌≡◌, IfOk, IfErr, OnErr, true};
+ghost use Rattle.std.specs.Prelude.{◌≡◌, ◌^◌, IfOk, IfErr, OnErr, true};
 ghost use Rattle.std.specs.Io.KnownBytes.{IsAtEnd};
-ghost use Rattle.script.specs.Errors.{is_read, is_memory};
-ghost use Rattle.script.specs.Writing.{WritesAnswer, WritesNoMemory, WritesBeginning, AnswersWholeLines};
+ghost use Rattle.script.specs.Errors.{is_read, is_memory, is_endless};
+ghost use Rattle.script.specs.Writing.{WritesAnswer, WritesNoMemory, WritesBeginning, AnswersWholeLines, ReadsAtLeast};
 ghost use Rattle.replay.specs.Giving.{MayAnswer};
 ghost use Rattle.replay.specs.Replaying.{Replays};
 
@@ -27,12 +27,15 @@ pub fn serve<R: Read, W: Write>(
     // Where memory was wanting, the answers to whole lines and then `no memory`.
     ensures memory { IfErr result (λ e. is_memory e ≡ true → WritesNoMemory MayAnswer (R.remaining input.old) (W.contents output.old) (W.contents output.new)) }
 
-    // After any error, a beginning of one of these.
-    ensures beginning { OnErr result (WritesBeginning MayAnswer (R.remaining input.old) (W.contents output.old) (W.contents output.new)) }
+    // After any error, a beginning of one of these, whatever follows what was read.
+    ensures beginning { OnErr result (WritesBeginning MayAnswer (R.remaining input.old) (R.remaining input.new) (W.contents output.old) (W.contents output.new)) }
 
-    // Where the reader failed, each line whose end was read had been answered: no answer waits for a later read.
+    // Where the reader failed, just the lines whose ends were read were answered, all of them.
     ensures read { IfErr result (λ e. is_read e ≡ true
         → AnswersWholeLines MayAnswer (R.remaining input.old) (R.remaining input.new) (W.contents output.old) (W.contents output.new)) }
+
+    // Any other error than want of memory, a failed read or a failed write takes a script of 2^63 bytes or more.
+    ensures endless { IfErr result (λ e. is_endless e ≡ true → ReadsAtLeast (2 ^ 63) (R.remaining input.old) (R.remaining input.new)) }
 {
     let mut replay = Replay::new(alloc);
     script::serve(alloc, &mut replay, input, output)
@@ -40,7 +43,7 @@ pub fn serve<R: Read, W: Write>(
 
 /// Reads a script and writes its answers, the line `no memory` among them, and says how it went.
 pub fn replay<R: Read, W: Write>(alloc: Global, input: &mut R, output: &mut W) -> Status
-    ensures { Replays result (R.remaining input.old) (W.contents output.old) (W.contents output.new) }
+    ensures { Replays result (R.remaining input.old) (R.remaining input.new) (W.contents output.old) (W.contents output.new) }
 {
     let served = serve(alloc, input, output);
     status_of(&served)

@@ -4,10 +4,10 @@ use Rattle.script.specs.declared.status.Status.{Status}
 use Rattle.script.specs.Statuses.{Tells, ExitsAs}
 use Rattle.schedule.specs.Giving.{Answers}
 
--- Of a reader that had this input, and a writer that held `before` and holds `after`.
-abbrev pub Schedules : Status → Option (List ℕ) → Option (List ℕ) → Option (List ℕ) → Type 0
-Schedules status input before after = Tells Answers status input before after
+-- Of a reader that had this input and has `rest` left, and a writer that held `before` and holds `after`.
+abbrev pub Schedules : Status → Option (List ℕ) → Option (List ℕ) → Option (List ℕ) → Option (List ℕ) → Type 0
+Schedules status input rest before after = Tells Answers status input rest before after
 
 -- It ended with the exit status of a run.
-abbrev pub ExitsAsSchedule : ℕ → Option (List ℕ) → Option (List ℕ) → Option (List ℕ) → Type 0
-ExitsAsSchedule exit input before after = ExitsAs Answers exit input before after
+abbrev pub ExitsAsSchedule : ℕ → Option (List ℕ) → Option (List ℕ) → Option (List ℕ) → Option (List ℕ) → Type 0
+ExitsAsSchedule exit input rest before after = ExitsAs Answers exit input rest before after

@@ -6,5 +6,6 @@ pub mod BufferLemmas
 pub mod ServedLines
 pub mod UnderWay
 pub mod Pauses
+pub mod TakenBytes
 pub mod MayLemmas
 pub mod AnswerLemmas

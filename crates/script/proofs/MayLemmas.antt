@@ -1,5 +1,5 @@
 -- What lines may come to by one account, they may come to by another.
-use Rattle.std.proofs.Common.{ℕ, List, Option, Some, None, inl, inr, IfSome}
+use Rattle.std.proofs.Common.{ℕ, List, ◌++◌, Option, Some, None, inl, inr}
 use Rattle.script.specs.declared.ending.Ending.{Ending}
 use Rattle.script.specs.Outcome.{Outcome}
 use Rattle.script.specs.Writing.{WritesAnswer, StopsForMemory, WritesNoMemory, IsBeginning, WritesBeginning, AnswersWholeLines}
@@ -32,12 +32,15 @@ front_comes : (may other : ℕ → List (List ℕ) → Outcome → Type 0) → I
 front_comes may other implies script front (inl c) = inl (implies _ _ _ c)
 front_comes may other implies script front (inr s) = inr (s.0, s.1, stops_comes may other implies script s.0 s.2, s.3)
 
-pub beginning_comes : (may other : ℕ → List (List ℕ) → Outcome → Type 0) → Implies may other → (input before after : Option (List ℕ)) → WritesBeginning may input before after → WritesBeginning other input before after
-beginning_comes may other implies input before after w = record { front = w.front; written = w.written; beginning = by_input input w.beginning }
-  where
-    by_input : (known : Option (List ℕ)) → IfSome known (λ script. IsBeginning may script w.front) → IfSome known (λ script. IsBeginning other script w.front)
-    by_input None b = tt
-    by_input (Some script) b = front_comes may other implies script w.front b
+pub beginning_comes : (may other : ℕ → List (List ℕ) → Outcome → Type 0) → Implies may other → (input rest before after : Option (List ℕ)) → WritesBeginning may input rest before after
+    → WritesBeginning other input rest before after
+beginning_comes may other implies input rest before after w = record {
+  seen = w.seen;
+  front = w.front;
+  read = w.read;
+  written = w.written;
+  beginning = λ more follows. front_comes may other implies (w.seen ++ more) w.front (w.beginning more follows);
+}
 
 pub lines_come : (may other : ℕ → List (List ℕ) → Outcome → Type 0) → Implies may other → (input rest before after : Option (List ℕ)) → AnswersWholeLines may input rest before after
     → AnswersWholeLines other input rest before after

@@ -8,7 +8,7 @@ use Rattle.script.specs.declared.ending.Ending.{Ending}
 use Rattle.script.specs.declared.ending.Ending.TheVariants.{Finished, Refused}
 use Rattle.script.specs.Lines.{lines_of, HasNoEnd}
 use Rattle.script.specs.Outcome.{Outcome, with_front}
-use Rattle.script.specs.Writing.{ComesTo, IsBeginning, StopsForMemory, WritesAnswer, WritesNoMemory, WritesBeginning, AnswersWholeLines, no_memory_line}
+use Rattle.script.specs.Writing.{ComesTo, MayFollow, IsBeginning, StopsForMemory, WritesAnswer, WritesNoMemory, WritesBeginning, AnswersWholeLines, no_memory_line}
 use Rattle.script.specs.Serving.{Advances, Stops, Halts, Closes, IsUnderWay, SameButText, SameButPending, WritesFront}
 use Rattle.script.proofs.LineLemmas.{IsWhole-append, lines_of-nothing}
 use Rattle.script.proofs.ServedLines.{EndsWithNothing, with_front-with_front}
@@ -86,112 +86,118 @@ under_way_read may now_may input mid rest before now s t part u same more r = re
       });
 }
 
+-- the reader stayed as it was
+pub under_way_kept : (may now_may : ℕ → List (List ℕ) → Outcome → Type 0) (input mid rest before now : Option (List ℕ)) (s : Run) → IsUnderWay may now_may input mid before now s → Keeps mid rest
+    → IsUnderWay may now_may input rest before now s
+under_way_kept may now_may input mid rest before now s u kept = record {
+  whole = u.whole;
+  told = u.told;
+  read = Consumes-kept input mid rest (u.whole ++ s.pending) u.read kept;
+  ends = u.ends;
+  written = u.written;
+  gives = u.gives;
+}
+
 -- ---- what the script is
 
--- What was read is a front of the script.
-script_is : (input rest : Option (List ℕ)) (seen : List ℕ) (P : List ℕ → Type 0) → Consumes input rest seen → ((more : List ℕ) → P (seen ++ more)) → IfSome input P
+-- It is what was read, and what may follow that.
+script_is : (input rest : Option (List ℕ)) (seen : List ℕ) (P : List ℕ → Type 0) → Consumes input rest seen → ((more : List ℕ) → MayFollow rest more → P (seen ++ more)) → IfSome input P
 script_is None rest seen P read given = tt
 script_is (Some script) None seen P read given = absurd read
-script_is (Some script) (Some left) seen P read given = subst P (sym read) (given left)
-
--- It is all of it where nothing is left.
-script_ends : (input rest : Option (List ℕ)) (seen : List ℕ) (P : List ℕ → Type 0) → Consumes input rest seen → IsAtEnd rest → P seen → IfSome input P
-script_ends None rest seen P read end given = tt
-script_ends (Some script) None seen P read end given = absurd read
-script_ends (Some script) (Some left) seen P read end given = subst P (sym (read ∙ ap (λ ys. seen ++ ys) end ∙ append-nil seen)) given
-
-some_weaker : (o : Option (List ℕ)) (P Q : List ℕ → Type 0) → ((x : List ℕ) → P x → Q x) → IfSome o P → IfSome o Q
-some_weaker None P Q f p = tt
-some_weaker (Some x) P Q f p = f x p
+script_is (Some script) (Some left) seen P read given = subst P (sym read) (given left (λ end. end))
 
 -- ---- it ends
 
--- the script comes to this text
-abbrev pub IsTold : (ℕ → List (List ℕ) → Outcome → Type 0) → Option (List ℕ) → List ℕ → Ending → Type 0
-IsTold may input text ending = IfSome input (λ script. ComesTo may script text (Some ending))
+-- the script comes to this text, whatever follows what was seen of it
+abbrev pub IsTold : (ℕ → List (List ℕ) → Outcome → Type 0) → Option (List ℕ) → List ℕ → List ℕ → Ending → Type 0
+IsTold may rest seen text ending = (more : List ℕ) → MayFollow rest more → ComesTo may (seen ++ more) text (Some ending)
 
 pub under_way_stops : (may now_may : ℕ → List (List ℕ) → Outcome → Type 0) (input rest before now : Option (List ℕ)) (s t : Run) (u : IsUnderWay may now_may input rest before now s)
-    → Stops now_may s t → IsTold may input (u.told ++ string_bytes t.text) Refused
-under_way_stops may now_may input rest before now s t u stops =
-    script_is input rest (u.whole ++ s.pending) (λ script. ComesTo may script (u.told ++ string_bytes t.text) (Some Refused)) u.read
-    (λ more. subst (λ ys. ComesTo may ys (u.told ++ string_bytes t.text) (Some Refused)) (sym (append_assoc u.whole s.pending more)) (u.gives (s.pending ++ more) _ (stops more)))
+    → Stops now_may s t → IsTold may rest (u.whole ++ s.pending) (u.told ++ string_bytes t.text) Refused
+under_way_stops may now_may input rest before now s t u stops more _ =
+    subst (λ ys. ComesTo may ys (u.told ++ string_bytes t.text) (Some Refused)) (sym (append_assoc u.whole s.pending more)) (u.gives (s.pending ++ more) _ (stops more))
 
 pub under_way_closes : (may now_may : ℕ → List (List ℕ) → Outcome → Type 0) (input rest before now : Option (List ℕ)) (s t : Run) (ending : Ending)
-    (u : IsUnderWay may now_may input rest before now s) → IsAtEnd rest → Closes now_may s t ending → IsTold may input (u.told ++ string_bytes t.text) ending
-under_way_closes may now_may input rest before now s t ending u end closes =
-    script_ends input rest (u.whole ++ s.pending) (λ script. ComesTo may script (u.told ++ string_bytes t.text) (Some ending)) u.read end (u.gives s.pending _ closes)
+    (u : IsUnderWay may now_may input rest before now s) → IsAtEnd rest → Closes now_may s t ending → IsTold may rest (u.whole ++ s.pending) (u.told ++ string_bytes t.text) ending
+under_way_closes may now_may input rest before now s t ending u end closes more follows =
+    subst (λ ys. ComesTo may ys (u.told ++ string_bytes t.text) (Some ending))
+    (sym (ap (λ ys. (u.whole ++ s.pending) ++ ys) (follows end) ∙ append-nil (u.whole ++ s.pending))) (u.gives s.pending _ closes)
 
-pub told_all : (may : ℕ → List (List ℕ) → Outcome → Type 0) (input before mid now : Option (List ℕ)) (told text : List ℕ) (ending : Ending)
-    → IsTold may input (told ++ text) ending → Appends before mid told → Appends mid now text → WritesAnswer may input before now ending
-told_all may input before mid now told text ending is_told told_before written =
-    some_weaker input _ _ (λ script comes. (told ++ text, comes, Appends-trans before mid now told text told_before written)) is_told
+pub told_all : (may : ℕ → List (List ℕ) → Outcome → Type 0) (input rest before mid now : Option (List ℕ)) (seen told text : List ℕ) (ending : Ending) → Consumes input rest seen
+    → IsTold may rest seen (told ++ text) ending → Appends before mid told → Appends mid now text → WritesAnswer may input before now ending
+told_all may input rest before mid now seen told text ending read is_told told_before written =
+    script_is input rest seen (λ script. (all : List ℕ) × ComesTo may script all (Some ending) × Appends before now all) read
+    (λ more follows. (told ++ text, is_told more follows, Appends-trans before mid now told text told_before written))
 
-pub told_part : (may : ℕ → List (List ℕ) → Outcome → Type 0) (input before mid now : Option (List ℕ)) (told text : List ℕ) (ending : Ending) → CanBeCut may
-    → IsTold may input (told ++ text) ending → Appends before mid told → WritesFront mid now text → WritesBeginning may input before now
-told_part may input before mid now told text ending cut is_told told_before f = record {
+pub told_part : (may : ℕ → List (List ℕ) → Outcome → Type 0) (input rest before mid now : Option (List ℕ)) (seen told text : List ℕ) (ending : Ending) → CanBeCut may
+    → Consumes input rest seen → IsTold may rest seen (told ++ text) ending → Appends before mid told → WritesFront mid now text → WritesBeginning may input rest before now
+told_part may input rest before mid now seen told text ending cut read is_told told_before f = record {
+  seen = seen;
   front = told ++ f.front;
+  read = read;
   written = Appends-trans before mid now told f.front told_before f.written;
-  beginning = some_weaker input _ (λ script. IsBeginning may script (told ++ f.front)) (λ script comes.
-      inl (cut 1 (lines_of script) _ (told ++ f.front) f.rest comes (ap (λ x. told ++ x) f.split ∙ sym (append_assoc told f.front f.rest)))) is_told;
+  beginning = λ more follows.
+      inl (cut 1 (lines_of (seen ++ more)) _ (told ++ f.front) f.rest (is_told more follows) (ap (λ x. told ++ x) f.split ∙ sym (append_assoc told f.front f.rest)));
 }
 
 -- ---- it is broken off
 
 -- some of the text was written
 pub under_way_part : (may now_may : ℕ → List (List ℕ) → Outcome → Type 0) (input rest before mid now : Option (List ℕ)) (s : Run) → CanBeCut may → BeginsWithNothing now_may
-    → IsUnderWay may now_may input rest before mid s → WritesFront mid now (string_bytes s.text) → WritesBeginning may input before now
+    → IsUnderWay may now_may input rest before mid s → WritesFront mid now (string_bytes s.text) → WritesBeginning may input rest before now
 under_way_part may now_may input rest before mid now s cut begins u f = record {
+  seen = u.whole ++ s.pending;
   front = u.told ++ f.front;
+  read = u.read;
   written = Appends-trans before mid now u.told f.front u.written f.written;
-  beginning = script_is input rest (u.whole ++ s.pending) (λ script. IsBeginning may script (u.told ++ f.front)) u.read
-      (λ more.
+  beginning = λ more _.
       let comes : ComesTo may (u.whole ++ (s.pending ++ more)) (u.told ++ (string_bytes s.text ++ [])) None =
       u.gives (s.pending ++ more) (record { text = string_bytes s.text ++ []; ending = None }) (record { rest = record { text = []; ending = None }; gives = begins _ _; same = refl }) in
       let split = ap (λ x. u.told ++ x) (append-nil (string_bytes s.text) ∙ f.split) ∙ sym (append_assoc u.told f.front f.rest) in
-      subst (λ ys. IsBeginning may ys (u.told ++ f.front)) (sym (append_assoc u.whole s.pending more)) (inl (cut 1 _ _ (u.told ++ f.front) f.rest comes split)));
+      subst (λ ys. IsBeginning may ys (u.told ++ f.front)) (sym (append_assoc u.whole s.pending more)) (inl (cut 1 _ _ (u.told ++ f.front) f.rest comes split));
 }
 
 -- none of it was
 pub under_way_begins : (may now_may : ℕ → List (List ℕ) → Outcome → Type 0) (input rest before now : Option (List ℕ)) (s : Run) → CanBeCut may → BeginsWithNothing now_may
-    → IsUnderWay may now_may input rest before now s → WritesBeginning may input before now
+    → IsUnderWay may now_may input rest before now s → WritesBeginning may input rest before now
 under_way_begins may now_may input rest before now s cut begins u =
     under_way_part may now_may input rest before now now s cut begins u (record { front = []; rest = string_bytes s.text; split = refl; written = Appends-nil now })
 
--- memory was wanting at a line
+-- memory was wanting at a line, whatever follows
 stops_for_memory : (may now_may : ℕ → List (List ℕ) → Outcome → Type 0) (input rest before now : Option (List ℕ)) (s t : Run) (u : IsUnderWay may now_may input rest before now s)
-    → Halts now_may s t → IfSome input (λ script. StopsForMemory may script ((u.told ++ string_bytes t.text) ++ no_memory_line))
-stops_for_memory may now_may input rest before now s t u h =
-    script_is input rest (u.whole ++ s.pending) (λ script. StopsForMemory may script ((u.told ++ string_bytes t.text) ++ no_memory_line)) u.read
-    (λ more. record {
-      whole = u.whole ++ h.used;
-      rest = h.left ++ more;
-      answers = u.told ++ string_bytes t.text;
-      split =
-          ap (λ ys. (u.whole ++ ys) ++ more) h.split
-          ∙ ap (λ ys. ys ++ more) (sym (append_assoc u.whole h.used h.left))
-          ∙ append_assoc (u.whole ++ h.used) h.left more;
-      is_whole = IsWhole-append u.whole h.used u.ends h.whole;
-      comes = u.gives h.used _ h.gives;
-      told = refl;
-    })
+    → Halts now_may s t → (more : List ℕ) → StopsForMemory may ((u.whole ++ s.pending) ++ more) ((u.told ++ string_bytes t.text) ++ no_memory_line)
+stops_for_memory may now_may input rest before now s t u h more = record {
+  whole = u.whole ++ h.used;
+  rest = h.left ++ more;
+  answers = u.told ++ string_bytes t.text;
+  split =
+      ap (λ ys. (u.whole ++ ys) ++ more) h.split
+      ∙ ap (λ ys. ys ++ more) (sym (append_assoc u.whole h.used h.left))
+      ∙ append_assoc (u.whole ++ h.used) h.left more;
+  is_whole = IsWhole-append u.whole h.used u.ends h.whole;
+  comes = u.gives h.used _ h.gives;
+  told = refl;
+}
 
 pub under_way_no_memory : (may now_may : ℕ → List (List ℕ) → Outcome → Type 0) (input rest before mid now : Option (List ℕ)) (s t : Run)
     → IsUnderWay may now_may input rest before mid s → Halts now_may s t → Appends mid now (string_bytes t.text ++ no_memory_line) → WritesNoMemory may input before now
 under_way_no_memory may now_may input rest before mid now s t u h w =
     let written : Appends before now ((u.told ++ string_bytes t.text) ++ no_memory_line) =
     subst (Appends before now) (sym (append_assoc u.told (string_bytes t.text) no_memory_line)) (Appends-trans before mid now u.told _ u.written w) in
-    some_weaker input _ _ (λ script stops. ((u.told ++ string_bytes t.text) ++ no_memory_line, stops, written)) (stops_for_memory may now_may input rest before mid s t u h)
+    script_is input rest (u.whole ++ s.pending) (λ script. (text : List ℕ) × StopsForMemory may script text × Appends before now text) u.read
+    (λ more _. ((u.told ++ string_bytes t.text) ++ no_memory_line, stops_for_memory may now_may input rest before mid s t u h more, written))
 
 pub under_way_no_memory_part : (may now_may : ℕ → List (List ℕ) → Outcome → Type 0) (input rest before mid now : Option (List ℕ)) (s t : Run)
-    → IsUnderWay may now_may input rest before mid s → Halts now_may s t → WritesFront mid now (string_bytes t.text ++ no_memory_line) → WritesBeginning may input before now
+    → IsUnderWay may now_may input rest before mid s → Halts now_may s t → WritesFront mid now (string_bytes t.text ++ no_memory_line) → WritesBeginning may input rest before now
 under_way_no_memory_part may now_may input rest before mid now s t u h f =
     let split : (u.told ++ string_bytes t.text) ++ no_memory_line ≡ (u.told ++ f.front) ++ f.rest =
     append_assoc u.told (string_bytes t.text) no_memory_line ∙ ap (λ x. u.told ++ x) f.split ∙ sym (append_assoc u.told f.front f.rest) in
     record {
+      seen = u.whole ++ s.pending;
       front = u.told ++ f.front;
+      read = u.read;
       written = Appends-trans before mid now u.told f.front u.written f.written;
-      beginning = some_weaker input _ (λ script. IsBeginning may script (u.told ++ f.front))
-          (λ script stops. inr ((u.told ++ string_bytes t.text) ++ no_memory_line, f.rest, stops, split)) (stops_for_memory may now_may input rest before mid s t u h);
+      beginning = λ more _. inr ((u.told ++ string_bytes t.text) ++ no_memory_line, f.rest, stops_for_memory may now_may input rest before mid s t u h more, split);
     }
 
 -- memory was wanting before any line
@@ -215,11 +221,13 @@ pub no_memory_at_once : (may : ℕ → List (List ℕ) → Outcome → Type 0) (
 no_memory_at_once may input before now nothing w = always input _ (λ script. (no_memory_line, stops_at_once may script nothing, w))
 
 pub no_memory_part_at_once : (may : ℕ → List (List ℕ) → Outcome → Type 0) (input before now : Option (List ℕ)) → EndsWithNothing may → WritesFront before now no_memory_line
-    → WritesBeginning may input before now
+    → WritesBeginning may input input before now
 no_memory_part_at_once may input before now nothing f = record {
+  seen = [];
   front = f.front;
+  read = Consumes-nil input;
   written = f.written;
-  beginning = always input (λ script. IsBeginning may script f.front) (λ script. inr (no_memory_line, f.rest, stops_at_once may script nothing, f.split));
+  beginning = λ more _. inr (no_memory_line, f.rest, stops_at_once may more nothing, f.split);
 }
 
 -- a read failed

@@ -1,5 +1,5 @@
 -- Why a run stopped before its outcome was written.
-use Rattle.std.specs.Prelude.{Bool, true, false}
+use Rattle.std.specs.Prelude.{◌≡◌, ◌≤◌, ◌^◌, ◌⊎◌, ℕ, Bool, true, false}
 use Rattle.script.specs.declared.error.ServeError.{ServeError}
 use Rattle.script.specs.declared.error.ServeError.TheVariants.{Memory, Read, Write, Endless}
 
@@ -16,3 +16,21 @@ is_memory (Memory e) = true
 is_memory (Read e) = false
 is_memory (Write e) = false
 is_memory Endless = false
+
+-- the writer failed, or took nothing
+abbrev pub is_write : ServeError → Bool
+is_write (Write e) = true
+is_write (Memory e) = false
+is_write (Read e) = false
+is_write Endless = false
+
+-- there is no end to the script
+abbrev pub is_endless : ServeError → Bool
+is_endless Endless = true
+is_endless (Memory e) = false
+is_endless (Read e) = false
+is_endless (Write e) = false
+
+-- Memory was wanting, or a number for a line: a line of at most this number was the 2^64th.
+abbrev pub WantsMemoryOrNumber : ServeError → ℕ → Type 0
+WantsMemoryOrNumber e number = (is_memory e ≡ true) ⊎ ((is_endless e ≡ true) × (2 ^ 64 ≤ number))

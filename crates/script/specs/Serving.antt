@@ -1,6 +1,6 @@
 -- How a run stands between two calls, and what parts of it do. `may`, `old` and `new` say what lines
 -- may come to that are served from there on.
-use Rattle.std.specs.Prelude.{◌≡◌, ℕ, ◌+◌, List, ◌++◌, Option, Some, string_bytes}
+use Rattle.std.specs.Prelude.{◌≡◌, ℕ, ◌+◌, ◌≤◌, List, ◌++◌, Option, Some, length, string_bytes}
 use Rattle.std.specs.Io.KnownBytes.{Consumes, Appends}
 use Rattle.script.specs.declared.ending.Ending.{Ending}
 use Rattle.script.specs.declared.ending.Ending.TheVariants.{Finished, Refused}
@@ -48,6 +48,11 @@ pub record IsUnderWay (may now_may : ℕ → List (List ℕ) → Outcome → Typ
 abbrev pub Closes : (ℕ → List (List ℕ) → Outcome → Type 0) → Run → Run → Ending → Type 0
 Closes before old new ending = RunGives before old old.pending (record { text = string_bytes new.text; ending = Some ending })
 
+-- Lines were served, and each of them took away a byte at least.
+pub record TakesBytes (old new : Run) : Type 0 where
+  pub lines : old.lines ≤ new.lines
+  pub bytes : new.lines + length new.pending ≤ old.lines + length old.pending
+
 -- only the text is another
 pub record SameButText (old new : Run) : Type 0 where
   pub pending : new.pending ≡ old.pending
@@ -91,4 +96,4 @@ GivesNoMemory may old_may rest now then old =
 abbrev pub GivesBeginning : (ℕ → List (List ℕ) → Outcome → Type 0) → (ℕ → List (List ℕ) → Outcome → Type 0)
     → Option (List ℕ) → Option (List ℕ) → Option (List ℕ) → Run → Type 0
 GivesBeginning may old_may rest now then old =
-    (input before : Option (List ℕ)) → IsUnderWay may old_may input rest before now old → WritesBeginning may input before then
+    (input before : Option (List ℕ)) → IsUnderWay may old_may input rest before now old → WritesBeginning may input rest before then

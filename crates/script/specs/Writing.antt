@@ -1,7 +1,7 @@
 -- What a run writes, by what its reader had. `may` says what lines may come to, the first of them
 -- having the number that it is given.
-use Rattle.std.specs.Prelude.{◌≡◌, ℕ, List, ◌++◌, ◌⊎◌, Option, Some, None, IfSome, codes}
-use Rattle.std.specs.Io.KnownBytes.{Consumes, Appends}
+use Rattle.std.specs.Prelude.{◌≡◌, ◌≤◌, ℕ, List, [], ◌++◌, ◌⊎◌, Option, Some, None, IfSome, length, codes}
+use Rattle.std.specs.Io.KnownBytes.{Consumes, Appends, IsAtEnd}
 use Rattle.script.specs.declared.ending.Ending.{Ending}
 use Rattle.script.specs.declared.ending.Ending.TheVariants.{Finished}
 use Rattle.script.specs.Lines.{lines_of, IsWhole, HasNoEnd}
@@ -39,10 +39,18 @@ abbrev pub IsBeginning : (ℕ → List (List ℕ) → Outcome → Type 0) → Li
 IsBeginning may script front =
     ComesTo may script front None ⊎ ((text rest : List ℕ) × StopsForMemory may script text × (text ≡ front ++ rest))
 
-pub record WritesBeginning (may : ℕ → List (List ℕ) → Outcome → Type 0) (input before after : Option (List ℕ)) : Type 0 where
+-- These bytes may follow those that were read: any where something is left to read, else none.
+abbrev pub MayFollow : Option (List ℕ) → List ℕ → Type 0
+MayFollow rest more = IsAtEnd rest → more ≡ []
+
+-- What was written is a beginning of one of these texts, whatever follows the bytes that were read. So of a last
+-- line that was cut nothing was answered.
+pub record WritesBeginning (may : ℕ → List (List ℕ) → Outcome → Type 0) (input rest before after : Option (List ℕ)) : Type 0 where
+  pub seen : List ℕ
   pub front : List ℕ
+  pub read : Consumes input rest seen
   pub written : Appends before after front
-  pub beginning : IfSome input (λ script. IsBeginning may script front)
+  pub beginning : (more : List ℕ) → MayFollow rest more → IsBeginning may (seen ++ more) front
 
 -- Just the lines whose ends were read were answered, and none of them ended the run.
 pub record AnswersWholeLines (may : ℕ → List (List ℕ) → Outcome → Type 0) (input rest before after : Option (List ℕ)) : Type 0 where
@@ -54,3 +62,7 @@ pub record AnswersWholeLines (may : ℕ → List (List ℕ) → Outcome → Type
   pub no_end : HasNoEnd part
   pub comes : ComesTo may whole answers (Some Finished)
   pub written : Appends before after answers
+
+-- at least so many bytes were read
+abbrev pub ReadsAtLeast : ℕ → Option (List ℕ) → Option (List ℕ) → Type 0
+ReadsAtLeast least input rest = (bytes : List ℕ) × Consumes input rest bytes × (least ≤ length bytes)

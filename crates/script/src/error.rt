@@ -14,7 +14,7 @@ pub enum ServeError {
     /// The writer failed, or took nothing.
     #[error("writing the answer: {0}")]
     Write(io::Error),
-    /// The script has more lines than can be numbered, which counts as a failed read.
+    /// The script has 2^64 lines, or was read in as many parts: at least 2^63 bytes of it.
     #[error("gave up after 2^64 lines or reads")]
     Endless,
 }

@@ -1,5 +1,5 @@
 //! What was read and is not served yet.
-ghost use Rattle.std.specs.Prelude.{◌≡◌, ◌++◌, ◌≤◌, ◌<◌, ◌+◌, ℕ, List, [], IfOk, OnOk, OnErr, length, take, drop, false};
+ghost use Rattle.std.specs.Prelude.{◌≡◌, ◌++◌, ◌≤◌, ◌<◌, ◌+◌, ℕ, List, [], IfOk, OnOk, OnErr, length, take, drop, true, false};
 ghost use Rattle.std.specs.Io.KnownBytes.{Consumes, IsAtEnd, Keeps};
 
 use std::alloc::{AllocError, Global};
@@ -58,6 +58,7 @@ impl Pending {
     pub(crate) fn fill<R: Read>(&mut self, reader: &mut R) -> io::Result<bool>
         requires { length self.old ≤ 4096 }
         ensures part { OnOk result ((part : List ℕ) × (self.new ≡ self.old ++ part) × Consumes (R.remaining reader.old) (R.remaining reader.new) part) }
+        ensures more { IfOk result (λ more. more ≡ true → length self.old < length self.new) }
         ensures end { IfOk result (λ more. more ≡ false → (self.new ≡ self.old) × IsAtEnd (R.remaining reader.new)) }
         ensures err { OnErr result ((self.new ≡ self.old) × Keeps (R.remaining reader.old) (R.remaining reader.new)) }
     {

@@ -1,10 +1,10 @@
 //! A run of a script, between two reads.
-ghost use Rattle.std.specs.Prelude.{◌≡◌, ◌≢◌, ◌≤◌, ◌<◌, ◌+◌, ◌++◌, ℕ, List, [], Option, Some, IfOk, IfErr, OnOk, OnErr, length, take, string_bytes, codes, true, false};
+ghost use Rattle.std.specs.Prelude.{◌≡◌, ◌≢◌, ◌≤◌, ◌<◌, ◌+◌, ◌++◌, ◌⊎◌, ℕ, List, [], Option, Some, IfOk, IfErr, OnOk, OnErr, length, take, string_bytes, codes, true, false};
 ghost use Rattle.std.specs.Io.KnownBytes.{Appends, Consumes, IsAtEnd, Keeps};
 ghost use Rattle.memchr.specs.Find.{IsFirstByte, is_byte};
 ghost use Rattle.script.specs.Lines.{HasNoEnd};
 ghost use Rattle.script.specs.Outcome.{Continues, Ends, fault_line};
-ghost use Rattle.script.specs.Errors.{is_read, is_memory};
+ghost use Rattle.script.specs.Errors.{is_read, is_memory, is_write, WantsMemoryOrNumber};
 ghost use Rattle.script.specs.Writing.{no_memory_line};
 
 use crate::ending::Ending;
@@ -43,7 +43,7 @@ pub(crate) struct Run {
 }
 
 impl Run {
-    ghost use Rattle.script.specs.Serving.{Advances, Stops, Halts, Closes, SameButText, SameButPending, WritesFront, KeepsWay, GivesAnswer, GivesNoMemory, GivesBeginning};
+    ghost use Rattle.script.specs.Serving.{Advances, Stops, Halts, Closes, TakesBytes, SameButText, SameButPending, WritesFront, KeepsWay, GivesAnswer, GivesNoMemory, GivesBeginning};
 
     pub(crate) fn new(alloc: Global) -> Result<Run, AllocError>
         ensures { IfOk result (λ run. (run.pending ≡ []) × (run.lines ≡ 0) × (string_bytes run.text ≡ [])) }
@@ -62,7 +62,7 @@ impl Run {
         ensures same { SameButText self.old self.new }
         ensures text { OnOk result (string_bytes self.new.text ≡ string_bytes self.old.text ++ string_bytes self.old.reply) }
         ensures err { OnErr result (string_bytes self.new.text ≡ string_bytes self.old.text) }
-        ensures not_read { IfErr result (λ e. is_read e ≡ false) }
+        ensures error { IfErr result (λ e. is_memory e ≡ true) }
     {
         match self.text.push_str(self.reply.as_str()) {
             Ok(()) => Ok(()),
@@ -85,7 +85,7 @@ impl Run {
         ensures ends { IfOk result (λ goes_on. goes_on ≡ false
             → Ends (I.gives interpreter.old) (self.old.lines + 1) (take end self.old.pending) (string_bytes self.old.text) (string_bytes self.new.text)) }
         ensures err { OnErr result (string_bytes self.new.text ≡ string_bytes self.old.text) }
-        ensures not_read { IfErr result (λ e. is_read e ≡ false) }
+        ensures error { IfErr result (λ e. WantsMemoryOrNumber e (self.old.lines + 1)) }
     {
         let Some(number) = self.lines.checked_add(1) else {
             return Err(ServeError::Endless);
@@ -105,7 +105,7 @@ impl Run {
     fn refuse_long_line(&mut self) -> Result<(), ServeError>
         ensures text { OnOk result (string_bytes self.new.text ≡ string_bytes self.old.text ++ fault_line (self.old.lines + 1) (codes "long line")) }
         ensures err { OnErr result (string_bytes self.new.text ≡ string_bytes self.old.text) }
-        ensures not_read { IfErr result (λ e. is_read e ≡ false) }
+        ensures error { IfErr result (λ e. WantsMemoryOrNumber e (self.old.lines + 1)) }
     {
         let Some(number) = self.lines.checked_add(1) else {
             return Err(ServeError::Endless);
@@ -125,10 +125,11 @@ impl Run {
     ) -> Result<bool, ServeError>
         requires { IsFirstByte (is_byte 10) self.old.pending (Some end) }
         ensures goes_on { IfOk result (λ goes_on. goes_on ≡ true → Advances (I.gives interpreter.old) (I.gives interpreter.new) self.old self.new) }
+        ensures lines { IfOk result (λ goes_on. goes_on ≡ true → self.new.lines ≡ self.old.lines + 1) }
         ensures shorter { IfOk result (λ goes_on. goes_on ≡ true → length self.new.pending < length self.old.pending) }
         ensures stops { IfOk result (λ goes_on. goes_on ≡ false → Stops (I.gives interpreter.old) self.old self.new) }
         ensures err { OnErr result (string_bytes self.new.text ≡ string_bytes self.old.text) }
-        ensures not_read { IfErr result (λ e. is_read e ≡ false) }
+        ensures error { IfErr result (λ e. WantsMemoryOrNumber e (self.old.lines + 1)) }
     {
         if end > LONGEST_LINE {
             self.refuse_long_line()?;
@@ -144,10 +145,12 @@ impl Run {
     /// Serves whole lines that are pending, until much text is gathered, and says why it stopped.
     fn serve_lines<I: Interpreter>(&mut self, interpreter: &mut I) -> Result<Pause, ServeError>
         ensures goes_on { IfOk result (λ pause. pause ≢ Pause.Ended → Advances (I.gives interpreter.old) (I.gives interpreter.new) self.old self.new) }
+        ensures takes { IfOk result (λ pause. pause ≢ Pause.Ended → TakesBytes self.old self.new) }
+        ensures full { IfOk result (λ pause. pause ≡ Pause.Full → length self.new.pending < length self.old.pending) }
         ensures drained { IfOk result (λ pause. pause ≡ Pause.Drained → HasNoEnd self.new.pending × (length self.new.pending ≤ 4096)) }
         ensures stops { IfOk result (λ pause. pause ≡ Pause.Ended → Stops (I.gives interpreter.old) self.old self.new) }
         ensures halts { OnErr result (Halts (I.gives interpreter.old) self.old self.new) }
-        ensures not_read { IfErr result (λ e. is_read e ≡ false) }
+        ensures error { IfErr result (λ e. WantsMemoryOrNumber e (self.old.lines + length self.old.pending + 1)) }
     {
         'lines: while let Some(end) = memchr(b'\n', self.pending.as_slice()) {
             if !self.serve_next(interpreter, end)? {
@@ -171,7 +174,7 @@ impl Run {
         requires short { length self.old.pending ≤ 4096 }
         ensures closes { IfOk result (Closes (I.gives interpreter.old) self.old self.new) }
         ensures halts { OnErr result (Halts (I.gives interpreter.old) self.old self.new) }
-        ensures not_read { IfErr result (λ e. is_read e ≡ false) }
+        ensures error { IfErr result (λ e. WantsMemoryOrNumber e (self.old.lines + 1)) }
     {
         let count = self.pending.as_slice().len();
         if count == 0 {
@@ -184,14 +187,16 @@ impl Run {
         }
     }
 
-    /// Reads more, and says whether there was any. An `Err` changes nothing.
+    /// Reads more, where nothing is left to be written, and says whether there was any. An `Err` changes nothing.
     pub(crate) fn read_more<R: Read>(&mut self, input: &mut R) -> Result<bool, ServeError>
-        requires { length self.old.pending ≤ 4096 }
+        requires short { length self.old.pending ≤ 4096 }
+        requires written { string_bytes self.old.text ≡ [] }
         ensures same { SameButPending self.old self.new }
         ensures part { OnOk result ((part : List ℕ) × (self.new.pending ≡ self.old.pending ++ part) × Consumes (R.remaining input.old) (R.remaining input.new) part) }
+        ensures more { IfOk result (λ more. more ≡ true → length self.old.pending < length self.new.pending) }
         ensures end { IfOk result (λ more. more ≡ false → (self.new.pending ≡ self.old.pending) × IsAtEnd (R.remaining input.new)) }
         ensures err { OnErr result (Keeps (R.remaining input.old) (R.remaining input.new)) }
-        ensures not_memory { IfErr result (λ e. is_memory e ≡ false) }
+        ensures error { IfErr result (λ e. is_read e ≡ true) }
     {
         match self.pending.fill(input) {
             Ok(more) => Ok(more),
@@ -204,7 +209,7 @@ impl Run {
         ensures same { SameButText self.old self.new }
         ensures ok { OnOk result ((string_bytes self.new.text ≡ []) × Appends (W.contents output.old) (W.contents output.new) (string_bytes self.old.text)) }
         ensures err { OnErr result (WritesFront (W.contents output.old) (W.contents output.new) (string_bytes self.old.text)) }
-        ensures is_write { IfErr result (λ e. (is_read e ≡ false) × (is_memory e ≡ false)) }
+        ensures error { IfErr result (λ e. is_write e ≡ true) }
     {
         write_whole(output, self.text.as_bytes())?;
         self.text.clear();
@@ -215,7 +220,7 @@ impl Run {
     fn give_up<W: Write>(&mut self, output: &mut W, e: ServeError) -> ServeError
         ensures told { is_memory result ≡ true → Appends (W.contents output.old) (W.contents output.new) (string_bytes self.old.text ++ no_memory_line) }
         ensures part { WritesFront (W.contents output.old) (W.contents output.new) (string_bytes self.old.text ++ no_memory_line) }
-        ensures not_read { is_read e ≡ false → is_read result ≡ false }
+        ensures error { (result ≡ e) ⊎ (is_write result ≡ true) }
     {
         if let Err(failed) = self.send_text(output) {
             return failed;
@@ -234,6 +239,8 @@ impl Run {
     ) -> Result<Pause, ServeError>
         ensures goes_on { IfOk result (λ pause. pause ≢ Pause.Ended → (first : I) (rest : Option (List ℕ))
             → KeepsWay (I.gives first) (I.gives interpreter.old) (I.gives interpreter.new) rest rest (W.contents output.old) (W.contents output.new) self.old self.new) }
+        ensures takes { IfOk result (λ pause. pause ≢ Pause.Ended → TakesBytes self.old self.new) }
+        ensures full { IfOk result (λ pause. pause ≡ Pause.Full → length self.new.pending < length self.old.pending) }
         ensures drained { IfOk result (λ pause. pause ≡ Pause.Drained
             → HasNoEnd self.new.pending × (length self.new.pending ≤ 4096) × (string_bytes self.new.text ≡ [])) }
         ensures ended { IfOk result (λ pause. pause ≡ Pause.Ended → (first : I) (rest : Option (List ℕ))
@@ -242,7 +249,7 @@ impl Run {
             → GivesNoMemory (I.gives first) (I.gives interpreter.old) rest (W.contents output.old) (W.contents output.new) self.old) }
         ensures err { OnErr result ((first : I) (rest : Option (List ℕ))
             → GivesBeginning (I.gives first) (I.gives interpreter.old) rest (W.contents output.old) (W.contents output.new) self.old) }
-        ensures not_read { IfErr result (λ e. is_read e ≡ false) }
+        ensures error { IfErr result (λ e. (is_write e ≡ true) ⊎ WantsMemoryOrNumber e (self.old.lines + length self.old.pending + 1)) }
     {
         match self.serve_lines(interpreter) {
             Ok(pause) => {
@@ -267,7 +274,7 @@ impl Run {
             → GivesNoMemory (I.gives first) (I.gives interpreter.old) rest (W.contents output.old) (W.contents output.new) self.old) }
         ensures err { OnErr result ((first : I) (rest : Option (List ℕ)) → IsAtEnd rest
             → GivesBeginning (I.gives first) (I.gives interpreter.old) rest (W.contents output.old) (W.contents output.new) self.old) }
-        ensures not_read { IfErr result (λ e. is_read e ≡ false) }
+        ensures error { IfErr result (λ e. (is_write e ≡ true) ⊎ WantsMemoryOrNumber e (self.old.lines + 1)) }
     {
         match self.serve_last(interpreter) {
             Ok(ending) => {

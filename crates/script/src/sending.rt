@@ -1,7 +1,7 @@
 //! Writing bytes to their end.
-ghost use Rattle.std.specs.Prelude.{◌≡◌, ◌≤◌, IfErr, OnOk, OnErr, length, take, true, false};
+ghost use Rattle.std.specs.Prelude.{◌≡◌, ◌≤◌, ◌⊎◌, IfErr, OnOk, OnErr, length, take, true, false};
 ghost use Rattle.std.specs.Io.KnownBytes.{Appends};
-ghost use Rattle.script.specs.Errors.{is_read, is_memory};
+ghost use Rattle.script.specs.Errors.{is_memory, is_write};
 ghost use Rattle.script.specs.Serving.{WritesFront};
 ghost use Rattle.script.specs.Writing.{no_memory_line};
 
@@ -14,7 +14,7 @@ use std::io::{ErrorKind, Write};
 pub(crate) fn tell_of_memory<W: Write>(output: &mut W, e: AllocError) -> ServeError
     ensures told { is_memory result ≡ true → Appends (W.contents output.old) (W.contents output.new) no_memory_line }
     ensures part { WritesFront (W.contents output.old) (W.contents output.new) no_memory_line }
-    ensures not_read { is_read result ≡ false }
+    ensures error { (result ≡ ServeError.Memory e) ⊎ (is_write result ≡ true) }
 {
     match write_whole(output, b"no memory\n".as_slice()) {
         Ok(()) => ServeError::Memory(e),
@@ -26,7 +26,7 @@ pub(crate) fn tell_of_memory<W: Write>(output: &mut W, e: AllocError) -> ServeEr
 pub(crate) fn write_whole<W: Write>(output: &mut W, bytes: &[u8]) -> Result<(), ServeError>
     ensures ok { OnOk result (Appends (W.contents output.old) (W.contents output.new) bytes.now) }
     ensures err { OnErr result (WritesFront (W.contents output.old) (W.contents output.new) bytes.now) }
-    ensures is_write { IfErr result (λ e. (is_read e ≡ false) × (is_memory e ≡ false)) }
+    ensures error { IfErr result (λ e. is_write e ≡ true) }
 {
     let (_, sent) = send(output, bytes);
     if let Err(e) = sent {

@@ -1,8 +1,8 @@
 //! Serving a script, from a reader to a writer.
-ghost use Rattle.std.specs.Prelude.{◌≡◌, IfOk, IfErr, OnErr, true};
+ghost use Rattle.std.specs.Prelude.{◌≡◌, ◌^◌, IfOk, IfErr, OnErr, true};
 ghost use Rattle.std.specs.Io.KnownBytes.{IsAtEnd};
-ghost use Rattle.script.specs.Errors.{is_read, is_memory};
-ghost use Rattle.script.specs.Writing.{WritesAnswer, WritesNoMemory, WritesBeginning, AnswersWholeLines};
+ghost use Rattle.script.specs.Errors.{is_read, is_memory, is_endless};
+ghost use Rattle.script.specs.Writing.{WritesAnswer, WritesNoMemory, WritesBeginning, AnswersWholeLines, ReadsAtLeast};
 
 use crate::ending::Ending;
 use crate::error::ServeError;
@@ -28,18 +28,22 @@ pub fn serve<I: Interpreter, R: Read, W: Write>(
     ensures memory { IfErr result (λ e. is_memory e ≡ true
         → WritesNoMemory (I.gives interpreter.old) (R.remaining input.old) (W.contents output.old) (W.contents output.new)) }
 
-    // After any error, what was written is a beginning of one of these texts.
-    ensures beginning { OnErr result (WritesBeginning (I.gives interpreter.old) (R.remaining input.old) (W.contents output.old) (W.contents output.new)) }
+    // After any error, what was written is a beginning of one of these texts, whatever follows what was read.
+    ensures beginning { OnErr result (WritesBeginning (I.gives interpreter.old) (R.remaining input.old) (R.remaining input.new) (W.contents output.old) (W.contents output.new)) }
 
-    // Where the reader failed, each line whose end was read had been answered: no answer waits for a later read.
+    // Where the reader failed, just the lines whose ends were read were answered, all of them.
     ensures read { IfErr result (λ e. is_read e ≡ true
         → AnswersWholeLines (I.gives interpreter.old) (R.remaining input.old) (R.remaining input.new) (W.contents output.old) (W.contents output.new)) }
+
+    // Any other error than want of memory, a failed read or a failed write takes a script of 2^63 bytes or more.
+    ensures endless { IfErr result (λ e. is_endless e ≡ true → ReadsAtLeast (2 ^ 63) (R.remaining input.old) (R.remaining input.new)) }
 {
     let mut run = match Run::new(alloc) {
         Ok(run) => run,
         Err(e) => return Err(tell_of_memory(output, e)),
     };
-    'turns: for _ in 0..u64::MAX {
+    // Each turn takes bytes away, or reads some, or is the last.
+    'turns: for turn in 0..u64::MAX {
         match run.deliver(interpreter, output)? {
             Pause::Ended => return Ok(Ending::Refused),
             Pause::Full => continue,

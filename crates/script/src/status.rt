@@ -1,21 +1,39 @@
 //! How a run ended, for the caller of a program.
 ghost use Rattle.std.specs.Prelude.{◌≡◌};
-ghost use Rattle.script.specs.Statuses.{status_of};
+ghost use Rattle.script.specs.Statuses.{status_of, exit_status};
 
 use crate::ending::Ending;
 use crate::error::ServeError;
 
-/// How a run ended, by the exit status of a program.
+/// How a run ended.
 #[derive(Clone, Copy, Debug, PartialEq, Eq)]
 pub enum Status {
     /// The input was served to its end.
-    Good = 0,
+    Good,
     /// The input was refused, which is told in the answer.
-    Refused = 1,
+    Refused,
     /// Memory was wanting, which is told by the line `no memory`.
-    NoMemory = 3,
-    /// A read or a write failed. What was written stays.
-    Failed = 4,
+    NoMemory,
+    /// A read failed. The lines whose ends were read were answered.
+    ReadFailed,
+    /// A write failed. What was written stays.
+    WriteFailed,
+    /// The input had 2^63 bytes or more, and no end was in sight.
+    Endless,
+}
+
+impl Status {
+    /// The exit status of a program that ended so.
+    pub fn exit_status(self) -> u8
+        ensures { result ≡ exit_status self }
+    {
+        match self {
+            Status::Good => 0,
+            Status::Refused => 1,
+            Status::NoMemory => 3,
+            Status::ReadFailed | Status::WriteFailed | Status::Endless => 4,
+        }
+    }
 }
 
 /// The status of a script, by how it was served.
@@ -26,6 +44,8 @@ pub fn status_of(served: &Result<Ending, ServeError>) -> Status
         Ok(Ending::Finished) => Status::Good,
         Ok(Ending::Refused) => Status::Refused,
         Err(ServeError::Memory(_)) => Status::NoMemory,
-        Err(ServeError::Read(_) | ServeError::Write(_) | ServeError::Endless) => Status::Failed,
+        Err(ServeError::Read(_)) => Status::ReadFailed,
+        Err(ServeError::Write(_)) => Status::WriteFailed,
+        Err(ServeError::Endless) => Status::Endless,
     }
 }

@@ -3,7 +3,7 @@ use Rattle.std.specs.Prelude.{◌≡◌, ◌≢◌, ℕ, List, ◌++◌, ◌⊎�
 use Rattle.std.specs.Io.KnownBytes.{Appends, Keeps}
 use Rattle.script.specs.Writing.{no_memory_line}
 use Rattle.script.specs.declared.status.Status.{Status}
-use Rattle.script.specs.declared.status.Status.TheVariants.{Good, Refused, NoMemory, Failed}
+use Rattle.script.specs.declared.status.Status.TheVariants.{Good, Refused, NoMemory, ReadFailed, WriteFailed, Endless}
 use Rattle.script.specs.Statuses.{exit_status}
 use Rattle.schedule.specs.Scheduling.{ExitsAsSchedule}
 use Rattle.replay.specs.Replaying.{ExitsAsReplay}
@@ -14,12 +14,14 @@ abbrev pub decode_line : List ℕ → List ℕ
 decode_line word = (decode_text word).0 ++ codes "\n"
 
 -- What the status of `decode` says, of a writer that held `before` and holds `after`. Of a failed write
--- nothing is said.
+-- nothing is said, and nothing is read.
 abbrev pub Decodes : Status → List ℕ → Option (List ℕ) → Option (List ℕ) → Type 0
 Decodes Good word before after = ((decode_text word).1 ≡ true) × Appends before after (decode_line word)
 Decodes Refused word before after = ((decode_text word).1 ≡ false) × Appends before after (decode_line word)
 Decodes NoMemory word before after = Appends before after no_memory_line
-Decodes Failed word before after = ⊤
+Decodes WriteFailed word before after = ⊤
+Decodes ReadFailed word before after = ⊥
+Decodes Endless word before after = ⊥
 
 -- It ended with the exit status of `decode`.
 abbrev pub ExitsAsDecode : ℕ → List ℕ → Option (List ℕ) → Option (List ℕ) → Type 0
@@ -34,6 +36,6 @@ ExitsAsTold exit before after = (exit ≢ 1) × (exit ≡ 2 → Keeps before aft
 -- command line asked for none of these.
 abbrev pub ExitsAsProgram : ℕ → Option (List ℕ) → Option (List ℕ) → Option (List ℕ) → Option (List ℕ) → Type 0
 ExitsAsProgram exit input rest before after =
-    ExitsAsReplay exit input before after
-    ⊎ ExitsAsSchedule exit input before after
+    ExitsAsReplay exit input rest before after
+    ⊎ ExitsAsSchedule exit input rest before after
     ⊎ (Keeps input rest × (((word : List ℕ) × ExitsAsDecode exit word before after) ⊎ ExitsAsTold exit before after))

@@ -78,11 +78,11 @@ fn print_line<W: Write>(line: &str, output: &mut W) -> io::Result<()>
 /// Tells that memory was wanting.
 pub(crate) fn tell_of_memory<W: Write>(output: &mut W) -> Status
     ensures told { result ≡ Status.NoMemory → Appends (W.contents output.old) (W.contents output.new) no_memory_line }
-    ensures failed { (result ≡ Status.NoMemory) ⊎ (result ≡ Status.Failed) }
+    ensures failed { (result ≡ Status.NoMemory) ⊎ (result ≡ Status.WriteFailed) }
 {
     match print_line("no memory", output) {
         Ok(()) => Status::NoMemory,
-        Err(_) => Status::Failed,
+        Err(_) => Status::WriteFailed,
     }
 }
 
@@ -96,16 +96,16 @@ fn tell<O: Write, F: Write>(error: &Error, output: &mut O, faults: &mut F) -> u8
     ensures { ExitsAsTold result (O.contents output.old) (O.contents output.new) }
 {
     if error.kind() == ErrorKind::OutOfMemory {
-        return tell_of_memory(output) as u8;
+        return tell_of_memory(output).exit_status();
     }
     let (told, status) = if error.use_stderr() {
         (print_help(error, faults), NOT_UNDERSTOOD)
     } else {
-        (print_help(error, output), Status::Good as u8)
+        (print_help(error, output), Status::Good.exit_status())
     };
     match told {
         Ok(()) => status,
-        Err(_) => Status::Failed as u8,
+        Err(_) => Status::WriteFailed.exit_status(),
     }
 }
 
@@ -117,7 +117,7 @@ fn decode<W: Write>(alloc: Global, word: &str, output: &mut W) -> Status
         Ok((text, is_legal)) => match print_line(text.as_str(), output) {
             Ok(()) if is_legal => Status::Good,
             Ok(()) => Status::Refused,
-            Err(_) => Status::Failed,
+            Err(_) => Status::WriteFailed,
         },
         Err(_) => tell_of_memory(output),
     }
@@ -126,19 +126,19 @@ fn decode<W: Write>(alloc: Global, word: &str, output: &mut W) -> Status
 fn decode_to_exit<W: Write>(alloc: Global, word: &str, output: &mut W) -> u8
     ensures { ExitsAsDecode result word.now (W.contents output.old) (W.contents output.new) }
 {
-    decode(alloc, word, output) as u8
+    decode(alloc, word, output).exit_status()
 }
 
 fn replay_to_exit<I: Read, O: Write>(alloc: Global, input: &mut I, output: &mut O) -> u8
-    ensures { ExitsAsReplay result (I.remaining input.old) (O.contents output.old) (O.contents output.new) }
+    ensures { ExitsAsReplay result (I.remaining input.old) (I.remaining input.new) (O.contents output.old) (O.contents output.new) }
 {
-    replay(alloc, input, output) as u8
+    replay(alloc, input, output).exit_status()
 }
 
 fn schedule_to_exit<I: Read, O: Write>(alloc: Global, input: &mut I, output: &mut O) -> u8
-    ensures { ExitsAsSchedule result (I.remaining input.old) (O.contents output.old) (O.contents output.new) }
+    ensures { ExitsAsSchedule result (I.remaining input.old) (I.remaining input.new) (O.contents output.old) (O.contents output.new) }
 {
-    schedule(alloc, input, output) as u8
+    schedule(alloc, input, output).exit_status()
 }
 
 /// Does what the words ask, without the program's own name, and answers the exit status: 0 good,

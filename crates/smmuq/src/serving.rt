@@ -10,7 +10,7 @@ use std::io::{Read, Write};
 
 /// Reads a script and writes its answers, the line `no memory` among them, and says how it went.
 pub fn replay<R: Read, W: Write>(alloc: Global, input: &mut R, output: &mut W) -> Status
-    ensures { Replays result (R.remaining input.old) (W.contents output.old) (W.contents output.new) }
+    ensures { Replays result (R.remaining input.old) (R.remaining input.new) (W.contents output.old) (W.contents output.new) }
 {
     replay::replay(alloc, input, output)
 }
@@ -18,7 +18,7 @@ pub fn replay<R: Read, W: Write>(alloc: Global, input: &mut R, output: &mut W) -
 /// Reads a script, plays it as a schedule of a ring's atomic steps, and writes its answers, the line
 /// `no memory` among them. Says how it went.
 pub fn schedule<R: Read, W: Write>(alloc: Global, input: &mut R, output: &mut W) -> Status
-    ensures { Schedules result (R.remaining input.old) (W.contents output.old) (W.contents output.new) }
+    ensures { Schedules result (R.remaining input.old) (R.remaining input.new) (W.contents output.old) (W.contents output.new) }
 {
     schedule::schedule(alloc, input, output)
 }

@@ -65,7 +65,7 @@ fn a_failed_read_leaves_the_answers_of_the_lines_read(rt: HostRuntime) -> Result
         let mut input = Source::new(script.as_bytes(), 1, bad, PIPE);
         let mut output = Sink::new(100, 0, PIPE);
         let ended = replay(rt.alloc(), &mut input, &mut output);
-        assert_eq!(rt; ended, Status::Failed, "{bad}");
+        assert_eq!(rt; ended, Status::ReadFailed, "{bad}");
         assert_eq!(rt; output.text(), text.as_str(), "{bad}");
     }
     Ok(())
@@ -77,7 +77,7 @@ fn nothing_is_written_after_a_failed_write(rt: HostRuntime) {
         let mut input = Source::new(SCRIPT.as_bytes(), 100, 0, PIPE);
         let mut output = Sink::new(1, bad, PIPE);
         let ended = replay(rt.alloc(), &mut input, &mut output);
-        assert_eq!(rt; ended, Status::Failed, "{bad}");
+        assert_eq!(rt; ended, Status::WriteFailed, "{bad}");
         assert_eq!(rt; Some(output.text()), TEXT.get(..bad - 1), "{bad}");
         assert_eq!(rt; output.calls, bad);
     }

@@ -11,7 +11,7 @@ pub returns-clause-memory : goal.returns-clause-memory
 returns-clause-memory g c = IfErr-weaker c.serve.result _ _ (λ e w is. memory_comes (Gives c.new-schedule.result.core) Answers (comes c.new-schedule.result.core c.new-schedule.ensures) _ _ _ (w is)) c.serve.ensures.memory
 
 pub returns-clause-beginning : goal.returns-clause-beginning
-returns-clause-beginning g c = on_err_weaker c.serve.result (λ w. beginning_comes (Gives c.new-schedule.result.core) Answers (comes c.new-schedule.result.core c.new-schedule.ensures) _ _ _ w) c.serve.ensures.beginning
+returns-clause-beginning g c = on_err_weaker c.serve.result (λ w. beginning_comes (Gives c.new-schedule.result.core) Answers (comes c.new-schedule.result.core c.new-schedule.ensures) _ _ _ _ w) c.serve.ensures.beginning
 
 pub returns-clause-read : goal.returns-clause-read
 returns-clause-read g c = IfErr-weaker c.serve.result _ _ (λ e w is. lines_come (Gives c.new-schedule.result.core) Answers (comes c.new-schedule.result.core c.new-schedule.ensures) _ _ _ _ (w is)) c.serve.ensures.read

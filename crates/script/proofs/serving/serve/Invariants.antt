@@ -1,7 +1,11 @@
 use Rattle.script.specs.Serving.{IsUnderWay}
+use Rattle.script.proofs.TakenBytes.{HasRead}
 use Rattle.script.proofs.serving.serve.Given as goal
 
 abbrev pub invariant-turns : goal.invariant-turns
-invariant-turns g l =
-    IsUnderWay (g.I.Interpreter.gives l.fn.interpreter) (g.I.Interpreter.gives l.interpreter) (g.R.Read.remaining l.fn.input) (g.R.Read.remaining l.input)
-    (g.W.Write.contents l.fn.output) (g.W.Write.contents l.output) l.run
+invariant-turns g l = record {
+  under_way :
+      IsUnderWay (g.I.Interpreter.gives l.fn.interpreter) (g.I.Interpreter.gives l.interpreter) (g.R.Read.remaining l.fn.input) (g.R.Read.remaining l.input)
+      (g.W.Write.contents l.fn.output) (g.W.Write.contents l.output) l.run;
+  has_read : HasRead (g.R.Read.remaining l.fn.input) (g.R.Read.remaining l.input) l.turn l.run;
+}

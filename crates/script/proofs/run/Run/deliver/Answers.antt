@@ -17,7 +17,7 @@ returns-in_err-send_text-in-Ok-clause-err g c =
     let cut = g.met.I.Interpreter.cut first in
     elim (ended_or_not c.in-Ok.pause) [
       | inl ended ↦
-          told_part (g.I.Interpreter.gives first) input before _ _ u.told (string_bytes served.text) Refused cut
+          told_part (g.I.Interpreter.gives first) input rest before _ _ _ u.told (string_bytes served.text) Refused cut u.read
           (under_way_stops (g.I.Interpreter.gives first) may _ _ _ _ old served u (c.in-Ok.ensures.stops ended)) u.written failed
       | inr goes_on ↦
           under_way_part (g.I.Interpreter.gives first) then_may input rest before _ _ served cut (g.met.I.Interpreter.begins c.serve_lines.new.interpreter)

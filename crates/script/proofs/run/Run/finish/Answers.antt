@@ -9,7 +9,7 @@ returns-in_err-send_text-in-Ok-clause-err g c =
     let may = g.I.Interpreter.gives c.args.interpreter.now in
     let served = c.serve_last.new.self in
     rw returned.1 (λ first rest end input before u.
-    told_part (g.I.Interpreter.gives first) input before _ _ u.told (string_bytes served.text) c.in-Ok.ending (g.met.I.Interpreter.cut first)
+    told_part (g.I.Interpreter.gives first) input rest before _ _ _ u.told (string_bytes served.text) c.in-Ok.ending (g.met.I.Interpreter.cut first) u.read
     (under_way_closes (g.I.Interpreter.gives first) may _ _ _ _ c.args.self.now served c.in-Ok.ending u end c.in-Ok.ensures.closes) u.written c.in_err-send_text-in-Ok.ensures.err)
 
 pub returns-in-Err-clause-memory : goal.returns-in-Err-clause-memory

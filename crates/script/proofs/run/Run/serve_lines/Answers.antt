@@ -2,42 +2,49 @@ use Rattle.std.proofs.Common.{length, ap, arith}
 use Rattle.std.proofs.lemmas.Result.{err_from_is_err_and}
 use Rattle.script.proofs.LineLemmas.{found_none}
 use Rattle.script.proofs.ServedLines.{advances_trans, stops_after, stops_long_front, halts_after}
+use Rattle.script.proofs.TakenBytes.{takes_line}
 use Rattle.script.proofs.run.Run.serve_lines.Goals as goal
 
 pub returns-in_err-serve_next-clause-halts : goal.returns-in_err-serve_next-clause-halts
 returns-in_err-serve_next-clause-halts g c =
     let returned = err_from_is_err_and c.from_residual.result c.from_residual.ensures.1 in
     rw returned.1 (halts_after (g.I.Interpreter.gives c.args.interpreter.now) (g.I.Interpreter.gives c.lines.interpreter) c.args.self.now c.lines.self c.serve_next.new.self
-    (g.met.I.Interpreter.nothing_left c.lines.interpreter) c.lines.invariant c.in_err-serve_next.ensures.err)
+    (g.met.I.Interpreter.nothing_left c.lines.interpreter) c.lines.invariant.advances c.in_err-serve_next.ensures.err)
 
 pub returns-then-not-branch-clause-stops : goal.returns-then-not-branch-clause-stops
 returns-then-not-branch-clause-stops g c _ =
-    stops_after (g.I.Interpreter.gives c.args.interpreter.now) (g.I.Interpreter.gives c.lines.interpreter) c.args.self.now c.lines.self c.serve_next.new.self c.lines.invariant
+    stops_after (g.I.Interpreter.gives c.args.interpreter.now) (g.I.Interpreter.gives c.lines.interpreter) c.args.self.now c.lines.self c.serve_next.new.self c.lines.invariant.advances
     (c.in_ok-serve_next.ensures.stops c.if-not-branch.true)
 
 pub returns-then-len-gt-LONG_TEXT-clause-goes_on :
     goal.returns-then-len-gt-LONG_TEXT-clause-goes_on
 returns-then-len-gt-LONG_TEXT-clause-goes_on g c _ =
     advances_trans (g.I.Interpreter.gives c.args.interpreter.now) (g.I.Interpreter.gives c.lines.interpreter) (g.I.Interpreter.gives c.serve_next.new.interpreter)
-    c.args.self.now c.lines.self c.serve_next.new.self c.lines.invariant (c.in_ok-serve_next.ensures.goes_on c.if-not-branch.false)
+    c.args.self.now c.lines.self c.serve_next.new.self c.lines.invariant.advances (c.in_ok-serve_next.ensures.goes_on c.if-not-branch.false)
 
 pub lines-preserved : goal.lines-preserved
 lines-preserved g c =
-    advances_trans (g.I.Interpreter.gives c.args.interpreter.now) (g.I.Interpreter.gives c.lines.interpreter) (g.I.Interpreter.gives c.serve_next.new.interpreter)
-    c.args.self.now c.lines.self c.serve_next.new.self c.lines.invariant (c.in_ok-serve_next.ensures.goes_on c.if-not-branch.false)
+    let served = c.in_ok-serve_next.ensures in
+    let next = c.serve_next.new.self in
+    record {
+      advances =
+          advances_trans (g.I.Interpreter.gives c.args.interpreter.now) (g.I.Interpreter.gives c.lines.interpreter) (g.I.Interpreter.gives c.serve_next.new.interpreter)
+          c.args.self.now c.lines.self next c.lines.invariant.advances (served.goes_on c.if-not-branch.false);
+      takes = takes_line c.args.self.now c.lines.self next c.lines.invariant.takes (served.lines c.if-not-branch.false) (served.shorter c.if-not-branch.false);
+    }
 
 pub returns-in_err-refuse_long_line-clause-halts :
     goal.returns-in_err-refuse_long_line-clause-halts
 returns-in_err-refuse_long_line-clause-halts g c =
     let returned = err_from_is_err_and c.from_residual-in_err-refuse_long_line.result c.from_residual-in_err-refuse_long_line.ensures.1 in
     rw returned.1 (halts_after (g.I.Interpreter.gives c.args.interpreter.now) (g.I.Interpreter.gives c.lines.interpreter) c.args.self.now c.lines.self c.refuse_long_line.new.self
-    (g.met.I.Interpreter.nothing_left c.lines.interpreter) c.lines.invariant c.in_err-refuse_long_line.ensures.err)
+    (g.met.I.Interpreter.nothing_left c.lines.interpreter) c.lines.invariant.advances c.in_err-refuse_long_line.ensures.err)
 
 pub returns-then-as_slice-gt-LONGEST_LINE-clause-stops :
     goal.returns-then-as_slice-gt-LONGEST_LINE-clause-stops
 returns-then-as_slice-gt-LONGEST_LINE-clause-stops g c _ =
     let same = ap length c.as_slice-2.ensures.value in
     let none = found_none c.lines.self.pending (rw c.as_slice.ensures.value at c.in_default.ensures) in
-    stops_after (g.I.Interpreter.gives c.args.interpreter.now) (g.I.Interpreter.gives c.lines.interpreter) c.args.self.now c.lines.self c.refuse_long_line.new.self c.lines.invariant
+    stops_after (g.I.Interpreter.gives c.args.interpreter.now) (g.I.Interpreter.gives c.lines.interpreter) c.args.self.now c.lines.self c.refuse_long_line.new.self c.lines.invariant.advances
     (stops_long_front (g.I.Interpreter.gives c.lines.interpreter) c.lines.self c.refuse_long_line.new.self (g.met.I.Interpreter.long_line c.lines.interpreter) none (omega arith)
     c.in_ok-refuse_long_line.ensures.text)

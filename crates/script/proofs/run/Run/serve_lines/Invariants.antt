@@ -1,9 +1,12 @@
 use Rattle.std.proofs.Common.{length}
-use Rattle.script.specs.Serving.{Advances}
+use Rattle.script.specs.Serving.{Advances, TakesBytes}
 use Rattle.script.proofs.run.Run.serve_lines.Given as goal
 
 abbrev pub invariant-lines : goal.invariant-lines
-invariant-lines g l = Advances (g.I.Interpreter.gives l.fn.interpreter) (g.I.Interpreter.gives l.interpreter) l.fn.self l.self
+invariant-lines g l = record {
+  advances : Advances (g.I.Interpreter.gives l.fn.interpreter) (g.I.Interpreter.gives l.interpreter) l.fn.self l.self;
+  takes : TakesBytes l.fn.self l.self;
+}
 
 abbrev pub decreases-lines : goal.decreases-lines
 decreases-lines g l = length l.self.pending
