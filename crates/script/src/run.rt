@@ -103,6 +103,7 @@ impl Run {
 
     // Answers a line that is too long, whatever it says.
     fn refuse_long_line(&mut self) -> Result<(), ServeError>
+        ensures same { SameButText self.old self.new }
         ensures text { OnOk result (string_bytes self.new.text ≡ string_bytes self.old.text ++ fault_line (self.old.lines + 1) (codes "long line")) }
         ensures err { OnErr result (string_bytes self.new.text ≡ string_bytes self.old.text) }
         ensures error { IfErr result (λ e. WantsMemoryOrNumber e (self.old.lines + 1)) }
@@ -218,6 +219,7 @@ impl Run {
 
     // Writes the text, and where memory was wanting the line that tells of it. Gives the error that ends the run.
     fn give_up<W: Write>(&mut self, output: &mut W, e: ServeError) -> ServeError
+        ensures same { SameButText self.old self.new }
         ensures told { is_memory result ≡ true → Appends (W.contents output.old) (W.contents output.new) (string_bytes self.old.text ++ no_memory_line) }
         ensures part { WritesFront (W.contents output.old) (W.contents output.new) (string_bytes self.old.text ++ no_memory_line) }
         ensures error { (result ≡ e) ⊎ (is_write result ≡ true) }
