@@ -85,21 +85,23 @@ fn a_range_ends_with_the_address_space(rt: HostRuntime) {
 #[test]
 fn of_six_entries_three_are_reached(rt: HostRuntime) {
     let mut caches = Caches::new(rt.alloc(), 6).unwrap();
-    let left = [
+    for held in [
         entry(stage1(1, of(2), 0x0, 4)),
         entry(stage1(1, of(2), 0xf, 0)),
-        entry(stage1(1, of(2), 0x20, 0)),
-    ];
-    let reached = [
         entry(stage1(1, of(2), 0x10, 0)),
         entry(stage1(1, of(2), 0x1c, 2)),
         entry(stage1(1, of(2), 0x1f, 0)),
-    ];
-    for held in left.into_iter().chain(reached) {
+        entry(stage1(1, of(2), 0x20, 0)),
+    ] {
         assert_eq!(rt; caches.fill(held), Ok(None));
     }
     // TLBI_NH_VA of vmid 1, asid 2: from page 0x10, four times four pages.
     let removed = removed_by(&mut caches, 0x0002_0001_0020_3012, 0x1_0400);
     assert_eq!(rt; removed, Some(3));
+    let left = [
+        entry(stage1(1, of(2), 0x0, 4)),
+        entry(stage1(1, of(2), 0xf, 0)),
+        entry(stage1(1, of(2), 0x20, 0)),
+    ];
     assert!(rt; lists(&caches, &left));
 }
