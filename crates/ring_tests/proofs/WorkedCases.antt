@@ -1,14 +1,13 @@
 -- What the worked runs say of each of a few.
-use Rattle.std.proofs.Common.{◌≡◌, ◌≢◌, ℕ, zero, suc, ◌+◌, ◌<◌, Bool, List, [], ◌∷◌, Some, refl, ap, ◌∙◌, subst, leb-true, arith}
+use Rattle.std.proofs.Common.{◌≡◌, ℕ, zero, suc, ◌+◌, ◌<◌, Bool, List, [], ◌∷◌, Some, refl, ap, ◌∙◌, leb-true, arith}
 use Rattle.std.specs.Prelude.{slice_get, ⊤}
 use Rattle.cmdcodec.specs.declared.raw.Raw.{Raw}
-use Rattle.cmdcodec.specs.Opcodes.{opcode_of}
+use Rattle.cmdcodec.specs.Bodies.{IsBody}
 use Rattle.qindex.specs.declared.control.Control.{Control}
 use Rattle.ringcore.specs.declared.world.event.Half.{Half}
 use Rattle.ringcore.specs.declared.world.event.Half.TheVariants.{Lo, Hi}
 use Rattle.ringcore.specs.world.Trails.{Trail, half_read}
 use Rattle.ringcore.specs.world.World.{half_of}
-use Rattle.ringcore.specs.world.Allowed.{IsBody}
 use Rattle.std.proofs.lemmas.Option.{none-some, same_Some}
 
 pub none : (P : ℕ → Type 0) (i : ℕ) → i < 0 → P i
@@ -72,31 +71,19 @@ read_all mine raws all i raw half at =
 abbrev pub x : Raw
 x = record { lo = 0x500000003; hi = 1 }
 
-no_sync : opcode_of x ≢ 0x46
-no_sync is = absurd (omega (arith, is))
-
 pub body_of_one : IsBody (x ∷ [])
 body_of_one = record {
   some = leb-true 1 1 refl;
   few = leb-true 1 63 refl;
-  no_sync = at;
+  no_sync = refl;
 }
-  where
-    at : (i : ℕ) (raw : Raw) → slice_get (x ∷ []) i ≡ Some raw → opcode_of raw ≢ 0x46
-    at zero raw is = subst (λ (r : Raw). opcode_of r ≢ 0x46) (same_Some x raw is) no_sync
-    at (suc i) raw is = absurd (none-some raw is)
 
 pub body_of_two : IsBody (x ∷ x ∷ [])
 body_of_two = record {
   some = leb-true 1 2 refl;
   few = leb-true 2 63 refl;
-  no_sync = at;
+  no_sync = refl;
 }
-  where
-    at : (i : ℕ) (raw : Raw) → slice_get (x ∷ x ∷ []) i ≡ Some raw → opcode_of raw ≢ 0x46
-    at zero raw is = subst (λ (r : Raw). opcode_of r ≢ 0x46) (same_Some x raw is) no_sync
-    at (suc zero) raw is = subst (λ (r : Raw). opcode_of r ≢ 0x46) (same_Some x raw is) no_sync
-    at (suc (suc i)) raw is = absurd (none-some raw is)
 
 -- what a look shows
 abbrev pub shows : ℕ → ℕ → ℕ → Bool → Control

@@ -7,6 +7,7 @@ use Rattle.cmdcodec.specs.declared.raw.Raw.{Raw}
 use Rattle.qindex.specs.declared.control.Control.{Control}
 use Rattle.qindex.specs.Positions.{IndexValue, size, index_of}
 use Rattle.qindex.specs.ControlWord.{advance_mask}
+use Rattle.cmdcodec.specs.Bodies.{most_batches}
 use Rattle.ringcore.specs.declared.world.event.Who.TheVariants.{Consumer}
 use Rattle.ringcore.specs.declared.world.event.Half.TheVariants.{Lo, Hi}
 use Rattle.ringcore.specs.declared.world.event.Event.TheVariants as event
@@ -110,7 +111,7 @@ module _ (allowed : StepsAreAllowed) (old : CoreValue) (count : ℕ) (no_fault :
         let taken = stands.consumer_knows.taken_is in
         let here = below in
         let senders : ℕ = old.words.senders in
-        let all : 64 * (senders * 4294967295) < 2 ^ 64 = omega (arith, few) in
+        let all : 64 * (senders * most_batches) < 2 ^ 64 = omega (arith, few) in
         omega (arith, most, taken, here, all)
 
     pub tallies_fit : EveryRun SyncsAreCounted → NumbersAreFew → (s : ℕ) → s < length old.tallies
@@ -120,7 +121,7 @@ module _ (allowed : StepsAreAllowed) (old : CoreValue) (count : ℕ) (no_fault :
         let same = ap (syncs_in s) commands_are in
         let all : ℕ = syncs_taken s mine + syncs_in s (raws_of run) in
         let later : Run = (Consumer, event.Advance (raws_of run)) ∷ run in
-        let most : all ≤ 4294967295 = elim (cases_lt 0 all) [
+        let most : all ≤ most_batches = elim (cases_lt 0 all) [
           | inl some ↦ few ring later longer s all ((counted ring later longer s all).1 (omega (arith, some), omega arith))
           | inr none ↦ omega (arith, none)
         ] in

@@ -1,12 +1,13 @@
 -- A step without a fault is an event that is allowed.
-use Rattle.std.proofs.Common.{◌≡◌, ◌≢◌, ℕ, zero, suc, ◌+◌, ◌-◌, ◌/◌, ◌%◌, ◌<◌, ◌≤◌, Bool, true, false, not, ◌==◌, ◌||◌, ◌&&◌, cond, List, [], ◌∷◌, length, map, take, drop, Option, Some, None, refl, sym, ap, ap₂, ◌∙◌, subst, inl, inr, eqb-true, eq-eqb, leb-true, arith}
+use Rattle.std.proofs.Common.{◌≡◌, ℕ, zero, suc, ◌+◌, ◌-◌, ◌/◌, ◌%◌, ◌<◌, ◌≤◌, Bool, true, false, not, ◌==◌, ◌||◌, ◌&&◌, cond, List, [], ◌∷◌, length, map, take, drop, Option, Some, None, refl, sym, ap, ap₂, ◌∙◌, subst, inl, inr, eqb-true, eq-eqb, leb-true, arith}
 use Rattle.std.proofs.Math.Nat.{mod-lt, mod-eq_of_lt}
 use Rattle.std.proofs.lemmas.Bool.{and_parts, or_parts, cases_lt, cases_eq, eqb-false, not-true, le-leb, lt-leb, lt-ltb}
 use Rattle.std.proofs.lemmas.Option.{slice_get_within, same_Some}
 use Rattle.std.specs.Prelude.{slice_get, nat_le, nat_lt, is_some, if◌then◌else◌}
 use Rattle.std.specs.List.{list_any}
 use Rattle.cmdcodec.specs.declared.raw.Raw.{Raw}
-use Rattle.cmdcodec.specs.Opcodes.{opcode_of}
+use Rattle.cmdcodec.specs.Bodies.{IsBody}
+use Rattle.cmdcodec.specs.Opcodes.{is_sync}
 use Rattle.qindex.specs.declared.control.Control.{Control}
 use Rattle.qindex.specs.Positions.{size, place}
 use Rattle.qindex.specs.Indexes.{IsGeometry, distance}
@@ -22,7 +23,7 @@ use Rattle.ringcore.specs.declared.machine.step_fault.StepFault.{StepFault}
 use Rattle.ringcore.specs.declared.machine.step_fault.StepFault.TheVariants.{Flipped, HalfMissing, NotSeenReady, NotTheHead, NotNext, NoRoom, NotSettled, BadBody}
 use Rattle.ringcore.specs.world.Trails.{Trail, Run, trail_of, looked, batches_made, batch_length, reserved_length, has_written, has_flipped, IsSettled, found_ready, half_read}
 use Rattle.ringcore.specs.world.World.{Item, World, sync_raw, tail, head, world, control, half_of}
-use Rattle.ringcore.specs.world.Allowed.{Ring, ShareAWord, IsBody, IsNextNumber, MayTry, MayWin, MayLose, length_with, MayWrite, MayFlip, FindsReady, MayRead, MayAdvance, SyncIsTaken, MayAcknowledge, Allowed, IsRun}
+use Rattle.ringcore.specs.world.Allowed.{Ring, ShareAWord, IsNextNumber, MayTry, MayWin, MayLose, length_with, MayWrite, MayFlip, FindsReady, MayRead, MayAdvance, SyncIsTaken, MayAcknowledge, Allowed, IsRun}
 use Rattle.ringcore.specs.memory.Flags.{flag_bit, shared_word}
 use Rattle.ringcore.specs.machine.Open.{some_below, all_below, first_below, is_open, own_offset}
 use Rattle.ringcore.specs.machine.Faults.{is_run_length, share_a_word, is_body, has_room, reserve_fault, foreign, write_at, flip_at, tested_offset, read_fault, advance_fault, has_number, is_sync_of, sync_is_taken, acknowledge_fault, unless_missing, fault_of}
@@ -31,7 +32,7 @@ use Rattle.ringcore.specs.machine.Played.{unless_refused, with_answer, played_fr
 use Rattle.ringcore.proofs.WorldLemmas.Lists.{off, none_some}
 use Rattle.ringcore.proofs.WorldLemmas.Sound.{Sound, sound}
 use Rattle.ringcore.proofs.WorldLemmas.Slots.{get_there}
-use Rattle.ringcore.proofs.WorldLemmas.Syncs.{is_sync}
+use Rattle.ringcore.proofs.WorldLemmas.Syncs.{sync_at}
 use Rattle.ringcore.proofs.WorldLemmas.LookedControls.{is_control, looked_is_control, one_control}
 use Rattle.ringcore.proofs.MemoryLemmas.Places.{place-lt}
 use Rattle.ringcore.proofs.MemoryLemmas.FlagPlaces.{small_shares, large_shares}
@@ -91,21 +92,13 @@ settled t closed k less = not_false (has_flipped k t) (none_below (reserved_leng
     not_false true e = refl
     not_false false e = off (sym e)
 
-no_sync_in : (raws : List Raw) → list_any (λ raw. opcode_of raw == 0x46) raws ≡ false → (i : ℕ) (raw : Raw) → slice_get raws i ≡ Some raw → opcode_of raw ≢ 0x46
-no_sync_in [] none i raw at = none_some raw at
-no_sync_in (x ∷ xs) none zero raw at =
-    let both = or_parts (opcode_of x == 0x46) (list_any (λ raw. opcode_of raw == 0x46) xs) none in
-    subst (λ (r : Raw). opcode_of r ≢ 0x46) (same_Some x raw at) (eqb-false (opcode_of x) 0x46 both.0)
-no_sync_in (x ∷ xs) none (suc i) raw at =
-    no_sync_in xs (or_parts (opcode_of x == 0x46) (list_any (λ raw. opcode_of raw == 0x46) xs) none).1 i raw at
-
 body_is : (body : List Raw) → is_body body ≡ true → IsBody body
 body_is body is =
-    let a = and_parts (nat_le 1 (length body) && nat_le (length body) 63) (not (list_any (λ raw. opcode_of raw == 0x46) body)) is in
+    let a = and_parts (nat_le 1 (length body) && nat_le (length body) 63) (not (list_any is_sync body)) is in
     let b = and_parts (nat_le 1 (length body)) (nat_le (length body) 63) a.0 in record {
       some = leb-true 1 (length body) b.0;
       few = leb-true (length body) 63 b.1;
-      no_sync = no_sync_in body (not-true (list_any (λ raw. opcode_of raw == 0x46) body) a.1);
+      no_sync = not-true (list_any is_sync body) a.1;
     }
 
 pub length_is : (mine : Trail) (body : List Raw) (closes : Bool) → batch_length body (next_number mine closes) ≡ length_with closes body
@@ -441,9 +434,9 @@ module _ (ring : Ring) (run : Run) (ok : IsRun ring run) where
       taken : (p : ℕ) → p < head w → (o : Option Item) → slice_get w.reserved p ≡ o → is_sync_of s number o ≡ true → SyncIsTaken w s number
       taken p below None at e = off e
       taken p below (Some item) at e =
-          let a = and_parts (item.sender == s && has_number number item.number) (opcode_of item.raw == 0x46) e in
+          let a = and_parts (item.sender == s && has_number number item.number) (is_sync item.raw) e in
           let b = and_parts (item.sender == s) (has_number number item.number) a.0 in
-          let sync = is_sync ring run ok p item at (eqb-true (opcode_of item.raw) 0x46 a.1) in
+          let sync = sync_at ring run ok p item at a.1 in
           let sender : item.sender ≡ s = eqb-true item.sender s b.0 in
           let its : item.number ≡ Some number = number_there item.number b.1 in
           let one : sync.number ≡ number = same_Some sync.number number (sym sync.number_is ∙ its) in record {

@@ -9,6 +9,7 @@ use Rattle.qindex.specs.Positions.{IndexValue, index_of}
 use Rattle.qindex.specs.Indexes.{IsQueue, distance}
 use Rattle.qindex.specs.ControlWord.{packed}
 use Rattle.qindex.specs.Laws.{IndexesTellTheQueue}
+use Rattle.cmdcodec.specs.Bodies.{most_batches}
 use Rattle.ringcore.specs.declared.world.event.Who.{Who}
 use Rattle.ringcore.specs.declared.world.event.Who.TheVariants.{Sender}
 use Rattle.ringcore.specs.declared.world.event.Event.{Event}
@@ -108,7 +109,7 @@ module _ (may : StepsAreAllowed) (old : CoreValue) (s : ℕ) (body : ArrayVec Ra
       let finds = (accepted run stands).1 in
       ap (λ (c : Control). c.prod.geometry) finds.0 ∙ sym (ap (λ (c : Control). c.cons.geometry) finds.0)
 
-  pub has_batches_left : (before : SenderValue) → slice_get old.senders s ≡ Some before → (run : Run) → StandsAfter old run → before.batches < 4294967295
+  pub has_batches_left : (before : SenderValue) → slice_get old.senders s ≡ Some before → (run : Run) → StandsAfter old run → before.batches < most_batches
   has_batches_left before there run stands =
       let known = (stands.senders_know s before there).batches_is in
       let left = (may_win run stands).left in omega (arith, known, left)

@@ -3,7 +3,8 @@ use Rattle.std.proofs.Common.{◌≡◌, ℕ, suc, ◌+◌, ◌<◌, ◌≤◌, 
 use Rattle.ringcore.proofs.MachineLemmas.SomeAndAllBelow.{some_there}
 use Rattle.std.proofs.lemmas.Bool.{cases_lt, lt-ltb}
 use Rattle.std.specs.Prelude.{slice_get, slice_index, nat_lt, if◌then◌else◌}
-use Rattle.cmdcodec.specs.Opcodes.{opcode_of}
+use Rattle.cmdcodec.specs.Bodies.{most_batches}
+use Rattle.cmdcodec.specs.Opcodes.{is_sync}
 use Rattle.ringcore.specs.declared.world.event.Who.TheVariants.{Consumer}
 use Rattle.ringcore.specs.declared.world.event.Event.{Event}
 use Rattle.ringcore.specs.declared.world.event.Event.TheVariants as event
@@ -106,7 +107,7 @@ pub cell_is : (core : CoreValue) (run : Run) (s : ℕ) → StandsAfter core run 
 cell_is core run s stands low = stands.words_are.shadow.cells s low
 
 pub acknowledged_few : EveryRun AcknowledgedAreTaken → NumbersAreFew → (core : CoreValue) (run : Run) (s : ℕ) → StandsAfter core run
-    → (world run).acknowledged s ≤ 4294967295
+    → (world run).acknowledged s ≤ most_batches
 acknowledged_few taken few core run s stands = elim (cases_lt 0 ((world run).acknowledged s)) [
   | inl some ↦
       let ok = stands.words_are.run_is in
@@ -117,11 +118,11 @@ acknowledged_few taken few core run s stands = elim (cases_lt 0 ((world run).ack
 
 -- ---- acknowledge
 
-is_its_sync : (s number : ℕ) (item : Item) → item.sender ≡ s → item.number ≡ Some number → opcode_of item.raw ≡ 0x46 → is_sync_of s number (Some item) ≡ true
+is_its_sync : (s number : ℕ) (item : Item) → item.sender ≡ s → item.number ≡ Some number → is_sync item.raw ≡ true → is_sync_of s number (Some item) ≡ true
 is_its_sync s number item sender its sync =
     ap₂ (λ (a b : Bool). a && b)
     (ap₂ (λ (a b : Bool). a && b) (eq-eqb item.sender s sender) (ap (has_number number) its ∙ eq-eqb number number refl))
-    (eq-eqb (opcode_of item.raw) 0x46 sync)
+    sync
 
 sync_below : (w : World) (s number : ℕ) → SyncIsTaken w s number → sync_is_taken w s number ≡ true
 sync_below w s number taken =

@@ -1,17 +1,19 @@
 -- The tallies of syncs follow the consumer's trail.
-use Rattle.std.proofs.Common.{◌≡◌, ℕ, zero, suc, ◌+◌, ◌^◌, ◌<◌, ◌≤◌, false, List, [], ◌∷◌, ◌++◌, length, Option, Some, None, refl, sym, ap, ◌∙◌, subst, inl, inr, arith}
+use Rattle.std.proofs.Common.{◌≡◌, ◌≢◌, ℕ, zero, suc, ◌+◌, ◌^◌, ◌<◌, ◌≤◌, true, false, ◌==◌, ◌&&◌, List, [], ◌∷◌, ◌++◌, length, Option, Some, None, refl, sym, ap, ◌∙◌, subst, inl, inr, ne_eqb, arith}
 use Rattle.std.proofs.lemmas.Bool.{cases_eq}
-use Rattle.std.specs.Prelude.{slice_index}
+use Rattle.std.specs.Prelude.{slice_index, MatchOption}
 use Rattle.cmdcodec.specs.declared.raw.Raw.{Raw}
+use Rattle.cmdcodec.specs.ClosingSync.{cell_address}
+use Rattle.cmdcodec.specs.Opcodes.{is_sync}
 use Rattle.ringcore.specs.declared.world.event.Who.TheVariants.{Consumer, Sender}
 use Rattle.ringcore.specs.declared.world.event.Event.{Event}
 use Rattle.ringcore.specs.declared.world.event.Event.TheVariants.{Look, Won, Lost, Write, Flip, Test, Read, Advance, Close, Acknowledge, Ask}
 use Rattle.ringcore.specs.world.Trails.{Trail, trail_of}
-use Rattle.ringcore.specs.world.Laws.{syncs_in, syncs_taken}
+use Rattle.ringcore.specs.world.Laws.{is_sync_to, syncs_in, syncs_taken}
 use Rattle.ringcore.specs.machine.ConsumerViews.{ConsumerValue, command_at, and_command, commands_read}
 use Rattle.ringcore.specs.machine.SyncTallies.{AreCounted, AdvancesCount, is_advance, OthersDontCount}
 use Rattle.ringcore.proofs.WorldLemmas.Lists.{off}
-use Rattle.ringcore.proofs.WorldLemmas.SyncCounts.{syncs_append}
+use Rattle.ringcore.proofs.WorldLemmas.SyncCounts.{its_cell, syncs_append}
 
 pub advances_count : AdvancesCount
 advances_count run old new raws are counted s inside =
@@ -34,6 +36,12 @@ left (Ask found) no_advance es s = refl
 pub others_dont_count : OthersDontCount
 others_dont_count run Consumer e counts no_advance are s inside = are s inside ∙ sym (left e no_advance (trail_of Consumer run) s)
 others_dont_count run (Sender t) e counts no_advance are s inside = are s inside
+
+-- Whose closing sync a CMD_SYNC is, by whose cell it writes into.
+pub sender_is : (raw : Raw) (owner : Option ℕ) → is_sync raw ≡ true → MatchOption owner ((t : ℕ) → raw.hi ≢ cell_address t) (λ t. raw.hi ≡ cell_address t)
+    → MatchOption owner ((s : ℕ) → is_sync_to s raw ≡ false) (λ t. (s : ℕ) → is_sync_to s raw ≡ (s == t))
+sender_is raw None sync none = λ s. ap (λ b. b && raw.hi == cell_address s) sync ∙ ne_eqb raw.hi (cell_address s) (none s)
+sender_is raw (Some t) sync its = λ s. ap (λ b. b && raw.hi == cell_address s) sync ∙ its_cell s t raw.hi its
 
 -- ---- commands that are counted one after another
 

@@ -2,13 +2,14 @@
 use Rattle.std.proofs.Common.{◌≡◌, ◌≢◌, ℕ, zero, suc, ◌+◌, ◌*◌, ◌<◌, ◌≤◌, Bool, true, false, cond, List, [], ◌∷◌, Option, Some, None, refl, sym, ap, inl, inr, subst, eq-eqb, ne_eqb, arith, length-append}
 use Rattle.std.proofs.lemmas.Bool.{cases_eq}
 use Rattle.cmdcodec.specs.declared.raw.Raw.{Raw}
+use Rattle.cmdcodec.specs.Bodies.{IsBody}
 use Rattle.ringcore.specs.declared.world.event.Who.{Who}
 use Rattle.ringcore.specs.declared.world.event.Who.TheVariants.{Consumer, Sender}
 use Rattle.ringcore.specs.declared.world.event.Event.{Event}
 use Rattle.ringcore.specs.declared.world.event.Event.TheVariants.{Look, Won, Lost, Write, Flip, Test, Read, Advance, Close, Acknowledge, Ask}
 use Rattle.ringcore.specs.world.Trails.{Trail, Run, same, trail_of, batches_made, batch_length}
 use Rattle.ringcore.specs.world.World.{items, tail, world}
-use Rattle.ringcore.specs.world.Allowed.{Ring, IsBody, MayWin, Allowed, IsRun}
+use Rattle.ringcore.specs.world.Allowed.{Ring, MayWin, Allowed, IsRun}
 use Rattle.ringcore.specs.world.Laws.{IsOne, OnlyOf}
 use Rattle.ringcore.proofs.WorldLemmas.Sound.{length_items}
 

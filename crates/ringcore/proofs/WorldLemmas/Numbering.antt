@@ -2,13 +2,14 @@
 use Rattle.std.proofs.Common.{◌≡◌, ℕ, zero, suc, ◌+◌, Bool, true, false, cond, List, [], ◌∷◌, ◌++◌, length, Option, Some, None, refl, sym, ap, ◌∙◌, arith, append-nil, subst, eqb-true}
 use Rattle.std.specs.Prelude.{◌==◌, ⊤}
 use Rattle.cmdcodec.specs.declared.raw.Raw.{Raw}
+use Rattle.cmdcodec.specs.Bodies.{IsBody}
 use Rattle.ringcore.specs.declared.world.event.Who.{Who}
 use Rattle.ringcore.specs.declared.world.event.Who.TheVariants.{Consumer, Sender}
 use Rattle.ringcore.specs.declared.world.event.Event.{Event}
 use Rattle.ringcore.specs.declared.world.event.Event.TheVariants.{Look, Won, Lost, Write, Flip, Test, Read, Advance, Close, Acknowledge, Ask}
 use Rattle.ringcore.specs.world.Trails.{Trail, Run, same, trail_of, numbers_given}
 use Rattle.ringcore.specs.world.World.{world}
-use Rattle.ringcore.specs.world.Allowed.{Ring, IsBody, IsNextNumber, MayWin, Allowed, IsRun}
+use Rattle.ringcore.specs.world.Allowed.{Ring, IsNextNumber, MayWin, Allowed, IsRun}
 use Rattle.ringcore.specs.world.Delivery.{Batch, batches, number_of, numbers, counted, NumberedInOrder}
 use Rattle.ringcore.specs.world.Laws.{batches_of, own_batches, SendersOrderIsKept}
 

@@ -1,12 +1,13 @@
 -- The consumer's trail says which closing syncs are taken.
-use Rattle.std.proofs.Common.{◌≡◌, ℕ, zero, suc, ◌+◌, ◌-◌, ◌*◌, ◌<◌, ◌≤◌, Bool, true, false, cond, ◌==◌, ◌&&◌, List, [], ◌∷◌, ◌++◌, length, map, Option, Some, None, refl, sym, ap, ap₂, ◌∙◌, subst, inl, inr, eqb-true, eq-eqb, ne_eqb, arith}
+use Rattle.std.proofs.Common.{◌≡◌, ℕ, zero, suc, ◌+◌, ◌-◌, ◌<◌, ◌≤◌, Bool, true, false, cond, ◌==◌, ◌&&◌, List, [], ◌∷◌, ◌++◌, length, map, Option, Some, None, refl, sym, ap, ap₂, ◌∙◌, subst, inl, inr, eqb-true, eq-eqb, ne_eqb, arith}
 use Rattle.std.proofs.Math.Bool.{and-false}
 use Rattle.std.proofs.lemmas.Bool.{and_parts, cases_eq}
 use Rattle.std.proofs.lemmas.List.{length-map, map-append}
 use Rattle.std.proofs.lemmas.Option.{slice_get_within, same_Some}
 use Rattle.std.specs.Prelude.{slice_get}
 use Rattle.cmdcodec.specs.declared.raw.Raw.{Raw}
-use Rattle.cmdcodec.specs.Opcodes.{opcode_of}
+use Rattle.cmdcodec.specs.ClosingSync.{cell_address}
+use Rattle.cmdcodec.specs.Opcodes.{is_sync}
 use Rattle.cmdcodec.specs.Words.{encoding}
 use Rattle.ringcore.specs.declared.world.event.Who.{Who}
 use Rattle.ringcore.specs.declared.world.event.Who.TheVariants.{Consumer, Sender}
@@ -20,7 +21,7 @@ use Rattle.ringcore.specs.world.Laws.{is_sync_to, syncs_in, syncs_taken, SyncsAr
 use Rattle.ringcore.proofs.WorldLemmas.Lists.{none_some, get_shorter}
 use Rattle.ringcore.proofs.WorldLemmas.Reading.{raws_of, raws_taken, taken_again}
 use Rattle.ringcore.proofs.WorldLemmas.Sound.{Sound, sound}
-use Rattle.ringcore.proofs.WorldLemmas.Syncs.{sync_opcode, IsSyncOf, is_sync, sync_numbers, syncs_numbered}
+use Rattle.ringcore.proofs.WorldLemmas.Syncs.{sync_opcode, IsSyncOf, sync_at, sync_numbers, syncs_numbered}
 
 -- ---- the trail counts what is taken
 
@@ -110,7 +111,7 @@ counted_at first (suc n) (suc i) l = counted_at (suc first) n i (omega (arith, l
 
 numbers_append : (s : ℕ) (xs ys : List Item) → sync_numbers s (xs ++ ys) ≡ sync_numbers s xs ++ sync_numbers s ys
 numbers_append s [] ys = refl
-numbers_append s (x ∷ xs) ys = by_kind (numbers_append s xs ys) (s == x.sender && opcode_of x.raw == 0x46) x.number
+numbers_append s (x ∷ xs) ys = by_kind (numbers_append s xs ys) (s == x.sender && is_sync x.raw) x.number
   where
     by_kind : sync_numbers s (xs ++ ys) ≡ sync_numbers s xs ++ sync_numbers s ys → (v : Bool) (number : Option ℕ)
         → cond v (number_of number (sync_numbers s (xs ++ ys))) (sync_numbers s (xs ++ ys)) ≡ cond v (number_of number (sync_numbers s xs)) (sync_numbers s xs) ++ sync_numbers s ys
@@ -119,19 +120,19 @@ numbers_append s (x ∷ xs) ys = by_kind (numbers_append s xs ys) (s == x.sender
     by_kind rest false number = rest
 
 -- an item that is a sync of this sender and number is among them
-pub number_there : (s k : ℕ) (xs : List Item) (p : ℕ) (item : Item) → slice_get xs p ≡ Some item → item.sender ≡ s → item.number ≡ Some k → opcode_of item.raw ≡ 0x46
+pub number_there : (s k : ℕ) (xs : List Item) (p : ℕ) (item : Item) → slice_get xs p ≡ Some item → item.sender ≡ s → item.number ≡ Some k → is_sync item.raw ≡ true
     → (i : ℕ) × (slice_get (sync_numbers s xs) i ≡ Some k)
 number_there s k [] p item at sender number sync = none_some item at
 number_there s k (x ∷ xs) zero item at sender number sync =
     let is : x ≡ item = same_Some x item at in
-    let kind : (s == x.sender && opcode_of x.raw == 0x46) ≡ true =
-    ap₂ (λ a b. a && b) (eq-eqb s x.sender (sym (ap (λ (i : Item). i.sender) is ∙ sender))) (eq-eqb (opcode_of x.raw) 0x46 (ap (λ (i : Item). opcode_of i.raw) is ∙ sync)) in (
+    let kind : (s == x.sender && is_sync x.raw) ≡ true =
+    ap₂ (λ a b. a && b) (eq-eqb s x.sender (sym (ap (λ (i : Item). i.sender) is ∙ sender))) (ap (λ (i : Item). is_sync i.raw) is ∙ sync) in (
       0,
       ap (λ b. slice_get (cond b (number_of x.number (sync_numbers s xs)) (sync_numbers s xs)) 0) kind
           ∙ ap (λ n. slice_get (number_of n (sync_numbers s xs)) 0) (ap (λ (i : Item). i.number) is ∙ number),
     )
 number_there s k (x ∷ xs) (suc p) item at sender number sync =
-    let r = number_there s k xs p item at sender number sync in by_kind (s == x.sender && opcode_of x.raw == 0x46) x.number r
+    let r = number_there s k xs p item at sender number sync in by_kind (s == x.sender && is_sync x.raw) x.number r
   where
     by_kind : (v : Bool) (n : Option ℕ) → ((i : ℕ) × (slice_get (sync_numbers s xs) i ≡ Some k))
         → (i : ℕ) × (slice_get (cond v (number_of n (sync_numbers s xs)) (sync_numbers s xs)) i ≡ Some k)
@@ -146,72 +147,73 @@ record IsAt (s k : ℕ) (xs : List Item) : Type 0 where
   there : slice_get xs position ≡ Some item
   sender_is : item.sender ≡ s
   number_is : item.number ≡ Some k
-  sync : opcode_of item.raw ≡ 0x46
+  sync : is_sync item.raw ≡ true
 
 item_of_number : (s k : ℕ) (xs : List Item) (i : ℕ) → slice_get (sync_numbers s xs) i ≡ Some k → IsAt s k xs
 item_of_number s k [] i at = none_some k at
-item_of_number s k (x ∷ xs) i at = by_kind (item_of_number s k xs) (s == x.sender && opcode_of x.raw == 0x46) refl x.number refl i at
+item_of_number s k (x ∷ xs) i at = by_kind (item_of_number s k xs) (s == x.sender && is_sync x.raw) refl x.number refl i at
   where
     on : IsAt s k xs → IsAt s k (x ∷ xs)
     on r = record { position = suc r.position; item = r.item; there = r.there; sender_is = r.sender_is; number_is = r.number_is; sync = r.sync }
 
-    by_kind : ((i : ℕ) → slice_get (sync_numbers s xs) i ≡ Some k → IsAt s k xs) → (v : Bool) → (s == x.sender && opcode_of x.raw == 0x46) ≡ v → (n : Option ℕ) → x.number ≡ n → (i : ℕ)
+    by_kind : ((i : ℕ) → slice_get (sync_numbers s xs) i ≡ Some k → IsAt s k xs) → (v : Bool) → (s == x.sender && is_sync x.raw) ≡ v → (n : Option ℕ) → x.number ≡ n → (i : ℕ)
         → slice_get (cond v (number_of n (sync_numbers s xs)) (sync_numbers s xs)) i ≡ Some k → IsAt s k (x ∷ xs)
     by_kind later true kind None number i at = on (later i at)
     by_kind later true kind (Some n) number zero at =
-        let both = and_parts (s == x.sender) (opcode_of x.raw == 0x46) kind in record {
+        let both = and_parts (s == x.sender) (is_sync x.raw) kind in record {
           position = 0;
           item = x;
           there = refl;
           sender_is = sym (eqb-true s x.sender both.0);
           number_is = number ∙ at;
-          sync = eqb-true (opcode_of x.raw) 0x46 both.1;
+          sync = both.1;
         }
     by_kind later true kind (Some n) number (suc i) at = on (later i at)
     by_kind later false kind n number i at = on (later i at)
 
 -- Where all that have the sync's opcode are syncs, there are as many numbers as closing syncs.
 abbrev AllSyncs : List Item → Type 0
-AllSyncs xs = (p : ℕ) (item : Item) → slice_get xs p ≡ Some item → opcode_of item.raw ≡ 0x46 → IsSyncOf item
+AllSyncs xs = (p : ℕ) (item : Item) → slice_get xs p ≡ Some item → is_sync item.raw ≡ true → IsSyncOf item
 
-address_is : (s n : ℕ) → (sync_raw s n).hi ≡ 0x40000000 + 4 * s
+address_is : (s n : ℕ) → (sync_raw s n).hi ≡ cell_address s
 unfolding encoding
 address_is s n = omega arith
 
-kind_is : (s : ℕ) (item : Item) → (opcode_of item.raw ≡ 0x46 → IsSyncOf item) → is_sync_to s item.raw ≡ (s == item.sender && opcode_of item.raw == 0x46)
-kind_is s item all = elim (cases_eq (opcode_of item.raw) 0x46) [
-  | inl sync ↦
-      let is = all sync in
-      let hi : item.raw.hi ≡ 0x40000000 + 4 * item.sender = ap (λ (r : Raw). r.hi) is.raw_is ∙ address_is item.sender is.number in
-      let opcode : (opcode_of item.raw == 0x46) ≡ true = eq-eqb (opcode_of item.raw) 0x46 sync in
-      let same : (item.raw.hi == 0x40000000 + 4 * s) ≡ (s == item.sender) = elim (cases_eq s item.sender) [
-        | inl one ↦ eq-eqb item.raw.hi (0x40000000 + 4 * s) (omega (arith, hi, one)) ∙ sym (eq-eqb s item.sender one)
-        | inr two ↦ ne_eqb item.raw.hi (0x40000000 + 4 * s) (λ e. two (omega (arith, hi, e))) ∙ sym (ne_eqb s item.sender two)
-      ] in
-      ap₂ (λ a b. a && b) opcode same ∙ sym (and_true (s == item.sender)) ∙ ap (λ b. s == item.sender && b) (sym opcode)
-  | inr other ↦
-      let opcode : (opcode_of item.raw == 0x46) ≡ false = ne_eqb (opcode_of item.raw) 0x46 other in
-      ap (λ b. b && item.raw.hi == 0x40000000 + 4 * s) opcode ∙ sym (and-false (s == item.sender)) ∙ ap (λ b. s == item.sender && b) (sym opcode)
+-- The cell of one sender is that of no other.
+pub its_cell : (s t address : ℕ) → address ≡ cell_address t → (address == cell_address s) ≡ (s == t)
+its_cell s t address its = elim (cases_eq s t) [
+  | inl one ↦ eq-eqb address (cell_address s) (omega (arith, its, one)) ∙ sym (eq-eqb s t one)
+  | inr two ↦ ne_eqb address (cell_address s) (λ e. two (omega (arith, its, e))) ∙ sym (ne_eqb s t two)
 ]
+
+kind_is : (s : ℕ) (item : Item) → (is_sync item.raw ≡ true → IsSyncOf item) → is_sync_to s item.raw ≡ (s == item.sender && is_sync item.raw)
+kind_is s item all = by_kind (is_sync item.raw) refl
   where
     and_true : (b : Bool) → (b && true) ≡ b
     and_true true = refl
     and_true false = refl
 
+    by_kind : (v : Bool) → is_sync item.raw ≡ v → is_sync_to s item.raw ≡ (s == item.sender && is_sync item.raw)
+    by_kind true sync =
+        let is = all sync in
+        let hi : item.raw.hi ≡ cell_address item.sender = ap (λ (r : Raw). r.hi) is.raw_is ∙ address_is item.sender is.number in
+        ap₂ (λ a b. a && b) sync (its_cell s item.sender item.raw.hi hi) ∙ sym (and_true (s == item.sender)) ∙ ap (λ b. s == item.sender && b) (sym sync)
+    by_kind false other =
+        ap (λ b. b && item.raw.hi == cell_address s) other ∙ sym (and-false (s == item.sender)) ∙ ap (λ b. s == item.sender && b) (sym other)
+
 as_many : (s : ℕ) (xs : List Item) → AllSyncs xs → length (sync_numbers s xs) ≡ syncs_in s (raws_of xs)
 as_many s [] all = refl
-as_many s (x ∷ xs) all = by_kind (as_many s xs (λ p item at sync. all (suc p) item at sync)) (s == x.sender && opcode_of x.raw == 0x46) refl
+as_many s (x ∷ xs) all = by_kind (as_many s xs (λ p item at sync. all (suc p) item at sync)) (s == x.sender && is_sync x.raw) refl
   where
     numbered : (n : Option ℕ) (k : ℕ) → n ≡ Some k → length (number_of n (sync_numbers s xs)) ≡ suc (length (sync_numbers s xs))
     numbered n k is = ap (λ m. length (number_of m (sync_numbers s xs))) is
 
-    kind : is_sync_to s x.raw ≡ (s == x.sender && opcode_of x.raw == 0x46)
+    kind : is_sync_to s x.raw ≡ (s == x.sender && is_sync x.raw)
     kind = kind_is s x (λ sync. all 0 x refl sync)
 
-    by_kind : length (sync_numbers s xs) ≡ syncs_in s (raws_of xs) → (v : Bool) → (s == x.sender && opcode_of x.raw == 0x46) ≡ v → length (sync_numbers s (x ∷ xs)) ≡ syncs_in s (raws_of (x ∷ xs))
+    by_kind : length (sync_numbers s xs) ≡ syncs_in s (raws_of xs) → (v : Bool) → (s == x.sender && is_sync x.raw) ≡ v → length (sync_numbers s (x ∷ xs)) ≡ syncs_in s (raws_of (x ∷ xs))
     by_kind rest true is =
-        let is_46 = eqb-true (opcode_of x.raw) 0x46 (and_parts (s == x.sender) (opcode_of x.raw == 0x46) is).1 in
-        let sync = all 0 x refl is_46 in
+        let sync = all 0 x refl (and_parts (s == x.sender) (is_sync x.raw) is).1 in
         ap (λ b. length (cond b (number_of x.number (sync_numbers s xs)) (sync_numbers s xs))) is
         ∙ numbered x.number sync.number sync.number_is ∙ ap suc rest
         ∙ sym (ap (λ b. cond b (suc (syncs_in s (raws_of xs))) (syncs_in s (raws_of xs))) (kind ∙ is))
@@ -238,7 +240,7 @@ syncs_counted ring run ok s k = (there, back)
     whole p item at = ap (λ l. slice_get l p) parts.is ∙ get_shorter parts.front parts.rest p (slice_get_within parts.front p item at) ∙ at
 
     all : AllSyncs parts.front
-    all p item at sync = is_sync ring run ok p item (whole p item at) sync
+    all p item at sync = sync_at ring run ok p item (whole p item at) sync
 
     raws : raws_of parts.front ≡ raws_taken (world run).taken
     raws =
@@ -271,7 +273,7 @@ syncs_counted ring run ok s k = (there, back)
         let is : 1 + j ≡ k = omega (arith, b.0) in
         let at : slice_get (sync_numbers s parts.front) j ≡ Some k = ap (λ l. slice_get l j) in_a_row ∙ counted_at 1 (length (sync_numbers s parts.front)) j inside ∙ ap Some is in
         let r = item_of_number s k parts.front j at in
-        let sync = is_sync ring run ok r.position r.item (whole r.position r.item r.there) r.sync in
+        let sync = sync_at ring run ok r.position r.item (whole r.position r.item r.there) r.sync in
         let number : sync.number ≡ k = same_Some sync.number k (sym sync.number_is ∙ r.number_is) in
         let raw : r.item.raw ≡ sync_raw s k = sync.raw_is ∙ ap₂ sync_raw r.sender_is number in record {
           position = r.position;

@@ -1,36 +1,43 @@
 -- The closing syncs in the reserved list: each is that of one batch, and a sender's are numbered 1, 2, 3 and so on.
-use Rattle.std.proofs.Common.{◌≡◌, ◌≢◌, ℕ, suc, ◌+◌, ◌-◌, Bool, true, false, cond, ◌&&◌, List, [], ◌∷◌, ◌++◌, length, Option, Some, None, refl, sym, ap, ◌∙◌, inl, inr, ne_eqb, eq-eqb, arith, length-append, append_assoc}
+use Rattle.std.proofs.Common.{◌≡◌, ℕ, zero, suc, ◌+◌, ◌-◌, Bool, true, false, cond, ◌&&◌, List, [], ◌∷◌, ◌++◌, length, Option, Some, None, refl, sym, ap, ◌∙◌, inl, inr, eq-eqb, arith, length-append, append_assoc}
 use Rattle.std.proofs.Math.Bool.{and-false}
-use Rattle.std.proofs.lemmas.Bool.{cases_lt}
+use Rattle.std.proofs.lemmas.Bool.{or_parts, cases_lt}
 use Rattle.std.proofs.lemmas.List.{length-map}
 use Rattle.std.proofs.lemmas.Option.{slice_get_within, same_Some}
 use Rattle.std.specs.Prelude.{slice_get, ◌==◌}
+use Rattle.std.specs.List.{list_any}
 use Rattle.cmdcodec.specs.declared.raw.Raw.{Raw}
-use Rattle.cmdcodec.specs.Opcodes.{opcode_of}
+use Rattle.cmdcodec.specs.Bodies.{IsBody}
+use Rattle.cmdcodec.specs.Opcodes.{opcode_of, is_sync}
 use Rattle.cmdcodec.specs.Words.{encoding}
 use Rattle.ringcore.specs.world.Trails.{Run, trail_of, numbers_given}
 use Rattle.ringcore.specs.declared.world.event.Who.TheVariants.{Sender}
 use Rattle.ringcore.specs.world.World.{Item, sync_raw, commands, items_from, items, world}
-use Rattle.ringcore.specs.world.Allowed.{Ring, IsBody, IsRun}
+use Rattle.ringcore.specs.world.Allowed.{Ring, IsRun}
 use Rattle.ringcore.specs.world.Delivery.{Batch, batches, joined, number_of, numbers, counted}
-use Rattle.ringcore.proofs.WorldLemmas.Lists.{none_some, get_shorter, get_behind}
+use Rattle.ringcore.proofs.WorldLemmas.Lists.{off, none_some, get_shorter, get_behind}
 use Rattle.ringcore.proofs.WorldLemmas.Reading.{item_of, batch_items, all_items, raws_of_batch, is_read}
 use Rattle.ringcore.proofs.WorldLemmas.Numbering.{AllBodies, is_kept}
 
 -- ---- the batch of a sync
 
--- The sync's opcode is that of CMD_SYNC.
-pub sync_opcode : (s number : ℕ) → opcode_of (sync_raw s number) ≡ 0x46
+-- A closing sync is a CMD_SYNC.
+pub sync_opcode : (s number : ℕ) → is_sync (sync_raw s number) ≡ true
 unfolding encoding
-sync_opcode s number = omega arith
+sync_opcode s number = eq-eqb (opcode_of (sync_raw s number)) 0x46 (omega arith)
+
+no_sync_at : (raws : List Raw) → list_any is_sync raws ≡ false → (i : ℕ) (raw : Raw) → slice_get raws i ≡ Some raw → is_sync raw ≡ false
+no_sync_at [] none i raw at = none_some raw at
+no_sync_at (x ∷ xs) none zero raw at = ap is_sync (sym (same_Some x raw at)) ∙ (or_parts (is_sync x) (list_any is_sync xs) none).0
+no_sync_at (x ∷ xs) none (suc i) raw at = no_sync_at xs (or_parts (is_sync x) (list_any is_sync xs) none).1 i raw at
 
 -- In a batch whose body holds no CMD_SYNC one stands just behind the body.
 at_end : (s : ℕ) (number : Option ℕ) (body : List Raw) (i : ℕ) (raw : Raw) → IsBody body → slice_get (commands s number body) i ≡ Some raw
-    → opcode_of raw ≡ 0x46 → i ≡ length body
-at_end s None body i raw is at sync = absurd (is.no_sync i raw at sync)
+    → is_sync raw ≡ true → i ≡ length body
+at_end s None body i raw is at sync = off (sym (no_sync_at body is.no_sync i raw at) ∙ sync)
 at_end s (Some number) body i raw is at sync =
     elim (cases_lt i (length body)) [
-      | inl inside ↦ absurd (is.no_sync i raw (sym (get_shorter body (sync_raw s number ∷ []) i inside) ∙ at) sync)
+      | inl inside ↦ off (sym (no_sync_at body is.no_sync i raw (sym (get_shorter body (sync_raw s number ∷ []) i inside) ∙ at)) ∙ sync)
       | inr behind ↦
           let within = slice_get_within (body ++ sync_raw s number ∷ []) i raw at in
           let long = length-append body (sync_raw s number ∷ []) in
@@ -49,7 +56,7 @@ pub record IsBatchOf (bs : List Batch) (position : ℕ) (item : Item) : Type 0 w
   pub raw_is : slice_get (commands batch.sender batch.number batch.body) (length batch.body) ≡ Some item.raw
 
 pub batch_of_sync : (bs : List Batch) → AllBodies bs → (position : ℕ) (item : Item) → slice_get (all_items bs) position ≡ Some item
-    → opcode_of item.raw ≡ 0x46 → IsBatchOf bs position item
+    → is_sync item.raw ≡ true → IsBatchOf bs position item
 batch_of_sync [] bodies position item at sync = none_some item at
 batch_of_sync (b ∷ bs) bodies position item at sync =
     let mine = batch_items b in
@@ -110,9 +117,9 @@ sync_of s (Some number) body item sender_is number_is at =
     let raw : item.raw ≡ sync_raw s number = same_Some item.raw (sync_raw s number) (sym at ∙ ap (slice_get (body ++ sync_raw s number ∷ [])) (sym here) ∙ last) in
     record { number = number; number_is = number_is; raw_is = raw ∙ ap (λ t. sync_raw t number) (sym sender_is) }
 
-pub is_sync : (ring : Ring) (run : Run) → IsRun ring run → (position : ℕ) (item : Item) → slice_get (world run).reserved position ≡ Some item
-    → opcode_of item.raw ≡ 0x46 → IsSyncOf item
-is_sync ring run ok position item at sync =
+pub sync_at : (ring : Ring) (run : Run) → IsRun ring run → (position : ℕ) (item : Item) → slice_get (world run).reserved position ≡ Some item
+    → is_sync item.raw ≡ true → IsSyncOf item
+sync_at ring run ok position item at sync =
     let there = ap (λ l. slice_get l position) (sym (is_read run).reserved) ∙ at in
     let r = batch_of_sync (batches run) (is_kept ring run ok).bodies position item there sync in
     sync_of r.batch.sender r.batch.number r.batch.body item r.sender_is r.number_is r.raw_is
@@ -122,15 +129,16 @@ is_sync ring run ok position item at sync =
 -- the numbers of a sender's syncs
 abbrev pub sync_numbers : ℕ → List Item → List ℕ
 sync_numbers s [] = []
-sync_numbers s (item ∷ items) = cond (s == item.sender && opcode_of item.raw == 0x46) (number_of item.number (sync_numbers s items)) (sync_numbers s items)
+sync_numbers s (item ∷ items) = cond (s == item.sender && is_sync item.raw) (number_of item.number (sync_numbers s items)) (sync_numbers s items)
 
-none_in_body : (s place t : ℕ) (number : Option ℕ) (body : List Raw) (rest : List Item) → ((i : ℕ) (raw : Raw) → slice_get body i ≡ Some raw → opcode_of raw ≢ 0x46)
+none_in_body : (s place t : ℕ) (number : Option ℕ) (body : List Raw) (rest : List Item) → list_any is_sync body ≡ false
     → sync_numbers s (items_from place t number body ++ rest) ≡ sync_numbers s rest
 none_in_body s place t number [] rest no_sync = refl
 none_in_body s place t number (raw ∷ body) rest no_sync =
-    let here : (s == t && opcode_of raw == 0x46) ≡ false = ap (λ b. s == t && b) (ne_eqb (opcode_of raw) 0x46 (no_sync 0 raw refl)) ∙ and-false (s == t) in
+    let both = or_parts (is_sync raw) (list_any is_sync body) no_sync in
+    let here : (s == t && is_sync raw) ≡ false = ap (λ b. s == t && b) both.0 ∙ and-false (s == t) in
     ap (λ b. cond b (number_of number (sync_numbers s (items_from (suc place) t number body ++ rest))) (sync_numbers s (items_from (suc place) t number body ++ rest))) here
-    ∙ none_in_body s (suc place) t number body rest (λ i r at. no_sync (suc i) r at)
+    ∙ none_in_body s (suc place) t number body rest both.1
 
 items_append : (place t : ℕ) (number : Option ℕ) (xs ys : List Raw) → items_from place t number (xs ++ ys) ≡ items_from place t number xs ++ items_from (place + length xs) t number ys
 items_append place t number [] ys = ap (λ p. items_from p t number ys) (let z : place ≡ place + 0 = omega arith in z)
@@ -149,11 +157,10 @@ of_batch s t None body rest is = none_in_body s 0 t None body rest is.no_sync �
 of_batch s t (Some number) body rest is =
     let sync = sync_raw t number in
     let last : List Item = items_from (length body) t (Some number) (sync ∷ []) in
-    let opcode : (opcode_of sync == 0x46) ≡ true = eq-eqb (opcode_of sync) 0x46 (sync_opcode t number) in
     ap (λ l. sync_numbers s (l ++ rest)) (items_append 0 t (Some number) body (sync ∷ []) ∙ ap (λ p. items_from 0 t (Some number) body ++ items_from p t (Some number) (sync ∷ [])) (let z : 0 + length body ≡ length body = omega arith in z))
     ∙ ap (sync_numbers s) (append_assoc (items_from 0 t (Some number) body) last rest)
     ∙ none_in_body s 0 t (Some number) body (last ++ rest) is.no_sync
-    ∙ ap (λ b. cond (s == t && b) (number ∷ sync_numbers s rest) (sync_numbers s rest)) opcode
+    ∙ ap (λ b. cond (s == t && b) (number ∷ sync_numbers s rest) (sync_numbers s rest)) (sync_opcode t number)
     ∙ ap (λ b. cond b (number ∷ sync_numbers s rest) (sync_numbers s rest)) (and_true (s == t))
   where
     and_true : (b : Bool) → (b && true) ≡ b

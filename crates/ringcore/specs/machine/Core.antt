@@ -1,5 +1,6 @@
 -- What the machine with one owner stands for: a run, as its words and its seats know it.
 use Rattle.std.specs.Prelude.{◌≡◌, ℕ, ◌≤◌, Bool, not, ◌&&◌, nat_le, List, [], ◌∷◌, length, Option, Some, None, Result, Ok, Err, slice_get, if◌then◌else◌}
+use Rattle.cmdcodec.specs.Bodies.{most_batches}
 use Rattle.qindex.specs.declared.control.Control.{Control}
 use Rattle.ringcore.specs.declared.world.event.Who.TheVariants.{Sender}
 use Rattle.ringcore.specs.declared.machine.step.Step.{Step}
@@ -34,7 +35,7 @@ core_of inside = record { words = inside.words; senders = inside.senders.items; 
 
 -- Each sender may reserve as many batches as there are numbers.
 abbrev pub ring_with : ℕ → ℕ → Ring
-ring_with geometry senders = record { geometry = geometry; senders = senders; max_batches = 4294967295; flags = 64 }
+ring_with geometry senders = record { geometry = geometry; senders = senders; max_batches = most_batches; flags = 64 }
 
 abbrev pub ring_of : CoreValue → Ring
 ring_of core = ring_with core.words.geometry core.words.senders

@@ -2,7 +2,7 @@
 use Rattle.std.specs.Prelude.{ℕ, suc, ◌+◌, Bool, true, false, not, ◌==◌, ◌||◌, ◌&&◌, nat_le, nat_lt, List, length, Option, Some, None, is_some, slice_get, if◌then◌else◌}
 use Rattle.std.specs.List.{list_any}
 use Rattle.cmdcodec.specs.declared.raw.Raw.{Raw}
-use Rattle.cmdcodec.specs.Opcodes.{opcode_of}
+use Rattle.cmdcodec.specs.Opcodes.{is_sync}
 use Rattle.qindex.specs.declared.control.Control.{Control}
 use Rattle.qindex.specs.Positions.{size, place}
 use Rattle.qindex.specs.Indexes.{distance}
@@ -39,7 +39,7 @@ share_a_word ring slot count = nat_le count (shared_word ring.geometry slot)
 -- ---- reserve
 
 abbrev pub is_body : List Raw → Bool
-is_body body = nat_le 1 (length body) && nat_le (length body) 63 && not (list_any (λ raw. opcode_of raw == 0x46) body)
+is_body body = nat_le 1 (length body) && nat_le (length body) 63 && not (list_any is_sync body)
 
 -- whether there is room for so many commands, by what was looked at
 abbrev pub has_room : Ring → Option Control → ℕ → Bool
@@ -103,7 +103,7 @@ has_number number (Some its) = its == number
 -- whether an item is the closing sync of a sender's batch of this number
 abbrev pub is_sync_of : ℕ → ℕ → Option Item → Bool
 is_sync_of s number None = false
-is_sync_of s number (Some item) = item.sender == s && has_number number item.number && opcode_of item.raw == 0x46
+is_sync_of s number (Some item) = item.sender == s && has_number number item.number && is_sync item.raw
 
 -- whether that sync stands below the head
 abbrev pub sync_is_taken : World → ℕ → ℕ → Bool

@@ -1,7 +1,7 @@
 -- When an event may stand after those before it. Nothing is assumed of which seat comes next.
 use Rattle.std.specs.Prelude.{◌≡◌, ◌≢◌, ℕ, suc, ◌+◌, ◌/◌, ◌<◌, ◌≤◌, Bool, true, false, List, [], ◌∷◌, length, Option, Some, None, slice_get, ⊤}
 use Rattle.cmdcodec.specs.declared.raw.Raw.{Raw}
-use Rattle.cmdcodec.specs.Opcodes.{opcode_of}
+use Rattle.cmdcodec.specs.Bodies.{IsBody}
 use Rattle.qindex.specs.declared.control.Control.{Control}
 use Rattle.qindex.specs.Positions.{size, place}
 use Rattle.qindex.specs.Indexes.{distance}
@@ -31,12 +31,6 @@ abbrev pub IsRunLength : ℕ → Type 0
 IsRunLength count = (1 ≤ count) × (count ≤ 64)
 
 -- ---- reserve
-
--- A body has 1 to 63 commands, and none of them is a CMD_SYNC.
-pub record IsBody (body : List Raw) : Type 0 where
-  pub some : 1 ≤ length body
-  pub few : length body ≤ 63
-  pub no_sync : (i : ℕ) (raw : Raw) → slice_get body i ≡ Some raw → opcode_of raw ≢ 0x46
 
 -- the number of a batch: one more than the sender's numbers so far, or none
 abbrev pub IsNextNumber : Trail → Option ℕ → Type 0

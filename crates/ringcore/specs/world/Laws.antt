@@ -1,7 +1,8 @@
 -- What every run is held to, of any length, in a ring of any size.
 use Rattle.std.specs.Prelude.{◌≡◌, ◌↔◌, ℕ, suc, ◌+◌, ◌*◌, ◌<◌, ◌≤◌, Bool, cond, ◌==◌, ◌&&◌, List, [], ◌∷◌, ◌++◌, length, Some, slice_get, ⊤}
 use Rattle.cmdcodec.specs.declared.raw.Raw.{Raw}
-use Rattle.cmdcodec.specs.Opcodes.{opcode_of}
+use Rattle.cmdcodec.specs.Opcodes.{is_sync}
+use Rattle.cmdcodec.specs.ClosingSync.{cell_address}
 use Rattle.qindex.specs.Positions.{size}
 use Rattle.ringcore.specs.declared.world.event.Who.{Who}
 use Rattle.ringcore.specs.declared.world.event.Who.TheVariants.{Consumer, Sender}
@@ -86,7 +87,7 @@ FewAreReserved =
 
 -- whether a command is a closing sync of this sender: a CMD_SYNC that writes into its completion cell
 abbrev pub is_sync_to : ℕ → Raw → Bool
-is_sync_to s raw = opcode_of raw == 0x46 && raw.hi == 0x40000000 + 4 * s
+is_sync_to s raw = is_sync raw && raw.hi == cell_address s
 
 abbrev pub syncs_in : ℕ → List Raw → ℕ
 syncs_in s [] = 0

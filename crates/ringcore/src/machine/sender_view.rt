@@ -2,7 +2,8 @@
 ghost use Rattle.std.specs.Prelude.{◌≡◌, ◌==◌, ◌+◌, ◌≤◌, ◌<◌, ◌&&◌, not, Bool, List, [], ◌∷◌, ℕ, length, Some, IfSome, slice_get};
 ghost use Rattle.std.specs.List.{list_any, list_all};
 ghost use Rattle.cmdcodec.specs.declared.raw.Raw.{Raw};
-ghost use Rattle.cmdcodec.specs.Opcodes.{opcode_of};
+ghost use Rattle.cmdcodec.specs.Opcodes.{is_sync};
+ghost use Rattle.cmdcodec.specs.Bodies.{most_batches};
 ghost use Rattle.qindex.specs.Positions.{size};
 ghost use Rattle.qindex.specs.ControlWord.{IsControl};
 ghost use Rattle.qindex.specs.declared.control.Control.{Control};
@@ -22,12 +23,11 @@ ghost use Rattle.ringcore.specs.machine.SenderViews.{Knows, WhereKnown, AreFlipp
 use crate::machine::StepFault;
 use crate::machine::slot_offset::offset_of_slot;
 use crate::world::Half;
-use cmdcodec::{Raw, RawList, closing_sync, encode};
+use cmdcodec::{
+    MOST_BATCH_COMMANDS, MOST_BATCHES, MOST_BODY_COMMANDS, Raw, RawList, closing_sync, encode,
+};
 use qindex::{Control, Geometry};
 use std::marker::Model;
-
-/// The most commands of a batch, with its closing sync.
-const MOST_COMMANDS: usize = 64;
 
 /// How far a command of a reservation is.
 #[derive(Clone, Copy)]
@@ -53,7 +53,7 @@ pub struct SenderView {
     numbers: u32,
     start: u64,
     commands: RawList,
-    progress: [Progress; MOST_COMMANDS],
+    progress: [Progress; MOST_BATCH_COMMANDS],
 }
 
 impl Model for SenderView {
@@ -77,7 +77,7 @@ impl SenderView {
             numbers: 0,
             start: 0,
             commands: RawList::new(),
-            progress: [UNTOUCHED; MOST_COMMANDS],
+            progress: [UNTOUCHED; MOST_BATCH_COMMANDS],
         }
     }
 
@@ -100,7 +100,7 @@ impl SenderView {
     pub fn wins(&mut self, sender: u32, body: &RawList, closes: bool, start: u64) -> Option<u32>
         requires sender { sender < 256 }
         requires body { length body.now.items ≤ 63 }
-        requires batches { self.old.batches < 4294967295 }
+        requires batches { self.old.batches < most_batches }
         ensures number { WhereKnown self.old (λ run s mine. result ≡ next_number mine closes) }
         ensures view { (run : Run) → Knows run sender self.old → start ≡ tail (world run) → Knows ((Sender sender, Won body.now.items result) ∷ run) sender self.new }
     {
@@ -110,7 +110,7 @@ impl SenderView {
         self.numbers += u32::from(closes);
         self.start = start;
         self.commands = batch_commands(sender, body, number);
-        self.progress = [UNTOUCHED; MOST_COMMANDS];
+        self.progress = [UNTOUCHED; MOST_BATCH_COMMANDS];
         number
     }
 
@@ -215,7 +215,7 @@ impl SenderView {
 
     /// The number of the closing sync of its next batch, if that has one.
     pub fn next_number(&self, closes: bool) -> Option<u32>
-        requires { self.now.batches < 4294967295 }
+        requires { self.now.batches < most_batches }
         ensures { WhereKnown self.now (λ run s mine. result ≡ next_number mine closes) }
     {
         if closes { Some(self.numbers + 1) } else { None }
@@ -224,9 +224,9 @@ impl SenderView {
     /// Why a reserve of this body is refused, if it is. What it looked at is of this geometry.
     pub fn reserve_fault(&self, geometry: Geometry, body: &[Raw], closes: bool) -> Option<StepFault>
         requires { (found : Control) → self.now.looked ≡ Some found → IsControl geometry found }
-        ensures { (ring : Ring) → ring.geometry ≡ geometry → ring.max_batches ≡ 4294967295 → WhereKnown self.now (λ run s mine. result ≡ reserve_fault ring mine body.now closes) }
+        ensures { (ring : Ring) → ring.geometry ≡ geometry → ring.max_batches ≡ most_batches → WhereKnown self.now (λ run s mine. result ≡ reserve_fault ring mine body.now closes) }
     {
-        if self.is_open() || self.batches == u32::MAX {
+        if self.is_open() || self.batches == MOST_BATCHES {
             return Some(StepFault::NotSettled);
         }
         if !is_body(body) {
@@ -283,13 +283,6 @@ fn mark_flipped(commands: &mut [Progress], first: usize, count: usize)
     }
 }
 
-/// Whether it is a CMD_SYNC, legal or not.
-fn is_sync(raw: Raw) -> bool
-    ensures { result ≡ (opcode_of raw == 0x46) }
-{
-    raw.lo % 0x100 == 0x46
-}
-
 /// Whether a batch may have this body: 1 to 63 commands, none of them a CMD_SYNC.
 fn is_body(body: &[Raw]) -> bool
     ensures { result ≡ is_body body.now }
@@ -297,13 +290,13 @@ fn is_body(body: &[Raw]) -> bool
     if body.is_empty() {
         return false;
     }
-    body.len() < MOST_COMMANDS && !any_sync(body)
+    body.len() <= MOST_BODY_COMMANDS && !any_sync(body)
 }
 
 fn any_sync(body: &[Raw]) -> bool
-    ensures { result ≡ list_any (λ raw. opcode_of raw == 0x46) body.now }
+    ensures { result ≡ list_any is_sync body.now }
 {
-    body.iter().any(|raw| is_sync(*raw))
+    body.iter().any(|raw| raw.is_sync())
 }
 
 /// Whether by this look there is room for so many commands, and the ring is open.

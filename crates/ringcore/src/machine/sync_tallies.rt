@@ -5,12 +5,9 @@ ghost use Rattle.ringcore.specs.machine.ConsumerViews.{commands_read};
 ghost use Rattle.ringcore.specs.machine.SyncTallies.{AreTallies, AreCounted};
 
 use crate::machine::ConsumerView;
-use cmdcodec::Raw;
+use cmdcodec::{Raw, cell_owner};
 use std::alloc::{AllocError, Global};
 use std::marker::Model;
-
-/// The address of sender 0's completion cell; the others follow, 4 bytes each (own).
-const FIRST_CELL: u64 = 0x4000_0000;
 
 /// How many closing syncs of each sender the consumer took: those up to this number are the ones that it may
 /// acknowledge.
@@ -78,8 +75,9 @@ impl SyncTallies {
 fn sender_of(raw: Raw) -> Option<u64>
     ensures { MatchOption result ((s : ℕ) → is_sync_to s raw ≡ false) (λ sender. (s : ℕ) → is_sync_to s raw ≡ (s == sender)) }
 {
-    if raw.lo % 0x100 != 0x46 || raw.hi < FIRST_CELL || (raw.hi - FIRST_CELL) % 4 != 0 {
-        return None;
+    if raw.is_sync() {
+        cell_owner(raw.hi)
+    } else {
+        None
     }
-    Some((raw.hi - FIRST_CELL) / 4)
 }

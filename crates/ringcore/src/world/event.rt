@@ -21,6 +21,7 @@ pub enum Half {
 }
 
 /// How a command was taken.
+#[derive(Clone, Copy, Debug, PartialEq, Eq)]
 pub enum Outcome {
     /// A legal command: it has its effect.
     Applied,
