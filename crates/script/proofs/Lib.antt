@@ -12,3 +12,4 @@ pub mod AnswerLemmas
 pub mod EffectLemmas
 pub mod RequestLemmas
 pub mod GivingLemmas
+pub mod ServesLemmas

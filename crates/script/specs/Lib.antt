@@ -13,3 +13,4 @@ pub mod Kinds
 pub mod Standing
 pub mod Giving
 pub mod GivingLaws
+pub mod Serves
