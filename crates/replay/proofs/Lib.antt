@@ -7,6 +7,4 @@ pub mod EffectLemmas
 pub mod RefusalLemmas
 pub mod StepsLemmas
 pub mod DumpLemmas
-pub mod GivingLemmas
 pub mod ServedLemmas
-pub mod ComesLemmas

@@ -1,9 +1,11 @@
 -- Steps one after another.
 use Rattle.std.proofs.Common.{◌≡◌, ℕ, suc, ◌-◌, ◌+◌, ◌<◌, true, false, cond, List, [], ◌++◌, ap, sym, ◌∙◌, arith, append_assoc, append-nil, Some}
+use Rattle.script.specs.Effects.{answers}
+use Rattle.script.specs.Standing.{Acts}
+use Rattle.script.proofs.EffectLemmas.{produces_at}
 use Rattle.replay.specs.declared.smmu.Smmu.{Smmu}
-use Rattle.replay.specs.ReplayText.{State, Step, answers, step_of, steps_of, step_effect}
-use Rattle.replay.specs.Standing.{Stands, Acts, Stepped, Steps}
-use Rattle.replay.proofs.EffectLemmas.{produces_at}
+use Rattle.replay.specs.ReplayText.{State, Step, step_of, steps_of, step_effect}
+use Rattle.replay.specs.Standing.{Stands, Stepped, Steps}
 
 -- a step with more text ahead
 abbrev pub ahead : List ℕ → Step → Step
@@ -64,7 +66,7 @@ runs_on old now new before mid after count i low r s = record {
 
 -- the step after which none follows
 pub stops_running : (old now new : Smmu) (before mid after : List ℕ) (count i : ℕ) → i < count → Running old now before mid count (count - i) → Steps step_of now new mid after false
-    → Acts (λ wanting. step_effect count) old new before after true
+    → Acts Stands (λ wanting. step_effect count) old new before after true
 unfolding step_effect
 stops_running old now new before mid after count i low r s = record {
   answer = r.told ++ s.answer;
@@ -74,13 +76,13 @@ stops_running old now new before mid after count i low r s = record {
       let step = s.steps at.here at.stands in
       let same : steps_of count state ≡ ahead r.told (step_of at.here) =
       at.same ∙ ap (λ n. ahead r.told (steps_of n at.here)) (left_is count i low) ∙ ended r.told (count - (i + 1)) at.here new s.answer step in
-      produces_at (λ wanting. step_effect count state) (Some new) false (answers (r.told ++ s.answer) (step_of at.here).state)
+      produces_at Stands (λ wanting. step_effect count state) (Some new) false (answers (r.told ++ s.answer) (step_of at.here).state)
       (ap (λ (x : Step). answers x.text x.state) same ∙ ap (λ t. answers (r.told ++ t) (step_of at.here).state) step.text)
       (λ on. step.after);
 }
 
 -- all steps were taken
-pub ran : (old now : Smmu) (before after : List ℕ) (count left : ℕ) → left ≡ 0 → Running old now before after count left → Acts (λ wanting. step_effect count) old now before after true
+pub ran : (old now : Smmu) (before after : List ℕ) (count left : ℕ) → left ≡ 0 → Running old now before after count left → Acts Stands (λ wanting. step_effect count) old now before after true
 unfolding step_effect steps_of
 ran old now before after count left none r = record {
   answer = r.told;
@@ -88,7 +90,7 @@ ran old now before after count left none r = record {
   produces = λ state stands.
       let at = r.reached state stands in
       let same : steps_of count state ≡ ahead r.told (steps_of 0 at.here) = at.same ∙ ap (λ n. ahead r.told (steps_of n at.here)) none in
-      produces_at (λ wanting. step_effect count state) (Some now) false (answers r.told at.here)
+      produces_at Stands (λ wanting. step_effect count state) (Some now) false (answers r.told at.here)
       (ap (λ (x : Step). answers x.text x.state) same ∙ ap (λ t. answers t at.here) (append-nil r.told))
       (λ on. at.stands);
 }

@@ -7,6 +7,4 @@ pub mod Holding
 pub mod World
 pub mod ReplayText
 pub mod Standing
-pub mod Giving
-pub mod GivingLaws
 pub mod Replaying

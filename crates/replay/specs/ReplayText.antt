@@ -6,9 +6,10 @@ use Rattle.cmdcodec.specs.declared.ill.Ill.{Ill}
 use Rattle.cmdcodec.specs.declared.command.Command.{Command}
 use Rattle.cmdcodec.specs.Words.{decoding}
 use Rattle.cmdcodec.specs.Text.{text_of}
-use Rattle.script.specs.Lines.{lines_of}
-use Rattle.script.specs.Outcome.{fault_line}
-use Rattle.script.specs.Answers.{Answer, with_text}
+use Rattle.script.specs.Answers.{Answer}
+use Rattle.script.specs.Effects.{Effect, answers, faults}
+use Rattle.script.specs.Kinds as kinds
+use Rattle.script.specs.Kinds.{Kind}
 use Rattle.script.specs.Texts.{ring_text}
 use Rattle.replay.specs.declared.request.Request.{Request}
 use Rattle.replay.specs.declared.request.Request.TheVariants as asks
@@ -32,19 +33,6 @@ pub record State : Type 0 where
   pub history : List Event
   pub removed : ℕ
 
--- what a line does
-pub record Effect : Type 0 where
-  pub text : List ℕ
-  pub state : Option State
-  pub goes_on : Bool
-
-abbrev pub answers : List ℕ → State → Effect
-answers text state = record { text = text; state = Some state; goes_on = true }
-
--- the run ends with a fault
-abbrev pub faults : ℕ → List ℕ → Option State → Effect
-faults number name state = record { text = fault_line number name; state = state; goes_on = false }
-
 abbrev pub refused : List ℕ → List ℕ
 refused name = codes "refused " ++ name ++ codes "\n"
 
@@ -53,7 +41,7 @@ refused name = codes "refused " ++ name ++ codes "\n"
 abbrev pub made : Shape → State
 made shape = record { world = empty_world shape; history = []; removed = 0 }
 
-abbrev pub ring_or_fault : ℕ → Shape → Option ShapeFault → Effect
+abbrev pub ring_or_fault : ℕ → Shape → Option ShapeFault → Effect State
 ring_or_fault number shape (Some fault) = faults number (fault_label fault) None
 ring_or_fault number shape None = answers (ring_text shape.log2) (made shape)
 
@@ -72,14 +60,14 @@ abbrev pub filled : State → Tag → ℕ → State
 filled state tag value = after_event state (Filled tag (record { value = value; born = length state.world.taken }))
 
 -- A tag that is held is filled anew. For another one there may be no room, or memory may be wanting.
-abbrev pub fill_of_held : Bool → State → Tag → ℕ → Option Filling → Effect
+abbrev pub fill_of_held : Bool → State → Tag → ℕ → Option Filling → Effect State
 fill_of_held wanting state tag value (Some old) = answers (replaced_text old) (filled state tag value)
 fill_of_held wanting state tag value None =
     if not (nat_lt (length (entries_of state.history)) state.world.shape.capacity) then answers (refused (codes "C1")) state
     else if wanting then answers (refused (codes "C3")) state
     else answers (codes "filled\n") (filled state tag value)
 
-unfoldable pub fill_effect : Bool → Tag → ℕ → State → Effect
+unfoldable pub fill_effect : Bool → Tag → ℕ → State → Effect State
 fill_effect wanting tag value state = fill_of_held wanting state tag value (entry_at state.history tag)
 
 -- ---- send
@@ -95,12 +83,12 @@ send_refusal world sender body = refusal_of (size_of world) (batches_by world se
 abbrev pub sent_text : ℕ → ℕ → List ℕ
 sent_text sender number = codes "sent " ++ decimal sender ++ codes " number " ++ decimal number ++ codes "\n"
 
-abbrev pub sent : State → ℕ → List Raw → Option Refusal → Effect
+abbrev pub sent : State → ℕ → List Raw → Option Refusal → Effect State
 sent state sender body (Some refusal) = answers (refused (label_of refusal)) state
 sent state sender body None =
     answers (sent_text sender (batches_by state.world sender + 1)) (record state { world = after_batch state.world sender body })
 
-unfoldable pub send_effect : ℕ → ℕ → List Raw → State → Effect
+unfoldable pub send_effect : ℕ → ℕ → List Raw → State → Effect State
 send_effect number sender body state =
     if nat_lt sender state.world.shape.senders then sent state sender body (send_refusal state.world sender body)
     else faults number (codes "no sender") (Some state)
@@ -148,7 +136,7 @@ unfoldable pub steps_of : ℕ → State → Step
 steps_of zero state = record { text = []; state = state; may_follow = true }
 steps_of (suc count) state = followed (step_of state) (steps_of count)
 
-unfoldable pub step_effect : ℕ → State → Effect
+unfoldable pub step_effect : ℕ → State → Effect State
 step_effect count state = answers (steps_of count state).text (steps_of count state).state
 
 -- ---- dump
@@ -182,13 +170,13 @@ dump_text state =
     ++ totals_text (length state.world.taken) (count_by is_sync state.world.taken) state.removed
     ++ flat_map entry_line (entries_of state.history) ++ codes "end\n"
 
-unfoldable pub dump_effect : State → Effect
+unfoldable pub dump_effect : State → Effect State
 dump_effect state = answers (dump_text state) state
 
 -- ---- lines
 
 -- what a request does once the ring is made
-unfoldable pub served : ℕ → Bool → Request → State → Effect
+unfoldable pub served : ℕ → Bool → Request → State → Effect State
 served number wanting asks.Nothing state = answers [] state
 served number wanting (asks.Ring shape) state = faults number (codes "second ring") (Some state)
 served number wanting (asks.Fill tag value) state = fill_effect wanting tag value state
@@ -197,7 +185,7 @@ served number wanting (asks.Step count) state = step_effect count state
 served number wanting asks.Dump state = dump_effect state
 
 -- what a request does before that
-unfoldable pub first_served : ℕ → Request → Effect
+unfoldable pub first_served : ℕ → Request → Effect State
 first_served number asks.Nothing = record { text = []; state = None; goes_on = true }
 first_served number (asks.Ring shape) = ring_or_fault number shape (shape_fault shape)
 first_served number (asks.Fill tag value) = faults number (codes "no ring") None
@@ -205,40 +193,10 @@ first_served number (asks.Send sender body) = faults number (codes "no ring") No
 first_served number (asks.Step count) = faults number (codes "no ring") None
 first_served number asks.Dump = faults number (codes "no ring") None
 
-unfoldable pub request_effect : ℕ → Bool → Request → Option State → Effect
-request_effect number wanting request None = first_served number request
-request_effect number wanting request (Some state) = served number wanting request state
-
-abbrev pub asked_effect : ℕ → Bool → Option Request → Option State → Effect
-asked_effect number wanting None state = faults number (codes "bad line") state
-asked_effect number wanting (Some request) state = request_effect number wanting request state
-
--- what the line of this number does
-unfoldable pub line_effect : ℕ → Bool → List ℕ → Option State → Effect
-line_effect number wanting line state =
-    if nat_lt 4096 (length line) then faults number (codes "long line") state
-    else asked_effect number wanting (request_of line) state
-
-abbrev pub after_effect : Effect → (Option State → Answer) → Answer
-after_effect effect rest =
-    if effect.goes_on then with_text effect.text (rest effect.state) else record { text = effect.text; is_good = false }
-
--- whether memory is wanting at the first of some lines: a choice that says nothing of a line is no
-abbrev pub first_choice : List Bool → Bool
-first_choice [] = false
-first_choice (wanting ∷ choice) = wanting
-
-abbrev pub later_choice : List Bool → List Bool
-later_choice [] = []
-later_choice (wanting ∷ choice) = choice
-
--- The answer to lines, the first of which has this number. `choice` says at which lines memory is
--- wanting for a fill of a new tag that there is room for.
-unfoldable pub answer_from : ℕ → List Bool → Option State → List (List ℕ) → Answer
-answer_from number choice state [] = record { text = []; is_good = true }
-answer_from number choice state (line ∷ lines) =
-    after_effect (line_effect number (first_choice choice) line state) (λ left. answer_from (number + 1) (later_choice choice) left lines)
+-- Memory may be wanting for a fill of a new tag that there is room for.
+abbrev pub replays : Kind
+replays = record { State = State; Request = Request; request_of = request_of; first_served = first_served; served = served }
 
 -- The answer to a script. Where memory is never wanting the choice is [].
 abbrev pub answer_to : List Bool → List ℕ → Answer
-answer_to choice script = answer_from 1 choice None (lines_of script)
+answer_to choice script = kinds.answer_to replays choice script

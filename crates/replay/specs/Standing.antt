@@ -1,10 +1,10 @@
 -- When what the program keeps stands for a state of the definition, and what its parts do to it.
-use Rattle.std.specs.Prelude.{◌≡◌, ℕ, ◌<◌, ◌^◌, List, ◌++◌, Bool, true, Option, Some, None, length, get_or, count_by}
+use Rattle.std.specs.Prelude.{◌≡◌, ℕ, ◌<◌, ◌^◌, List, ◌++◌, Bool, length, get_or, count_by}
 use Rattle.replay.specs.declared.smmu.Smmu.{Smmu}
 use Rattle.cmdcodec.specs.Opcodes.{is_sync}
 use Rattle.replay.specs.History.{entries_of}
 use Rattle.replay.specs.World.{reserved, index_of, batches_by}
-use Rattle.replay.specs.ReplayText.{State, Effect, Step}
+use Rattle.replay.specs.ReplayText.{State, Step}
 
 pub record Stands (smmu : Smmu) (state : State) : Type 0 where
   pub shape : state.world.shape ≡ smmu.shape
@@ -19,32 +19,6 @@ pub record Stands (smmu : Smmu) (state : State) : Type 0 where
   pub taken : smmu.counts.taken ≡ length state.world.taken
   pub syncs : smmu.counts.syncs ≡ count_by is_sync state.world.taken
   pub removed : smmu.counts.removed ≡ state.removed
-
--- The same, before the ring is made too.
-abbrev pub StandsAt : Option Smmu → Option State → Type 0
-StandsAt None None = Unit {0}
-StandsAt None (Some state) = ⊥
-StandsAt (Some smmu) None = ⊥
-StandsAt (Some smmu) (Some state) = Stands smmu state
-
--- An effect has this text and goes on so, memory being wanting or not, and `new` stands for the state after it.
-pub record Produces (effect : Bool → Effect) (new : Option Smmu) (answer : List ℕ) (goes_on : Bool) : Type 0 where
-  pub wanting : Bool
-  pub text : (effect wanting).text ≡ answer
-  pub ending : (effect wanting).goes_on ≡ goes_on
-  pub after : goes_on ≡ true → StandsAt new (effect wanting).state
-
--- What was appended is the text of the effect, and so on, at each state that `old` stands for.
-pub record Acts (effect : Bool → State → Effect) (old new : Smmu) (before after : List ℕ) (goes_on : Bool) : Type 0 where
-  pub answer : List ℕ
-  pub text : after ≡ before ++ answer
-  pub produces : (state : State) → Stands old state → Produces (λ wanting. effect wanting state) (Some new) answer goes_on
-
--- The same, before the ring is made too.
-pub record ActsAt (effect : Bool → Option State → Effect) (old new : Option Smmu) (before after : List ℕ) (goes_on : Bool) : Type 0 where
-  pub answer : List ℕ
-  pub text : after ≡ before ++ answer
-  pub produces : (state : Option State) → StandsAt old state → Produces (λ wanting. effect wanting state) new answer goes_on
 
 -- A step has this text, may be followed or not, and `new` stands for the state after it.
 pub record Stepped (step : Step) (new : Smmu) (answer : List ℕ) (may_follow : Bool) : Type 0 where

@@ -1,8 +1,10 @@
 //! The lines of a replay, one after another.
 ghost use Rattle.std.specs.Prelude.{◌≡◌, ◌≤◌, IfOk, None, is_some, length, string_bytes};
+ghost use Rattle.script.specs.Kinds.{request_effect, line_effect};
+ghost use Rattle.script.specs.Standing.{ActsAt};
 ghost use Rattle.replay.specs.Shapes.{shape_fault};
-ghost use Rattle.replay.specs.ReplayText.{ring_or_fault, first_served, request_effect, line_effect};
-ghost use Rattle.replay.specs.Standing.{ActsAt};
+ghost use Rattle.replay.specs.ReplayText.{ring_or_fault, first_served, replays};
+ghost use Rattle.replay.specs.Standing.{Stands};
 
 use crate::parse::parse;
 use crate::request::Request;
@@ -26,7 +28,7 @@ fn first_ring(
     shape: Shape,
     reply: &mut String,
 ) -> Result<Option<Smmu>, AllocError>
-    ensures { IfOk result (λ smmu. ActsAt (λ wanting state. ring_or_fault number shape (shape_fault shape)) None smmu (string_bytes reply.old) (string_bytes reply.new) (is_some smmu)) }
+    ensures { IfOk result (λ smmu. ActsAt Stands (λ wanting state. ring_or_fault number shape (shape_fault shape)) None smmu (string_bytes reply.old) (string_bytes reply.new) (is_some smmu)) }
 {
     if let Some(fault) = shape_fault(&shape) {
         say_fault(number, fault.label(), reply)?;
@@ -52,7 +54,7 @@ impl Replay {
         reply: &mut String,
     ) -> Result<bool, AllocError>
         requires { self.old.smmu ≡ None }
-        ensures { IfOk result (λ goes_on. ActsAt (λ wanting state. first_served number request.now) None self.new.smmu (string_bytes reply.old) (string_bytes reply.new) goes_on) }
+        ensures { IfOk result (λ goes_on. ActsAt Stands (λ wanting state. first_served number request.now) None self.new.smmu (string_bytes reply.old) (string_bytes reply.new) goes_on) }
     {
         match request {
             Request::Nothing => Ok(true),
@@ -75,7 +77,7 @@ impl Replay {
         request: &Request,
         reply: &mut String,
     ) -> Result<bool, AllocError>
-        ensures { IfOk result (λ goes_on. ActsAt (λ wanting state. request_effect number wanting request.now state) self.old.smmu self.new.smmu (string_bytes reply.old) (string_bytes reply.new) goes_on) }
+        ensures { IfOk result (λ goes_on. ActsAt Stands (λ wanting state. request_effect replays number wanting request.now state) self.old.smmu self.new.smmu (string_bytes reply.old) (string_bytes reply.new) goes_on) }
     {
         match &mut self.smmu {
             Some(smmu) => smmu.serve(number, request, reply),
@@ -90,7 +92,7 @@ impl Replay {
         reply: &mut String,
     ) -> Result<bool, AllocError>
         requires { length line.now ≤ 4096 }
-        ensures { IfOk result (λ goes_on. ActsAt (λ wanting state. line_effect number wanting line.now state) self.old.smmu self.new.smmu (string_bytes reply.old) (string_bytes reply.new) goes_on) }
+        ensures { IfOk result (λ goes_on. ActsAt Stands (λ wanting state. line_effect replays number wanting line.now state) self.old.smmu self.new.smmu (string_bytes reply.old) (string_bytes reply.new) goes_on) }
     {
         match parse(self.alloc, line)? {
             Some(request) => self.serve_request(number, &request, reply),
@@ -103,18 +105,18 @@ impl Replay {
 }
 
 impl Interpreter for Replay {
-    ghost use Rattle.replay.specs.Giving.{MayGive};
-    ghost use Rattle.replay.specs.GivingLaws as laws;
+    ghost use Rattle.script.specs.Giving.{MayGive};
+    ghost use Rattle.script.specs.GivingLaws as laws;
 
-    ghost gives = { λ replay number lines outcome. MayGive replay.smmu number lines outcome };
+    ghost gives = { λ replay number lines outcome. MayGive replays Stands replay.smmu number lines outcome };
 
-    ghost nothing_left = { λ replay n. laws.nothing_left replay.smmu n };
+    ghost nothing_left = { λ replay n. laws.nothing_left replays Stands replay.smmu n };
 
-    ghost long_line = { λ replay n line lines long. laws.long_line replay.smmu n line lines long };
+    ghost long_line = { λ replay n line lines long. laws.long_line replays Stands replay.smmu n line lines long };
 
-    ghost begins = { λ replay n lines. laws.begins replay.smmu n lines };
+    ghost begins = { λ replay n lines. laws.begins replays Stands replay.smmu n lines };
 
-    ghost cut = { λ replay n lines outcome front rest may split. laws.cut replay.smmu n lines outcome front rest may split };
+    ghost cut = { λ replay n lines outcome front rest may split. laws.cut replays Stands replay.smmu n lines outcome front rest may split };
 
     fn serve_line(
         &mut self,

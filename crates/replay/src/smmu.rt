@@ -26,7 +26,8 @@ pub(crate) struct Smmu {
 impl Smmu {
     ghost use Rattle.replay.specs.Shapes.{shape_fault};
     ghost use Rattle.replay.specs.ReplayText.{made, fill_effect, send_effect, step_of, step_effect, dump_effect, served};
-    ghost use Rattle.replay.specs.Standing.{Stands, Acts, Steps};
+    ghost use Rattle.script.specs.Standing.{Acts};
+    ghost use Rattle.replay.specs.Standing.{Stands, Steps};
 
     pub(crate) fn new(alloc: Global, shape: Shape) -> Result<Smmu, AllocError>
         requires { shape_fault shape ≡ None }
@@ -48,7 +49,7 @@ impl Smmu {
         value: u64,
         reply: &mut String,
     ) -> Result<(), AllocError>
-        ensures { OnOk result (Acts (λ wanting. fill_effect wanting tag value) self.old self.new (string_bytes reply.old) (string_bytes reply.new) true) }
+        ensures { OnOk result (Acts Stands (λ wanting. fill_effect wanting tag value) self.old self.new (string_bytes reply.old) (string_bytes reply.new) true) }
     {
         let born = self.counts.taken;
         match self.entries.fill(tag, Filling { value, born }) {
@@ -67,7 +68,7 @@ impl Smmu {
         body: &[Raw],
         reply: &mut String,
     ) -> Result<bool, AllocError>
-        ensures { IfOk result (λ goes_on. Acts (λ wanting. send_effect number sender body.now) self.old self.new (string_bytes reply.old) (string_bytes reply.new) goes_on) }
+        ensures { IfOk result (λ goes_on. Acts Stands (λ wanting. send_effect number sender body.now) self.old self.new (string_bytes reply.old) (string_bytes reply.new) goes_on) }
     {
         if sender as usize >= self.queue.sent.len() {
             say_fault(number, "no sender", reply)?;
@@ -106,7 +107,7 @@ impl Smmu {
 
     /// Takes that many commands, fewer where a step may not be followed.
     pub(crate) fn steps(&mut self, count: u64, reply: &mut String) -> Result<(), AllocError>
-        ensures { OnOk result (Acts (λ wanting. step_effect count) self.old self.new (string_bytes reply.old) (string_bytes reply.new) true) }
+        ensures { OnOk result (Acts Stands (λ wanting. step_effect count) self.old self.new (string_bytes reply.old) (string_bytes reply.new) true) }
     {
         'steps: for _ in 0..count {
             if !self.step(reply)? {
@@ -118,7 +119,7 @@ impl Smmu {
 
     /// Tells the registers, the totals and the entries.
     pub(crate) fn dump(&self, reply: &mut String) -> Result<(), AllocError>
-        ensures { OnOk result (Acts (λ wanting. dump_effect) self.now self.now (string_bytes reply.old) (string_bytes reply.new) true) }
+        ensures { OnOk result (Acts Stands (λ wanting. dump_effect) self.now self.now (string_bytes reply.old) (string_bytes reply.new) true) }
     {
         say_registers(self.queue.prod, self.queue.cons, reply)?;
         say_totals(&self.counts, reply)?;
@@ -133,7 +134,7 @@ impl Smmu {
         request: &Request,
         reply: &mut String,
     ) -> Result<bool, AllocError>
-        ensures { IfOk result (λ goes_on. Acts (λ wanting. served number wanting request.now) self.old self.new (string_bytes reply.old) (string_bytes reply.new) goes_on) }
+        ensures { IfOk result (λ goes_on. Acts Stands (λ wanting. served number wanting request.now) self.old self.new (string_bytes reply.old) (string_bytes reply.new) goes_on) }
     {
         match request {
             Request::Nothing => Ok(true),

@@ -1,5 +1,3 @@
 pub mod BodyLemmas
 pub mod FlagLemmas
-pub mod GivingLemmas
 pub mod ServedLemmas
-pub mod ComesLemmas

@@ -2,6 +2,4 @@ pub mod Lines
 pub mod Texts
 pub mod ScheduleText
 pub mod Standing
-pub mod Giving
-pub mod GivingLaws
 pub mod Scheduling

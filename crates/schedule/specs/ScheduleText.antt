@@ -1,8 +1,9 @@
 -- The text that a schedule is answered with.
-use Rattle.std.specs.Prelude.{ℕ, ◌+◌, nat_lt, List, [], ◌∷◌, Bool, true, false, Option, Some, None, length, codes, if◌then◌else◌}
-use Rattle.script.specs.Lines.{lines_of}
-use Rattle.script.specs.Outcome.{fault_line}
-use Rattle.script.specs.Answers.{Answer, with_text}
+use Rattle.std.specs.Prelude.{ℕ, List, [], ◌∷◌, Bool, true, Option, Some, None, codes}
+use Rattle.script.specs.Answers.{Answer}
+use Rattle.script.specs.Effects.{Effect, answers, faults}
+use Rattle.script.specs.Kinds as kinds
+use Rattle.script.specs.Kinds.{Kind}
 use Rattle.script.specs.Texts.{ring_text}
 use Rattle.ringcore.specs.declared.machine.core_fault.CoreFault.{CoreFault}
 use Rattle.ringcore.specs.declared.machine.step.Step.{Step}
@@ -23,19 +24,6 @@ pub record State : Type 0 where
   pub ring : Ring
   pub run : Run
 
--- what a line does
-pub record Effect : Type 0 where
-  pub text : List ℕ
-  pub state : Option State
-  pub goes_on : Bool
-
-abbrev pub answers : List ℕ → State → Effect
-answers text state = record { text = text; state = Some state; goes_on = true }
-
--- the run ends with a fault
-abbrev pub faults : ℕ → List ℕ → Option State → Effect
-faults number name state = record { text = fault_line number name; state = state; goes_on = false }
-
 -- ---- ring
 
 -- a ring that nothing happened to
@@ -43,7 +31,7 @@ abbrev pub made : ℕ → ℕ → State
 made log2 senders = record { ring = ring_with log2 senders; run = [] }
 
 -- by which of its numbers is out of range, if one is
-abbrev pub ring_or_fault : ℕ → ℕ → ℕ → Option CoreFault → Effect
+abbrev pub ring_or_fault : ℕ → ℕ → ℕ → Option CoreFault → Effect State
 ring_or_fault number log2 senders (Some fault) = faults number (core_label fault) None
 ring_or_fault number log2 senders None = answers (ring_text log2) (made log2 senders)
 
@@ -53,51 +41,38 @@ ring_or_fault number log2 senders None = answers (ring_text log2) (made log2 sen
 abbrev pub taken : State → Step → State
 taken state step = record { ring = state.ring; run = event_of state.ring state.run step ∷ state.run }
 
-abbrev pub step_or_fault : ℕ → Step → Bool → State → Option StepFault → Effect
+abbrev pub step_or_fault : ℕ → Step → Bool → State → Option StepFault → Effect State
 step_or_fault number step is_counted state (Some fault) = faults number (label_of fault) (Some state)
 step_or_fault number step is_counted state None =
     answers (answer_line step is_counted (seen_by state.ring state.run step)) (taken state step)
 
-unfoldable pub step_effect : ℕ → Step → Bool → State → Effect
+unfoldable pub step_effect : ℕ → Step → Bool → State → Effect State
 step_effect number step is_counted state = step_or_fault number step is_counted state (fault_of state.ring state.run step)
 
 -- ---- lines
 
 -- what a request does once the ring is made
-unfoldable pub served : ℕ → Request → State → Effect
+unfoldable pub served : ℕ → Request → State → Effect State
 served number asks.Nothing state = answers [] state
 served number (asks.Ring log2 senders) state = faults number (codes "second ring") (Some state)
 served number (asks.Step step is_counted) state = step_effect number step is_counted state
 
 -- what a request does before that
-unfoldable pub first_served : ℕ → Request → Effect
+unfoldable pub first_served : ℕ → Request → Effect State
 first_served number asks.Nothing = record { text = []; state = None; goes_on = true }
 first_served number (asks.Ring log2 senders) = ring_or_fault number log2 senders (number_fault log2 senders)
 first_served number (asks.Step step is_counted) = faults number (codes "no ring") None
 
-unfoldable pub request_effect : ℕ → Request → Option State → Effect
-request_effect number request None = first_served number request
-request_effect number request (Some state) = served number request state
-
-abbrev pub asked_effect : ℕ → Option Request → Option State → Effect
-asked_effect number None state = faults number (codes "bad line") state
-asked_effect number (Some request) state = request_effect number request state
-
--- what the line of this number does
-unfoldable pub line_effect : ℕ → List ℕ → Option State → Effect
-line_effect number line state =
-    if nat_lt 4096 (length line) then faults number (codes "long line") state
-    else asked_effect number (request_of line) state
-
-abbrev pub after_effect : Effect → (Option State → Answer) → Answer
-after_effect effect rest =
-    if effect.goes_on then with_text effect.text (rest effect.state) else record { text = effect.text; is_good = false }
-
--- the answer to lines, the first of which has this number
-unfoldable pub answer_from : ℕ → Option State → List (List ℕ) → Answer
-answer_from number state [] = record { text = []; is_good = true }
-answer_from number state (line ∷ lines) = after_effect (line_effect number line state) (λ left. answer_from (number + 1) left lines)
+-- A schedule's requests don't look at whether memory is wanting, so that a script has one answer.
+abbrev pub schedules : Kind
+schedules = record {
+  State = State;
+  Request = Request;
+  request_of = request_of;
+  first_served = first_served;
+  served = λ number wanting. served number;
+}
 
 -- the answer to a script
 abbrev pub answer_to : List ℕ → Answer
-answer_to script = answer_from 1 None (lines_of script)
+answer_to script = kinds.answer_to schedules [] script

@@ -1,8 +1,10 @@
 //! The lines of a schedule, one after another.
 ghost use Rattle.std.specs.Prelude.{◌≡◌, ◌≤◌, IfOk, None, is_some, length, string_bytes};
 ghost use Rattle.ringcore.specs.machine.Core.{number_fault};
-ghost use Rattle.schedule.specs.ScheduleText.{ring_or_fault, step_effect, served, first_served, request_effect, line_effect};
-ghost use Rattle.schedule.specs.Standing.{Acts, ActsAt};
+ghost use Rattle.script.specs.Kinds.{request_effect, line_effect};
+ghost use Rattle.script.specs.Standing.{Acts, ActsAt};
+ghost use Rattle.schedule.specs.ScheduleText.{ring_or_fault, step_effect, served, first_served, schedules};
+ghost use Rattle.schedule.specs.Standing.{Stands};
 
 use crate::parsing::parse;
 use crate::request::Request;
@@ -27,7 +29,7 @@ fn first_ring(
     senders: u32,
     reply: &mut String,
 ) -> Result<Option<Core>, AllocError>
-    ensures { IfOk result (λ core. ActsAt (λ state. ring_or_fault number log2 senders (number_fault log2 senders)) None core (string_bytes reply.old) (string_bytes reply.new) (is_some core)) }
+    ensures { IfOk result (λ core. ActsAt Stands (λ wanting state. ring_or_fault number log2 senders (number_fault log2 senders)) None core (string_bytes reply.old) (string_bytes reply.new) (is_some core)) }
 {
     match Core::new(alloc, log2, senders) {
         Ok(core) => {
@@ -54,7 +56,7 @@ fn take_step(
     is_counted: bool,
     reply: &mut String,
 ) -> Result<bool, AllocError>
-    ensures { IfOk result (λ goes_on. Acts (step_effect number step is_counted) core.old core.new (string_bytes reply.old) (string_bytes reply.new) goes_on) }
+    ensures { IfOk result (λ goes_on. Acts Stands (λ wanting. step_effect number step is_counted) core.old core.new (string_bytes reply.old) (string_bytes reply.new) goes_on) }
 {
     let name = word_name(&step);
     let flags = flags_of(&step);
@@ -77,7 +79,7 @@ fn serve_made(
     request: Request,
     reply: &mut String,
 ) -> Result<bool, AllocError>
-    ensures { IfOk result (λ goes_on. Acts (served number request) core.old core.new (string_bytes reply.old) (string_bytes reply.new) goes_on) }
+    ensures { IfOk result (λ goes_on. Acts Stands (λ wanting. served number request) core.old core.new (string_bytes reply.old) (string_bytes reply.new) goes_on) }
 {
     match request {
         Request::Nothing => Ok(true),
@@ -104,7 +106,7 @@ impl Schedule {
         reply: &mut String,
     ) -> Result<bool, AllocError>
         requires { self.old.core ≡ None }
-        ensures { IfOk result (λ goes_on. ActsAt (λ state. first_served number request) None self.new.core (string_bytes reply.old) (string_bytes reply.new) goes_on) }
+        ensures { IfOk result (λ goes_on. ActsAt Stands (λ wanting state. first_served number request) None self.new.core (string_bytes reply.old) (string_bytes reply.new) goes_on) }
     {
         match request {
             Request::Nothing => Ok(true),
@@ -127,7 +129,7 @@ impl Schedule {
         request: Request,
         reply: &mut String,
     ) -> Result<bool, AllocError>
-        ensures { IfOk result (λ goes_on. ActsAt (request_effect number request) self.old.core self.new.core (string_bytes reply.old) (string_bytes reply.new) goes_on) }
+        ensures { IfOk result (λ goes_on. ActsAt Stands (λ wanting state. request_effect schedules number wanting request state) self.old.core self.new.core (string_bytes reply.old) (string_bytes reply.new) goes_on) }
     {
         match &mut self.core {
             Some(core) => serve_made(core, number, request, reply),
@@ -142,7 +144,7 @@ impl Schedule {
         reply: &mut String,
     ) -> Result<bool, AllocError>
         requires { length line.now ≤ 4096 }
-        ensures { IfOk result (λ goes_on. ActsAt (line_effect number line.now) self.old.core self.new.core (string_bytes reply.old) (string_bytes reply.new) goes_on) }
+        ensures { IfOk result (λ goes_on. ActsAt Stands (λ wanting state. line_effect schedules number wanting line.now state) self.old.core self.new.core (string_bytes reply.old) (string_bytes reply.new) goes_on) }
     {
         match parse(line) {
             Some(request) => self.serve_request(number, request, reply),
@@ -155,18 +157,18 @@ impl Schedule {
 }
 
 impl Interpreter for Schedule {
-    ghost use Rattle.schedule.specs.Giving.{Gives};
-    ghost use Rattle.schedule.specs.GivingLaws as laws;
+    ghost use Rattle.script.specs.Giving.{MayGive};
+    ghost use Rattle.script.specs.GivingLaws as laws;
 
-    ghost gives = { λ schedule number lines outcome. Gives schedule.core number lines outcome };
+    ghost gives = { λ schedule number lines outcome. MayGive schedules Stands schedule.core number lines outcome };
 
-    ghost nothing_left = { λ schedule n. laws.nothing_left schedule.core n };
+    ghost nothing_left = { λ schedule n. laws.nothing_left schedules Stands schedule.core n };
 
-    ghost long_line = { λ schedule n line lines long. laws.long_line schedule.core n line lines long };
+    ghost long_line = { λ schedule n line lines long. laws.long_line schedules Stands schedule.core n line lines long };
 
-    ghost begins = { λ schedule n lines. laws.begins schedule.core n lines };
+    ghost begins = { λ schedule n lines. laws.begins schedules Stands schedule.core n lines };
 
-    ghost cut = { λ schedule n lines outcome front rest gives split. laws.cut schedule.core n lines outcome front rest gives split };
+    ghost cut = { λ schedule n lines outcome front rest may split. laws.cut schedules Stands schedule.core n lines outcome front rest may split };
 
     fn serve_line(
         &mut self,

@@ -9,3 +9,7 @@ pub mod Pauses
 pub mod TakenBytes
 pub mod MayLemmas
 pub mod AnswerLemmas
+pub mod EffectLemmas
+pub mod RequestLemmas
+pub mod GivingLemmas
+pub mod ServesLemmas

@@ -8,3 +8,9 @@ pub mod Fields
 pub mod Texts
 pub mod Answers
 pub mod Statuses
+pub mod Effects
+pub mod Kinds
+pub mod Standing
+pub mod Giving
+pub mod GivingLaws
+pub mod Serves

@@ -1,17 +1,17 @@
-use Rattle.std.proofs.lemmas.Result.{IfOk-weaker, IfErr-weaker, on_err_weaker}
-use Rattle.script.proofs.MayLemmas.{answer_comes, memory_comes, beginning_comes, lines_come}
-use Rattle.replay.specs.Giving.{MayAnswer, MayGive}
-use Rattle.replay.proofs.ComesLemmas.{comes}
+use Rattle.script.specs.Giving.{MayGive, MayAnswer}
+use Rattle.script.proofs.GivingLemmas.{may_come}
+use Rattle.script.proofs.ServesLemmas.{serves_comes}
+use Rattle.replay.specs.ReplayText.{replays}
+use Rattle.replay.specs.Standing.{Stands}
 use Rattle.replay.proofs.serving.serve.Goals as goal
 
-pub returns-clause-answer : goal.returns-clause-answer
-returns-clause-answer g c = IfOk-weaker c.serve.result _ _ (λ ending w. answer_comes (MayGive c.new-replay.result.smmu) MayAnswer (comes c.new-replay.result.smmu c.new-replay.ensures) _ _ _ ending w) c.serve.ensures.answer
-
-pub returns-clause-memory : goal.returns-clause-memory
-returns-clause-memory g c = IfErr-weaker c.serve.result _ _ (λ e w is. memory_comes (MayGive c.new-replay.result.smmu) MayAnswer (comes c.new-replay.result.smmu c.new-replay.ensures) _ _ _ (w is)) c.serve.ensures.memory
-
-pub returns-clause-beginning : goal.returns-clause-beginning
-returns-clause-beginning g c = on_err_weaker c.serve.result (λ w. beginning_comes (MayGive c.new-replay.result.smmu) MayAnswer (comes c.new-replay.result.smmu c.new-replay.ensures) _ _ _ _ w) c.serve.ensures.beginning
-
-pub returns-clause-read : goal.returns-clause-read
-returns-clause-read g c = IfErr-weaker c.serve.result _ _ (λ e w is. lines_come (MayGive c.new-replay.result.smmu) MayAnswer (comes c.new-replay.result.smmu c.new-replay.ensures) _ _ _ _ (w is)) c.serve.ensures.read
+pub returns : goal.returns
+returns g c =
+    serves_comes (MayGive replays Stands c.new-replay.result.smmu) (MayAnswer replays) (may_come replays Stands c.new-replay.result.smmu c.new-replay.ensures) _ _ _ _ _ (record {
+      answer = c.serve.ensures.answer;
+      end = c.serve.ensures.end;
+      memory = c.serve.ensures.memory;
+      beginning = c.serve.ensures.beginning;
+      read = c.serve.ensures.read;
+      endless = c.serve.ensures.endless;
+    })

@@ -1,7 +1,9 @@
 use Rattle.std.proofs.Common.{string_bytes}
 use Rattle.std.proofs.lemmas.Result.{IfOk-weaker}
 use Rattle.schedule.specs.ScheduleText.{served, step_effect}
-use Rattle.schedule.proofs.ServedLemmas.{acts_same, served_step, served_nothing, served_ring}
+use Rattle.script.proofs.EffectLemmas.{acts_same}
+use Rattle.schedule.specs.Standing.{Stands}
+use Rattle.schedule.proofs.ServedLemmas.{served_step, served_nothing, served_ring}
 use Rattle.schedule.proofs.interpreter.serve_made.Goals as goal
 
 pub returns-in-Nothing : goal.returns-in-Nothing
@@ -14,6 +16,6 @@ returns-in_ok-say_fault-in-Ring c =
 pub returns-in-Step : goal.returns-in-Step
 returns-in-Step c =
     IfOk-weaker c.take_step.result _ _ (λ goes_on acts.
-    acts_same (served c.args.number c.args.request) (step_effect c.args.number c.in-Step.step c.in-Step.is_counted) c.args.core.now c.take_step.new.core
+    acts_same Stands (λ wanting. served c.args.number c.args.request) (λ wanting. step_effect c.args.number c.in-Step.step c.in-Step.is_counted) c.args.core.now c.take_step.new.core
     (string_bytes c.args.reply.now) (string_bytes c.take_step.new.reply) goes_on
-    (served_step c.args.number c.args.request c.in-Step.step c.in-Step.is_counted c.in-Step.is) acts) c.take_step.ensures
+    (λ wanting. served_step c.args.number c.args.request c.in-Step.step c.in-Step.is_counted c.in-Step.is) acts) c.take_step.ensures

@@ -1,17 +1,22 @@
-use Rattle.std.proofs.lemmas.Result.{IfOk-weaker, IfErr-weaker, on_err_weaker}
-use Rattle.script.proofs.MayLemmas.{answer_comes, memory_comes, beginning_comes, lines_come}
-use Rattle.schedule.specs.Giving.{Answers, Gives}
-use Rattle.schedule.proofs.ComesLemmas.{comes}
+use Rattle.std.proofs.Common.{refl}
+use Rattle.script.specs.Kinds.{HasNoChoice}
+use Rattle.script.specs.Giving.{MayGive, Answers}
+use Rattle.script.proofs.GivingLemmas.{comes}
+use Rattle.script.proofs.ServesLemmas.{serves_comes}
+use Rattle.schedule.specs.ScheduleText.{schedules}
+use Rattle.schedule.specs.Standing.{Stands}
 use Rattle.schedule.proofs.serving.serve.Goals as goal
 
-pub returns-clause-answer : goal.returns-clause-answer
-returns-clause-answer g c = IfOk-weaker c.serve.result _ _ (λ ending w. answer_comes (Gives c.new-schedule.result.core) Answers (comes c.new-schedule.result.core c.new-schedule.ensures) _ _ _ ending w) c.serve.ensures.answer
+no_choice : HasNoChoice schedules
+no_choice number wanting request state = refl
 
-pub returns-clause-memory : goal.returns-clause-memory
-returns-clause-memory g c = IfErr-weaker c.serve.result _ _ (λ e w is. memory_comes (Gives c.new-schedule.result.core) Answers (comes c.new-schedule.result.core c.new-schedule.ensures) _ _ _ (w is)) c.serve.ensures.memory
-
-pub returns-clause-beginning : goal.returns-clause-beginning
-returns-clause-beginning g c = on_err_weaker c.serve.result (λ w. beginning_comes (Gives c.new-schedule.result.core) Answers (comes c.new-schedule.result.core c.new-schedule.ensures) _ _ _ _ w) c.serve.ensures.beginning
-
-pub returns-clause-read : goal.returns-clause-read
-returns-clause-read g c = IfErr-weaker c.serve.result _ _ (λ e w is. lines_come (Gives c.new-schedule.result.core) Answers (comes c.new-schedule.result.core c.new-schedule.ensures) _ _ _ _ (w is)) c.serve.ensures.read
+pub returns : goal.returns
+returns g c =
+    serves_comes (MayGive schedules Stands c.new-schedule.result.core) (Answers schedules) (comes schedules Stands no_choice c.new-schedule.result.core c.new-schedule.ensures) _ _ _ _ _ (record {
+      answer = c.serve.ensures.answer;
+      end = c.serve.ensures.end;
+      memory = c.serve.ensures.memory;
+      beginning = c.serve.ensures.beginning;
+      read = c.serve.ensures.read;
+      endless = c.serve.ensures.endless;
+    })

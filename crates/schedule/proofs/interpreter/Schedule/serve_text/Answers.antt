@@ -1,14 +1,16 @@
 use Rattle.std.proofs.Common.{string_bytes, sym, ◌∙◌}
 use Rattle.std.proofs.lemmas.Result.{IfOk-weaker}
-use Rattle.schedule.proofs.ServedLemmas.{line_acts, bad_line}
+use Rattle.script.proofs.RequestLemmas.{line_acts, bad_line}
+use Rattle.schedule.specs.ScheduleText.{schedules}
+use Rattle.schedule.specs.Standing.{Stands}
 use Rattle.schedule.proofs.interpreter.Schedule.serve_text.Goals as goal
 
 pub returns-in-Some : goal.returns-in-Some
 returns-in-Some c =
     IfOk-weaker c.serve_request.result _ _ (λ goes_on acts.
-    line_acts c.args.number c.args.line.now c.in-Some.request c.args.self.now.core c.serve_request.new.self.core (string_bytes c.args.reply.now) (string_bytes c.serve_request.new.reply) goes_on
+    line_acts schedules Stands c.args.number c.args.line.now c.in-Some.request c.args.self.now.core c.serve_request.new.self.core (string_bytes c.args.reply.now) (string_bytes c.serve_request.new.reply) goes_on
     c.requires (sym c.in-Some.is ∙ c.parse.ensures) acts) c.serve_request.ensures
 
 pub returns-in_ok-say_fault-in-None : goal.returns-in_ok-say_fault-in-None
 returns-in_ok-say_fault-in-None c =
-    bad_line c.args.number c.args.line.now c.args.self.now.core (string_bytes c.args.reply.now) (string_bytes c.say_fault.new.reply) c.requires (sym c.in-None.is ∙ c.parse.ensures) c.in_ok-say_fault-in-None.ensures
+    bad_line schedules Stands c.args.number c.args.line.now c.args.self.now.core (string_bytes c.args.reply.now) (string_bytes c.say_fault.new.reply) c.requires (sym c.in-None.is ∙ c.parse.ensures) c.in_ok-say_fault-in-None.ensures

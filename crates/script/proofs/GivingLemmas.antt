@@ -1,0 +1,88 @@
+-- From what a line does to what it and the lines after it may come to.
+use Rattle.std.proofs.Common.{◌≡◌, ℕ, ◌+◌, Bool, true, false, cond, List, [], ◌∷◌, ◌++◌, length, refl, ap, sym, ◌∙◌, Option, Some, None, subst, codes}
+use Rattle.std.specs.Prelude.{nat_lt}
+use Rattle.script.specs.Outcome.{Continues, Ends}
+use Rattle.script.specs.Answers.{Answer, with_text, EndsAs}
+use Rattle.script.specs.Effects.{Effect, faults}
+use Rattle.script.specs.Kinds.{Kind, HasNoChoice, request_effect, asked_effect, line_effect, after_effect, first_choice, later_choice, answer_from}
+use Rattle.script.specs.Standing.{StandsAt, ActsAt}
+use Rattle.script.specs.Giving.{MayAnswer, MayGive, Answers}
+use Rattle.script.proofs.AnswerLemmas.{ends_front}
+use Rattle.script.proofs.MayLemmas.{Implies}
+
+-- ---- the answer to a line and to those after it
+
+goes_on : {State : Type 0} (effect : Effect State) (rest : Option State → Answer) (text : List ℕ) → effect.text ≡ text → effect.goes_on ≡ true → after_effect effect rest ≡ with_text text (rest effect.state)
+goes_on effect rest text t on =
+    ap (λ b. cond b (with_text effect.text (rest effect.state)) (record { text = effect.text; is_good = false })) on ∙ ap (λ x. with_text x (rest effect.state)) t
+
+is_over : {State : Type 0} (effect : Effect State) (rest : Option State → Answer) (text : List ℕ) → effect.text ≡ text → effect.goes_on ≡ false
+    → after_effect effect rest ≡ record { text = text; is_good = false }
+is_over effect rest text t off =
+    ap (λ b. cond b (with_text effect.text (rest effect.state)) (record { text = effect.text; is_good = false })) off ∙ ap (λ x. record { text = x; is_good = false }) t
+
+-- ---- where no request looks at the choice
+
+asked_alike : (kind : Kind) → HasNoChoice kind → (number : ℕ) (wanting : Bool) (asked : Option kind.Request) (state : Option kind.State)
+    → asked_effect kind number wanting asked state ≡ asked_effect kind number false asked state
+unfolding request_effect
+asked_alike kind alike number wanting None state = refl
+asked_alike kind alike number wanting (Some request) None = refl
+asked_alike kind alike number wanting (Some request) (Some state) = alike number wanting request state
+
+line_alike : (kind : Kind) → HasNoChoice kind → (number : ℕ) (wanting : Bool) (line : List ℕ) (state : Option kind.State)
+    → line_effect kind number wanting line state ≡ line_effect kind number false line state
+unfolding line_effect
+line_alike kind alike number wanting line state =
+    ap (λ effect. cond (nat_lt 4096 (length line)) (faults number (codes "long line") state) effect) (asked_alike kind alike number wanting (kind.request_of line) state)
+
+-- every choice comes to the same answer
+pub one_answer : (kind : Kind) → HasNoChoice kind → (number : ℕ) (choice : List Bool) (state : Option kind.State) (lines : List (List ℕ))
+    → answer_from kind number choice state lines ≡ answer_from kind number [] state lines
+unfolding answer_from
+one_answer kind alike number choice state [] = refl
+one_answer kind alike number choice state (line ∷ lines) =
+    let effect = line_effect kind number false line state in
+    ap (λ e. after_effect e (λ left. answer_from kind (number + 1) (later_choice choice) left lines)) (line_alike kind alike number (first_choice choice) line state)
+    ∙ ap (λ a. cond effect.goes_on (with_text effect.text a) (record { text = effect.text; is_good = false })) (one_answer kind alike (number + 1) (later_choice choice) effect.state lines)
+
+-- ---- what is given
+
+module _ {Kept : Type 0} (kind : Kind) (Stands : Kept → kind.State → Type 0) where
+  pub continues : (old new : Option Kept) (number : ℕ) (line before after : List ℕ) → ActsAt Stands (λ wanting state. line_effect kind number wanting line state) old new before after true
+      → Continues (MayGive kind Stands old) (MayGive kind Stands new) number line before after
+  unfolding answer_from
+  continues old new number line before after acts = record {
+    answer = acts.answer;
+    text = acts.text;
+    rest = λ lines outcome may state stands.
+        let done = acts.produces state stands in
+        let effect = line_effect kind number done.wanting line state in
+        let later = may effect.state (done.after refl) in (
+          done.wanting ∷ later.0,
+          subst (λ (a : Answer). EndsAs a (acts.answer ++ outcome.text) outcome.ending)
+              (sym (goes_on effect (λ left. answer_from kind (number + 1) later.0 left lines) acts.answer done.text done.ending))
+              (ends_front acts.answer (answer_from kind (number + 1) later.0 effect.state lines) outcome.text outcome.ending later.1),
+        );
+  }
+
+  pub ends : (old new : Option Kept) (number : ℕ) (line before after : List ℕ) → ActsAt Stands (λ wanting state. line_effect kind number wanting line state) old new before after false
+      → Ends (MayGive kind Stands old) number line before after
+  unfolding answer_from
+  ends old new number line before after acts = record {
+    answer = acts.answer;
+    text = acts.text;
+    rest = λ lines state stands.
+        let done = acts.produces state stands in
+        (done.wanting ∷ [], is_over (line_effect kind number done.wanting line state) (λ left. answer_from kind (number + 1) [] left lines) acts.answer done.text done.ending);
+  }
+
+  -- What is given where no ring is made is what a script may come to.
+  pub may_come : (kept : Option Kept) → kept ≡ None → Implies (MayGive kind Stands kept) (MayAnswer kind)
+  may_come kept none number lines outcome may = may None (subst (λ m. StandsAt Stands m None) (sym none) tt)
+
+  -- And what it comes to, where no request looks at the choice.
+  pub comes : HasNoChoice kind → (kept : Option Kept) → kept ≡ None → Implies (MayGive kind Stands kept) (Answers kind)
+  comes alike kept none number lines outcome may =
+      let some = may_come kept none number lines outcome may in
+      subst (λ (a : Answer). EndsAs a outcome.text outcome.ending) (one_answer kind alike number some.0 None lines) some.1

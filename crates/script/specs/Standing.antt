@@ -1,0 +1,30 @@
+-- What the parts of a program do to what it keeps between two lines. `Stands` says when what is kept once
+-- the ring is made stands for a state of the definition.
+use Rattle.std.specs.Prelude.{◌≡◌, ℕ, List, ◌++◌, Bool, true, Option, Some, None}
+use Rattle.script.specs.Effects.{Effect}
+
+-- The same, before the ring is made too.
+abbrev pub StandsAt : {Kept State : Type 0} → (Kept → State → Type 0) → Option Kept → Option State → Type 0
+StandsAt Stands None None = Unit {0}
+StandsAt Stands None (Some state) = ⊥
+StandsAt Stands (Some kept) None = ⊥
+StandsAt Stands (Some kept) (Some state) = Stands kept state
+
+-- An effect has this text and goes on so, memory being wanting or not, and `new` stands for the state after it.
+pub record Produces {Kept State : Type 0} (Stands : Kept → State → Type 0) (effect : Bool → Effect State) (new : Option Kept) (answer : List ℕ) (goes_on : Bool) : Type 0 where
+  pub wanting : Bool
+  pub text : (effect wanting).text ≡ answer
+  pub ending : (effect wanting).goes_on ≡ goes_on
+  pub after : goes_on ≡ true → StandsAt Stands new (effect wanting).state
+
+-- What was appended is the text of the effect, and so on, at each state that `old` stands for.
+pub record Acts {Kept State : Type 0} (Stands : Kept → State → Type 0) (effect : Bool → State → Effect State) (old new : Kept) (before after : List ℕ) (goes_on : Bool) : Type 0 where
+  pub answer : List ℕ
+  pub text : after ≡ before ++ answer
+  pub produces : (state : State) → Stands old state → Produces Stands (λ wanting. effect wanting state) (Some new) answer goes_on
+
+-- The same, before the ring is made too.
+pub record ActsAt {Kept State : Type 0} (Stands : Kept → State → Type 0) (effect : Bool → Option State → Effect State) (old new : Option Kept) (before after : List ℕ) (goes_on : Bool) : Type 0 where
+  pub answer : List ℕ
+  pub text : after ≡ before ++ answer
+  pub produces : (state : Option State) → StandsAt Stands old state → Produces Stands (λ wanting. effect wanting state) new answer goes_on
