@@ -14,7 +14,7 @@ use Rattle.caches.specs.declared.key.Key.{Key}
 use Rattle.caches.specs.declared.key.Key.TheVariants.{Configuration, Machine, Hypervisor, Endpoint}
 use Rattle.caches.specs.declared.key.Owner.{Owner}
 use Rattle.caches.specs.declared.key.Owner.TheVariants.{Guest, Host, Device}
-use Rattle.caches.specs.Keys.{owner_of, page_of, span_of, least, IsOfStreams, IsOfMachines}
+use Rattle.caches.specs.Keys.{owner_of, page_of, span_of, least, IsOfStreams}
 use Rattle.caches.specs.contracts.key.KeyOrd.TheImpl as key_order
 use Rattle.caches.specs.contracts.key.KeyOrd.TheImpl.Laws as key_laws
 use Rattle.caches.specs.contracts.key.StageOrd.TheImpl as stage_order
@@ -94,14 +94,6 @@ key_exact (Endpoint v p n c) (Machine w q m d) e = let l : Greater ≡ Equal = e
 key_exact (Endpoint v p n c) (Hypervisor q m d) e = let l : Greater ≡ Equal = e in cc
 
 -- ---- numbers compared in turn
-pub cmp_less : (a b : ℕ) → a < b → nat_cmp a b ≡ Less
-cmp_less a b h =
-    elim (nat_cmp a b) as (λ r. r ≡ nat_cmp a b → r ≡ Less) [
-      | Less ↦ λ e. refl
-      | Equal ↦ λ e. let f : a ≡ b = ranked a b Equal e in absurd (omega arith)
-      | Greater ↦ λ e. let f : b < a = ranked a b Greater e in absurd (omega arith)
-    ] refl
-
 pub cmp_more : (a b : ℕ) → b < a → nat_cmp a b ≡ Greater
 cmp_more a b h =
     elim (nat_cmp a b) as (λ r. r ≡ nat_cmp a b → r ≡ Greater) [
@@ -174,12 +166,6 @@ in_span w page span (Endpoint v p n c) o a b =
     let e : Device v ≡ w = cc in
     subst (λ w. range_contains key_cmp (Included (least w page span)) (Excluded (least w page (span + 1))) (Endpoint v p n c) ≡ true) e
     (between _ _ (le_then v v _ (omega arith) (le_then page p _ (omega arith) (le_then span n _ (omega arith) (low c)))) (same_then v v _ refl (same_then page p _ (sym a) (more_then (span + 1) n _ (omega arith)))))
-
-pub in_machines : (k : Key) → IsOfMachines k → range_contains key_cmp (Included (least (Guest 0) 0 0)) (Excluded (least Host 0 0)) k ≡ true
-in_machines (Configuration s c) h = absurd h
-in_machines (Machine u p n c) h = between _ _ (le_then 0 u _ (omega arith) (le_then 0 p _ (omega arith) (le_then 0 n _ (omega arith) (low_stage c)))) refl
-in_machines (Hypervisor p n c) h = absurd h
-in_machines (Endpoint u p n c) h = absurd h
 
 pub in_streams : (run : PageRun) (k : Key) → IsOfStreams run k → range_contains key_cmp (Included (Configuration run.first None)) (Excluded (Configuration run.end None)) k ≡ true
 in_streams run (Configuration s c) h = between _ _ (le_then run.first s _ h.0 (low c)) (more_then run.end s _ h.1)

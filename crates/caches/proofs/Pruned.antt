@@ -22,11 +22,6 @@ none_either : {X : Type 0} (b : Bool) (o : Option X) → o ≡ None → cond b N
 none_either true o e = refl
 none_either false o e = e
 
--- an option is none where whatever it has is refuted
-pub none_or : {X : Type 0} (o : Option X) → (IsSome o → o ≡ None) → o ≡ None
-none_or None h = refl
-none_or (Some x) h = h refl
-
 module _ {K X : Type 0} (R : K → K → Ordering) (p : K → Bool) where
   module _ (lo hi : Bound K) (m n : BTreeMap K X) (after : (q : K) → get R n q ≡ cond (is_swept R p lo hi q) None (get R m q)) where
     pub pruned_from_swept : IsPruned R p m n
@@ -83,10 +78,6 @@ module _ {K X : Type 0} (R : K → K → Ordering) (p : K → Bool) where
 pub some_was : {X : Type 0} (b : Bool) (o : Option X) (x : X) → cond b None o ≡ Some x → o ≡ Some x
 some_was true o x e = cc
 some_was false o x e = e
-
--- what covers nothing takes nothing
-pub without_none : {K X : Type 0} (R : K → K → Ordering) (p : K → Bool) (m : BTreeMap K X) → ((q : K) → p q ≡ false) → IsWithout R p m m
-without_none R p m none q = sym (ap (λ b. cond b None (get R m q)) (none q))
 
 pub page_back : (q : Key) → page_of (key_of (tag_of q)) ≡ page_of q
 page_back (Configuration s None) = refl

@@ -26,10 +26,3 @@ commands_of-bad raws word words e = ap (λ o. with_raws raws (o >>= λ r. comman
 pub commands_of-end : (raws : List Raw) → with_raws raws (commands_of []) ≡ Some raws
 unfolding commands_of
 commands_of-end raws = ap (λ xs. Some xs) (append-nil raws)
-
-pub commands_of-start : (words : List (List ℕ)) → commands_of words ≡ with_raws [] (commands_of words)
-commands_of-start words = begins (commands_of words)
-  where
-    begins : (o : Option (List Raw)) → o ≡ with_raws [] o
-    begins None = refl
-    begins (Some xs) = refl
