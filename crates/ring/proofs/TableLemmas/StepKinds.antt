@@ -1,0 +1,200 @@
+-- What each kind of step may do, by its law.
+use Rattle.std.proofs.Common.{◌≡◌, ℕ, Bool, true, false, cond, eq-eqb, eqb-true, true≢false, ◌+◌, ◌<◌, List, ◌∷◌, refl, sym, ap, ◌∙◌, subst, arith, ◌%◌, mod-lt}
+use Rattle.std.proofs.lemmas.Nat.{pow_pos}
+use Rattle.std.specs.Prelude.{◌==◌, Option, Some, slice_index, slice_set, slice_get, bit_or, bit_xor}
+use prog.Atomic.{either}
+use Rattle.cmdcodec.specs.declared.raw.Raw.{Raw}
+use Rattle.qindex.specs.declared.control.Control.{Control}
+use Rattle.qindex.specs.Positions.{size, index_of}
+use Rattle.qindex.specs.ControlWord.{packed, control_in, close_mask}
+use Rattle.ringcore.specs.declared.world.event.Who.{Who}
+use Rattle.ringcore.specs.declared.world.event.Who.TheVariants.{Sender}
+use Rattle.ringcore.specs.declared.world.event.Event.{Event}
+use Rattle.ringcore.specs.declared.world.event.Event.TheVariants.{Look, Won, Lost, Write, Flip, Close, Ask}
+use Rattle.ringcore.specs.declared.world.event.Half.{Half}
+use Rattle.ringcore.specs.declared.world.event.Half.TheVariants.{Lo, Hi}
+use Rattle.ringcore.specs.world.Trails.{Trail, Run, trail_of, batch_length}
+use Rattle.ringcore.specs.world.World.{world, half_of}
+use Rattle.ringcore.specs.world.Allowed.{MayTry, IsNextNumber, MayWrite, MayFlip, length_with}
+use Rattle.ringcore.specs.memory.Layout.{control_word, flag_word, data_word, half_number, cell, words_of}
+use Rattle.ringcore.specs.memory.Flags.{IsFlipMask}
+use Rattle.ringcore.specs.world.Allowed.{Ring}
+use Rattle.ringcore.specs.memory.Shadow.{AreAfter}
+use Rattle.ringcore.specs.world.Trails.{start_index}
+use Rattle.ringcore.specs.memory.StepLaws.{Always, HasAControlWord, LooksByALoad, ClosesByAnOr, WinsByAnExchange, LosesByAnExchange, WritesByAStore, FlipsByAnExclusiveOr, AsksByALoad, StartsWhereItLooked, with_reserved, reserved_commands}
+use Rattle.ringcore.specs.machine.StepAnswers.{next_number}
+use mathlib.Core.Option.{none}
+use Rattle.atomic_table.specs.Table.{step, Allows}
+use Rattle.ring.specs.table.Rule.{Holding, RuleHolds, Stands, ring_of, trail_of_first, IsAlone}
+use Rattle.ring.specs.table.Intents.{Intent, looks, closes, reserves, writes, flips, asks}
+use Rattle.ring.specs.table.StepEvents.{IsEventOf, adds_for}
+use Rattle.ring.proofs.TableLemmas.Steps.{MayStep, steps_as, set_back}
+
+many_is : (trail : Trail) (closing : Bool) (body : List Raw) → length_with closing body ≡ batch_length body (next_number trail closing)
+many_is trail true body = refl
+many_is trail false body = refl
+
+next_is : (trail : Trail) (closing : Bool) → IsNextNumber trail (next_number trail closing)
+next_is trail true = refl
+next_is trail false = tt
+
+-- what is stored is what was there
+still : (ring : Ring) (run : Run) (words : List ℕ) (i : ℕ) → AreAfter ring run words → AreAfter ring run (slice_set words i (slice_index words i))
+still ring run words i is = subst (AreAfter ring run) (sym (set_back words i)) is
+
+pub looks_may : Always HasAControlWord → Always LooksByALoad → (ring : Ring) (who : Who) (trail : Trail) (i : ℕ) → i ≡ control_word → MayStep ring who trail i (λ x. x) (IsEventOf ring trail looks 0)
+looks_may says finds ring who trail i is = subst (λ (j : ℕ). MayStep ring who trail j (λ x. x) (IsEventOf ring trail looks 0)) (sym is) (λ run words now.
+    let x : ℕ = slice_index words control_word in
+    (Look (control_in ring.geometry x), (refl, says ring run words now.after), still ring ((who, Look (control_in ring.geometry x)) ∷ run) words control_word (finds ring run words now.after who)))
+
+pub closes_may : Always ClosesByAnOr → (ring : Ring) (s : ℕ) (trail : Trail) (i mask : ℕ) → i ≡ control_word → mask ≡ close_mask
+    → MayStep ring (Sender s) trail i (λ x. bit_or x mask) (IsEventOf ring trail closes mask)
+closes_may law ring s trail i mask at is run words now =
+    (Close, refl, subst (λ (t : ℕ × ℕ). AreAfter ring ((Sender s, Close) ∷ run) (slice_set words t.0 (bit_or (slice_index words t.0) t.1))) (λ q. (sym at q, sym is q)) (law ring run words now.after s))
+
+-- the two ways of an exchange, by what it found
+module _ (wins : Always WinsByAnExchange) (loses : Always LosesByAnExchange) (ring : Ring) (s : ℕ) (trail : Trail) (body : List Raw) (closing : Bool) (before : Control) (old new : ℕ)
+    (may : MayTry ring trail body (length_with closing body) before) (old_is : old ≡ packed before) (new_is : new ≡ packed (with_reserved before (length_with closing body)))
+    (run : Run) (words : List ℕ) (now : Stands ring (Sender s) trail run words) where
+  abbrev x : ℕ
+  x = slice_index words control_word
+
+  abbrev number : Option ℕ
+  number = next_number trail closing
+
+  abbrev Exchanged : Bool → Type 0
+  Exchanged v = (e : Event) × (e ≡ cond v (Won body number) (Lost body closing (control_in ring.geometry x))) × AreAfter ring ((Sender s, e) ∷ run) (slice_set words control_word (either v new x))
+
+  tries : MayTry ring (trail_of (Sender s) run) body (length_with closing body) before
+  tries = subst (λ (t : Trail). MayTry ring t body (length_with closing body) before) (sym now.trail_is) may
+
+  by_hit : (v : Bool) → (x == old) ≡ v → Exchanged v
+  by_hit true hit =
+      let many : length_with closing body ≡ batch_length body number = many_is trail closing body in (
+        Won body number,
+        refl,
+        subst (λ (y : ℕ). AreAfter ring ((Sender s, Won body number) ∷ run) (slice_set words control_word y))
+            (sym (new_is ∙ ap (λ (k : ℕ). packed (with_reserved before k)) many))
+            (wins ring run words now.after s body number before
+            (subst (λ (k : ℕ). MayTry ring (trail_of (Sender s) run) body k before) many tries)
+            (subst (λ (t : Trail). IsNextNumber t number) (sym now.trail_is) (next_is trail closing))
+            (eqb-true x old hit ∙ old_is)),
+      )
+  by_hit false miss = (
+    Lost body closing (control_in ring.geometry x),
+    refl,
+    still ring ((Sender s, Lost body closing (control_in ring.geometry x)) ∷ run) words control_word
+        (loses ring run words now.after s body closing before tries (λ same. true≢false (sym (eq-eqb x old (same ∙ sym old_is)) ∙ miss))),
+  )
+
+pub reserves_may : Always WinsByAnExchange → Always LosesByAnExchange → (ring : Ring) (s : ℕ) (trail : Trail) (body : List Raw) (closing : Bool) (before : Control) (old new : ℕ)
+    → MayTry ring trail body (length_with closing body) before → old ≡ packed before → new ≡ packed (with_reserved before (length_with closing body))
+    → MayStep ring (Sender s) trail control_word (λ x. either (x == old) new x) (IsEventOf ring trail (reserves body closing) old)
+reserves_may wins loses ring s trail body closing before old new may old_is new_is run words now =
+    by_hit wins loses ring s trail body closing before old new may old_is new_is run words now (slice_index words control_word == old) refl
+
+-- a store, at the slot that an offset of the reservation has
+pub writes_may : Always WritesByAStore → Always StartsWhereItLooked → (ring : Ring) (s : ℕ) (trail : Trail) (offset : ℕ) (half : Half) (raw : Raw) (i x : ℕ)
+    → MayWrite trail offset → slice_get (reserved_commands s trail) offset ≡ Some raw → x ≡ half_of half raw
+    → ((p : ℕ) → start_index ring.geometry trail ≡ index_of ring.geometry p → i ≡ data_word ring.geometry (p + offset) half)
+    → MayStep ring (Sender s) trail i (λ _. x) (λ _. IsEventOf ring trail (writes offset half) x x)
+writes_may law starts ring s trail offset half raw i x may there x_is at run words now =
+    let p : ℕ = (world run).start s in
+    let i_is : i ≡ data_word ring.geometry (p + offset) half = at p (ap (start_index ring.geometry) (sym now.trail_is) ∙ sym (starts ring run words now.after s)) in (
+      Write offset half,
+      refl,
+      subst (λ (t : ℕ × ℕ). AreAfter ring ((Sender s, Write offset half) ∷ run) (slice_set words t.0 t.1)) (λ q. (sym i_is q, sym x_is q))
+          (law ring run words now.after s offset half raw (subst (λ (t : Trail). MayWrite t offset) (sym now.trail_is) may) (subst (λ (t : Trail). slice_get (reserved_commands s t) offset ≡ Some raw) (sym now.trail_is) there)),
+    )
+
+-- an exclusive or of a flag word
+pub flips_may : Always FlipsByAnExclusiveOr → Always StartsWhereItLooked → (ring : Ring) (s : ℕ) (trail : Trail) (offset count i mask : ℕ)
+    → ((p : ℕ) → start_index ring.geometry trail ≡ index_of ring.geometry p → ring.flags ≡ 64 → MayFlip ring trail p offset count)
+    → ((p : ℕ) → start_index ring.geometry trail ≡ index_of ring.geometry p → i ≡ flag_word ring.geometry (p + offset))
+    → ((p : ℕ) → start_index ring.geometry trail ≡ index_of ring.geometry p → IsFlipMask ring.geometry (p + offset) count mask)
+    → MayStep ring (Sender s) trail i (λ x. bit_xor x mask) (IsEventOf ring trail (flips offset count) mask)
+flips_may law starts ring s trail offset count i mask may at mask_is run words now =
+    let p : ℕ = (world run).start s in
+    let here : start_index ring.geometry trail ≡ index_of ring.geometry p = ap (start_index ring.geometry) (sym now.trail_is) ∙ sym (starts ring run words now.after s) in (
+      Flip offset count,
+      refl,
+      subst (λ (j : ℕ). AreAfter ring ((Sender s, Flip offset count) ∷ run) (slice_set words j (bit_xor (slice_index words j) mask))) (sym (at p here))
+          (law ring run words now.after s offset count mask (subst (λ (t : Trail). MayFlip ring t p offset count) (sym now.trail_is) (may p here now.after.flags_are)) (mask_is p here)),
+    )
+
+pub asks_may : Always AsksByALoad → (ring : Ring) (s : ℕ) (trail : Trail) (i : ℕ) → i ≡ cell ring.geometry s → MayStep ring (Sender s) trail i (λ x. x) (IsEventOf ring trail asks 0)
+asks_may law ring s trail i at run words now =
+    let x : ℕ = slice_index words i in
+    (Ask x, refl, still ring ((Sender s, Ask x) ∷ run) words i (subst (λ (j : ℕ). AreAfter ring ((Sender s, Ask (slice_index words j)) ∷ run) words) (sym at) (law ring run words now.after s now.known)))
+
+-- ---- the same as a step of a seat asks for it
+
+pub looks_as : Always HasAControlWord → Always LooksByALoad → (ring : Ring) (slots id : ℕ) (who : Who) (me : Holding) → IsAlone me who → (i : ℕ) → i ≡ control_word
+    → Allows (RuleHolds ring) slots id me i (λ x. x) (adds_for looks (step slots i 0 0 none) me)
+looks_as says finds ring slots id who me is i at =
+    steps_as ring slots id who me is i (λ x. x) (IsEventOf (ring_of me.0) (trail_of_first me.0) looks 0) (looks_may says finds (ring_of me.0) who (trail_of_first me.0) i at)
+
+pub closes_as : Always ClosesByAnOr → (ring : Ring) (slots id s : ℕ) (me : Holding) → IsAlone me (Sender s) → (i mask : ℕ) → i ≡ control_word → mask ≡ close_mask
+    → Allows (RuleHolds ring) slots id me i (λ x. bit_or x mask) (adds_for closes (step slots i mask 0 none) me)
+closes_as law ring slots id s me is i mask at mask_is =
+    steps_as ring slots id (Sender s) me is i (λ x. bit_or x mask) (IsEventOf (ring_of me.0) (trail_of_first me.0) closes mask) (closes_may law (ring_of me.0) s (trail_of_first me.0) i mask at mask_is)
+
+pub reserves_as : Always WinsByAnExchange → Always LosesByAnExchange → (ring : Ring) (slots id s : ℕ) (me : Holding) → IsAlone me (Sender s)
+    → (intent : Intent) (body : List Raw) (closing : Bool) (before : Control) (i old new : ℕ) → intent ≡ reserves body closing → i ≡ control_word
+    → MayTry (ring_of me.0) (trail_of_first me.0) body (length_with closing body) before → old ≡ packed before → new ≡ packed (with_reserved before (length_with closing body))
+    → Allows (RuleHolds ring) slots id me i (λ x. either (x == old) new x) (adds_for intent (step slots i old new none) me)
+reserves_as wins loses ring slots id s me is intent body closing before i old new intent_is at may old_is new_is =
+    let z : Ring = ring_of me.0 in let t : Trail = trail_of_first me.0 in
+    subst (λ (q : Intent × ℕ). Allows (RuleHolds ring) slots id me q.1 (λ x. either (x == old) new x) (adds_for q.0 (step slots q.1 old new none) me)) (λ q. (sym intent_is q, sym at q))
+    (steps_as ring slots id (Sender s) me is control_word (λ x. either (x == old) new x) (IsEventOf z t (reserves body closing) old) (reserves_may wins loses z s t body closing before old new may old_is new_is))
+
+pub writes_as : Always WritesByAStore → Always StartsWhereItLooked → (ring : Ring) (slots id s : ℕ) (me : Holding) → IsAlone me (Sender s)
+    → (intent : Intent) (offset : ℕ) (half : Half) (raw : Raw) (i x : ℕ) → intent ≡ writes offset half
+    → MayWrite (trail_of_first me.0) offset → slice_get (reserved_commands s (trail_of_first me.0)) offset ≡ Some raw → x ≡ half_of half raw
+    → ((p : ℕ) → start_index (ring_of me.0).geometry (trail_of_first me.0) ≡ index_of (ring_of me.0).geometry p → i ≡ data_word (ring_of me.0).geometry (p + offset) half)
+    → Allows (RuleHolds ring) slots id me i (λ _. x) (λ _. adds_for intent (step slots i x 0 none) me x)
+writes_as law starts ring slots id s me is intent offset half raw i x intent_is may there x_is at =
+    let z : Ring = ring_of me.0 in let t : Trail = trail_of_first me.0 in
+    subst (λ (q : Intent). Allows (RuleHolds ring) slots id me i (λ _. x) (λ _. adds_for q (step slots i x 0 none) me x)) (sym intent_is)
+    (steps_as ring slots id (Sender s) me is i (λ _. x) (λ _. IsEventOf z t (writes offset half) x x) (writes_may law starts z s t offset half raw i x may there x_is at))
+
+pub flips_as : Always FlipsByAnExclusiveOr → Always StartsWhereItLooked → (ring : Ring) (slots id s : ℕ) (me : Holding) → IsAlone me (Sender s)
+    → (intent : Intent) (offset count i mask : ℕ) → intent ≡ flips offset count
+    → ((p : ℕ) → start_index (ring_of me.0).geometry (trail_of_first me.0) ≡ index_of (ring_of me.0).geometry p → (ring_of me.0).flags ≡ 64 → MayFlip (ring_of me.0) (trail_of_first me.0) p offset count)
+    → ((p : ℕ) → start_index (ring_of me.0).geometry (trail_of_first me.0) ≡ index_of (ring_of me.0).geometry p → i ≡ flag_word (ring_of me.0).geometry (p + offset))
+    → ((p : ℕ) → start_index (ring_of me.0).geometry (trail_of_first me.0) ≡ index_of (ring_of me.0).geometry p → IsFlipMask (ring_of me.0).geometry (p + offset) count mask)
+    → Allows (RuleHolds ring) slots id me i (λ x. bit_xor x mask) (adds_for intent (step slots i mask 0 none) me)
+flips_as law starts ring slots id s me is intent offset count i mask intent_is may at mask_is =
+    let z : Ring = ring_of me.0 in let t : Trail = trail_of_first me.0 in
+    subst (λ (q : Intent). Allows (RuleHolds ring) slots id me i (λ x. bit_xor x mask) (adds_for q (step slots i mask 0 none) me)) (sym intent_is)
+    (steps_as ring slots id (Sender s) me is i (λ x. bit_xor x mask) (IsEventOf z t (flips offset count) mask) (flips_may law starts z s t offset count i mask may at mask_is))
+
+pub asks_as : Always AsksByALoad → (ring : Ring) (slots id s : ℕ) (me : Holding) → IsAlone me (Sender s) → (i : ℕ) → i ≡ cell (ring_of me.0).geometry s
+    → Allows (RuleHolds ring) slots id me i (λ x. x) (adds_for asks (step slots i 0 0 none) me)
+asks_as law ring slots id s me is i at =
+    steps_as ring slots id (Sender s) me is i (λ x. x) (IsEventOf (ring_of me.0) (trail_of_first me.0) asks 0) (asks_may law (ring_of me.0) s (trail_of_first me.0) i at)
+
+-- ---- the words are in the table
+
+pub control_inside : (g senders many i : ℕ) → many ≡ words_of g senders → i ≡ control_word → i < many
+control_inside g senders many i m is = let x : ℕ = size g in omega arith
+
+pub flag_inside : (g senders many i p : ℕ) → many ≡ words_of g senders → i ≡ flag_word g p → i < many
+flag_inside g senders many i p m is =
+    let n : ℕ = size g in let pos : 0 < n = pow_pos g in
+    let low : p % n < n = mod-lt p pos in
+    let r : ℕ = p % n in omega arith
+
+pub data_inside : (g senders many i p : ℕ) (half : Half) → many ≡ words_of g senders → i ≡ data_word g p half → i < many
+data_inside g senders many i p half m is =
+    let n : ℕ = size g in let pos : 0 < n = pow_pos g in
+    let low : p % n < n = mod-lt p pos in
+    let h : half_number half < 2 = small half in
+    let r : ℕ = p % n in omega arith
+  where
+    small : (half : Half) → half_number half < 2
+    small Lo = omega arith
+    small Hi = omega arith
+
+pub cell_inside : (g senders many i s : ℕ) → many ≡ words_of g senders → i ≡ cell g s → s < senders → i < many
+cell_inside g senders many i s m is low = let x : ℕ = size g in omega arith

@@ -1,0 +1,123 @@
+-- A step that the laws of ringcore allow keeps the rule, whatever kind it is.
+use Rattle.std.proofs.Common.{◌≡◌, ◌≢◌, ℕ, Bool, cond, List, [], ◌∷◌, ◌++◌, length, set, zero, suc, refl, sym, ap, ◌∙◌, subst, ⊎_elim}
+use Rattle.std.specs.Prelude.{slice_index, slice_set}
+use mathlib.Core.Option.{some}
+use lib.ListN.{get_elem?}
+use Rattle.atomic_table.specs.Table.{keeps, Allows, Splits, Joins}
+use Rattle.atomic_table.proofs.Lists.{at_set}
+use Rattle.ringcore.specs.declared.world.event.Who.{Who}
+use Rattle.ringcore.specs.declared.world.event.Event.{Event}
+use Rattle.ringcore.specs.world.Trails.{Trail, Run, trail_of}
+use Rattle.ringcore.specs.world.Laws.{OnlyOf}
+use Rattle.ringcore.specs.world.Allowed.{Ring}
+use Rattle.ringcore.specs.memory.Shadow.{AreAfter}
+use Rattle.ring.specs.declared.table.rule.Participant.{Participant}
+use Rattle.ring.specs.table.Rule.{Holding, participant, HasTrails, SitAt, RuleHolds, Stands, ring_of, who_of, trail_of_first, IsAlone}
+use Rattle.ring.specs.table.StepEvents.{Added}
+use Rattle.ring.proofs.TableLemmas.Trails.{same_refl, trail_here}
+use Rattle.ring.proofs.TableLemmas.Seats.{trails_else, Without, moved_to, sit_without, sit_else, taken_in, sit_taken, sit_stays, sit_append, trails_append, at_snoc_index}
+
+-- What the laws have to give: wherever the seat has this trail, the word may change so, by an event that is said of
+-- the word that was found.
+abbrev pub MayStep : Ring → Who → Trail → ℕ → (ℕ → ℕ) → (ℕ → Event → Type 0) → Type 0
+MayStep ring who trail i f says =
+    (run : Run) (words : List ℕ) → Stands ring who trail run words
+    → (e : Event) × says (slice_index words i) e × AreAfter ring ((who, e) ∷ run) (slice_set words i (f (slice_index words i)))
+
+module _ (ring : Ring) (slots id : ℕ) (z : Ring) (who : Who) (trail : Trail) (i : ℕ) (f : ℕ → ℕ) (says : ℕ → Event → Type 0) (may : MayStep z who trail i f says) where
+  abbrev me : Holding
+  me = (participant z who trail ∷ [], [])
+
+  pub steps_at : Allows (RuleHolds ring) slots id me i f (Added z who trail says)
+  steps_at s k _ at _ =
+      let mine = k.seated id (participant z who trail ∷ []) at in
+      let same : trail_of who k.run ≡ trail = mine.1.0.trail in
+      let zn : z ≡ ring = mine.1.0.ring_is in
+      let here : Stands ring who trail k.run s.words = record { limits = k.limits; after = k.after; only = k.only; known = mine.1.0.known; trail_is = same } in
+      let now : Stands z who trail k.run s.words = subst (λ (r : Ring). Stands r who trail k.run s.words) (sym zn) here in
+      let did = may k.run s.words now in
+      let e : Event = did.0 in
+      let longer : Run = (who, e) ∷ k.run in
+      let words : List ℕ = slice_set s.words i (f (slice_index s.words i)) in
+      let w : List Participant = participant z who (e ∷ trail) ∷ [] in
+      let grown : trail_of who longer ≡ e ∷ trail = trail_here who e k.run ∙ ap (λ (t : Trail). e ∷ t) same in
+      let after : AreAfter ring longer words = subst (λ (r : Ring). AreAfter r longer words) zn did.2 in
+      let new : HasTrails ring longer w = (record { ring_is = zn; known = mine.1.0.known; trail = grown }, tt) in
+      let only : OnlyOf ring.senders longer = (mine.1.0.known, k.only) in
+      let there : Stands ring who (e ∷ trail) longer words = record { limits = k.limits; after = after; only = only; known = mine.1.0.known; trail_is = grown } in (
+        w,
+        keeps,
+        tt,
+        record {
+          limits = k.limits;
+          run = longer;
+          after = after;
+          only = only;
+          seat = k.seat;
+          seated = λ j v got. ⊎_elim
+              (λ (own : (j ≡ id) × (w ≡ v)). subst (λ (t : ℕ × List Participant). SitAt k.seat t.0 t.1 × HasTrails ring longer t.1) (λ q. (sym own.0 q, own.1 q)) ((mine.0.0, tt), new))
+              (λ (else : (j ≢ id) × (get_elem? s.views j ≡ some v)). let old = k.seated j v else.1 in (old.0, trails_else ring k.seat j who e k.run v old.0 (λ same_seat. else.0 (sym same_seat ∙ mine.0.0)) old.1))
+              (at_set s.views id j w v got);
+        },
+        (e, did.1, refl, record { run = k.run; words = s.words; new_words = words; before = now; after = subst (λ (r : Ring). Stands r who (e ∷ trail) longer words) (sym zn) there }),
+      )
+
+-- the same at a seat that is known to stand for one alone
+pub steps_as : (ring : Ring) (slots id : ℕ) (who : Who) (me : Holding) → IsAlone me who → (i : ℕ) (f : ℕ → ℕ) (says : ℕ → Event → Type 0)
+    → MayStep (ring_of me.0) who (trail_of_first me.0) i f says
+    → Allows (RuleHolds ring) slots id me i f (Added (ring_of me.0) (who_of me.0) (trail_of_first me.0) says)
+steps_as ring slots id who me is i f says may =
+    let z : Ring = ring_of me.0 in let t : Trail = trail_of_first me.0 in
+    subst (λ (w : Who). Allows (RuleHolds ring) slots id me i f (Added z w t says)) (sym (ap (λ (m : Holding). who_of m.0) is.me_is))
+    (subst (λ (q : Holding). Allows (RuleHolds ring) slots id q i f (Added z who t says)) (sym is.me_is) (steps_at ring slots id z who t i f says may))
+
+-- ---- a seat is cut in two, and takes in another
+
+-- the first of a seat goes to a new seat
+pub deals_at : (ring : Ring) (id : ℕ) (g : Participant) (hs : List Participant) → Without g.who hs → Splits (RuleHolds ring) id (g ∷ hs) hs (g ∷ [])
+deals_at ring id g hs apart s k at =
+    let mine = k.seated id (g ∷ hs) at in
+    let new : ℕ = length (set s.views id hs) in
+    let seat : Who → ℕ = moved_to g.who new k.seat in record {
+      limits = k.limits;
+      run = k.run;
+      after = k.after;
+      only = k.only;
+      seat = seat;
+      seated = λ j v there. ⊎_elim
+          (λ (old : get_elem? (set s.views id hs) j ≡ some v). ⊎_elim
+          (λ (here : (j ≡ id) × (hs ≡ v)). subst (λ (t : ℕ × List Participant). SitAt seat t.0 t.1 × HasTrails ring k.run t.1) (λ q. (sym here.0 q, here.1 q)) (sit_without g.who new k.seat id hs apart mine.0.1, mine.1.1))
+          (λ (else : (j ≢ id) × (get_elem? s.views j ≡ some v)). let o = k.seated j v else.1 in (sit_else g.who new k.seat j v (λ e. else.0 (sym e ∙ mine.0.0)) o.0, o.1))
+          (at_set s.views id j hs v old))
+          (λ (last : (j ≡ new) × ((g ∷ []) ≡ v)). subst (λ (t : ℕ × List Participant). SitAt seat t.0 t.1 × HasTrails ring k.run t.1) (λ q. (sym last.0 q, last.1 q))
+          ((ap (λ (b : Bool). cond b new (k.seat g.who)) (same_refl g.who), tt), (mine.1.0, tt)))
+          (at_snoc_index (set s.views id hs) (g ∷ []) v j there);
+    }
+
+-- a seat takes in all of another
+pub gathers_at : (ring : Ring) (id other : ℕ) (v w : List Participant) → Joins (RuleHolds ring) id v other w (w ++ v) []
+gathers_at ring id other v w s k at two there =
+    let both : List Participant = w ++ v in
+    let seat : Who → ℕ = taken_in other id k.seat in
+    let mine = k.seated id v at in
+    let theirs = ⊎_elim (λ (t : (other ≡ id) × (both ≡ w)). absurd (two t.0)) (λ (t : (other ≢ id) × (get_elem? s.views other ≡ some w)). k.seated other w t.1) (at_set s.views id other both w there) in
+    let all : SitAt seat id both × HasTrails ring k.run both =
+    (sit_append seat id w v (sit_taken other id k.seat w theirs.0) (sit_stays other id id k.seat v (λ e. two (sym e)) mine.0), trails_append ring k.run w v theirs.1 mine.1) in record {
+      limits = k.limits;
+      run = k.run;
+      after = k.after;
+      only = k.only;
+      seat = seat;
+      seated = λ j u e. ⊎_elim
+          (λ (spent : (j ≡ other) × ([] ≡ u)). subst (λ (l : List Participant). SitAt seat j l × HasTrails ring k.run l) spent.1 (tt, tt))
+          (λ (else : (j ≢ other) × (get_elem? (set s.views id both) j ≡ some u)). ⊎_elim
+          (λ (here : (j ≡ id) × (both ≡ u)). subst (λ (t : ℕ × List Participant). SitAt seat t.0 t.1 × HasTrails ring k.run t.1) (λ q. (sym here.0 q, here.1 q)) all)
+          (λ (old : (j ≢ id) × (get_elem? s.views j ≡ some u)). let o = k.seated j u old.1 in (sit_stays other id j k.seat u else.0 o.0, o.1))
+          (at_set s.views id j both u else.1))
+          (at_set (set s.views id both) other j [] u e);
+    }
+
+pub set_back : (ns : List ℕ) (i : ℕ) → slice_set ns i (slice_index ns i) ≡ ns
+set_back [] i = refl
+set_back (x ∷ xs) zero = refl
+set_back (x ∷ xs) (suc i) = ap (λ (l : List ℕ). x ∷ l) (set_back xs i)

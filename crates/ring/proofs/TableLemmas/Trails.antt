@@ -1,0 +1,22 @@
+-- A seat's trail, as the run grows.
+use Rattle.std.proofs.Common.{◌≡◌, ◌≢◌, Bool, true, false, cond, ◌∷◌, refl, ap, eq-eqb, ne_eqb}
+use Rattle.ringcore.specs.declared.world.event.Who.{Who}
+use Rattle.ringcore.specs.declared.world.event.Who.TheVariants.{Consumer, Sender}
+use Rattle.ringcore.specs.declared.world.event.Event.{Event}
+use Rattle.ringcore.specs.world.Trails.{Run, same, trail_of}
+
+pub same_refl : (u : Who) → same u u ≡ true
+same_refl Consumer = refl
+same_refl (Sender s) = eq-eqb s s refl
+
+pub same_not : (u v : Who) → u ≢ v → same u v ≡ false
+same_not Consumer Consumer ne = absurd (ne refl)
+same_not Consumer (Sender t) ne = refl
+same_not (Sender s) Consumer ne = refl
+same_not (Sender s) (Sender t) ne = ne_eqb s t (λ e. ne (ap Sender e))
+
+pub trail_here : (who : Who) (e : Event) (run : Run) → trail_of who ((who, e) ∷ run) ≡ e ∷ trail_of who run
+trail_here who e run = ap (λ (b : Bool). cond b (e ∷ trail_of who run) (trail_of who run)) (same_refl who)
+
+pub trail_else : (who other : Who) (e : Event) (run : Run) → who ≢ other → trail_of who ((other, e) ∷ run) ≡ trail_of who run
+trail_else who other e run ne = ap (λ (b : Bool). cond b (e ∷ trail_of who run) (trail_of who run)) (same_not who other ne)

@@ -1,0 +1,9 @@
+use Rattle.std.proofs.Common.{◌≡◌}
+use Rattle.ring.specs.sender.Sending.{HasTried}
+use Rattle.ring.proofs.sender.Sender.try_to_open.Given as goal
+
+abbrev pub invariant-loop-tried : goal.invariant-loop-tried
+invariant-loop-tried l = record {
+  ring : l.sender.ring ≡ l.fn.self.ring;
+  tried : HasTried l.batch l.closes l.tried l.fn.self l.sender;
+}

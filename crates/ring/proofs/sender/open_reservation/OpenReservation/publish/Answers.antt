@@ -1,0 +1,28 @@
+use Rattle.std.proofs.Common.{◌≡◌, ◌+◌, ◌-◌, ap, sym, subst, arith, ◌∙◌}
+use Rattle.qindex.specs.Positions.{size}
+use Rattle.ringcore.specs.world.Trails.{reserved_length}
+use Rattle.ring.specs.sender.Reservations.{ReservationValue}
+use Rattle.ring.proofs.SenderLemmas.TwoRuns.{wrote_is, left_is, all_flipped}
+use Rattle.ring.proofs.sender.open_reservation.OpenReservation.publish.Goals as goal
+use Rattle.ring.specs.sender.Publishing.{flipped_left}
+
+pub flip_left-requires : goal.flip_left-requires
+flip_left-requires c = ap (λ (r : ReservationValue). r.ring) c.write_left-reservation.ensures ∙ (wrote_is (reserved_length c.args.self.trail - c.args.self.written) c.args.self).ring_is ∙ c.requires
+
+pub flip_left-requires-2 : goal.flip_left-requires-2
+flip_left-requires-2 c =
+    ap (λ (r : ReservationValue). r.ring) c.flip_left.ensures ∙ (left_is c.write_left-reservation.result).ring_is
+    ∙ ap (λ (r : ReservationValue). r.ring) c.write_left-reservation.ensures ∙ (wrote_is (reserved_length c.args.self.trail - c.args.self.written) c.args.self).ring_is ∙ c.requires
+
+pub into_sender-requires : goal.into_sender-requires
+into_sender-requires c =
+    let s : ReservationValue = c.args.self in let r : ReservationValue = c.write_left-reservation.result in
+    let f = wrote_is (reserved_length s.trail - s.written) s in
+    let e = c.write_left-reservation.ensures in
+    let len = c.len.ensures.value in let few = c.len.ensures.few in let fits = c.len.ensures.fits in let within = c.len.ensures.within in let behind = c.len.ensures.behind in
+    let w : r.written ≡ s.written + (reserved_length s.trail - s.written) = ap (λ (x : ReservationValue). x.written) e ∙ f.written_is in
+    let l : reserved_length r.trail ≡ reserved_length s.trail = ap (λ (x : ReservationValue). reserved_length x.trail) e ∙ f.length_is in
+    let p : r.flipped ≡ s.flipped = ap (λ (x : ReservationValue). x.flipped) e ∙ f.flipped_is in
+    let g : size r.ring.made_with.geometry ≡ size s.ring.made_with.geometry = ap (λ (x : ReservationValue). size x.ring.made_with.geometry) e ∙ ap (λ x. size x.made_with.geometry) f.ring_is in
+    subst (λ (x : ReservationValue). x.flipped ≡ reserved_length x.trail) (sym (c.flip_left-2.ensures ∙ ap flipped_left c.flip_left.ensures))
+    (all_flipped r (omega arith) (omega arith) (omega arith) (omega arith))

@@ -1,0 +1,18 @@
+use Rattle.std.proofs.Common.{rules, sym, ap, ◌∙◌}
+use Rattle.ringcore.specs.memory.Layout.{cell}
+use Rattle.ring.proofs.TableLemmas.PortSteps.{asks_now, in_cells, sender_known}
+use Rattle.ring.proofs.TableLemmas.Asks.{ask_few}
+use Rattle.ring.proofs.table.port.Port.load_cell.Goals as goal
+use Rattle.ring.specs.Rings.{RingValue}
+
+pub load-requires : goal.load-requires
+load-requires c =
+    let at = c.cell.ensures ∙ ap (λ g. cell g c.args.sender) (c.geometry.ensures ∙ ap (λ (r : RingValue). r.made_with.geometry) (sym c.requires.ring)) in (
+      search rules,
+      in_cells _ _ c.ring.invariant.words _ _ c.requires.ring _ (sym c.ring.view_is) _ _ at (sender_known _ _ _ c.self.view_is c.self.invariant _ c.requires.who),
+      asks_now _ _ _ c.self.view_is c.self.invariant _ _ _ c.ask.ensures _ c.requires.who _ at,
+    )
+
+pub returns-clause-few : goal.returns-clause-few
+returns-clause-few c =
+    ask_few c.world_law.ensures.acknowledged c.counts_law.ensures.few c.self.inside.seat.table_id c.self.inside.seat.me c.load.new.seat.me _ c.self.view_is _ c.ring.inside.table.shared.table_id.slots c.cell.result _ c.requires.who c.load.ensures.2

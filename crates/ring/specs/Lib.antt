@@ -1,0 +1,6 @@
+pub mod table
+pub mod sender
+pub mod Rings
+pub mod NewRings
+pub mod Consumers
+pub mod FaultNames

@@ -1,0 +1,43 @@
+-- A new ring, and why none is made.
+use Rattle.std.specs.Prelude.{◌≡◌, ℕ, zero, suc, nat_le, ◌==◌, ◌&&◌, not, List, [], ◌∷◌, ◌++◌, Option, Some, None, if◌then◌else◌}
+use Rattle.ringcore.specs.world.Allowed.{Ring}
+use Rattle.ring.specs.declared.fault.RingFault.{RingFault}
+use Rattle.ring.specs.declared.fault.RingFault.TheVariants.{Size, Senders, Batches, Memory}
+use Rattle.ring.specs.Rings.{RingValue}
+use Rattle.ring.specs.Consumers.{ConsumerValue}
+use Rattle.ring.specs.sender.Senders.{SenderValue}
+
+-- the first fault of the numbers that a ring is to be made with
+abbrev pub number_fault : ℕ → ℕ → ℕ → Option RingFault
+number_fault log2 senders max_batches =
+    if not (nat_le 1 log2 && nat_le log2 19) then Some Size
+    else if not (nat_le 1 senders && nat_le senders 256) then Some Senders
+    else if max_batches == 0 then Some Batches
+    else None
+
+-- It isn't made for that fault, or for want of memory where there is none.
+abbrev pub IsNotMade : Option RingFault → RingFault → Type 0
+IsNotMade numbers (Memory error) = numbers ≡ None
+IsNotMade numbers fault = numbers ≡ Some fault
+
+-- a sender that has taken no step
+abbrev pub new_sender : RingValue → ℕ → SenderValue
+new_sender ring number = record { ring = ring; number = number; trail = [] }
+
+-- those below n, in the order of their numbers
+abbrev pub new_senders : RingValue → ℕ → List SenderValue
+new_senders ring zero = []
+new_senders ring (suc k) = new_senders ring k ++ new_sender ring k ∷ []
+
+abbrev pub made_with : ℕ → ℕ → ℕ → Ring
+made_with log2 senders max_batches = record { geometry = log2; senders = senders; max_batches = max_batches; flags = 64 }
+
+-- A ring of these numbers, with its senders and its consumer, before the first step.
+pub record IsUnused (log2 senders max_batches : ℕ) (ring : RingValue) (all : List SenderValue) (consumer : ConsumerValue) : Type 0 where
+  pub made_is : ring.made_with ≡ made_with log2 senders max_batches
+  pub senders_are : all ≡ new_senders ring senders
+  pub consumer_is : consumer ≡ record { ring = ring; trail = [] }
+
+pub record IsNewRing (log2 senders max_batches : ℕ) (ring : RingValue) (all : List SenderValue) (consumer : ConsumerValue) : Type 0 where
+  pub numbers : number_fault log2 senders max_batches ≡ None
+  pub unused : IsUnused log2 senders max_batches ring all consumer

@@ -1,0 +1,4 @@
+pub mod Rule
+pub mod Intents
+pub mod StepEvents
+pub mod Ports

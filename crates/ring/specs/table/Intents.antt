@@ -1,0 +1,15 @@
+-- What a step is for, as its caller knows it. Its event follows from it, the trail and the word that was found.
+use Rattle.std.specs.Prelude.{ℕ, Bool, List}
+use Rattle.cmdcodec.specs.declared.raw.Raw.{Raw}
+use Rattle.ringcore.specs.declared.world.event.Half.{Half}
+
+pub data Intent : Type 0 where
+  looks : Intent
+  -- a body, and whether it closes with a CMD_SYNC
+  reserves : List Raw → Bool → Intent
+  -- an offset in the reservation, and a half
+  writes : ℕ → Half → Intent
+  -- an offset in the reservation, and how many from there on
+  flips : ℕ → ℕ → Intent
+  closes : Intent
+  asks : Intent

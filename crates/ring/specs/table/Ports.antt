@@ -1,0 +1,51 @@
+-- What contracts see of a seat that stands for one participant alone, and of its steps.
+use Rattle.std.specs.Prelude.{◌≡◌, ◌≢◌, ℕ, ◌+◌, ◌<◌, ◌≤◌, Bool, true, false, List, ◌∷◌}
+use Rattle.atomic_table.specs.Seated.{TableId}
+use Rattle.cmdcodec.specs.declared.raw.Raw.{Raw}
+use Rattle.qindex.specs.Positions.{IndexValue, index_of}
+use Rattle.qindex.specs.declared.control.Control.{Control}
+use Rattle.ringcore.specs.declared.world.event.Who.{Who}
+use Rattle.ringcore.specs.declared.world.event.Half.{Half}
+use Rattle.ringcore.specs.declared.world.event.Event.TheVariants.{Won, Lost}
+use Rattle.ringcore.specs.world.Trails.{Trail, reserved_length, has_written, has_flipped, start_index}
+use Rattle.ringcore.specs.world.Allowed.{IsRunLength}
+use Rattle.ringcore.specs.machine.StepAnswers.{next_number}
+use Rattle.ring.specs.Rings.{RingValue}
+use Rattle.ring.specs.table.Rule.{Holding, ring_of, who_of, trail_of_first}
+
+-- a participant: its ring, who it is, and its trail
+pub record PortValue : Type 0 where
+  pub ring : RingValue
+  pub who : Who
+  pub trail : Trail
+
+abbrev pub port_of : TableId → Holding → PortValue
+port_of table me = record { ring = record { table = table; made_with = ring_of me.0 }; who = who_of me.0; trail = trail_of_first me.0 }
+
+-- ---- reserve
+
+abbrev pub has_won : List Raw → Bool → PortValue → PortValue
+has_won body closing p = record p { trail = Won body (next_number p.trail closing) ∷ p.trail }
+
+-- What was found is something else than what was looked at.
+abbrev pub HasLost : List Raw → Bool → Control → PortValue → PortValue → Type 0
+HasLost body closing seen old new = (found : Control) × (found ≢ seen) × (new ≡ record old { trail = Lost body closing found ∷ old.trail })
+
+abbrev pub IsWonOrLost : List Raw → Bool → Control → PortValue → PortValue → Bool → Type 0
+IsWonOrLost body closing seen old new true = new ≡ has_won body closing old
+IsWonOrLost body closing seen old new false = HasLost body closing seen old new
+
+-- ---- write and flip
+
+-- The index is that of the slot at an offset in the last reservation.
+abbrev pub IsSlotAt : PortValue → IndexValue → ℕ → Type 0
+IsSlotAt p slot offset =
+    (position : ℕ) → start_index p.ring.made_with.geometry p.trail ≡ index_of p.ring.made_with.geometry position
+    → slot ≡ index_of p.ring.made_with.geometry (position + offset)
+
+-- 1 to 64 commands of the open reservation that aren't flipped, both halves of each written, wherever their flags are.
+pub record MayFlipAt (mine : Trail) (offset count : ℕ) : Type 0 where
+  pub many : IsRunLength count
+  pub inside : offset + count ≤ reserved_length mine
+  pub unflipped : (i : ℕ) → i < count → has_flipped (offset + i) mine ≡ false
+  pub written : (i : ℕ) (half : Half) → i < count → has_written (offset + i) half mine ≡ true

@@ -1,0 +1,96 @@
+-- The rule of a running ring: its words stand as after a run, and each seat that is held has the trails of those for
+-- whom it stands.
+use Rattle.std.specs.Prelude.{◌≡◌, ℕ, zero, suc, ◌<◌, ◌≤◌, ◌^◌, List, [], ◌∷◌, ⊤}
+use mathlib.Core.Option.{some}
+use lib.ListN.{get_elem?}
+use Rattle.atomic_table.specs.Table.{State, Me}
+use Rattle.ringcore.specs.declared.world.event.Who.{Who}
+use Rattle.ringcore.specs.declared.world.event.Who.TheVariants.{Consumer, Sender}
+use Rattle.ringcore.specs.world.Trails.{Trail, Run, trail_of}
+use Rattle.ringcore.specs.world.Allowed.{Ring}
+use Rattle.ringcore.specs.world.Laws.{IsOne, OnlyOf}
+use Rattle.ringcore.specs.memory.Shadow.{AreAfter}
+use Rattle.ring.specs.declared.table.rule.Participant.{Participant}
+
+-- what the table is at a moment; it has no slots
+abbrev pub TableState : Type 0
+TableState = State (Unit {0}) (List Participant)
+
+-- what a seat holds: those for whom it stands, and no slots
+abbrev pub Holding : Type 0
+Holding = Me (Unit {0}) (List Participant)
+
+abbrev pub participant : Ring → Who → Trail → Participant
+participant ring who trail = record { ring = ring; who = who; trail = trail }
+
+-- what a ring may be made with, beside its geometry
+pub record IsWithinLimits (ring : Ring) : Type 0 where
+  pub senders : ring.senders ≤ 256
+  pub batches : ring.max_batches < 2 ^ 32
+
+-- The run has just these events of this participant.
+pub record IsIn (ring : Ring) (run : Run) (p : Participant) : Type 0 where
+  pub ring_is : p.ring ≡ ring
+  pub known : IsOne ring.senders p.who
+  pub trail : trail_of p.who run ≡ p.trail
+
+abbrev pub HasTrails : Ring → Run → List Participant → Type 0
+HasTrails ring run [] = ⊤
+HasTrails ring run (p ∷ ps) = IsIn ring run p × HasTrails ring run ps
+
+-- each of them sits at this seat
+abbrev pub SitAt : (Who → ℕ) → ℕ → List Participant → Type 0
+SitAt seat i [] = ⊤
+SitAt seat i (p ∷ ps) = (seat p.who ≡ i) × SitAt seat i ps
+
+-- The rule: there is a run after which the words stand as they do, and whose events of each participant that sits at
+-- a seat are that participant's trail.
+pub record RuleHolds (ring : Ring) (s : TableState) : Type 0 where
+  pub limits : IsWithinLimits ring
+  pub run : Run
+  pub after : AreAfter ring run s.words
+  pub only : OnlyOf ring.senders run
+  pub seat : Who → ℕ
+  pub seated : (i : ℕ) (v : List Participant) → get_elem? s.views i ≡ some v → SitAt seat i v × HasTrails ring run v
+
+-- the senders from the k-th on, and the consumer, before their first steps
+abbrev pub participants_from : Ring → ℕ → ℕ → List Participant
+participants_from ring k zero = participant ring Consumer [] ∷ []
+participants_from ring k (suc more) = participant ring (Sender k) [] ∷ participants_from ring (suc k) more
+
+abbrev pub first_participants : Ring → List Participant
+first_participants ring = participants_from ring 0 ring.senders
+
+-- ---- what a seat knows
+
+-- The ring stands with these words as after this run, in which one of its participants has this trail.
+pub record Stands (ring : Ring) (who : Who) (trail : Trail) (run : Run) (words : List ℕ) : Type 0 where
+  pub limits : IsWithinLimits ring
+  pub after : AreAfter ring run words
+  pub only : OnlyOf ring.senders run
+  pub known : IsOne ring.senders who
+  pub trail_is : trail_of who run ≡ trail
+
+-- A trail stands in some run of the ring.
+pub record StandsInARun (ring : Ring) (who : Who) (trail : Trail) : Type 0 where
+  pub run : Run
+  pub words : List ℕ
+  pub stands : Stands ring who trail run words
+
+-- of the first for whom a seat stands
+abbrev pub ring_of : List Participant → Ring
+ring_of [] = record { geometry = 0; senders = 0; max_batches = 0; flags = 64 }
+ring_of (p ∷ ps) = p.ring
+
+abbrev pub who_of : List Participant → Who
+who_of [] = Consumer
+who_of (p ∷ ps) = p.who
+
+abbrev pub trail_of_first : List Participant → Trail
+trail_of_first [] = []
+trail_of_first (p ∷ ps) = p.trail
+
+-- A seat stands for this participant alone.
+pub record IsAlone (me : Holding) (who : Who) : Type 0 where
+  pub me_is : me ≡ (participant (ring_of me.0) who (trail_of_first me.0) ∷ [], [])
+  pub stands : StandsInARun (ring_of me.0) who (trail_of_first me.0)

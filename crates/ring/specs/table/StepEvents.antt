@@ -1,0 +1,49 @@
+-- What a step tells: the one event that it added.
+use Rattle.std.specs.Prelude.{◌≡◌, ℕ, cond, ◌==◌, List, [], ◌∷◌}
+use Rattle.atomic_table.specs.Table.{Step}
+use Rattle.qindex.specs.ControlWord.{IsControlWord, control_in}
+use Rattle.ringcore.specs.declared.world.event.Who.{Who}
+use Rattle.ringcore.specs.declared.world.event.Event.{Event}
+use Rattle.ringcore.specs.declared.world.event.Event.TheVariants.{Look, Won, Lost, Write, Flip, Close, Ask}
+use Rattle.ringcore.specs.world.Trails.{Trail, Run}
+use Rattle.ringcore.specs.world.Allowed.{Ring}
+use Rattle.ringcore.specs.machine.StepAnswers.{next_number}
+use Rattle.ring.specs.declared.table.rule.Participant.{Participant}
+use Rattle.ring.specs.table.Rule.{Holding, participant, Stands, ring_of, who_of, trail_of_first}
+use Rattle.ring.specs.table.Intents.{Intent, looks, reserves, writes, flips, closes, asks}
+
+-- The event of a step that is for this, whose first operand this is, and which found this word.
+abbrev pub IsEventOf : Ring → Trail → Intent → ℕ → ℕ → Event → Type 0
+IsEventOf ring trail looks operand word e = (e ≡ Look (control_in ring.geometry word)) × IsControlWord ring.geometry word
+IsEventOf ring trail (reserves body closing) operand word e =
+    e ≡ cond (word == operand) (Won body (next_number trail closing)) (Lost body closing (control_in ring.geometry word))
+IsEventOf ring trail (writes offset half) operand word e = e ≡ Write offset half
+IsEventOf ring trail (flips offset count) operand word e = e ≡ Flip offset count
+IsEventOf ring trail closes operand word e = e ≡ Close
+IsEventOf ring trail asks operand word e = e ≡ Ask word
+
+-- The event stands last in a run by the rule, behind this trail.
+pub record IsNewest (ring : Ring) (who : Who) (trail : Trail) (e : Event) : Type 0 where
+  pub run : Run
+  pub words : List ℕ
+  pub new_words : List ℕ
+  pub before : Stands ring who trail run words
+  pub after : Stands ring who (e ∷ trail) ((who, e) ∷ run) new_words
+
+-- A seat's trail grew by an event of which this is said, with the word that was found.
+abbrev pub Added : Ring → Who → Trail → (ℕ → Event → Type 0) → ℕ → Holding → Type 0
+Added ring who trail says word now = (e : Event) × says word e × (now ≡ (participant ring who (e ∷ trail) ∷ [], [])) × IsNewest ring who trail e
+
+abbrev pub adds_for : Intent → Step (Unit {0}) → Holding → ℕ → Holding → Type 0
+adds_for intent step me word now =
+    Added (ring_of me.0) (who_of me.0) (trail_of_first me.0) (IsEventOf (ring_of me.0) (trail_of_first me.0) intent step.first) word now
+
+-- ---- a seat is cut in two
+
+abbrev pub without_first : List Participant → List Participant
+without_first [] = []
+without_first (p ∷ ps) = ps
+
+abbrev pub first_alone : List Participant → List Participant
+first_alone [] = []
+first_alone (p ∷ ps) = p ∷ []

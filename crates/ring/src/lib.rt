@@ -1,0 +1,15 @@
+//! The running ring: many senders and one consumer on one table of atomic words, without a lock.
+#![tactic(auto)]
+
+mod consumer;
+mod device;
+mod fault;
+mod ring;
+mod sender;
+mod table;
+
+pub use consumer::Consumer;
+pub use device::Device;
+pub use fault::RingFault;
+pub use ring::Ring;
+pub use sender::{BareReservation, Cause, Receipt, Refused, Reservation, Sender};

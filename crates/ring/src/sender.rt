@@ -1,0 +1,197 @@
+//! One who reserves slots for batches, writes them and hands them over.
+ghost use Rattle.std.specs.Prelude.{◌≡◌, ◌≢◌, ◌∷◌, ◌<◌, ◌≤◌, true, false, OnOk, OnErr, IfOk, IfErr};
+ghost use Rattle.cmdcodec.specs.Bodies.{IsBody};
+ghost use Rattle.qindex.specs.ControlWord.{IsControl};
+ghost use Rattle.qindex.specs.Positions.{size};
+ghost use Rattle.ringcore.specs.declared.world.event.Event.TheVariants.{Look, Close, Ask};
+ghost use Rattle.ringcore.specs.declared.world.event.Who.TheVariants.{Sender as SenderOf};
+ghost use Rattle.ringcore.specs.world.Trails.{looked, batches_made};
+ghost use Rattle.ringcore.specs.world.Allowed.{length_with};
+ghost use Rattle.ring.specs.table.Rule.{StandsInARun};
+ghost use Rattle.ring.specs.sender.Senders.{HasAsked};
+ghost use Rattle.ring.specs.sender.Reserving.{HasRoom, IsReserved, IsRefused, IsWon, IsLost, Fits, HasBatchLeft};
+
+mod bare_reservation;
+mod batch_length;
+mod cause;
+mod open_reservation;
+mod receipt;
+mod reservation;
+mod sending;
+mod tally;
+
+use crate::ring::Ring;
+use crate::sender::batch_length::batch_length;
+use crate::sender::open_reservation::OpenReservation;
+use crate::table::Port;
+pub use bare_reservation::BareReservation;
+use batch::Batch;
+pub use cause::{Cause, Refused};
+use qindex::Control;
+pub use receipt::Receipt;
+pub use reservation::Reservation;
+use std::marker::Model;
+pub use tally::Tally;
+
+/// One of a ring's senders, which may be moved to a thread of its own.
+#[derive(Drop)]
+pub struct Sender {
+    pub(crate) port: Port,
+    pub(crate) tally: Tally,
+}
+
+impl Model for Sender {
+    ghost use Rattle.ring.specs.sender.Senders.{SenderValue, IsSender};
+
+    ghost Value = { SenderValue };
+
+    ghost view = { λ s. record { ring = s.port.ring; number = s.tally.sender; trail = s.port.trail } };
+
+    ghost invariant = { λ s. IsSender s.port s.tally };
+}
+
+impl Sender {
+    /// Its number, from 0.
+    pub fn id(&self) -> u32
+        ensures { result ≡ self.now.number }
+    {
+        self.tally.sender
+    }
+
+    /// A witness that all its steps are steps of one run of the ring. It does nothing.
+    pub fn trail_stands_in_a_run(&self)
+        ensures { StandsInARun self.now.ring.made_with (SenderOf self.now.number) self.now.trail }
+    {
+        self.port.trail_stands_in_a_run();
+    }
+
+    /// What the control word says at this moment: SMMU_CMDQ_PROD and SMMU_CMDQ_CONS, and whether the ring is closed.
+    pub fn look(&mut self, ring: &Ring) -> Control
+        requires { self.old.ring ≡ ring.now }
+        ensures trail { self.new ≡ record self.old { trail = Look result ∷ self.old.trail } }
+        ensures control { IsControl self.old.ring.made_with.geometry result }
+    {
+        self.port.look(ring)
+    }
+
+    /// Closes the ring: from now on nothing is reserved, by any sender (own).
+    pub fn close(&mut self, ring: &Ring)
+        requires { self.old.ring ≡ ring.now }
+        ensures { self.new ≡ record self.old { trail = Close ∷ self.old.trail } }
+    {
+        self.port.close(ring, self.tally.sender);
+    }
+
+    /// The number in its completion cell: that of its last CMD_SYNC that completed, 0 where none did.
+    pub fn done_up_to(&mut self, ring: &Ring) -> u32
+        requires { self.old.ring ≡ ring.now }
+        ensures { self.new ≡ record self.old { trail = Ask result ∷ self.old.trail } }
+    {
+        self.port.ask(ring, self.tally.sender)
+    }
+
+    /// Whether the CMD_SYNC of this receipt completed, by the sender's completion cell.
+    pub fn is_done(&mut self, ring: &Ring, receipt: &Receipt) -> bool
+        requires ring { self.old.ring ≡ ring.now }
+        requires receipt { receipt.now.sender ≡ self.old.number }
+        ensures { HasAsked receipt.now.number self.old self.new result }
+    {
+        receipt.number() <= self.done_up_to(ring)
+    }
+
+    /// Reserves the next slots for a whole batch and its closing CMD_SYNC, by one look and one exchange.
+    ///
+    /// Errors: Q4 where the batch has more commands than the ring has slots, Q5 where all its batches were reserved,
+    /// Q1 where the ring is closed, Q2 where it has too little room, Q3 where another came first.
+    pub fn reserve<'b>(self, ring: &Ring, batch: &'b Batch) -> Result<Reservation<'b>, Refused>
+        requires { self.ring ≡ ring.now }
+        ensures reserved { IfOk result (λ r. IsReserved batch.now true self r) }
+        ensures refused { IfErr result (λ e. IsRefused batch.now true self e.cause e.sender) }
+    {
+        match self.open(ring, batch, true) {
+            Ok(open) => Ok(Reservation { open }),
+            Err(refused) => Err(refused),
+        }
+    }
+
+    /// The same of a batch without a closing CMD_SYNC, which has no number (own).
+    pub fn reserve_bare<'b>(
+        self,
+        ring: &Ring,
+        batch: &'b Batch,
+    ) -> Result<BareReservation<'b>, Refused>
+        requires { self.ring ≡ ring.now }
+        ensures reserved { IfOk result (λ r. IsReserved batch.now false self r) }
+        ensures refused { IfErr result (λ e. IsRefused batch.now false self e.cause e.sender) }
+    {
+        match self.open(ring, batch, false) {
+            Ok(open) => Ok(BareReservation { open }),
+            Err(refused) => Err(refused),
+        }
+    }
+
+    /// Looks, and tries to reserve where the batch fits.
+    fn open<'b>(
+        self,
+        ring: &Ring,
+        batch: &'b Batch,
+        closes: bool,
+    ) -> Result<OpenReservation<'b>, Refused>
+        requires { self.ring ≡ ring.now }
+        ensures reserved { IfOk result (λ r. IsReserved batch.now closes self r) }
+        ensures refused { IfErr result (λ e. IsRefused batch.now closes self e.cause e.sender) }
+    {
+        let mut sender = self;
+        let many = batch_length(batch, closes);
+        let size = ring.geometry().size();
+        if many > size {
+            return Err(Cause::TooLong.refused(sender));
+        }
+        if sender.tally.batches >= ring.max_batches() {
+            return Err(Cause::Exhausted.refused(sender));
+        }
+        let seen = sender.look(ring);
+        if seen.closed {
+            return Err(Cause::Closed.refused(sender));
+        }
+        if seen.prod.distance(seen.cons) + many > size {
+            return Err(Cause::Full.refused(sender));
+        }
+        sender.exchange(ring, batch, closes, many, seen)
+    }
+
+    /// The exchange, after a look that found the room.
+    fn exchange<'b>(
+        self,
+        ring: &Ring,
+        batch: &'b Batch,
+        closes: bool,
+        many: u32,
+        seen: Control,
+    ) -> Result<OpenReservation<'b>, Refused>
+        requires ring { self.ring ≡ ring.now }
+        requires body { IsBody batch.now }
+        requires many { many ≡ length_with closes batch.now }
+        requires seen { looked self.trail ≡ Some seen }
+        requires room { HasRoom batch.now closes self seen }
+        requires left { HasBatchLeft self }
+        requires fits { Fits batch.now closes self }
+        requires control { IsControl self.ring.made_with.geometry seen }
+        ensures won { IfOk result (λ r. IsWon batch.now closes self r) }
+        ensures lost { IfErr result (λ e. (e.cause ≡ Cause.Contended) × IsLost batch.now closes seen self e.sender) }
+    {
+        let Sender { mut port, tally } = self;
+        if port.exchange(ring, tally.sender, batch, closes, many, &seen) {
+            return Ok(OpenReservation {
+                port,
+                tally: tally.with_batch(closes),
+                batch,
+                closes,
+                start: seen.prod,
+                written: 0,
+                flipped: 0,
+            });
+        }
+        Err(Cause::Contended.refused(Sender { port, tally }))
+    }
+}

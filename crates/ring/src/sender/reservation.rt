@@ -1,0 +1,78 @@
+//! A reservation of a batch that closes with a CMD_SYNC.
+ghost use Rattle.std.specs.Prelude.{◌≡◌, ◌+◌, ◌<◌, Some};
+ghost use Rattle.ringcore.specs.world.Trails.{reserved_length, IsSettled};
+ghost use Rattle.ring.specs.sender.Reservations.{IsWrittenUpTo, IsFlippedUpTo, IsReceiptOf};
+ghost use Rattle.ring.specs.sender.Publishing.{wrote_one, flipped_one, published, sender_of};
+
+use crate::ring::Ring;
+use crate::sender::Sender;
+use crate::sender::open_reservation::OpenReservation;
+use crate::sender::receipt::Receipt;
+use std::marker::Model;
+
+/// Slots that are reserved for a batch and its closing CMD_SYNC. It must be spent by `publish`.
+pub struct Reservation<'b> {
+    pub(crate) open: OpenReservation<'b>,
+}
+
+impl<'b> Model for Reservation<'b> {
+    ghost use Rattle.std.specs.Prelude.{◌≡◌, true};
+    ghost use Rattle.ring.specs.sender.Reservations.{ReservationValue};
+
+    ghost Value = { ReservationValue };
+
+    ghost view = { λ r. r.open };
+
+    ghost invariant = { λ r. r.open.closes ≡ true };
+}
+
+impl<'b> Reservation<'b> {
+    /// Writes both halves of the next slot. One must be left (`unwritten`).
+    pub fn write_next(&mut self, ring: &Ring)
+        requires ring { self.old.ring ≡ ring.now }
+        requires left { self.old.written < reserved_length self.old.trail }
+        ensures { self.new ≡ wrote_one self.old }
+    {
+        self.open.write_next(ring);
+    }
+
+    /// Flips the flag of the next slot that is written. One must be left (`unflipped`).
+    pub fn flip_next(&mut self, ring: &Ring)
+        requires ring { self.old.ring ≡ ring.now }
+        requires left { self.old.flipped < self.old.written }
+        ensures { self.new ≡ flipped_one self.old }
+    {
+        self.open.flip_next(ring);
+    }
+
+    /// How many slots are not written.
+    pub fn unwritten(&self) -> u32
+        ensures value { result + self.now.written ≡ reserved_length self.now.trail }
+        ensures written { IsWrittenUpTo self.now.written self.now.trail }
+    {
+        self.open.unwritten()
+    }
+
+    /// How many slots are written and not flipped.
+    pub fn unflipped(&self) -> u32
+        ensures value { result + self.now.flipped ≡ self.now.written }
+        ensures flipped { IsFlippedUpTo self.now.flipped self.now.trail }
+    {
+        self.open.unflipped()
+    }
+
+    /// Writes and flips what is left, in order: the consumer may take the whole batch. The receipt names its CMD_SYNC.
+    pub fn publish(self, ring: &Ring) -> (Sender, Receipt)
+        requires { self.ring ≡ ring.now }
+        ensures sender { result.0 ≡ sender_of (published self.entry) }
+        ensures settled { IsSettled result.0.trail }
+        ensures receipt { IsReceiptOf self.entry result.1 }
+    {
+        let Reservation { open } = self;
+        let receipt = Receipt {
+            sender: open.tally.sender,
+            number: open.number(),
+        };
+        (open.publish(ring), receipt)
+    }
+}

@@ -1,0 +1,68 @@
+//! A whole batch by one call.
+ghost use Rattle.std.specs.Prelude.{◌≡◌, ◌≤◌, true, false, IfOk, IfErr};
+ghost use Rattle.ring.specs.sender.Sending.{IsReservedWithin, IsSent, IsSentBare, IsGivenUp};
+
+use crate::ring::Ring;
+use crate::sender::open_reservation::OpenReservation;
+use crate::sender::{BareReservation, Receipt, Refused, Reservation, Sender};
+use batch::Batch;
+
+impl Sender {
+    /// Reserves and publishes a batch with its closing CMD_SYNC. Where the ring has too little room or another came
+    /// first, it tries again, up to `tries` times.
+    ///
+    /// Errors: as of the last try of `reserve`.
+    pub fn send(self, ring: &Ring, batch: &Batch, tries: u32) -> Result<(Sender, Receipt), Refused>
+        requires ring { self.ring ≡ ring.now }
+        requires tries { 1 ≤ tries }
+        ensures sent { IfOk result (λ r. IsSent batch.now tries self r.0 r.1) }
+        ensures refused { IfErr result (λ e. IsGivenUp batch.now true tries self e.cause e.sender) }
+    {
+        match self.try_to_open(ring, batch, true, tries) {
+            Ok(open) => Ok(Reservation { open }.publish(ring)),
+            Err(refused) => Err(refused),
+        }
+    }
+
+    /// The same of a batch without a closing CMD_SYNC (own).
+    pub fn send_bare(self, ring: &Ring, batch: &Batch, tries: u32) -> Result<Sender, Refused>
+        requires ring { self.ring ≡ ring.now }
+        requires tries { 1 ≤ tries }
+        ensures sent { IfOk result (λ t. IsSentBare batch.now tries self t) }
+        ensures refused { IfErr result (λ e. IsGivenUp batch.now false tries self e.cause e.sender) }
+    {
+        match self.try_to_open(ring, batch, false, tries) {
+            Ok(open) => Ok(BareReservation { open }.publish(ring)),
+            Err(refused) => Err(refused),
+        }
+    }
+
+    /// Tries to reserve so often, until it succeeds or the cause won't pass.
+    fn try_to_open<'b>(
+        self,
+        ring: &Ring,
+        batch: &'b Batch,
+        closes: bool,
+        tries: u32,
+    ) -> Result<OpenReservation<'b>, Refused>
+        requires ring { self.ring ≡ ring.now }
+        requires tries { 1 ≤ tries }
+        ensures ring { IfOk result (λ r. r.ring ≡ self.ring) }
+        ensures reserved { IfOk result (λ r. IsReservedWithin batch.now closes tries self r) }
+        ensures refused { IfErr result (λ e. IsGivenUp batch.now closes tries self e.cause e.sender) }
+    {
+        let mut sender = self;
+        for tried in 0..tries - 1 {
+            match sender.open(ring, batch, closes) {
+                Ok(open) => return Ok(open),
+                Err(refused) => {
+                    if !refused.cause.may_pass() {
+                        return Err(refused);
+                    }
+                    sender = refused.sender;
+                }
+            }
+        }
+        sender.open(ring, batch, closes)
+    }
+}

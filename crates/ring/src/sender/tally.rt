@@ -1,0 +1,39 @@
+//! What a sender has reserved so far.
+ghost use Rattle.std.specs.Prelude.{◌≡◌, ◌<◌, ◌+◌, ◌^◌};
+ghost use Rattle.ring.specs.sender.Senders.{one_more};
+
+/// Which sender it is, and how many batches it has reserved.
+#[derive(Clone, Copy)]
+pub struct Tally {
+    /// The sender's number, from 0.
+    pub(crate) sender: u32,
+    pub(crate) batches: u32,
+    /// How many of its batches close with a CMD_SYNC: the number of the last of them.
+    pub(crate) numbers: u32,
+}
+
+impl Tally {
+    /// No batch.
+    pub(crate) fn new(sender: u32) -> Tally
+        ensures { result ≡ record { sender = sender; batches = 0; numbers = 0 } }
+    {
+        Tally {
+            sender,
+            batches: 0,
+            numbers: 0,
+        }
+    }
+
+    /// One batch more, which closes with a CMD_SYNC or doesn't.
+    pub(crate) fn with_batch(self, closes: bool) -> Tally
+        requires batches { self.batches + 1 < 2 ^ 32 }
+        requires numbers { self.numbers + 1 < 2 ^ 32 }
+        ensures { result ≡ one_more closes self }
+    {
+        Tally {
+            sender: self.sender,
+            batches: self.batches + 1,
+            numbers: self.numbers + u32::from(closes),
+        }
+    }
+}

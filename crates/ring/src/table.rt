@@ -1,0 +1,8 @@
+//! The words that all threads share, the rule that they keep, and the atomic steps that seats take on them.
+mod port;
+mod rule;
+mod steps;
+
+pub use port::Port;
+pub use rule::{Parameters, Participant, Participants, RingRule};
+pub use steps::{Asks, Closes, Deals, HasIntent, Looks, StepFor};

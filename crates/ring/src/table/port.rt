@@ -1,0 +1,245 @@
+//! A seat that stands for one participant alone, and the atomic steps that it may take.
+ghost use Rattle.std.specs.Prelude.{◌≡◌, ◌∷◌, ◌<◌, ◌≤◌, ◌^◌, ℕ, Some, slice_get};
+ghost use Rattle.qindex.specs.Positions.{size, index_of};
+ghost use Rattle.qindex.specs.ControlWord.{IsControl};
+ghost use Rattle.ringcore.specs.declared.world.event.Who.TheVariants.{Sender};
+ghost use Rattle.ringcore.specs.declared.world.event.Event.TheVariants.{Look, Write, Flip, Close, Ask};
+ghost use Rattle.ringcore.specs.world.World.{half_of};
+ghost use Rattle.ringcore.specs.world.Allowed.{MayTry, MayWrite, ShareAWord, length_with};
+ghost use Rattle.ringcore.specs.memory.StepLaws.{reserved_commands};
+ghost use Rattle.ring.specs.table.Intents.{reserves, writes, flips};
+ghost use Rattle.ring.specs.table.Rule.{StandsInARun};
+ghost use Rattle.ring.specs.table.Ports.{PortValue, IsWonOrLost, IsSlotAt, MayFlipAt};
+
+use crate::ring::Ring;
+use crate::table::rule::Participants;
+use crate::table::steps::{Asks, Closes, HasIntent, Looks, StepFor};
+use atomic_table::Seat;
+use batch::Batch;
+use cmdcodec::Raw;
+use qindex::{Control, Index, close_mask};
+use ringcore::{
+    Half, cell, control_word, counts_law, data_word, flag_word, flip_mask, laws, world_law,
+};
+use std::marker::{Brand, Model};
+
+/// A seat that stands for one participant alone.
+#[derive(Drop)]
+pub struct Port {
+    pub(crate) seat: Seat<(), Participants>,
+}
+
+impl Model for Port {
+    ghost use Rattle.ring.specs.table.Rule.{who_of, IsAlone};
+    ghost use Rattle.ring.specs.table.Ports.{PortValue, port_of};
+
+    ghost Value = { PortValue };
+
+    ghost view = { λ p. port_of p.seat.table_id p.seat.me };
+
+    ghost invariant = { λ p. IsAlone p.seat.me (who_of p.seat.me.0) };
+}
+
+impl Port {
+    /// Its trail stands in some run of the ring.
+    pub(crate) fn trail_stands_in_a_run(&self)
+        ensures { StandsInARun self.now.ring.made_with self.now.who self.now.trail }
+    {
+        let _ = &self.seat;
+    }
+
+    /// A load of the control word.
+    pub(crate) fn look(&mut self, ring: &Ring) -> Control
+        requires { self.old.ring ≡ ring.now }
+        ensures trail { self.new ≡ record self.old { trail = Look result ∷ self.old.trail } }
+        ensures control { IsControl self.old.ring.made_with.geometry result }
+    {
+        laws::look();
+        let words = &ring.table.shared;
+        let word = words.load::<StepFor<Looks>>(&mut self.seat, control_word());
+        Control::unpack(ring.geometry(), word).unwrap()
+    }
+
+    /// An or of the control word with the closed bit.
+    pub(crate) fn close(&mut self, ring: &Ring, sender: u32)
+        requires ring { self.old.ring ≡ ring.now }
+        requires who { self.old.who ≡ Sender sender }
+        ensures { self.new ≡ record self.old { trail = Close ∷ self.old.trail } }
+    {
+        laws::close();
+        let words = &ring.table.shared;
+        words.fetch_or::<StepFor<Closes>>(&mut self.seat, control_word(), close_mask());
+    }
+
+    /// An exchange of the control word that was looked at, to reserve a batch of so many commands: whether it was won.
+    pub(crate) fn exchange(
+        &mut self,
+        ring: &Ring,
+        sender: u32,
+        batch: &Batch,
+        closes: bool,
+        many: u32,
+        seen: &Control,
+    ) -> bool
+        requires ring { self.old.ring ≡ ring.now }
+        requires who { self.old.who ≡ Sender sender }
+        requires many { many ≡ length_with closes batch.now }
+        requires may { MayTry self.old.ring.made_with self.old.trail batch.now many seen.now }
+        requires control { IsControl self.old.ring.made_with.geometry seen.now }
+        ensures { IsWonOrLost batch.now closes seen.now self.old self.new result }
+    {
+        self.exchange_for::<Brand>(ring, sender, batch, closes, many, seen)
+    }
+
+    fn exchange_for<I: HasIntent>(
+        &mut self,
+        ring: &Ring,
+        sender: u32,
+        batch: &Batch,
+        closes: bool,
+        many: u32,
+        seen: &Control,
+    ) -> bool
+        requires ring { self.old.ring ≡ ring.now }
+        requires who { self.old.who ≡ Sender sender }
+        requires many { many ≡ length_with closes batch.now }
+        requires may { MayTry self.old.ring.made_with self.old.trail batch.now many seen.now }
+        requires control { IsControl self.old.ring.made_with.geometry seen.now }
+        requires intent { I.intent ≡ reserves batch.now closes }
+        ensures { IsWonOrLost batch.now closes seen.now self.old self.new result }
+    {
+        laws::reserve_won();
+        laws::reserve_lost();
+        let after = Control {
+            prod: seen.prod.forward(many),
+            cons: seen.cons,
+            closed: seen.closed,
+        };
+        let words = &ring.table.shared;
+        let before = seen.pack();
+        let found = words.compare_exchange::<StepFor<I>>(
+            &mut self.seat,
+            control_word(),
+            before,
+            after.pack(),
+        );
+        found == before
+    }
+
+    /// A store of a half of a command of the open reservation, in the slot of this index.
+    pub(crate) fn write(
+        &mut self,
+        ring: &Ring,
+        sender: u32,
+        slot: Index,
+        offset: u32,
+        half: Half,
+        raw: Raw,
+    )
+        requires ring { self.old.ring ≡ ring.now }
+        requires who { self.old.who ≡ Sender sender }
+        requires may { MayWrite self.old.trail offset }
+        requires raw { slice_get (reserved_commands sender self.old.trail) offset ≡ Some raw }
+        requires geometry { slot.geometry ≡ self.old.ring.made_with.geometry }
+        requires slot { IsSlotAt self.old slot offset }
+        ensures { self.new ≡ record self.old { trail = Write offset half ∷ self.old.trail } }
+    {
+        self.write_for::<Brand>(ring, sender, slot, offset, half, raw)
+    }
+
+    fn write_for<I: HasIntent>(
+        &mut self,
+        ring: &Ring,
+        sender: u32,
+        slot: Index,
+        offset: u32,
+        half: Half,
+        raw: Raw,
+    )
+        requires ring { self.old.ring ≡ ring.now }
+        requires who { self.old.who ≡ Sender sender }
+        requires may { MayWrite self.old.trail offset }
+        requires raw { slice_get (reserved_commands sender self.old.trail) offset ≡ Some raw }
+        requires geometry { slot.geometry ≡ self.old.ring.made_with.geometry }
+        requires slot { IsSlotAt self.old slot offset }
+        requires intent { I.intent ≡ writes offset half }
+        ensures { self.new ≡ record self.old { trail = Write offset half ∷ self.old.trail } }
+    {
+        laws::write();
+        laws::start();
+        let word = half_word(half, raw);
+        let words = &ring.table.shared;
+        words.store::<StepFor<I>>(&mut self.seat, data_word(slot, half), word);
+    }
+
+    /// An exclusive or of a flag word, by the mask of the flags of so many slots from this index on.
+    pub(crate) fn flip(&mut self, ring: &Ring, sender: u32, slot: Index, offset: u32, count: u32)
+        requires ring { self.old.ring ≡ ring.now }
+        requires who { self.old.who ≡ Sender sender }
+        requires geometry { slot.geometry ≡ self.old.ring.made_with.geometry }
+        requires slot { IsSlotAt self.old slot offset }
+        requires may { MayFlipAt self.old.trail offset count }
+        requires within { count ≤ size slot.geometry }
+        requires share { ShareAWord 64 slot.geometry slot.number count }
+        requires share_at_position { (geometry position : ℕ) → slot ≡ index_of geometry position → ShareAWord 64 geometry position count }
+        ensures { self.new ≡ record self.old { trail = Flip offset count ∷ self.old.trail } }
+    {
+        self.flip_for::<Brand>(ring, sender, slot, offset, count)
+    }
+
+    fn flip_for<I: HasIntent>(
+        &mut self,
+        ring: &Ring,
+        sender: u32,
+        slot: Index,
+        offset: u32,
+        count: u32,
+    )
+        requires ring { self.old.ring ≡ ring.now }
+        requires who { self.old.who ≡ Sender sender }
+        requires geometry { slot.geometry ≡ self.old.ring.made_with.geometry }
+        requires slot { IsSlotAt self.old slot offset }
+        requires may { MayFlipAt self.old.trail offset count }
+        requires within { count ≤ size slot.geometry }
+        requires share { ShareAWord 64 slot.geometry slot.number count }
+        requires share_at_position { (geometry position : ℕ) → slot ≡ index_of geometry position → ShareAWord 64 geometry position count }
+        requires intent { I.intent ≡ flips offset count }
+        ensures { self.new ≡ record self.old { trail = Flip offset count ∷ self.old.trail } }
+    {
+        laws::flip();
+        laws::start();
+        let words = &ring.table.shared;
+        words.fetch_xor::<StepFor<I>>(&mut self.seat, flag_word(slot), flip_mask(slot, count));
+    }
+
+    /// A load of the sender's completion cell.
+    pub(crate) fn ask(&mut self, ring: &Ring, sender: u32) -> u32
+        requires ring { self.old.ring ≡ ring.now }
+        requires who { self.old.who ≡ Sender sender }
+        ensures { self.new ≡ record self.old { trail = Ask result ∷ self.old.trail } }
+    {
+        self.load_cell(ring, sender) as u32
+    }
+
+    fn load_cell(&mut self, ring: &Ring, sender: u32) -> u64
+        requires ring { self.old.ring ≡ ring.now }
+        requires who { self.old.who ≡ Sender sender }
+        ensures trail { self.new ≡ record self.old { trail = Ask result ∷ self.old.trail } }
+        ensures few { result < 2 ^ 32 }
+    {
+        laws::ask();
+        world_law();
+        counts_law();
+        let words = &ring.table.shared;
+        words.load::<StepFor<Asks>>(&mut self.seat, cell(ring.geometry(), sender))
+    }
+}
+
+fn half_word(half: Half, raw: Raw) -> u64
+    ensures { result ≡ half_of half raw }
+{
+    match half {
+        Half::Lo => raw.lo,
+        Half::Hi => raw.hi,
+    }
+}

@@ -1,0 +1,47 @@
+//! What a seat knows, and the rule of the table.
+use atomic_table::TableRule;
+use qindex::Geometry;
+use ringcore::{Event, Who};
+use std::collections::LinkedList;
+use std::marker::Model;
+
+/// What a ring is made with.
+#[derive(Clone, Copy)]
+pub struct Parameters {
+    pub(crate) geometry: Geometry,
+    /// How many senders it has: 1 to 256.
+    pub(crate) senders: u32,
+    /// How many batches each of them may reserve.
+    pub(crate) max_batches: u32,
+}
+
+impl Model for Parameters {
+    ghost use Rattle.ringcore.specs.world.Allowed.{Ring};
+
+    ghost Value = { Ring };
+
+    ghost view = { λ p. record { geometry = p.geometry; senders = p.senders; max_batches = p.max_batches; flags = 64 } };
+
+    ghost inverse = { λ r. record { geometry = r.geometry; senders = r.senders; max_batches = r.max_batches } };
+}
+
+/// One who takes steps, with all of its steps. It stands in proofs alone.
+pub struct Participant {
+    pub(crate) ring: Parameters,
+    pub(crate) who: Who,
+    pub(crate) trail: LinkedList<Event>,
+}
+
+/// All for whom a seat stands.
+pub type Participants = LinkedList<Participant>;
+
+/// The rule of a ring's table.
+pub struct RingRule;
+
+impl TableRule<(), Participants, Parameters> for RingRule {
+    ghost use Rattle.ring.specs.table.Rule.{RuleHolds, first_participants};
+
+    ghost holds = { λ ring. RuleHolds ring };
+
+    ghost first = { λ ring. first_participants ring };
+}

@@ -1,0 +1,57 @@
+//! What each step tells: the event that it added. These types stand in proofs alone.
+ghost use Rattle.ring.specs.table.Intents.{Intent, looks, closes, asks};
+ghost use Rattle.ring.specs.table.StepEvents.{adds_for};
+
+use crate::table::rule::Participants;
+use atomic_table::{Play, Split};
+use std::marker::{Brand, PhantomData};
+
+/// What a step is for. A call at `Brand` picks it from its arguments.
+pub trait HasIntent {
+    ghost intent: { Intent };
+}
+
+impl HasIntent for Brand {
+    ghost intent = { looks };
+}
+
+/// A look.
+pub struct Looks;
+
+impl HasIntent for Looks {
+    ghost intent = { looks };
+}
+
+/// A close.
+pub struct Closes;
+
+impl HasIntent for Closes {
+    ghost intent = { closes };
+}
+
+/// An ask.
+pub struct Asks;
+
+impl HasIntent for Asks {
+    ghost intent = { asks };
+}
+
+/// A step that is for this.
+pub struct StepFor<I: HasIntent> {
+    intent: PhantomData<I>,
+}
+
+impl<I: HasIntent> Play<(), Participants> for StepFor<I> {
+    ghost then = { adds_for I.intent };
+}
+
+/// The first for whom a seat stands gets a seat of its own.
+pub struct Deals;
+
+impl Split<Participants> for Deals {
+    ghost use Rattle.ring.specs.table.StepEvents.{without_first, first_alone};
+
+    ghost left = { without_first };
+
+    ghost right = { first_alone };
+}
