@@ -1,5 +1,5 @@
 //! One who reserves slots for batches, writes them and hands them over.
-ghost use Rattle.std.specs.Prelude.{◌≡◌, ◌≢◌, ◌∷◌, ◌<◌, ◌≤◌, true, false, OnOk, OnErr, IfOk, IfErr};
+ghost use Rattle.std.specs.Prelude.{◌≡◌, ◌≢◌, ◌∷◌, ◌<◌, ◌≤◌, true, false, IfOk, IfErr, MatchResult};
 ghost use Rattle.cmdcodec.specs.Bodies.{IsBody};
 ghost use Rattle.qindex.specs.ControlWord.{IsControl};
 ghost use Rattle.qindex.specs.Positions.{size};
@@ -107,6 +107,8 @@ impl Sender {
         requires { self.ring ≡ ring.now }
         ensures reserved { IfOk result (λ r. IsReserved batch.now true self r) }
         ensures refused { IfErr result (λ e. IsRefused batch.now true self e.cause e.sender) }
+        ensures ring { MatchResult result (λ r. r.ring ≡ self.ring) (λ e. e.sender.ring ≡ self.ring) }
+        ensures id { MatchResult result (λ r. r.sender ≡ self.number) (λ e. e.sender.number ≡ self.number) }
     {
         match self.open(ring, batch, true) {
             Ok(open) => Ok(Reservation { open }),
@@ -123,6 +125,8 @@ impl Sender {
         requires { self.ring ≡ ring.now }
         ensures reserved { IfOk result (λ r. IsReserved batch.now false self r) }
         ensures refused { IfErr result (λ e. IsRefused batch.now false self e.cause e.sender) }
+        ensures ring { MatchResult result (λ r. r.ring ≡ self.ring) (λ e. e.sender.ring ≡ self.ring) }
+        ensures id { MatchResult result (λ r. r.sender ≡ self.number) (λ e. e.sender.number ≡ self.number) }
     {
         match self.open(ring, batch, false) {
             Ok(open) => Ok(BareReservation { open }),
@@ -140,6 +144,8 @@ impl Sender {
         requires { self.ring ≡ ring.now }
         ensures reserved { IfOk result (λ r. IsReserved batch.now closes self r) }
         ensures refused { IfErr result (λ e. IsRefused batch.now closes self e.cause e.sender) }
+        ensures ring { MatchResult result (λ r. r.ring ≡ self.ring) (λ e. e.sender.ring ≡ self.ring) }
+        ensures id { MatchResult result (λ r. r.sender ≡ self.number) (λ e. e.sender.number ≡ self.number) }
     {
         let mut sender = self;
         let many = batch_length(batch, closes);
@@ -179,6 +185,8 @@ impl Sender {
         requires control { IsControl self.ring.made_with.geometry seen }
         ensures won { IfOk result (λ r. IsWon batch.now closes self r) }
         ensures lost { IfErr result (λ e. (e.cause ≡ Cause.Contended) × IsLost batch.now closes seen self e.sender) }
+        ensures ring { MatchResult result (λ r. r.ring ≡ self.ring) (λ e. e.sender.ring ≡ self.ring) }
+        ensures id { MatchResult result (λ r. r.sender ≡ self.number) (λ e. e.sender.number ≡ self.number) }
     {
         let Sender { mut port, tally } = self;
         if port.exchange(ring, tally.sender, batch, closes, many, &seen) {

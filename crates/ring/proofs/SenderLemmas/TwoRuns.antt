@@ -13,7 +13,7 @@ use Rattle.std.proofs.Math.Pow.{pow_mono}
 use Rattle.std.proofs.lemmas.Bool.{cases_lt}
 use Rattle.std.proofs.lemmas.Nat.{pow-add}
 use Rattle.ring.specs.sender.Reservations.{ReservationValue}
-use Rattle.ring.specs.sender.Publishing.{wrote_many, next_run, flipped_run, flipped_left}
+use Rattle.ring.specs.sender.Publishing.{published, wrote_many, next_run, flipped_run, flipped_left}
 
 lt_true : (a b : ℕ) → a < b → nat_lt a b ≡ true
 lt_true a b l = grind (arith, nat_tests)
@@ -97,6 +97,7 @@ module _ (g x w : ℕ) (few : w ≤ 64) (fits : w ≤ size g) where
 
 pub record IsFurther (r new : ReservationValue) : Type 0 where
   pub ring_is : new.ring ≡ r.ring
+  pub sender_is : new.sender ≡ r.sender
   pub written_is : new.written ≡ r.written
   pub start_is : (g : ℕ) → start_index g new.trail ≡ start_index g r.trail
   pub length_is : reserved_length new.trail ≡ reserved_length r.trail
@@ -106,18 +107,30 @@ pub left_is : (r : ReservationValue) → IsFurther r (flipped_left r)
 left_is r = by_less (nat_lt r.flipped r.written) refl
   where
     by_less : (v : Bool) → nat_lt r.flipped r.written ≡ v → IsFurther r (cond v (flipped_run r) r)
-    by_less true is = record { ring_is = refl; written_is = refl; start_is = λ g. refl; length_is = refl; flipped_is = sym (ap (λ (b : Bool). cond b (r.flipped + next_run r) r.flipped) is) }
-    by_less false is = record { ring_is = refl; written_is = refl; start_is = λ g. refl; length_is = refl; flipped_is = sym (ap (λ (b : Bool). cond b (r.flipped + next_run r) r.flipped) is) }
+    by_less true is = record { ring_is = refl; sender_is = refl; written_is = refl; start_is = λ g. refl; length_is = refl; flipped_is = sym (ap (λ (b : Bool). cond b (r.flipped + next_run r) r.flipped) is) }
+    by_less false is = record { ring_is = refl; sender_is = refl; written_is = refl; start_is = λ g. refl; length_is = refl; flipped_is = sym (ap (λ (b : Bool). cond b (r.flipped + next_run r) r.flipped) is) }
 
 pub record IsWrote (k : ℕ) (r new : ReservationValue) : Type 0 where
   pub ring_is : new.ring ≡ r.ring
+  pub sender_is : new.sender ≡ r.sender
   pub written_is : new.written ≡ r.written + k
   pub flipped_is : new.flipped ≡ r.flipped
   pub length_is : reserved_length new.trail ≡ reserved_length r.trail
 
 pub wrote_is : (k : ℕ) (r : ReservationValue) → IsWrote k r (wrote_many k r)
-wrote_is zero r = record { ring_is = refl; written_is = omega arith; flipped_is = refl; length_is = refl }
-wrote_is (suc k) r = let b = wrote_is k r in record { ring_is = b.ring_is; written_is = (let w = b.written_is in omega arith); flipped_is = b.flipped_is; length_is = b.length_is }
+wrote_is zero r = record { ring_is = refl; sender_is = refl; written_is = omega arith; flipped_is = refl; length_is = refl }
+wrote_is (suc k) r = let b = wrote_is k r in record { ring_is = b.ring_is; sender_is = b.sender_is; written_is = (let w = b.written_is in omega arith); flipped_is = b.flipped_is; length_is = b.length_is }
+
+-- what is published is of the same ring and sender
+pub published_ring : (r : ReservationValue) → (published r).ring ≡ r.ring
+published_ring r =
+    let k : ℕ = reserved_length r.trail - r.written in let w : ReservationValue = wrote_many k r in
+    (left_is (flipped_left w)).ring_is ∙ (left_is w).ring_is ∙ (wrote_is k r).ring_is
+
+pub published_sender : (r : ReservationValue) → (published r).sender ≡ r.sender
+published_sender r =
+    let k : ℕ = reserved_length r.trail - r.written in let w : ReservationValue = wrote_many k r in
+    (left_is (flipped_left w)).sender_is ∙ (left_is w).sender_is ∙ (wrote_is k r).sender_is
 
 -- once all is written, two are enough
 pub all_flipped : (r : ReservationValue) → r.written ≡ reserved_length r.trail → r.written ≤ 64 → r.written ≤ size r.ring.made_with.geometry → r.flipped ≤ r.written

@@ -65,6 +65,8 @@ impl<'b> BareReservation<'b> {
         requires { self.ring ≡ ring.now }
         ensures sender { result ≡ sender_of (published self.entry) }
         ensures settled { IsSettled result.trail }
+        ensures ring { result.ring ≡ self.entry.ring }
+        ensures id { result.number ≡ self.entry.sender }
     {
         let BareReservation { open } = self;
         open.publish(ring)

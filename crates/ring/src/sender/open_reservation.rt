@@ -119,6 +119,8 @@ impl<'b> OpenReservation<'b> {
         requires { self.ring ≡ ring.now }
         ensures sender { result ≡ sender_of (published self.entry) }
         ensures settled { IsSettled result.trail }
+        ensures ring { result.ring ≡ self.entry.ring }
+        ensures id { result.number ≡ self.entry.sender }
     {
         self.len();
         let mut reservation = self.write_left(ring);

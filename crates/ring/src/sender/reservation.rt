@@ -66,6 +66,8 @@ impl<'b> Reservation<'b> {
         requires { self.ring ≡ ring.now }
         ensures sender { result.0 ≡ sender_of (published self.entry) }
         ensures settled { IsSettled result.0.trail }
+        ensures ring { result.0.ring ≡ self.entry.ring }
+        ensures id { result.0.number ≡ self.entry.sender }
         ensures receipt { IsReceiptOf self.entry result.1 }
     {
         let Reservation { open } = self;

@@ -1,5 +1,5 @@
 //! A whole batch by one call.
-ghost use Rattle.std.specs.Prelude.{◌≡◌, ◌≤◌, true, false, IfOk, IfErr};
+ghost use Rattle.std.specs.Prelude.{◌≡◌, ◌≤◌, true, false, IfOk, IfErr, MatchResult};
 ghost use Rattle.ring.specs.sender.Sending.{IsReservedWithin, IsSent, IsSentBare, IsGivenUp};
 
 use crate::ring::Ring;
@@ -17,6 +17,8 @@ impl Sender {
         requires tries { 1 ≤ tries }
         ensures sent { IfOk result (λ r. IsSent batch.now tries self r.0 r.1) }
         ensures refused { IfErr result (λ e. IsGivenUp batch.now true tries self e.cause e.sender) }
+        ensures ring { MatchResult result (λ r. r.0.ring ≡ self.ring) (λ e. e.sender.ring ≡ self.ring) }
+        ensures id { MatchResult result (λ r. r.0.number ≡ self.number) (λ e. e.sender.number ≡ self.number) }
     {
         match self.try_to_open(ring, batch, true, tries) {
             Ok(open) => Ok(Reservation { open }.publish(ring)),
@@ -30,6 +32,8 @@ impl Sender {
         requires tries { 1 ≤ tries }
         ensures sent { IfOk result (λ t. IsSentBare batch.now tries self t) }
         ensures refused { IfErr result (λ e. IsGivenUp batch.now false tries self e.cause e.sender) }
+        ensures ring { MatchResult result (λ t. t.ring ≡ self.ring) (λ e. e.sender.ring ≡ self.ring) }
+        ensures id { MatchResult result (λ t. t.number ≡ self.number) (λ e. e.sender.number ≡ self.number) }
     {
         match self.try_to_open(ring, batch, false, tries) {
             Ok(open) => Ok(BareReservation { open }.publish(ring)),
@@ -47,9 +51,10 @@ impl Sender {
     ) -> Result<OpenReservation<'b>, Refused>
         requires ring { self.ring ≡ ring.now }
         requires tries { 1 ≤ tries }
-        ensures ring { IfOk result (λ r. r.ring ≡ self.ring) }
         ensures reserved { IfOk result (λ r. IsReservedWithin batch.now closes tries self r) }
         ensures refused { IfErr result (λ e. IsGivenUp batch.now closes tries self e.cause e.sender) }
+        ensures ring { MatchResult result (λ r. r.ring ≡ self.ring) (λ e. e.sender.ring ≡ self.ring) }
+        ensures id { MatchResult result (λ r. r.sender ≡ self.number) (λ e. e.sender.number ≡ self.number) }
     {
         let mut sender = self;
         for tried in 0..tries - 1 {

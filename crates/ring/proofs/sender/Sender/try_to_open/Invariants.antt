@@ -5,5 +5,6 @@ use Rattle.ring.proofs.sender.Sender.try_to_open.Given as goal
 abbrev pub invariant-loop-tried : goal.invariant-loop-tried
 invariant-loop-tried l = record {
   ring : l.sender.ring ≡ l.fn.self.ring;
+  number : l.sender.number ≡ l.fn.self.number;
   tried : HasTried l.batch l.closes l.tried l.fn.self l.sender;
 }

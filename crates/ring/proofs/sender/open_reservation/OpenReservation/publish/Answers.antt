@@ -1,8 +1,9 @@
 use Rattle.std.proofs.Common.{◌≡◌, ◌+◌, ◌-◌, ap, sym, subst, arith, ◌∙◌}
 use Rattle.qindex.specs.Positions.{size}
 use Rattle.ringcore.specs.world.Trails.{reserved_length}
+use Rattle.ring.specs.sender.Senders.{SenderValue}
 use Rattle.ring.specs.sender.Reservations.{ReservationValue}
-use Rattle.ring.proofs.SenderLemmas.TwoRuns.{wrote_is, left_is, all_flipped}
+use Rattle.ring.proofs.SenderLemmas.TwoRuns.{published_ring, published_sender, wrote_is, left_is, all_flipped}
 use Rattle.ring.proofs.sender.open_reservation.OpenReservation.publish.Goals as goal
 use Rattle.ring.specs.sender.Publishing.{flipped_left}
 
@@ -26,3 +27,15 @@ into_sender-requires c =
     let g : size r.ring.made_with.geometry ≡ size s.ring.made_with.geometry = ap (λ (x : ReservationValue). size x.ring.made_with.geometry) e ∙ ap (λ x. size x.made_with.geometry) f.ring_is in
     subst (λ (x : ReservationValue). x.flipped ≡ reserved_length x.trail) (sym (c.flip_left-2.ensures ∙ ap flipped_left c.flip_left.ensures))
     (all_flipped r (omega arith) (omega arith) (omega arith) (omega arith))
+
+pub returns-clause-ring : goal.returns-clause-ring
+returns-clause-ring c =
+    ap (λ (s : SenderValue). s.ring) c.into_sender.ensures.sender
+    ∙ ap (λ (r : ReservationValue). r.ring) (c.flip_left-2.ensures ∙ ap flipped_left (c.flip_left.ensures ∙ ap flipped_left c.write_left-reservation.ensures))
+    ∙ published_ring c.args.self
+
+pub returns-clause-id : goal.returns-clause-id
+returns-clause-id c =
+    ap (λ (s : SenderValue). s.number) c.into_sender.ensures.sender
+    ∙ ap (λ (r : ReservationValue). r.sender) (c.flip_left-2.ensures ∙ ap flipped_left (c.flip_left.ensures ∙ ap flipped_left c.write_left-reservation.ensures))
+    ∙ published_sender c.args.self

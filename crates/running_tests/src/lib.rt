@@ -1,0 +1,12 @@
+//! Tests of the running ring. They stand in a crate of their own, since a build of a crate's tests proves the crate
+//! once more.
+#![tactic(auto)]
+
+#[cfg(test)]
+mod batches;
+#[cfg(test)]
+mod device;
+#[cfg(test)]
+mod sender_tests;
+#[cfg(test)]
+mod thread_tests;
