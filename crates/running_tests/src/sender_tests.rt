@@ -91,9 +91,15 @@ fn a_reservation_step_by_step(rt: HostRuntime) -> Result<(), RingFault> {
     assert_eq!(rt; (reservation.unwritten(), reservation.unflipped()), (2, 0));
     let (mut sender, receipt) = reservation.publish(&ring);
     assert_eq!(rt; (receipt.sender(), receipt.number()), (0, 1));
-    assert_eq!(rt; (sender.done_up_to(&ring), sender.is_done(&ring, &receipt)), (0, false));
+    assert_eq!(rt;
+        (sender.done_up_to(&ring), sender.is_done(&ring, &receipt)),
+        (0, false)
+    );
     let seen = sender.look(&ring);
-    assert_eq!(rt; (seen.prod.get(), seen.cons.get(), seen.closed), (3, 0, false));
+    assert_eq!(rt;
+        (seen.prod.get(), seen.cons.get(), seen.closed),
+        (3, 0, false)
+    );
     Ok(())
 }
 

@@ -7,23 +7,23 @@ use batch::Batch;
 use ring::{Cause, Ring, RingFault, Sender};
 use std::thread::join;
 
-/// Sends four batches, at 100 tries each: how many of them were sent.
-fn send_four(ring: &Ring, sender: Sender, batch: &Batch) -> (Sender, u32)
+/// Sends four batches, at 100 tries each: whether all of them were sent.
+fn send_four(ring: &Ring, sender: Sender, batch: &Batch) -> (Sender, bool)
     requires { sender.ring ≡ ring.now }
     ensures { result.0.ring ≡ ring.now }
 {
     let mut sender = sender;
-    let mut sent = 0;
+    let mut all_sent = true;
     for _ in 0..4 {
         sender = match sender.send(ring, batch, 100) {
-            Ok((sender, _receipt)) => {
-                sent += 1;
-                sender
+            Ok((sender, _receipt)) => sender,
+            Err(refused) => {
+                all_sent = false;
+                refused.sender
             }
-            Err(refused) => refused.sender,
         };
     }
-    (sender, sent)
+    (sender, all_sent)
 }
 
 // A sender's exchange is lost at most four times, once for each batch of the other.
@@ -33,20 +33,23 @@ fn two_senders_at_a_time(rt: HostRuntime) -> Result<(), RingFault> {
     let second = senders.pop().expect(&rt, "two senders");
     let first = senders.pop().expect(&rt, "two senders");
     let one = batch_of(&rt, 1);
-    let ((mut first, four), (second, more)) = join(
+    let ((mut first, four), (second, four_more)) = join(
         &rt,
-        || -> (Sender, u32)
+        || -> (Sender, bool)
             requires { first.ring ≡ ring }
-            ensures { result.0.ring ≡ ring.exit }
+            ensures { result.0.ring ≡ ring }
         { send_four(&ring, first, &one) },
-        || -> (Sender, u32)
+        || -> (Sender, bool)
             requires { second.ring ≡ ring }
-            ensures { result.0.ring ≡ ring.exit }
+            ensures { result.0.ring ≡ ring }
         { send_four(&ring, second, &one) },
     );
-    assert_eq!(rt; (four, more), (4, 4));
+    assert_eq!(rt; (four, four_more), (true, true));
     let seen = first.look(&ring);
-    assert_eq!(rt; (seen.prod.get(), seen.cons.get(), seen.closed), (16, 0, false));
+    assert_eq!(rt;
+        (seen.prod.get(), seen.cons.get(), seen.closed),
+        (16, 0, false)
+    );
     let cause = match second.send(&ring, &one, 1) {
         Ok(_) => return Ok(()),
         Err(refused) => refused.cause,
