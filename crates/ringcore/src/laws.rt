@@ -4,4 +4,4 @@ pub use crate::memory::laws::{
     acknowledge, advance, apart, ask, begin, close, flip, look, read, reserve_lost, reserve_won,
     start, test, write,
 };
-pub use crate::world::laws::{batches_law, counts_law, world_law};
+pub use crate::world::laws::{batches_law, consumer_trail, counts_law, newest_event, world_law};
