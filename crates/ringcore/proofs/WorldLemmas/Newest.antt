@@ -1,5 +1,5 @@
 -- The newest event of a seat's trail was allowed in a run before it.
-use Rattle.std.proofs.Common.{◌≡◌, zero, suc, Bool, true, false, cond, [], ◌∷◌, refl, sym, ap, ◌∙◌, subst, arith}
+use Rattle.std.proofs.Common.{◌≡◌, ◌≢◌, zero, suc, Bool, true, false, cond, [], ◌∷◌, refl, sym, ap, ◌∙◌, subst, eq-eqb, ne_eqb, arith}
 use Rattle.std.proofs.lemmas.Option.{same_Some}
 use Rattle.qindex.specs.declared.control.Control.{Control}
 use Rattle.qindex.specs.ControlWord.{IsControl}
@@ -11,10 +11,30 @@ use Rattle.ringcore.specs.declared.world.event.Event.TheVariants.{Look, Lost, As
 use Rattle.ringcore.specs.world.Trails.{Trail, same, trail_of}
 use Rattle.ringcore.specs.world.World.{World, world, control}
 use Rattle.ringcore.specs.world.Allowed.{Ring, MayLose, Allowed}
-use Rattle.ringcore.specs.world.NewestEvents.{WasAllowed, NewestWasAllowed, LooksFindControls, LookedAreControls, LostFoundAnother, AsksFindFew}
+use Rattle.ringcore.specs.world.NewestEvents.{StepsGrowTheirTrail, OthersLeaveTheTrail, WasAllowed, NewestWasAllowed, LooksFindControls, LookedAreControls, LostFoundAnother, AsksFindFew}
 use Rattle.ringcore.proofs.WorldLemmas.LookedControls.{same_is, is_control, looked_is_control}
 use Rattle.ringcore.proofs.WorldLemmas.Acknowledged.{acknowledged}
 use Rattle.ringcore.proofs.WorldLemmas.FewNumbers.{numbers_few}
+
+-- ---- how a trail grows
+
+same_seat : (who : Who) → same who who ≡ true
+same_seat Consumer = refl
+same_seat (Sender s) = eq-eqb s s refl
+
+other_seat : (who other : Who) → who ≢ other → same who other ≡ false
+other_seat Consumer Consumer not = absurd (not refl)
+other_seat Consumer (Sender t) not = refl
+other_seat (Sender s) Consumer not = refl
+other_seat (Sender s) (Sender t) not = ne_eqb s t (λ e. not (ap Sender e))
+
+pub steps_grow : StepsGrowTheirTrail
+steps_grow who e run = ap (λ b. cond b (e ∷ trail_of who run) (trail_of who run)) (same_seat who)
+
+pub others_leave : OthersLeaveTheTrail
+others_leave who other e run not = ap (λ b. cond b (e ∷ trail_of who run) (trail_of who run)) (other_seat who other not)
+
+-- ---- what it was allowed to be
 
 pub was_allowed : NewestWasAllowed
 was_allowed ring [] who e before ok is = absurd (cc)

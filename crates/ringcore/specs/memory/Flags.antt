@@ -48,12 +48,14 @@ is_ready geometry word position offset =
     flag_word geometry (position + offset) == flag_word geometry position
     && bit_at word (flag_bit geometry (position + offset)) == polarity geometry (position + offset)
 
--- The same as a function of the word: one more, where all before it are ready and it is, too.
+-- one more, where all before it are ready and it is, too
+abbrev pub one_more : ℕ → ℕ → Bool → ℕ
+one_more offset found ready = cond (found == offset && ready) (suc offset) found
+
+-- how many in a row from a position on, at most limit, and as far as their flags stand in its word
 abbrev pub ready_in : ℕ → ℕ → ℕ → ℕ → ℕ
 ready_in geometry word position zero = 0
-ready_in geometry word position (suc offset) =
-    let found = ready_in geometry word position offset in
-    cond (found == offset && is_ready geometry word position offset) (suc offset) found
+ready_in geometry word position (suc offset) = one_more offset (ready_in geometry word position offset) (is_ready geometry word position offset)
 
 -- ---- what a word says
 

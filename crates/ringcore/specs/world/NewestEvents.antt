@@ -13,6 +13,13 @@ use Rattle.ringcore.specs.world.World.{world}
 use Rattle.ringcore.specs.world.Allowed.{Ring, Allowed, IsRun}
 use Rattle.ringcore.specs.world.Laws.{OnlyOf}
 
+-- A step of its own is the newest event of a seat's trail, and a step of another seat leaves it.
+abbrev pub StepsGrowTheirTrail : Type 0
+StepsGrowTheirTrail = (who : Who) (e : Event) (run : Run) → trail_of who ((who, e) ∷ run) ≡ e ∷ trail_of who run
+
+abbrev pub OthersLeaveTheTrail : Type 0
+OthersLeaveTheTrail = (who other : Who) (e : Event) (run : Run) → who ≢ other → trail_of who ((other, e) ∷ run) ≡ trail_of who run
+
 -- The event was allowed after an earlier part of the run, in which the seat has the trail behind it.
 pub record WasAllowed (ring : Ring) (run : Run) (who : Who) (e : Event) (before : Trail) : Type 0 where
   pub later : Run

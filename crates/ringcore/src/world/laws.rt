@@ -2,7 +2,7 @@
 ghost use Rattle.ringcore.specs.world.Delivery.{TakenInOrder, NumberedInOrder, NoneAfterClose, ToldWhenCompleted};
 ghost use Rattle.ringcore.specs.world.Laws.{EveryRun, NeverMoreThanFull, AcknowledgedAreTaken, AcknowledgedAreApplied, ToldOfAllUpTo, AllOfBatches, ClosedByAClose, BatchesAreUnbroken, SendersOrderIsKept, EarlierStandsBefore, BatchesHaveOwners, FewAreReserved, ListsAreShort, SyncsAddUp, SyncsAreCounted, NumbersAreFew, SyncsComeInOrder};
 ghost use Rattle.ringcore.specs.world.ConsumerLaws.{TellsTheHead, TellsTheNumbers, TellsWhatIsAdvanced, TellsTheOutcomes, RawsAreCounted, SyncsOfRawsAreCounted, TookSyncsInOrder, TakenAreFlipped, FlippedAreWritten, FoundIsReady, ReadsAreOfItems, ConsumerIsSteady};
-ghost use Rattle.ringcore.specs.world.NewestEvents.{NewestWasAllowed, LooksFindControls, LookedAreControls, LostFoundAnother, AsksFindFew};
+ghost use Rattle.ringcore.specs.world.NewestEvents.{StepsGrowTheirTrail, OthersLeaveTheTrail, NewestWasAllowed, LooksFindControls, LookedAreControls, LostFoundAnother, AsksFindFew};
 
 use qindex::indexes_tell_the_queue;
 
@@ -64,9 +64,11 @@ pub fn consumer_trail()
     indexes_tell_the_queue();
 }
 
-/// The newest event of a trail was allowed in a run before it. So what a look found is a control of the
+/// A step grows its seat's trail alone, and the newest event of a trail was allowed in a run before it. So what a look found is a control of the
 /// ring, what a lost exchange found isn't what was looked at, and what an ask found has a bound.
 pub fn newest_event()
+    ensures own { StepsGrowTheirTrail }
+    ensures others { OthersLeaveTheTrail }
     ensures allowed { NewestWasAllowed }
     ensures look { LooksFindControls }
     ensures looked { LookedAreControls }

@@ -1,5 +1,11 @@
-use Rattle.ringcore.proofs.WorldLemmas.Newest.{was_allowed, look_finds_control, looked_control, lost_found_another, asks_find_few}
+use Rattle.ringcore.proofs.WorldLemmas.Newest.{steps_grow, others_leave, was_allowed, look_finds_control, looked_control, lost_found_another, asks_find_few}
 use Rattle.ringcore.proofs.world.laws.newest_event.Goals as goal
+
+pub returns-clause-own : goal.returns-clause-own
+returns-clause-own c = steps_grow
+
+pub returns-clause-others : goal.returns-clause-others
+returns-clause-others c = others_leave
 
 pub returns-clause-allowed : goal.returns-clause-allowed
 returns-clause-allowed c = was_allowed
