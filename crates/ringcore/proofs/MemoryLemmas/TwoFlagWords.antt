@@ -1,10 +1,18 @@
--- A batch's flags stand in two flag words at most.
-use Rattle.std.proofs.Common.{◌≡◌, ℕ, ◌+◌, ◌-◌, ◌*◌, ◌/◌, ◌%◌, ◌<◌, ◌≤◌, cond, inl, inr, ap, ◌∙◌, arith}
+-- How many positions share a flag word, and that a batch's flags stand in two at most.
+use Rattle.std.proofs.Common.{◌≡◌, ℕ, ◌+◌, ◌-◌, ◌*◌, ◌/◌, ◌%◌, ◌<◌, ◌≤◌, cond, inl, inr, sym, ap, ◌∙◌, add-zero, arith}
 use Rattle.std.proofs.lemmas.Bool.{cases_lt, le-leb, lt-leb}
+use Rattle.std.specs.Prelude.{nat_le}
 use Rattle.qindex.specs.Positions.{size, place}
-use Rattle.ringcore.specs.memory.Flags.{flag_bit, shared_word, BatchesHaveTwoFlagWords}
+use Rattle.qindex.specs.Laws.{IndexesTellPlaceAndWrapBit}
+use Rattle.ringcore.specs.memory.Flags.{flag_bit, shared_word, IndexesTellSharedWords, BatchesHaveTwoFlagWords}
 use Rattle.ringcore.proofs.MemoryLemmas.Places.{place-lt}
-use Rattle.ringcore.proofs.MemoryLemmas.FlagPlaces.{further_place, next_place, whole_words}
+use Rattle.ringcore.proofs.MemoryLemmas.FlagPlaces.{further_place, next_place, whole_words, index_of_number}
+
+pub tell_shared_words : IndexesTellPlaceAndWrapBit → IndexesTellSharedWords
+tell_shared_words alike g p =
+    let n : ℕ = p % (2 * size g) in
+    let same : place g n ≡ place g p = ap (place g) (sym (add-zero n)) ∙ (alike g n p 0 (index_of_number g p)).place ∙ ap (place g) (add-zero p) in
+    ap (λ q. cond (nat_le (size g) 64) (size g) (64 - q % 64)) same
 
 small_word : (g p : ℕ) → size g ≤ 64 → shared_word g p ≡ size g
 small_word g p small = ap (λ b. cond b (size g) (64 - flag_bit g p)) (le-leb (size g) 64 small)

@@ -2,7 +2,7 @@
 -- even lap says so by 1, and one of an odd lap by 0: so a slot that is taken needs no clearing.
 use Rattle.std.specs.Prelude.{◌≡◌, ◌≢◌, ◌↔◌, ℕ, zero, suc, ◌+◌, ◌-◌, ◌%◌, ◌^◌, ◌<◌, ◌≤◌, Bool, cond, nat_le, ◌==◌, ◌&&◌, List, slice_index}
 use Rattle.std.specs.Int.{bit_at}
-use Rattle.qindex.specs.Positions.{size, place, wrap_bit}
+use Rattle.qindex.specs.Positions.{size, place, wrap_bit, index_of}
 use Rattle.ringcore.specs.world.Allowed.{ShareAWord}
 use Rattle.ringcore.specs.memory.Layout.{flag_word}
 
@@ -70,6 +70,10 @@ ReadyRunsAreOne =
 
 abbrev pub ReadyRunsFitTheRing : Type 0
 ReadyRunsFitTheRing = (geometry word position limit found : ℕ) → IsReadyRun geometry word position limit found → found ≤ size geometry
+
+-- How many share its word is told of a position by its index too.
+abbrev pub IndexesTellSharedWords : Type 0
+IndexesTellSharedWords = (geometry position : ℕ) → shared_word geometry (index_of geometry position).number ≡ shared_word geometry position
 
 -- The flags of a batch stand in two flag words at most: those of its first position's, and the next ones.
 abbrev pub BatchesHaveTwoFlagWords : Type 0

@@ -1,5 +1,5 @@
 -- What every run is held to, of any length, in a ring of any size.
-use Rattle.std.specs.Prelude.{◌≡◌, ◌↔◌, ℕ, suc, ◌+◌, ◌*◌, ◌^◌, ◌<◌, ◌≤◌, Bool, true, cond, ◌==◌, ◌&&◌, List, [], ◌∷◌, ◌++◌, length, Some, slice_get, ⊤}
+use Rattle.std.specs.Prelude.{◌≡◌, ◌↔◌, ℕ, suc, ◌+◌, ◌*◌, ◌^◌, ◌<◌, ◌≤◌, Bool, true, cond, ◌==◌, ◌&&◌, List, [], ◌∷◌, ◌++◌, map, length, Some, slice_get, ⊤}
 use Rattle.cmdcodec.specs.declared.raw.Raw.{Raw}
 use Rattle.cmdcodec.specs.Opcodes.{is_sync}
 use Rattle.cmdcodec.specs.ClosingSync.{cell_address}
@@ -46,7 +46,10 @@ ToldOfAllUpTo run =
 
 -- ---- batches, as a driver's author knows them
 
--- As many commands are reserved as the batches have.
+-- What is reserved are the commands of the batches, one batch after another, and as many as these have.
+abbrev pub CommandsOfBatches : Run → Type 0
+CommandsOfBatches run = map (λ (item : Item). item.raw) (world run).reserved ≡ joined (batches run)
+
 abbrev pub AllOfBatches : Run → Type 0
 AllOfBatches run = tail (world run) ≡ length (joined (batches run))
 

@@ -1,7 +1,7 @@
 //! One law for each kind of atomic step: its one operation on one word reads what the event finds, and
 //! turns the words of the world before into those of the world after.
 ghost use Rattle.ringcore.specs.memory.StepLaws.{Always, OpensAllZero, HasAControlWord, LooksByALoad, WinsByAnExchange, LosesByAnExchange, WritesByAStore, FlipsByAnExclusiveOr, TestsByALoad, TestsFindReadyIn, ReadsByALoad, AdvancesByAnExclusiveOr, ClosesByAnOr, AcknowledgesByAStore, AsksByALoad, StoredBackIsTheSame, WordsAreApart, StartsWhereItLooked};
-ghost use Rattle.ringcore.specs.memory.Flags.{ReadyInIsAReadyRun, ReadyRunsAreOne, ReadyRunsFitTheRing, BatchesHaveTwoFlagWords};
+ghost use Rattle.ringcore.specs.memory.Flags.{ReadyInIsAReadyRun, ReadyRunsAreOne, ReadyRunsFitTheRing, IndexesTellSharedWords, BatchesHaveTwoFlagWords};
 ghost use Rattle.ringcore.specs.memory.SenderLaws.{LengthsAreOfCommands, StartsAtItsIndex, SendersHaveTheirSlots, ReservationsAreApart};
 ghost use Rattle.ringcore.specs.world.Laws.{EveryRun};
 
@@ -126,5 +126,8 @@ pub fn sender_trail()
     ensures start { StartsAtItsIndex }
     ensures slots { EveryRun SendersHaveTheirSlots }
     ensures apart { EveryRun ReservationsAreApart }
+    ensures shared_words { IndexesTellSharedWords }
     ensures flag_words { BatchesHaveTwoFlagWords }
-{}
+{
+    indexes_tell_place_and_wrap_bit();
+}

@@ -1,6 +1,6 @@
 //! Laws of every run, whoever's step comes next.
 ghost use Rattle.ringcore.specs.world.Delivery.{TakenInOrder, NumberedInOrder, NoneAfterClose, ToldWhenCompleted};
-ghost use Rattle.ringcore.specs.world.Laws.{EveryRun, NeverMoreThanFull, AcknowledgedAreTaken, AcknowledgedAreApplied, ToldOfAllUpTo, AllOfBatches, ClosedByAClose, BatchesAreUnbroken, SendersOrderIsKept, EarlierStandsBefore, BatchesHaveOwners, FewAreReserved, ListsAreShort, SyncsAddUp, SyncsAreCounted, NumbersAreFew, SyncsComeInOrder};
+ghost use Rattle.ringcore.specs.world.Laws.{EveryRun, NeverMoreThanFull, AcknowledgedAreTaken, AcknowledgedAreApplied, ToldOfAllUpTo, CommandsOfBatches, AllOfBatches, ClosedByAClose, BatchesAreUnbroken, SendersOrderIsKept, EarlierStandsBefore, BatchesHaveOwners, FewAreReserved, ListsAreShort, SyncsAddUp, SyncsAreCounted, NumbersAreFew, SyncsComeInOrder};
 ghost use Rattle.ringcore.specs.world.ConsumerLaws.{TellsTheHead, TellsTheNumbers, TellsWhatIsAdvanced, TellsTheOutcomes, RawsAreCounted, SyncsOfRawsAreCounted, TookSyncsInOrder, TakenAreFlipped, FlippedAreWritten, FoundIsReady, ReadsAreOfItems, ConsumerIsSteady};
 ghost use Rattle.ringcore.specs.world.NewestEvents.{StepsGrowTheirTrail, OthersLeaveTheTrail, NewestWasAllowed, LooksFindControls, LookedAreControls, LostFoundAnother, AsksFindFew};
 
@@ -28,6 +28,7 @@ pub fn batches_law()
     ensures unbroken { EveryRun BatchesAreUnbroken }
     ensures senders_order { EveryRun SendersOrderIsKept }
     ensures earlier_first { EveryRun EarlierStandsBefore }
+    ensures commands { EveryRun CommandsOfBatches }
     ensures all { EveryRun AllOfBatches }
     ensures closed { EveryRun ClosedByAClose }
     ensures owners { BatchesHaveOwners }

@@ -1,6 +1,6 @@
 use Rattle.ringcore.proofs.WorldLemmas.Starts.{starts_there}
 use Rattle.ringcore.proofs.MemoryLemmas.SenderTrail.{length_of_commands, have_their_slots, are_apart}
-use Rattle.ringcore.proofs.MemoryLemmas.TwoFlagWords.{two_flag_words}
+use Rattle.ringcore.proofs.MemoryLemmas.TwoFlagWords.{tell_shared_words, two_flag_words}
 use Rattle.ringcore.proofs.memory.laws.sender_trail.Goals as goal
 
 pub returns-clause-length : goal.returns-clause-length
@@ -14,6 +14,9 @@ returns-clause-slots c = have_their_slots
 
 pub returns-clause-apart : goal.returns-clause-apart
 returns-clause-apart c = are_apart
+
+pub returns-clause-shared_words : goal.returns-clause-shared_words
+returns-clause-shared_words c = tell_shared_words c.indexes_tell_place_and_wrap_bit.ensures.alike
 
 pub returns-clause-flag_words : goal.returns-clause-flag_words
 returns-clause-flag_words c = two_flag_words

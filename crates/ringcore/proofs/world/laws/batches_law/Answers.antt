@@ -1,7 +1,7 @@
 use Rattle.ringcore.proofs.WorldLemmas.Numbering.{senders_order}
 use Rattle.ringcore.proofs.WorldLemmas.Completed.{unbroken}
 use Rattle.ringcore.proofs.WorldLemmas.Order.{earlier_first}
-use Rattle.ringcore.proofs.WorldLemmas.Reading.{is_read}
+use Rattle.ringcore.proofs.WorldLemmas.Reading.{is_read, reserved_raws}
 use Rattle.ringcore.proofs.WorldLemmas.Owners.{have_owners, all_of_batches}
 use Rattle.ringcore.proofs.world.laws.batches_law.Goals as goal
 
@@ -13,6 +13,9 @@ returns-clause-senders_order c = senders_order
 
 pub returns-clause-earlier_first : goal.returns-clause-earlier_first
 returns-clause-earlier_first c = earlier_first
+
+pub returns-clause-commands : goal.returns-clause-commands
+returns-clause-commands c = λ ring run ok. reserved_raws run
 
 pub returns-clause-all : goal.returns-clause-all
 returns-clause-all c = λ ring run ok. all_of_batches run
