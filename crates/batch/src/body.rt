@@ -147,6 +147,14 @@ impl Batch {
         self.commands.len()
     }
 
+    /// The commands, as a slice.
+    pub fn as_slice(&self) -> &[Raw]
+        ensures value { result.now ≡ self.now }
+        ensures body { IsBody self.now }
+    {
+        self.commands.as_slice()
+    }
+
     /// The command at an index, from 0; `None` behind the last.
     pub fn get(&self, index: usize) -> Option<Raw>
         ensures value { result ≡ slice_get self.now index }

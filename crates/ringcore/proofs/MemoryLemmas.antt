@@ -5,3 +5,6 @@ pub mod FlagWords
 pub mod FlagPlaces
 pub mod MaskLemmas
 pub mod ReadyLemmas
+pub mod ReadyRuns
+pub mod TwoFlagWords
+pub mod SenderTrail

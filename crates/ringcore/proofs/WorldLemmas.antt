@@ -12,3 +12,9 @@ pub mod Bound
 pub mod LookedControls
 pub mod SyncCounts
 pub mod FewNumbers
+pub mod SyncOrder
+pub mod Owners
+pub mod ConsumerTrail
+pub mod SteadyHead
+pub mod Newest
+pub mod Applied

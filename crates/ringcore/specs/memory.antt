@@ -3,3 +3,4 @@ pub mod Flags
 pub mod Shadow
 pub mod StepLaws
 pub mod WordStores
+pub mod SenderLaws

@@ -1,7 +1,7 @@
 //! Laws of every run, each the contract of a function that does nothing, from each layer.
 pub use crate::machine::laws::{consumer_view, sender_view, steps_law, sync_tallies};
 pub use crate::memory::laws::{
-    acknowledge, advance, apart, ask, begin, close, flip, look, read, reserve_lost, reserve_won,
-    start, test, write,
+    acknowledge, advance, apart, ask, begin, close, flip, look, read, ready_runs, reserve_lost,
+    reserve_won, sender_trail, start, stored_back, test, write,
 };
-pub use crate::world::laws::{batches_law, counts_law, world_law};
+pub use crate::world::laws::{batches_law, consumer_trail, counts_law, newest_event, world_law};

@@ -13,6 +13,7 @@ use qindex::{Control, Geometry, control_words_say_their_control, indexes_tell_th
 use std::alloc::{AllocError, Global};
 use std::marker::Model;
 
+mod commands;
 mod consumer_steps;
 mod consumer_view;
 mod core_fault;
@@ -26,6 +27,7 @@ mod step;
 mod step_fault;
 mod sync_tallies;
 
+pub use commands::batch_commands;
 pub use consumer_view::ConsumerView;
 pub use core_fault::CoreFault;
 pub use sender_view::SenderView;

@@ -42,7 +42,7 @@ further_lap g p j fits =
     ap (lap g) is ∙ div-mul-add (p / size g) (size g) (place g p + j) fits
 
 -- from the ring's first place on, one lap on
-next_place : (g p j : ℕ) → size g ≤ place g p + j → place g p + j < 2 * size g → place g (p + j) ≡ place g p + j - size g
+pub next_place : (g p j : ℕ) → size g ≤ place g p + j → place g p + j < 2 * size g → place g (p + j) ≡ place g p + j - size g
 next_place g p j past fits =
     let whole = div-add-mod' p (size g) in
     let laps : ℕ = p / size g in

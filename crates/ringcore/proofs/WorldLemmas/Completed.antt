@@ -19,7 +19,7 @@ use Rattle.ringcore.proofs.WorldLemmas.Acknowledged.{acknowledged}
 
 -- ---- closed
 
-earlier_run : (ring : Ring) (later earlier : Run) → IsRun ring (later ++ earlier) → IsRun ring earlier
+pub earlier_run : (ring : Ring) (later earlier : Run) → IsRun ring (later ++ earlier) → IsRun ring earlier
 earlier_run ring [] earlier ok = ok
 earlier_run ring (x ∷ later) earlier ok = earlier_run ring later earlier ok.0
 
@@ -60,7 +60,7 @@ completed run s number body ahead behind taken is less =
     }
 
 -- The sync that stands below the head is that of a batch.
-of_taken : (ring : Ring) (run : Run) → IsRun ring run → (s number : ℕ) → SyncIsTaken (world run) s number → IsCompleted run s number
+pub of_taken : (ring : Ring) (run : Run) → IsRun ring run → (s number : ℕ) → SyncIsTaken (world run) s number → IsCompleted run s number
 of_taken ring run ok s number t =
     let read = is_read run in
     let item : Item = record { sender = s; number = Some number; place = t.place; raw = sync_raw s number } in

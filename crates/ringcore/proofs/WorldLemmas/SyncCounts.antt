@@ -109,7 +109,7 @@ counted_at first (suc n) (suc i) l = counted_at (suc first) n i (omega (arith, l
 
 -- ---- the numbers of the syncs in a list of items
 
-numbers_append : (s : ℕ) (xs ys : List Item) → sync_numbers s (xs ++ ys) ≡ sync_numbers s xs ++ sync_numbers s ys
+pub numbers_append : (s : ℕ) (xs ys : List Item) → sync_numbers s (xs ++ ys) ≡ sync_numbers s xs ++ sync_numbers s ys
 numbers_append s [] ys = refl
 numbers_append s (x ∷ xs) ys = by_kind (numbers_append s xs ys) (s == x.sender && is_sync x.raw) x.number
   where
@@ -172,7 +172,7 @@ item_of_number s k (x ∷ xs) i at = by_kind (item_of_number s k xs) (s == x.sen
     by_kind later false kind n number i at = on (later i at)
 
 -- Where all that have the sync's opcode are syncs, there are as many numbers as closing syncs.
-abbrev AllSyncs : List Item → Type 0
+abbrev pub AllSyncs : List Item → Type 0
 AllSyncs xs = (p : ℕ) (item : Item) → slice_get xs p ≡ Some item → is_sync item.raw ≡ true → IsSyncOf item
 
 address_is : (s n : ℕ) → (sync_raw s n).hi ≡ cell_address s
@@ -201,7 +201,7 @@ kind_is s item all = by_kind (is_sync item.raw) refl
     by_kind false other =
         ap (λ b. b && item.raw.hi == cell_address s) other ∙ sym (and-false (s == item.sender)) ∙ ap (λ b. s == item.sender && b) (sym other)
 
-as_many : (s : ℕ) (xs : List Item) → AllSyncs xs → length (sync_numbers s xs) ≡ syncs_in s (raws_of xs)
+pub as_many : (s : ℕ) (xs : List Item) → AllSyncs xs → length (sync_numbers s xs) ≡ syncs_in s (raws_of xs)
 as_many s [] all = refl
 as_many s (x ∷ xs) all = by_kind (as_many s xs (λ p item at sync. all (suc p) item at sync)) (s == x.sender && is_sync x.raw) refl
   where

@@ -1,8 +1,8 @@
 -- The flags: one bit for each slot, which says whether the command of this lap stands in it (own). A flag of an
 -- even lap says so by 1, and one of an odd lap by 0: so a slot that is taken needs no clearing.
-use Rattle.std.specs.Prelude.{◌≡◌, ◌≢◌, ◌↔◌, ℕ, suc, ◌+◌, ◌-◌, ◌%◌, ◌^◌, ◌<◌, ◌≤◌, Bool, cond, nat_le, ◌==◌, List, slice_index}
+use Rattle.std.specs.Prelude.{◌≡◌, ◌≢◌, ◌↔◌, ℕ, zero, suc, ◌+◌, ◌-◌, ◌%◌, ◌^◌, ◌<◌, ◌≤◌, Bool, cond, nat_le, ◌==◌, ◌&&◌, List, slice_index}
 use Rattle.std.specs.Int.{bit_at}
-use Rattle.qindex.specs.Positions.{size, place, wrap_bit}
+use Rattle.qindex.specs.Positions.{size, place, wrap_bit, index_of}
 use Rattle.ringcore.specs.world.Allowed.{ShareAWord}
 use Rattle.ringcore.specs.memory.Layout.{flag_word}
 
@@ -41,3 +41,42 @@ pub record IsReadyRun (geometry word position limit found : ℕ) : Type 0 where
   pub ready : (offset : ℕ) → offset < found → bit_at word (flag_bit geometry (position + offset)) ≡ polarity geometry (position + offset)
   pub no_more : found < limit → ShareAWord 64 geometry position (suc found)
       → bit_at word (flag_bit geometry (position + found)) ≢ polarity geometry (position + found)
+
+-- whether the flag of the position that is offset further stands in the same word, and says 'flipped' there
+abbrev pub is_ready : ℕ → ℕ → ℕ → ℕ → Bool
+is_ready geometry word position offset =
+    flag_word geometry (position + offset) == flag_word geometry position
+    && bit_at word (flag_bit geometry (position + offset)) == polarity geometry (position + offset)
+
+-- one more, where all before it are ready and it is, too
+abbrev pub one_more : ℕ → ℕ → Bool → ℕ
+one_more offset found ready = cond (found == offset && ready) (suc offset) found
+
+-- how many in a row from a position on, at most limit, and as far as their flags stand in its word
+abbrev pub ready_in : ℕ → ℕ → ℕ → ℕ → ℕ
+ready_in geometry word position zero = 0
+ready_in geometry word position (suc offset) = one_more offset (ready_in geometry word position offset) (is_ready geometry word position offset)
+
+-- ---- what a word says
+
+-- The function answers a ready run, each ready run is that one, and none is longer than the ring.
+abbrev pub ReadyInIsAReadyRun : Type 0
+ReadyInIsAReadyRun = (geometry word position limit : ℕ) → IsReadyRun geometry word position limit (ready_in geometry word position limit)
+
+abbrev pub ReadyRunsAreOne : Type 0
+ReadyRunsAreOne =
+    (geometry word position limit found other : ℕ)
+    → IsReadyRun geometry word position limit found → IsReadyRun geometry word position limit other → found ≡ other
+
+abbrev pub ReadyRunsFitTheRing : Type 0
+ReadyRunsFitTheRing = (geometry word position limit found : ℕ) → IsReadyRun geometry word position limit found → found ≤ size geometry
+
+-- How many share its word is told of a position by its index too.
+abbrev pub IndexesTellSharedWords : Type 0
+IndexesTellSharedWords = (geometry position : ℕ) → shared_word geometry (index_of geometry position).number ≡ shared_word geometry position
+
+-- The flags of a batch stand in two flag words at most: those of its first position's, and the next ones.
+abbrev pub BatchesHaveTwoFlagWords : Type 0
+BatchesHaveTwoFlagWords =
+    (geometry position count : ℕ) → count ≤ 64 → count ≤ size geometry
+    → count ≤ shared_word geometry position + shared_word geometry (position + shared_word geometry position)

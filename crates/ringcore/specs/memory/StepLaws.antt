@@ -14,7 +14,7 @@ use Rattle.ringcore.specs.world.Trails.{Trail, Run, trail_of, batch_length, foun
 use Rattle.ringcore.specs.world.World.{head, world, commands, half_of}
 use Rattle.ringcore.specs.world.Allowed.{Ring, MayTry, IsNextNumber, MayWrite, MayFlip, IsRunLength, MayAdvance, MayAcknowledge, length_with}
 use Rattle.ringcore.specs.memory.Layout.{control_word, flag_word, data_word, cell, words_of}
-use Rattle.ringcore.specs.memory.Flags.{IsFlipMask, IsReadyRun}
+use Rattle.ringcore.specs.memory.Flags.{IsFlipMask, IsReadyRun, ready_in}
 use Rattle.ringcore.specs.memory.Shadow.{AreAfter}
 
 -- a fact of every run and all words that stand as after it
@@ -92,6 +92,13 @@ TestsByALoad ring run words =
     → IsReadyRun ring.geometry (slice_index words (flag_word ring.geometry (head (world run)))) (head (world run)) limit found
     → AreAfter ring ((Consumer, Test limit found) ∷ run) words
 
+-- and what it finds, as a function of the word
+abbrev pub TestsFindReadyIn : Ring → Run → List ℕ → Type 0
+TestsFindReadyIn ring run words =
+    (limit : ℕ)
+    → IsRunLength limit
+    → AreAfter ring ((Consumer, Test limit (ready_in ring.geometry (slice_index words (flag_word ring.geometry (head (world run)))) (head (world run)) limit)) ∷ run) words
+
 -- a load of the data word
 abbrev pub ReadsByALoad : Ring → Run → List ℕ → Type 0
 ReadsByALoad ring run words =
@@ -123,6 +130,10 @@ AcknowledgesByAStore ring run words =
 abbrev pub AsksByALoad : Ring → Run → List ℕ → Type 0
 AsksByALoad ring run words =
     (s : ℕ) → s < ring.senders → AreAfter ring ((Sender s, Ask (slice_index words (cell ring.geometry s))) ∷ run) words
+
+-- A word that is stored back leaves all words: so a load, and an exchange that is lost, may be said as a store.
+abbrev pub StoredBackIsTheSame : Type 0
+StoredBackIsTheSame = (words : List ℕ) (at : ℕ) → slice_set words at (slice_index words at) ≡ words
 
 -- ---- where the words are
 

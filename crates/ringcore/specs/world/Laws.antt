@@ -1,16 +1,17 @@
 -- What every run is held to, of any length, in a ring of any size.
-use Rattle.std.specs.Prelude.{◌≡◌, ◌↔◌, ℕ, suc, ◌+◌, ◌*◌, ◌<◌, ◌≤◌, Bool, cond, ◌==◌, ◌&&◌, List, [], ◌∷◌, ◌++◌, length, Some, slice_get, ⊤}
+use Rattle.std.specs.Prelude.{◌≡◌, ◌↔◌, ℕ, suc, ◌+◌, ◌*◌, ◌^◌, ◌<◌, ◌≤◌, Bool, true, cond, ◌==◌, ◌&&◌, List, [], ◌∷◌, ◌++◌, map, length, Some, slice_get, ⊤}
 use Rattle.cmdcodec.specs.declared.raw.Raw.{Raw}
 use Rattle.cmdcodec.specs.Opcodes.{is_sync}
 use Rattle.cmdcodec.specs.ClosingSync.{cell_address}
 use Rattle.qindex.specs.Positions.{size}
 use Rattle.ringcore.specs.declared.world.event.Who.{Who}
 use Rattle.ringcore.specs.declared.world.event.Who.TheVariants.{Consumer, Sender}
-use Rattle.ringcore.specs.declared.world.event.Event.TheVariants.{Won, Advance}
+use Rattle.ringcore.specs.declared.world.event.Event.TheVariants.{Won, Advance, Ask}
+use Rattle.ringcore.specs.declared.world.event.Outcome.TheVariants.{Applied}
 use Rattle.ringcore.specs.world.Trails.{Trail, Run, trail_of}
-use Rattle.ringcore.specs.world.World.{commands, Item, World, items, tail, head, world}
+use Rattle.ringcore.specs.world.World.{commands, Item, World, items, tail, head, world, sync_raw}
 use Rattle.ringcore.specs.world.Allowed.{Ring, SyncIsTaken, IsRun}
-use Rattle.ringcore.specs.world.Delivery.{Batch, batches, joined}
+use Rattle.ringcore.specs.world.Delivery.{Batch, batches, joined, advanced, has_close, IsCompleted}
 
 abbrev pub EveryRun : (Run → Type 0) → Type 0
 EveryRun P = (ring : Ring) (run : Run) → IsRun ring run → P run
@@ -28,7 +29,33 @@ abbrev pub AcknowledgedAreTaken : Run → Type 0
 AcknowledgedAreTaken run =
     (s number : ℕ) → 1 ≤ number → number ≤ (world run).acknowledged s → SyncIsTaken (world run) s number
 
+-- A sender's batch of this number was completed in the run, and its closing sync was applied.
+pub record IsApplied (run : Run) (s number : ℕ) : Type 0 where
+  pub completed : IsCompleted run s number
+  pub applied : slice_get (world run).taken (length (joined completed.ahead ++ completed.body))
+      ≡ Some record { raw = sync_raw s number; outcome = Applied }
+
+-- So are the batches of all numbers up to the one in a sender's completion cell.
+abbrev pub AcknowledgedAreApplied : Run → Type 0
+AcknowledgedAreApplied run = (s number : ℕ) → 1 ≤ number → number ≤ (world run).acknowledged s → IsApplied run s number
+
+-- And where an ask of a sender found a number, those of all numbers up to it were, before.
+abbrev pub ToldOfAllUpTo : Run → Type 0
+ToldOfAllUpTo run =
+    (later earlier : Run) (s told number : ℕ) → run ≡ later ++ (Sender s, Ask told) ∷ earlier → 1 ≤ number → number ≤ told → IsApplied earlier s number
+
 -- ---- batches, as a driver's author knows them
+
+-- What is reserved are the commands of the batches, one batch after another, and as many as these have.
+abbrev pub CommandsOfBatches : Run → Type 0
+CommandsOfBatches run = map (λ (item : Item). item.raw) (world run).reserved ≡ joined (batches run)
+
+abbrev pub AllOfBatches : Run → Type 0
+AllOfBatches run = tail (world run) ≡ length (joined (batches run))
+
+-- The ring is closed once a close was taken, and not before.
+abbrev pub ClosedByAClose : Run → Type 0
+ClosedByAClose run = (world run).closed ≡ has_close run
 
 -- Position by position from here on stand the commands of this batch.
 abbrev pub StandsAt : World → ℕ → Batch → Type 0
@@ -80,10 +107,26 @@ abbrev pub OnlyOf : ℕ → Run → Type 0
 OnlyOf senders [] = ⊤
 OnlyOf senders (x ∷ xs) = IsOne senders x.0 × OnlyOf senders xs
 
+-- Each batch is of one of the senders.
+abbrev pub BatchesHaveOwners : Type 0
+BatchesHaveOwners = (senders : ℕ) (run : Run) → OnlyOf senders run → (i : ℕ) (b : Batch) → slice_get (batches run) i ≡ Some b → b.sender < senders
+
 -- No more is reserved than 64 commands for each batch that each sender may make.
 abbrev pub FewAreReserved : Type 0
 FewAreReserved =
     (ring : Ring) (senders : ℕ) (run : Run) → OnlyOf senders run → IsRun ring run → tail (world run) ≤ 64 * (senders * ring.max_batches)
+
+-- No list of a run is longer than 2^46, in a ring of at most 256 senders, of which each makes fewer than 2^32 batches.
+pub record AreShort (run : Run) : Type 0 where
+  pub reserved : tail (world run) ≤ 2 ^ 46
+  pub taken : head (world run) ≤ 2 ^ 46
+  pub joined : length (joined (batches run)) ≤ 2 ^ 46
+  pub advanced : length (advanced run) ≤ 2 ^ 46
+  pub batches : length (batches run) ≤ 2 ^ 46
+
+abbrev pub ListsAreShort : Type 0
+ListsAreShort =
+    (ring : Ring) (run : Run) → ring.senders ≤ 256 → ring.max_batches < 2 ^ 32 → OnlyOf ring.senders run → IsRun ring run → AreShort run
 
 -- whether a command is a closing sync of this sender: a CMD_SYNC that writes into its completion cell
 abbrev pub is_sync_to : ℕ → Raw → Bool
@@ -99,6 +142,10 @@ syncs_taken s [] = 0
 syncs_taken s (Advance raws ∷ es) = syncs_taken s es + syncs_in s raws
 syncs_taken s (e ∷ es) = syncs_taken s es
 
+-- Of two lists on end there are as many as of both.
+abbrev pub SyncsAddUp : Type 0
+SyncsAddUp = (s : ℕ) (xs ys : List Raw) → syncs_in s (xs ++ ys) ≡ syncs_in s xs + syncs_in s ys
+
 -- The consumer knows by its own trail which closing syncs are taken: those up to as many as it took.
 abbrev pub SyncsAreCounted : Run → Type 0
 SyncsAreCounted run =
@@ -108,3 +155,20 @@ SyncsAreCounted run =
 abbrev pub NumbersAreFew : Type 0
 NumbersAreFew =
     (ring : Ring) (run : Run) → IsRun ring run → (s number : ℕ) → SyncIsTaken (world run) s number → number ≤ ring.max_batches
+
+-- A closing sync is of one of the senders, and bears the number after as many as its sender's syncs ahead of it.
+pub record IsNextSync (senders : ℕ) (ahead : List Raw) (raw : Raw) : Type 0 where
+  pub sender : ℕ
+  pub number : ℕ
+  pub known : sender < senders
+  pub raw_is : raw ≡ sync_raw sender number
+  pub next : number ≡ suc (syncs_in sender ahead)
+
+-- Those among some commands come in the order of their numbers.
+abbrev pub SyncsAreInOrder : ℕ → List Raw → Type 0
+SyncsAreInOrder senders raws =
+    (ahead behind : List Raw) (raw : Raw) → raws ≡ ahead ++ raw ∷ behind → is_sync raw ≡ true → IsNextSync senders ahead raw
+
+-- So do those that are taken.
+abbrev pub SyncsComeInOrder : Type 0
+SyncsComeInOrder = (ring : Ring) (senders : ℕ) (run : Run) → OnlyOf senders run → IsRun ring run → SyncsAreInOrder senders (advanced run)

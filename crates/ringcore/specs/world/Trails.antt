@@ -1,5 +1,5 @@
 -- Runs and trails, and what a seat's own trail says. Both have the newest event first.
-use Rattle.std.specs.Prelude.{◌≡◌, ℕ, suc, ◌+◌, ◌<◌, Bool, true, false, cond, ◌==◌, ◌||◌, ◌&&◌, nat_le, nat_lt, List, [], ◌∷◌, length, Option, Some, None}
+use Rattle.std.specs.Prelude.{◌≡◌, ℕ, suc, ◌+◌, ◌<◌, Bool, true, false, cond, ◌==◌, ◌||◌, ◌&&◌, nat_le, nat_lt, List, [], ◌∷◌, ◌++◌, length, Option, Some, None}
 use Rattle.cmdcodec.specs.declared.raw.Raw.{Raw}
 use Rattle.qindex.specs.declared.control.Control.{Control}
 use Rattle.qindex.specs.Positions.{IndexValue}
@@ -8,7 +8,7 @@ use Rattle.ringcore.specs.declared.world.event.Who.TheVariants.{Consumer, Sender
 use Rattle.ringcore.specs.declared.world.event.Half.{Half}
 use Rattle.ringcore.specs.declared.world.event.Half.TheVariants.{Lo, Hi}
 use Rattle.ringcore.specs.declared.world.event.Event.{Event}
-use Rattle.ringcore.specs.declared.world.event.Event.TheVariants.{Look, Won, Lost, Write, Flip, Test, Read, Advance}
+use Rattle.ringcore.specs.declared.world.event.Event.TheVariants.{Look, Won, Lost, Write, Flip, Test, Read, Advance, Acknowledge}
 
 -- the events of one seat
 abbrev pub Trail : Type 0
@@ -116,3 +116,27 @@ half_read offset half (Test limit found ∷ es) = None
 half_read offset half (Advance raws ∷ es) = None
 half_read offset half (Read at which word ∷ es) = cond (offset == at && same_half half which) (Some word) (half_read offset half es)
 half_read offset half (e ∷ es) = half_read offset half es
+
+-- what was read of the command at the head, since the last advance
+abbrev pub head_read : Half → Trail → Option ℕ
+head_read half [] = None
+head_read half (Advance raws ∷ es) = None
+head_read half (Read at which word ∷ es) = cond (at == 0 && same_half half which) (Some word) (head_read half es)
+head_read half (e ∷ es) = head_read half es
+
+-- the commands that it took, in their order, and how many they are
+abbrev pub raws_by : Trail → List Raw
+raws_by [] = []
+raws_by (Advance raws ∷ es) = raws_by es ++ raws
+raws_by (e ∷ es) = raws_by es
+
+abbrev pub taken_by : Trail → ℕ
+taken_by [] = 0
+taken_by (Advance raws ∷ es) = taken_by es + length raws
+taken_by (e ∷ es) = taken_by es
+
+-- the last number that it acknowledged to a sender
+abbrev pub acknowledged_by : ℕ → Trail → ℕ
+acknowledged_by s [] = 0
+acknowledged_by s (Acknowledge sender number ∷ es) = cond (s == sender) number (acknowledged_by s es)
+acknowledged_by s (e ∷ es) = acknowledged_by s es

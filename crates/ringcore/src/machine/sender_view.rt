@@ -12,7 +12,7 @@ ghost use Rattle.ringcore.specs.declared.world.event.Who.TheVariants.{Sender};
 ghost use Rattle.ringcore.specs.declared.world.event.Half.TheVariants.{Lo, Hi};
 ghost use Rattle.ringcore.specs.declared.world.event.Event.TheVariants.{Look, Won, Lost, Write, Flip};
 ghost use Rattle.ringcore.specs.world.Trails.{Run, looked, trail_of, reserved_length, has_written, has_flipped};
-ghost use Rattle.ringcore.specs.world.World.{tail, world, commands};
+ghost use Rattle.ringcore.specs.world.World.{tail, world};
 ghost use Rattle.ringcore.specs.memory.StepLaws.{reserved_commands};
 ghost use Rattle.ringcore.specs.world.Allowed.{Ring};
 ghost use Rattle.ringcore.specs.machine.Open.{some_below, all_below, is_open, holds, own_offset};
@@ -21,11 +21,10 @@ ghost use Rattle.ringcore.specs.machine.StepAnswers.{is_same_word, next_number};
 ghost use Rattle.ringcore.specs.machine.SenderViews.{Knows, WhereKnown, AreFlipped};
 
 use crate::machine::StepFault;
+use crate::machine::commands::batch_commands;
 use crate::machine::slot_offset::offset_of_slot;
 use crate::world::Half;
-use cmdcodec::{
-    MOST_BATCH_COMMANDS, MOST_BATCHES, MOST_BODY_COMMANDS, Raw, RawList, closing_sync, encode,
-};
+use cmdcodec::{MOST_BATCH_COMMANDS, MOST_BATCHES, MOST_BODY_COMMANDS, Raw, RawList};
 use qindex::{Control, Geometry};
 use std::marker::Model;
 
@@ -109,7 +108,7 @@ impl SenderView {
         self.batches += 1;
         self.numbers += u32::from(closes);
         self.start = start;
-        self.commands = batch_commands(sender, body, number);
+        self.commands = batch_commands(sender, body.as_slice(), number);
         self.progress = [UNTOUCHED; MOST_BATCH_COMMANDS];
         number
     }
@@ -257,20 +256,6 @@ fn all_written(commands: &[Progress]) -> bool
     ensures { result ≡ list_all (λ (command : Progress). command.lo && command.hi) commands.now }
 {
     commands.iter().all(|command| command.lo && command.hi)
-}
-
-/// The commands of a batch: the body, and behind it the closing sync of this number, if there is one.
-fn batch_commands(sender: u32, body: &RawList, number: Option<u32>) -> RawList
-    requires sender { sender < 256 }
-    requires body { length body.now.items ≤ 63 }
-    ensures { result.items ≡ commands sender number body.now.items }
-{
-    let mut commands = RawList::new();
-    commands.try_extend_from_slice(body.as_slice()).unwrap();
-    if let Some(number) = number {
-        commands.push(encode(&closing_sync(sender, number)));
-    }
-    commands
 }
 
 /// Marks so many commands, from the first one on, as flipped.

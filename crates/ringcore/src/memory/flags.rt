@@ -6,7 +6,7 @@ ghost use Rattle.qindex.specs.Positions.{size, index_of};
 ghost use Rattle.qindex.specs.ControlWord.{bit as bit_of};
 ghost use Rattle.ringcore.specs.machine.StepAnswers.{new_flags};
 ghost use Rattle.ringcore.specs.world.Allowed.{ShareAWord};
-ghost use Rattle.ringcore.specs.memory.Flags.{polarity, shared_word, IsFlipMask, IsReadyRun};
+ghost use Rattle.ringcore.specs.memory.Flags.{polarity, shared_word, IsFlipMask, IsReadyRun, ready_in};
 
 use qindex::{Geometry, Index, indexes_tell_place_and_wrap_bit};
 
@@ -85,6 +85,8 @@ fn new_flag(geometry: Geometry, position: u64) -> u64
 pub fn ready_run(word: u64, head: Index, limit: u32) -> u32
     ensures value { IsReadyRun head.geometry word head.number limit result }
     ensures position { (geometry position : ℕ) → head ≡ index_of geometry position → IsReadyRun geometry word position limit result }
+    ensures found { (geometry position : ℕ) → head ≡ index_of geometry position → result ≡ ready_in geometry word position limit }
+    ensures within { result ≤ size head.geometry }
 {
     indexes_tell_place_and_wrap_bit();
     let size = head.geometry().size();

@@ -1,6 +1,9 @@
 //! One law for each kind of atomic step: its one operation on one word reads what the event finds, and
 //! turns the words of the world before into those of the world after.
-ghost use Rattle.ringcore.specs.memory.StepLaws.{Always, OpensAllZero, HasAControlWord, LooksByALoad, WinsByAnExchange, LosesByAnExchange, WritesByAStore, FlipsByAnExclusiveOr, TestsByALoad, ReadsByALoad, AdvancesByAnExclusiveOr, ClosesByAnOr, AcknowledgesByAStore, AsksByALoad, WordsAreApart, StartsWhereItLooked};
+ghost use Rattle.ringcore.specs.memory.StepLaws.{Always, OpensAllZero, HasAControlWord, LooksByALoad, WinsByAnExchange, LosesByAnExchange, WritesByAStore, FlipsByAnExclusiveOr, TestsByALoad, TestsFindReadyIn, ReadsByALoad, AdvancesByAnExclusiveOr, ClosesByAnOr, AcknowledgesByAStore, AsksByALoad, StoredBackIsTheSame, WordsAreApart, StartsWhereItLooked};
+ghost use Rattle.ringcore.specs.memory.Flags.{ReadyInIsAReadyRun, ReadyRunsAreOne, ReadyRunsFitTheRing, IndexesTellSharedWords, BatchesHaveTwoFlagWords};
+ghost use Rattle.ringcore.specs.memory.SenderLaws.{LengthsAreOfCommands, StartsAtItsIndex, SendersHaveTheirSlots, ReservationsAreApart};
+ghost use Rattle.ringcore.specs.world.Laws.{EveryRun};
 
 use qindex::{
     control_words_say_their_control, indexes_tell_place_and_wrap_bit, indexes_tell_the_queue,
@@ -58,6 +61,17 @@ pub fn test()
     indexes_tell_place_and_wrap_bit();
 }
 
+/// A flag word has one ready run, which is a function of the word and no longer than the ring: so a load of
+/// the head's flag word finds just that.
+pub fn ready_runs()
+    ensures function { ReadyInIsAReadyRun }
+    ensures one { ReadyRunsAreOne }
+    ensures within { ReadyRunsFitTheRing }
+    ensures test { Always TestsFindReadyIn }
+{
+    indexes_tell_place_and_wrap_bit();
+}
+
 /// A load of the data word finds that half of the command.
 pub fn read()
     ensures { Always ReadsByALoad }
@@ -90,6 +104,11 @@ pub fn ask()
     ensures { Always AsksByALoad }
 {}
 
+/// A word that is stored back leaves all words: so a load, and an exchange that is lost, is a store as well.
+pub fn stored_back()
+    ensures { StoredBackIsTheSame }
+{}
+
 /// The control word, the flag words, the data words and each completion cell share no 64 bytes.
 pub fn apart()
     ensures { WordsAreApart }
@@ -99,3 +118,16 @@ pub fn apart()
 pub fn start()
     ensures { Always StartsWhereItLooked }
 {}
+
+/// A sender's own trail tells its last reservation: where it starts, its commands, and what of them is written
+/// and flipped. No two senders' have a position in common, and the flags of one stand in two words at most.
+pub fn sender_trail()
+    ensures length { LengthsAreOfCommands }
+    ensures start { StartsAtItsIndex }
+    ensures slots { EveryRun SendersHaveTheirSlots }
+    ensures apart { EveryRun ReservationsAreApart }
+    ensures shared_words { IndexesTellSharedWords }
+    ensures flag_words { BatchesHaveTwoFlagWords }
+{
+    indexes_tell_place_and_wrap_bit();
+}

@@ -1,10 +1,15 @@
 //! Laws of every run, whoever's step comes next.
 ghost use Rattle.ringcore.specs.world.Delivery.{TakenInOrder, NumberedInOrder, NoneAfterClose, ToldWhenCompleted};
-ghost use Rattle.ringcore.specs.world.Laws.{EveryRun, NeverMoreThanFull, AcknowledgedAreTaken, BatchesAreUnbroken, SendersOrderIsKept, EarlierStandsBefore, FewAreReserved, SyncsAreCounted, NumbersAreFew};
+ghost use Rattle.ringcore.specs.world.Laws.{EveryRun, NeverMoreThanFull, AcknowledgedAreTaken, AcknowledgedAreApplied, ToldOfAllUpTo, CommandsOfBatches, AllOfBatches, ClosedByAClose, BatchesAreUnbroken, SendersOrderIsKept, EarlierStandsBefore, BatchesHaveOwners, FewAreReserved, ListsAreShort, SyncsAddUp, SyncsAreCounted, NumbersAreFew, SyncsComeInOrder};
+ghost use Rattle.ringcore.specs.world.ConsumerLaws.{TellsTheHead, TellsTheNumbers, TellsWhatIsAdvanced, TellsTheOutcomes, RawsAreCounted, SyncsOfRawsAreCounted, TookSyncsInOrder, TakenAreFlipped, FlippedAreWritten, FoundIsReady, ReadsAreOfItems, ConsumerIsSteady};
+ghost use Rattle.ringcore.specs.world.NewestEvents.{StepsGrowTheirTrail, OthersLeaveTheTrail, NewestWasAllowed, LooksFindControls, LookedAreControls, LostFoundAnother, AsksFindFew};
+
+use qindex::indexes_tell_the_queue;
 
 /// Every run of any length, of any number of senders, in a ring of any size, is ordered delivery: what is
 /// taken is a beginning of what was reserved, batches are numbered from 1, none is reserved after a close,
-/// and who is told a number was told so after its closing sync, and all ahead of it, was taken.
+/// and who is told a number was told so after its closing sync, and all ahead of it, was taken. So it is with all
+/// numbers up to one that is told or acknowledged, and their syncs were applied.
 pub fn world_law()
     ensures taken { EveryRun TakenInOrder }
     ensures numbered { EveryRun NumberedInOrder }
@@ -12,21 +17,64 @@ pub fn world_law()
     ensures told { EveryRun ToldWhenCompleted }
     ensures within { NeverMoreThanFull }
     ensures acknowledged { EveryRun AcknowledgedAreTaken }
+    ensures applied { EveryRun AcknowledgedAreApplied }
+    ensures told_of_all { EveryRun ToldOfAllUpTo }
 {}
 
 /// In every run each batch stands in one piece, and the batches of one sender in the order in which it
-/// reserved them: the earlier before the later.
+/// reserved them: the earlier before the later. Nothing else is reserved, each batch is of one of the senders,
+/// and a close closes.
 pub fn batches_law()
     ensures unbroken { EveryRun BatchesAreUnbroken }
     ensures senders_order { EveryRun SendersOrderIsKept }
     ensures earlier_first { EveryRun EarlierStandsBefore }
+    ensures commands { EveryRun CommandsOfBatches }
+    ensures all { EveryRun AllOfBatches }
+    ensures closed { EveryRun ClosedByAClose }
+    ensures owners { BatchesHaveOwners }
 {}
 
 /// What is reserved has a bound, by the number of senders and of the batches that each may make: so no
 /// count of it wraps. And the consumer's own trail says which closing syncs are taken, whose numbers have
-/// a bound too.
+/// a bound too and come one after another.
 pub fn counts_law()
     ensures bound { FewAreReserved }
+    ensures short { ListsAreShort }
+    ensures sum { SyncsAddUp }
     ensures syncs { EveryRun SyncsAreCounted }
     ensures few { NumbersAreFew }
+    ensures order { SyncsComeInOrder }
 {}
+
+/// The consumer's own trail tells what is taken and acknowledged; what its last test found is flipped, what
+/// it read is so, and what it read at the head is found again until it is taken.
+pub fn consumer_trail()
+    ensures head { EveryRun TellsTheHead }
+    ensures acknowledged { EveryRun TellsTheNumbers }
+    ensures advanced { EveryRun TellsWhatIsAdvanced }
+    ensures taken { EveryRun TellsTheOutcomes }
+    ensures count { RawsAreCounted }
+    ensures syncs { SyncsOfRawsAreCounted }
+    ensures order { TookSyncsInOrder }
+    ensures passed { EveryRun TakenAreFlipped }
+    ensures written { EveryRun FlippedAreWritten }
+    ensures ready { EveryRun FoundIsReady }
+    ensures read { EveryRun ReadsAreOfItems }
+    ensures steady { ConsumerIsSteady }
+{
+    indexes_tell_the_queue();
+}
+
+/// A step grows its seat's trail alone, and the newest event of a trail was allowed in a run before it. So what a look found is a control of the
+/// ring, what a lost exchange found isn't what was looked at, and what an ask found has a bound.
+pub fn newest_event()
+    ensures own { StepsGrowTheirTrail }
+    ensures others { OthersLeaveTheTrail }
+    ensures allowed { NewestWasAllowed }
+    ensures look { LooksFindControls }
+    ensures looked { LookedAreControls }
+    ensures lost { LostFoundAnother }
+    ensures ask { AsksFindFew }
+{
+    indexes_tell_the_queue();
+}

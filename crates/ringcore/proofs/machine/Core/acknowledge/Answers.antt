@@ -1,8 +1,7 @@
-use Rattle.std.proofs.Common.{◌≡◌, None, sym, subst, ◌∙◌}
+use Rattle.std.proofs.Common.{◌≡◌, subst}
 use Rattle.ringcore.specs.declared.machine.step.Step.TheVariants.{Acknowledge}
 use Rattle.ringcore.specs.declared.machine.step.Seen.TheVariants.{Acknowledged}
-use Rattle.ringcore.specs.machine.Faults.{fault_of}
-use Rattle.ringcore.specs.machine.Core.{CoreValue, core_of, ring_of, AfterEachRun, IsTaken}
+use Rattle.ringcore.specs.machine.Core.{CoreValue, core_of, ring_of, IsTaken}
 use Rattle.ringcore.proofs.MachineLemmas.TakenSteps.{done_machine, done_taken}
 use Rattle.ringcore.proofs.MachineLemmas.Inside.{no_fault_inside}
 use Rattle.ringcore.proofs.machine.Core.acknowledge.Goals as goal

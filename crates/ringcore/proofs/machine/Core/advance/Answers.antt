@@ -1,10 +1,9 @@
-use Rattle.std.proofs.Common.{◌≡◌, ◌+◌, ◌≤◌, None, sym, ap, subst, ◌∙◌}
+use Rattle.std.proofs.Common.{◌≡◌, ◌+◌, ◌≤◌, sym, ap, subst, ◌∙◌}
 use Rattle.qindex.specs.declared.control.Control.{Control}
 use Rattle.qindex.specs.Positions.{size, index_of}
 use Rattle.ringcore.specs.declared.machine.step.Step.TheVariants.{Advance}
 use Rattle.ringcore.specs.declared.machine.step.Seen.TheVariants.{Word}
-use Rattle.ringcore.specs.world.World.{head, world, control}
-use Rattle.ringcore.specs.machine.Faults.{fault_of}
+use Rattle.ringcore.specs.world.World.{head, world}
 use Rattle.ringcore.specs.machine.Core.{CoreValue, core_of, ring_of, AfterEachRun, IsTaken}
 use Rattle.ringcore.proofs.MachineLemmas.AdvanceSteps.{count_fits, taken_fits, tallies_fit, advanced_machine, advance_taken}
 use Rattle.ringcore.proofs.MachineLemmas.Inside.{no_fault_inside, control_inside}

@@ -1,5 +1,5 @@
-use Rattle.std.proofs.Common.{◌<◌, sym, subst, arith}
-use Rattle.ringcore.specs.machine.Core.{CoreValue, core_of}
+use Rattle.std.proofs.Common.{arith}
+use Rattle.ringcore.specs.machine.Core.{core_of}
 use Rattle.ringcore.proofs.MachineLemmas.TakenSteps.{cell_is, acknowledged_few}
 use Rattle.ringcore.proofs.MachineLemmas.Inside.{there_inside}
 use Rattle.ringcore.proofs.machine.Core.done.Goals as goal

@@ -1,9 +1,9 @@
-use Rattle.std.proofs.Common.{◌<◌, false, sym, subst}
+use Rattle.std.proofs.Common.{false, sym, subst}
 use Rattle.std.proofs.lemmas.Option.{slice_get_read}
 use Rattle.std.specs.Prelude.{Ok, slice_set}
 use Rattle.ringcore.specs.declared.machine.step.Step.TheVariants.{Reserve}
 use Rattle.ringcore.specs.declared.machine.step.Seen.TheVariants.{Lost}
-use Rattle.ringcore.specs.machine.Core.{CoreValue, core_of, IsTakenOrRefused, FindsControl}
+use Rattle.ringcore.specs.machine.Core.{core_of, IsTakenOrRefused, FindsControl}
 use Rattle.ringcore.proofs.MachineLemmas.ReserveSteps.{lost_machine, lost_taken}
 use Rattle.ringcore.proofs.MachineLemmas.Inside.{there_inside, accepted_inside}
 use Rattle.ringcore.proofs.machine.Core.lose.Goals as goal

@@ -1,12 +1,12 @@
-use Rattle.std.proofs.Common.{◌≡◌, ◌+◌, Some, sym, ap, subst}
+use Rattle.std.proofs.Common.{◌≡◌, ◌+◌, Some, ap, subst}
 use Rattle.std.specs.Prelude.{slice_index}
 use Rattle.qindex.specs.declared.control.Control.{Control}
 use Rattle.ringcore.specs.declared.machine.step.Step.TheVariants.{Read}
 use Rattle.ringcore.specs.declared.machine.step.Seen.TheVariants.{Half}
-use Rattle.ringcore.specs.world.World.{head, world, control}
+use Rattle.ringcore.specs.world.World.{head, world}
 use Rattle.ringcore.specs.memory.Layout.{data_word}
 use Rattle.ringcore.specs.machine.Faults.{tested_offset}
-use Rattle.ringcore.specs.machine.Core.{CoreValue, core_of, ring_of, AfterEachRun, HasNoFault, IsTaken}
+use Rattle.ringcore.specs.machine.Core.{CoreValue, core_of, ring_of, AfterEachRun, IsTaken}
 use Rattle.ringcore.proofs.MachineLemmas.ReadSteps.{read_machine, read_taken}
 use Rattle.ringcore.proofs.MachineLemmas.Inside.{accepted_inside, control_inside}
 use Rattle.ringcore.proofs.machine.Core.read.Goals as goal

@@ -1,12 +1,11 @@
-use Rattle.std.proofs.Common.{◌≡◌, None, sym, ap, subst, ◌∙◌}
+use Rattle.std.proofs.Common.{◌≡◌, ap, subst}
 use Rattle.std.specs.Prelude.{slice_index}
 use Rattle.qindex.specs.declared.control.Control.{Control}
 use Rattle.ringcore.specs.declared.machine.step.Step.TheVariants.{Test}
 use Rattle.ringcore.specs.declared.machine.step.Seen.TheVariants.{Ready}
-use Rattle.ringcore.specs.world.World.{head, world, control}
+use Rattle.ringcore.specs.world.World.{head, world}
 use Rattle.ringcore.specs.memory.Layout.{flag_word}
 use Rattle.ringcore.specs.memory.Flags.{IsReadyRun}
-use Rattle.ringcore.specs.machine.Faults.{fault_of}
 use Rattle.ringcore.specs.machine.Core.{CoreValue, core_of, ring_of, AfterEachRun, IsTaken}
 use Rattle.ringcore.proofs.MachineLemmas.TakenSteps.{test_machine, test_taken}
 use Rattle.ringcore.proofs.MachineLemmas.Inside.{no_fault_inside, control_inside}

@@ -1,9 +1,9 @@
-use Rattle.std.proofs.Common.{◌≡◌, ◌+◌, ◌<◌, true, sym, ap, ◌∙◌, subst, arith}
+use Rattle.std.proofs.Common.{◌≡◌, ◌+◌, true, sym, ap, ◌∙◌, subst, arith}
 use Rattle.std.proofs.lemmas.Option.{slice_get_read}
 use Rattle.std.specs.Prelude.{Ok, slice_set}
 use Rattle.ringcore.specs.declared.machine.step.Step.TheVariants.{Reserve}
 use Rattle.ringcore.specs.declared.machine.step.Seen.TheVariants.{Reserved}
-use Rattle.ringcore.specs.machine.Core.{CoreValue, core_of, IsTakenOrRefused, FindsControl}
+use Rattle.ringcore.specs.machine.Core.{core_of, IsTakenOrRefused, FindsControl}
 use Rattle.ringcore.specs.world.Trails.{Run}
 use Rattle.ringcore.specs.world.World.{tail, world}
 use Rattle.ringcore.specs.world.Allowed.{length_with}

@@ -1,4 +1,4 @@
-use Rattle.std.proofs.Common.{◌≡◌, ◌<◌, ◌+◌, ℕ, sym, ap, ap₂, ◌∙◌, subst, arith}
+use Rattle.std.proofs.Common.{◌≡◌, ◌+◌, sym, ap, ap₂, ◌∙◌, subst, arith}
 use Rattle.std.proofs.lemmas.Option.{slice_get_read}
 use Rattle.std.specs.Prelude.{Some, Ok, slice_set}
 use Rattle.qindex.specs.Positions.{index_of}
@@ -7,7 +7,7 @@ use Rattle.ringcore.specs.declared.machine.step.Seen.TheVariants.{Written}
 use Rattle.ringcore.specs.memory.Layout.{data_word}
 use Rattle.ringcore.specs.memory.WordStores.{with_word}
 use Rattle.ringcore.specs.machine.Open.{own_offset}
-use Rattle.ringcore.specs.machine.Core.{CoreValue, core_of, ring_of, IsTakenOrRefused, HasNoFault}
+use Rattle.ringcore.specs.machine.Core.{core_of, ring_of, IsTakenOrRefused}
 use Rattle.ringcore.proofs.MachineLemmas.WriteSteps.{write_inside, write_fits, wrote_machine, write_taken}
 use Rattle.ringcore.proofs.MachineLemmas.Inside.{there_inside, accepted_inside}
 use Rattle.ringcore.proofs.machine.Core.write.Goals as goal

@@ -2,6 +2,7 @@ use Rattle.std.proofs.Common.{◌≡◌, ℕ, ◌+◌, ◌-◌, ◌%◌, min, in
 use Rattle.qindex.specs.Positions.{size, place}
 use Rattle.ringcore.specs.memory.Flags.{flag_bit, polarity}
 use Rattle.ringcore.proofs.MemoryLemmas.FlagPlaces.{run_at}
+use Rattle.ringcore.proofs.MemoryLemmas.ReadyRuns.{found_at, fits_ring}
 use Rattle.ringcore.proofs.MemoryLemmas.ReadyLemmas.{AreEqualBits, bit_of_polarity, bit_of_other, in_one_lap, in_two_laps}
 use Rattle.ringcore.proofs.memory.flags.ready_run.Goals as goal
 use Rattle.ringcore.proofs.memory.flags.ready_run.Goals.{else-size-le-FLAGS-via-then-size-le-FLAGS+else-here-to_end, else-size-le-FLAGS-via-else-size-le-FLAGS}
@@ -54,3 +55,15 @@ pub returns-else-size-le-FLAGS-clause-position : goal.returns-else-size-le-FLAGS
 returns-else-size-le-FLAGS-clause-position c =
     run_at c.indexes_tell_place_and_wrap_bit.ensures.alike c.args.head c.args.word c.args.limit c.min-here.result
     (returns-else-size-le-FLAGS-clause-value c)
+
+pub returns-then-here-to_end-clause-found : goal.returns-then-here-to_end-clause-found
+returns-then-here-to_end-clause-found c = λ g p is. found_at g p c.args.word c.args.limit _ (returns-then-here-to_end-clause-position c g p is)
+
+pub returns-then-here-to_end-clause-within : goal.returns-then-here-to_end-clause-within
+returns-then-here-to_end-clause-within c = fits_ring c.indexes_tell_place_and_wrap_bit.ensures.turns _ _ _ _ _ (returns-then-here-to_end-clause-value c)
+
+pub returns-else-size-le-FLAGS-clause-found : goal.returns-else-size-le-FLAGS-clause-found
+returns-else-size-le-FLAGS-clause-found c = λ g p is. found_at g p c.args.word c.args.limit _ (returns-else-size-le-FLAGS-clause-position c g p is)
+
+pub returns-else-size-le-FLAGS-clause-within : goal.returns-else-size-le-FLAGS-clause-within
+returns-else-size-le-FLAGS-clause-within c = fits_ring c.indexes_tell_place_and_wrap_bit.ensures.turns _ _ _ _ _ (returns-else-size-le-FLAGS-clause-value c)

@@ -1,4 +1,5 @@
-use Rattle.std.proofs.Common.{sym, subst}
+use Rattle.std.proofs.Common.{sym, ap, ◌∙◌, subst}
+use Rattle.ringcore.specs.world.World.{commands}
 use Rattle.ringcore.specs.machine.SenderViews.{SenderValue, Knows}
 use Rattle.ringcore.proofs.MachineLemmas.SenderKnows.{counted, won_known}
 use Rattle.ringcore.proofs.machine.sender_view.SenderView.wins.Goals as goal
@@ -12,4 +13,4 @@ returns-clause-view c = λ run known at.
     let before : Knows run s view = subst (Knows run s) (sym c.self.view_is) known in
     won_known run s view body number _ c.args.start _ at before
     (counted _ body c.args.closes number c.self.inside.numbers c.from.result (c.next_number-number.ensures run s known) before.numbers_is c.from.ensures)
-    c.batch_commands-self-inside.ensures
+    (c.batch_commands-self-inside.ensures ∙ ap (commands s number) c.as_slice.ensures.value)

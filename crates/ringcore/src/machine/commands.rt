@@ -1,0 +1,20 @@
+//! The commands of a batch.
+ghost use Rattle.std.specs.Prelude.{◌≡◌, ◌<◌, ◌≤◌, length};
+ghost use Rattle.ringcore.specs.world.World.{commands};
+
+use cmdcodec::{Raw, RawList, closing_sync, encode};
+
+/// The commands of a sender's batch: a body of at most 63, and behind it the closing sync of this number, if
+/// there is one.
+pub fn batch_commands(sender: u32, body: &[Raw], number: Option<u32>) -> RawList
+    requires sender { sender < 256 }
+    requires body { length body.now ≤ 63 }
+    ensures { result.items ≡ commands sender number body.now }
+{
+    let mut commands = RawList::new();
+    commands.try_extend_from_slice(body).unwrap();
+    if let Some(number) = number {
+        commands.push(encode(&closing_sync(sender, number)));
+    }
+    commands
+}
