@@ -2,5 +2,5 @@ pub mod table
 pub mod sender
 pub mod Rings
 pub mod NewRings
-pub mod Consumers
+pub mod consumer
 pub mod FaultNames

@@ -4,7 +4,7 @@ use Rattle.ringcore.specs.world.Allowed.{Ring}
 use Rattle.ring.specs.declared.fault.RingFault.{RingFault}
 use Rattle.ring.specs.declared.fault.RingFault.TheVariants.{Size, Senders, Batches, Memory}
 use Rattle.ring.specs.Rings.{RingValue}
-use Rattle.ring.specs.Consumers.{ConsumerValue}
+use Rattle.ring.specs.consumer.Consumers.{ConsumerValue}
 use Rattle.ring.specs.sender.Senders.{SenderValue}
 
 -- the first fault of the numbers that a ring is to be made with

@@ -1,25 +1,123 @@
 //! The one who takes commands.
+ghost use Rattle.std.specs.Prelude.{◌≡◌, ◌∷◌, ◌≤◌, ◌^◌, length};
+ghost use Rattle.cmdcodec.specs.declared.raw.Raw.{Raw as RawOf};
+ghost use Rattle.qindex.specs.Positions.{size};
+ghost use Rattle.qindex.specs.ControlWord.{IsControl};
+ghost use Rattle.ringcore.specs.declared.world.event.Event.TheVariants.{Look};
+ghost use Rattle.ringcore.specs.declared.world.event.Who.TheVariants.{Consumer as ConsumerOf};
+ghost use Rattle.ringcore.specs.world.Trails.{taken_by, found_ready};
+ghost use Rattle.ring.specs.table.Rule.{StandsInARun};
+ghost use Rattle.ring.specs.consumer.Pendings.{HasSeen, HasReadRun, reads_from};
+ghost use Rattle.ring.specs.consumer.Taking.{HasTaken, HasTakenRun, IsReadyWith, BeginsWith};
+
+mod commands;
+mod consumer_port;
+mod pending;
+mod pending_run;
+mod taken;
+
+pub use commands::Commands;
+pub use consumer_port::ConsumerPort;
+pub use pending::Pending;
+pub use pending_run::PendingRun;
+pub use taken::{Taken, TakenRun};
+
 use crate::device::Device;
-use crate::table::Port;
-use qindex::Index;
+use crate::ring::Ring;
+use qindex::Control;
 use std::marker::{Model, PhantomData};
 
-/// The one who takes a ring's commands, for a device of this type. It has no calls yet.
+/// The one who takes a ring's commands, in the order of their reservation, for a device of this type.
 #[derive(Drop)]
 pub struct Consumer<D: Device> {
-    pub(crate) port: Port,
-    /// The index of the command that is taken next.
-    pub(crate) head: Index,
-    pub(crate) taken: u64,
+    pub(crate) port: ConsumerPort,
+    /// Room for the commands of a run.
+    pub(crate) commands: Commands,
     pub(crate) device: PhantomData<D>,
 }
 
 impl<D: Device> Model for Consumer<D> {
-    ghost use Rattle.ring.specs.Consumers.{ConsumerValue, IsConsumer};
+    ghost use Rattle.ring.specs.consumer.Consumers.{ConsumerValue};
 
     ghost Value = { ConsumerValue };
 
-    ghost view = { λ d. record { ring = d.port.ring; trail = d.port.trail } };
+    ghost view = { λ d. d.port };
+}
 
-    ghost invariant = { λ d. IsConsumer d.port d.head d.taken };
+impl<D: Device> Consumer<D> {
+    /// A witness that all its steps are steps of one run of the ring. It does nothing.
+    pub fn trail_stands_in_a_run(&self)
+        ensures { StandsInARun self.now.ring.made_with ConsumerOf self.now.trail }
+    {
+        self.port.trail_stands_in_a_run();
+    }
+
+    /// What the control word says at this moment: SMMU_CMDQ_PROD and SMMU_CMDQ_CONS, and whether the ring is closed.
+    pub fn look(&mut self, ring: &Ring) -> Control
+        requires { self.old.ring ≡ ring.now }
+        ensures trail { self.new ≡ record self.old { trail = Look result ∷ self.old.trail } }
+        ensures control { IsControl self.old.ring.made_with.geometry result }
+    {
+        self.port.look(ring)
+    }
+
+    /// How many commands it has taken: at most `2^46`.
+    pub fn taken(&self) -> u64
+        ensures value { result ≡ taken_by self.now.trail }
+        ensures few { result ≤ 2 ^ 46 }
+    {
+        self.port.taken()
+    }
+
+    /// Looks, tests the head, and reads the command there.
+    pub fn take(self, ring: &Ring) -> Taken<D>
+        requires { self.ring ≡ ring.now }
+        ensures taken { HasTaken self result }
+        ensures again { (raw : RawOf) → HasSeen self.trail raw → IsReadyWith raw result }
+    {
+        match self.take_run(ring, 1) {
+            TakenRun::Empty(consumer) => Taken::Empty(consumer),
+            TakenRun::Drained(consumer) => Taken::Drained(consumer),
+            TakenRun::Unwritten(consumer) => Taken::Unwritten(consumer),
+            TakenRun::Ready(run) => Taken::Ready(Pending { run }),
+        }
+    }
+
+    /// Looks, tests from the head on, and reads what is ready: 1 to `most` commands, as far as their flags stand in
+    /// one word. `most` is 1 to 64.
+    pub fn take_run(self, ring: &Ring, most: u32) -> TakenRun<D>
+        requires ring { self.ring ≡ ring.now }
+        requires some { 1 ≤ most }
+        requires most { most ≤ 64 }
+        ensures taken { HasTakenRun most self result }
+        ensures again { (raw : RawOf) → HasSeen self.trail raw → BeginsWith raw result }
+    {
+        let mut consumer = self;
+        let seen = consumer.look(ring);
+        consumer.port.steady();
+        if seen.prod.get() == seen.cons.get() {
+            return if seen.closed {
+                TakenRun::Drained(consumer)
+            } else {
+                TakenRun::Empty(consumer)
+            };
+        }
+        let found = consumer.port.test(ring, most);
+        consumer.port.steady();
+        if found == 0 {
+            return TakenRun::Unwritten(consumer);
+        }
+        let Consumer {
+            mut port,
+            mut commands,
+            device,
+        } = consumer;
+        port.read_run(ring, found, &mut commands);
+        port.steady();
+        TakenRun::Ready(PendingRun {
+            port,
+            commands,
+            device,
+        })
+    }
 }

@@ -8,8 +8,9 @@ mod ring;
 mod sender;
 mod table;
 
-pub use consumer::Consumer;
+pub use consumer::{Consumer, Pending, PendingRun, Taken, TakenRun};
 pub use device::Device;
 pub use fault::RingFault;
 pub use ring::Ring;
+pub use ringcore::Outcome;
 pub use sender::{BareReservation, Cause, Receipt, Refused, Reservation, Sender};

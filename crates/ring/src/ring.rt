@@ -5,7 +5,7 @@ ghost use Rattle.ringcore.specs.memory.Layout.{words_of};
 ghost use Rattle.ring.specs.table.Rule.{IsWithinLimits, first_participants, participants_from};
 ghost use Rattle.ring.specs.NewRings.{IsNewRing, IsUnused, new_senders, IsNotMade, number_fault};
 
-use crate::consumer::Consumer;
+use crate::consumer::{Commands, Consumer, ConsumerPort};
 use crate::device::Device;
 use crate::fault::RingFault;
 use crate::sender::{Sender, Tally};
@@ -84,9 +84,12 @@ impl Ring {
         let (table, seat) = Table::of_words(alloc, zeros.as_slice(), &made_with)?;
         let (all, seat) = deal(alloc, &table.shared, seat, senders)?;
         let consumer = Consumer {
-            port: Port { seat },
-            head: Index::new(geometry, 0).unwrap(),
-            taken: 0,
+            port: ConsumerPort {
+                port: Port { seat },
+                head: Index::new(geometry, 0).unwrap(),
+                taken: 0,
+            },
+            commands: Commands::new(alloc)?,
             device: PhantomData,
         };
         Ok((Ring { table, made_with }, all, consumer))

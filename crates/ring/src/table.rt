@@ -1,4 +1,5 @@
 //! The words that all threads share, the rule that they keep, and the atomic steps that seats take on them.
+mod consumer_steps;
 mod port;
 mod rule;
 mod steps;

@@ -1,5 +1,5 @@
 -- The steps of a seat that stands for one alone, by what contracts see of it.
-use Rattle.std.proofs.Common.{◌≡◌, ℕ, ◌+◌, ◌<◌, Bool, true, false, cond, ◌==◌, List, ◌∷◌, [], Some, refl, sym, ap, ◌∙◌, subst}
+use Rattle.std.proofs.Common.{◌≡◌, ℕ, ◌+◌, ◌<◌, Bool, true, false, cond, ◌==◌, List, ◌∷◌, [], Some, refl, sym, ap, ◌∙◌, subst, suc, ◌≤◌, length}
 use Rattle.std.specs.Prelude.{slice_get, bit_xor, bit_or}
 use mathlib.Core.Option.{none}
 use prog.Atomic.{either}
@@ -8,28 +8,27 @@ use Rattle.atomic_table.specs.Seated.{TableId}
 use Rattle.cmdcodec.specs.declared.raw.Raw.{Raw}
 use Rattle.qindex.specs.declared.control.Control.{Control}
 use Rattle.qindex.specs.Positions.{IndexValue, index_of}
-use Rattle.qindex.specs.ControlWord.{packed, control_in, close_mask}
+use Rattle.qindex.specs.ControlWord.{packed, control_in, close_mask, advance_mask}
 use Rattle.ringcore.specs.declared.world.event.Who.{Who}
-use Rattle.ringcore.specs.declared.world.event.Who.TheVariants.{Sender}
+use Rattle.ringcore.specs.declared.world.event.Who.TheVariants.{Sender, Consumer}
 use Rattle.ringcore.specs.declared.world.event.Half.{Half}
 use Rattle.ringcore.specs.declared.world.event.Event.{Event}
 use Rattle.ringcore.specs.declared.world.event.Event.TheVariants.{Won, Lost}
-use Rattle.ringcore.specs.world.Trails.{Trail, trail_of, looked}
+use Rattle.ringcore.specs.world.Trails.{Trail, trail_of, looked, start_index, found_ready, taken_by, acknowledged_by}
 use Rattle.ringcore.specs.world.World.{world, half_of}
-use Rattle.ringcore.specs.world.Allowed.{ShareAWord, Allowed, MayTry, MayLose, MayWrite, MayFlip, length_with}
+use Rattle.ringcore.specs.world.Allowed.{ShareAWord, Allowed, MayTry, MayLose, MayWrite, MayFlip, length_with, Ring, IsRunLength, MayAdvance}
 use Rattle.ringcore.specs.memory.Layout.{control_word, flag_word, data_word, cell, words_of}
 use Rattle.ringcore.specs.memory.Flags.{IsFlipMask}
-use Rattle.ringcore.specs.world.Laws.{IsOne}
-use Rattle.ringcore.specs.world.Allowed.{Ring}
-use Rattle.ringcore.specs.world.Trails.{start_index}
-use Rattle.ringcore.specs.memory.StepLaws.{Always, ClosesByAnOr, WinsByAnExchange, LosesByAnExchange, WritesByAStore, FlipsByAnExclusiveOr, AsksByALoad, StartsWhereItLooked, with_reserved, reserved_commands}
+use Rattle.ringcore.specs.world.Laws.{IsOne, EveryRun, SyncsAreCounted, syncs_taken}
+use Rattle.ringcore.specs.memory.StepLaws.{Always, ClosesByAnOr, WinsByAnExchange, LosesByAnExchange, WritesByAStore, FlipsByAnExclusiveOr, AsksByALoad, StartsWhereItLooked, with_reserved, reserved_commands, ReadsByALoad, AdvancesByAnExclusiveOr, AcknowledgesByAStore, TestsFindReadyIn}
 use Rattle.ringcore.specs.machine.StepAnswers.{next_number}
 use Rattle.ring.specs.table.Rule.{Holding, participant, RuleHolds, ring_of, who_of, trail_of_first, IsAlone}
-use Rattle.ring.specs.table.Intents.{Intent, closes, reserves, writes, flips, asks}
+use Rattle.ring.specs.table.Intents.{Intent, closes, reserves, writes, flips, asks, tests, reads, advances, acknowledges}
 use Rattle.ring.specs.table.StepEvents.{IsEventOf, Added, IsNewest, adds_for}
-use Rattle.ring.proofs.TableLemmas.StepKinds.{closes_as, reserves_as, writes_as, flips_as, asks_as, flag_inside, data_inside, cell_inside}
+use Rattle.ring.proofs.TableLemmas.StepKinds.{closes_as, reserves_as, writes_as, flips_as, asks_as, flag_inside, data_inside, cell_inside, tests_as, reads_as, advances_as, acknowledges_as}
 use Rattle.ring.specs.Rings.{RingValue}
 use Rattle.ring.specs.table.Ports.{port_of, PortValue, IsWonOrLost, IsSlotAt, MayFlipAt}
+use Rattle.ringcore.specs.world.ConsumerLaws.{TellsTheHead, TellsTheNumbers}
 
 module _ (table : TableId) (me : Holding) (p : PortValue) (is : port_of table me ≡ p) (alone : IsAlone me (who_of me.0)) (ring : Ring) (slots id : ℕ) where
   pub closes_now : Always ClosesByAnOr → (s : ℕ) → p.who ≡ Sender s → (i mask : ℕ) → i ≡ control_word → mask ≡ close_mask → Allows (RuleHolds ring) slots id me i (λ x. bit_or x mask) (adds_for closes (step slots i mask 0 none) me)
@@ -68,6 +67,33 @@ module _ (table : TableId) (me : Holding) (p : PortValue) (is : port_of table me
       (λ position here. at (ring_of me.0).geometry (position + offset) (a position here))
       (λ position here. mask_is (ring_of me.0).geometry (position + offset) (a position here)))
       who may slot_is
+
+  pub tests_now : Always TestsFindReadyIn → EveryRun TellsTheHead → p.who ≡ Consumer → (intent : Intent) (limit i : ℕ) → intent ≡ tests limit → IsRunLength limit
+      → i ≡ flag_word p.ring.made_with.geometry (taken_by p.trail) → Allows (RuleHolds ring) slots id me i (λ x. x) (adds_for intent (step slots i 0 0 none) me)
+  tests_now law tells who intent limit i intent_is many at =
+      subst (λ (q : PortValue). q.who ≡ Consumer → i ≡ flag_word q.ring.made_with.geometry (taken_by q.trail) → Allows (RuleHolds ring) slots id me i (λ x. x) (adds_for intent (step slots i 0 0 none) me)) is
+      (λ w a. tests_as law tells ring slots id me (subst (IsAlone me) w alone) intent limit i intent_is many a) who at
+
+  pub reads_now : Always ReadsByALoad → EveryRun TellsTheHead → p.who ≡ Consumer → (intent : Intent) (offset : ℕ) (half : Half) (i : ℕ) → intent ≡ reads offset half → offset < found_ready p.trail
+      → i ≡ data_word p.ring.made_with.geometry (taken_by p.trail + offset) half → Allows (RuleHolds ring) slots id me i (λ x. x) (adds_for intent (step slots i 0 0 none) me)
+  reads_now law tells who intent offset half i intent_is low at =
+      subst (λ (q : PortValue). q.who ≡ Consumer → offset < found_ready q.trail → i ≡ data_word q.ring.made_with.geometry (taken_by q.trail + offset) half → Allows (RuleHolds ring) slots id me i (λ x. x) (adds_for intent (step slots i 0 0 none) me)) is
+      (λ w l a. reads_as law tells ring slots id me (subst (IsAlone me) w alone) intent offset half i intent_is l a) who low at
+
+  pub advances_now : Always AdvancesByAnExclusiveOr → EveryRun TellsTheHead → p.who ≡ Consumer → (intent : Intent) (raws : List Raw) (i mask : ℕ) → intent ≡ advances raws → i ≡ control_word → MayAdvance p.trail raws
+      → mask ≡ advance_mask (index_of p.ring.made_with.geometry (taken_by p.trail)) (index_of p.ring.made_with.geometry (taken_by p.trail + length raws))
+      → Allows (RuleHolds ring) slots id me i (λ x. bit_xor x mask) (adds_for intent (step slots i mask 0 none) me)
+  advances_now law tells who intent raws i mask intent_is at may mask_is =
+      subst (λ (q : PortValue). q.who ≡ Consumer → MayAdvance q.trail raws → mask ≡ advance_mask (index_of q.ring.made_with.geometry (taken_by q.trail)) (index_of q.ring.made_with.geometry (taken_by q.trail + length raws))
+      → Allows (RuleHolds ring) slots id me i (λ x. bit_xor x mask) (adds_for intent (step slots i mask 0 none) me)) is
+      (λ w m a. advances_as law tells ring slots id me (subst (IsAlone me) w alone) intent raws i mask intent_is at m a) who may mask_is
+
+  pub acknowledges_now : Always AcknowledgesByAStore → EveryRun TellsTheNumbers → EveryRun SyncsAreCounted → p.who ≡ Consumer → (intent : Intent) (s number i x : ℕ) → intent ≡ acknowledges s number
+      → i ≡ cell p.ring.made_with.geometry s → x ≡ number → number ≡ suc (acknowledged_by s p.trail) → number ≤ syncs_taken s p.trail
+      → Allows (RuleHolds ring) slots id me i (λ _. x) (λ _. adds_for intent (step slots i x 0 none) me x)
+  acknowledges_now law tells counted who intent s number i x intent_is at x_is next low =
+      subst (λ (q : PortValue). q.who ≡ Consumer → i ≡ cell q.ring.made_with.geometry s → number ≡ suc (acknowledged_by s q.trail) → number ≤ syncs_taken s q.trail → Allows (RuleHolds ring) slots id me i (λ _. x) (λ _. adds_for intent (step slots i x 0 none) me x)) is
+      (λ w a n l. acknowledges_as law tells counted ring slots id me (subst (IsAlone me) w alone) intent s number i x intent_is a x_is n l) who at next low
 
   pub asks_now : Always AsksByALoad → (s : ℕ) → p.who ≡ Sender s → (i : ℕ) → i ≡ cell p.ring.made_with.geometry s → Allows (RuleHolds ring) slots id me i (λ x. x) (adds_for asks (step slots i 0 0 none) me)
   asks_now law s who i at =

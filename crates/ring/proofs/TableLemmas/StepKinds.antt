@@ -1,34 +1,34 @@
 -- What each kind of step may do, by its law.
-use Rattle.std.proofs.Common.{◌≡◌, ℕ, Bool, true, false, cond, eq-eqb, eqb-true, true≢false, ◌+◌, ◌<◌, List, ◌∷◌, refl, sym, ap, ◌∙◌, subst, arith, ◌%◌, mod-lt}
+use Rattle.std.proofs.Common.{◌≡◌, ◌≢◌, ℕ, suc, Bool, true, false, cond, eq-eqb, eqb-true, true≢false, ◌+◌, ◌<◌, List, ◌∷◌, refl, sym, ap, ◌∙◌, subst, arith, ◌%◌, ◌≤◌, mod-lt}
 use Rattle.std.proofs.lemmas.Nat.{pow_pos}
-use Rattle.std.specs.Prelude.{◌==◌, Option, Some, slice_index, slice_set, slice_get, bit_or, bit_xor}
+use Rattle.std.specs.Prelude.{◌==◌, Option, Some, length, slice_index, slice_set, slice_get, bit_or, bit_xor}
 use prog.Atomic.{either}
 use Rattle.cmdcodec.specs.declared.raw.Raw.{Raw}
 use Rattle.qindex.specs.declared.control.Control.{Control}
 use Rattle.qindex.specs.Positions.{size, index_of}
-use Rattle.qindex.specs.ControlWord.{packed, control_in, close_mask}
+use Rattle.qindex.specs.ControlWord.{packed, control_in, advance_mask, close_mask}
 use Rattle.ringcore.specs.declared.world.event.Who.{Who}
-use Rattle.ringcore.specs.declared.world.event.Who.TheVariants.{Sender}
+use Rattle.ringcore.specs.declared.world.event.Who.TheVariants.{Consumer, Sender}
 use Rattle.ringcore.specs.declared.world.event.Event.{Event}
-use Rattle.ringcore.specs.declared.world.event.Event.TheVariants.{Look, Won, Lost, Write, Flip, Close, Ask}
+use Rattle.ringcore.specs.declared.world.event.Event.TheVariants.{Look, Won, Lost, Write, Flip, Close, Test, Read, Advance, Acknowledge, Ask}
 use Rattle.ringcore.specs.declared.world.event.Half.{Half}
 use Rattle.ringcore.specs.declared.world.event.Half.TheVariants.{Lo, Hi}
-use Rattle.ringcore.specs.world.Trails.{Trail, Run, trail_of, batch_length}
-use Rattle.ringcore.specs.world.World.{world, half_of}
-use Rattle.ringcore.specs.world.Allowed.{MayTry, IsNextNumber, MayWrite, MayFlip, length_with}
+use Rattle.ringcore.specs.world.Trails.{Trail, Run, trail_of, batch_length, found_ready, start_index, taken_by, acknowledged_by}
+use Rattle.ringcore.specs.world.World.{head, world, half_of}
+use Rattle.ringcore.specs.world.Allowed.{IsRunLength, MayTry, IsNextNumber, MayWrite, MayFlip, MayAdvance, SyncIsTaken, length_with, Ring}
+use Rattle.ringcore.specs.world.Laws.{EveryRun, SyncsAreCounted, syncs_taken}
 use Rattle.ringcore.specs.memory.Layout.{control_word, flag_word, data_word, half_number, cell, words_of}
-use Rattle.ringcore.specs.memory.Flags.{IsFlipMask}
-use Rattle.ringcore.specs.world.Allowed.{Ring}
+use Rattle.ringcore.specs.memory.Flags.{IsFlipMask, ready_in}
 use Rattle.ringcore.specs.memory.Shadow.{AreAfter}
-use Rattle.ringcore.specs.world.Trails.{start_index}
-use Rattle.ringcore.specs.memory.StepLaws.{Always, HasAControlWord, LooksByALoad, ClosesByAnOr, WinsByAnExchange, LosesByAnExchange, WritesByAStore, FlipsByAnExclusiveOr, AsksByALoad, StartsWhereItLooked, with_reserved, reserved_commands}
+use Rattle.ringcore.specs.memory.StepLaws.{Always, HasAControlWord, LooksByALoad, ClosesByAnOr, WinsByAnExchange, LosesByAnExchange, WritesByAStore, FlipsByAnExclusiveOr, ReadsByALoad, AdvancesByAnExclusiveOr, AcknowledgesByAStore, AsksByALoad, StartsWhereItLooked, with_reserved, reserved_commands, TestsFindReadyIn}
 use Rattle.ringcore.specs.machine.StepAnswers.{next_number}
 use mathlib.Core.Option.{none}
 use Rattle.atomic_table.specs.Table.{step, Allows}
 use Rattle.ring.specs.table.Rule.{Holding, RuleHolds, Stands, ring_of, trail_of_first, IsAlone}
-use Rattle.ring.specs.table.Intents.{Intent, looks, closes, reserves, writes, flips, asks}
+use Rattle.ring.specs.table.Intents.{Intent, looks, closes, tests, reserves, writes, flips, reads, advances, acknowledges, asks}
 use Rattle.ring.specs.table.StepEvents.{IsEventOf, adds_for}
 use Rattle.ring.proofs.TableLemmas.Steps.{MayStep, steps_as, set_back}
+use Rattle.ringcore.specs.world.ConsumerLaws.{TellsTheHead, TellsTheNumbers}
 
 many_is : (trail : Trail) (closing : Bool) (body : List Raw) → length_with closing body ≡ batch_length body (next_number trail closing)
 many_is trail true body = refl
@@ -122,6 +122,48 @@ flips_may law starts ring s trail offset count i mask may at mask_is run words n
           (law ring run words now.after s offset count mask (subst (λ (t : Trail). MayFlip ring t p offset count) (sym now.trail_is) (may p here now.after.flags_are)) (mask_is p here)),
     )
 
+-- ---- the consumer's
+
+pub tests_may : Always TestsFindReadyIn → EveryRun TellsTheHead → (ring : Ring) (trail : Trail) (limit i : ℕ) → IsRunLength limit → i ≡ flag_word ring.geometry (taken_by trail)
+    → MayStep ring Consumer trail i (λ x. x) (IsEventOf ring trail (tests limit) 0)
+tests_may law tells ring trail limit i many at run words now =
+    let g : ℕ = ring.geometry in
+    let h : head (world run) ≡ taken_by trail = tells ring run now.after.run_is ∙ ap taken_by now.trail_is in
+    let here : flag_word g (head (world run)) ≡ i = ap (flag_word g) h ∙ sym at in
+    let found : ℕ = ready_in g (slice_index words i) (taken_by trail) limit in
+    (Test limit found, refl, still ring ((Consumer, Test limit found) ∷ run) words i
+    (subst (λ (t : ℕ × ℕ). AreAfter ring ((Consumer, Test limit (ready_in g (slice_index words t.1) t.0 limit)) ∷ run) words) (λ k. (h k, here k)) (law ring run words now.after limit many)))
+
+-- a store of nothing, at the slot that an offset from the head has
+pub reads_may : Always ReadsByALoad → EveryRun TellsTheHead → (ring : Ring) (trail : Trail) (offset : ℕ) (half : Half) (i : ℕ) → offset < found_ready trail → i ≡ data_word ring.geometry (taken_by trail + offset) half
+    → MayStep ring Consumer trail i (λ x. x) (IsEventOf ring trail (reads offset half) 0)
+reads_may law tells ring trail offset half i low at run words now =
+    let h : head (world run) ≡ taken_by trail = tells ring run now.after.run_is ∙ ap taken_by now.trail_is in
+    let here : data_word ring.geometry (head (world run) + offset) half ≡ i = ap (λ (p : ℕ). data_word ring.geometry (p + offset) half) h ∙ sym at in
+    let x : ℕ = slice_index words i in
+    (Read offset half x, refl, still ring ((Consumer, Read offset half x) ∷ run) words i
+    (subst (λ (j : ℕ). AreAfter ring ((Consumer, Read offset half (slice_index words j)) ∷ run) words) here
+    (law ring run words now.after offset half (subst (λ (t : Trail). offset < found_ready t) (sym now.trail_is) low))))
+
+pub advances_may : Always AdvancesByAnExclusiveOr → EveryRun TellsTheHead → (ring : Ring) (trail : Trail) (raws : List Raw) (i mask : ℕ) → i ≡ control_word → MayAdvance trail raws
+    → mask ≡ advance_mask (index_of ring.geometry (taken_by trail)) (index_of ring.geometry (taken_by trail + length raws))
+    → MayStep ring Consumer trail i (λ x. bit_xor x mask) (IsEventOf ring trail (advances raws) mask)
+advances_may law tells ring trail raws i mask at may mask_is run words now =
+    let h : head (world run) ≡ taken_by trail = tells ring run now.after.run_is ∙ ap taken_by now.trail_is in
+    let same : advance_mask (index_of ring.geometry (head (world run))) (index_of ring.geometry (head (world run) + length raws)) ≡ mask =
+    ap (λ (p : ℕ). advance_mask (index_of ring.geometry p) (index_of ring.geometry (p + length raws))) h ∙ sym mask_is in
+    (Advance raws, refl, subst (λ (t : ℕ × ℕ). AreAfter ring ((Consumer, Advance raws) ∷ run) (slice_set words t.0 (bit_xor (slice_index words t.0) t.1))) (λ q. (sym at q, same q))
+    (law ring run words now.after raws (subst (λ (t : Trail). MayAdvance t raws) (sym now.trail_is) may)))
+
+pub acknowledges_may : Always AcknowledgesByAStore → EveryRun TellsTheNumbers → EveryRun SyncsAreCounted → (ring : Ring) (trail : Trail) (s number i x : ℕ) → i ≡ cell ring.geometry s → x ≡ number
+    → number ≡ suc (acknowledged_by s trail) → number ≤ syncs_taken s trail
+    → MayStep ring Consumer trail i (λ _. x) (λ _. IsEventOf ring trail (acknowledges s number) x x)
+acknowledges_may law tells counted ring trail s number i x at x_is next low run words now =
+    let a : (world run).acknowledged s ≡ acknowledged_by s trail = tells ring run now.after.run_is s ∙ ap (acknowledged_by s) now.trail_is in
+    let taken : SyncIsTaken (world run) s number = (counted ring run now.after.run_is s number).1 (let n = next in omega arith, subst (λ (t : Trail). number ≤ syncs_taken s t) (sym now.trail_is) low) in
+    (Acknowledge s number, refl, subst (λ (t : ℕ × ℕ). AreAfter ring ((Consumer, Acknowledge s number) ∷ run) (slice_set words t.0 t.1)) (λ q. (sym at q, sym x_is q))
+    (law ring run words now.after s number (record { next = next ∙ ap suc (sym a); taken = taken })))
+
 pub asks_may : Always AsksByALoad → (ring : Ring) (s : ℕ) (trail : Trail) (i : ℕ) → i ≡ cell ring.geometry s → MayStep ring (Sender s) trail i (λ x. x) (IsEventOf ring trail asks 0)
 asks_may law ring s trail i at run words now =
     let x : ℕ = slice_index words i in
@@ -168,6 +210,35 @@ flips_as law starts ring slots id s me is intent offset count i mask intent_is m
     let z : Ring = ring_of me.0 in let t : Trail = trail_of_first me.0 in
     subst (λ (q : Intent). Allows (RuleHolds ring) slots id me i (λ x. bit_xor x mask) (adds_for q (step slots i mask 0 none) me)) (sym intent_is)
     (steps_as ring slots id (Sender s) me is i (λ x. bit_xor x mask) (IsEventOf z t (flips offset count) mask) (flips_may law starts z s t offset count i mask may at mask_is))
+
+pub tests_as : Always TestsFindReadyIn → EveryRun TellsTheHead → (ring : Ring) (slots id : ℕ) (me : Holding) → IsAlone me Consumer → (intent : Intent) (limit i : ℕ) → intent ≡ tests limit → IsRunLength limit
+    → i ≡ flag_word (ring_of me.0).geometry (taken_by (trail_of_first me.0))
+    → Allows (RuleHolds ring) slots id me i (λ x. x) (adds_for intent (step slots i 0 0 none) me)
+tests_as law tells ring slots id me is intent limit i intent_is many at =
+    subst (λ (t : Intent). Allows (RuleHolds ring) slots id me i (λ x. x) (adds_for t (step slots i 0 0 none) me)) (sym intent_is)
+    (steps_as ring slots id Consumer me is i (λ x. x) (IsEventOf (ring_of me.0) (trail_of_first me.0) (tests limit) 0) (tests_may law tells (ring_of me.0) (trail_of_first me.0) limit i many at))
+
+pub reads_as : Always ReadsByALoad → EveryRun TellsTheHead → (ring : Ring) (slots id : ℕ) (me : Holding) → IsAlone me Consumer → (intent : Intent) (offset : ℕ) (half : Half) (i : ℕ) → intent ≡ reads offset half
+    → offset < found_ready (trail_of_first me.0) → i ≡ data_word (ring_of me.0).geometry (taken_by (trail_of_first me.0) + offset) half
+    → Allows (RuleHolds ring) slots id me i (λ x. x) (adds_for intent (step slots i 0 0 none) me)
+reads_as law tells ring slots id me is intent offset half i intent_is low at =
+    subst (λ (t : Intent). Allows (RuleHolds ring) slots id me i (λ x. x) (adds_for t (step slots i 0 0 none) me)) (sym intent_is)
+    (steps_as ring slots id Consumer me is i (λ x. x) (IsEventOf (ring_of me.0) (trail_of_first me.0) (reads offset half) 0) (reads_may law tells (ring_of me.0) (trail_of_first me.0) offset half i low at))
+
+pub advances_as : Always AdvancesByAnExclusiveOr → EveryRun TellsTheHead → (ring : Ring) (slots id : ℕ) (me : Holding) → IsAlone me Consumer → (intent : Intent) (raws : List Raw) (i mask : ℕ) → intent ≡ advances raws
+    → i ≡ control_word → MayAdvance (trail_of_first me.0) raws
+    → mask ≡ advance_mask (index_of (ring_of me.0).geometry (taken_by (trail_of_first me.0))) (index_of (ring_of me.0).geometry (taken_by (trail_of_first me.0) + length raws))
+    → Allows (RuleHolds ring) slots id me i (λ x. bit_xor x mask) (adds_for intent (step slots i mask 0 none) me)
+advances_as law tells ring slots id me is intent raws i mask intent_is at may mask_is =
+    subst (λ (t : Intent). Allows (RuleHolds ring) slots id me i (λ x. bit_xor x mask) (adds_for t (step slots i mask 0 none) me)) (sym intent_is)
+    (steps_as ring slots id Consumer me is i (λ x. bit_xor x mask) (IsEventOf (ring_of me.0) (trail_of_first me.0) (advances raws) mask) (advances_may law tells (ring_of me.0) (trail_of_first me.0) raws i mask at may mask_is))
+
+pub acknowledges_as : Always AcknowledgesByAStore → EveryRun TellsTheNumbers → EveryRun SyncsAreCounted → (ring : Ring) (slots id : ℕ) (me : Holding) → IsAlone me Consumer → (intent : Intent) (s number i x : ℕ) → intent ≡ acknowledges s number
+    → i ≡ cell (ring_of me.0).geometry s → x ≡ number → number ≡ suc (acknowledged_by s (trail_of_first me.0)) → number ≤ syncs_taken s (trail_of_first me.0)
+    → Allows (RuleHolds ring) slots id me i (λ _. x) (λ _. adds_for intent (step slots i x 0 none) me x)
+acknowledges_as law tells counted ring slots id me is intent s number i x intent_is at x_is next low =
+    subst (λ (t : Intent). Allows (RuleHolds ring) slots id me i (λ _. x) (λ _. adds_for t (step slots i x 0 none) me x)) (sym intent_is)
+    (steps_as ring slots id Consumer me is i (λ _. x) (λ _. IsEventOf (ring_of me.0) (trail_of_first me.0) (acknowledges s number) x x) (acknowledges_may law tells counted (ring_of me.0) (trail_of_first me.0) s number i x at x_is next low))
 
 pub asks_as : Always AsksByALoad → (ring : Ring) (slots id s : ℕ) (me : Holding) → IsAlone me (Sender s) → (i : ℕ) → i ≡ cell (ring_of me.0).geometry s
     → Allows (RuleHolds ring) slots id me i (λ x. x) (adds_for asks (step slots i 0 0 none) me)

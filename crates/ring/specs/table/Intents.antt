@@ -11,5 +11,13 @@ pub data Intent : Type 0 where
   writes : ℕ → Half → Intent
   -- an offset in the reservation, and how many from there on
   flips : ℕ → ℕ → Intent
+  -- how many at most
+  tests : ℕ → Intent
+  -- an offset from the head, and a half
+  reads : ℕ → Half → Intent
+  -- the commands that are taken
+  advances : List Raw → Intent
   closes : Intent
+  -- a sender, and a number
+  acknowledges : ℕ → ℕ → Intent
   asks : Intent

@@ -4,13 +4,14 @@ use Rattle.atomic_table.specs.Table.{Step}
 use Rattle.qindex.specs.ControlWord.{IsControlWord, control_in}
 use Rattle.ringcore.specs.declared.world.event.Who.{Who}
 use Rattle.ringcore.specs.declared.world.event.Event.{Event}
-use Rattle.ringcore.specs.declared.world.event.Event.TheVariants.{Look, Won, Lost, Write, Flip, Close, Ask}
-use Rattle.ringcore.specs.world.Trails.{Trail, Run}
+use Rattle.ringcore.specs.declared.world.event.Event.TheVariants.{Look, Won, Lost, Write, Flip, Test, Read, Advance, Close, Acknowledge, Ask}
+use Rattle.ringcore.specs.world.Trails.{Trail, Run, taken_by}
 use Rattle.ringcore.specs.world.Allowed.{Ring}
+use Rattle.ringcore.specs.memory.Flags.{ready_in}
 use Rattle.ringcore.specs.machine.StepAnswers.{next_number}
 use Rattle.ring.specs.declared.table.rule.Participant.{Participant}
 use Rattle.ring.specs.table.Rule.{Holding, participant, Stands, ring_of, who_of, trail_of_first}
-use Rattle.ring.specs.table.Intents.{Intent, looks, reserves, writes, flips, closes, asks}
+use Rattle.ring.specs.table.Intents.{Intent, looks, reserves, writes, flips, tests, reads, advances, closes, acknowledges, asks}
 
 -- The event of a step that is for this, whose first operand this is, and which found this word.
 abbrev pub IsEventOf : Ring → Trail → Intent → ℕ → ℕ → Event → Type 0
@@ -19,7 +20,11 @@ IsEventOf ring trail (reserves body closing) operand word e =
     e ≡ cond (word == operand) (Won body (next_number trail closing)) (Lost body closing (control_in ring.geometry word))
 IsEventOf ring trail (writes offset half) operand word e = e ≡ Write offset half
 IsEventOf ring trail (flips offset count) operand word e = e ≡ Flip offset count
+IsEventOf ring trail (tests limit) operand word e = e ≡ Test limit (ready_in ring.geometry word (taken_by trail) limit)
+IsEventOf ring trail (reads offset half) operand word e = e ≡ Read offset half word
+IsEventOf ring trail (advances raws) operand word e = e ≡ Advance raws
 IsEventOf ring trail closes operand word e = e ≡ Close
+IsEventOf ring trail (acknowledges sender number) operand word e = e ≡ Acknowledge sender number
 IsEventOf ring trail asks operand word e = e ≡ Ask word
 
 -- The event stands last in a run by the rule, behind this trail.

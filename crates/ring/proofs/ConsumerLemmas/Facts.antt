@@ -1,0 +1,36 @@
+-- What the consumer's trail tells of itself, by the laws of every run.
+use Rattle.std.proofs.Common.{◌≡◌, ℕ, ◌≤◌, ◌^◌, ap, ◌∙◌, subst}
+use Rattle.atomic_table.specs.Seated.{TableId}
+use Rattle.ringcore.specs.declared.world.event.Who.{Who}
+use Rattle.ringcore.specs.declared.world.event.Who.TheVariants.{Consumer}
+use Rattle.ringcore.specs.world.Trails.{Trail, raws_by, taken_by}
+use Rattle.ringcore.specs.world.World.{head, world}
+use Rattle.ringcore.specs.world.Allowed.{Ring}
+use Rattle.ringcore.specs.world.Laws.{EveryRun, ListsAreShort, SyncsAreInOrder}
+use Rattle.ringcore.specs.world.ConsumerLaws.{TellsTheHead, TookSyncsInOrder, IsSteady, ConsumerIsSteady}
+use Rattle.ring.specs.table.Rule.{Holding, StandsInARun, ring_of, who_of, trail_of_first, IsAlone}
+use Rattle.ring.specs.table.Ports.{PortValue, port_of}
+
+-- what is so of the consumer's trail in any run is so of its port's
+of_port : (P : Ring → Trail → Type 0) → ((ring : Ring) (trail : Trail) → StandsInARun ring Consumer trail → P ring trail)
+    → (table : TableId) (me : Holding) (p : PortValue) → port_of table me ≡ p → IsAlone me (who_of me.0) → p.who ≡ Consumer → P p.ring.made_with p.trail
+of_port P law table me p is alone who =
+    subst (λ (q : PortValue). q.who ≡ Consumer → P q.ring.made_with q.trail) is
+    (λ w. law (ring_of me.0) (trail_of_first me.0) (subst (λ (u : Who). StandsInARun (ring_of me.0) u (trail_of_first me.0)) w alone.stands)) who
+
+pub few_are_taken : ListsAreShort → EveryRun TellsTheHead → (table : TableId) (me : Holding) (p : PortValue) → port_of table me ≡ p → IsAlone me (who_of me.0) → p.who ≡ Consumer → taken_by p.trail ≤ 2 ^ 46
+few_are_taken short tells = of_port (λ ring trail. taken_by trail ≤ 2 ^ 46) (λ ring trail s.
+    let now = s.stands in
+    let h : head (world s.run) ≡ taken_by trail = tells ring s.run now.after.run_is ∙ ap taken_by now.trail_is in
+    subst (λ (n : ℕ). n ≤ 2 ^ 46) h (short ring s.run now.limits.senders now.limits.batches now.only now.after.run_is).taken)
+
+pub syncs_are_in_order : TookSyncsInOrder → (table : TableId) (me : Holding) (p : PortValue) → port_of table me ≡ p → IsAlone me (who_of me.0) → p.who ≡ Consumer
+    → SyncsAreInOrder p.ring.made_with.senders (raws_by p.trail)
+syncs_are_in_order order = of_port (λ ring trail. SyncsAreInOrder ring.senders (raws_by trail)) (λ ring trail s.
+    let now = s.stands in
+    subst (λ (t : Trail). SyncsAreInOrder ring.senders (raws_by t)) now.trail_is (order ring ring.senders s.run now.only now.after.run_is))
+
+pub is_steady : ConsumerIsSteady → (table : TableId) (me : Holding) (p : PortValue) → port_of table me ≡ p → IsAlone me (who_of me.0) → p.who ≡ Consumer → IsSteady p.trail
+is_steady steady = of_port (λ ring trail. IsSteady trail) (λ ring trail s.
+    let now = s.stands in
+    subst IsSteady now.trail_is (steady ring s.run now.after.geometry_is now.after.run_is))

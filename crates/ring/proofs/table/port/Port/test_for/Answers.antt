@@ -1,0 +1,11 @@
+use Rattle.std.proofs.Common.{rules, sym}
+use Rattle.ring.proofs.TableLemmas.PortSteps.{tests_now, in_flags}
+use Rattle.ring.proofs.table.port.Port.test_for.Goals as goal
+
+pub load-word-requires : goal.load-word-requires
+load-word-requires g c =
+    let at = c.flag_word.ensures.position _ _ c.requires.head in (
+      search rules,
+      in_flags _ _ c.ring.invariant.words _ _ c.requires.ring _ (sym c.ring.view_is) _ _ at,
+      tests_now _ _ _ c.self.view_is c.self.invariant _ _ _ c.ready_runs.ensures.test c.consumer_trail.ensures.head c.requires.who _ c.args.limit _ c.requires.intent (c.requires.some, c.requires.most) at,
+    )

@@ -1,0 +1,4 @@
+pub mod Consumers
+pub mod Pendings
+pub mod Taking
+pub mod Completing

@@ -1,0 +1,63 @@
+-- Which events a completion added, and what is taken after it.
+use Rattle.std.specs.Prelude.{◌≡◌, ◌<◌, ℕ, ◌-◌, ◌/◌, ◌^◌, cond, List, [], ◌∷◌, map, take, Some, slice_get}
+use Rattle.cmdcodec.specs.declared.raw.Raw.{Raw}
+use Rattle.cmdcodec.specs.Opcodes.{is_sync}
+use Rattle.cmdcodec.specs.ClosingSync.{cell_address}
+use Rattle.ringcore.specs.declared.world.event.Outcome.{Outcome}
+use Rattle.ringcore.specs.declared.world.event.Event.TheVariants.{Advance, Acknowledge}
+use Rattle.ringcore.specs.world.Trails.{Trail, raws_by, acknowledged_by}
+use Rattle.ringcore.specs.world.Laws.{syncs_taken}
+use Rattle.ringcore.specs.world.World.{Taken, taken_as, outcome_of}
+use Rattle.ring.specs.consumer.Consumers.{ConsumerValue}
+use Rattle.ring.specs.consumer.Pendings.{PendingValue}
+
+-- of a closing sync: whose it is, by the cell that it writes into, and its number
+abbrev pub sync_sender : Raw → ℕ
+sync_sender raw = (raw.hi - cell_address 0) / 4
+
+abbrev pub sync_number : Raw → ℕ
+sync_number raw = raw.lo / 2 ^ 32
+
+-- a CMD_SYNC is acknowledged
+abbrev pub acknowledged : Raw → Trail → Trail
+acknowledged raw t = cond (is_sync raw) (Acknowledge (sync_sender raw) (sync_number raw) ∷ t) t
+
+-- those among these commands are, in their order
+abbrev pub all_acknowledged : List Raw → Trail → Trail
+all_acknowledged [] t = t
+all_acknowledged (raw ∷ raws) t = all_acknowledged raws (acknowledged raw t)
+
+-- one step past these commands, and then the acknowledgements
+abbrev pub completed_trail : List Raw → Trail → Trail
+completed_trail raws t = all_acknowledged raws (Advance raws ∷ t)
+
+-- The first so many are taken.
+abbrev pub completed : ℕ → PendingValue → ConsumerValue
+completed count p = record p.consumer { trail = completed_trail (take count p.raws) p.consumer.trail }
+
+-- ---- in between
+
+-- It is the closing sync of some sender.
+pub record IsClosingSync (raw : Raw) : Type 0 where
+  pub sender : ℕ
+  pub few : sender < 256
+  pub address : raw.hi ≡ cell_address sender
+
+-- It has just advanced past these, and had acknowledged each closing sync that it took before.
+pub record HasAdvanced (t : Trail) (raws : List Raw) : Type 0 where
+  pub before : Trail
+  pub trail_is : t ≡ Advance raws ∷ before
+  pub current : (s : ℕ) → acknowledged_by s before ≡ syncs_taken s before
+
+-- ---- the taken list
+
+-- the commands that are taken with their outcomes, by the consumer's trail
+abbrev pub taken_of : Trail → List Taken
+taken_of t = map taken_as (raws_by t)
+
+abbrev pub with_outcome : Outcome → Raw → Taken
+with_outcome outcome raw = record { raw = raw; outcome = outcome }
+
+-- Applied is for legal commands, Replaced for illegal ones.
+abbrev pub HasOutcome : Outcome → List Raw → Type 0
+HasOutcome outcome raws = (i : ℕ) (raw : Raw) → slice_get raws i ≡ Some raw → outcome ≡ outcome_of raw

@@ -1,0 +1,63 @@
+-- Which events a take added, by its answer.
+use Rattle.std.specs.Prelude.{◌≡◌, ◌≢◌, ◌≤◌, ℕ, suc, Bool, true, false, List, [], ◌∷◌, length, Some, slice_get}
+use Rattle.cmdcodec.specs.declared.raw.Raw.{Raw}
+use Rattle.qindex.specs.declared.control.Control.{Control}
+use Rattle.qindex.specs.Positions.{size}
+use Rattle.ringcore.specs.declared.world.event.Half.{Half}
+use Rattle.ringcore.specs.declared.world.event.Half.TheVariants.{Lo, Hi}
+use Rattle.ringcore.specs.declared.world.event.Event.TheVariants.{Look, Test, Read}
+use Rattle.ringcore.specs.world.Trails.{Trail, found_ready, half_read, head_read}
+use Rattle.ringcore.specs.world.World.{half_of}
+use Rattle.ring.specs.declared.consumer.taken.Taken.{Taken}
+use Rattle.ring.specs.declared.consumer.taken.Taken.TheVariants as one
+use Rattle.ring.specs.declared.consumer.taken.TakenRun.{TakenRun}
+use Rattle.ring.specs.declared.consumer.taken.TakenRun.TheVariants.{Empty, Drained, Unwritten, Ready}
+use Rattle.ring.specs.consumer.Consumers.{ConsumerValue}
+use Rattle.ring.specs.consumer.Pendings.{PendingValue, run_of, reads_from}
+
+abbrev pub with_trail : ConsumerValue → Trail → ConsumerValue
+with_trail d t = record d { trail = t }
+
+-- a look that found nothing reserved
+pub record TookNone (closed : Bool) (d e : ConsumerValue) : Type 0 where
+  pub seen : Control
+  pub nothing : seen.prod.number ≡ seen.cons.number
+  pub closed_is : seen.closed ≡ closed
+  pub trail_is : e ≡ with_trail d (Look seen ∷ d.trail)
+
+-- a look that found something reserved, and a test that found the head not written
+pub record TookUnwritten (most : ℕ) (d e : ConsumerValue) : Type 0 where
+  pub seen : Control
+  pub something : seen.prod.number ≢ seen.cons.number
+  pub trail_is : e ≡ with_trail d (Test most 0 ∷ Look seen ∷ d.trail)
+
+-- a look that found something reserved, a test that found some ready, and reads of just these
+pub record TookRun (most : ℕ) (d : ConsumerValue) (p : PendingValue) : Type 0 where
+  pub seen : Control
+  pub something : seen.prod.number ≢ seen.cons.number
+  pub some : 1 ≤ length p.raws
+  pub few : length p.raws ≤ most
+  pub trail_is : p.consumer ≡ with_trail d (reads_from 0 p.raws (Test most (length p.raws) ∷ Look seen ∷ d.trail))
+
+abbrev pub HasTakenRun : {D : Type 0} → ℕ → ConsumerValue → TakenRun D → Type 0
+HasTakenRun most d (Empty e) = TookNone false d e
+HasTakenRun most d (Drained e) = TookNone true d e
+HasTakenRun most d (Unwritten e) = TookUnwritten most d e
+HasTakenRun most d (Ready p) = TookRun most d p
+
+-- There is a run at the head, and it begins with this command.
+abbrev pub BeginsWith : {D : Type 0} → Raw → TakenRun D → Type 0
+BeginsWith raw (Ready p) = (rest : List Raw) × (p.raws ≡ raw ∷ rest)
+BeginsWith raw other = ⊥
+
+-- as of a run of at most one command
+abbrev pub HasTaken : {D : Type 0} → ConsumerValue → Taken D → Type 0
+HasTaken d (one.Empty e) = TookNone false d e
+HasTaken d (one.Drained e) = TookNone true d e
+HasTaken d (one.Unwritten e) = TookUnwritten 1 d e
+HasTaken d (one.Ready p) = TookRun 1 d (run_of p)
+
+-- There is a command at the head, and it is this one.
+abbrev pub IsReadyWith : {D : Type 0} → Raw → Taken D → Type 0
+IsReadyWith raw (one.Ready p) = p.raw ≡ raw
+IsReadyWith raw other = ⊥

@@ -1,0 +1,133 @@
+//! The consumer's own port: its steps, with the index of the head.
+ghost use Rattle.std.specs.Prelude.{◌≡◌, ◌∷◌, ◌≤◌, ◌<◌, ◌+◌, ◌^◌, ℕ, length, take};
+ghost use Rattle.qindex.specs.Positions.{size};
+ghost use Rattle.qindex.specs.ControlWord.{IsControl};
+ghost use Rattle.ringcore.specs.declared.world.event.Event.TheVariants.{Look, Test, Read};
+ghost use Rattle.ringcore.specs.declared.world.event.Who.TheVariants.{Consumer};
+ghost use Rattle.ringcore.specs.world.Trails.{taken_by, found_ready};
+ghost use Rattle.ringcore.specs.world.Allowed.{MayAdvance};
+ghost use Rattle.ringcore.specs.world.ConsumerLaws.{IsSteady};
+ghost use Rattle.ring.specs.table.Rule.{StandsInARun};
+ghost use Rattle.ring.specs.consumer.Pendings.{HasReadRun, reads_from};
+ghost use Rattle.ring.specs.consumer.Completing.{completed_trail};
+
+use crate::consumer::commands::Commands;
+use crate::ring::Ring;
+use crate::table::Port;
+use cmdcodec::Raw;
+use qindex::{Control, Index};
+use ringcore::Half;
+use std::marker::Model;
+
+/// The consumer's port, which has acknowledged each CMD_SYNC that it took.
+#[derive(Drop)]
+pub struct ConsumerPort {
+    pub(crate) port: Port,
+    /// The index of the command that is taken next.
+    pub(crate) head: Index,
+    /// How many commands were taken.
+    pub(crate) taken: u64,
+}
+
+impl Model for ConsumerPort {
+    ghost use Rattle.ring.specs.consumer.Consumers.{ConsumerValue, IsConsumer};
+
+    ghost Value = { ConsumerValue };
+
+    ghost view = { λ p. record { ring = p.port.ring; trail = p.port.trail } };
+
+    ghost invariant = { λ p. IsConsumer p.port p.head p.taken };
+}
+
+impl ConsumerPort {
+    pub(crate) fn trail_stands_in_a_run(&self)
+        ensures { StandsInARun self.now.ring.made_with Consumer self.now.trail }
+    {
+        self.port.trail_stands_in_a_run();
+    }
+
+    /// What it read at the head is found again until it is taken. It does nothing.
+    pub(crate) fn steady(&self)
+        ensures { IsSteady self.now.trail }
+    {
+        self.port.steady();
+    }
+
+    pub(crate) fn taken(&self) -> u64
+        ensures value { result ≡ taken_by self.now.trail }
+        ensures few { result ≤ 2 ^ 46 }
+    {
+        self.port.few();
+        self.taken
+    }
+
+    pub(crate) fn look(&mut self, ring: &Ring) -> Control
+        requires { self.old.ring ≡ ring.now }
+        ensures trail { self.new ≡ record self.old { trail = Look result ∷ self.old.trail } }
+        ensures control { IsControl self.old.ring.made_with.geometry result }
+    {
+        self.port.look(ring)
+    }
+
+    pub(crate) fn test(&mut self, ring: &Ring, limit: u32) -> u32
+        requires ring { self.old.ring ≡ ring.now }
+        requires some { 1 ≤ limit }
+        requires most { limit ≤ 64 }
+        ensures trail { self.new ≡ record self.old { trail = Test limit result ∷ self.old.trail } }
+        ensures limit { result ≤ limit }
+        ensures within { result ≤ size self.old.ring.made_with.geometry }
+    {
+        self.port.test(ring, self.head, limit)
+    }
+
+    fn read(&mut self, ring: &Ring, offset: u32, half: Half) -> u64
+        requires ring { self.old.ring ≡ ring.now }
+        requires ready { offset < found_ready self.old.trail }
+        requires fits { offset ≤ size self.old.ring.made_with.geometry }
+        ensures { self.new ≡ record self.old { trail = Read offset half result ∷ self.old.trail } }
+    {
+        self.port.read(ring, self.head.forward(offset), offset, half)
+    }
+
+    /// Reads the first so many commands.
+    pub(crate) fn read_run(&mut self, ring: &Ring, count: u32, commands: &mut Commands)
+        requires ring { self.old.ring ≡ ring.now }
+        requires ready { count ≡ found_ready self.old.trail }
+        requires some { 1 ≤ count }
+        requires most { count ≤ 64 }
+        requires fits { count ≤ size self.old.ring.made_with.geometry }
+        ensures trail { self.new ≡ record self.old { trail = reads_from 0 commands.new self.old.trail } }
+        ensures count { length commands.new ≡ count }
+        ensures read { HasReadRun self.new.trail commands.new }
+    {
+        commands.clear();
+        for offset in 0..count {
+            let lo = self.read(ring, offset, Half::Lo);
+            let hi = self.read(ring, offset, Half::Hi);
+            commands.push(Raw { lo, hi });
+        }
+    }
+
+    /// Takes the first so many of these commands, and then acknowledges each CMD_SYNC among them.
+    pub(crate) fn complete_run(self, ring: &Ring, commands: &Commands, count: u32) -> ConsumerPort
+        requires ring { self.ring ≡ ring.now }
+        requires count { count ≤ length commands.now }
+        requires few { count ≤ size self.ring.made_with.geometry }
+        requires may { MayAdvance self.trail (take count commands.now) }
+        ensures { result ≡ record self { trail = completed_trail (take count commands.now) self.trail } }
+    {
+        let ConsumerPort {
+            mut port,
+            head,
+            taken,
+        } = self;
+        port.advance(ring, head, commands, count);
+        port.few();
+        port.acknowledge_run(ring, commands, count);
+        ConsumerPort {
+            port,
+            head: head.forward(count),
+            taken: taken + u64::from(count),
+        }
+    }
+}

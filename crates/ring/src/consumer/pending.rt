@@ -1,0 +1,59 @@
+//! A command that is read and not taken.
+ghost use Rattle.std.specs.Prelude.{◌≡◌, ◌∷◌, ◌++◌, []};
+ghost use Rattle.ringcore.specs.world.World.{outcome_of};
+ghost use Rattle.ring.specs.consumer.Pendings.{HasSeen, run_of};
+ghost use Rattle.ring.specs.consumer.Completing.{completed, taken_of};
+
+use crate::consumer::{Consumer, PendingRun};
+use crate::device::Device;
+use crate::ring::Ring;
+use cmdcodec::Raw;
+use ringcore::Outcome;
+use std::marker::Model;
+
+/// The command at the head, as it was read. It must be spent by `complete` or `put_back`.
+pub struct Pending<D: Device> {
+    pub(crate) run: PendingRun<D>,
+}
+
+impl<D: Device> Model for Pending<D> {
+    ghost use Rattle.std.specs.Prelude.{◌≡◌, ◌∷◌, []};
+    ghost use Rattle.ring.specs.consumer.Pendings.{OneValue, first_of};
+
+    ghost Value = { OneValue };
+
+    ghost view = { λ p. record { consumer = p.run.consumer; raw = first_of p.run.raws } };
+
+    ghost invariant = { λ p. p.run.raws ≡ first_of p.run.raws ∷ [] };
+}
+
+impl<D: Device> Pending<D> {
+    /// The command.
+    pub fn raw(&self) -> Raw
+        ensures { result ≡ self.now.raw }
+    {
+        self.run.get(0).unwrap()
+    }
+
+    /// Leaves the command in the ring: the next take finds it again.
+    pub fn put_back(self) -> Consumer<D>
+        ensures consumer { result ≡ self.consumer }
+        ensures seen { HasSeen result.trail self.raw }
+    {
+        let Pending { run } = self;
+        run.put_back()
+    }
+
+    /// Takes the command, and acknowledges it where it is a CMD_SYNC. The device that is lent must be settled for all
+    /// that was taken and this command.
+    pub fn complete(self, ring: &Ring, _outcome: Outcome, _device: &D) -> Consumer<D>
+        requires ring { self.consumer.ring ≡ ring.now }
+        requires outcome { _outcome ≡ outcome_of self.raw }
+        requires settled { D.settled _device.now (taken_of self.consumer.trail ++ record { raw = self.raw; outcome = _outcome } ∷ []) }
+        ensures consumer { result ≡ completed 1 (run_of self) }
+        ensures taken { taken_of result.trail ≡ taken_of self.consumer.trail ++ record { raw = self.raw; outcome = _outcome } ∷ [] }
+    {
+        let Pending { run } = self;
+        run.complete_run(ring, 1, _outcome, _device)
+    }
+}

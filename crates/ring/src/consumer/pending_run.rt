@@ -1,0 +1,90 @@
+//! A run of commands that is read and not taken.
+ghost use Rattle.std.specs.Prelude.{◌≡◌, ◌≤◌, ◌∷◌, ◌++◌, ℕ, List, length, map, slice_get, take};
+ghost use Rattle.cmdcodec.specs.declared.raw.Raw.{Raw as RawOf};
+ghost use Rattle.ringcore.specs.declared.world.event.Outcome.TheVariants.{Replaced};
+ghost use Rattle.ringcore.specs.world.World.{outcome_of};
+ghost use Rattle.ring.specs.consumer.Pendings.{HasSeen};
+ghost use Rattle.ring.specs.consumer.Completing.{completed, taken_of, with_outcome, HasOutcome};
+
+use crate::consumer::{Commands, Consumer, ConsumerPort};
+use crate::device::Device;
+use crate::ring::Ring;
+use cmdcodec::Raw;
+use ringcore::Outcome;
+use std::marker::{Model, PhantomData};
+
+/// Commands from the head on, as they were read. It must be spent by `complete_run` or `put_back`.
+pub struct PendingRun<D: Device> {
+    pub(crate) port: ConsumerPort,
+    pub(crate) commands: Commands,
+    pub(crate) device: PhantomData<D>,
+}
+
+impl<D: Device> Model for PendingRun<D> {
+    ghost use Rattle.ring.specs.consumer.Pendings.{PendingValue, IsPending};
+
+    ghost Value = { PendingValue };
+
+    ghost view = { λ p. record { consumer = p.port; raws = p.commands } };
+
+    ghost invariant = { λ p. IsPending p.port p.commands };
+}
+
+impl<D: Device> PendingRun<D> {
+    /// How many commands they are: 1 to 64.
+    pub fn len(&self) -> u32
+        ensures value { result ≡ length self.now.raws }
+        ensures some { 1 ≤ result }
+        ensures few { result ≤ 64 }
+    {
+        self.commands.len()
+    }
+
+    /// The command at this place of the run, from 0.
+    pub fn get(&self, place: u32) -> Option<Raw>
+        ensures { result ≡ slice_get self.now.raws place }
+    {
+        self.commands.get(place)
+    }
+
+    /// Leaves the commands in the ring: the next take finds the first of them again.
+    pub fn put_back(self) -> Consumer<D>
+        ensures consumer { result ≡ self.consumer }
+        ensures seen { (raw : RawOf) (rest : List RawOf) → self.raws ≡ raw ∷ rest → HasSeen result.trail raw }
+    {
+        let PendingRun {
+            port,
+            commands,
+            device,
+        } = self;
+        Consumer {
+            port,
+            commands,
+            device,
+        }
+    }
+
+    /// Takes the first `count` of the commands, and then acknowledges each CMD_SYNC among them. The device that is lent
+    /// must be settled for all that was taken and these.
+    pub fn complete_run(self, ring: &Ring, count: u32, _outcome: Outcome, _device: &D) -> Consumer<D>
+        requires ring { self.consumer.ring ≡ ring.now }
+        requires some { 1 ≤ count }
+        requires most { count ≤ length self.raws }
+        requires outcome { HasOutcome _outcome (take count self.raws) }
+        requires one { _outcome ≡ Replaced → count ≡ 1 }
+        requires settled { D.settled _device.now (taken_of self.consumer.trail ++ map (with_outcome _outcome) (take count self.raws)) }
+        ensures consumer { result ≡ completed count self }
+        ensures taken { taken_of result.trail ≡ taken_of self.consumer.trail ++ map (with_outcome _outcome) (take count self.raws) }
+    {
+        let PendingRun {
+            port,
+            commands,
+            device,
+        } = self;
+        Consumer {
+            port: port.complete_run(ring, &commands, count),
+            commands,
+            device,
+        }
+    }
+}

@@ -1,0 +1,202 @@
+//! The atomic steps of the consumer.
+ghost use Rattle.std.specs.Prelude.{◌≡◌, ◌∷◌, ◌+◌, ◌<◌, ◌≤◌, ◌^◌, ℕ, suc, length, take};
+ghost use Rattle.cmdcodec.specs.Opcodes.{is_sync};
+ghost use Rattle.qindex.specs.Positions.{size, index_of};
+ghost use Rattle.ringcore.specs.declared.world.event.Who.TheVariants.{Consumer};
+ghost use Rattle.ringcore.specs.declared.world.event.Event.TheVariants.{Test, Read, Advance, Acknowledge};
+ghost use Rattle.ringcore.specs.world.Trails.{taken_by, acknowledged_by, raws_by, found_ready};
+ghost use Rattle.ringcore.specs.world.Allowed.{MayAdvance};
+ghost use Rattle.ringcore.specs.world.Laws.{syncs_taken, SyncsAreInOrder};
+ghost use Rattle.ringcore.specs.world.ConsumerLaws.{IsSteady};
+ghost use Rattle.ringcore.specs.memory.Flags.{ready_in};
+ghost use Rattle.ring.specs.table.Intents.{tests, reads, advances, acknowledges};
+ghost use Rattle.ring.specs.table.Rule.{IsWithinLimits};
+ghost use Rattle.ring.specs.consumer.Completing.{all_acknowledged, HasAdvanced, sync_sender, sync_number, IsClosingSync};
+
+use crate::consumer::Commands;
+use crate::ring::Ring;
+use crate::table::port::Port;
+use crate::table::steps::{HasIntent, StepFor};
+use cmdcodec::{Raw, cell_owner};
+use qindex::{Index, advance_mask};
+use ringcore::{Half, cell, control_word, counts_law, data_word, flag_word, laws, ready_run};
+use std::marker::Brand;
+
+impl Port {
+    /// The consumer has taken few commands: so no count of them wraps. It does nothing.
+    pub(crate) fn few(&self)
+        ensures { self.now.who ≡ Consumer → taken_by self.now.trail ≤ 2 ^ 46 }
+    {
+        counts_law();
+        laws::consumer_trail();
+        let _ = &self.seat;
+    }
+
+    /// The closing syncs that the consumer took come in the order of their numbers. It does nothing.
+    pub(crate) fn syncs_in_order(&self)
+        ensures order { self.now.who ≡ Consumer → SyncsAreInOrder self.now.ring.made_with.senders (raws_by self.now.trail) }
+        ensures limits { IsWithinLimits self.now.ring.made_with }
+    {
+        laws::consumer_trail();
+        let _ = &self.seat;
+    }
+
+    /// What the consumer read at the head it finds again, until it takes it. It does nothing.
+    pub(crate) fn steady(&self)
+        ensures { self.now.who ≡ Consumer → IsSteady self.now.trail }
+    {
+        laws::consumer_trail();
+        let _ = &self.seat;
+    }
+
+    /// A load of the head's flag word: how many in a row from the head on are ready, at most `limit`.
+    pub(crate) fn test(&mut self, ring: &Ring, head: Index, limit: u32) -> u32
+        requires ring { self.old.ring ≡ ring.now }
+        requires who { self.old.who ≡ Consumer }
+        requires head { head ≡ index_of self.old.ring.made_with.geometry (taken_by self.old.trail) }
+        requires some { 1 ≤ limit }
+        requires most { limit ≤ 64 }
+        ensures trail { self.new ≡ record self.old { trail = Test limit result ∷ self.old.trail } }
+        ensures limit { result ≤ limit }
+        ensures within { result ≤ size head.geometry }
+    {
+        self.test_for::<Brand>(ring, head, limit)
+    }
+
+    fn test_for<I: HasIntent>(&mut self, ring: &Ring, head: Index, limit: u32) -> u32
+        requires ring { self.old.ring ≡ ring.now }
+        requires who { self.old.who ≡ Consumer }
+        requires head { head ≡ index_of self.old.ring.made_with.geometry (taken_by self.old.trail) }
+        requires some { 1 ≤ limit }
+        requires most { limit ≤ 64 }
+        requires intent { I.intent ≡ tests limit }
+        ensures trail { self.new ≡ record self.old { trail = Test limit result ∷ self.old.trail } }
+        ensures limit { result ≤ limit }
+        ensures within { result ≤ size head.geometry }
+    {
+        laws::ready_runs();
+        laws::consumer_trail();
+        let words = &ring.table.shared;
+        let word = words.load::<StepFor<I>>(&mut self.seat, flag_word(head));
+        ready_run(word, head, limit)
+    }
+
+    /// A load of a data word: a half of the command at an offset from the head.
+    pub(crate) fn read(&mut self, ring: &Ring, slot: Index, offset: u32, half: Half) -> u64
+        requires ring { self.old.ring ≡ ring.now }
+        requires who { self.old.who ≡ Consumer }
+        requires slot { slot ≡ index_of self.old.ring.made_with.geometry (taken_by self.old.trail + offset) }
+        requires ready { offset < found_ready self.old.trail }
+        ensures { self.new ≡ record self.old { trail = Read offset half result ∷ self.old.trail } }
+    {
+        self.read_for::<Brand>(ring, slot, offset, half)
+    }
+
+    fn read_for<I: HasIntent>(&mut self, ring: &Ring, slot: Index, offset: u32, half: Half) -> u64
+        requires ring { self.old.ring ≡ ring.now }
+        requires who { self.old.who ≡ Consumer }
+        requires slot { slot ≡ index_of self.old.ring.made_with.geometry (taken_by self.old.trail + offset) }
+        requires ready { offset < found_ready self.old.trail }
+        requires intent { I.intent ≡ reads offset half }
+        ensures { self.new ≡ record self.old { trail = Read offset half result ∷ self.old.trail } }
+    {
+        laws::read();
+        laws::consumer_trail();
+        let words = &ring.table.shared;
+        words.load::<StepFor<I>>(&mut self.seat, data_word(slot, half))
+    }
+
+    /// An exclusive or of the control word, past the first `count` of these commands.
+    pub(crate) fn advance(&mut self, ring: &Ring, head: Index, commands: &Commands, count: u32)
+        requires ring { self.old.ring ≡ ring.now }
+        requires who { self.old.who ≡ Consumer }
+        requires head { head ≡ index_of self.old.ring.made_with.geometry (taken_by self.old.trail) }
+        requires may { MayAdvance self.old.trail (take count commands.now) }
+        requires count { count ≤ length commands.now }
+        requires few { count ≤ size head.geometry }
+        ensures { self.new ≡ record self.old { trail = Advance (take count commands.now) ∷ self.old.trail } }
+    {
+        self.advance_for::<Brand>(ring, head, commands, count)
+    }
+
+    fn advance_for<I: HasIntent>(&mut self, ring: &Ring, head: Index, commands: &Commands, count: u32)
+        requires ring { self.old.ring ≡ ring.now }
+        requires who { self.old.who ≡ Consumer }
+        requires head { head ≡ index_of self.old.ring.made_with.geometry (taken_by self.old.trail) }
+        requires may { MayAdvance self.old.trail (take count commands.now) }
+        requires count { count ≤ length commands.now }
+        requires few { count ≤ size head.geometry }
+        requires intent { I.intent ≡ advances (take count commands.now) }
+        ensures { self.new ≡ record self.old { trail = Advance (take count commands.now) ∷ self.old.trail } }
+    {
+        laws::advance();
+        laws::consumer_trail();
+        let _ = &commands;
+        let words = &ring.table.shared;
+        let mask = advance_mask(head, head.forward(count));
+        words.fetch_xor::<StepFor<I>>(&mut self.seat, control_word(), mask);
+    }
+
+    /// A store of a sender's next number in its completion cell.
+    fn acknowledge(&mut self, ring: &Ring, sender: u32, number: u32)
+        requires ring { self.old.ring ≡ ring.now }
+        requires who { self.old.who ≡ Consumer }
+        requires known { sender < ring.now.made_with.senders }
+        requires next { number ≡ suc (acknowledged_by sender self.old.trail) }
+        requires taken { number ≤ syncs_taken sender self.old.trail }
+        ensures { self.new ≡ record self.old { trail = Acknowledge sender number ∷ self.old.trail } }
+    {
+        self.acknowledge_for::<Brand>(ring, sender, number)
+    }
+
+    fn acknowledge_for<I: HasIntent>(&mut self, ring: &Ring, sender: u32, number: u32)
+        requires ring { self.old.ring ≡ ring.now }
+        requires who { self.old.who ≡ Consumer }
+        requires known { sender < ring.now.made_with.senders }
+        requires next { number ≡ suc (acknowledged_by sender self.old.trail) }
+        requires taken { number ≤ syncs_taken sender self.old.trail }
+        requires intent { I.intent ≡ acknowledges sender number }
+        ensures { self.new ≡ record self.old { trail = Acknowledge sender number ∷ self.old.trail } }
+    {
+        laws::acknowledge();
+        laws::consumer_trail();
+        counts_law();
+        let words = &ring.table.shared;
+        words.store::<StepFor<I>>(&mut self.seat, cell(ring.geometry(), sender), u64::from(number));
+    }
+
+    /// Acknowledges each CMD_SYNC among the first `count` of these commands, past which it has just advanced.
+    pub(crate) fn acknowledge_run(&mut self, ring: &Ring, commands: &Commands, count: u32)
+        requires ring { self.old.ring ≡ ring.now }
+        requires who { self.old.who ≡ Consumer }
+        requires count { count ≤ length commands.now }
+        requires advanced { HasAdvanced self.old.trail (take count commands.now) }
+        ensures trail { self.new ≡ record self.old { trail = all_acknowledged (take count commands.now) self.old.trail } }
+        ensures current { (s : ℕ) → acknowledged_by s self.new.trail ≡ syncs_taken s self.new.trail }
+    {
+        self.syncs_in_order();
+        counts_law();
+        laws::consumer_trail();
+        for place in 0..count {
+            let raw = commands.get(place).unwrap();
+            if raw.is_sync() {
+                self.acknowledge(ring, closing_sender(raw), closing_number(raw));
+            }
+        }
+    }
+}
+
+/// Whose closing CMD_SYNC it is, by the completion cell that it writes into.
+fn closing_sender(raw: Raw) -> u32
+    requires { IsClosingSync raw }
+    ensures { result ≡ sync_sender raw }
+{
+    cell_owner(raw.hi).unwrap() as u32
+}
+
+/// The number of a closing CMD_SYNC: its MSIDATA.
+fn closing_number(raw: Raw) -> u32
+    ensures { result ≡ sync_number raw }
+{
+    (raw.lo / 0x1_0000_0000) as u32
+}
