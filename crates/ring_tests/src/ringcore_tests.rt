@@ -1,4 +1,5 @@
 //! What no clause says: numbers that were worked out by hand.
+mod commands;
 mod consumer_view;
 mod faults;
 mod flags;

@@ -1,5 +1,5 @@
 -- The consumer's trail says which closing syncs are taken.
-use Rattle.std.proofs.Common.{◌≡◌, ℕ, zero, suc, ◌+◌, ◌-◌, ◌<◌, ◌≤◌, Bool, true, false, cond, ◌==◌, ◌&&◌, List, [], ◌∷◌, ◌++◌, length, map, Option, Some, None, refl, sym, ap, ap₂, ◌∙◌, subst, inl, inr, eqb-true, eq-eqb, ne_eqb, arith}
+use Rattle.std.proofs.Common.{◌≡◌, ℕ, zero, suc, ◌+◌, ◌-◌, ◌/◌, ◌^◌, ◌<◌, ◌≤◌, Bool, true, false, cond, ◌==◌, ◌&&◌, List, [], ◌∷◌, ◌++◌, length, map, Option, Some, None, refl, sym, ap, ap₂, ◌∙◌, subst, inl, inr, eqb-true, eq-eqb, ne_eqb, arith}
 use Rattle.std.proofs.Math.Bool.{and-false}
 use Rattle.std.proofs.lemmas.Bool.{and_parts, cases_eq}
 use Rattle.std.proofs.lemmas.List.{length-map, map-append}
@@ -17,7 +17,7 @@ use Rattle.ringcore.specs.world.Trails.{Run, trail_of}
 use Rattle.ringcore.specs.world.World.{Item, Taken, World, sync_raw, taken_as, head, world}
 use Rattle.ringcore.specs.world.Allowed.{Ring, SyncIsTaken, Allowed, IsRun}
 use Rattle.ringcore.specs.world.Delivery.{number_of, counted}
-use Rattle.ringcore.specs.world.Laws.{is_sync_to, syncs_in, syncs_taken, SyncsAreCounted}
+use Rattle.ringcore.specs.world.Laws.{is_sync_to, syncs_in, syncs_taken, SyncsTellTheirBatch, SyncsAreCounted}
 use Rattle.ringcore.proofs.WorldLemmas.Lists.{none_some, get_shorter}
 use Rattle.ringcore.proofs.WorldLemmas.Reading.{raws_of, raws_taken, taken_again}
 use Rattle.ringcore.proofs.WorldLemmas.Sound.{Sound, sound}
@@ -185,6 +185,19 @@ its_cell s t address its = elim (cases_eq s t) [
   | inl one ↦ eq-eqb address (cell_address s) (omega (arith, its, one)) ∙ sym (eq-eqb s t one)
   | inr two ↦ ne_eqb address (cell_address s) (λ e. two (omega (arith, its, e))) ∙ sym (ne_eqb s t two)
 ]
+
+number_at : (s n : ℕ) → (sync_raw s n).lo / 2 ^ 32 ≡ n
+unfolding encoding
+number_at s n = omega arith
+
+pub tells_its_batch : SyncsTellTheirBatch
+tells_its_batch s n = record {
+  opcode = sync_opcode s n;
+  cell = address_is s n;
+  number_is = number_at s n;
+  sender_is = λ other.
+      ap (λ b. b && (sync_raw s n).hi == cell_address other) (sync_opcode s n) ∙ its_cell other s (sync_raw s n).hi (address_is s n);
+}
 
 kind_is : (s : ℕ) (item : Item) → (is_sync item.raw ≡ true → IsSyncOf item) → is_sync_to s item.raw ≡ (s == item.sender && is_sync item.raw)
 kind_is s item all = by_kind (is_sync item.raw) refl

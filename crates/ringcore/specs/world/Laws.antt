@@ -1,5 +1,5 @@
 -- What every run is held to, of any length, in a ring of any size.
-use Rattle.std.specs.Prelude.{◌≡◌, ◌↔◌, ℕ, suc, ◌+◌, ◌*◌, ◌^◌, ◌<◌, ◌≤◌, Bool, true, cond, ◌==◌, ◌&&◌, List, [], ◌∷◌, ◌++◌, map, length, Some, slice_get, ⊤}
+use Rattle.std.specs.Prelude.{◌≡◌, ◌↔◌, ℕ, suc, ◌+◌, ◌*◌, ◌/◌, ◌^◌, ◌<◌, ◌≤◌, Bool, true, cond, ◌==◌, ◌&&◌, List, [], ◌∷◌, ◌++◌, map, length, Some, slice_get, ⊤}
 use Rattle.cmdcodec.specs.declared.raw.Raw.{Raw}
 use Rattle.cmdcodec.specs.Opcodes.{is_sync}
 use Rattle.cmdcodec.specs.ClosingSync.{cell_address}
@@ -135,6 +135,16 @@ is_sync_to s raw = is_sync raw && raw.hi == cell_address s
 abbrev pub syncs_in : ℕ → List Raw → ℕ
 syncs_in s [] = 0
 syncs_in s (raw ∷ raws) = cond (is_sync_to s raw) (suc (syncs_in s raws)) (syncs_in s raws)
+
+-- The words of a closing sync tell its number and whose it is.
+pub record TellsItsBatch (s number : ℕ) : Type 0 where
+  pub opcode : is_sync (sync_raw s number) ≡ true
+  pub cell : (sync_raw s number).hi ≡ cell_address s
+  pub number_is : (sync_raw s number).lo / 2 ^ 32 ≡ number
+  pub sender_is : (other : ℕ) → is_sync_to other (sync_raw s number) ≡ (other == s)
+
+abbrev pub SyncsTellTheirBatch : Type 0
+SyncsTellTheirBatch = (s number : ℕ) → TellsItsBatch s number
 
 -- how many closing syncs of a sender were taken, by the consumer's trail
 abbrev pub syncs_taken : ℕ → Trail → ℕ

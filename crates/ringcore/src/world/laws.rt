@@ -1,6 +1,6 @@
 //! Laws of every run, whoever's step comes next.
 ghost use Rattle.ringcore.specs.world.Delivery.{TakenInOrder, NumberedInOrder, NoneAfterClose, ToldWhenCompleted};
-ghost use Rattle.ringcore.specs.world.Laws.{EveryRun, NeverMoreThanFull, AcknowledgedAreTaken, AcknowledgedAreApplied, ToldOfAllUpTo, CommandsOfBatches, AllOfBatches, ClosedByAClose, BatchesAreUnbroken, SendersOrderIsKept, EarlierStandsBefore, BatchesHaveOwners, FewAreReserved, ListsAreShort, SyncsAddUp, SyncsAreCounted, NumbersAreFew, SyncsComeInOrder};
+ghost use Rattle.ringcore.specs.world.Laws.{EveryRun, NeverMoreThanFull, AcknowledgedAreTaken, AcknowledgedAreApplied, ToldOfAllUpTo, CommandsOfBatches, AllOfBatches, ClosedByAClose, BatchesAreUnbroken, SendersOrderIsKept, EarlierStandsBefore, BatchesHaveOwners, FewAreReserved, ListsAreShort, SyncsTellTheirBatch, SyncsAddUp, SyncsAreCounted, NumbersAreFew, SyncsComeInOrder};
 ghost use Rattle.ringcore.specs.world.ConsumerLaws.{TellsTheHead, TellsTheNumbers, TellsWhatIsAdvanced, TellsTheOutcomes, RawsAreCounted, SyncsOfRawsAreCounted, TookSyncsInOrder, TakenAreFlipped, FlippedAreWritten, FoundIsReady, ReadsAreOfItems, ConsumerIsSteady};
 ghost use Rattle.ringcore.specs.world.NewestEvents.{StepsGrowTheirTrail, OthersLeaveTheTrail, NewestWasAllowed, LooksFindControls, LookedAreControls, LostFoundAnother, AsksFindFew};
 
@@ -40,6 +40,7 @@ pub fn batches_law()
 pub fn counts_law()
     ensures bound { FewAreReserved }
     ensures short { ListsAreShort }
+    ensures words { SyncsTellTheirBatch }
     ensures sum { SyncsAddUp }
     ensures syncs { EveryRun SyncsAreCounted }
     ensures few { NumbersAreFew }

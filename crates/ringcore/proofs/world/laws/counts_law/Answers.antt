@@ -1,5 +1,5 @@
 use Rattle.ringcore.proofs.WorldLemmas.Bound.{reserved_bound}
-use Rattle.ringcore.proofs.WorldLemmas.SyncCounts.{syncs_append, syncs_counted}
+use Rattle.ringcore.proofs.WorldLemmas.SyncCounts.{syncs_append, tells_its_batch, syncs_counted}
 use Rattle.ringcore.proofs.WorldLemmas.FewNumbers.{numbers_few}
 use Rattle.ringcore.proofs.WorldLemmas.SyncOrder.{come_in_order}
 use Rattle.ringcore.proofs.WorldLemmas.Owners.{lists_are_short}
@@ -16,6 +16,9 @@ returns-clause-few c = numbers_few
 
 pub returns-clause-short : goal.returns-clause-short
 returns-clause-short c = lists_are_short
+
+pub returns-clause-words : goal.returns-clause-words
+returns-clause-words c = tells_its_batch
 
 pub returns-clause-sum : goal.returns-clause-sum
 returns-clause-sum c = syncs_append
