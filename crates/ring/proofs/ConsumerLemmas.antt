@@ -1,1 +1,5 @@
 pub mod Facts
+pub mod Runs
+pub mod Acknowledging
+pub mod Reads
+pub mod Completing

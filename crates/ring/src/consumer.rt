@@ -16,16 +16,15 @@ mod pending;
 mod pending_run;
 mod taken;
 
+use crate::device::Device;
+use crate::ring::Ring;
 pub use commands::Commands;
 pub use consumer_port::ConsumerPort;
 pub use pending::Pending;
 pub use pending_run::PendingRun;
-pub use taken::{Taken, TakenRun};
-
-use crate::device::Device;
-use crate::ring::Ring;
 use qindex::Control;
 use std::marker::{Model, PhantomData};
+pub use taken::{Taken, TakenRun};
 
 /// The one who takes a ring's commands, in the order of their reservation, for a device of this type.
 #[derive(Drop)]

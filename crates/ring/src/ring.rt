@@ -80,6 +80,7 @@ impl Ring {
             senders,
             max_batches,
         };
+        let commands = Commands::new(alloc)?;
         let zeros = vec![in alloc; 0; words(geometry, senders)]?;
         let (table, seat) = Table::of_words(alloc, zeros.as_slice(), &made_with)?;
         let (all, seat) = deal(alloc, &table.shared, seat, senders)?;
@@ -89,7 +90,7 @@ impl Ring {
                 head: Index::new(geometry, 0).unwrap(),
                 taken: 0,
             },
-            commands: Commands::new(alloc)?,
+            commands,
             device: PhantomData,
         };
         Ok((Ring { table, made_with }, all, consumer))

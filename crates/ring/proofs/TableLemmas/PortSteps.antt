@@ -13,12 +13,12 @@ use Rattle.ringcore.specs.declared.world.event.Who.{Who}
 use Rattle.ringcore.specs.declared.world.event.Who.TheVariants.{Sender, Consumer}
 use Rattle.ringcore.specs.declared.world.event.Half.{Half}
 use Rattle.ringcore.specs.declared.world.event.Event.{Event}
-use Rattle.ringcore.specs.declared.world.event.Event.TheVariants.{Won, Lost}
+use Rattle.ringcore.specs.declared.world.event.Event.TheVariants.{Won, Lost, Test}
 use Rattle.ringcore.specs.world.Trails.{Trail, trail_of, looked, start_index, found_ready, taken_by, acknowledged_by}
 use Rattle.ringcore.specs.world.World.{world, half_of}
 use Rattle.ringcore.specs.world.Allowed.{ShareAWord, Allowed, MayTry, MayLose, MayWrite, MayFlip, length_with, Ring, IsRunLength, MayAdvance}
 use Rattle.ringcore.specs.memory.Layout.{control_word, flag_word, data_word, cell, words_of}
-use Rattle.ringcore.specs.memory.Flags.{IsFlipMask}
+use Rattle.ringcore.specs.memory.Flags.{IsFlipMask, ready_in}
 use Rattle.ringcore.specs.world.Laws.{IsOne, EveryRun, SyncsAreCounted, syncs_taken}
 use Rattle.ringcore.specs.memory.StepLaws.{Always, ClosesByAnOr, WinsByAnExchange, LosesByAnExchange, WritesByAStore, FlipsByAnExclusiveOr, AsksByALoad, StartsWhereItLooked, with_reserved, reserved_commands, ReadsByALoad, AdvancesByAnExclusiveOr, AcknowledgesByAStore, TestsFindReadyIn}
 use Rattle.ringcore.specs.machine.StepAnswers.{next_number}
@@ -162,6 +162,17 @@ pub exchange_told_as : (table new_table : TableId) (me new : Holding) (p : PortV
 exchange_told_as table new_table me new p is s body closing seen intent slots i x old next who_is looked_is same intent_is did =
     subst (λ (q : PortValue). q.who ≡ Sender s → looked q.trail ≡ Some seen → IsWonOrLost body closing seen q (port_of new_table new) (x == old)) is
     (λ w l. exchange_told table new_table me new s body closing seen x old w l same (subst (λ (n : Intent). adds_for n (step slots i old next none) me x new) intent_is did)) who_is looked_is
+
+-- a test, of what it answers
+pub tested : (table new_table : TableId) (me new : Holding) (p : PortValue) → port_of table me ≡ p → (intent : Intent) (slots i limit word found : ℕ) → new_table ≡ table → intent ≡ tests limit
+    → adds_for intent (step slots i 0 0 none) me word new → found ≡ ready_in p.ring.made_with.geometry word (taken_by p.trail) limit → port_of new_table new ≡ record p { trail = Test limit found ∷ p.trail }
+tested table new_table me new p is intent slots i limit word found same intent_is did =
+    subst (λ (q : PortValue). found ≡ ready_in q.ring.made_with.geometry word (taken_by q.trail) limit → port_of new_table new ≡ record q { trail = Test limit found ∷ q.trail }) is
+    (λ found_is.
+    let told = subst (λ (n : Intent). adds_for n (step slots i 0 0 none) me word new) intent_is did in
+    let e : Event = Test limit (ready_in (ring_of me.0).geometry word (taken_by (trail_of_first me.0)) limit) in
+    stepped_is table new_table me new e same (told.2 ∙ ap (λ (d : Event). let m : Holding = (participant (ring_of me.0) (who_of me.0) (d ∷ trail_of_first me.0) ∷ [], []) in m) told.1)
+    ∙ ap (λ (n : ℕ). let q : PortValue = record (port_of table me) { trail = Test limit n ∷ trail_of_first me.0 } in q) (sym found_is))
 
 -- ---- a flip, by what its caller knows
 

@@ -130,9 +130,12 @@ tests_may law tells ring trail limit i many at run words now =
     let g : ℕ = ring.geometry in
     let h : head (world run) ≡ taken_by trail = tells ring run now.after.run_is ∙ ap taken_by now.trail_is in
     let here : flag_word g (head (world run)) ≡ i = ap (flag_word g) h ∙ sym at in
-    let found : ℕ = ready_in g (slice_index words i) (taken_by trail) limit in
-    (Test limit found, refl, still ring ((Consumer, Test limit found) ∷ run) words i
-    (subst (λ (t : ℕ × ℕ). AreAfter ring ((Consumer, Test limit (ready_in g (slice_index words t.1) t.0 limit)) ∷ run) words) (λ k. (h k, here k)) (law ring run words now.after limit many)))
+    let found : ℕ = ready_in g (slice_index words i) (taken_by trail) limit in (
+      Test limit found,
+      refl,
+      still ring ((Consumer, Test limit found) ∷ run) words i
+          (subst (λ (t : ℕ × ℕ). AreAfter ring ((Consumer, Test limit (ready_in g (slice_index words t.1) t.0 limit)) ∷ run) words) (λ k. (h k, here k)) (law ring run words now.after limit many)),
+    )
 
 -- a store of nothing, at the slot that an offset from the head has
 pub reads_may : Always ReadsByALoad → EveryRun TellsTheHead → (ring : Ring) (trail : Trail) (offset : ℕ) (half : Half) (i : ℕ) → offset < found_ready trail → i ≡ data_word ring.geometry (taken_by trail + offset) half
@@ -140,10 +143,13 @@ pub reads_may : Always ReadsByALoad → EveryRun TellsTheHead → (ring : Ring) 
 reads_may law tells ring trail offset half i low at run words now =
     let h : head (world run) ≡ taken_by trail = tells ring run now.after.run_is ∙ ap taken_by now.trail_is in
     let here : data_word ring.geometry (head (world run) + offset) half ≡ i = ap (λ (p : ℕ). data_word ring.geometry (p + offset) half) h ∙ sym at in
-    let x : ℕ = slice_index words i in
-    (Read offset half x, refl, still ring ((Consumer, Read offset half x) ∷ run) words i
-    (subst (λ (j : ℕ). AreAfter ring ((Consumer, Read offset half (slice_index words j)) ∷ run) words) here
-    (law ring run words now.after offset half (subst (λ (t : Trail). offset < found_ready t) (sym now.trail_is) low))))
+    let x : ℕ = slice_index words i in (
+      Read offset half x,
+      refl,
+      still ring ((Consumer, Read offset half x) ∷ run) words i
+          (subst (λ (j : ℕ). AreAfter ring ((Consumer, Read offset half (slice_index words j)) ∷ run) words) here
+          (law ring run words now.after offset half (subst (λ (t : Trail). offset < found_ready t) (sym now.trail_is) low))),
+    )
 
 pub advances_may : Always AdvancesByAnExclusiveOr → EveryRun TellsTheHead → (ring : Ring) (trail : Trail) (raws : List Raw) (i mask : ℕ) → i ≡ control_word → MayAdvance trail raws
     → mask ≡ advance_mask (index_of ring.geometry (taken_by trail)) (index_of ring.geometry (taken_by trail + length raws))
@@ -151,18 +157,24 @@ pub advances_may : Always AdvancesByAnExclusiveOr → EveryRun TellsTheHead → 
 advances_may law tells ring trail raws i mask at may mask_is run words now =
     let h : head (world run) ≡ taken_by trail = tells ring run now.after.run_is ∙ ap taken_by now.trail_is in
     let same : advance_mask (index_of ring.geometry (head (world run))) (index_of ring.geometry (head (world run) + length raws)) ≡ mask =
-    ap (λ (p : ℕ). advance_mask (index_of ring.geometry p) (index_of ring.geometry (p + length raws))) h ∙ sym mask_is in
-    (Advance raws, refl, subst (λ (t : ℕ × ℕ). AreAfter ring ((Consumer, Advance raws) ∷ run) (slice_set words t.0 (bit_xor (slice_index words t.0) t.1))) (λ q. (sym at q, same q))
-    (law ring run words now.after raws (subst (λ (t : Trail). MayAdvance t raws) (sym now.trail_is) may)))
+    ap (λ (p : ℕ). advance_mask (index_of ring.geometry p) (index_of ring.geometry (p + length raws))) h ∙ sym mask_is in (
+      Advance raws,
+      refl,
+      subst (λ (t : ℕ × ℕ). AreAfter ring ((Consumer, Advance raws) ∷ run) (slice_set words t.0 (bit_xor (slice_index words t.0) t.1))) (λ q. (sym at q, same q))
+          (law ring run words now.after raws (subst (λ (t : Trail). MayAdvance t raws) (sym now.trail_is) may)),
+    )
 
 pub acknowledges_may : Always AcknowledgesByAStore → EveryRun TellsTheNumbers → EveryRun SyncsAreCounted → (ring : Ring) (trail : Trail) (s number i x : ℕ) → i ≡ cell ring.geometry s → x ≡ number
     → number ≡ suc (acknowledged_by s trail) → number ≤ syncs_taken s trail
     → MayStep ring Consumer trail i (λ _. x) (λ _. IsEventOf ring trail (acknowledges s number) x x)
 acknowledges_may law tells counted ring trail s number i x at x_is next low run words now =
     let a : (world run).acknowledged s ≡ acknowledged_by s trail = tells ring run now.after.run_is s ∙ ap (acknowledged_by s) now.trail_is in
-    let taken : SyncIsTaken (world run) s number = (counted ring run now.after.run_is s number).1 (let n = next in omega arith, subst (λ (t : Trail). number ≤ syncs_taken s t) (sym now.trail_is) low) in
-    (Acknowledge s number, refl, subst (λ (t : ℕ × ℕ). AreAfter ring ((Consumer, Acknowledge s number) ∷ run) (slice_set words t.0 t.1)) (λ q. (sym at q, sym x_is q))
-    (law ring run words now.after s number (record { next = next ∙ ap suc (sym a); taken = taken })))
+    let taken : SyncIsTaken (world run) s number = (counted ring run now.after.run_is s number).1 (let n = next in omega arith, subst (λ (t : Trail). number ≤ syncs_taken s t) (sym now.trail_is) low) in (
+      Acknowledge s number,
+      refl,
+      subst (λ (t : ℕ × ℕ). AreAfter ring ((Consumer, Acknowledge s number) ∷ run) (slice_set words t.0 t.1)) (λ q. (sym at q, sym x_is q))
+          (law ring run words now.after s number (record { next = next ∙ ap suc (sym a); taken = taken })),
+    )
 
 pub asks_may : Always AsksByALoad → (ring : Ring) (s : ℕ) (trail : Trail) (i : ℕ) → i ≡ cell ring.geometry s → MayStep ring (Sender s) trail i (λ x. x) (IsEventOf ring trail asks 0)
 asks_may law ring s trail i at run words now =

@@ -43,11 +43,14 @@ pub record IsClosingSync (raw : Raw) : Type 0 where
   pub few : sender < 256
   pub address : raw.hi ≡ cell_address sender
 
+abbrev pub without_newest : Trail → Trail
+without_newest [] = []
+without_newest (e ∷ es) = es
+
 -- It has just advanced past these, and had acknowledged each closing sync that it took before.
 pub record HasAdvanced (t : Trail) (raws : List Raw) : Type 0 where
-  pub before : Trail
-  pub trail_is : t ≡ Advance raws ∷ before
-  pub current : (s : ℕ) → acknowledged_by s before ≡ syncs_taken s before
+  pub trail_is : t ≡ Advance raws ∷ without_newest t
+  pub current : (s : ℕ) → acknowledged_by s (without_newest t) ≡ syncs_taken s (without_newest t)
 
 -- ---- the taken list
 

@@ -86,7 +86,8 @@ impl ConsumerPort {
         requires fits { offset ≤ size self.old.ring.made_with.geometry }
         ensures { self.new ≡ record self.old { trail = Read offset half result ∷ self.old.trail } }
     {
-        self.port.read(ring, self.head.forward(offset), offset, half)
+        self.port
+            .read(ring, self.head.forward(offset), offset, half)
     }
 
     /// Reads the first so many commands.

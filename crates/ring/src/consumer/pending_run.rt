@@ -66,7 +66,13 @@ impl<D: Device> PendingRun<D> {
 
     /// Takes the first `count` of the commands, and then acknowledges each CMD_SYNC among them. The device that is lent
     /// must be settled for all that was taken and these.
-    pub fn complete_run(self, ring: &Ring, count: u32, _outcome: Outcome, _device: &D) -> Consumer<D>
+    pub fn complete_run(
+        self,
+        ring: &Ring,
+        count: u32,
+        _outcome: Outcome,
+        _device: &D,
+    ) -> Consumer<D>
         requires ring { self.consumer.ring ≡ ring.now }
         requires some { 1 ≤ count }
         requires most { count ≤ length self.raws }

@@ -119,7 +119,13 @@ impl Port {
         self.advance_for::<Brand>(ring, head, commands, count)
     }
 
-    fn advance_for<I: HasIntent>(&mut self, ring: &Ring, head: Index, commands: &Commands, count: u32)
+    fn advance_for<I: HasIntent>(
+        &mut self,
+        ring: &Ring,
+        head: Index,
+        commands: &Commands,
+        count: u32,
+    )
         requires ring { self.old.ring ≡ ring.now }
         requires who { self.old.who ≡ Consumer }
         requires head { head ≡ index_of self.old.ring.made_with.geometry (taken_by self.old.trail) }
@@ -162,7 +168,11 @@ impl Port {
         laws::consumer_trail();
         counts_law();
         let words = &ring.table.shared;
-        words.store::<StepFor<I>>(&mut self.seat, cell(ring.geometry(), sender), u64::from(number));
+        words.store::<StepFor<I>>(
+            &mut self.seat,
+            cell(ring.geometry(), sender),
+            u64::from(number),
+        );
     }
 
     /// Acknowledges each CMD_SYNC among the first `count` of these commands, past which it has just advanced.

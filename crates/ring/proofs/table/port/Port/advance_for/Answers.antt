@@ -13,8 +13,8 @@ fetch_xor-requires g c =
     let geometry : ℕ = c.args.self.now.ring.made_with.geometry in let h : ℕ = taken_by c.args.self.now.trail in
     let further : c.forward.result ≡ index_of geometry (h + length (take c.args.count c.args.commands.now)) =
     c.forward.ensures.position geometry h c.requires.head ∙ ap (λ (n : ℕ). index_of geometry (h + n)) (sym many) in (
-  search rules,
-  control_inside _ _ _ _ c.ring.invariant.words c.control_word.ensures,
-  advances_now _ _ _ c.self.view_is c.self.invariant _ _ _ c.advance.ensures c.consumer_trail.ensures.head c.requires.who _ _ _ _ c.requires.intent c.control_word.ensures c.requires.may
-      (c.advance_mask-mask.ensures ∙ (λ k. advance_mask (c.requires.head k) (further k))),
-)
+      search rules,
+      control_inside _ _ _ _ c.ring.invariant.words c.control_word.ensures,
+      advances_now _ _ _ c.self.view_is c.self.invariant _ _ _ c.advance.ensures c.consumer_trail.ensures.head c.requires.who _ _ _ _ c.requires.intent c.control_word.ensures c.requires.may
+          (c.advance_mask-mask.ensures ∙ (λ k. advance_mask (c.requires.head k) (further k))),
+    )

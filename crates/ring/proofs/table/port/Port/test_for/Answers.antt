@@ -1,5 +1,5 @@
 use Rattle.std.proofs.Common.{rules, sym}
-use Rattle.ring.proofs.TableLemmas.PortSteps.{tests_now, in_flags}
+use Rattle.ring.proofs.TableLemmas.PortSteps.{tested, tests_now, in_flags}
 use Rattle.ring.proofs.table.port.Port.test_for.Goals as goal
 
 pub load-word-requires : goal.load-word-requires
@@ -9,3 +9,8 @@ load-word-requires g c =
       in_flags _ _ c.ring.invariant.words _ _ c.requires.ring _ (sym c.ring.view_is) _ _ at,
       tests_now _ _ _ c.self.view_is c.self.invariant _ _ _ c.ready_runs.ensures.test c.consumer_trail.ensures.head c.requires.who _ c.args.limit _ c.requires.intent (c.requires.some, c.requires.most) at,
     )
+
+pub returns-clause-trail : goal.returns-clause-trail
+returns-clause-trail g c =
+    tested c.self.inside.seat.table_id _ c.self.inside.seat.me c.load-word.new.seat.me _ c.self.view_is _ c.ring.inside.table.shared.table_id.slots c.flag_word.result c.args.limit c.load-word.result _
+    c.load-word.ensures.0 c.requires.intent c.load-word.ensures.2 (c.ready_run.ensures.found _ _ c.requires.head)

@@ -1,0 +1,159 @@
+-- The closing syncs of a run that was taken are acknowledged one after another.
+use Rattle.std.proofs.Common.{◌≡◌, ℕ, suc, ◌+◌, ◌-◌, ◌*◌, ◌<◌, ◌≤◌, Bool, true, false, cond, ◌==◌, ◌&&◌, List, [], ◌∷◌, ◌++◌, take, Some, refl, sym, ap, ◌∙◌, subst, append_assoc, eq-eqb, eqb-true, arith}
+use Rattle.std.specs.Prelude.{slice_get}
+use Rattle.cmdcodec.specs.declared.raw.Raw.{Raw}
+use Rattle.cmdcodec.specs.Opcodes.{is_sync}
+use Rattle.cmdcodec.specs.ClosingSync.{cell_address}
+use Rattle.ringcore.specs.declared.world.event.Event.TheVariants.{Acknowledge}
+use Rattle.ringcore.specs.world.Trails.{Trail, raws_by, acknowledged_by}
+use Rattle.ringcore.specs.world.Laws.{is_sync_to, syncs_in, syncs_taken, SyncsAreInOrder, IsNextSync, SyncsAddUp, SyncsTellTheirBatch}
+use Rattle.ringcore.specs.world.ConsumerLaws.{SyncsOfRawsAreCounted}
+use Rattle.ring.specs.table.Ports.{PortValue}
+use Rattle.ring.specs.consumer.Completing.{sync_sender, sync_number, acknowledged, all_acknowledged, without_newest, HasAdvanced, IsClosingSync}
+use Rattle.ring.proofs.ConsumerLemmas.Runs.{take_more, split_at}
+
+-- ---- acknowledgements change nothing else
+
+pub acknowledged_keep : {X : Type 0} (f : Trail → X) → ((s n : ℕ) (t : Trail) → f (Acknowledge s n ∷ t) ≡ f t) → (raws : List Raw) (t : Trail) → f (all_acknowledged raws t) ≡ f t
+acknowledged_keep f same [] t = refl
+acknowledged_keep f same (raw ∷ raws) t = acknowledged_keep f same raws (acknowledged raw t) ∙ by_kind (is_sync raw)
+  where
+    by_kind : (b : Bool) → f (cond b (Acknowledge (sync_sender raw) (sync_number raw) ∷ t) t) ≡ f t
+    by_kind true = same (sync_sender raw) (sync_number raw) t
+    by_kind false = refl
+
+acknowledged_snoc : (raws : List Raw) (raw : Raw) (t : Trail) → all_acknowledged (raws ++ raw ∷ []) t ≡ acknowledged raw (all_acknowledged raws t)
+acknowledged_snoc [] raw t = refl
+acknowledged_snoc (r ∷ rs) raw t = acknowledged_snoc rs raw (acknowledged r t)
+
+-- ---- one of them: those ahead of it are acknowledged, and those behind aren't
+
+module _ (add_up : SyncsAddUp) (by_raws : SyncsOfRawsAreCounted) (words : SyncsTellTheirBatch) (senders : ℕ) (few : senders ≤ 256) (before : Trail)
+    (ahead behind : List Raw) (raw : Raw) (now : Trail) (acks : (s : ℕ) → acknowledged_by s now ≡ syncs_taken s before + syncs_in s ahead) where
+  one_more : (s : ℕ) → syncs_in s (ahead ++ raw ∷ []) ≡ syncs_in s ahead + cond {A = ℕ} (is_sync_to s raw) 1 0
+  one_more s = add_up s ahead (raw ∷ []) ∙ by_kind (is_sync_to s raw)
+    where
+      by_kind : (b : Bool) → syncs_in s ahead + cond {A = ℕ} b (suc 0) 0 ≡ syncs_in s ahead + cond {A = ℕ} b 1 0
+      by_kind true = refl
+      by_kind false = refl
+
+  pub passed : is_sync raw ≡ false → (s : ℕ) → acknowledged_by s now ≡ syncs_taken s before + syncs_in s (ahead ++ raw ∷ [])
+  passed other s =
+      let more = one_more s in let old = acks s in
+      let none : cond {A = ℕ} (is_sync_to s raw) 1 0 ≡ 0 = ap (λ (b : Bool). cond {A = ℕ} (b && raw.hi == cell_address s) 1 0) other in
+      omega (arith, more, old, none)
+
+  module _ (order : SyncsAreInOrder senders (raws_by before ++ (ahead ++ raw ∷ behind))) (sync : is_sync raw ≡ true) where
+    its : IsNextSync senders (raws_by before ++ ahead) raw
+    its = order (raws_by before ++ ahead) behind raw (sym (append_assoc (raws_by before) ahead (raw ∷ behind))) sync
+
+    hi_is : raw.hi ≡ cell_address its.sender
+    hi_is = ap (λ (r : Raw). r.hi) its.raw_is ∙ (words its.sender its.number).cell
+
+    pub closing : IsClosingSync raw
+    closing = record { sender = its.sender; few = (let k = its.known in omega (arith, k, few)); address = hi_is }
+
+    sender_is : sync_sender raw ≡ its.sender
+    sender_is = let h : raw.hi ≡ 0x40000000 + 4 * its.sender = hi_is in let x : ℕ = raw.hi in omega (arith, h)
+
+    number_is : sync_number raw ≡ its.number
+    number_is = ap sync_number its.raw_is ∙ (words its.sender its.number).number_is
+
+    to : (s : ℕ) → is_sync_to s raw ≡ (s == its.sender)
+    to s = ap (is_sync_to s) its.raw_is ∙ (words its.sender its.number).sender_is s
+
+    counted : its.number ≡ suc (syncs_taken its.sender before + syncs_in its.sender ahead)
+    counted = its.next ∙ ap suc (add_up its.sender (raws_by before) ahead ∙ ap (λ (n : ℕ). n + syncs_in its.sender ahead) (by_raws its.sender before))
+
+    pub known : sync_sender raw < senders
+    known = subst (λ (s : ℕ). s < senders) (sym sender_is) its.known
+
+    pub next : sync_number raw ≡ suc (acknowledged_by (sync_sender raw) now)
+    next = number_is ∙ counted ∙ ap suc (sym (acks its.sender) ∙ ap (λ (s : ℕ). acknowledged_by s now) (sym sender_is))
+
+    pub taken : ((s : ℕ) → syncs_taken s now ≡ syncs_taken s before + syncs_in s (ahead ++ raw ∷ behind)) → sync_number raw ≤ syncs_taken (sync_sender raw) now
+    taken whole =
+        let s : ℕ = its.sender in
+        let all : syncs_in s (ahead ++ raw ∷ behind) ≡ syncs_in s ahead + syncs_in s (raw ∷ behind) = add_up s ahead (raw ∷ behind) in
+        let one : syncs_in s (raw ∷ behind) ≡ suc (syncs_in s behind) = ap (λ (b : Bool). cond {A = ℕ} b (suc (syncs_in s behind)) (syncs_in s behind)) (to s ∙ eq-eqb s s refl) in
+        let n = counted in let w = whole s in
+        subst (λ (t : ℕ × ℕ). t.0 ≤ syncs_taken t.1 now) (λ k. (sym number_is k, sym sender_is k)) (omega (arith, n, w, all, one))
+
+    pub grown : (s : ℕ) → acknowledged_by s (Acknowledge (sync_sender raw) (sync_number raw) ∷ now) ≡ syncs_taken s before + syncs_in s (ahead ++ raw ∷ [])
+    grown s = ap (λ (t : ℕ × ℕ). acknowledged_by s (Acknowledge t.0 t.1 ∷ now)) (λ k. (sender_is k, number_is k)) ∙ by_sender (s == its.sender) refl (to s)
+      where
+        by_sender : (v : Bool) → (s == its.sender) ≡ v → is_sync_to s raw ≡ v → cond v its.number (acknowledged_by s now) ≡ syncs_taken s before + syncs_in s (ahead ++ raw ∷ [])
+        by_sender true is to_is =
+            let same : s ≡ its.sender = eqb-true s its.sender is in
+            let one : cond {A = ℕ} (is_sync_to s raw) 1 0 ≡ 1 = ap (λ (b : Bool). cond {A = ℕ} b 1 0) to_is in
+            let mine : syncs_taken s before + syncs_in s ahead ≡ syncs_taken its.sender before + syncs_in its.sender ahead = ap (λ (u : ℕ). syncs_taken u before + syncs_in u ahead) same in
+            let more = one_more s in let n = counted in omega (arith, more, n, one, mine)
+        by_sender false is to_is =
+            let none : cond {A = ℕ} (is_sync_to s raw) 1 0 ≡ 0 = ap (λ (b : Bool). cond {A = ℕ} b 1 0) to_is in
+            let more = one_more s in let old = acks s in omega (arith, more, old, none)
+
+-- ---- as the loop has it
+
+module _ (old : PortValue) (raws : List Raw) (n : ℕ) (advanced : HasAdvanced old.trail (take n raws)) where
+  abbrev before : Trail
+  before = without_newest old.trail
+
+  abbrev pub After : PortValue → ℕ → Type 0
+  After now i = now ≡ record old { trail = all_acknowledged (take i raws) old.trail }
+
+  abbrev pub Soon : PortValue → ℕ → Type 0
+  Soon now i = (s : ℕ) → acknowledged_by s now.trail ≡ syncs_taken s before + syncs_in s (take i raws)
+
+  whole : (now : PortValue) (i : ℕ) → After now i → (s : ℕ) → syncs_taken s now.trail ≡ syncs_taken s before + syncs_in s (take n raws)
+  whole now i after s =
+      ap (λ (p : PortValue). syncs_taken s p.trail) after ∙ acknowledged_keep (syncs_taken s) (λ u k t. refl) (take i raws) old.trail ∙ ap (syncs_taken s) advanced.trail_is
+
+  pub begins : Soon old 0
+  begins s = ap (acknowledged_by s) advanced.trail_is ∙ advanced.current s ∙ (let e : syncs_taken s before ≡ syncs_taken s before + 0 = omega arith in e)
+
+  pub all_are : (now : PortValue) (i : ℕ) → i ≡ n → After now i → Soon now i → (s : ℕ) → acknowledged_by s now.trail ≡ syncs_taken s now.trail
+  all_are now i end after acks s = acks s ∙ ap (λ (k : ℕ). syncs_taken s before + syncs_in s (take k raws)) end ∙ sym (whole now i after s)
+
+  next_after : (now new : PortValue) (i : ℕ) (raw : Raw) → slice_get raws i ≡ Some raw → After now i → new ≡ record now { trail = acknowledged raw now.trail } → After new (i + 1)
+  next_after now new i raw at after is =
+      is ∙ ap (λ (p : PortValue). let q : PortValue = record p { trail = acknowledged raw p.trail } in q) after
+      ∙ ap (λ (t : Trail). let q : PortValue = record old { trail = t } in q) (sym (ap (λ (l : List Raw). all_acknowledged l old.trail) (take_more raws i raw at) ∙ acknowledged_snoc (take i raws) raw old.trail))
+
+  soon_after : (new : PortValue) (i : ℕ) (raw : Raw) → slice_get raws i ≡ Some raw → ((s : ℕ) → acknowledged_by s new.trail ≡ syncs_taken s before + syncs_in s (take i raws ++ raw ∷ [])) → Soon new (i + 1)
+  soon_after new i raw at sums s = sums s ∙ ap (λ (l : List Raw). syncs_taken s before + syncs_in s l) (sym (take_more raws i raw at))
+
+  module _ (add_up : SyncsAddUp) (by_raws : SyncsOfRawsAreCounted) (words : SyncsTellTheirBatch) (senders : ℕ) (few : senders ≤ 256) (order : SyncsAreInOrder senders (raws_by old.trail))
+      (now : PortValue) (i : ℕ) (raw : Raw) (low : i < n) (at : slice_get raws i ≡ Some raw) (after : After now i) (acks : Soon now i) where
+    abbrev behind : List Raw
+    behind = (split_at raws i n raw low at).0
+
+    split : take n raws ≡ take i raws ++ raw ∷ behind
+    split = (split_at raws i n raw low at).1
+
+    ordered : SyncsAreInOrder senders (raws_by before ++ (take i raws ++ raw ∷ behind))
+    ordered = subst (SyncsAreInOrder senders) (ap raws_by advanced.trail_is ∙ ap (λ (l : List Raw). raws_by before ++ l) split) order
+
+    pub is_closing : is_sync raw ≡ true → IsClosingSync raw
+    is_closing = closing add_up by_raws words senders few before (take i raws) behind raw now.trail acks ordered
+
+    pub is_known : is_sync raw ≡ true → sync_sender raw < senders
+    is_known = known add_up by_raws words senders few before (take i raws) behind raw now.trail acks ordered
+
+    pub is_next : is_sync raw ≡ true → sync_number raw ≡ suc (acknowledged_by (sync_sender raw) now.trail)
+    is_next = next add_up by_raws words senders few before (take i raws) behind raw now.trail acks ordered
+
+    pub is_taken : is_sync raw ≡ true → sync_number raw ≤ syncs_taken (sync_sender raw) now.trail
+    is_taken sync = taken add_up by_raws words senders few before (take i raws) behind raw now.trail acks ordered sync
+        (λ s. whole now i after s ∙ ap (λ (l : List Raw). syncs_taken s before + syncs_in s l) split)
+
+    pub then_after : is_sync raw ≡ true → (new : PortValue) → new ≡ record now { trail = Acknowledge (sync_sender raw) (sync_number raw) ∷ now.trail } → After new (i + 1) × Soon new (i + 1)
+    then_after sync new is = (
+      next_after now new i raw at after (is ∙ ap (λ (b : Bool). let q : PortValue = record now { trail = cond b (Acknowledge (sync_sender raw) (sync_number raw) ∷ now.trail) now.trail } in q) (sym sync)),
+      soon_after new i raw at (λ s. ap (λ (p : PortValue). acknowledged_by s p.trail) is ∙ grown add_up by_raws words senders few before (take i raws) behind raw now.trail acks ordered sync s),
+    )
+
+    pub else_after : is_sync raw ≡ false → (new : PortValue) → new ≡ now → After new (i + 1) × Soon new (i + 1)
+    else_after other new is = (
+      next_after now new i raw at after (is ∙ ap (λ (b : Bool). let q : PortValue = record now { trail = cond b (Acknowledge (sync_sender raw) (sync_number raw) ∷ now.trail) now.trail } in q) (sym other)),
+      soon_after new i raw at (λ s. ap (λ (p : PortValue). acknowledged_by s p.trail) is ∙ passed add_up by_raws words senders few before (take i raws) behind raw now.trail acks other s),
+    )

@@ -1,0 +1,126 @@
+-- Reads of a run, one command after another, and what is found again.
+use Rattle.std.proofs.Common.{◌≡◌, ◌≢◌, ◌<◌, ◌≤◌, ◌+◌, ℕ, zero, suc, Bool, true, cond, ◌&&◌, List, [], ◌∷◌, ◌++◌, length, length-append, Some, refl, sym, ap, subst, ◌∙◌, inl, inr, eq-eqb, ne_eqb, arith}
+use Rattle.std.proofs.lemmas.Bool.{cases_eq}
+use Rattle.std.proofs.lemmas.Option.{slice_get_within}
+use Rattle.std.specs.Prelude.{slice_get}
+use Rattle.cmdcodec.specs.declared.raw.Raw.{Raw}
+use Rattle.ringcore.specs.declared.world.event.Half.{Half}
+use Rattle.ringcore.specs.declared.world.event.Half.TheVariants.{Lo, Hi}
+use Rattle.ringcore.specs.declared.world.event.Event.TheVariants.{Look, Test, Read}
+use Rattle.ringcore.specs.world.Trails.{Trail, half_read, same_half}
+use Rattle.ringcore.specs.world.World.{half_of}
+use Rattle.ringcore.specs.world.Trails.{head_read}
+use Rattle.ringcore.specs.world.ConsumerLaws.{IsSteady}
+use Rattle.ring.specs.consumer.Pendings.{HasSeen, reads_from}
+use Rattle.ring.specs.consumer.Consumers.{ConsumerValue}
+use Rattle.qindex.specs.declared.control.Control.{Control}
+
+-- ---- what was read at the head is found again
+
+pub look_again : (c : Control) (t : Trail) (raw : Raw) → IsSteady (Look c ∷ t) → HasSeen t raw → c.prod.number ≢ c.cons.number
+look_again c t raw s seen = s.0 Lo raw.lo (seen Lo)
+
+pub test_again : (limit found : ℕ) (c : Control) (t : Trail) (raw : Raw) → IsSteady (Test limit found ∷ Look c ∷ t) → HasSeen t raw → 1 ≤ limit → found ≢ 0
+test_again limit found c t raw s seen some none = let one : 1 ≤ found = s.0 Lo raw.lo (seen Lo) some in absurd (omega (arith, one, none))
+
+pub read_again : (lo hi limit found : ℕ) (c : Control) (t : Trail) (raw : Raw) → IsSteady (Read 0 Hi hi ∷ Read 0 Lo lo ∷ Test limit found ∷ Look c ∷ t) → HasSeen t raw
+    → ◌≡◌ {A = Raw} (record { lo = lo; hi = hi }) raw
+read_again lo hi limit found c t raw s seen =
+    let high : hi ≡ raw.hi = s.0 raw.hi (seen Hi) refl in
+    let low : lo ≡ raw.lo = s.1.0 raw.lo (seen Lo) refl in
+    (λ k. let r : Raw = record { lo = low k; hi = high k } in r)
+
+-- ---- a run of reads
+
+-- an element of a longer list, by its place
+get_behind : {A : Type 0} (xs ys : List A) (i : ℕ) → slice_get (xs ++ ys) (length xs + i) ≡ slice_get ys i
+get_behind [] ys i = ap (slice_get ys) (let e : 0 + i ≡ i = omega arith in e)
+get_behind (x ∷ xs) ys i = ap (slice_get (x ∷ (xs ++ ys))) (let e : length (x ∷ xs) + i ≡ suc (length xs + i) = omega arith in e) ∙ get_behind xs ys i
+
+get_shorter : {A : Type 0} (xs ys : List A) (i : ℕ) → i < length xs → slice_get (xs ++ ys) i ≡ slice_get xs i
+get_shorter [] ys i low = absurd (omega (arith, low))
+get_shorter (x ∷ xs) ys zero low = refl
+get_shorter (x ∷ xs) ys (suc i) low = get_shorter xs ys i (omega (arith, low))
+
+some_one : {A : Type 0} (x y : A) → Some x ≡ Some y → x ≡ y
+some_one x y e = cc
+
+pub reads_snoc : (o : ℕ) (rs : List Raw) (r : Raw) (t : Trail) → reads_from o (rs ++ r ∷ []) t ≡ Read (o + length rs) Hi r.hi ∷ Read (o + length rs) Lo r.lo ∷ reads_from o rs t
+reads_snoc o [] r t = let e : o ≡ o + 0 = omega arith in ap (λ (n : ℕ). let u : Trail = Read n Hi r.hi ∷ Read n Lo r.lo ∷ t in u) e
+reads_snoc o (x ∷ xs) r t =
+    let u : Trail = Read o Hi x.hi ∷ Read o Lo x.lo ∷ t in
+    let e : suc o + length xs ≡ o + length (x ∷ xs) = omega arith in
+    reads_snoc (suc o) xs r u ∙ ap (λ (n : ℕ). let v : Trail = Read n Hi r.hi ∷ Read n Lo r.lo ∷ reads_from (suc o) xs u in v) e
+
+head_after : (o : ℕ) (rs : List Raw) (t : Trail) (half : Half) → head_read half (reads_from (suc o) rs t) ≡ head_read half t
+head_after o [] t half = refl
+head_after o (x ∷ xs) t half = head_after (suc o) xs (Read (suc o) Hi x.hi ∷ Read (suc o) Lo x.lo ∷ t) half ∙ skips
+  where
+    skips : head_read half (Read (suc o) Hi x.hi ∷ Read (suc o) Lo x.lo ∷ t) ≡ head_read half t
+    skips = ap (λ (b : Bool). cond (b && same_half half Hi) (Some x.hi) (cond (b && same_half half Lo) (Some x.lo) (head_read half t))) (ne_eqb (suc o) 0 (λ e. absurd (omega (arith, e))))
+
+pub seen_first : (t : Trail) (rs : List Raw) (raw : Raw) (rest : List Raw) → rs ≡ raw ∷ rest → HasSeen (reads_from 0 rs t) raw
+seen_first t rs raw rest is = subst (λ (l : List Raw). HasSeen (reads_from 0 l t) raw) (sym is) seen
+  where
+    here : (half : Half) → head_read half (Read 0 Hi raw.hi ∷ Read 0 Lo raw.lo ∷ t) ≡ Some (half_of half raw)
+    here Lo = refl
+    here Hi = refl
+
+    seen : HasSeen (reads_from 0 (raw ∷ rest) t) raw
+    seen half = head_after 0 rest (Read 0 Hi raw.hi ∷ Read 0 Lo raw.lo ∷ t) half ∙ here half
+
+pub steady_before : (o : ℕ) (rs : List Raw) (t : Trail) → IsSteady (reads_from o rs t) → IsSteady t
+steady_before o [] t s = s
+steady_before o (x ∷ xs) t s = (steady_before (suc o) xs (Read o Hi x.hi ∷ Read o Lo x.lo ∷ t) s).1.1
+
+-- what one more read in a run leaves
+module _ (lo hi : ℕ) where
+  abbrev one : Raw
+  one = record { lo = lo; hi = hi }
+
+  now : (t : Trail) (k : ℕ) (h : Half) → cond (true && same_half h Hi) (Some hi) (cond (true && same_half h Lo) (Some lo) (half_read k h t)) ≡ Some (half_of h one)
+  now t k Lo = refl
+  now t k Hi = refl
+
+  pub read_more : (xs : List Raw) (i : ℕ) (t : Trail) → length xs ≡ i
+      → ((k : ℕ) (raw : Raw) (half : Half) → slice_get xs k ≡ Some raw → half_read k half t ≡ Some (half_of half raw))
+      → (k : ℕ) (raw : Raw) (half : Half) → slice_get (xs ++ one ∷ []) k ≡ Some raw
+      → half_read k half (Read i Hi hi ∷ Read i Lo lo ∷ t) ≡ Some (half_of half raw)
+  read_more xs i t long before k raw half at = elim (cases_eq k i) [
+    | inl same ↦
+        let place : k ≡ length xs + 0 = omega (arith, same, long) in
+        let is : one ≡ raw = some_one one raw (sym (get_behind xs (one ∷ []) 0) ∙ ap (slice_get (xs ++ one ∷ [])) (sym place) ∙ at) in
+        ap (λ (b : Bool). cond (b && same_half half Hi) (Some hi) (cond (b && same_half half Lo) (Some lo) (half_read k half t))) (eq-eqb k i same)
+        ∙ now t k half ∙ ap (λ (r : Raw). Some (half_of half r)) is
+    | inr other ↦
+        let within : k < length (xs ++ one ∷ []) = slice_get_within (xs ++ one ∷ []) k raw at in
+        let many = length-append xs (one ∷ []) in
+        let low : k < length xs = omega (arith, within, many, other, long) in
+        ap (λ (b : Bool). cond (b && same_half half Hi) (Some hi) (cond (b && same_half half Lo) (Some lo) (half_read k half t))) (ne_eqb k i other)
+        ∙ before k raw half (sym (get_shorter xs (one ∷ []) k low) ∙ at)
+  ]
+
+  pub run_more : (d s s1 s2 : ConsumerValue) (xs ys : List Raw) (i : ℕ) → length xs ≡ i → s ≡ record d { trail = reads_from 0 xs d.trail }
+      → s1 ≡ record s { trail = Read i Lo lo ∷ s.trail } → s2 ≡ record s1 { trail = Read i Hi hi ∷ s1.trail } → ys ≡ xs ++ one ∷ []
+      → s2 ≡ record d { trail = reads_from 0 ys d.trail }
+  run_more d s s1 s2 xs ys i long s_is s1_is s2_is ys_is =
+      let n : 0 + length xs ≡ i = omega (arith, long) in
+      let trail : reads_from 0 ys d.trail ≡ Read i Hi hi ∷ Read i Lo lo ∷ reads_from 0 xs d.trail =
+      ap (λ (l : List Raw). reads_from 0 l d.trail) ys_is ∙ reads_snoc 0 xs one d.trail
+      ∙ ap (λ (k : ℕ). let u : Trail = Read k Hi hi ∷ Read k Lo lo ∷ reads_from 0 xs d.trail in u) n in
+      s2_is ∙ ap (λ (x : ConsumerValue). let y : ConsumerValue = record x { trail = Read i Hi hi ∷ x.trail } in y) s1_is
+      ∙ ap (λ (x : ConsumerValue). let y : ConsumerValue = record x { trail = Read i Hi hi ∷ Read i Lo lo ∷ x.trail } in y) s_is
+      ∙ ap (λ (t : Trail). let y : ConsumerValue = record d { trail = t } in y) (sym trail)
+
+  pub trail_more : (s s1 s2 : ConsumerValue) (i : ℕ) → s1 ≡ record s { trail = Read i Lo lo ∷ s.trail } → s2 ≡ record s1 { trail = Read i Hi hi ∷ s1.trail }
+      → s2.trail ≡ Read i Hi hi ∷ Read i Lo lo ∷ s.trail
+  trail_more s s1 s2 i s1_is s2_is =
+      ap (λ (x : ConsumerValue). x.trail) s2_is ∙ ap (λ (x : ConsumerValue). let u : Trail = Read i Hi hi ∷ x.trail in u) s1_is
+
+-- A run that is read again begins with the command that was read before.
+pub run_again : (limit found : ℕ) (c : Control) (t u : Trail) (rs : List Raw) (raw : Raw) → u ≡ reads_from 0 rs (Test limit found ∷ Look c ∷ t) → 1 ≤ length rs
+    → IsSteady u → HasSeen t raw → (rest : List Raw) × (rs ≡ raw ∷ rest)
+run_again limit found c t u [] raw is some s seen = absurd (omega (arith, some))
+run_again limit found c t u (r ∷ rs) raw is some s seen =
+    let before : IsSteady (Read 0 Hi r.hi ∷ Read 0 Lo r.lo ∷ Test limit found ∷ Look c ∷ t) = steady_before 1 rs _ (subst IsSteady is s) in
+    (rs, ap (λ (x : Raw). x ∷ rs) (read_again r.lo r.hi limit found c t raw before seen))

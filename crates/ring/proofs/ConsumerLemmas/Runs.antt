@@ -1,0 +1,19 @@
+-- The first so many commands of a run, and one of them.
+use Rattle.std.proofs.Common.{◌≡◌, ℕ, zero, suc, ◌+◌, ◌<◌, List, [], ◌∷◌, ◌++◌, take, Some, ap, ◌∙◌, arith}
+use Rattle.std.specs.Prelude.{slice_get}
+
+take_suc : {A : Type 0} (xs : List A) (n : ℕ) (x : A) → slice_get xs n ≡ Some x → take (suc n) xs ≡ take n xs ++ x ∷ []
+take_suc [] n x at = absurd (cc)
+take_suc (y ∷ xs) zero x at = let e : y ≡ x = cc in ap (λ z. z ∷ []) e
+take_suc (y ∷ xs) (suc n) x at = ap (λ l. y ∷ l) (take_suc xs n x at)
+
+pub take_more : {A : Type 0} (xs : List A) (n : ℕ) (x : A) → slice_get xs n ≡ Some x → take (n + 1) xs ≡ take n xs ++ x ∷ []
+take_more xs n x at = ap (λ (k : ℕ). take k xs) (let e : n + 1 ≡ suc n = omega arith in e) ∙ take_suc xs n x at
+
+-- one of the first n, with those ahead of it and those behind
+pub split_at : {A : Type 0} (xs : List A) (i n : ℕ) (x : A) → i < n → slice_get xs i ≡ Some x → (behind : List A) × (take n xs ≡ take i xs ++ x ∷ behind)
+split_at [] i n x low at = absurd (cc)
+split_at (y ∷ xs) i zero x low at = absurd (omega (arith, low))
+split_at (y ∷ xs) zero (suc n) x low at = let e : y ≡ x = cc in (take n xs, ap (λ z. z ∷ take n xs) e)
+split_at (y ∷ xs) (suc i) (suc n) x low at =
+    let rest = split_at xs i n x (omega (arith, low)) at in (rest.0, ap (λ l. y ∷ l) rest.1)

@@ -1,0 +1,18 @@
+use Rattle.std.proofs.Common.{◌≡◌, ◌+◌, ℕ, List, take, refl, sym, ap, ◌∙◌, subst, length-take-le}
+use Rattle.cmdcodec.specs.declared.raw.Raw.{Raw}
+use Rattle.ring.specs.table.Ports.{PortValue}
+use Rattle.ring.specs.consumer.Consumers.{IsConsumer}
+use Rattle.ring.specs.consumer.Completing.{all_acknowledged, completed_trail}
+use Rattle.ring.proofs.ConsumerLemmas.Completing.{is_consumer}
+use Rattle.ring.proofs.consumer.consumer_port.ConsumerPort.complete_run.Goals as goal
+
+pub invariant_of-result : goal.invariant_of-result
+invariant_of-result c =
+    let raws : List Raw = take c.args.count c.args.commands.now in
+    let old : PortValue = c.self.inside.port in
+    let new_is : c.acknowledge_run.new.self ≡ record old { trail = completed_trail raws old.trail } =
+    c.acknowledge_run.ensures.trail ∙ ap (λ (p : PortValue). let q : PortValue = record p { trail = all_acknowledged raws p.trail } in q) c.advance.ensures in
+    let further = c.forward.ensures.position _ _ c.self.invariant.head_is in
+    subst (λ (n : ℕ). IsConsumer c.acknowledge_run.new.self c.forward.result (c.self.inside.taken + n)) (sym c.from.ensures)
+    (is_consumer old c.advance.new.self _ c.self.inside.head _ c.self.inside.taken c.args.count raws c.self.invariant c.advance.ensures _ refl new_is
+    (length-take-le c.args.count c.args.commands.now c.requires.count) further c.acknowledge_run.ensures.current)
