@@ -1,3 +1,4 @@
 pub mod TableLemmas
 pub mod SenderLemmas
 pub mod ConsumerLemmas
+pub mod FinishLemmas

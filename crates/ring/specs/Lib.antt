@@ -3,4 +3,5 @@ pub mod sender
 pub mod Rings
 pub mod NewRings
 pub mod consumer
+pub mod Finishing
 pub mod FaultNames

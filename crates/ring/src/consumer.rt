@@ -7,8 +7,9 @@ ghost use Rattle.ringcore.specs.declared.world.event.Event.TheVariants.{Look};
 ghost use Rattle.ringcore.specs.declared.world.event.Who.TheVariants.{Consumer as ConsumerOf};
 ghost use Rattle.ringcore.specs.world.Trails.{taken_by, found_ready};
 ghost use Rattle.ring.specs.table.Rule.{StandsInARun};
+ghost use Rattle.ring.specs.table.Ports.{SitsFor};
 ghost use Rattle.ring.specs.consumer.Pendings.{HasSeen, HasReadRun, reads_from};
-ghost use Rattle.ring.specs.consumer.Taking.{HasTaken, HasTakenRun, IsReadyWith, BeginsWith};
+ghost use Rattle.ring.specs.consumer.Taking.{HasTaken, HasTakenRun, IsReadyWith, BeginsWith, IsOfRing, RunIsOfRing};
 
 mod commands;
 mod consumer_port;
@@ -18,6 +19,8 @@ mod taken;
 
 use crate::device::Device;
 use crate::ring::Ring;
+use crate::table::Participants;
+use atomic_table::Seat;
 pub use commands::Commands;
 pub use consumer_port::ConsumerPort;
 pub use pending::Pending;
@@ -51,6 +54,17 @@ impl<D: Device> Consumer<D> {
         self.port.trail_stands_in_a_run();
     }
 
+    pub(crate) fn into_seat(self) -> Seat<(), Participants>
+        ensures { SitsFor result.table_id result.me self.ring ConsumerOf self.trail }
+    {
+        let Consumer {
+            port,
+            commands: _,
+            device: _,
+        } = self;
+        port.into_seat()
+    }
+
     /// What the control word says at this moment: SMMU_CMDQ_PROD and SMMU_CMDQ_CONS, and whether the ring is closed.
     pub fn look(&mut self, ring: &Ring) -> Control
         requires { self.old.ring ≡ ring.now }
@@ -72,6 +86,7 @@ impl<D: Device> Consumer<D> {
     pub fn take(self, ring: &Ring) -> Taken<D>
         requires { self.ring ≡ ring.now }
         ensures taken { HasTaken self result }
+        ensures ring { IsOfRing self.ring result }
         ensures again { (raw : RawOf) → HasSeen self.trail raw → IsReadyWith raw result }
     {
         match self.take_run(ring, 1) {
@@ -89,6 +104,7 @@ impl<D: Device> Consumer<D> {
         requires some { 1 ≤ most }
         requires most { most ≤ 64 }
         ensures taken { HasTakenRun most self result }
+        ensures ring { RunIsOfRing self.ring result }
         ensures again { (raw : RawOf) → HasSeen self.trail raw → BeginsWith raw result }
     {
         let mut consumer = self;

@@ -6,6 +6,7 @@ mod device;
 mod fault;
 mod ring;
 mod sender;
+mod summary;
 mod table;
 
 pub use consumer::{Consumer, Pending, PendingRun, Taken, TakenRun};
@@ -14,3 +15,4 @@ pub use fault::RingFault;
 pub use ring::Ring;
 pub use ringcore::Outcome;
 pub use sender::{BareReservation, Cause, Receipt, Refused, Reservation, Sender};
+pub use summary::Summary;

@@ -3,16 +3,18 @@ ghost use Rattle.std.specs.Prelude.{◌≡◌, ◌≤◌, [], IfOk, IfErr};
 ghost use Rattle.qindex.specs.Indexes.{IsGeometry};
 ghost use Rattle.ringcore.specs.memory.Layout.{words_of};
 ghost use Rattle.ring.specs.table.Rule.{IsWithinLimits, first_participants, participants_from};
+ghost use Rattle.ring.specs.Finishing.{AreAll, IsEnd};
 ghost use Rattle.ring.specs.NewRings.{IsNewRing, IsUnused, new_senders, IsNotMade, number_fault};
 
 use crate::consumer::{Commands, Consumer, ConsumerPort};
 use crate::device::Device;
 use crate::fault::RingFault;
 use crate::sender::{Sender, Tally};
-use crate::table::{Deals, Parameters, Participants, Port, RingRule};
+use crate::summary::Summary;
+use crate::table::{Deals, Gathers, Parameters, Participants, Port, RingRule};
 use atomic_table::{Seat, Shared, Table};
-use qindex::{Geometry, Index};
-use ringcore::{laws, words};
+use qindex::{Control, Geometry, Index, control_words_say_their_control, indexes_tell_the_queue};
+use ringcore::{batches_law, control_word, laws, words, world_law};
 use std::alloc::{AllocError, Global};
 use std::marker::{Model, PhantomData};
 
@@ -94,6 +96,37 @@ impl Ring {
             device: PhantomData,
         };
         Ok((Ring { table, made_with }, all, consumer))
+    }
+
+    /// Joins all seats to one: there is one run of the ring that has all their steps. The senders are handed in in the
+    /// order of their numbers.
+    pub fn finish<D: Device>(self, mut senders: Vec<Sender>, consumer: Consumer<D>) -> Summary
+        requires senders { AreAll self senders.items }
+        requires consumer { consumer.ring ≡ self }
+        ensures { IsEnd self senders.items consumer result }
+    {
+        world_law();
+        batches_law();
+        laws::look();
+        laws::consumer_trail();
+        control_words_say_their_control();
+        indexes_tell_the_queue();
+        let Ring { table, made_with } = self;
+        let taken = consumer.taken();
+        let mut seat = consumer.into_seat();
+        while let Some(sender) = senders.pop() {
+            let other = sender.into_seat();
+            table.shared.join_seat::<Gathers>(&mut seat, other);
+        }
+        let closed = table.close_with(seat);
+        let word = closed.word(control_word());
+        closed.free();
+        let end = Control::unpack(made_with.geometry, word).unwrap();
+        Summary {
+            reserved: taken + u64::from(end.prod.distance(end.cons)),
+            taken,
+            closed: end.closed,
+        }
     }
 
     pub(crate) fn geometry(&self) -> Geometry

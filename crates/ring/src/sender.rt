@@ -8,6 +8,7 @@ ghost use Rattle.ringcore.specs.declared.world.event.Who.TheVariants.{Sender as 
 ghost use Rattle.ringcore.specs.world.Trails.{looked, batches_made};
 ghost use Rattle.ringcore.specs.world.Allowed.{length_with};
 ghost use Rattle.ring.specs.table.Rule.{StandsInARun};
+ghost use Rattle.ring.specs.table.Ports.{SitsFor};
 ghost use Rattle.ring.specs.sender.Senders.{HasAsked};
 ghost use Rattle.ring.specs.sender.Reserving.{HasRoom, IsReserved, IsRefused, IsWon, IsLost, Fits, HasBatchLeft};
 
@@ -23,7 +24,8 @@ mod tally;
 use crate::ring::Ring;
 use crate::sender::batch_length::batch_length;
 use crate::sender::open_reservation::OpenReservation;
-use crate::table::Port;
+use crate::table::{Participants, Port};
+use atomic_table::Seat;
 pub use bare_reservation::BareReservation;
 use batch::Batch;
 pub use cause::{Cause, Refused};
@@ -56,6 +58,13 @@ impl Sender {
         ensures { result ≡ self.now.number }
     {
         self.tally.sender
+    }
+
+    pub(crate) fn into_seat(self) -> Seat<(), Participants>
+        ensures { SitsFor result.table_id result.me self.ring (SenderOf self.number) self.trail }
+    {
+        let Sender { port, tally: _ } = self;
+        port.into_seat()
     }
 
     /// A witness that all its steps are steps of one run of the ring. It does nothing.

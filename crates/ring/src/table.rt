@@ -6,4 +6,4 @@ mod steps;
 
 pub use port::Port;
 pub use rule::{Parameters, Participant, Participants, RingRule};
-pub use steps::{Asks, Closes, Deals, HasIntent, Looks, StepFor};
+pub use steps::{Asks, Closes, Deals, Gathers, HasIntent, Looks, StepFor};

@@ -1,17 +1,14 @@
 -- Which events a take added, by its answer.
-use Rattle.std.specs.Prelude.{◌≡◌, ◌≢◌, ◌≤◌, ℕ, suc, Bool, true, false, List, [], ◌∷◌, length, Some, slice_get}
+use Rattle.std.specs.Prelude.{◌≡◌, ◌≢◌, ◌≤◌, ℕ, Bool, true, false, List, ◌∷◌, length}
 use Rattle.cmdcodec.specs.declared.raw.Raw.{Raw}
 use Rattle.qindex.specs.declared.control.Control.{Control}
-use Rattle.qindex.specs.Positions.{size}
-use Rattle.ringcore.specs.declared.world.event.Half.{Half}
-use Rattle.ringcore.specs.declared.world.event.Half.TheVariants.{Lo, Hi}
-use Rattle.ringcore.specs.declared.world.event.Event.TheVariants.{Look, Test, Read}
-use Rattle.ringcore.specs.world.Trails.{Trail, found_ready, half_read, head_read}
-use Rattle.ringcore.specs.world.World.{half_of}
+use Rattle.ringcore.specs.declared.world.event.Event.TheVariants.{Look, Test}
+use Rattle.ringcore.specs.world.Trails.{Trail}
 use Rattle.ring.specs.declared.consumer.taken.Taken.{Taken}
 use Rattle.ring.specs.declared.consumer.taken.Taken.TheVariants as one
 use Rattle.ring.specs.declared.consumer.taken.TakenRun.{TakenRun}
 use Rattle.ring.specs.declared.consumer.taken.TakenRun.TheVariants.{Empty, Drained, Unwritten, Ready}
+use Rattle.ring.specs.Rings.{RingValue}
 use Rattle.ring.specs.consumer.Consumers.{ConsumerValue}
 use Rattle.ring.specs.consumer.Pendings.{PendingValue, run_of, reads_from}
 
@@ -61,3 +58,17 @@ HasTaken d (one.Ready p) = TookRun 1 d (run_of p)
 abbrev pub IsReadyWith : {D : Type 0} → Raw → Taken D → Type 0
 IsReadyWith raw (one.Ready p) = p.raw ≡ raw
 IsReadyWith raw other = ⊥
+
+-- ---- what stays
+
+abbrev pub IsOfRing : {D : Type 0} → RingValue → Taken D → Type 0
+IsOfRing ring (one.Empty e) = e.ring ≡ ring
+IsOfRing ring (one.Drained e) = e.ring ≡ ring
+IsOfRing ring (one.Unwritten e) = e.ring ≡ ring
+IsOfRing ring (one.Ready p) = p.consumer.ring ≡ ring
+
+abbrev pub RunIsOfRing : {D : Type 0} → RingValue → TakenRun D → Type 0
+RunIsOfRing ring (Empty e) = e.ring ≡ ring
+RunIsOfRing ring (Drained e) = e.ring ≡ ring
+RunIsOfRing ring (Unwritten e) = e.ring ≡ ring
+RunIsOfRing ring (Ready p) = p.consumer.ring ≡ ring

@@ -1,5 +1,5 @@
 -- What contracts see of a seat that stands for one participant alone, and of its steps.
-use Rattle.std.specs.Prelude.{◌≡◌, ◌≢◌, ℕ, ◌+◌, ◌<◌, ◌≤◌, Bool, true, false, List, ◌∷◌}
+use Rattle.std.specs.Prelude.{◌≡◌, ◌≢◌, ℕ, ◌+◌, ◌<◌, ◌≤◌, Bool, true, false, List, [], ◌∷◌}
 use Rattle.atomic_table.specs.Seated.{TableId}
 use Rattle.cmdcodec.specs.declared.raw.Raw.{Raw}
 use Rattle.qindex.specs.Positions.{IndexValue, index_of}
@@ -11,7 +11,7 @@ use Rattle.ringcore.specs.world.Trails.{Trail, reserved_length, has_written, has
 use Rattle.ringcore.specs.world.Allowed.{IsRunLength}
 use Rattle.ringcore.specs.machine.StepAnswers.{next_number}
 use Rattle.ring.specs.Rings.{RingValue}
-use Rattle.ring.specs.table.Rule.{Holding, ring_of, who_of, trail_of_first}
+use Rattle.ring.specs.table.Rule.{Holding, participant, ring_of, who_of, trail_of_first}
 
 -- a participant: its ring, who it is, and its trail
 pub record PortValue : Type 0 where
@@ -21,6 +21,10 @@ pub record PortValue : Type 0 where
 
 abbrev pub port_of : TableId → Holding → PortValue
 port_of table me = record { ring = record { table = table; made_with = ring_of me.0 }; who = who_of me.0; trail = trail_of_first me.0 }
+
+-- A seat of this ring stands for this participant alone, with this trail.
+abbrev pub SitsFor : TableId → Holding → RingValue → Who → Trail → Type 0
+SitsFor table me ring who trail = (table ≡ ring.table) × (me ≡ (participant ring.made_with who trail ∷ [], []))
 
 -- ---- reserve
 

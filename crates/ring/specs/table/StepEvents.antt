@@ -1,5 +1,5 @@
 -- What a step tells: the one event that it added.
-use Rattle.std.specs.Prelude.{◌≡◌, ℕ, cond, ◌==◌, List, [], ◌∷◌}
+use Rattle.std.specs.Prelude.{◌≡◌, ℕ, cond, ◌==◌, List, [], ◌∷◌, ◌++◌}
 use Rattle.atomic_table.specs.Table.{Step}
 use Rattle.qindex.specs.ControlWord.{IsControlWord, control_in}
 use Rattle.ringcore.specs.declared.world.event.Who.{Who}
@@ -52,3 +52,7 @@ without_first (p ∷ ps) = ps
 abbrev pub first_alone : List Participant → List Participant
 first_alone [] = []
 first_alone (p ∷ ps) = p ∷ []
+
+-- and two are joined
+abbrev pub both_of : List Participant → List Participant → List Participant
+both_of mine theirs = theirs ++ mine

@@ -8,12 +8,14 @@ ghost use Rattle.ringcore.specs.world.Trails.{taken_by, found_ready};
 ghost use Rattle.ringcore.specs.world.Allowed.{MayAdvance};
 ghost use Rattle.ringcore.specs.world.ConsumerLaws.{IsSteady};
 ghost use Rattle.ring.specs.table.Rule.{StandsInARun};
+ghost use Rattle.ring.specs.table.Ports.{SitsFor};
 ghost use Rattle.ring.specs.consumer.Pendings.{HasReadRun, reads_from};
 ghost use Rattle.ring.specs.consumer.Completing.{completed_trail};
 
 use crate::consumer::commands::Commands;
 use crate::ring::Ring;
-use crate::table::Port;
+use crate::table::{Participants, Port};
+use atomic_table::Seat;
 use cmdcodec::Raw;
 use qindex::{Control, Index};
 use ringcore::Half;
@@ -44,6 +46,17 @@ impl ConsumerPort {
         ensures { StandsInARun self.now.ring.made_with Consumer self.now.trail }
     {
         self.port.trail_stands_in_a_run();
+    }
+
+    pub(crate) fn into_seat(self) -> Seat<(), Participants>
+        ensures { SitsFor result.table_id result.me self.ring Consumer self.trail }
+    {
+        let ConsumerPort {
+            port,
+            head: _,
+            taken: _,
+        } = self;
+        port.into_seat()
     }
 
     /// What it read at the head is found again until it is taken. It does nothing.

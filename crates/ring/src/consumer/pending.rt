@@ -51,6 +51,7 @@ impl<D: Device> Pending<D> {
         requires outcome { _outcome ≡ outcome_of self.raw }
         requires settled { D.settled _device.now (taken_of self.consumer.trail ++ record { raw = self.raw; outcome = _outcome } ∷ []) }
         ensures consumer { result ≡ completed 1 (run_of self) }
+        ensures ring { result.ring ≡ self.consumer.ring }
         ensures taken { taken_of result.trail ≡ taken_of self.consumer.trail ++ record { raw = self.raw; outcome = _outcome } ∷ [] }
     {
         let Pending { run } = self;

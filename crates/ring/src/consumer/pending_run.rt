@@ -80,6 +80,7 @@ impl<D: Device> PendingRun<D> {
         requires one { _outcome ≡ Replaced → count ≡ 1 }
         requires settled { D.settled _device.now (taken_of self.consumer.trail ++ map (with_outcome _outcome) (take count self.raws)) }
         ensures consumer { result ≡ completed count self }
+        ensures ring { result.ring ≡ self.consumer.ring }
         ensures taken { taken_of result.trail ≡ taken_of self.consumer.trail ++ map (with_outcome _outcome) (take count self.raws) }
     {
         let PendingRun {

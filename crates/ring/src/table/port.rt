@@ -9,7 +9,7 @@ ghost use Rattle.ringcore.specs.world.Allowed.{MayTry, MayWrite, ShareAWord, len
 ghost use Rattle.ringcore.specs.memory.StepLaws.{reserved_commands};
 ghost use Rattle.ring.specs.table.Intents.{reserves, writes, flips};
 ghost use Rattle.ring.specs.table.Rule.{StandsInARun};
-ghost use Rattle.ring.specs.table.Ports.{PortValue, IsWonOrLost, IsSlotAt, MayFlipAt};
+ghost use Rattle.ring.specs.table.Ports.{PortValue, SitsFor, IsWonOrLost, IsSlotAt, MayFlipAt};
 
 use crate::ring::Ring;
 use crate::table::rule::Participants;
@@ -46,6 +46,14 @@ impl Port {
         ensures { StandsInARun self.now.ring.made_with self.now.who self.now.trail }
     {
         let _ = &self.seat;
+    }
+
+    /// The seat by itself.
+    pub(crate) fn into_seat(self) -> Seat<(), Participants>
+        ensures { SitsFor result.table_id result.me self.ring self.who self.trail }
+    {
+        let Port { seat } = self;
+        seat
     }
 
     /// A load of the control word.

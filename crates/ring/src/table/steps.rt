@@ -3,7 +3,7 @@ ghost use Rattle.ring.specs.table.Intents.{Intent, looks, closes, asks};
 ghost use Rattle.ring.specs.table.StepEvents.{adds_for};
 
 use crate::table::rule::Participants;
-use atomic_table::{Play, Split};
+use atomic_table::{Join, Play, Split};
 use std::marker::{Brand, PhantomData};
 
 /// What a step is for. A call at `Brand` picks it from its arguments.
@@ -54,4 +54,16 @@ impl Split<Participants> for Deals {
     ghost left = { without_first };
 
     ghost right = { first_alone };
+}
+
+/// A seat takes in all for whom another stands.
+pub struct Gathers;
+
+impl Join<Participants> for Gathers {
+    ghost use Rattle.std.specs.Prelude.{[]};
+    ghost use Rattle.ring.specs.table.StepEvents.{both_of};
+
+    ghost both = { both_of };
+
+    ghost spent = { [] };
 }

@@ -1,5 +1,4 @@
-use Rattle.std.proofs.Common.{arith, ◌≡◌, ◌<◌, ◌≤◌, ℕ, suc, true, ◌∷◌, sym, ap, subst, ◌∙◌}
-use Rattle.cmdcodec.specs.Opcodes.{is_sync}
+use Rattle.std.proofs.Common.{arith, ◌≡◌, ◌<◌, ◌≤◌, ℕ, suc, ◌∷◌, sym, ap, subst, ◌∙◌}
 use Rattle.ringcore.specs.declared.world.event.Event.TheVariants.{Acknowledge}
 use Rattle.ringcore.specs.world.Trails.{acknowledged_by}
 use Rattle.ringcore.specs.world.Laws.{syncs_taken}

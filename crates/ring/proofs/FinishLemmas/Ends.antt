@@ -1,0 +1,143 @@
+-- What the joined seat shows.
+use Rattle.std.proofs.Common.{◌≡◌, ℕ, zero, suc, ◌+◌, ◌-◌, ◌<◌, List, [], ◌∷◌, ◌++◌, append-nil, map, length, length-append, Option, Some, None, refl, sym, ap, ◌∙◌, subst, append_assoc, arith}
+use Rattle.std.specs.Prelude.{slice_get, slice_index, SomeIff}
+use Rattle.std.specs.Option.{IsSome}
+use mathlib.Core.Option.{some, some-injective, some-ne-none}
+use lib.ListN.{get_elem?}
+use Rattle.atomic_table.specs.Table.{Final, Seen}
+use Rattle.cmdcodec.specs.declared.raw.Raw.{Raw}
+use Rattle.qindex.specs.declared.control.Control.{Control}
+use Rattle.qindex.specs.Indexes.{distance}
+use Rattle.qindex.specs.ControlWord.{IsControl, IsControlWord, control_in}
+use Rattle.qindex.specs.Laws.{QueuesHaveAControl, IndexesTellTheQueue, WordsSayTheirControl}
+use Rattle.ringcore.specs.declared.world.event.Who.TheVariants.{Consumer, Sender}
+use Rattle.ringcore.specs.world.Trails.{Run, trail_of, raws_by, taken_by}
+use Rattle.ringcore.specs.world.World.{tail, head, world, control}
+use Rattle.ringcore.specs.world.Allowed.{Ring, IsRun}
+use Rattle.ringcore.specs.world.Delivery.{Begins, TakenInOrder, NumberedInOrder, NoneAfterClose, ToldWhenCompleted, batches, joined, advanced}
+use Rattle.ringcore.specs.world.Laws.{EveryRun, NeverMoreThanFull, ToldOfAllUpTo, AllOfBatches, ClosedByAClose, BatchesHaveOwners, SendersOrderIsKept, own_batches}
+use Rattle.ringcore.specs.world.ConsumerLaws.{TellsTheHead, TellsWhatIsAdvanced, TellsTheOutcomes, RawsAreCounted}
+use Rattle.ringcore.specs.memory.StepLaws.{Always, HasAControlWord}
+use Rattle.ring.specs.declared.table.rule.Participant.{Participant}
+use Rattle.ring.specs.Rings.{RingValue}
+use Rattle.ring.specs.table.Rule.{participant, HasTrails, RuleHolds}
+use Rattle.ring.specs.sender.Senders.{SenderValue}
+use Rattle.ring.specs.consumer.Consumers.{ConsumerValue}
+use Rattle.ring.specs.consumer.Completing.{taken_of}
+use Rattle.ring.specs.Finishing.{AreAll, sender_in, all_in, IsRunOf, IsEnd}
+use Rattle.ring.proofs.FinishLemmas.Told.{was_told}
+
+pub is_there : {A : Type 0} (o : Option A) (P : Type 0) (v : A) → SomeIff o P v → P → IsSome o
+is_there None P v iff p = absurd (iff p)
+is_there (Some x) P v iff p = refl
+
+pub that_there : {A : Type 0} (o : Option A) (P : Type 0) (v x : A) → SomeIff o P v → o ≡ Some x → x ≡ v
+that_there None P v x iff e = absurd (cc)
+that_there (Some y) P v x iff e = (let same : y ≡ x = cc in sym same) ∙ iff.1
+
+-- a beginning that is as long is the whole
+beginning_is_whole : {A : Type 0} (xs ys : List A) → Begins xs ys → length xs ≡ length ys → xs ≡ ys
+beginning_is_whole {A = A} xs ys (rest, is) same = by_rest rest is
+  where
+    by_rest : (rest : List A) → ys ≡ xs ++ rest → xs ≡ ys
+    by_rest [] is = sym (append-nil xs) ∙ sym is
+    by_rest (z ∷ zs) is = let more : length ys ≡ length xs + length (z ∷ zs) = ap length is ∙ length-append xs (z ∷ zs) in absurd (omega (arith, more, same))
+
+-- ---- the seats, one after the other
+
+pub last_ring : (ring : RingValue) (all items new done : List SenderValue) (s : SenderValue) → AreAll ring all → all ≡ items ++ done → items ≡ new ++ s ∷ [] → s.ring ≡ ring
+last_ring ring all items new done s ok whole last =
+    (ok.each (length new) s (ap (λ (l : List SenderValue). slice_get l (length new)) (whole ∙ ap (λ (l : List SenderValue). l ++ done) last ∙ append_assoc new (s ∷ []) done) ∙ behind new)).0
+  where
+    behind : (xs : List SenderValue) → slice_get (xs ++ s ∷ done) (length xs) ≡ Some s
+    behind [] = refl
+    behind (x ∷ xs) = behind xs
+
+pub empty : {A : Type 0} (xs : List A) → length xs ≡ 0 → xs ≡ []
+empty [] h = refl
+empty (x ∷ xs) h = absurd (omega arith)
+
+sender_trail : (ring : Ring) (run : Run) (all : List SenderValue) (rest : List Participant) (k : ℕ) (s : SenderValue) → slice_get all k ≡ Some s → HasTrails ring run (map sender_in all ++ rest) → trail_of (Sender s.number) run ≡ s.trail
+sender_trail ring run [] rest k s at has = absurd (cc)
+sender_trail ring run (x ∷ xs) rest zero s at has = let e : x ≡ s = cc in subst (λ (y : SenderValue). trail_of (Sender y.number) run ≡ y.trail) e has.0.trail
+sender_trail ring run (x ∷ xs) rest (suc k) s at has = sender_trail ring run xs rest k s at has.1
+
+rest_trails : (ring : Ring) (run : Run) (all : List SenderValue) (rest : List Participant) → HasTrails ring run (map sender_in all ++ rest) → HasTrails ring run rest
+rest_trails ring run [] rest has = has
+rest_trails ring run (x ∷ xs) rest has = rest_trails ring run xs rest has.1
+
+first_is : (l : List ℕ) (x : ℕ) → get_elem? l 0 ≡ some x → slice_index l 0 ≡ x
+first_is [] x e = absurd (some-ne-none x (sym e))
+first_is (y ∷ l) x e = some-injective y x e
+
+-- ---- once the table is closed
+
+module _ (ring : RingValue) (senders : List SenderValue) (consumer : ConsumerValue) (id : ℕ) (v : List Participant) (ws : List ℕ) (ss : List (Unit {0}))
+    (closed : Final (Seen (RuleHolds ring.made_with) id v) ws ss) (v_is : v ≡ all_in ring.made_with consumer.trail senders) (all : AreAll ring senders) where
+  abbrev key : Ring
+  key = ring.made_with
+
+  abbrev k : RuleHolds key closed.0
+  k = closed.1.0
+
+  abbrev run : Run
+  run = k.run
+
+  ok : IsRun key run
+  ok = k.after.run_is
+
+  has : HasTrails key run (all_in key consumer.trail senders)
+  has = subst (HasTrails key run) v_is (k.seated id v closed.1.1).1
+
+  device : HasTrails key run (participant key Consumer consumer.trail ∷ [])
+  device = rest_trails key run senders (participant key Consumer consumer.trail ∷ []) has
+
+  word_at : (word : ℕ) → get_elem? ws 0 ≡ some word → slice_index closed.0.words 0 ≡ word
+  word_at word at = ap (λ (l : List ℕ). slice_index l 0) closed.2 ∙ first_is ws word at
+
+  pub is_control_word : Always HasAControlWord → (word : ℕ) → get_elem? ws 0 ≡ some word → IsControlWord key.geometry word
+  is_control_word law word at = subst (IsControlWord key.geometry) (word_at word at) (law key run closed.0.words k.after)
+
+  run_of : IsRunOf ring senders consumer run
+  run_of = record {
+    run_is = ok;
+    only = k.only;
+    of_senders = λ j s there. ap (λ (x : ℕ). trail_of (Sender x) run) (sym (all.each j s there).1) ∙ sender_trail key run senders (participant key Consumer consumer.trail ∷ []) j s there has;
+    of_consumer = device.0.trail;
+  }
+
+  pub end_is : EveryRun TakenInOrder → EveryRun NumberedInOrder → EveryRun NoneAfterClose → EveryRun ToldWhenCompleted → NeverMoreThanFull → EveryRun ToldOfAllUpTo
+      → EveryRun SendersOrderIsKept → EveryRun AllOfBatches → EveryRun ClosedByAClose → BatchesHaveOwners
+      → EveryRun TellsTheHead → EveryRun TellsWhatIsAdvanced → EveryRun TellsTheOutcomes → RawsAreCounted
+      → WordsSayTheirControl → QueuesHaveAControl → IndexesTellTheQueue
+      → (word taken far : ℕ) (c : Control) → get_elem? ws 0 ≡ some word → c ≡ control_in key.geometry word → taken ≡ taken_by consumer.trail → far ≡ distance c.prod c.cons
+      → IsEnd ring senders consumer record { reserved = taken + far; taken = taken; closed = c.closed }
+  end_is in_order numbered none_after told within told_of_all kept all_of closed_by owners tells_head tells_raws tells_outcomes counted said queue tells word taken far c at c_is taken_is far_is =
+      let w = world run in let g : ℕ = key.geometry in
+      let i = within key run ok in
+      let good : IsControl g (control g w) = queue g (tail w) (head w) w.closed k.after.geometry_is i.behind i.within in
+      let same : c ≡ control g w = c_is ∙ ap (control_in g) (sym (word_at word at) ∙ k.after.shadow.control_is) ∙ (said g (control g w) good).says in
+      let d : far ≡ tail w - head w = far_is ∙ ap (λ (x : Control). distance x.prod x.cons) same ∙ (tells g (tail w) (head w) k.after.geometry_is i.behind i.within).distance in
+      let h : head w ≡ taken = tells_head key run ok ∙ ap taken_by device.0.trail ∙ sym taken_is in
+      let t : tail w ≡ length (joined (batches run)) = all_of key run ok in
+      let behind = i.behind in
+      let raws : advanced run ≡ raws_by consumer.trail = tells_raws key run ok ∙ ap raws_by device.0.trail in
+      let begins : Begins (raws_by consumer.trail) (joined (batches run)) = subst (λ (l : List Raw). Begins l (joined (batches run))) raws (in_order key run ok) in
+      let reserved_is : taken + far ≡ length (joined (batches run)) = omega (arith, d, h, t, behind) in
+      let many : taken ≡ length (raws_by consumer.trail) = taken_is ∙ sym (counted consumer.trail) in
+      record {
+        run = run;
+        run_of = run_of;
+        delivery = record { taken = in_order key run ok; numbered = numbered key run ok; closed = none_after key run ok; told = told key run ok };
+        merge = record {
+          each = λ j s there. kept key run ok j ∙ ap (own_batches j) (run_of.of_senders j s there);
+          only = λ j b there. subst (λ (n : ℕ). b.sender < n) (sym all.many) (owners key.senders run k.only j b there);
+        };
+        taken_in_order = begins;
+        taken_list = tells_outcomes key run ok ∙ ap taken_of device.0.trail;
+        told = λ j s there newer older number at. was_told run j (told_of_all key run ok) newer older number (run_of.of_senders j s there ∙ at);
+        reserved = reserved_is;
+        taken = many;
+        closed = ap (λ (x : Control). x.closed) same ∙ closed_by key run ok;
+        whole = λ agree. beginning_is_whole (raws_by consumer.trail) (joined (batches run)) begins (sym many ∙ agree ∙ reserved_is);
+      }

@@ -1,0 +1,68 @@
+-- What is known once all seats are joined.
+use Rattle.std.specs.Prelude.{◌≡◌, ℕ, ◌<◌, ◌≤◌, Bool, List, [], ◌∷◌, ◌++◌, map, length, Some, slice_get}
+use Rattle.ringcore.specs.declared.world.event.Who.TheVariants.{Consumer, Sender}
+use Rattle.ringcore.specs.declared.world.event.Event.TheVariants.{Ask}
+use Rattle.ringcore.specs.world.Trails.{Run, Trail, trail_of, raws_by}
+use Rattle.ringcore.specs.world.World.{world}
+use Rattle.ringcore.specs.world.Allowed.{Ring, IsRun}
+use Rattle.ringcore.specs.world.Delivery.{Batch, batches, joined, has_close, Begins, IsOrderedDelivery}
+use Rattle.ringcore.specs.world.Laws.{OnlyOf, batches_of, own_batches, IsApplied}
+use Rattle.ring.specs.declared.table.rule.Participant.{Participant}
+use Rattle.ring.specs.Rings.{RingValue}
+use Rattle.ring.specs.table.Rule.{participant}
+use Rattle.ring.specs.sender.Senders.{SenderValue}
+use Rattle.ring.specs.consumer.Consumers.{ConsumerValue}
+use Rattle.ring.specs.consumer.Completing.{taken_of}
+
+pub record SummaryValue : Type 0 where
+  pub reserved : ℕ
+  pub taken : ℕ
+  pub closed : Bool
+
+-- all of the ring's senders, in the order of their numbers
+pub record AreAll (ring : RingValue) (all : List SenderValue) : Type 0 where
+  pub many : length all ≡ ring.made_with.senders
+  pub each : (k : ℕ) (s : SenderValue) → slice_get all k ≡ Some s → (s.ring ≡ ring) × (s.number ≡ k)
+
+-- those for whom the joined seat stands
+abbrev pub sender_in : SenderValue → Participant
+sender_in s = participant s.ring.made_with (Sender s.number) s.trail
+
+abbrev pub all_in : Ring → Trail → List SenderValue → List Participant
+all_in ring trail all = map sender_in all ++ participant ring Consumer trail ∷ []
+
+-- One run has the trails of all seats, and no other steps.
+pub record IsRunOf (ring : RingValue) (senders : List SenderValue) (consumer : ConsumerValue) (run : Run) : Type 0 where
+  pub run_is : IsRun ring.made_with run
+  pub only : OnlyOf ring.made_with.senders run
+  pub of_senders : (k : ℕ) (s : SenderValue) → slice_get senders k ≡ Some s → trail_of (Sender k) run ≡ s.trail
+  pub of_consumer : trail_of Consumer run ≡ consumer.trail
+
+-- Batches are a merge of the senders': those of each sender in its order, and nobody else's.
+pub record IsMerge (senders : List SenderValue) (all : List Batch) : Type 0 where
+  pub each : (k : ℕ) (s : SenderValue) → slice_get senders k ≡ Some s → batches_of k all ≡ own_batches k s.trail
+  pub only : (i : ℕ) (b : Batch) → slice_get all i ≡ Some b → b.sender < length senders
+
+-- An ask of a sender found this number: it stands in the run, and before it the closing syncs of all its numbers up to
+-- this one, and all that was reserved ahead of them, were taken and applied.
+pub record WasTold (run : Run) (s told : ℕ) (older : Trail) : Type 0 where
+  pub later : Run
+  pub earlier : Run
+  pub run_is : run ≡ later ++ (Sender s, Ask told) ∷ earlier
+  pub trail_is : trail_of (Sender s) earlier ≡ older
+  pub applied : (number : ℕ) → 1 ≤ number → number ≤ told → IsApplied earlier s number
+
+-- There is one run that has all trails. It is ordered delivery, of batches that are a merge of the senders'; the
+-- commands that are taken are a beginning of the merge, and the whole merge where as many were taken as reserved.
+pub record IsEnd (ring : RingValue) (senders : List SenderValue) (consumer : ConsumerValue) (end : SummaryValue) : Type 0 where
+  pub run : Run
+  pub run_of : IsRunOf ring senders consumer run
+  pub delivery : IsOrderedDelivery run
+  pub merge : IsMerge senders (batches run)
+  pub taken_in_order : Begins (raws_by consumer.trail) (joined (batches run))
+  pub taken_list : (world run).taken ≡ taken_of consumer.trail
+  pub told : (k : ℕ) (s : SenderValue) → slice_get senders k ≡ Some s → (newer older : Trail) (number : ℕ) → s.trail ≡ newer ++ Ask number ∷ older → WasTold run k number older
+  pub reserved : end.reserved ≡ length (joined (batches run))
+  pub taken : end.taken ≡ length (raws_by consumer.trail)
+  pub closed : end.closed ≡ has_close run
+  pub whole : end.taken ≡ end.reserved → raws_by consumer.trail ≡ joined (batches run)
