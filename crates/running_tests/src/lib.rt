@@ -5,8 +5,14 @@
 #[cfg(test)]
 mod batches;
 #[cfg(test)]
+mod consumer_tests;
+#[cfg(test)]
 mod device;
 #[cfg(test)]
+mod run_tests;
+#[cfg(test)]
 mod sender_tests;
+#[cfg(test)]
+mod steps;
 #[cfg(test)]
 mod thread_tests;

@@ -1,22 +1,9 @@
 //! What no clause says of the senders: the names of faults and causes, and that calls succeed.
-ghost use Rattle.std.specs.Prelude.{◌≡◌};
-
 use crate::batches::batch_of;
 use crate::device::NoEntries;
-use batch::Batch;
-use ring::{Cause, Refused, Ring, RingFault, Sender};
+use crate::steps::send;
+use ring::{Cause, Ring, RingFault};
 use std::alloc::AllocError;
-
-/// Sends a batch of so many commands once: the number of its CMD_SYNC, or why it is refused.
-fn send(ring: &Ring, sender: Sender, batch: &Batch) -> (Sender, Result<u32, Cause>)
-    requires { sender.ring ≡ ring.now }
-    ensures { result.0.ring ≡ ring.now }
-{
-    match sender.send(ring, batch, 1) {
-        Ok((sender, receipt)) => (sender, Ok(receipt.number())),
-        Err(Refused { sender, cause }) => (sender, Err(cause)),
-    }
-}
 
 #[test]
 fn faults_of_a_new_ring_have_names(rt: HostRuntime) {

@@ -1,0 +1,121 @@
+//! Worked rows of the consumer, by calls: laps, a stalled sender, a close, and a command that is put back.
+ghost use Rattle.std.specs.Prelude.{◌<◌, ◌^◌};
+
+use crate::batches::{CFGI_STE, batch_of};
+use crate::device::NoEntries;
+use crate::steps::{Head, finish, send, take_one};
+use cmdcodec::Raw;
+use ring::{Cause, Ring, RingFault, Taken};
+
+/// The CMD_SYNC of a sender's batch of this number.
+fn sync(sender: u64, number: u64) -> Head
+    requires sender { sender < 256 }
+    requires number { number < 2 ^ 32 }
+{
+    Head::Command(Raw {
+        lo: 0x1046 + number * 0x1_0000_0000,
+        hi: 0x4000_0000 + 4 * sender,
+    })
+}
+
+#[test]
+fn five_laps_of_two_slots(rt: HostRuntime) -> Result<(), RingFault> {
+    let (ring, mut senders, mut consumer) = Ring::new::<NoEntries>(rt.alloc(), 1, 1, 8)?;
+    let mut sender = senders.pop().expect(&rt, "one sender");
+    let one = batch_of(&rt, 1);
+    for number in 1..6 {
+        let Ok(mut reservation) = sender.reserve(&ring, &one) else {
+            return Ok(());
+        };
+        reservation.write_next(&ring);
+        let (again, receipt) = reservation.publish(&ring);
+        sender = again;
+        assert_eq!(rt; receipt.number(), number);
+        assert!(rt; !sender.is_done(&ring, &receipt));
+        let (next, first) = take_one(&ring, consumer);
+        let (next, second) = take_one(&ring, next);
+        consumer = next;
+        assert_eq!(rt;
+            (first, second),
+            (Head::Command(CFGI_STE), sync(0, u64::from(number)))
+        );
+        assert!(rt; sender.is_done(&ring, &receipt));
+        assert_eq!(rt; sender.done_up_to(&ring), number);
+    }
+    assert_eq!(rt; consumer.taken(), 10);
+    let end = finish(ring, senders, sender, consumer)?;
+    assert_eq!(rt;
+        (end.reserved(), end.taken(), end.closed()),
+        (10, 10, false)
+    );
+    Ok(())
+}
+
+#[test]
+fn a_stalled_sender(rt: HostRuntime) -> Result<(), RingFault> {
+    let (ring, mut senders, consumer) = Ring::new::<NoEntries>(rt.alloc(), 3, 2, 4)?;
+    let second = senders.pop().expect(&rt, "two senders");
+    let first = senders.pop().expect(&rt, "two senders");
+    let one = batch_of(&rt, 1);
+    let Ok(reservation) = first.reserve(&ring, &one) else {
+        return Ok(());
+    };
+    let (_second, sent) = send(&ring, second, &one);
+    assert_eq!(rt; sent, Ok(1));
+    let (consumer, head) = take_one(&ring, consumer);
+    assert_eq!(rt; head, Head::Unwritten);
+    let (_first, _receipt) = reservation.publish(&ring);
+    let (consumer, head) = take_one(&ring, consumer);
+    assert_eq!(rt; head, Head::Command(CFGI_STE));
+    let (consumer, head) = take_one(&ring, consumer);
+    assert_eq!(rt; head, sync(0, 1));
+    let (consumer, head) = take_one(&ring, consumer);
+    assert_eq!(rt; head, Head::Command(CFGI_STE));
+    let (consumer, head) = take_one(&ring, consumer);
+    assert_eq!(rt; head, sync(1, 1));
+    let (_consumer, head) = take_one(&ring, consumer);
+    assert_eq!(rt; head, Head::Empty);
+    Ok(())
+}
+
+#[test]
+fn a_close_while_a_reservation_is_open(rt: HostRuntime) -> Result<(), RingFault> {
+    let (ring, mut senders, consumer) = Ring::new::<NoEntries>(rt.alloc(), 3, 2, 4)?;
+    let mut second = senders.pop().expect(&rt, "two senders");
+    let first = senders.pop().expect(&rt, "two senders");
+    let one = batch_of(&rt, 1);
+    let Ok(reservation) = first.reserve(&ring, &one) else {
+        return Ok(());
+    };
+    second.close(&ring);
+    let (_second, refused) = send(&ring, second, &one);
+    assert_eq!(rt; refused, Err(Cause::Closed));
+    let (consumer, head) = take_one(&ring, consumer);
+    assert_eq!(rt; head, Head::Unwritten);
+    let (_first, _receipt) = reservation.publish(&ring);
+    let (consumer, head) = take_one(&ring, consumer);
+    assert_eq!(rt; head, Head::Command(CFGI_STE));
+    let (consumer, head) = take_one(&ring, consumer);
+    assert_eq!(rt; head, sync(0, 1));
+    let (mut consumer, head) = take_one(&ring, consumer);
+    assert_eq!(rt; head, Head::Drained);
+    assert_eq!(rt; consumer.look(&ring).prod_register(), 2);
+    Ok(())
+}
+
+#[test]
+fn a_command_that_is_put_back_comes_again(rt: HostRuntime) -> Result<(), RingFault> {
+    let (ring, mut senders, consumer) = Ring::new::<NoEntries>(rt.alloc(), 2, 1, 4)?;
+    let sender = senders.pop().expect(&rt, "one sender");
+    let (_sender, sent) = send(&ring, sender, &batch_of(&rt, 2));
+    assert_eq!(rt; sent, Ok(1));
+    let pending = match consumer.take(&ring) {
+        Taken::Empty(_) | Taken::Drained(_) | Taken::Unwritten(_) => return Ok(()),
+        Taken::Ready(pending) => pending,
+    };
+    let raw = pending.raw();
+    let (consumer, head) = take_one(&ring, pending.put_back());
+    assert_eq!(rt; head, Head::Command(raw));
+    assert_eq!(rt; consumer.taken(), 1);
+    Ok(())
+}
