@@ -1,169 +1,235 @@
 //! What no clause says: the words of some batches, the texts of faults, and which of two faults is told.
-ghost use Rattle.std.specs.Prelude.{◌<◌, ◌≤◌, ◌^◌};
-
+use crate::answers::{expect_text, none};
+use crate::cmdcodec_tests::words::{raw, words};
+use crate::numbers::{next_u64, number};
 use batch::{Batch, BatchFault};
-use cmdcodec::{Asid, Command, Page, Raw, Sid, Vmid};
+use cmdcodec::{Asid, Page, Raw, Sid, Vmid, decode};
+use std::alloc::Global;
 use std::process::Abort;
 
 const CFGI_STE: Raw = Raw { lo: 0x03, hi: 0 };
 
 const CMD_SYNC: Raw = Raw { lo: 0x46, hi: 0 };
 
-/// A batch of so many commands.
-fn batch_of(rt: &impl Abort, count: usize) -> Batch
-    requires { count ≤ 64 }
-{
-    Batch::from_raws(&[CFGI_STE; 64][..count]).expect(rt, "1 to 63 commands")
+/// The virtual machine and the address space of all ranges.
+fn space() -> (Vmid, Asid) {
+    (Vmid::new(1).unwrap(), Asid::new(2).unwrap())
 }
 
-fn range(page: u64, pages: u64) -> Result<Batch, BatchFault>
-    requires { page < 2 ^ 52 }
-{
-    let (vmid, asid) = (Vmid::new(1).unwrap(), Asid::new(2).unwrap());
-    Batch::range(vmid, asid, Page::new(page).unwrap(), pages)
+fn range(asked: &str) -> Option<Result<Batch, BatchFault>> {
+    let mut numbers = asked.split_whitespace();
+    let (vmid, asid) = space();
+    let page = Page::new(next_u64(&mut numbers)?)?;
+    Some(Batch::range(vmid, asid, page, next_u64(&mut numbers)?))
 }
 
-fn invalidate(batch: &mut Batch, page: u64, pages: u64) -> Result<(), BatchFault>
-    requires { page < 2 ^ 52 }
-{
-    let (vmid, asid) = (Vmid::new(1).unwrap(), Asid::new(2).unwrap());
-    batch.invalidate_range(vmid, asid, Page::new(page).unwrap(), pages)
+fn invalidate(batch: &mut Batch, asked: &str) -> Option<Result<(), BatchFault>> {
+    let mut numbers = asked.split_whitespace();
+    let (vmid, asid) = space();
+    let page = Page::new(next_u64(&mut numbers)?)?;
+    Some(batch.invalidate_range(vmid, asid, page, next_u64(&mut numbers)?))
 }
 
-fn length_of(batch: Result<Batch, BatchFault>) -> Result<usize, BatchFault> {
-    match batch {
-        Ok(batch) => Ok(batch.len()),
-        Err(fault) => Err(fault),
+/// A list of so many commands, with a CMD_SYNC at the place that is named, if one is.
+fn list(asked: &str) -> Option<Result<Batch, BatchFault>> {
+    let mut numbers = asked.split_whitespace();
+    let count = next_u64(&mut numbers)?;
+    let mut raws = [CFGI_STE; 64];
+    if let Some(word) = numbers.next() {
+        let place = number(word)?;
+        if place < 64 {
+            raws[place as usize] = CMD_SYNC;
+        }
+    }
+    if count > 64 {
+        return None;
+    }
+    Some(Batch::from_raws(&raws[..count as usize]))
+}
+
+fn push(batch: &mut Batch, asked: &str) -> Option<Result<(), BatchFault>> {
+    match decode(raw(asked)?) {
+        Ok(command) => Some(batch.push(&command)),
+        Err(_) => None,
     }
 }
 
-fn words(lo: u64, hi: u64) -> Option<Raw> {
-    Some(Raw { lo, hi })
+/// The batch that a call makes, if it is one that makes a batch.
+fn maker(name: &str, asked: &str) -> Option<Result<Batch, BatchFault>> {
+    match name {
+        "new" => Some(Batch::new(raw(asked)?)),
+        "list" => list(asked),
+        "range" => range(asked),
+        "detach" => Some(Batch::detach(Sid::new(number(asked)?)?)),
+        _ => None,
+    }
+}
+
+/// Puts a batch that was made in the place of another.
+fn replace(batch: &mut Batch, made: Result<Batch, BatchFault>) -> Result<(), BatchFault> {
+    *batch = made?;
+    Ok(())
+}
+
+/// What a call comes to that may change the batch.
+fn change(batch: &mut Batch, name: &str, asked: &str) -> Option<Result<(), BatchFault>> {
+    match name {
+        "push" => push(batch, asked),
+        "push_raw" => Some(batch.push_raw(raw(asked)?)),
+        "invalidate" => invalidate(batch, asked),
+        "detach_stream" => Some(batch.detach_stream(Sid::new(number(asked)?)?)),
+        _ => Some(replace(batch, maker(name, asked)?)),
+    }
+}
+
+fn get(alloc: Global, batch: &Batch, asked: &str) -> Option<String> {
+    match batch.get(usize::try_from(number(asked)?).ok()?) {
+        Some(raw) => words(alloc, raw),
+        None => none(alloc),
+    }
+}
+
+/// The answer to a call: where it may change the batch, the length that the batch then has, or the fault.
+fn answer(alloc: Global, batch: &mut Batch, call: &str) -> Option<String> {
+    let (name, asked) = call.split_once(" ").unwrap_or((call, ""));
+    if name == "get" {
+        return get(alloc, batch, asked);
+    }
+    if name == "len" {
+        return batch.len().to_string(alloc).ok();
+    }
+    match change(batch, name, asked)? {
+        Ok(()) => batch.len().to_string(alloc).ok(),
+        Err(fault) => fault.to_string(alloc).ok(),
+    }
+}
+
+/// Makes the calls of a text on one batch after another, and wants of each the answer that stands behind it.
+fn expect_answers<R: AllocGlobal + Abort>(rt: &R, calls: &str) {
+    let mut batch = Batch::new(CFGI_STE).expect(rt, "no sync");
+    for line in calls.lines() {
+        let (call, wanted) = line.split_once(" = ").unwrap_or((line, ""));
+        expect_text(rt, line, answer(rt.alloc(), &mut batch, call), wanted);
+    }
 }
 
 #[test]
 fn pages_become_ranges(rt: HostRuntime) {
-    let two = range(0x10, 2).expect(&rt, "two pages");
-    assert_eq!(rt; two.get(0), words(0x0002_0001_0010_0012, 0x1_0401));
-    assert_eq!(rt; two.get(1), None);
-    let more = range(0x10, 33).expect(&rt, "33 pages");
-    assert_eq!(rt; more.get(0), words(0x0002_0001_0000_0012, 0x1_0001));
-    assert_eq!(rt; more.get(1), words(0x0002_0001_0050_0012, 0x1_1401));
-    assert_eq!(rt; more.get(2), None);
+    expect_answers(
+        &rt,
+        "range 0x10 2 = 1\n\
+         get 0 = 0x2000100100012 0x10401\n\
+         get 1 = none\n\
+         range 0x10 33 = 2\n\
+         get 0 = 0x2000100000012 0x10001\n\
+         get 1 = 0x2000100500012 0x11401\n\
+         get 2 = none",
+    );
 }
 
 #[test]
 fn many_pages_are_many_commands(rt: HostRuntime) {
-    assert_eq!(rt; length_of(range(0, 64)), Ok(1));
-    assert_eq!(rt; length_of(range(0, 1 << 41)), Ok(32));
-    assert_eq!(rt; length_of(range(0, 1 << 42)), Err(BatchFault::Full));
+    expect_answers(
+        &rt,
+        "range 0 64 = 1\n\
+         range 0 0x20000000000 = 32\n\
+         range 0 0x40000000000 = B1",
+    );
 }
 
 #[test]
 fn ranges_end_with_the_address_space(rt: HostRuntime) {
-    assert_eq!(rt; length_of(range(0xf_ffff_ffff_ffff, 1)), Ok(1));
-    assert_eq!(rt;
-        length_of(range(0xf_ffff_ffff_ffff, 2)),
-        Err(BatchFault::PastEnd)
+    expect_answers(
+        &rt,
+        "range 0xfffffffffffff 1 = 1\n\
+         range 0xfffffffffffff 2 = B4\n\
+         range 1 0xffffffffffffffff = B4\n\
+         range 0 0 = B3",
     );
-    assert_eq!(rt; length_of(range(1, u64::MAX)), Err(BatchFault::PastEnd));
-    assert_eq!(rt; length_of(range(0, 0)), Err(BatchFault::NoPages));
 }
 
 #[test]
 fn a_full_batch_takes_no_range(rt: HostRuntime) {
-    let mut batch = batch_of(&rt, 63);
-    assert_eq!(rt; invalidate(&mut batch, 0, 0), Err(BatchFault::NoPages));
-    assert_eq!(rt;
-        invalidate(&mut batch, 0xf_ffff_ffff_ffff, 2),
-        Err(BatchFault::PastEnd)
+    expect_answers(
+        &rt,
+        "list 63 = 63\n\
+         invalidate 0 0 = B3\n\
+         invalidate 0xfffffffffffff 2 = B4\n\
+         invalidate 0 64 = B1\n\
+         len = 63",
     );
-    assert_eq!(rt; invalidate(&mut batch, 0, 64), Err(BatchFault::Full));
-    assert_eq!(rt; batch.len(), 63);
 }
 
 #[test]
 fn a_range_is_appended_whole_or_not(rt: HostRuntime) {
-    let mut batch = batch_of(&rt, 61);
-    assert_eq!(rt; invalidate(&mut batch, 0, 33), Ok(()));
-    assert_eq!(rt; batch.len(), 63);
-    let mut batch = batch_of(&rt, 62);
-    assert_eq!(rt; invalidate(&mut batch, 0, 33), Err(BatchFault::Full));
-    assert_eq!(rt; batch.len(), 62);
+    expect_answers(
+        &rt,
+        "list 61 = 61\n\
+         invalidate 0 33 = 63\n\
+         len = 63\n\
+         list 62 = 62\n\
+         invalidate 0 33 = B1\n\
+         len = 62",
+    );
 }
 
 #[test]
 fn a_stream_is_detached(rt: HostRuntime) {
-    let sid = Sid::new(5).unwrap();
-    let batch = Batch::detach(sid).unwrap();
-    assert_eq!(rt; batch.get(0), words(0x5_0000_0003, 0x1));
-    assert_eq!(rt; batch.get(1), words(0x5_0000_0006, 0x0));
-    assert_eq!(rt; batch.get(2), words(0x5_0000_0040, 0x34));
-    assert_eq!(rt; batch.len(), 3);
-    let mut batch = batch_of(&rt, 60);
-    assert_eq!(rt; batch.detach_stream(sid), Ok(()));
-    assert_eq!(rt; batch.len(), 63);
-    assert_eq!(rt; batch.get(62), words(0x5_0000_0040, 0x34));
-    let mut batch = batch_of(&rt, 61);
-    assert_eq!(rt; batch.detach_stream(sid), Err(BatchFault::Full));
-    assert_eq!(rt; batch.len(), 61);
+    expect_answers(
+        &rt,
+        "detach 5 = 3\n\
+         get 0 = 0x500000003 0x1\n\
+         get 1 = 0x500000006 0x0\n\
+         get 2 = 0x500000040 0x34\n\
+         len = 3\n\
+         list 60 = 60\n\
+         detach_stream 5 = 63\n\
+         len = 63\n\
+         get 62 = 0x500000040 0x34\n\
+         list 61 = 61\n\
+         detach_stream 5 = B1\n\
+         len = 61",
+    );
 }
 
 #[test]
 fn lists_are_refused_in_order(rt: HostRuntime) {
-    let mut many = [CFGI_STE; 64];
-    assert_eq!(rt;
-        length_of(Batch::from_raws(&many[..0])),
-        Err(BatchFault::Empty)
-    );
-    assert_eq!(rt; length_of(Batch::from_raws(&many[..63])), Ok(63));
-    assert_eq!(rt; length_of(Batch::from_raws(&many)), Err(BatchFault::Full));
-    many[7] = CMD_SYNC;
-    assert_eq!(rt; length_of(Batch::from_raws(&many)), Err(BatchFault::Full));
-    assert_eq!(rt;
-        length_of(Batch::from_raws(&many[..63])),
-        Err(BatchFault::SyncInside)
+    expect_answers(
+        &rt,
+        "list 0 = B5\n\
+         list 63 = 63\n\
+         list 64 = B1\n\
+         list 64 7 = B1\n\
+         list 63 7 = B2",
     );
 }
 
+// An unknown opcode is no CMD_SYNC.
 #[test]
 fn commands_are_appended(rt: HostRuntime) {
-    let mut batch = Batch::new(CFGI_STE).expect(&rt, "no sync");
-    assert_eq!(rt; batch.push(&Command::TlbiEl2All), Ok(()));
-    // An unknown opcode is no CMD_SYNC.
-    assert_eq!(rt; batch.push_raw(Raw { lo: 0xff, hi: 1 }), Ok(()));
-    assert_eq!(rt; batch.len(), 3);
-    assert_eq!(rt; batch.get(0), Some(CFGI_STE));
-    assert_eq!(rt; batch.get(1), words(0x20, 0));
-    assert_eq!(rt; batch.get(2), words(0xff, 1));
-    assert_eq!(rt; batch.get(3), None);
+    expect_answers(
+        &rt,
+        "new 0x3 0x0 = 1\n\
+         push 0x20 0x0 = 2\n\
+         push_raw 0xff 0x1 = 3\n\
+         len = 3\n\
+         get 0 = 0x3 0x0\n\
+         get 1 = 0x20 0x0\n\
+         get 2 = 0xff 0x1\n\
+         get 3 = none",
+    );
 }
 
+// An illegal CMD_SYNC too.
 #[test]
 fn a_sync_is_told_ahead_of_a_full_batch(rt: HostRuntime) {
-    assert_eq!(rt;
-        length_of(Batch::new(CMD_SYNC)),
-        Err(BatchFault::SyncInside)
+    expect_answers(
+        &rt,
+        "new 0x46 0x0 = B2\n\
+         list 63 = 63\n\
+         push_raw 0x3046 0x0 = B2\n\
+         push_raw 0x3 0x0 = B1\n\
+         push 0x20 0x0 = B1\n\
+         len = 63",
     );
-    let mut batch = batch_of(&rt, 63);
-    // An illegal CMD_SYNC too.
-    let illegal = Raw { lo: 0x3046, hi: 0 };
-    assert_eq!(rt; batch.push_raw(illegal), Err(BatchFault::SyncInside));
-    assert_eq!(rt; batch.push_raw(CFGI_STE), Err(BatchFault::Full));
-    assert_eq!(rt; batch.push(&Command::TlbiEl2All), Err(BatchFault::Full));
-    assert_eq!(rt; batch.len(), 63);
-}
-
-#[test]
-fn faults_have_their_numbers(rt: HostRuntime) {
-    for (fault, text) in [
-        (BatchFault::Full, "B1"),
-        (BatchFault::SyncInside, "B2"),
-        (BatchFault::NoPages, "B3"),
-        (BatchFault::PastEnd, "B4"),
-        (BatchFault::Empty, "B5"),
-    ] {
-        let told = fault.to_string(rt.alloc()).expect(&rt, "memory");
-        assert_eq!(rt; told.as_str(), text);
-    }
 }

@@ -1,5 +1,6 @@
 //! Tests of script, schedule and replay. They stand in a crate of their own, since a build of a crate's tests
-//! proves the crate once more.
+//! proves the crate once more. Helpers hold what is the same in several tests, since the prover takes long over
+//! each loop and each comparison.
 #![tactic(auto)]
 
 #[cfg(test)]
@@ -8,3 +9,7 @@ mod replay_tests;
 mod schedule_tests;
 #[cfg(test)]
 mod script_tests;
+#[cfg(test)]
+mod served;
+#[cfg(test)]
+mod telling;

@@ -37,7 +37,8 @@ impl Page {
         ensures value { result ≡ self }
         ensures in_range { result < 2 ^ 52 }
     {
-        self.number
+        let Page { number } = self;
+        number
     }
 }
 
@@ -75,7 +76,8 @@ impl IpaPage {
         ensures value { result ≡ self }
         ensures in_range { result < 2 ^ 40 }
     {
-        self.number
+        let IpaPage { number } = self;
+        number
     }
 }
 

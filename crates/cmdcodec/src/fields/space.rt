@@ -37,7 +37,8 @@ impl Vmid {
         ensures value { result ≡ self }
         ensures in_range { result < 2 ^ 16 }
     {
-        self.id
+        let Vmid { id } = self;
+        id
     }
 }
 
@@ -74,6 +75,7 @@ impl Asid {
         ensures value { result ≡ self }
         ensures in_range { result < 2 ^ 16 }
     {
-        self.id
+        let Asid { id } = self;
+        id
     }
 }

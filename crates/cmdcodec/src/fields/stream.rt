@@ -37,7 +37,8 @@ impl Sid {
         ensures value { result ≡ self }
         ensures in_range { result < 2 ^ 32 }
     {
-        self.id
+        let Sid { id } = self;
+        id
     }
 }
 
@@ -74,7 +75,8 @@ impl Ssid {
         ensures value { result ≡ self }
         ensures in_range { result < 2 ^ 20 }
     {
-        self.id
+        let Ssid { id } = self;
+        id
     }
 }
 

@@ -1,73 +1,102 @@
 //! The field types, at their limits.
+use crate::answers::{expect_answers, none};
+use crate::numbers::number;
 use cmdcodec::{
     Asid, Attr, Cs, Granule, IpaPage, Msh, MsiWord, Page, RangeCount, RangeScale, Sid, Size, Ssid,
     StreamRange, Vmid,
 };
+use std::alloc::Global;
 
-#[test]
-fn fields_end_at_their_limits(rt: HostRuntime) {
-    assert_eq!(rt;
-        Sid::new(0xffff_ffff).map(|field| field.get()),
-        Some(0xffff_ffff)
-    );
-    assert_eq!(rt; Sid::new(0x1_0000_0000), None);
-    assert_eq!(rt;
-        Ssid::new(0xf_ffff).map(|field| field.get()),
-        Some(0xf_ffff)
-    );
-    assert_eq!(rt; Ssid::new(0x10_0000), None);
-    assert_eq!(rt; Vmid::new(0xffff).map(|field| field.get()), Some(0xffff));
-    assert_eq!(rt; Vmid::new(0x1_0000), None);
-    assert_eq!(rt; Asid::new(0xffff).map(|field| field.get()), Some(0xffff));
-    assert_eq!(rt; Asid::new(0x1_0000), None);
-    assert_eq!(rt;
-        Page::new(0xf_ffff_ffff_ffff).map(|field| field.get()),
-        Some(0xf_ffff_ffff_ffff)
-    );
-    assert_eq!(rt; Page::new(0x10_0000_0000_0000), None);
-    assert_eq!(rt;
-        IpaPage::new(0xff_ffff_ffff).map(|field| field.get()),
-        Some(0xff_ffff_ffff)
-    );
-    assert_eq!(rt; IpaPage::new(0x100_0000_0000), None);
-    assert_eq!(rt; StreamRange::new(31).map(|field| field.get()), Some(31));
-    assert_eq!(rt; StreamRange::new(32), None);
-    assert_eq!(rt; Size::new(52).map(|field| field.get()), Some(52));
-    assert_eq!(rt; Size::new(53), None);
-    assert_eq!(rt; Cs::new(2).map(|field| field.get()), Some(2));
-    assert_eq!(rt; Cs::new(3), None);
-    assert_eq!(rt; Msh::new(3).map(|field| field.get()), Some(3));
-    assert_eq!(rt; Msh::new(4), None);
-    assert_eq!(rt; Attr::new(15).map(|field| field.get()), Some(15));
-    assert_eq!(rt; Attr::new(16), None);
-    assert_eq!(rt;
-        MsiWord::new(0x3_ffff_ffff_ffff).map(|field| field.get()),
-        Some(0x3_ffff_ffff_ffff)
-    );
-    assert_eq!(rt; MsiWord::new(0x4_0000_0000_0000), None);
-    assert_eq!(rt; RangeCount::new(31).map(|field| field.get()), Some(31));
-    assert_eq!(rt; RangeCount::new(32), None);
-    assert_eq!(rt; RangeScale::new(31).map(|field| field.get()), Some(31));
-    assert_eq!(rt; RangeScale::new(32), None);
+/// What a field type's `get` answers for what its `new` made of a number.
+fn got(name: &str, number: u64) -> Option<u64> {
+    Some(match name {
+        "Sid" => u64::from(Sid::new(number)?.get()),
+        "Ssid" => u64::from(Ssid::new(number)?.get()),
+        "Vmid" => u64::from(Vmid::new(number)?.get()),
+        "Asid" => u64::from(Asid::new(number)?.get()),
+        "Page" => Page::new(number)?.get(),
+        "IpaPage" => IpaPage::new(number)?.get(),
+        "StreamRange" => u64::from(StreamRange::new(number)?.get()),
+        "Size" => u64::from(Size::new(number)?.get()),
+        "Cs" => u64::from(Cs::new(number)?.get()),
+        "Msh" => u64::from(Msh::new(number)?.get()),
+        "Attr" => u64::from(Attr::new(number)?.get()),
+        "MsiWord" => MsiWord::new(number)?.get(),
+        "RangeCount" => u64::from(RangeCount::new(number)?.get()),
+        "RangeScale" => u64::from(RangeScale::new(number)?.get()),
+        "Granule" => u64::from(Granule::new(number)?.get()),
+        "pages" => Granule::new(number)?.pages(),
+        _ => return None,
+    })
 }
 
-#[test]
-fn granules_are_numbered_from_1(rt: HostRuntime) {
-    for (granule, number, pages) in [
-        (Granule::Kib4, 1, 1),
-        (Granule::Kib16, 2, 4),
-        (Granule::Kib64, 3, 16),
-    ] {
-        assert_eq!(rt; granule.get(), number);
-        assert_eq!(rt; Granule::new(u64::from(number)), Some(granule));
-        assert_eq!(rt; granule.pages(), pages);
+/// The same of a name and a number, as a text.
+pub fn field(alloc: Global, asked: &str) -> Option<String> {
+    let (name, digits) = asked.split_once(" ")?;
+    match got(name, number(digits)?) {
+        Some(number) => format!(in alloc; "{number:#x}").ok(),
+        None => none(alloc),
     }
 }
 
 #[test]
-fn no_granule_has_another_number(rt: HostRuntime) {
-    assert_eq!(rt; Granule::new(0), None);
-    assert_eq!(rt; Granule::new(4), None);
+fn fields_have_their_greatest_number(rt: HostRuntime) {
+    expect_answers(
+        &rt,
+        "field Sid 0xffffffff = 0xffffffff\n\
+         field Ssid 0xfffff = 0xfffff\n\
+         field Vmid 0xffff = 0xffff\n\
+         field Asid 0xffff = 0xffff\n\
+         field Page 0xfffffffffffff = 0xfffffffffffff\n\
+         field IpaPage 0xffffffffff = 0xffffffffff\n\
+         field StreamRange 31 = 0x1f\n\
+         field Size 52 = 0x34\n\
+         field Cs 2 = 0x2\n\
+         field Msh 3 = 0x3\n\
+         field Attr 15 = 0xf\n\
+         field MsiWord 0x3ffffffffffff = 0x3ffffffffffff\n\
+         field RangeCount 31 = 0x1f\n\
+         field RangeScale 31 = 0x1f",
+    );
+}
+
+#[test]
+fn fields_have_no_greater_number(rt: HostRuntime) {
+    expect_answers(
+        &rt,
+        "field Sid 0x100000000 = none\n\
+         field Ssid 0x100000 = none\n\
+         field Vmid 0x10000 = none\n\
+         field Asid 0x10000 = none\n\
+         field Page 0x10000000000000 = none\n\
+         field IpaPage 0x10000000000 = none\n\
+         field StreamRange 32 = none\n\
+         field Size 53 = none\n\
+         field Cs 3 = none\n\
+         field Msh 4 = none\n\
+         field Attr 16 = none\n\
+         field MsiWord 0x4000000000000 = none\n\
+         field RangeCount 32 = none\n\
+         field RangeScale 32 = none",
+    );
+}
+
+#[test]
+fn granules_are_numbered_from_1(rt: HostRuntime) {
+    assert_eq!(rt; Granule::new(1), Some(Granule::Kib4));
+    assert_eq!(rt; Granule::new(2), Some(Granule::Kib16));
+    assert_eq!(rt; Granule::new(3), Some(Granule::Kib64));
+    expect_answers(
+        &rt,
+        "field Granule 0 = none\n\
+         field Granule 1 = 0x1\n\
+         field Granule 2 = 0x2\n\
+         field Granule 3 = 0x3\n\
+         field Granule 4 = none\n\
+         field pages 1 = 0x1\n\
+         field pages 2 = 0x4\n\
+         field pages 3 = 0x10",
+    );
 }
 
 #[test]

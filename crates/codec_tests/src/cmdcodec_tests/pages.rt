@@ -1,52 +1,42 @@
 //! Which pages the invalidations by address reach.
-use cmdcodec::{PageRun, Raw, decode};
+use crate::answers::{expect_answers, none};
+use crate::cmdcodec_tests::words::raw;
+use cmdcodec::{PageRun, decode};
+use std::alloc::Global;
 
-fn pages_of(lo: u64, hi: u64) -> Option<PageRun> {
-    match decode(Raw { lo, hi }) {
-        Ok(command) => command.pages(),
-        Err(_) => None,
+/// The first page that a command reaches, and the one behind its last.
+pub fn pages(alloc: Global, asked: &str) -> Option<String> {
+    let Ok(command) = decode(raw(asked)?) else {
+        return None;
+    };
+    match command.pages() {
+        Some(PageRun { first, end }) => format!(in alloc; "{first:#x} {end:#x}").ok(),
+        None => none(alloc),
     }
 }
 
 #[test]
-fn invalidations_reach_their_pages(rt: HostRuntime) {
-    let table = [
-        // One page.
-        (0x12, 0x1000_0000, 0x1_0000, 0x1_0001),
-        (
-            0x12,
-            0xffff_ffff_ffff_f000,
-            0xf_ffff_ffff_ffff,
-            0x10_0000_0000_0000,
-        ),
-        // Four times four granules of a page.
-        (0x0020_3012, 0x1_0400, 0x10, 0x20),
-        // One granule of 4 pages, and one of 16, from a page inside.
-        (0x13, 0x1_3800, 0x10, 0x14),
-        (0x22, 0x1_3c00, 0x10, 0x20),
-        // As many granules as there can be.
-        (0x01f1_f023, 0x0c00, 0, 0x100_0000_0000),
-        // Cut at the end of the address space, which is a smaller one for intermediate physical pages.
-        (
-            0x01f1_f023,
-            0xffff_ffff_ffff_f400,
-            0xf_ffff_ffff_ffff,
-            0x10_0000_0000_0000,
-        ),
-        (
-            0x01f1_f02a,
-            0x000f_ffff_ffff_fc00,
-            0xff_ffff_fff0,
-            0x100_0000_0000,
-        ),
-    ];
-    for (lo, hi, first, end) in table {
-        assert_eq!(rt;
-            pages_of(lo, hi),
-            Some(PageRun { first, end }),
-            "at {lo:x} {hi:x}"
-        );
-    }
-    assert_eq!(rt; pages_of(0x10, 0), None);
-    assert_eq!(rt; pages_of(0x40, 0), None);
+fn single_pages_are_reached(rt: HostRuntime) {
+    expect_answers(
+        &rt,
+        "pages 0x12 0x10000000 = 0x10000 0x10001\n\
+         pages 0x12 0xfffffffffffff000 = 0xfffffffffffff 0x10000000000000\n\
+         pages 0x10 0x0 = none\n\
+         pages 0x40 0x0 = none",
+    );
+}
+
+// Four times four granules of a page; one granule of 4 pages, and one of 16, from a page inside; as many granules as
+// there can be; and two cut at the end of the address space, which is a smaller one for intermediate physical pages.
+#[test]
+fn ranges_are_reached(rt: HostRuntime) {
+    expect_answers(
+        &rt,
+        "pages 0x00203012 0x10400 = 0x10 0x20\n\
+         pages 0x13 0x13800 = 0x10 0x14\n\
+         pages 0x22 0x13c00 = 0x10 0x20\n\
+         pages 0x01f1f023 0xc00 = 0x0 0x10000000000\n\
+         pages 0x01f1f023 0xfffffffffffff400 = 0xfffffffffffff 0x10000000000000\n\
+         pages 0x01f1f02a 0x000ffffffffffc00 = 0xfffffffff0 0x10000000000",
+    );
 }

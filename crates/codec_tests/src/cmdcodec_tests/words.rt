@@ -1,29 +1,54 @@
 //! Words, bytes and lists of commands.
+use crate::answers::{expect_answers, none};
+use crate::numbers::{next_u32, next_u64, number};
 use cmdcodec::{
     Opcode, Raw, RawList, cell_address, cell_owner, closing_sync, decode, encode, from_bytes,
     to_bytes,
 };
+use std::alloc::Global;
+
+/// The words that a text says, lo and hi.
+pub fn raw(text: &str) -> Option<Raw> {
+    let mut words = text.split_whitespace();
+    let lo = next_u64(&mut words)?;
+    let hi = next_u64(&mut words)?;
+    Some(Raw { lo, hi })
+}
+
+/// The text of words.
+pub fn words(alloc: Global, raw: Raw) -> Option<String> {
+    let Raw { lo, hi } = raw;
+    format!(in alloc; "{lo:#x} {hi:#x}").ok()
+}
+
+/// The words of a sender's closing sync, where they say it again.
+pub fn sync(alloc: Global, asked: &str) -> Option<String> {
+    let mut numbers = asked.split_whitespace();
+    let sync = closing_sync(next_u32(&mut numbers)?, next_u32(&mut numbers)?);
+    let raw = encode(&sync);
+    if decode(raw) == Ok(sync) {
+        words(alloc, raw)
+    } else {
+        None
+    }
+}
+
+/// Whose cell begins at an address.
+pub fn owner(alloc: Global, asked: &str) -> Option<String> {
+    match cell_owner(number(asked)?) {
+        Some(sender) => sender.to_string(alloc).ok(),
+        None => none(alloc),
+    }
+}
 
 #[test]
 fn closing_syncs_write_the_number_into_the_cell(rt: HostRuntime) {
-    let table = [
-        ((0, 1), 0x4610_0000_0100_0000_0000_0040_0000_0000u128),
-        ((0, 2), 0x4610_0000_0200_0000_0000_0040_0000_0000),
-        ((1, 2), 0x4610_0000_0200_0000_0400_0040_0000_0000),
-    ];
-    for ((sender, number), bytes) in table {
-        let raw = from_bytes(&bytes.to_be_bytes());
-        assert_eq!(rt;
-            encode(&closing_sync(sender, number)),
-            raw,
-            "at sender {sender}"
-        );
-        assert_eq!(rt;
-            decode(raw),
-            Ok(closing_sync(sender, number)),
-            "at sender {sender}"
-        );
-    }
+    expect_answers(
+        &rt,
+        "sync 0 1 = 0x100001046 0x40000000\n\
+         sync 0 2 = 0x200001046 0x40000000\n\
+         sync 1 2 = 0x200001046 0x40000004",
+    );
 }
 
 #[test]
@@ -63,12 +88,11 @@ fn a_list_holds_64(rt: HostRuntime) {
 fn cells_follow_one_another(rt: HostRuntime) {
     assert_eq!(rt; cell_address(0), 0x4000_0000);
     assert_eq!(rt; cell_address(255), 0x4000_03fc);
-    for (address, owner) in [
-        (0x4000_0000, Some(0)),
-        (0x4000_0004, Some(1)),
-        (0x4000_0006, None),
-        (0x3fff_fffc, None),
-    ] {
-        assert_eq!(rt; cell_owner(address), owner, "{address:x}");
-    }
+    expect_answers(
+        &rt,
+        "owner 0x40000000 = 0\n\
+         owner 0x40000004 = 1\n\
+         owner 0x40000006 = none\n\
+         owner 0x3ffffffc = none",
+    );
 }

@@ -1,7 +1,8 @@
 //! The machine with one owner, step by step, with answers that were worked out by hand.
+mod calls;
 mod laps;
-mod making;
 mod memory;
 mod overlapping;
 mod playing;
 mod runs;
+mod steps;

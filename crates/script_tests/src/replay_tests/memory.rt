@@ -1,6 +1,7 @@
 //! Allocations that fail.
+use crate::served::{Kind, status_of};
+use crate::telling::{answers_in, ends_without_memory};
 use fake_streams::Sink;
-use replay::replay;
 use script::Status;
 use std::io::ErrorKind;
 
@@ -61,42 +62,18 @@ const SECOND_FILL_REFUSED: &str = "ring size 16\n\
     taken 2 applied 2 replaced 0 syncs 1 removed 1\n\
     end\n";
 
-/// How many answers a text is made of, from the first on, if of nothing else.
-fn answers_in(text: &str) -> Option<usize> {
-    let mut rest = text;
-    for (count, answer) in ANSWERS.iter().enumerate() {
-        if rest.is_empty() {
-            return Some(count);
-        }
-        rest = rest.strip_prefix(*answer)?;
-    }
-    if rest.is_empty() {
-        Some(ANSWERS.len())
-    } else {
-        None
-    }
-}
-
-/// Whether a text is the answers to some lines and then tells that memory was wanting.
-fn ends_without_memory(text: &str) -> bool {
-    match text.strip_suffix("no memory\n") {
-        Some(front) => answers_in(front).is_some(),
-        None => false,
-    }
-}
-
 // Nothing but the replay allocates here, so that each of its allocations can be made to fail, and
 // what comes last is printed.
 #[test]
 fn every_allocation_of_replay(rt: HostRuntime) {
     let mut input = SCRIPT.as_bytes();
     let mut output = Sink::new(512, 0, ErrorKind::BrokenPipe);
-    let ended = replay(rt.alloc(), &mut input, &mut output);
+    let ended = status_of(Kind::Replay, rt.alloc(), &mut input, &mut output);
     let text = output.text();
     let outcome = match ended {
-        Status::Good if answers_in(text) == Some(ANSWERS.len()) => "whole",
+        Status::Good if answers_in(&ANSWERS, text) == Some(ANSWERS.len()) => "whole",
         Status::Good if text == FIRST_FILL_REFUSED || text == SECOND_FILL_REFUSED => "refused",
-        Status::NoMemory if ends_without_memory(text) => "refused",
+        Status::NoMemory if ends_without_memory(&ANSWERS, text) => "refused",
         _ => "wrong",
     };
     assert_ne!(rt; outcome, "wrong", "{ended:?}: {text}");

@@ -4,49 +4,51 @@ use script::Status;
 
 #[test]
 fn rings(rt: HostRuntime) {
-    for (name, script, text, status) in [
-        (
-            "a ring of one slot",
-            "ring 0 1 1 1\n",
-            "line 1: N1\n",
-            Status::Refused,
-        ),
-        (
-            "a ring of 2^20 slots",
-            "ring 20 1 1 1\n",
-            "line 1: N1\n",
-            Status::Refused,
-        ),
-        (
-            "caches with room for nothing",
-            "ring 3 1 1 0\n",
-            "line 1: C4\n",
-            Status::Refused,
-        ),
-        (
-            "a dump before the ring",
-            "dump\n",
-            "line 1: no ring\n",
-            Status::Refused,
-        ),
-        (
-            "a bad line before the ring",
-            "step 0\n",
-            "line 1: bad line\n",
-            Status::Refused,
-        ),
-        (
-            "a comment before the ring, and a second ring, whose numbers are not looked at",
-            "#c\n\
-             ring 3 1 1 1\n\
-             ring 0 0 0 0\n",
-            "ring size 8\n\
-             line 3: second ring\n",
-            Status::Refused,
-        ),
-    ] {
-        expect_answer(&rt, name, script.as_bytes(), text, status);
-    }
+    expect_answer(
+        &rt,
+        "a ring of one slot",
+        b"ring 0 1 1 1\n",
+        "line 1: N1\n",
+        Status::Refused,
+    );
+    expect_answer(
+        &rt,
+        "a ring of 2^20 slots",
+        b"ring 20 1 1 1\n",
+        "line 1: N1\n",
+        Status::Refused,
+    );
+    expect_answer(
+        &rt,
+        "caches with room for nothing",
+        b"ring 3 1 1 0\n",
+        "line 1: C4\n",
+        Status::Refused,
+    );
+    expect_answer(
+        &rt,
+        "a dump before the ring",
+        b"dump\n",
+        "line 1: no ring\n",
+        Status::Refused,
+    );
+    expect_answer(
+        &rt,
+        "a bad line before the ring",
+        b"step 0\n",
+        "line 1: bad line\n",
+        Status::Refused,
+    );
+    expect_answer(
+        &rt,
+        "a comment before the ring, and a second ring, whose numbers are not looked at",
+        b"#c\n\
+         ring 3 1 1 1\n\
+         ring 0 0 0 0\n",
+        "ring size 8\n\
+         line 3: second ring\n",
+        Status::Refused,
+    );
 }
 
 #[test]

@@ -6,65 +6,66 @@ use std::test::Fail;
 
 #[test]
 fn senders_and_refusals(rt: HostRuntime) {
-    for (name, script, text, status) in [
-        (
-            "a sender that the ring has not",
-            "ring 3 1 1 1\n\
-             send 1 03000000050000000100000000000000\n",
-            "ring size 8\n\
-             line 2: no sender\n",
-            Status::Refused,
-        ),
-        (
-            "no such sender comes before an empty batch",
-            "ring 3 1 1 1\n\
-             send 1\n",
-            "ring size 8\n\
-             line 2: no sender\n",
-            Status::Refused,
-        ),
-        (
-            "a batch for which the ring is too small, an empty one, and one with a CMD_SYNC",
-            "ring 1 1 8 4\n\
-             send 0 03000000050000000100000000000000 03000000050000000100000000000000\n\
-             send 0\n\
-             send 0 46100000010000000000004000000000\n\
-             dump\n",
-            "ring size 2\n\
-             refused Q4\n\
-             refused B5\n\
-             refused B2\n\
-             prod 0x00000000\n\
-             cons 0x00000000\n\
-             gerror 0 gerrorn 0\n\
-             taken 0 applied 0 replaced 0 syncs 0 removed 0\n\
-             end\n",
-            Status::Good,
-        ),
-        (
-            "a CMD_SYNC comes before a ring that is too small",
-            "ring 1 1 4 4\n\
-             send 0 03000000050000000100000000000000 03000000050000000100000000000000 \
-             03000000050000000100000000000000 46100000010000000000004000000000\n",
-            "ring size 2\n\
-             refused B2\n",
-            Status::Good,
-        ),
-        (
-            "a ring that is too small comes before a sender's last batch, and that before a full ring",
-            "ring 1 1 1 4\n\
-             send 0 03000000050000000100000000000000\n\
-             send 0 03000000050000000100000000000000 03000000050000000100000000000000\n\
-             send 0 03000000050000000100000000000000\n",
-            "ring size 2\n\
-             sent 0 number 1\n\
-             refused Q4\n\
-             refused Q5\n",
-            Status::Good,
-        ),
-    ] {
-        expect_answer(&rt, name, script.as_bytes(), text, status);
-    }
+    expect_answer(
+        &rt,
+        "a sender that the ring has not",
+        b"ring 3 1 1 1\n\
+         send 1 03000000050000000100000000000000\n",
+        "ring size 8\n\
+         line 2: no sender\n",
+        Status::Refused,
+    );
+    expect_answer(
+        &rt,
+        "no such sender comes before an empty batch",
+        b"ring 3 1 1 1\n\
+         send 1\n",
+        "ring size 8\n\
+         line 2: no sender\n",
+        Status::Refused,
+    );
+    expect_answer(
+        &rt,
+        "a batch for which the ring is too small, an empty one, and one with a CMD_SYNC",
+        b"ring 1 1 8 4\n\
+         send 0 03000000050000000100000000000000 03000000050000000100000000000000\n\
+         send 0\n\
+         send 0 46100000010000000000004000000000\n\
+         dump\n",
+        "ring size 2\n\
+         refused Q4\n\
+         refused B5\n\
+         refused B2\n\
+         prod 0x00000000\n\
+         cons 0x00000000\n\
+         gerror 0 gerrorn 0\n\
+         taken 0 applied 0 replaced 0 syncs 0 removed 0\n\
+         end\n",
+        Status::Good,
+    );
+    expect_answer(
+        &rt,
+        "a CMD_SYNC comes before a ring that is too small",
+        b"ring 1 1 4 4\n\
+         send 0 03000000050000000100000000000000 03000000050000000100000000000000 \
+         03000000050000000100000000000000 46100000010000000000004000000000\n",
+        "ring size 2\n\
+         refused B2\n",
+        Status::Good,
+    );
+    expect_answer(
+        &rt,
+        "a ring that is too small comes before a sender's last batch, and that before a full ring",
+        b"ring 1 1 1 4\n\
+         send 0 03000000050000000100000000000000\n\
+         send 0 03000000050000000100000000000000 03000000050000000100000000000000\n\
+         send 0 03000000050000000100000000000000\n",
+        "ring size 2\n\
+         sent 0 number 1\n\
+         refused Q4\n\
+         refused Q5\n",
+        Status::Good,
+    );
 }
 
 /// Adds a line that sends a command so many times, and then another text.

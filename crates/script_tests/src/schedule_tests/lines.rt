@@ -5,21 +5,18 @@ use std::test::Fail;
 
 #[test]
 fn rings(rt: HostRuntime) {
-    for (script, text, status) in [
-        ("ring 20 2", "line 1: N1", Status::Refused),
-        ("ring 0 0", "line 1: N1", Status::Refused),
-        ("ring 1 257", "line 1: N2", Status::Refused),
-        ("ring 1 0", "line 1: N2", Status::Refused),
-        ("look 0", "line 1: no ring", Status::Refused),
-        ("#//ring 1 1", "ring size 2", Status::Good),
-        (
-            "ring 1 1/ring 0 0",
-            "ring size 2/line 2: second ring",
-            Status::Refused,
-        ),
-    ] {
-        expect_lines(&rt, script, text, status);
-    }
+    expect_lines(&rt, "ring 20 2", "line 1: N1", Status::Refused);
+    expect_lines(&rt, "ring 0 0", "line 1: N1", Status::Refused);
+    expect_lines(&rt, "ring 1 257", "line 1: N2", Status::Refused);
+    expect_lines(&rt, "ring 1 0", "line 1: N2", Status::Refused);
+    expect_lines(&rt, "look 0", "line 1: no ring", Status::Refused);
+    expect_lines(&rt, "#//ring 1 1", "ring size 2", Status::Good);
+    expect_lines(
+        &rt,
+        "ring 1 1/ring 0 0",
+        "ring size 2/line 2: second ring",
+        Status::Refused,
+    );
 }
 
 #[test]
@@ -80,15 +77,26 @@ fn more_than_64_commands_are_too_many(rt: HostRuntime) -> Result<(), Fail> {
 
 #[test]
 fn a_line_has_4096_bytes_at_most(rt: HostRuntime) -> Result<(), Fail> {
-    for (spaces, text, status) in [
-        (4096, "ring size 2\n", Status::Good),
-        (4097, "ring size 2\nline 2: long line\n", Status::Refused),
-    ] {
-        let mut script = String::new(rt.alloc());
-        script.push_str("ring 1 1\n")?;
-        script.push_str(" ".repeat(rt.alloc(), spaces)?.as_str())?;
-        expect_answer(&rt, "spaces", script.as_bytes(), text, status);
-    }
+    let mut script = String::new(rt.alloc());
+    script.push_str("ring 1 1\n")?;
+    script.push_str(" ".repeat(rt.alloc(), 4096)?.as_str())?;
+    expect_answer(
+        &rt,
+        "spaces",
+        script.as_bytes(),
+        "ring size 2\n",
+        Status::Good,
+    );
+    let mut script = String::new(rt.alloc());
+    script.push_str("ring 1 1\n")?;
+    script.push_str(" ".repeat(rt.alloc(), 4097)?.as_str())?;
+    expect_answer(
+        &rt,
+        "spaces",
+        script.as_bytes(),
+        "ring size 2\nline 2: long line\n",
+        Status::Refused,
+    );
     Ok(())
 }
 

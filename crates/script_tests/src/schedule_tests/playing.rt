@@ -1,5 +1,6 @@
 //! A schedule, and the answer that is wanted of it.
-use schedule::schedule;
+use crate::served;
+use crate::served::Kind;
 use script::Status;
 use std::process::Abort;
 
@@ -7,19 +8,14 @@ use std::process::Abort;
 const X: &str = "03000000050000000100000000000000";
 
 /// Plays a script, and wants this text and this status of it.
-pub(super) fn expect_answer<R: AllocGlobal + Abort>(
+pub fn expect_answer<R: AllocGlobal + Abort>(
     rt: &R,
     name: &str,
     script: &[u8],
     text: &str,
     status: Status,
 ) {
-    let mut input = script;
-    let mut output = Vec::new(rt.alloc());
-    let ended = schedule(rt.alloc(), &mut input, &mut output);
-    let answer = str::from_utf8(output.as_slice()).unwrap_or("no text");
-    assert_eq!(rt; answer, text, "{name}");
-    assert_eq!(rt; ended, status, "{name}");
+    served::expect_answer(rt, Kind::Schedule, name, script, text, status);
 }
 
 /// The lines that a text has between its slashes, X standing for a command.
@@ -36,12 +32,7 @@ fn spelled<R: AllocGlobal + Abort>(rt: &R, text: &str) -> String {
 }
 
 /// The same of a script and a text whose lines slashes end.
-pub(super) fn expect_lines<R: AllocGlobal + Abort>(
-    rt: &R,
-    script: &str,
-    text: &str,
-    status: Status,
-) {
+pub fn expect_lines<R: AllocGlobal + Abort>(rt: &R, script: &str, text: &str, status: Status) {
     let lines = spelled(rt, script);
     let wanted = spelled(rt, text);
     expect_answer(rt, script, lines.as_bytes(), wanted.as_str(), status);

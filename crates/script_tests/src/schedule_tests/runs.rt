@@ -44,27 +44,26 @@ fn runs_of_commands(rt: HostRuntime) {
 
 #[test]
 fn exchanges_that_are_lost(rt: HostRuntime) {
-    for (script, text, status) in [
-        (
-            "ring 1 2/look 0/look 1/reserve 1 X/reserve 0 X",
-            "ring size 2/control 0 0 open/control 0 0 open/reserved 0 number 1/\
-             lost 2 0 open",
-            Status::Good,
-        ),
-        (
-            "ring 1 2/look 0/look 1/bare 0 X X/bare 1 X",
-            "ring size 2/control 0 0 open/control 0 0 open/reserved 0 bare/lost 2 0 open",
-            Status::Good,
-        ),
-        (
-            "ring 1 2/look 0/close 1/reserve 0 X/look 0/reserve 0 X",
-            "ring size 2/control 0 0 open/closed 0 0 closed/lost 0 0 closed/\
-             control 0 0 closed/line 6: F9",
-            Status::Refused,
-        ),
-    ] {
-        expect_lines(&rt, script, text, status);
-    }
+    expect_lines(
+        &rt,
+        "ring 1 2/look 0/look 1/reserve 1 X/reserve 0 X",
+        "ring size 2/control 0 0 open/control 0 0 open/reserved 0 number 1/\
+         lost 2 0 open",
+        Status::Good,
+    );
+    expect_lines(
+        &rt,
+        "ring 1 2/look 0/look 1/bare 0 X X/bare 1 X",
+        "ring size 2/control 0 0 open/control 0 0 open/reserved 0 bare/lost 2 0 open",
+        Status::Good,
+    );
+    expect_lines(
+        &rt,
+        "ring 1 2/look 0/close 1/reserve 0 X/look 0/reserve 0 X",
+        "ring size 2/control 0 0 open/closed 0 0 closed/lost 0 0 closed/\
+         control 0 0 closed/line 6: F9",
+        Status::Refused,
+    );
 }
 
 #[test]

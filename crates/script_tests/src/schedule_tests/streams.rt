@@ -1,11 +1,6 @@
 //! Readers and writers that move a byte at a time, or fail.
-use fake_streams::{Sink, Source};
-use schedule::schedule;
+use crate::served::{Kind, expect_failed_reads, expect_failed_writes, expect_in_pieces};
 use script::Status;
-use std::io::ErrorKind;
-use std::test::Fail;
-
-const PIPE: ErrorKind = ErrorKind::BrokenPipe;
 
 const SCRIPT: &str = "ring 1 2\n\
                       look 0\n\
@@ -29,57 +24,23 @@ const TEXT: &str = "ring size 2\n\
 
 #[test]
 fn answers_do_not_depend_on_the_pieces(rt: HostRuntime) {
-    for read in [1, 7, 100_000] {
-        for written in [1, 7, 100_000] {
-            let mut input = Source::new(SCRIPT.as_bytes(), read, 0, PIPE);
-            let mut output = Sink::new(written, 0, PIPE);
-            let ended = schedule(rt.alloc(), &mut input, &mut output);
-            assert_eq!(rt; ended, Status::Refused, "{read} and {written}");
-            assert_eq!(rt; output.text(), TEXT, "{read} and {written}");
-        }
-    }
+    expect_in_pieces(&rt, Kind::Schedule, SCRIPT, TEXT, Status::Refused);
 }
 
 #[test]
-fn a_failed_read_leaves_the_answers_of_the_lines_read(rt: HostRuntime) -> Result<(), Fail> {
-    let lines = [
-        ("ring 1 2\n", "ring size 2\n"),
-        ("# nothing\n", ""),
-        ("look 0\n", "control 0 0 open\n"),
-        ("test 0\n", "not ready\n"),
-        ("ask 1", ""),
-    ];
-    let mut script = String::new(rt.alloc());
-    for (line, _) in lines {
-        script.push_str(line)?;
-    }
-    // Read a byte at a time, the call after the last byte finds the end.
-    for bad in 1..=script.len() + 1 {
-        let mut read = String::new(rt.alloc());
-        let mut text = String::new(rt.alloc());
-        for (line, answer) in lines {
-            read.push_str(line)?;
-            if read.len() < bad {
-                text.push_str(answer)?;
-            }
-        }
-        let mut input = Source::new(script.as_bytes(), 1, bad, PIPE);
-        let mut output = Sink::new(100, 0, PIPE);
-        let ended = schedule(rt.alloc(), &mut input, &mut output);
-        assert_eq!(rt; ended, Status::ReadFailed, "{bad}");
-        assert_eq!(rt; output.text(), text.as_str(), "{bad}");
-    }
-    Ok(())
+fn a_failed_read_leaves_the_answers_of_the_lines_read(rt: HostRuntime) {
+    expect_failed_reads(
+        &rt,
+        Kind::Schedule,
+        "ring 1 2 = ring size 2\n\
+         # nothing\n\
+         look 0 = control 0 0 open\n\
+         test 0 = not ready",
+        "ask 1",
+    );
 }
 
 #[test]
 fn nothing_is_written_after_a_failed_write(rt: HostRuntime) {
-    for bad in 1..=TEXT.len() {
-        let mut input = Source::new(SCRIPT.as_bytes(), 100, 0, PIPE);
-        let mut output = Sink::new(1, bad, PIPE);
-        let ended = schedule(rt.alloc(), &mut input, &mut output);
-        assert_eq!(rt; ended, Status::WriteFailed, "{bad}");
-        assert_eq!(rt; Some(output.text()), TEXT.get(..bad - 1), "{bad}");
-        assert_eq!(rt; output.calls, bad);
-    }
+    expect_failed_writes(&rt, Kind::Schedule, SCRIPT, TEXT);
 }

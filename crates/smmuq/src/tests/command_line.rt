@@ -1,7 +1,8 @@
 //! The words of the command line, and the exit status.
-use crate::program::program;
+use crate::tests::running::run;
 use fake_streams::{Sink, Source};
 use std::io::ErrorKind;
+use std::process::Abort;
 use std::test::Fail;
 
 const PIPE: ErrorKind = ErrorKind::BrokenPipe;
@@ -18,7 +19,7 @@ fn a_whole_script(rt: HostRuntime) -> Result<(), Fail> {
         .as_slice();
     let mut output = Vec::new(rt.alloc());
     let mut faults = Vec::new(rt.alloc());
-    let status = program(&rt, &["replay"], &mut input, &mut output, &mut faults);
+    let status = run(&rt, &["replay"], &mut input, &mut output, &mut faults);
     let text = "ring size 2\n\
                 filled\n\
                 sent 0 number 1\n\
@@ -48,7 +49,7 @@ fn a_whole_schedule(rt: HostRuntime) -> Result<(), Fail> {
         .as_slice();
     let mut output = Vec::new(rt.alloc());
     let mut faults = Vec::new(rt.alloc());
-    let status = program(&rt, &["schedule"], &mut input, &mut output, &mut faults);
+    let status = run(&rt, &["schedule"], &mut input, &mut output, &mut faults);
     let text = "ring size 2\n\
                 control 0 0 open\n\
                 control 0 0 open\n\
@@ -61,23 +62,23 @@ fn a_whole_schedule(rt: HostRuntime) -> Result<(), Fail> {
     Ok(())
 }
 
+fn expect_not_understood<R: AllocGlobal + Abort>(rt: &R, name: &str, words: &[&str]) {
+    let mut input = b"ring 3 1 4 4\n".as_slice();
+    let mut output = Vec::new(rt.alloc());
+    let mut faults = Vec::new(rt.alloc());
+    let status = run(rt, words, &mut input, &mut output, &mut faults);
+    assert_eq!(rt; status, 2, "{name}");
+    assert!(rt; output.is_empty(), "{name}");
+    assert!(rt; !faults.is_empty(), "{name}");
+    assert_eq!(rt; input.len(), 13, "{name}: nothing is read");
+}
+
 #[test]
 fn command_lines_that_are_not_understood(rt: HostRuntime) {
-    for (name, words) in [
-        ("no word", [].as_slice()),
-        ("a word that means nothing", ["explode"].as_slice()),
-        ("a word too many", ["replay", "more"].as_slice()),
-        ("a word behind schedule", ["schedule", "more"].as_slice()),
-    ] {
-        let mut input = b"ring 3 1 4 4\n".as_slice();
-        let mut output = Vec::new(rt.alloc());
-        let mut faults = Vec::new(rt.alloc());
-        let status = program(&rt, words, &mut input, &mut output, &mut faults);
-        assert_eq!(rt; status, 2, "{name}");
-        assert!(rt; output.is_empty(), "{name}");
-        assert!(rt; !faults.is_empty(), "{name}");
-        assert_eq!(rt; input.len(), 13, "{name}: nothing is read");
-    }
+    expect_not_understood(&rt, "no word", &[]);
+    expect_not_understood(&rt, "a word that means nothing", &["explode"]);
+    expect_not_understood(&rt, "a word too many", &["replay", "more"]);
+    expect_not_understood(&rt, "a word behind schedule", &["schedule", "more"]);
 }
 
 #[test]
@@ -85,33 +86,34 @@ fn help(rt: HostRuntime) {
     let mut input = b"".as_slice();
     let mut output = Vec::new(rt.alloc());
     let mut faults = Vec::new(rt.alloc());
-    let status = program(&rt, &["--help"], &mut input, &mut output, &mut faults);
+    let status = run(&rt, &["--help"], &mut input, &mut output, &mut faults);
     assert_eq!(rt; status, 0);
     assert!(rt; !output.is_empty());
     assert!(rt; faults.is_empty());
 }
 
+/// Runs the program on one word, where the read and the write of these numbers fail, and wants this status.
+fn expect_status<R: AllocGlobal + Abort>(
+    rt: &R,
+    word: &str,
+    script: &str,
+    (bad_read, bad_write): (usize, usize),
+    wanted: u8,
+) {
+    let mut input = Source::new(script.as_bytes(), 100, bad_read, PIPE);
+    let mut output = Sink::new(100, bad_write, PIPE);
+    let mut faults = Sink::new(100, 0, PIPE);
+    let status = run(rt, &[word], &mut input, &mut output, &mut faults);
+    assert_eq!(rt; status, wanted, "{script}");
+    assert_eq!(rt; faults.text(), "", "{script}");
+}
+
 #[test]
 fn exit_statuses(rt: HostRuntime) {
-    for (name, word, script, bad_read, bad_write, wanted) in [
-        (
-            "a script that is served",
-            "replay",
-            "ring 3 1 4 4\n",
-            0,
-            0,
-            0,
-        ),
-        ("a script that is refused", "replay", "dump\n", 0, 0, 1),
-        ("a read that fails", "replay", "ring 3 1 4 4\n", 1, 0, 4),
-        ("a write that fails", "replay", "ring 3 1 4 4\n", 0, 1, 4),
-        ("help that can't be written", "--help", "", 0, 1, 4),
-    ] {
-        let mut input = Source::new(script.as_bytes(), 100, bad_read, PIPE);
-        let mut output = Sink::new(100, bad_write, PIPE);
-        let mut faults = Sink::new(100, 0, PIPE);
-        let status = program(&rt, &[word], &mut input, &mut output, &mut faults);
-        assert_eq!(rt; status, wanted, "{name}");
-        assert_eq!(rt; faults.text(), "", "{name}");
-    }
+    expect_status(&rt, "replay", "ring 3 1 4 4\n", (0, 0), 0);
+    // A script that is refused, a read that fails, a write that fails, and help that can't be written.
+    expect_status(&rt, "replay", "dump\n", (0, 0), 1);
+    expect_status(&rt, "replay", "ring 3 1 4 4\n", (1, 0), 4);
+    expect_status(&rt, "replay", "ring 3 1 4 4\n", (0, 1), 4);
+    expect_status(&rt, "--help", "", (0, 1), 4);
 }

@@ -1,11 +1,22 @@
 //! Allocations that fail.
-use crate::ringcore_tests::machine::making::{bare, look};
-use ringcore::{CoreFault, run};
+use cmdcodec::{Raw, RawList};
+use ringcore::{CoreFault, Step, run};
 use std::alloc::Global;
 
 /// Plays two steps in a ring of 4 slots, and says how it went.
 fn outcome(alloc: Global) -> &'static str {
-    match run(alloc, 2, 3, &[look(1), bare(1, &[1, 2])]) {
+    let mut body = RawList::new();
+    body.push(Raw { lo: 0x12, hi: 0 });
+    body.push(Raw { lo: 0x20, hi: 0 });
+    let steps = [
+        Step::Look { who: Some(1) },
+        Step::Reserve {
+            sender: 1,
+            body,
+            closes: false,
+        },
+    ];
+    match run(alloc, 2, 3, &steps) {
         Ok((_, None)) => "whole",
         Err(CoreFault::Memory(_)) => "refused",
         _ => "wrong",

@@ -1,164 +1,100 @@
 //! Lists of steps, and what a machine is made of.
-use crate::ringcore_tests::machine::making::Answer::{
-    Acknowledged, Flipped, Half, Open, Ready, Refused, Reserved, Written,
-};
-use crate::ringcore_tests::machine::making::{
-    Answer, acknowledge, advance, bare, flip, look, raw, read, reserve_raws, said, take, test,
-    write,
-};
-use cmdcodec::RawList;
+use crate::ringcore_tests::machine::calls::expect_answers;
+use crate::ringcore_tests::machine::steps::steps;
 use ringcore::{Core, CoreFault, Step, StepFault, run};
 use std::alloc::Global;
 
-/// A reservation of one CMD_CFGI_STE with a closing sync.
-fn reserve_one(sender: u32) -> Step {
-    let mut body = RawList::new();
-    body.push(raw(0x5_0000_0003, 0x1));
-    reserve_raws(sender, body)
-}
-
 /// Sender 1 sends two batches of two commands, which are taken: then the control word is again what sender 0
 /// looked at.
-fn two_laps() -> [Step; 37] {
-    [
-        look(0),
-        look(1),
-        reserve_one(1),
-        write(1, 0, 0),
-        write(1, 0, 1),
-        flip(1, 0, 1),
-        write(1, 1, 0),
-        write(1, 1, 1),
-        flip(1, 1, 1),
-        test(0, 1),
-        read(0, 0),
-        read(0, 1),
-        advance(1),
-        test(1, 1),
-        read(1, 0),
-        read(1, 1),
-        advance(1),
-        acknowledge(1, 1),
-        look(1),
-        reserve_one(1),
-        write(1, 0, 0),
-        write(1, 0, 1),
-        write(1, 1, 0),
-        write(1, 1, 1),
-        flip(1, 0, 1),
-        flip(1, 1, 1),
-        test(0, 1),
-        read(0, 0),
-        read(0, 1),
-        advance(1),
-        test(1, 1),
-        read(1, 0),
-        read(1, 1),
-        advance(1),
-        reserve_one(0),
-        look(1),
-        reserve_one(1),
-    ]
-}
-
-#[test]
-fn the_control_word_returns_after_two_laps(rt: HostRuntime) {
-    let steps = two_laps();
-    let (mut core, refused) = run(rt.alloc(), 1, 2, &steps).expect(&rt, "a machine");
-    assert_eq!(rt; refused, Some((36, StepFault::NoRoom)));
-    // The steps before it are done: sender 0 has both slots, in the first lap's indexes.
-    assert_eq!(rt; said(&core), Open(2, 0));
-    assert_eq!(rt; take(&mut core, look(0)), Open(2, 0));
-    assert_eq!(rt;
-        take(&mut core, reserve_one(0)),
-        Refused(StepFault::NotSettled)
-    );
-}
-
-/// What these steps are answered, one after another.
-fn answers_of_two_laps() -> [Answer; 37] {
-    [
-        Open(0, 0),
-        Open(0, 0),
-        Reserved(0, 1),
-        Written,
-        Written,
-        Flipped(1),
-        Written,
-        Written,
-        Flipped(1),
-        Ready(1),
-        Half(0x5_0000_0003),
-        Half(0x1),
-        Open(2, 1),
-        Ready(1),
-        Half(0x1_0000_1046),
-        Half(0x4000_0004),
-        Open(2, 2),
-        Acknowledged,
-        Open(2, 2),
-        Reserved(2, 2),
-        Written,
-        Written,
-        Written,
-        Written,
-        Flipped(0),
-        Flipped(0),
-        Ready(1),
-        Half(0x5_0000_0003),
-        Half(0x1),
-        Open(0, 3),
-        Ready(1),
-        Half(0x2_0000_1046),
-        Half(0x4000_0004),
-        Open(0, 0),
-        // Sender 0 wins by its look of two laps before.
-        Reserved(0, 1),
-        Open(2, 0),
-        Refused(StepFault::NoRoom),
-    ]
-}
+const TWO_LAPS: &str = "\
+    look 0 = open 0 0\n\
+    look 1 = open 0 0\n\
+    reserve-ste 1 = reserved 0 1\n\
+    write 1 0 0 = written\n\
+    write 1 0 1 = written\n\
+    flip 1 0 1 = flipped 0x1\n\
+    write 1 1 0 = written\n\
+    write 1 1 1 = written\n\
+    flip 1 1 1 = flipped 0x1\n\
+    test 0 1 = ready 1\n\
+    read 0 0 = half 0x500000003\n\
+    read 0 1 = half 0x1\n\
+    advance 1 = open 2 1\n\
+    test 1 1 = ready 1\n\
+    read 1 0 = half 0x100001046\n\
+    read 1 1 = half 0x40000004\n\
+    advance 1 = open 2 2\n\
+    ack 1 1 = acknowledged\n\
+    look 1 = open 2 2\n\
+    reserve-ste 1 = reserved 2 2\n\
+    write 1 0 0 = written\n\
+    write 1 0 1 = written\n\
+    write 1 1 0 = written\n\
+    write 1 1 1 = written\n\
+    flip 1 0 1 = flipped 0x0\n\
+    flip 1 1 1 = flipped 0x0\n\
+    test 0 1 = ready 1\n\
+    read 0 0 = half 0x500000003\n\
+    read 0 1 = half 0x1\n\
+    advance 1 = open 0 3\n\
+    test 1 1 = ready 1\n\
+    read 1 0 = half 0x200001046\n\
+    read 1 1 = half 0x40000004\n\
+    advance 1 = open 0 0\n\
+    # Sender 0 wins by its look of two laps before.\n\
+    reserve-ste 0 = reserved 0 1\n\
+    look 1 = open 2 0\n\
+    reserve-ste 1 = F9";
 
 #[test]
 fn two_laps_are_answered(rt: HostRuntime) {
     let mut core = Core::new(rt.alloc(), 1, 2).expect(&rt, "a machine");
-    let expected = answers_of_two_laps();
-    for (place, (step, answer)) in two_laps().into_iter().zip(expected).enumerate() {
-        assert_eq!(rt; take(&mut core, step), answer, "at {place}");
-    }
+    expect_answers(&rt, &mut core, TWO_LAPS);
 }
 
 #[test]
-fn a_list_may_be_empty_or_without_fault(rt: HostRuntime) {
-    let (core, refused) = run(rt.alloc(), 19, 256, &[]).expect(&rt, "a machine");
-    assert_eq!(rt; (said(&core), refused), (Open(0, 0), None));
-    let steps = [look(1), bare(1, &[1, 2])];
-    let (core, refused) = run(rt.alloc(), 1, 2, &steps).expect(&rt, "a machine");
-    assert_eq!(rt; (said(&core), refused), (Open(2, 0), None));
+fn the_control_word_returns_after_two_laps(rt: HostRuntime) {
+    let steps = steps(rt.alloc(), TWO_LAPS).expect(&rt, "steps");
+    let (mut core, refused) = run(rt.alloc(), 1, 2, steps.as_slice()).expect(&rt, "a machine");
+    assert_eq!(rt; refused, Some((36, StepFault::NoRoom)));
+    // The steps before it are done: sender 0 has both slots, in the first lap's indexes.
+    expect_answers(
+        &rt,
+        &mut core,
+        "control = open 2 0\n\
+         look 0 = open 2 0\n\
+         reserve-ste 0 = F10",
+    );
+}
+
+#[test]
+fn a_list_may_be_empty(rt: HostRuntime) {
+    let (mut core, refused) = run(rt.alloc(), 19, 256, &[]).expect(&rt, "a machine");
+    assert_eq!(rt; refused, None);
+    expect_answers(&rt, &mut core, "control = open 0 0");
+}
+
+#[test]
+fn a_list_may_be_without_fault(rt: HostRuntime) {
+    let steps = steps(rt.alloc(), "look 1\nbare 1 1 2").expect(&rt, "steps");
+    let (mut core, refused) = run(rt.alloc(), 1, 2, steps.as_slice()).expect(&rt, "a machine");
+    assert_eq!(rt; refused, None);
+    expect_answers(&rt, &mut core, "control = open 2 0");
 }
 
 /// Why no machine of these numbers plays a list of one step.
 fn why_not(alloc: Global, log2: u32, senders: u32) -> Option<CoreFault> {
-    run(alloc, log2, senders, &[look(0)]).err()
+    run(alloc, log2, senders, &[Step::Look { who: Some(0) }]).err()
 }
 
+// The size is told first.
 #[test]
 fn numbers_out_of_range_make_no_machine(rt: HostRuntime) {
-    let table = [
-        (0, 1, Some(CoreFault::Size)),
-        (20, 1, Some(CoreFault::Size)),
-        (1, 0, Some(CoreFault::Senders)),
-        (1, 257, Some(CoreFault::Senders)),
-        // The size is told first.
-        (20, 257, Some(CoreFault::Size)),
-        (1, 1, None),
-        (1, 256, None),
-    ];
-    for (log2, senders, fault) in table {
-        assert_eq!(rt;
-            why_not(rt.alloc(), log2, senders),
-            fault,
-            "at {log2} {senders}"
-        );
-    }
+    assert_eq!(rt; why_not(rt.alloc(), 0, 1), Some(CoreFault::Size));
+    assert_eq!(rt; why_not(rt.alloc(), 20, 1), Some(CoreFault::Size));
+    assert_eq!(rt; why_not(rt.alloc(), 1, 0), Some(CoreFault::Senders));
+    assert_eq!(rt; why_not(rt.alloc(), 1, 257), Some(CoreFault::Senders));
+    assert_eq!(rt; why_not(rt.alloc(), 20, 257), Some(CoreFault::Size));
+    assert_eq!(rt; why_not(rt.alloc(), 1, 1), None);
+    assert_eq!(rt; why_not(rt.alloc(), 1, 256), None);
 }

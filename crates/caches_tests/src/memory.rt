@@ -1,5 +1,5 @@
 //! Allocations that fail.
-use crate::caches_tests::making::{cd, entry, ste};
+use crate::notation::{cd, ste};
 use caches::{CacheFault, Caches, Entry};
 use std::alloc::Global;
 
@@ -39,8 +39,8 @@ fn run(alloc: Global) -> &'static str {
         return "wrong";
     };
     for stream in 0..20u32 {
-        for tag in [ste(stream), cd(19 - stream, 1)] {
-            match fill(&mut caches, entry(tag)) {
+        for new in [ste(stream), cd(19 - stream)] {
+            match fill(&mut caches, new) {
                 Some(true) => {}
                 Some(false) => outcome = "refused",
                 None => return "wrong",

@@ -1,0 +1,88 @@
+//! Texts of calls of caches, each on a line with its answer behind ` = `.
+use crate::notation::{command, entry, next_entry, tag};
+use caches::{Caches, Entry};
+use std::alloc::Global;
+use std::process::Abort;
+
+/// Caches of this capacity.
+pub fn caches_of<R: AllocGlobal + Abort>(rt: &R, capacity: u32) -> Caches {
+    Caches::new(rt.alloc(), capacity).expect(rt, "caches")
+}
+
+fn told(alloc: Global, held: Option<Entry>) -> Option<String> {
+    match held {
+        Some(held) => {
+            let (value, born) = (held.value, held.born);
+            format!(in alloc; "value={value} born={born}").ok()
+        }
+        None => String::from_str(alloc, "none").ok(),
+    }
+}
+
+fn fill(alloc: Global, caches: &mut Caches, text: &str) -> Option<String> {
+    match caches.fill(entry(text)?) {
+        Ok(None) => String::from_str(alloc, "filled").ok(),
+        Ok(replaced) => {
+            let before = told(alloc, replaced)?;
+            format!(in alloc; "replaced {before}").ok()
+        }
+        Err(fault) => format!(in alloc; "refused {fault}").ok(),
+    }
+}
+
+fn apply(alloc: Global, caches: &mut Caches, text: &str) -> Option<String> {
+    let Some(command) = command(alloc, text) else {
+        return None;
+    };
+    caches.apply(&command).to_string(alloc).ok()
+}
+
+fn lookup(alloc: Global, caches: &Caches, text: &str) -> Option<String> {
+    let Some(tag) = tag(text) else {
+        return None;
+    };
+    told(alloc, caches.lookup(&tag))
+}
+
+fn evict(alloc: Global, caches: &mut Caches, text: &str) -> Option<String> {
+    let Some(tag) = tag(text) else {
+        return None;
+    };
+    told(alloc, caches.evict(&tag))
+}
+
+/// The answer to a call, which is told by its first word.
+fn answer(alloc: Global, caches: &mut Caches, call: &str) -> Option<String> {
+    let (name, text) = call.split_once(" ").unwrap_or((call, ""));
+    match name {
+        "fill" => fill(alloc, caches, text),
+        "apply" => apply(alloc, caches, text),
+        "lookup" => lookup(alloc, caches, text),
+        "evict" => evict(alloc, caches, text),
+        "len" => caches.len().to_string(alloc).ok(),
+        _ => None,
+    }
+}
+
+/// Whether just these entries are listed, in this order.
+pub fn lists(caches: &Caches, wanted: &str) -> bool {
+    let Ok(list) = caches.entries() else {
+        return false;
+    };
+    let mut words = wanted.split_whitespace();
+    for held in list.iter() {
+        if next_entry(&mut words) != Some(*held) {
+            return false;
+        }
+    }
+    words.next().is_none()
+}
+
+/// Makes the calls of a text, and wants of each the answer that stands behind it.
+pub fn expect_answers<R: AllocGlobal + Abort>(rt: &R, caches: &mut Caches, calls: &str) {
+    for line in calls.lines() {
+        let (call, wanted) = line.split_once(" = ").unwrap_or((line, ""));
+        let answer = answer(rt.alloc(), caches, call).expect(rt, line);
+        assert_eq!(rt; answer.as_str(), wanted, "{line}");
+    }
+}

@@ -1,0 +1,26 @@
+//! Tests of caches. They stand in a crate of their own, since a build of a crate's tests proves the crate once
+//! more. Most are texts of calls and their answers (`calls`), since a text costs the prover little.
+#![tactic(auto)]
+
+#[cfg(test)]
+mod calls;
+#[cfg(test)]
+mod capacity;
+#[cfg(test)]
+mod coverage;
+#[cfg(test)]
+mod listing;
+#[cfg(test)]
+mod memory;
+#[cfg(test)]
+mod notation;
+#[cfg(test)]
+mod parting;
+#[cfg(test)]
+mod reaching;
+#[cfg(test)]
+mod runs;
+#[cfg(test)]
+mod sparing;
+#[cfg(test)]
+mod worked;

@@ -1,0 +1,131 @@
+//! Steps as lines of a text: `look c`, `look SENDER`, `reserve SENDER TAGS`, `bare SENDER TAGS`,
+//! `write SENDER SLOT HALF`, `flip SENDER SLOT COUNT`, `test SLOT COUNT`, `read SLOT HALF`, `advance COUNT`,
+//! `close SENDER`, `ack SENDER NUMBER` and `ask SENDER`. `reserve-many` and `bare-many` have a count in place of tags,
+//! and `reserve-ste` has one CMD_CFGI_STE.
+use cmdcodec::{Raw, RawList};
+use ringcore::Step;
+use std::alloc::Global;
+use std::str::SplitWhitespace;
+
+/// A TLBI_NH_VA: the tag is its ASID, and its page.
+fn command(tag: u16) -> Raw {
+    let tag = u64::from(tag);
+    Raw {
+        lo: (tag << 48) | 0x12,
+        hi: tag << 12,
+    }
+}
+
+/// A body of so many commands, at most 64, of tags from 0 on.
+fn many(count: u16) -> RawList {
+    let mut list = RawList::new();
+    for tag in 0..count {
+        if !list.is_full() {
+            list.push(command(tag));
+        }
+    }
+    list
+}
+
+/// A body of the commands of these tags, at most 64.
+fn body(tags: &str) -> Option<RawList> {
+    let mut list = RawList::new();
+    for word in tags.split_whitespace() {
+        let tag = word.parse().ok()?;
+        if !list.is_full() {
+            list.push(command(tag));
+        }
+    }
+    Some(list)
+}
+
+fn stream() -> RawList {
+    let mut list = RawList::new();
+    list.push(Raw {
+        lo: 0x5_0000_0003,
+        hi: 0x1,
+    });
+    list
+}
+
+pub fn next_number(words: &mut SplitWhitespace<'_>) -> Option<u32> {
+    words.next()?.parse().ok()
+}
+
+/// A reservation of a sender, of the commands that the rest of a line says.
+fn reserve(name: &str, rest: &str) -> Option<Step> {
+    let (number, commands) = rest.split_once(" ").unwrap_or((rest, ""));
+    let sender = number.parse().ok()?;
+    let (body, closes) = match name {
+        "reserve" => (body(commands)?, true),
+        "bare" => (body(commands)?, false),
+        "reserve-many" => (many(commands.parse().ok()?), true),
+        "bare-many" => (many(commands.parse().ok()?), false),
+        "reserve-ste" => (stream(), true),
+        _ => return None,
+    };
+    Some(Step::Reserve {
+        sender,
+        body,
+        closes,
+    })
+}
+
+/// A step that has numbers alone, of which this is the first.
+fn numbered(name: &str, first: u32, words: &mut SplitWhitespace<'_>) -> Option<Step> {
+    match name {
+        "look" => Some(Step::Look { who: Some(first) }),
+        "advance" => Some(Step::Advance { count: first }),
+        "close" => Some(Step::Close { sender: first }),
+        "ask" => Some(Step::Ask { sender: first }),
+        "test" => Some(Step::Test {
+            slot: first,
+            count: next_number(words)?,
+        }),
+        "read" => Some(Step::Read {
+            slot: first,
+            half: next_number(words)?,
+        }),
+        "ack" => Some(Step::Acknowledge {
+            sender: first,
+            number: next_number(words)?,
+        }),
+        "write" => Some(Step::Write {
+            sender: first,
+            slot: next_number(words)?,
+            half: next_number(words)?,
+        }),
+        "flip" => Some(Step::Flip {
+            sender: first,
+            slot: next_number(words)?,
+            count: next_number(words)?,
+        }),
+        _ => None,
+    }
+}
+
+/// The step that a line says, if it says one.
+pub fn step(line: &str) -> Option<Step> {
+    if line == "look c" {
+        return Some(Step::Look { who: None });
+    }
+    let (name, rest) = line.split_once(" ")?;
+    if name.contains("reserve") || name.contains("bare") {
+        return reserve(name, rest);
+    }
+    let mut words = rest.split_whitespace();
+    let first = next_number(&mut words)?;
+    numbered(name, first, &mut words)
+}
+
+/// The steps of a text, without the answers that may stand behind them.
+pub fn steps(alloc: Global, text: &str) -> Option<Vec<Step>> {
+    let mut found = Vec::new(alloc);
+    for line in text.lines() {
+        if !line.starts_with("#") {
+            let (asked, _) = line.split_once(" = ").unwrap_or((line, ""));
+            found.push(step(asked)?).ok()?;
+        }
+    }
+    Some(found)
+}

@@ -1,0 +1,120 @@
+//! Scripts of either kind, and what is wanted of them.
+use fake_streams::{Sink, Source};
+use replay::replay;
+use schedule::schedule;
+use script::Status;
+use std::alloc::{AllocError, Global};
+use std::io::{ErrorKind, Read, Write};
+use std::process::Abort;
+
+const PIPE: ErrorKind = ErrorKind::BrokenPipe;
+
+/// What serves a script.
+#[derive(Clone, Copy)]
+pub enum Kind {
+    Replay,
+    Schedule,
+}
+
+// The theorem of either isn't passed on, since it would be dear in each test.
+/// Serves a script.
+pub fn status_of<R: Read, W: Write>(
+    kind: Kind,
+    alloc: Global,
+    input: &mut R,
+    output: &mut W,
+) -> Status {
+    match kind {
+        Kind::Replay => replay(alloc, input, output),
+        Kind::Schedule => schedule(alloc, input, output),
+    }
+}
+
+/// Serves a script, and wants this text and this status of it.
+pub fn expect_answer<R: AllocGlobal + Abort>(
+    rt: &R,
+    kind: Kind,
+    name: &str,
+    script: &[u8],
+    text: &str,
+    status: Status,
+) {
+    let mut input = script;
+    let mut output = Vec::new(rt.alloc());
+    let ended = status_of(kind, rt.alloc(), &mut input, &mut output);
+    let answer = str::from_utf8(output.as_slice()).unwrap_or("no text");
+    assert_eq!(rt; answer, text, "{name}");
+    assert_eq!(rt; ended, status, "{name}");
+}
+
+/// Serves a script in pieces of several lengths, and wants this text and this status each time.
+pub fn expect_in_pieces<R: AllocGlobal + Abort>(
+    rt: &R,
+    kind: Kind,
+    script: &str,
+    text: &str,
+    status: Status,
+) {
+    for read in [1, 7, 100_000] {
+        for written in [1, 7, 100_000] {
+            let mut input = Source::new(script.as_bytes(), read, 0, PIPE);
+            let mut output = Sink::new(written, 0, PIPE);
+            let ended = status_of(kind, rt.alloc(), &mut input, &mut output);
+            assert_eq!(rt; ended, status, "{read} and {written}");
+            assert_eq!(rt; output.text(), text, "{read} and {written}");
+        }
+    }
+}
+
+/// Has each write fail in turn, a byte at a time, and wants just the text before it.
+pub fn expect_failed_writes<R: AllocGlobal + Abort>(rt: &R, kind: Kind, script: &str, text: &str) {
+    for bad in 1..=text.len() {
+        let mut input = Source::new(script.as_bytes(), 100, 0, PIPE);
+        let mut output = Sink::new(1, bad, PIPE);
+        let ended = status_of(kind, rt.alloc(), &mut input, &mut output);
+        assert_eq!(rt; ended, Status::WriteFailed, "{bad}");
+        assert_eq!(rt; Some(output.text()), text.get(..bad - 1), "{bad}");
+        assert_eq!(rt; output.calls, bad);
+    }
+}
+
+/// The answers to the lines of a table `LINE = ANSWER` whose ends are before the byte of this number.
+fn answers_before(alloc: Global, table: &str, bad: usize) -> Result<String, AllocError> {
+    let mut text = String::new(alloc);
+    let mut read = 0usize;
+    for line in table.lines() {
+        let (asked, answer) = line.split_once(" = ").unwrap_or((line, ""));
+        read = read.saturating_add(asked.len()).saturating_add(1);
+        if read < bad && !answer.is_empty() {
+            text.push_str(answer)?;
+            text.push_str("\n")?;
+        }
+    }
+    Ok(text)
+}
+
+/// The lines of the table without their answers, and then a last one without its end.
+fn script_of(alloc: Global, table: &str, last: &str) -> Result<String, AllocError> {
+    let mut script = String::new(alloc);
+    for line in table.lines() {
+        let (asked, _) = line.split_once(" = ").unwrap_or((line, ""));
+        script.push_str(asked)?;
+        script.push_str("\n")?;
+    }
+    script.push_str(last)?;
+    Ok(script)
+}
+
+/// Has each read fail in turn, a byte at a time, and wants just the answers to the lines whose ends were read.
+pub fn expect_failed_reads<R: AllocGlobal + Abort>(rt: &R, kind: Kind, table: &str, last: &str) {
+    let script = script_of(rt.alloc(), table, last).expect(rt, "there is memory");
+    // The call after the last byte finds the end.
+    for bad in 1..=script.len() + 1 {
+        let text = answers_before(rt.alloc(), table, bad).expect(rt, "there is memory");
+        let mut input = Source::new(script.as_bytes(), 1, bad, PIPE);
+        let mut output = Sink::new(100, 0, PIPE);
+        let ended = status_of(kind, rt.alloc(), &mut input, &mut output);
+        assert_eq!(rt; ended, Status::ReadFailed, "{bad}");
+        assert_eq!(rt; output.text(), text.as_str(), "{bad}");
+    }
+}

@@ -1,0 +1,25 @@
+//! Texts that end where memory was wanting.
+
+/// How many answers a text is made of, from the first on, if of nothing else.
+pub fn answers_in(answers: &[&str], text: &str) -> Option<usize> {
+    let mut rest = text;
+    for (count, answer) in answers.iter().enumerate() {
+        if rest.is_empty() {
+            return Some(count);
+        }
+        rest = rest.strip_prefix(*answer)?;
+    }
+    if rest.is_empty() {
+        Some(answers.len())
+    } else {
+        None
+    }
+}
+
+/// Whether a text is the answers to some lines and then tells that memory was wanting.
+pub fn ends_without_memory(answers: &[&str], text: &str) -> bool {
+    match text.strip_suffix("no memory\n") {
+        Some(front) => answers_in(answers, front).is_some(),
+        None => false,
+    }
+}
