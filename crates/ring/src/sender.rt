@@ -103,7 +103,9 @@ impl Sender {
     pub fn is_done(&mut self, ring: &Ring, receipt: &Receipt) -> bool
         requires ring { self.old.ring ≡ ring.now }
         requires receipt { receipt.now.sender ≡ self.old.number }
-        ensures { HasAsked receipt.now.number self.old self.new result }
+        ensures asked { HasAsked receipt.now.number self.old self.new result }
+        ensures ring { self.new.ring ≡ self.old.ring }
+        ensures id { self.new.number ≡ self.old.number }
     {
         receipt.number() <= self.done_up_to(ring)
     }

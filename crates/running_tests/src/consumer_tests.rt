@@ -1,11 +1,12 @@
 //! Worked rows of the consumer, by calls: laps, a stalled sender, a close, and a command that is put back.
-ghost use Rattle.std.specs.Prelude.{◌<◌, ◌^◌};
+ghost use Rattle.std.specs.Prelude.{◌≡◌, ◌<◌, ◌^◌};
 
 use crate::batches::{CFGI_STE, batch_of};
 use crate::device::NoEntries;
 use crate::steps::{Head, finish, send, take_one};
 use cmdcodec::Raw;
-use ring::{Cause, Ring, RingFault, Taken};
+use ring::{Cause, Consumer, Ring, RingFault, Sender, Taken};
+use std::process::Abort;
 
 /// The CMD_SYNC of a sender's batch of this number.
 fn sync(sender: u64, number: u64) -> Head
@@ -18,30 +19,46 @@ fn sync(sender: u64, number: u64) -> Head
     })
 }
 
+/// Sends a batch and takes its two commands: the sender is told that the CMD_SYNC completed, and not before.
+fn lap(
+    rt: &impl Abort,
+    ring: &Ring,
+    sender: Sender,
+    consumer: Consumer<NoEntries>,
+    number: u32,
+) -> (Sender, Consumer<NoEntries>)
+    requires sender { sender.ring ≡ ring.now }
+    requires consumer { consumer.ring ≡ ring.now }
+    ensures sender { result.0.ring ≡ ring.now }
+    ensures id { result.0.number ≡ sender.number }
+    ensures consumer { result.1.ring ≡ ring.now }
+{
+    let (mut sender, receipt) = match sender.send(ring, &batch_of(rt, 1), 1) {
+        Ok(sent) => sent,
+        Err(refused) => return (refused.sender, consumer),
+    };
+    assert_eq!(rt; receipt.number(), number);
+    assert!(rt; !sender.is_done(ring, &receipt));
+    let (consumer, first) = take_one(ring, consumer);
+    let (consumer, second) = take_one(ring, consumer);
+    assert_eq!(rt;
+        (first, second),
+        (Head::Command(CFGI_STE), sync(0, u64::from(number)))
+    );
+    assert!(rt; sender.is_done(ring, &receipt));
+    assert_eq!(rt; sender.done_up_to(ring), number);
+    (sender, consumer)
+}
+
 #[test]
 fn five_laps_of_two_slots(rt: HostRuntime) -> Result<(), RingFault> {
-    let (ring, mut senders, mut consumer) = Ring::new::<NoEntries>(rt.alloc(), 1, 1, 8)?;
-    let mut sender = senders.pop().expect(&rt, "one sender");
-    let one = batch_of(&rt, 1);
-    for number in 1..6 {
-        let Ok(mut reservation) = sender.reserve(&ring, &one) else {
-            return Ok(());
-        };
-        reservation.write_next(&ring);
-        let (again, receipt) = reservation.publish(&ring);
-        sender = again;
-        assert_eq!(rt; receipt.number(), number);
-        assert!(rt; !sender.is_done(&ring, &receipt));
-        let (next, first) = take_one(&ring, consumer);
-        let (next, second) = take_one(&ring, next);
-        consumer = next;
-        assert_eq!(rt;
-            (first, second),
-            (Head::Command(CFGI_STE), sync(0, u64::from(number)))
-        );
-        assert!(rt; sender.is_done(&ring, &receipt));
-        assert_eq!(rt; sender.done_up_to(&ring), number);
-    }
+    let (ring, mut senders, consumer) = Ring::new::<NoEntries>(rt.alloc(), 1, 1, 8)?;
+    let sender = senders.pop().expect(&rt, "one sender");
+    let (sender, consumer) = lap(&rt, &ring, sender, consumer, 1);
+    let (sender, consumer) = lap(&rt, &ring, sender, consumer, 2);
+    let (sender, consumer) = lap(&rt, &ring, sender, consumer, 3);
+    let (sender, consumer) = lap(&rt, &ring, sender, consumer, 4);
+    let (sender, consumer) = lap(&rt, &ring, sender, consumer, 5);
     assert_eq!(rt; consumer.taken(), 10);
     let end = finish(ring, senders, sender, consumer)?;
     assert_eq!(rt;

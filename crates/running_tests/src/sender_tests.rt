@@ -3,7 +3,8 @@ use crate::batches::batch_of;
 use crate::device::NoEntries;
 use crate::steps::send;
 use ring::{Cause, Ring, RingFault};
-use std::alloc::AllocError;
+use std::alloc::{AllocError, Global};
+use std::process::Abort;
 
 #[test]
 fn faults_of_a_new_ring_have_names(rt: HostRuntime) {
@@ -144,4 +145,27 @@ fn a_batch_over_the_end_of_a_flag_word(rt: HostRuntime) -> Result<(), RingFault>
     assert_eq!(rt; whole, Ok(1));
     assert_eq!(rt; sender.look(&ring).prod.get(), 96);
     Ok(())
+}
+
+/// Makes a ring and sends a batch, and says how it went.
+fn outcome(rt: &impl Abort, alloc: Global) -> &'static str {
+    match Ring::new::<NoEntries>(alloc, 2, 3, 1) {
+        Ok((ring, mut senders, _consumer)) => {
+            let last = senders.pop().expect(rt, "three senders");
+            match send(&ring, last, &batch_of(rt, 1)) {
+                (_, Ok(1)) => "whole",
+                _ => "wrong",
+            }
+        }
+        Err(RingFault::Memory(_)) => "refused",
+        Err(_) => "wrong",
+    }
+}
+
+// Nothing but the ring allocates here, so that each of its allocations can be made to fail.
+#[test]
+fn every_allocation_of_a_ring(rt: HostRuntime) {
+    let outcome = outcome(&rt, rt.alloc());
+    assert_ne!(rt; outcome, "wrong");
+    println!(rt; "every_allocation_of_a_ring: {outcome}").expect(&rt, "the line is printed");
 }

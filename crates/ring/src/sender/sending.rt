@@ -17,6 +17,7 @@ impl Sender {
         requires tries { 1 ≤ tries }
         ensures sent { IfOk result (λ r. IsSent batch.now tries self r.0 r.1) }
         ensures refused { IfErr result (λ e. IsGivenUp batch.now true tries self e.cause e.sender) }
+        ensures own { IfOk result (λ r. r.1.sender ≡ self.number) }
         ensures ring { MatchResult result (λ r. r.0.ring ≡ self.ring) (λ e. e.sender.ring ≡ self.ring) }
         ensures id { MatchResult result (λ r. r.0.number ≡ self.number) (λ e. e.sender.number ≡ self.number) }
     {
