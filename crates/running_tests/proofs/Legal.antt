@@ -1,9 +1,8 @@
 -- The legal beginning of a run.
-use Rattle.std.proofs.Common.{◌≡◌, ℕ, zero, suc, ◌+◌, ◌<◌, ◌⊎◌, inl, inr, List, [], ◌∷◌, take, Some, sym, ap, ◌∙◌, subst, arith}
+use Rattle.std.proofs.Common.{◌≡◌, ℕ, zero, suc, ◌+◌, ◌<◌, inl, inr, List, [], ◌∷◌, take, Some, sym, ap, ◌∙◌, arith}
 use Rattle.std.proofs.lemmas.Bool.{cases_lt}
 use Rattle.std.specs.Prelude.{slice_get}
 use Rattle.cmdcodec.specs.declared.raw.Raw.{Raw}
-use Rattle.ringcore.specs.declared.world.event.Outcome.{Outcome}
 use Rattle.ringcore.specs.declared.world.event.Outcome.TheVariants.{Applied}
 use Rattle.ringcore.specs.world.World.{outcome_of}
 use Rattle.ring.specs.consumer.Completing.{HasOutcome}

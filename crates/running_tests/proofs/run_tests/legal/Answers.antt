@@ -1,4 +1,4 @@
-use Rattle.std.proofs.Common.{rules, ◌≡◌, sym, ◌∙◌}
+use Rattle.std.proofs.Common.{rules, sym, ◌∙◌}
 use Rattle.running_tests.proofs.Legal.{has_outcome, one_more}
 use Rattle.running_tests.proofs.run_tests.legal.Goals as goal
 
