@@ -1,13 +1,13 @@
 -- What the consumer's trail tells of itself, by the laws of every run.
-use Rattle.std.proofs.Common.{◌≡◌, ℕ, ◌≤◌, ◌^◌, ap, ◌∙◌, subst}
+use Rattle.std.proofs.Common.{◌≡◌, ℕ, zero, suc, ◌+◌, ◌<◌, ◌≤◌, ◌^◌, ap, ◌∙◌, subst, arith}
 use Rattle.atomic_table.specs.Seated.{TableId}
 use Rattle.ringcore.specs.declared.world.event.Who.{Who}
 use Rattle.ringcore.specs.declared.world.event.Who.TheVariants.{Consumer}
-use Rattle.ringcore.specs.world.Trails.{Trail, raws_by, taken_by}
-use Rattle.ringcore.specs.world.World.{head, world}
+use Rattle.ringcore.specs.world.Trails.{Trail, raws_by, taken_by, found_ready}
+use Rattle.ringcore.specs.world.World.{World, head, tail, world}
 use Rattle.ringcore.specs.world.Allowed.{Ring}
 use Rattle.ringcore.specs.world.Laws.{EveryRun, ListsAreShort, SyncsAreInOrder}
-use Rattle.ringcore.specs.world.ConsumerLaws.{TellsTheHead, TookSyncsInOrder, IsSteady, ConsumerIsSteady}
+use Rattle.ringcore.specs.world.ConsumerLaws.{TellsTheHead, IsReadyAt, FoundIsReady, TookSyncsInOrder, IsSteady, ConsumerIsSteady}
 use Rattle.ring.specs.table.Rule.{Holding, StandsInARun, ring_of, who_of, trail_of_first, IsAlone}
 use Rattle.ring.specs.table.Ports.{PortValue, port_of}
 
@@ -23,6 +23,19 @@ few_are_taken short tells = of_port (λ ring trail. taken_by trail ≤ 2 ^ 46) (
     let now = s.stands in
     let h : head (world s.run) ≡ taken_by trail = tells ring s.run now.after.run_is ∙ ap taken_by now.trail_is in
     subst (λ (n : ℕ). n ≤ 2 ^ 46) h (short ring s.run now.limits.senders now.limits.batches now.only now.after.run_is).taken)
+
+pub few_with_ready : ListsAreShort → EveryRun TellsTheHead → EveryRun FoundIsReady → (table : TableId) (me : Holding) (p : PortValue) → port_of table me ≡ p → IsAlone me (who_of me.0) → p.who ≡ Consumer
+    → taken_by p.trail + found_ready p.trail ≤ 2 ^ 46
+few_with_ready short tells finds = of_port (λ ring trail. taken_by trail + found_ready trail ≤ 2 ^ 46) (λ ring trail s.
+    let now = s.stands in
+    let few = short ring s.run now.limits.senders now.limits.batches now.only now.after.run_is in
+    let h : head (world s.run) ≡ taken_by trail = tells ring s.run now.after.run_is ∙ ap taken_by now.trail_is in
+    let ready = subst (λ (t : Trail). (offset : ℕ) → offset < found_ready t → IsReadyAt (world s.run) offset) now.trail_is (finds ring s.run now.after.run_is) in
+    subst (λ (n : ℕ). n + found_ready trail ≤ 2 ^ 46) h (within (found_ready trail) (world s.run) few.reserved few.taken ready))
+  where
+    within : (found : ℕ) (w : World) → tail w ≤ 2 ^ 46 → head w ≤ 2 ^ 46 → ((offset : ℕ) → offset < found → IsReadyAt w offset) → head w + found ≤ 2 ^ 46
+    within zero w reserved taken ready = omega (arith, taken)
+    within (suc k) w reserved taken ready = let last = (ready k (omega arith)).reserved in omega (arith, reserved, last)
 
 pub syncs_are_in_order : TookSyncsInOrder → (table : TableId) (me : Holding) (p : PortValue) → port_of table me ≡ p → IsAlone me (who_of me.0) → p.who ≡ Consumer
     → SyncsAreInOrder p.ring.made_with.senders (raws_by p.trail)

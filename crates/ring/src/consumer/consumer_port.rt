@@ -74,6 +74,13 @@ impl ConsumerPort {
         self.taken
     }
 
+    /// What was taken and what was found ready behind it are few. It does nothing.
+    pub(crate) fn few_with_ready(&self)
+        ensures { taken_by self.now.trail + found_ready self.now.trail ≤ 2 ^ 46 }
+    {
+        self.port.few_with_ready();
+    }
+
     pub(crate) fn look(&mut self, ring: &Ring) -> Control
         requires { self.old.ring ≡ ring.now }
         ensures trail { self.new ≡ record self.old { trail = Look result ∷ self.old.trail } }

@@ -1,5 +1,5 @@
 //! A run of commands that is read and not taken.
-ghost use Rattle.std.specs.Prelude.{◌≡◌, ◌≤◌, ◌∷◌, ◌++◌, ℕ, List, length, map, slice_get, take};
+ghost use Rattle.std.specs.Prelude.{◌≡◌, ◌≤◌, ◌∷◌, ◌++◌, ◌+◌, ◌^◌, ℕ, List, length, map, slice_get, take};
 ghost use Rattle.cmdcodec.specs.declared.raw.Raw.{Raw as RawOf};
 ghost use Rattle.ringcore.specs.declared.world.event.Outcome.TheVariants.{Replaced};
 ghost use Rattle.ringcore.specs.world.World.{outcome_of};
@@ -10,7 +10,7 @@ use crate::consumer::{Commands, Consumer, ConsumerPort};
 use crate::device::Device;
 use crate::ring::Ring;
 use cmdcodec::Raw;
-use ringcore::Outcome;
+use ringcore::{Outcome, laws};
 use std::marker::{Model, PhantomData};
 
 /// Commands from the head on, as they were read. It must be spent by `complete_run` or `put_back`.
@@ -36,7 +36,11 @@ impl<D: Device> PendingRun<D> {
         ensures value { result ≡ length self.now.raws }
         ensures some { 1 ≤ result }
         ensures few { result ≤ 64 }
+        // With all that was taken they are no more than a ring ever has.
+        ensures in_all { length (taken_of self.now.consumer.trail) + result ≤ 2 ^ 46 }
     {
+        laws::consumer_trail();
+        self.port.few_with_ready();
         self.commands.len()
     }
 

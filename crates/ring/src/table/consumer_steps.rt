@@ -32,6 +32,15 @@ impl Port {
         let _ = &self.seat;
     }
 
+    /// What the consumer has taken, and what its last test found behind that, are few. It does nothing.
+    pub(crate) fn few_with_ready(&self)
+        ensures { self.now.who ≡ Consumer → taken_by self.now.trail + found_ready self.now.trail ≤ 2 ^ 46 }
+    {
+        counts_law();
+        laws::consumer_trail();
+        let _ = &self.seat;
+    }
+
     /// The closing syncs that the consumer took come in the order of their numbers. It does nothing.
     pub(crate) fn syncs_in_order(&self)
         ensures order { self.now.who ≡ Consumer → SyncsAreInOrder self.now.ring.made_with.senders (raws_by self.now.trail) }
