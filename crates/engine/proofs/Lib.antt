@@ -1,0 +1,5 @@
+pub mod Settlings
+pub mod Judging
+pub mod Stepping
+pub mod Running
+pub mod Ending

@@ -1,0 +1,135 @@
+-- What commands that are applied one after another leave.
+use Rattle.std.proofs.Common.{◌≡◌, ◌+◌, ◌≤◌, ℕ, zero, suc, List, [], ◌∷◌, ◌++◌, length, map, Some, None, refl, sym, ap, subst, ◌∙◌, arith, length-append}
+use Rattle.std.proofs.lemmas.List.{append_assoc}
+use Rattle.std.proofs.lemmas.Option.{slice_get_within}
+use Rattle.std.specs.Prelude.{slice_get, take, drop}
+use Rattle.cmdcodec.specs.declared.raw.Raw.{Raw}
+use Rattle.cmdcodec.specs.declared.command.Command.{Command}
+use Rattle.cmdcodec.specs.Legality.{first_ill}
+use Rattle.ringcore.specs.declared.world.event.Outcome.TheVariants.{Applied, Replaced}
+use Rattle.ringcore.specs.world.World.{Taken, outcome_of}
+use Rattle.ring.specs.consumer.Completing.{with_outcome, HasOutcome}
+use Rattle.caches.specs.Held.{Entries}
+use Rattle.cmdcodec.specs.declared.ill.Ill.{Ill}
+use Rattle.engine.specs.Stops.{StopValue}
+use Rattle.engine.specs.Settled.{IsSettled}
+use Rattle.engine.specs.Counting.{taken}
+use Rattle.engine.specs.Units.{UnitValue, IsApplied, AreApplied, StaysSettled}
+use Rattle.engine.proofs.Settlings.{settled_applied, settled_as_before}
+use Rattle.engine.proofs.Stepping.{applied_more}
+
+abbrev pub as_applied : List Raw → List Taken
+as_applied raws = map (with_outcome Applied) raws
+
+-- A command's words spell it alone, so what it covers is gone.
+pub applied_settled : (raw : Raw) (command : Command) (removed : ℕ) (old new : UnitValue) → IsApplied raw command removed old new
+    → StaysSettled old new (with_outcome Applied raw ∷ [])
+applied_settled raw command removed old new is list many s =
+    subst (λ (e : Entries). IsSettled e (list ++ with_outcome Applied raw ∷ [])) (sym is.entries)
+    (settled_applied old.caches.entries list raw command Applied is.legal.alone s)
+
+pub all_counted : (raws : List Raw) (removed : ℕ) (old new : UnitValue) → AreApplied raws removed old new → taken new.counts ≡ taken old.counts + length raws
+all_counted [] removed old new is = let e : taken new.counts ≡ taken old.counts = ap (λ (u : UnitValue). taken u.counts) is.1 in omega (arith, e)
+all_counted (raw ∷ raws) removed old new (between, command, first, rest, one, more, sum) =
+    let e = all_counted raws rest between new more in
+    let f = applied_more raw command first old between one in
+    omega (arith, e, f)
+
+pub all_settled : (raws : List Raw) (removed : ℕ) (old new : UnitValue) → AreApplied raws removed old new → StaysSettled old new (as_applied raws)
+all_settled [] removed old new is list many s =
+    settled_as_before new.caches.entries list (subst (λ (u : UnitValue). IsSettled u.caches.entries list) (sym is.1) s)
+all_settled (raw ∷ raws) removed old new (between, command, first, rest, one, more, sum) list many s =
+    let longer : List Taken = list ++ with_outcome Applied raw ∷ [] in
+    let counted = applied_more raw command first old between one in
+    let long : length longer ≡ taken between.counts = length-append list (with_outcome Applied raw ∷ []) ∙ ap (λ (n : ℕ). n + 1) many ∙ sym counted in
+    subst (λ (l : List Taken). IsSettled new.caches.entries l) (append_assoc list (with_outcome Applied raw ∷ []) (as_applied raws))
+    (all_settled raws rest between new more longer long (applied_settled raw command first old between one list many s))
+
+-- Applied is for legal commands.
+pub all_legal : (raws : List Raw) (removed : ℕ) (old new : UnitValue) → AreApplied raws removed old new → HasOutcome Applied raws
+all_legal (raw ∷ raws) removed old new (between, command, first, rest, one, more, sum) zero other at =
+    let same : raw ≡ other = some_raw raw other at in
+    subst (λ (r : Raw). Applied ≡ outcome_of r) same (is_applied raw one.legal.legal)
+  where
+    some_raw : (a b : Raw) → Some a ≡ Some b → a ≡ b
+    some_raw a b is = cc
+
+    is_applied : (r : Raw) → first_ill r ≡ None → Applied ≡ outcome_of r
+    is_applied r none = search
+all_legal (raw ∷ raws) removed old new (between, command, first, rest, one, more, sum) (suc i) other at = all_legal raws rest between new more i other at
+all_legal [] removed old new is i other at = absurd (cc)
+
+-- One more is applied behind them.
+pub one_more : (raws : List Raw) (removed : ℕ) (old between new : UnitValue) → AreApplied raws removed old between
+    → (raw : Raw) (command : Command) (more : ℕ) → IsApplied raw command more between new → AreApplied (raws ++ raw ∷ []) (removed + more) old new
+one_more [] removed old between new is raw command more last =
+    let start : between ≡ old = is.1 in
+    let none = is.0 in
+    let sum : removed + more ≡ more + 0 = omega (arith, none) in
+    (new, command, more, 0, subst (λ (u : UnitValue). IsApplied raw command more u new) start last, (refl, refl), sum)
+one_more (r ∷ raws) removed old between new (u, c, first, rest, one, others, sum) raw command more last =
+    (u, c, first, rest + more, one, one_more raws rest u between new others raw command more last, (let s = sum in let e : removed + more ≡ first + (rest + more) = omega (arith, s) in e))
+
+-- Once one is taken, no words are kept.
+pub none_kept : (raws : List Raw) (removed : ℕ) (old new : UnitValue) → AreApplied raws removed old new → old.stop.next ≡ None → new.stop.next ≡ None
+none_kept [] removed old new is none = ap (λ (u : UnitValue). u.stop.next) is.1 ∙ none
+none_kept (raw ∷ raws) removed old new (between, command, first, rest, one, more, sum) none =
+    none_kept raws rest between new more (ap (λ (s : StopValue). s.next) one.stop)
+
+-- ---- places in lists
+
+take_suc : {A : Type 0} (xs : List A) (n : ℕ) (x : A) → slice_get xs n ≡ Some x → take (suc n) xs ≡ take n xs ++ x ∷ []
+take_suc [] n x at = absurd (cc)
+take_suc (y ∷ xs) zero x at = let same : y ≡ x = cc in ap (λ z. z ∷ []) same
+take_suc (y ∷ xs) (suc n) x at = ap (λ l. y ∷ l) (take_suc xs n x at)
+
+pub take_one_more : {A : Type 0} (xs : List A) (n : ℕ) (x : A) → slice_get xs n ≡ Some x → take (n + 1) xs ≡ take n xs ++ x ∷ []
+take_one_more xs n x at = ap (λ (k : ℕ). take k xs) (let e : n + 1 ≡ suc n = omega arith in e) ∙ take_suc xs n x at
+
+-- behind the first
+pub get_behind_first : {A : Type 0} (xs : List A) (n : ℕ) → slice_get xs (n + 1) ≡ slice_get (drop 1 xs) n
+get_behind_first {A} xs n = ap (slice_get xs) (let e : n + 1 ≡ suc n = omega arith in e) ∙ behind xs
+  where
+    behind : (ys : List A) → slice_get ys (suc n) ≡ slice_get (drop 1 ys) n
+    behind [] = refl
+    behind (y ∷ ys) = refl
+
+pub length_behind_first : {A : Type 0} (xs : List A) → 1 ≤ length xs → length xs ≡ length (drop 1 xs) + 1
+length_behind_first [] some = absurd (omega (arith, some))
+length_behind_first (x ∷ xs) some = let e : suc (length xs) ≡ length xs + 1 = omega arith in e
+
+-- There is none behind the last.
+pub none_behind : {A P : Type 0} (xs : List A) (n : ℕ) (x : A) → n ≡ length xs → slice_get xs n ≡ Some x → P
+none_behind xs n x end at = let low = slice_get_within xs n x at in absurd (omega (arith, low, end))
+
+-- ---- the first of a list
+
+pub first_and_rest : {A : Type 0} (xs : List A) (x : A) → slice_get xs 0 ≡ Some x → xs ≡ x ∷ drop 1 xs
+first_and_rest [] x at = absurd (cc)
+first_and_rest (y ∷ ys) x at = let same : y ≡ x = cc in ap (λ z. z ∷ ys) same
+
+pub first_is : {A : Type 0} (xs rest : List A) (x y : A) → slice_get xs 0 ≡ Some x → xs ≡ y ∷ rest → x ≡ y
+first_is xs rest x y at is = let there : slice_get (y ∷ rest) 0 ≡ Some x = ap (λ l. slice_get l 0) (sym is) ∙ at in cc
+
+pub take_with_first : {A : Type 0} (xs : List A) (x : A) (n : ℕ) → slice_get xs 0 ≡ Some x → take (n + 1) xs ≡ x ∷ take n (drop 1 xs)
+take_with_first xs x n at = ap (λ (k : ℕ). take k xs) (let e : n + 1 ≡ suc n = omega arith in e) ∙ ap (take (suc n)) (first_and_rest xs x at)
+
+pub take_first : {A : Type 0} (xs : List A) (x : A) → slice_get xs 0 ≡ Some x → take 1 xs ≡ x ∷ []
+take_first xs x at = ap (take 1) (first_and_rest xs x at)
+
+-- Behind the first, which was applied, more were.
+pub all_applied : (raws : List Raw) (raw : Raw) (command : Command) (n first more : ℕ) (old between new : UnitValue) → slice_get raws 0 ≡ Some raw
+    → IsApplied raw command first old between → AreApplied (take n (drop 1 raws)) more between new → AreApplied (take (n + 1) raws) (first + more) old new
+all_applied raws raw command n first more old between new at one others =
+    subst (λ (xs : List Raw). AreApplied xs (first + more) old new) (sym (take_with_first raws raw n at)) (between, command, first, more, one, others, refl)
+
+-- Replaced is for an illegal command.
+pub first_replaced : (raws : List Raw) (raw : Raw) (ill : Ill) → slice_get raws 0 ≡ Some raw → first_ill raw ≡ Some ill → HasOutcome Replaced (take 1 raws)
+first_replaced raws raw ill at is = subst (HasOutcome Replaced) (sym (take_first raws raw at)) alone
+  where
+    is_replaced : (r : Raw) → first_ill r ≡ Some ill → Replaced ≡ outcome_of r
+    is_replaced r its = search
+
+    alone : HasOutcome Replaced (raw ∷ [])
+    alone zero other there = let same : raw ≡ other = cc in subst (λ (r : Raw). Replaced ≡ outcome_of r) same (is_replaced raw is)
+    alone (suc i) other there = absurd (cc)

@@ -1,0 +1,39 @@
+use Rattle.std.proofs.Common.{true, false, ap, ◌∙◌}
+use Rattle.engine.specs.Stops.{StopValue}
+use Rattle.engine.specs.Units.{UnitValue}
+use Rattle.engine.proofs.Stepping.{still_none, still_unwritten, one_settled, taken_together, stopped_together, applied_more, replaced_more}
+use Rattle.engine.proofs.engine.stepping.step_with.Goals as goal
+
+pub judge-requires-clause-next : goal.judge-requires-clause-next
+judge-requires-clause-next c awaited is = c.raw.ensures ∙ c.in-Ready.ensures.again awaited (c.requires.together.seen awaited is)
+
+pub complete-requires-clause-settled : goal.complete-requires-clause-settled
+complete-requires-clause-settled c = one_settled _ _ c.requires.together 1 _ c.in-Ready.ensures.taken c.judge.new.self _ _ _ c.raw.ensures c.in-Applied.ensures.settled
+
+pub complete-requires-in-Replaced-clause-settled : goal.complete-requires-in-Replaced-clause-settled
+complete-requires-in-Replaced-clause-settled c = one_settled _ _ c.requires.together 1 _ c.in-Ready.ensures.taken c.judge.new.self _ _ _ c.raw.ensures c.in-Replaced.ensures.settled
+
+pub returns-in-Empty-clause-together : goal.returns-in-Empty-clause-together
+returns-in-Empty-clause-together c = still_none _ _ c.requires.together false _ c.in-Empty.ensures.taken
+
+pub returns-in-Drained-clause-together : goal.returns-in-Drained-clause-together
+returns-in-Drained-clause-together c = still_none _ _ c.requires.together true _ c.in-Drained.ensures.taken
+
+pub returns-in-Unwritten-clause-together : goal.returns-in-Unwritten-clause-together
+returns-in-Unwritten-clause-together c = still_unwritten _ _ c.requires.together 1 _ c.in-Unwritten.ensures.taken
+
+pub returns-in-Applied-clause-together : goal.returns-in-Applied-clause-together
+returns-in-Applied-clause-together c =
+    let settled = one_settled _ _ c.requires.together 1 _ c.in-Ready.ensures.taken c.judge.new.self _ _ _ c.raw.ensures c.in-Applied.ensures.settled in
+    taken_together _ _ c.requires.together 1 _ c.in-Ready.ensures.taken _ _ _ c.complete.ensures.taken settled
+    (applied_more _ _ _ _ _ c.in-Applied.ensures.judged) (ap (λ (s : StopValue). s.next) c.in-Applied.ensures.judged.stop)
+
+pub returns-in-Replaced-clause-together : goal.returns-in-Replaced-clause-together
+returns-in-Replaced-clause-together c =
+    let settled = one_settled _ _ c.requires.together 1 _ c.in-Ready.ensures.taken c.judge.new.self _ _ _ c.raw.ensures c.in-Replaced.ensures.settled in
+    taken_together _ _ c.requires.together 1 _ c.in-Ready.ensures.taken _ _ _ c.complete-in-Replaced.ensures.taken settled
+    (replaced_more _ _ _ _ c.in-Replaced.ensures.judged) (ap (λ (u : UnitValue). u.stop.next) c.in-Replaced.ensures.judged.new_is)
+
+pub returns-in-Stopped-clause-together : goal.returns-in-Stopped-clause-together
+returns-in-Stopped-clause-together c =
+    stopped_together _ _ c.requires.together 1 _ c.in-Ready.ensures.taken _ _ _ _ _ c.raw.ensures c.put_back.ensures.consumer c.put_back.ensures.seen c.in-Stopped.ensures.judged

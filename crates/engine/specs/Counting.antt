@@ -1,0 +1,33 @@
+-- What is counted of the commands taken.
+use Rattle.std.specs.Prelude.{◌≤◌, ◌^◌, ◌+◌, ◌*◌, ℕ, cond}
+use Rattle.cmdcodec.specs.declared.raw.Raw.{Raw}
+use Rattle.cmdcodec.specs.Opcodes.{is_sync}
+
+-- how many commands were applied and how many replaced, how many of both are a CMD_SYNC, and how many entries those
+-- that were applied removed
+pub record CountsValue : Type 0 where
+  pub applied : ℕ
+  pub replaced : ℕ
+  pub syncs : ℕ
+  pub removed : ℕ
+
+abbrev pub taken : CountsValue → ℕ
+taken c = c.applied + c.replaced
+
+abbrev pub none_counted : CountsValue
+none_counted = record { applied = 0; replaced = 0; syncs = 0; removed = 0 }
+
+abbrev pub syncs_with : Raw → ℕ → ℕ
+syncs_with raw syncs = cond (is_sync raw) (syncs + 1) syncs
+
+abbrev pub counted_applied : Raw → ℕ → CountsValue → CountsValue
+counted_applied raw removed c = record c { applied = c.applied + 1; syncs = syncs_with raw c.syncs; removed = c.removed + removed }
+
+abbrev pub counted_replaced : Raw → CountsValue → CountsValue
+counted_replaced raw c = record c { replaced = c.replaced + 1; syncs = syncs_with raw c.syncs }
+
+-- At most 2^46 are taken, and a command removes at most 65,536 entries.
+pub record AreCounts (c : CountsValue) : Type 0 where
+  pub few : taken c ≤ 2 ^ 46
+  pub syncs : c.syncs ≤ taken c
+  pub removed : c.removed ≤ 65536 * taken c

@@ -1,0 +1,114 @@
+-- The unit with its consumer: what they keep together, and what a step of both does.
+use Rattle.std.specs.Prelude.{◌≡◌, ◌≤◌, ◌^◌, ◌+◌, ◌*◌, ℕ, true, false, List, [], ◌∷◌, length, take, Option, Some, None, slice_get}
+use Rattle.cmdcodec.specs.declared.raw.Raw.{Raw}
+use Rattle.cmdcodec.specs.declared.ill.Ill.{Ill}
+use Rattle.cmdcodec.specs.Legality.{first_ill}
+use Rattle.qindex.specs.declared.control.Control.{Control}
+use Rattle.ringcore.specs.declared.world.event.Event.TheVariants.{Look}
+use Rattle.ring.specs.NewRings.{made_with}
+use Rattle.ring.specs.consumer.Consumers.{ConsumerValue}
+use Rattle.ring.specs.consumer.Pendings.{PendingValue, HasSeen}
+use Rattle.ring.specs.consumer.Taking.{with_trail, TookNone, TookUnwritten, TookRun}
+use Rattle.ring.specs.consumer.Completing.{completed, taken_of}
+use Rattle.engine.specs.declared.answer.Registers.{Registers}
+use Rattle.engine.specs.declared.answer.StepAnswer.{StepAnswer}
+use Rattle.engine.specs.declared.answer.StepAnswer.TheVariants.{Empty, Drained, Unwritten, Applied, Stopped, Replaced, StillStopped, Exhausted}
+use Rattle.engine.specs.declared.answer.RunAnswer.{RunAnswer}
+use Rattle.engine.specs.declared.answer.RunAnswer.TheVariants as run
+use Rattle.engine.specs.Settled.{IsSettled}
+use Rattle.engine.specs.Stops.{IsStopped, err_of, word_of}
+use Rattle.engine.specs.Counting.{taken}
+use Rattle.engine.specs.Units.{UnitValue, IsApplied, IsStoppedAt, IsReplaced, AreApplied}
+
+-- the engine: its consumer and its unit
+pub record EngineValue : Type 0 where
+  pub consumer : ConsumerValue
+  pub unit : UnitValue
+
+-- The unit has taken what the consumer has, and is settled for it; the words at which it stopped are those that the
+-- consumer read at the head.
+pub record AreTogether (consumer : ConsumerValue) (unit : UnitValue) : Type 0 where
+  pub many : taken unit.counts ≡ length (taken_of consumer.trail)
+  pub settled : IsSettled unit.caches.entries (taken_of consumer.trail)
+  pub seen : (raw : Raw) → unit.stop.next ≡ Some raw → HasSeen consumer.trail raw
+
+-- ---- an engine lends its consumer to each step, and has it back behind it
+
+abbrev pub nobody : ConsumerValue
+nobody = record {
+  ring = record { table = record { words = 0; slots = 0; views_name = 0; atom = 0; block = 0; offset = 0; slot_names = [] }; made_with = made_with 0 0 0 };
+  trail = [];
+}
+
+abbrev pub consumer_in : Option ConsumerValue → ConsumerValue
+consumer_in None = nobody
+consumer_in (Some consumer) = consumer
+
+abbrev pub IsEngine : Option ConsumerValue → UnitValue → Type 0
+IsEngine None unit = ⊥
+IsEngine (Some consumer) unit = AreTogether consumer unit
+
+-- ---- what a step of at most so many commands took from the ring
+
+-- This command stands at the head, ahead of some more.
+pub record IsFirst (most : ℕ) (consumer : ConsumerValue) (p : PendingValue) (raw : Raw) : Type 0 where
+  pub read : TookRun most consumer p
+  pub rest : List Raw
+  pub raws_are : p.raws ≡ raw ∷ rest
+
+abbrev pub HasStoppedAt : ℕ → Ill → EngineValue → EngineValue → Type 0
+HasStoppedAt most ill old new =
+    (p : PendingValue) × (raw : Raw) × IsFirst most old.consumer p raw × IsStoppedAt raw ill old.unit new.unit × (new.consumer ≡ p.consumer)
+
+abbrev pub HasReplaced : ℕ → Ill → EngineValue → EngineValue → Type 0
+HasReplaced most ill old new =
+    (p : PendingValue) × (raw : Raw) × IsFirst most old.consumer p raw × IsReplaced raw ill old.unit new.unit × (new.consumer ≡ completed 1 p)
+
+-- ---- one command
+
+-- What a step did, by its answer.
+abbrev pub HasStepped : EngineValue → EngineValue → StepAnswer → Type 0
+HasStepped old new Empty = TookNone false old.consumer new.consumer × (new.unit ≡ old.unit)
+HasStepped old new Drained = TookNone true old.consumer new.consumer × (new.unit ≡ old.unit)
+HasStepped old new Unwritten = TookUnwritten 1 old.consumer new.consumer × (new.unit ≡ old.unit)
+HasStepped old new (Applied command removed) =
+    (p : PendingValue) × (raw : Raw) × IsFirst 1 old.consumer p raw × IsApplied raw command removed old.unit new.unit × (new.consumer ≡ completed 1 p)
+HasStepped old new (Stopped ill) = HasStoppedAt 1 ill old new
+HasStepped old new (Replaced ill) = HasReplaced 1 ill old new
+HasStepped old new StillStopped = IsStopped old.unit.stop.mode × (new ≡ old)
+HasStepped old new Exhausted = (2 ^ 46 ≤ taken old.unit.counts) × (new ≡ old)
+
+-- ---- a run of commands
+
+-- The first so many of the commands that were read are legal, the one behind them isn't, if one is, and they were applied.
+pub record HasAppliedRun (most count removed : ℕ) (old new : EngineValue) : Type 0 where
+  pub pending : PendingValue
+  pub read : TookRun most old.consumer pending
+  pub some : 1 ≤ count
+  pub within : count ≤ length pending.raws
+  pub applied : AreApplied (take count pending.raws) removed old.unit new.unit
+  pub longest : (raw : Raw) → slice_get pending.raws count ≡ Some raw → (ill : Ill) × (first_ill raw ≡ Some ill)
+  pub completed_are : new.consumer ≡ completed count pending
+
+-- What a step of at most so many commands did, by its answer.
+abbrev pub HasRun : ℕ → EngineValue → EngineValue → RunAnswer → Type 0
+HasRun most old new run.Empty = TookNone false old.consumer new.consumer × (new.unit ≡ old.unit)
+HasRun most old new run.Drained = TookNone true old.consumer new.consumer × (new.unit ≡ old.unit)
+HasRun most old new run.Unwritten = TookUnwritten most old.consumer new.consumer × (new.unit ≡ old.unit)
+HasRun most old new (run.Applied count removed) = HasAppliedRun most count removed old new
+HasRun most old new (run.Stopped ill) = HasStoppedAt most ill old new
+HasRun most old new (run.Replaced ill) = HasReplaced most ill old new
+HasRun most old new run.StillStopped = IsStopped old.unit.stop.mode × (new ≡ old)
+HasRun most old new run.Exhausted = (2 ^ 46 ≤ taken old.unit.counts) × (new ≡ old)
+
+-- ---- registers
+
+-- It looked, and the registers say what it found, and how the stop stands.
+pub record HasLooked (old new : EngineValue) (found : Registers) : Type 0 where
+  pub control : Control
+  pub consumer_is : new.consumer ≡ with_trail old.consumer (Look control ∷ old.consumer.trail)
+  pub unit_is : new.unit ≡ old.unit
+  pub prod : found.prod ≡ control.prod.number
+  pub cons : found.cons ≡ control.cons.number + err_of old.unit.stop.mode * 2 ^ 24
+  pub gerror : found.gerror ≡ word_of old.unit.stop.error
+  pub gerrorn : found.gerrorn ≡ word_of old.unit.stop.acknowledged

@@ -1,0 +1,6 @@
+pub mod Settled
+pub mod Stops
+pub mod Counting
+pub mod Units
+pub mod Engines
+pub mod Ends

@@ -1,0 +1,26 @@
+-- When entries are settled for a list of taken commands: none of them is older than a command that covers it.
+use Rattle.std.specs.Prelude.{◌≡◌, ◌≤◌, ℕ, List, length, true, Some, slice_get}
+use Rattle.std.specs.FinMap as finite
+use Rattle.cmdcodec.specs.declared.command.Command.{Command}
+use Rattle.cmdcodec.specs.Spelling.{Spells}
+use Rattle.ringcore.specs.declared.world.event.Outcome.TheVariants.{Applied}
+use Rattle.ringcore.specs.world.World.{Taken}
+use Rattle.caches.specs.declared.tag.Tag.{Tag}
+use Rattle.caches.specs.declared.tag.Entry.{Entry}
+use Rattle.caches.specs.Covers.{covers}
+use Rattle.caches.specs.Held.{Entries}
+
+-- The command was applied, and what its words spell covers the tag.
+pub record HasCovered (taken : Taken) (tag : Tag) : Type 0 where
+  pub applied : taken.outcome ≡ Applied
+  pub command : Command
+  pub spelled : Spells taken.raw command
+  pub covered : covers command tag ≡ true
+
+-- The entry was filled after at most so many commands, and no command taken since then has covered its tag.
+pub record IsSettledEntry (taken : List Taken) (tag : Tag) (entry : Entry) : Type 0 where
+  pub born : entry.born ≤ length taken
+  pub uncovered : (place : ℕ) (t : Taken) → slice_get taken place ≡ Some t → entry.born ≤ place → ¬ HasCovered t tag
+
+abbrev pub IsSettled : Entries → List Taken → Type 0
+IsSettled entries taken = (tag : Tag) (entry : Entry) → finite.get entries tag ≡ Some entry → IsSettledEntry taken tag entry

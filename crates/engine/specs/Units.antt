@@ -1,0 +1,92 @@
+-- The unit as contracts see it, and what a command does to it.
+use Rattle.std.specs.Prelude.{◌≡◌, ◌≤◌, ◌+◌, ℕ, List, [], ◌∷◌, ◌++◌, length, None, Some}
+use Rattle.std.specs.FinMap as finite
+use Rattle.cmdcodec.specs.declared.raw.Raw.{Raw}
+use Rattle.cmdcodec.specs.declared.command.Command.{Command}
+use Rattle.cmdcodec.specs.declared.ill.Ill.{Ill}
+use Rattle.cmdcodec.specs.Spelling.{Spells}
+use Rattle.cmdcodec.specs.Legality.{first_ill}
+use Rattle.ringcore.specs.declared.world.event.Outcome.TheVariants.{Applied as AsApplied, Replaced as AsReplaced}
+use Rattle.ringcore.specs.world.World.{Taken}
+use Rattle.caches.specs.declared.tag.Tag.{Tag}
+use Rattle.caches.specs.Stored.{Stored}
+use Rattle.caches.specs.Held.{Entries, without_covered}
+use Rattle.engine.specs.declared.stop.Mode.TheVariants.{Running, Replacing}
+use Rattle.engine.specs.declared.verdict.Verdict.{Verdict}
+use Rattle.engine.specs.declared.verdict.Verdict.TheVariants.{Applied, Stopped, Replaced}
+use Rattle.engine.specs.Settled.{IsSettled}
+use Rattle.engine.specs.Stops.{StopValue, unstopped, stopped_at, gone_on}
+use Rattle.engine.specs.Counting.{CountsValue, taken, none_counted, counted_applied, counted_replaced}
+
+-- the unit: its caches, how its stop stands, and what it counted
+pub record UnitValue : Type 0 where
+  pub caches : Stored
+  pub stop : StopValue
+  pub counts : CountsValue
+
+-- a unit that has taken nothing
+abbrev pub new_unit : Stored → UnitValue
+new_unit caches = record { caches = caches; stop = unstopped; counts = none_counted }
+
+abbrev pub with_entries : UnitValue → Entries → UnitValue
+with_entries u entries = record u { caches = record u.caches { entries = entries } }
+
+-- the entries with one that is born now
+abbrev pub filled : Tag → ℕ → UnitValue → Entries
+filled tag value u = finite.insert u.caches.entries tag (record { tag = tag; value = value; born = taken u.counts })
+
+-- ---- what a command does
+
+-- The words are legal, and spell this command and no other.
+pub record IsLegal (raw : Raw) (command : Command) : Type 0 where
+  pub legal : first_ill raw ≡ None
+  pub spelled : Spells raw command
+  pub alone : (other : Command) → Spells raw other → other ≡ command
+
+-- A legal command was applied: what it covers is gone.
+pub record IsApplied (raw : Raw) (command : Command) (removed : ℕ) (old new : UnitValue) : Type 0 where
+  pub running : old.stop.mode ≡ Running
+  pub legal : IsLegal raw command
+  pub entries : new.caches.entries ≡ without_covered command old.caches.entries
+  pub removed_are : removed + finite.len new.caches.entries ≡ finite.len old.caches.entries
+  pub few : removed ≤ 65536
+  pub capacity : new.caches.capacity ≡ old.caches.capacity
+  pub stop : new.stop ≡ gone_on old.stop
+  pub counts : new.counts ≡ counted_applied raw removed old.counts
+
+-- An illegal command came while it was running: it stopped there, and nothing else changed.
+pub record IsStoppedAt (raw : Raw) (ill : Ill) (old new : UnitValue) : Type 0 where
+  pub running : old.stop.mode ≡ Running
+  pub first : first_ill raw ≡ Some ill
+  pub new_is : new ≡ record old { stop = stopped_at raw ill old.stop }
+
+-- The illegal command that it was told to replace: no entry changed.
+pub record IsReplaced (raw : Raw) (ill : Ill) (old new : UnitValue) : Type 0 where
+  pub told : old.stop.mode ≡ Replacing
+  pub first : first_ill raw ≡ Some ill
+  pub new_is : new ≡ record old { stop = gone_on old.stop; counts = counted_replaced raw old.counts }
+
+abbrev pub HasJudged : Raw → UnitValue → UnitValue → Verdict → Type 0
+HasJudged raw old new (Applied command removed) = IsApplied raw command removed old new
+HasJudged raw old new (Stopped ill) = IsStoppedAt raw ill old new
+HasJudged raw old new (Replaced ill) = IsReplaced raw ill old new
+
+-- what a verdict takes
+abbrev pub took : Raw → Verdict → List Taken
+took raw (Applied command removed) = record { raw = raw; outcome = AsApplied } ∷ []
+took raw (Stopped ill) = []
+took raw (Replaced ill) = record { raw = raw; outcome = AsReplaced } ∷ []
+
+-- For every list that is as long as the number taken: entries that were settled for it are settled for it with these.
+abbrev pub StaysSettled : UnitValue → UnitValue → List Taken → Type 0
+StaysSettled old new more =
+    (list : List Taken) → length list ≡ taken old.counts → IsSettled old.caches.entries list → IsSettled new.caches.entries (list ++ more)
+
+-- ---- what commands do, one after another
+
+-- All these are legal, and each was applied; so many entries were removed in all.
+abbrev pub AreApplied : List Raw → ℕ → UnitValue → UnitValue → Type 0
+AreApplied [] removed old new = (removed ≡ 0) × (new ≡ old)
+AreApplied (raw ∷ raws) removed old new =
+    (between : UnitValue) × (command : Command) × (first : ℕ) × (rest : ℕ)
+    × IsApplied raw command first old between × AreApplied raws rest between new × (removed ≡ first + rest)

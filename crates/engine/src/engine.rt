@@ -1,0 +1,237 @@
+//! The engine: a unit with the consumer of a ring.
+ghost use Rattle.std.specs.Prelude.{◌≡◌, ◌≢◌, ◌≤◌, ◌↔◌, [], length, All, IfOk, IfSome, IsTrue, OnOk, OnErr, Ok, Err, None, Some};
+ghost use Rattle.std.specs.FinMap as finite;
+ghost use Rattle.caches.specs.Blocks.{IsBlock};
+ghost use Rattle.caches.specs.Held.{held};
+ghost use Rattle.ring.specs.Finishing.{AreAll};
+ghost use Rattle.ring.specs.consumer.Completing.{taken_of};
+ghost use Rattle.engine.specs.Settled.{IsSettled};
+ghost use Rattle.engine.specs.Stops.{IsStopped, told, err_of, word_of, command_queue_bit};
+ghost use Rattle.engine.specs.Counting.{taken};
+ghost use Rattle.engine.specs.Units.{new_unit, filled, with_entries};
+ghost use Rattle.engine.specs.Engines.{HasStepped, HasRun, HasLooked};
+ghost use Rattle.engine.specs.Ends.{IsEngineEnd};
+
+mod run_stepping;
+mod stepping;
+
+use crate::answer::{Registers, RunAnswer, StepAnswer};
+use crate::counts::Counts;
+use crate::finished::Finished;
+use crate::remedy::{AckFault, Remedy};
+use crate::unit::Unit;
+use caches::{CacheFault, Caches, Entry, Tag};
+use ring::{Consumer, Ring, Sender};
+use ringcore::laws;
+use run_stepping::step_run_with;
+use std::marker::Model;
+use stepping::step_with;
+
+/// What an SMMU does with the commands of its queue: it takes them, applies them to its caches, and only then completes
+/// them. It is always settled for all that it took.
+#[derive(Drop)]
+pub struct Engine {
+    /// It is lent to a step, and comes back.
+    consumer: Option<Consumer<Unit>>,
+    unit: Unit,
+}
+
+impl Model for Engine {
+    ghost use Rattle.std.specs.Coded.{codes};
+    ghost use Rattle.caches.specs.Stored.{stored_code};
+    ghost use Rattle.engine.specs.Engines.{EngineValue, consumer_in, IsEngine};
+
+    ghost Value = { EngineValue };
+
+    ghost coded = { Prim.hlevel (codes, stored_code) };
+
+    ghost view = { λ e. record { consumer = consumer_in e.consumer; unit = e.unit } };
+
+    ghost invariant = { λ e. IsEngine e.consumer e.unit };
+}
+
+impl Engine {
+    /// An engine of a ring whose consumer has taken nothing, with these empty caches.
+    pub fn new(consumer: Consumer<Unit>, caches: Caches) -> Engine
+        requires consumer { taken_of consumer.trail ≡ [] }
+        requires empty { caches.entries ≡ held [] }
+        ensures { result ≡ record { consumer = consumer; unit = new_unit caches } }
+    {
+        Engine {
+            consumer: Some(consumer),
+            unit: Unit::new(caches),
+        }
+    }
+
+    /// Takes one command at most: applies and completes it, or stops at it, or completes it without effect where it
+    /// was told to. Before it completes a command it has changed the caches.
+    pub fn step(&mut self, ring: &Ring) -> StepAnswer
+        requires { self.old.consumer.ring ≡ ring.now }
+        ensures stepped { HasStepped self.old self.new result }
+        ensures settled { IsSettled self.new.unit.caches.entries (taken_of self.new.consumer.trail) }
+        ensures ring { self.new.consumer.ring ≡ self.old.consumer.ring }
+    {
+        let consumer = self.consumer.take().unwrap();
+        let (consumer, answer) = step_with(consumer, &mut self.unit, ring);
+        self.consumer = Some(consumer);
+        answer
+    }
+
+    /// Takes up to `most` commands, 1 to 64: of those that are ready from the head on it applies all ahead of the first
+    /// illegal one, and completes them together. Where the first is illegal, it does with that one as `step` does.
+    pub fn step_run(&mut self, ring: &Ring, most: u32) -> RunAnswer
+        requires ring { self.old.consumer.ring ≡ ring.now }
+        requires some { 1 ≤ most }
+        requires most { most ≤ 64 }
+        ensures stepped { HasRun most self.old self.new result }
+        ensures settled { IsSettled self.new.unit.caches.entries (taken_of self.new.consumer.trail) }
+        ensures ring { self.new.consumer.ring ≡ self.old.consumer.ring }
+    {
+        let consumer = self.consumer.take().unwrap();
+        let (consumer, answer) = step_run_with(consumer, &mut self.unit, ring, most);
+        self.consumer = Some(consumer);
+        answer
+    }
+
+    /// The queue's registers at this moment.
+    pub fn registers(&mut self, ring: &Ring) -> Registers
+        requires { self.old.consumer.ring ≡ ring.now }
+        ensures looked { HasLooked self.old self.new result }
+        ensures ring { self.new.consumer.ring ≡ self.old.consumer.ring }
+    {
+        let mut consumer = self.consumer.take().unwrap();
+        let control = consumer.look(ring);
+        self.consumer = Some(consumer);
+        let (err, gerror, gerrorn) = self.unit.error();
+        Registers {
+            prod: control.prod_register(),
+            cons: control.cons_register(err),
+            gerror,
+            gerrorn,
+        }
+    }
+
+    /// The consumer, and the caches, which are settled for all that it took.
+    pub fn into_parts(self) -> (Consumer<Unit>, Caches)
+        ensures consumer { result.0 ≡ self.consumer }
+        ensures caches { result.1 ≡ self.unit.caches }
+        ensures settled { IsSettled result.1.entries (taken_of result.0.trail) }
+    {
+        let Engine { consumer, unit } = self;
+        (consumer.unwrap(), unit.into_caches())
+    }
+
+    /// Joins the engine and all senders of its ring, which are handed in in the order of their numbers. There is one run
+    /// that has all their steps. Whatever number a sender was told, no entry is held that was filled before a command
+    /// that was reserved ahead of that CMD_SYNC, and that this command covers.
+    pub fn finish(self, ring: Ring, senders: Vec<Sender>) -> Finished
+        requires senders { AreAll ring senders.items }
+        requires ring { self.consumer.ring ≡ ring }
+        ensures end { IsEngineEnd ring senders.items self result.summary result.counts result.caches.entries }
+        ensures counts { result.counts ≡ self.unit.counts }
+        ensures caches { result.caches ≡ self.unit.caches }
+    {
+        laws::consumer_trail();
+        self.is_settled();
+        let counts = self.counts();
+        let (consumer, caches) = self.into_parts();
+        Finished {
+            summary: ring.finish(senders, consumer),
+            counts,
+            caches,
+        }
+    }
+}
+
+impl Engine {
+    /// A witness that it is settled for all that it took: no entry that it holds is older than a command that covers
+    /// it. It does nothing.
+    pub fn is_settled(&self)
+        ensures settled { IsSettled self.now.unit.caches.entries (taken_of self.now.consumer.trail) }
+        ensures counted { taken self.now.unit.counts ≡ length (taken_of self.now.consumer.trail) }
+    {
+        let _ = &self.consumer;
+    }
+
+    /// Whether consumption is stopped at an illegal command.
+    pub fn stopped(&self) -> bool
+        ensures { IsTrue result ↔ IsStopped self.now.unit.stop.mode }
+    {
+        self.unit.stopped()
+    }
+
+    /// What was counted of the commands taken.
+    pub fn counts(&self) -> Counts
+        ensures { result ≡ self.now.unit.counts }
+    {
+        self.unit.counts()
+    }
+
+    /// SMMU_CMDQ_CONS.ERR, SMMU_GERROR and SMMU_GERRORN.
+    pub fn error(&self) -> (u32, u32, u32)
+        ensures err { result.0 ≡ err_of self.now.unit.stop.mode }
+        ensures gerror { result.1 ≡ word_of self.now.unit.stop.error }
+        ensures gerrorn { result.2 ≡ word_of self.now.unit.stop.acknowledged }
+    {
+        self.unit.error()
+    }
+
+    /// Software writes SMMU_GERRORN, and says what is to become of the command, as `Unit::acknowledge`.
+    ///
+    /// Errors, in this order, which change nothing: G1 where no error is active; G2 where CMDQ_ERR of the word isn't
+    /// that of SMMU_GERROR.
+    pub fn acknowledge(&mut self, gerrorn: u32, remedy: Remedy) -> Result<(), AckFault>
+        ensures ok { OnOk result (self.new ≡ record self.old { unit = record self.old.unit { stop = told remedy self.old.unit.stop } }) }
+        ensures err { OnErr result (self.new ≡ self.old) }
+        ensures none { (result ≡ Err AckFault.NoError) ↔ ¬ IsStopped self.old.unit.stop.mode }
+        ensures other { (result ≡ Err AckFault.OtherBit) ↔ (IsStopped self.old.unit.stop.mode × (command_queue_bit gerrorn ≢ self.old.unit.stop.error)) }
+        ensures settled { IsSettled self.new.unit.caches.entries (taken_of self.new.consumer.trail) }
+    {
+        self.unit.acknowledge(gerrorn, remedy)
+    }
+
+    /// Puts in an entry that is born now, and answers the one of its tag that was held before.
+    ///
+    /// Errors, in this order, which leave the engine as it was: C2 where its block isn't well formed; C1 where its tag
+    /// is new and the caches are full; C3 for want of memory, where its tag is new.
+    pub fn fill(&mut self, tag: Tag, value: u64) -> Result<Option<Entry>, CacheFault>
+        ensures was { IfOk result (λ was. was ≡ finite.get self.old.unit.caches.entries tag) }
+        ensures ok { OnOk result (self.new ≡ record self.old { unit = with_entries self.old.unit (filled tag value self.old.unit) }) }
+        ensures err { OnErr result (self.new ≡ self.old) }
+        ensures bad { (result ≡ Err CacheFault.BadBlock) ↔ ¬ IsBlock tag }
+        ensures full { (result ≡ Err CacheFault.Full) ↔ (IsBlock tag × (finite.get self.old.unit.caches.entries tag ≡ None) × (finite.len self.old.unit.caches.entries ≡ self.old.unit.caches.capacity)) }
+        ensures named { ¬ (result ≡ Err CacheFault.BadCapacity) }
+        ensures new_only { result ≡ Err CacheFault.NoMemory → finite.get self.old.unit.caches.entries tag ≡ None }
+        ensures settled { IsSettled self.new.unit.caches.entries (taken_of self.new.consumer.trail) }
+    {
+        self.unit.fill(tag, value)
+    }
+
+    /// Removes the entry of this tag, and answers it.
+    pub fn evict(&mut self, tag: &Tag) -> Option<Entry>
+        ensures was { result ≡ finite.get self.old.unit.caches.entries tag.now }
+        ensures new { self.new ≡ record self.old { unit = with_entries self.old.unit (finite.remove self.old.unit.caches.entries tag.now) } }
+        ensures settled { IsSettled self.new.unit.caches.entries (taken_of self.new.consumer.trail) }
+    {
+        self.unit.evict(tag)
+    }
+
+    /// The entry of this tag that is held, if one is.
+    pub fn lookup(&self, tag: &Tag) -> Option<Entry>
+        ensures value { result ≡ finite.get self.now.unit.caches.entries tag.now }
+        ensures own { IfSome result (λ entry. entry.tag ≡ tag.now) }
+    {
+        self.unit.lookup(tag)
+    }
+
+    /// All entries that are held, in the order of their tags.
+    ///
+    /// Errors: C3 for want of memory, and no other.
+    pub fn entries(&self) -> Result<Vec<Entry>, CacheFault>
+        ensures ok { IfOk result (λ list. list.items ≡ finite.values self.now.unit.caches.entries) }
+        ensures own { IfOk result (λ list. All (λ entry. finite.get self.now.unit.caches.entries entry.tag ≡ Some entry) list.items) }
+        ensures err { OnErr result (result ≡ Err CacheFault.NoMemory) }
+    {
+        self.unit.entries()
+    }
+}

@@ -1,0 +1,44 @@
+//! A step of one command.
+ghost use Rattle.std.specs.Prelude.{◌≡◌};
+ghost use Rattle.engine.specs.Engines.{AreTogether, HasStepped};
+
+use crate::answer::StepAnswer;
+use crate::unit::Unit;
+use crate::verdict::Verdict;
+use ring::{Consumer, Outcome, Ring, Taken};
+
+/// A step of a unit with its consumer: at most one command.
+pub(crate) fn step_with(
+    consumer: Consumer<Unit>,
+    unit: &mut Unit,
+    ring: &Ring,
+) -> (Consumer<Unit>, StepAnswer)
+    requires ring { consumer.ring ≡ ring.now }
+    requires together { AreTogether consumer unit.old }
+    ensures stepped { HasStepped (record { consumer = consumer; unit = unit.old }) (record { consumer = result.0; unit = unit.new }) result.1 }
+    ensures together { AreTogether result.0 unit.new }
+    ensures ring { result.0.ring ≡ consumer.ring }
+{
+    if unit.stopped() {
+        return (consumer, StepAnswer::StillStopped);
+    }
+    if unit.counts().taken() == 1 << 46 {
+        return (consumer, StepAnswer::Exhausted);
+    }
+    match consumer.take(ring) {
+        Taken::Empty(consumer) => (consumer, StepAnswer::Empty),
+        Taken::Drained(consumer) => (consumer, StepAnswer::Drained),
+        Taken::Unwritten(consumer) => (consumer, StepAnswer::Unwritten),
+        Taken::Ready(pending) => match unit.judge(pending.raw()) {
+            Verdict::Applied { command, removed } => (
+                pending.complete(ring, Outcome::Applied, unit),
+                StepAnswer::Applied { command, removed },
+            ),
+            Verdict::Replaced(ill) => (
+                pending.complete(ring, Outcome::Replaced, unit),
+                StepAnswer::Replaced(ill),
+            ),
+            Verdict::Stopped(ill) => (pending.put_back(), StepAnswer::Stopped(ill)),
+        },
+    }
+}

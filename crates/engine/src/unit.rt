@@ -1,0 +1,201 @@
+//! The unit: the caches, and the stop at an illegal command.
+ghost use Rattle.std.specs.Prelude.{◌≡◌, ◌<◌, ◌≤◌, ◌^◌, ◌↔◌, ◌≢◌, [], All, IfOk, IfSome, OnOk, OnErr, IsTrue, Ok, Err, None, Some};
+ghost use Rattle.std.specs.FinMap as finite;
+ghost use Rattle.caches.specs.Blocks.{IsBlock};
+ghost use Rattle.caches.specs.Held.{held};
+ghost use Rattle.engine.specs.Settled.{IsSettled};
+ghost use Rattle.engine.specs.Stops.{IsStopped, MayComeNext, told, err_of, word_of, command_queue_bit};
+ghost use Rattle.engine.specs.Counting.{taken};
+ghost use Rattle.engine.specs.Units.{HasJudged, StaysSettled, IsLegal, IsApplied, took, new_unit, filled, with_entries};
+
+use crate::counts::Counts;
+use crate::remedy::{AckFault, Remedy};
+use crate::stop::Stop;
+use crate::verdict::Verdict;
+use caches::{CacheFault, Caches, Entry, Tag};
+use cmdcodec::{Command, Raw, decode};
+use ring::Device;
+use std::marker::Model;
+
+/// What has the effect of commands: caches, and where consumption stopped. It needs no ring.
+#[derive(Drop)]
+pub struct Unit {
+    caches: Caches,
+    stop: Stop,
+    counts: Counts,
+}
+
+impl Model for Unit {
+    ghost use Rattle.std.specs.Coded.{codes};
+    ghost use Rattle.caches.specs.Stored.{stored_code};
+    ghost use Rattle.engine.specs.Units.{UnitValue};
+
+    ghost Value = { UnitValue };
+
+    ghost coded = { Prim.hlevel (codes, stored_code) };
+
+    ghost view = { λ u. record { caches = u.caches; stop = u.stop; counts = u.counts } };
+}
+
+/// It is settled for the commands taken where its entries are: none is older than a command that covers it.
+impl Device for Unit {
+    ghost use Rattle.engine.specs.Settled.{IsSettled};
+
+    ghost settled = { λ u taken. IsSettled u.caches.entries taken };
+}
+
+impl Unit {
+    /// A unit that has taken nothing, with these empty caches.
+    pub fn new(caches: Caches) -> Unit
+        requires empty { caches.entries ≡ held [] }
+        ensures unit { result ≡ new_unit caches }
+        ensures settled { IsSettled result.caches.entries [] }
+    {
+        Unit {
+            caches,
+            stop: Stop::new(),
+            counts: Counts::none(),
+        }
+    }
+
+    /// Its caches.
+    pub fn into_caches(self) -> Caches
+        ensures { result ≡ self.caches }
+    {
+        let Unit {
+            caches,
+            stop: _,
+            counts: _,
+        } = self;
+        caches
+    }
+
+    /// Whether consumption is stopped at an illegal command.
+    pub fn stopped(&self) -> bool
+        ensures { IsTrue result ↔ IsStopped self.now.stop.mode }
+    {
+        self.stop.is_stopped()
+    }
+
+    /// What was counted of the commands taken.
+    pub fn counts(&self) -> Counts
+        ensures { result ≡ self.now.counts }
+    {
+        self.counts
+    }
+
+    /// SMMU_CMDQ_CONS.ERR, SMMU_GERROR and SMMU_GERRORN.
+    pub fn error(&self) -> (u32, u32, u32)
+        ensures err { result.0 ≡ err_of self.now.stop.mode }
+        ensures gerror { result.1 ≡ word_of self.now.stop.error }
+        ensures gerrorn { result.2 ≡ word_of self.now.stop.acknowledged }
+    {
+        self.stop.registers()
+    }
+
+    /// Applies a legal command, stops at an illegal one, or takes an illegal one without effect where it was told to
+    /// replace it. A CMD_SYNC has no effect on entries. It isn't stopped, and after a stop the words at which it
+    /// stopped come next.
+    pub fn judge(&mut self, raw: Raw) -> Verdict
+        requires running { ¬ IsStopped self.old.stop.mode }
+        requires next { MayComeNext raw self.old.stop }
+        requires few { taken self.old.counts < 2 ^ 46 }
+        ensures judged { HasJudged raw self.old self.new result }
+        ensures settled { StaysSettled self.old self.new (took raw result) }
+    {
+        match decode(raw) {
+            Ok(command) => {
+                let removed = self.apply(raw, &command);
+                Verdict::Applied { command, removed }
+            }
+            Err(ill) => {
+                if self.stop.is_replacing() {
+                    self.counts.count_replaced(raw);
+                    self.stop.go_on();
+                    Verdict::Replaced(ill)
+                } else {
+                    self.stop.stop_at(raw, ill);
+                    Verdict::Stopped(ill)
+                }
+            }
+        }
+    }
+
+    /// Applies a legal command: how many entries it removed.
+    pub(crate) fn apply(&mut self, raw: Raw, command: &Command) -> u32
+        requires running { ¬ IsStopped self.old.stop.mode }
+        requires next { MayComeNext raw self.old.stop }
+        requires few { taken self.old.counts < 2 ^ 46 }
+        requires legal { IsLegal raw command.now }
+        ensures { IsApplied raw command.now result self.old self.new }
+    {
+        self.stop.is_replacing();
+        let removed = self.caches.apply(command);
+        self.counts.count_applied(raw, removed);
+        self.stop.go_on();
+        removed
+    }
+
+    /// Software writes SMMU_GERRORN, and says what is to become of the command at which consumption stopped. Of the
+    /// word only CMDQ_ERR, bit 0, counts.
+    ///
+    /// Errors, in this order, which change nothing: G1 where no error is active; G2 where CMDQ_ERR of the word isn't
+    /// that of SMMU_GERROR.
+    pub fn acknowledge(&mut self, gerrorn: u32, remedy: Remedy) -> Result<(), AckFault>
+        ensures ok { OnOk result (self.new ≡ record self.old { stop = told remedy self.old.stop }) }
+        ensures err { OnErr result (self.new ≡ self.old) }
+        ensures none { (result ≡ Err AckFault.NoError) ↔ ¬ IsStopped self.old.stop.mode }
+        ensures other { (result ≡ Err AckFault.OtherBit) ↔ (IsStopped self.old.stop.mode × (command_queue_bit gerrorn ≢ self.old.stop.error)) }
+        ensures settled { StaysSettled self.old self.new [] }
+    {
+        self.stop.acknowledge(gerrorn, remedy)
+    }
+}
+
+impl Unit {
+    /// Puts in an entry that is born now, and answers the one of its tag that was held before.
+    ///
+    /// Errors, in this order, which leave the unit as it was: C2 where its block isn't well formed; C1 where its tag
+    /// is new and the caches are full; C3 for want of memory, where its tag is new.
+    pub fn fill(&mut self, tag: Tag, value: u64) -> Result<Option<Entry>, CacheFault>
+        ensures was { IfOk result (λ was. was ≡ finite.get self.old.caches.entries tag) }
+        ensures ok { OnOk result (self.new ≡ with_entries self.old (filled tag value self.old)) }
+        ensures err { OnErr result (self.new ≡ self.old) }
+        ensures bad { (result ≡ Err CacheFault.BadBlock) ↔ ¬ IsBlock tag }
+        ensures full { (result ≡ Err CacheFault.Full) ↔ (IsBlock tag × (finite.get self.old.caches.entries tag ≡ None) × (finite.len self.old.caches.entries ≡ self.old.caches.capacity)) }
+        ensures named { ¬ (result ≡ Err CacheFault.BadCapacity) }
+        ensures new_only { result ≡ Err CacheFault.NoMemory → finite.get self.old.caches.entries tag ≡ None }
+        ensures settled { StaysSettled self.old self.new [] }
+    {
+        let born = self.counts.taken();
+        self.caches.fill(Entry { tag, value, born })
+    }
+
+    /// Removes the entry of this tag, and answers it.
+    pub fn evict(&mut self, tag: &Tag) -> Option<Entry>
+        ensures was { result ≡ finite.get self.old.caches.entries tag.now }
+        ensures new { self.new ≡ with_entries self.old (finite.remove self.old.caches.entries tag.now) }
+        ensures settled { StaysSettled self.old self.new [] }
+    {
+        self.caches.evict(tag)
+    }
+
+    /// The entry of this tag that is held, if one is.
+    pub fn lookup(&self, tag: &Tag) -> Option<Entry>
+        ensures value { result ≡ finite.get self.now.caches.entries tag.now }
+        ensures own { IfSome result (λ entry. entry.tag ≡ tag.now) }
+    {
+        self.caches.lookup(tag)
+    }
+
+    /// All entries that are held, in the order of their tags.
+    ///
+    /// Errors: C3 for want of memory, and no other.
+    pub fn entries(&self) -> Result<Vec<Entry>, CacheFault>
+        ensures ok { IfOk result (λ list. list.items ≡ finite.values self.now.caches.entries) }
+        ensures own { IfOk result (λ list. All (λ entry. finite.get self.now.caches.entries entry.tag ≡ Some entry) list.items) }
+        ensures err { OnErr result (result ≡ Err CacheFault.NoMemory) }
+    {
+        self.caches.entries()
+    }
+}
