@@ -185,6 +185,7 @@ impl Engine {
         ensures err { OnErr result (self.new ≡ self.old) }
         ensures none { (result ≡ Err AckFault.NoError) ↔ ¬ IsStopped self.old.unit.stop.mode }
         ensures other { (result ≡ Err AckFault.OtherBit) ↔ (IsStopped self.old.unit.stop.mode × (command_queue_bit gerrorn ≢ self.old.unit.stop.error)) }
+        ensures consumer { self.new.consumer ≡ self.old.consumer }
         ensures settled { IsSettled self.new.unit.caches.entries (taken_of self.new.consumer.trail) }
     {
         self.unit.acknowledge(gerrorn, remedy)
@@ -202,6 +203,7 @@ impl Engine {
         ensures full { (result ≡ Err CacheFault.Full) ↔ (IsBlock tag × (finite.get self.old.unit.caches.entries tag ≡ None) × (finite.len self.old.unit.caches.entries ≡ self.old.unit.caches.capacity)) }
         ensures named { ¬ (result ≡ Err CacheFault.BadCapacity) }
         ensures new_only { result ≡ Err CacheFault.NoMemory → finite.get self.old.unit.caches.entries tag ≡ None }
+        ensures consumer { self.new.consumer ≡ self.old.consumer }
         ensures settled { IsSettled self.new.unit.caches.entries (taken_of self.new.consumer.trail) }
     {
         self.unit.fill(tag, value)
@@ -211,6 +213,7 @@ impl Engine {
     pub fn evict(&mut self, tag: &Tag) -> Option<Entry>
         ensures was { result ≡ finite.get self.old.unit.caches.entries tag.now }
         ensures new { self.new ≡ record self.old { unit = with_entries self.old.unit (finite.remove self.old.unit.caches.entries tag.now) } }
+        ensures consumer { self.new.consumer ≡ self.old.consumer }
         ensures settled { IsSettled self.new.unit.caches.entries (taken_of self.new.consumer.trail) }
     {
         self.unit.evict(tag)
