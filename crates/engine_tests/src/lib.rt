@@ -1,0 +1,15 @@
+//! Tests of the engine. They stand in a crate of their own, since a build of a crate's tests proves the crate once more.
+#![tactic(auto)]
+
+#[cfg(test)]
+mod calls;
+#[cfg(test)]
+mod commands;
+#[cfg(test)]
+mod row_tests;
+#[cfg(test)]
+mod thread_tests;
+#[cfg(test)]
+mod told;
+#[cfg(test)]
+mod unit_tests;

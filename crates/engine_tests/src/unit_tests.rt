@@ -1,0 +1,56 @@
+//! A unit without a ring.
+use crate::commands::{ILLEGAL, LEGAL};
+use caches::{CacheFault, Caches, Entry, Tag};
+use cmdcodec::{Ill, Sid};
+use engine::{Remedy, Unit, Verdict};
+
+#[test]
+fn a_unit_alone(rt: HostRuntime) -> Result<(), CacheFault> {
+    let sid = Sid::new(5).expect(&rt, "a stream");
+    let tag = Tag::Ste { sid };
+    let mut unit = Unit::new(Caches::new(rt.alloc(), 1)?);
+    unit.fill(tag, 7)?;
+    assert_eq!(rt;
+        unit.lookup(&tag),
+        Some(Entry {
+            tag,
+            value: 7,
+            born: 0
+        })
+    );
+    assert_eq!(rt; unit.entries()?.len(), 1);
+    let Verdict::Applied {
+        command: _,
+        removed,
+    } = unit.judge(LEGAL)
+    else {
+        return Ok(());
+    };
+    assert_eq!(rt; removed, 1);
+    assert_eq!(rt; unit.judge(ILLEGAL), Verdict::Stopped(Ill::UnknownOpcode));
+    assert_eq!(rt; (unit.stopped(), unit.error()), (true, (1, 1, 0)));
+    unit.fill(tag, 8)?;
+    assert_eq!(rt; unit.acknowledge(1, Remedy::Replace), Ok(()));
+    assert_eq!(rt; unit.error(), (0, 1, 1));
+    assert_eq!(rt;
+        unit.evict(&tag),
+        Some(Entry {
+            tag,
+            value: 8,
+            born: 1
+        })
+    );
+    let counts = unit.counts();
+    assert_eq!(rt;
+        (
+            counts.taken(),
+            counts.applied(),
+            counts.replaced(),
+            counts.syncs(),
+            counts.removed()
+        ),
+        (1, 1, 0, 0, 1)
+    );
+    assert_eq!(rt; unit.into_caches().len(), 0);
+    Ok(())
+}
