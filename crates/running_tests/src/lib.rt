@@ -5,11 +5,19 @@
 #[cfg(test)]
 mod batches;
 #[cfg(test)]
+mod calls;
+#[cfg(test)]
+mod consumer_calls;
+#[cfg(test)]
 mod consumer_tests;
 #[cfg(test)]
 mod device;
 #[cfg(test)]
 mod run_tests;
+#[cfg(test)]
+mod runs;
+#[cfg(test)]
+mod sender_calls;
 #[cfg(test)]
 mod sender_tests;
 #[cfg(test)]

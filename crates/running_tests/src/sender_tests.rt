@@ -1,150 +1,133 @@
 //! What no clause says of the senders: the names of faults and causes, and that calls succeed.
 use crate::batches::batch_of;
+use crate::calls::{Seats, expect_answers, play, ring_of_one, ring_of_two};
 use crate::device::NoEntries;
-use crate::steps::send;
+use crate::sender_calls::send;
 use ring::{Cause, Ring, RingFault};
 use std::alloc::{AllocError, Global};
 use std::process::Abort;
 
+fn expect_fault_named<R: AllocGlobal + Abort>(rt: &R, fault: RingFault, wanted: &str) {
+    let told = fault.to_string(rt.alloc()).expect(rt, "memory");
+    assert_eq!(rt; told.as_str(), wanted);
+}
+
 #[test]
 fn faults_of_a_new_ring_have_names(rt: HostRuntime) {
-    for (fault, want) in [
-        (RingFault::Size, "N1"),
-        (RingFault::Senders, "N2"),
-        (RingFault::Batches, "N3"),
-        (RingFault::Memory(AllocError), "N4"),
-    ] {
-        let told = fault.to_string(rt.alloc()).expect(&rt, "memory");
-        assert_eq!(rt; told.as_str(), want);
-    }
+    expect_fault_named(&rt, RingFault::Size, "N1");
+    expect_fault_named(&rt, RingFault::Senders, "N2");
+    expect_fault_named(&rt, RingFault::Batches, "N3");
+    expect_fault_named(&rt, RingFault::Memory(AllocError), "N4");
+}
+
+fn expect_cause_named<R: AllocGlobal + Abort>(rt: &R, cause: Cause, wanted: &str) {
+    let told = cause.to_string(rt.alloc()).expect(rt, "memory");
+    assert_eq!(rt; told.as_str(), wanted);
 }
 
 #[test]
 fn causes_have_names(rt: HostRuntime) {
-    for (cause, want) in [
-        (Cause::Closed, "Q1"),
-        (Cause::Full, "Q2"),
-        (Cause::Contended, "Q3"),
-        (Cause::TooLong, "Q4"),
-        (Cause::Exhausted, "Q5"),
-    ] {
-        let told = cause.to_string(rt.alloc()).expect(&rt, "memory");
-        assert_eq!(rt; told.as_str(), want);
-    }
+    expect_cause_named(&rt, Cause::Closed, "Q1");
+    expect_cause_named(&rt, Cause::Full, "Q2");
+    expect_cause_named(&rt, Cause::Contended, "Q3");
+    expect_cause_named(&rt, Cause::TooLong, "Q4");
+    expect_cause_named(&rt, Cause::Exhausted, "Q5");
 }
 
 #[test]
-fn as_many_batches_as_it_may(rt: HostRuntime) -> Result<(), RingFault> {
-    let (ring, mut senders, _consumer) = Ring::new::<NoEntries>(rt.alloc(), 3, 1, 2)?;
-    let sender = senders.pop().expect(&rt, "one sender");
-    let one = batch_of(&rt, 1);
-    let (sender, first) = send(&ring, sender, &one);
-    let (sender, second) = send(&ring, sender, &one);
-    assert_eq!(rt; (first, second), (Ok(1), Ok(2)));
-    let (sender, third) = send(&ring, sender, &one);
-    assert_eq!(rt; third, Err(Cause::Exhausted));
-    let (_sender, long) = send(&ring, sender, &batch_of(&rt, 8));
-    assert_eq!(rt; long, Err(Cause::TooLong));
-    Ok(())
+fn as_many_batches_as_it_may(rt: HostRuntime) {
+    expect_answers(
+        &rt,
+        3,
+        2,
+        "send 1 = number 1\n\
+         send 1 = number 2\n\
+         send 1 = Q5\n\
+         send 8 = Q4",
+    );
 }
 
 #[test]
-fn a_closed_ring_is_told_ahead_of_a_full_one(rt: HostRuntime) -> Result<(), RingFault> {
-    let (ring, mut senders, _consumer) = Ring::new::<NoEntries>(rt.alloc(), 1, 1, 8)?;
-    let sender = senders.pop().expect(&rt, "one sender");
-    let one = batch_of(&rt, 1);
-    let (sender, first) = send(&ring, sender, &one);
-    let (mut sender, full) = send(&ring, sender, &one);
-    assert_eq!(rt; (first, full), (Ok(1), Err(Cause::Full)));
-    sender.close(&ring);
-    let (mut sender, closed) = send(&ring, sender, &one);
-    assert_eq!(rt; closed, Err(Cause::Closed));
-    assert!(rt; sender.look(&ring).closed);
-    Ok(())
+fn a_closed_ring_is_told_ahead_of_a_full_one(rt: HostRuntime) {
+    expect_answers(
+        &rt,
+        1,
+        8,
+        "send 1 = number 1\n\
+         send 1 = Q2\n\
+         close = closed\n\
+         send 1 = Q1\n\
+         look = 2 0 closed",
+    );
 }
 
 #[test]
-fn a_reservation_step_by_step(rt: HostRuntime) -> Result<(), RingFault> {
-    let (ring, mut senders, _consumer) = Ring::new::<NoEntries>(rt.alloc(), 2, 1, 8)?;
-    let sender = senders.pop().expect(&rt, "one sender");
-    assert_eq!(rt; sender.id(), 0);
+fn a_reservation_step_by_step(rt: HostRuntime) {
+    let (ring, seats) = ring_of_one(&rt, 2, 8);
     let two = batch_of(&rt, 2);
-    let Ok(mut reservation) = sender.reserve(&ring, &two) else {
-        return Ok(());
+    let Ok(mut reservation) = seats.sender.reserve(&ring, &two) else {
+        return;
     };
     assert_eq!(rt; (reservation.unwritten(), reservation.unflipped()), (3, 0));
     reservation.write_next(&ring);
     assert_eq!(rt; (reservation.unwritten(), reservation.unflipped()), (2, 1));
     reservation.flip_next(&ring);
     assert_eq!(rt; (reservation.unwritten(), reservation.unflipped()), (2, 0));
-    let (mut sender, receipt) = reservation.publish(&ring);
+    let (sender, receipt) = reservation.publish(&ring);
     assert_eq!(rt; (receipt.sender(), receipt.number()), (0, 1));
-    assert_eq!(rt;
-        (sender.done_up_to(&ring), sender.is_done(&ring, &receipt)),
-        (0, false)
-    );
-    let seen = sender.look(&ring);
-    assert_eq!(rt;
-        (seen.prod.get(), seen.cons.get(), seen.closed),
-        (3, 0, false)
-    );
-    Ok(())
+    let seats = Seats {
+        sender,
+        consumer: seats.consumer,
+    };
+    play(&rt, &ring, seats, "done = 0\nlook = 3 0 open");
 }
 
 #[test]
-fn bare_batches_have_no_number(rt: HostRuntime) -> Result<(), RingFault> {
-    let (ring, mut senders, _consumer) = Ring::new::<NoEntries>(rt.alloc(), 3, 1, 8)?;
-    let sender = senders.pop().expect(&rt, "one sender");
+fn bare_batches_have_no_number(rt: HostRuntime) {
+    let (ring, seats) = ring_of_one(&rt, 3, 8);
+    let Seats { sender, consumer } = play(&rt, &ring, seats, "bare 1 = sent\nsend 1 = number 1");
     let one = batch_of(&rt, 1);
-    let Ok(sender) = sender.send_bare(&ring, &one, 1) else {
-        return Ok(());
-    };
-    let (sender, closing) = send(&ring, sender, &one);
-    assert_eq!(rt; closing, Ok(1));
     let Ok(mut reservation) = sender.reserve_bare(&ring, &one) else {
-        return Ok(());
+        return;
     };
     assert_eq!(rt; reservation.unwritten(), 1);
     reservation.write_next(&ring);
     assert_eq!(rt; reservation.unflipped(), 1);
     reservation.flip_next(&ring);
-    let (mut sender, second) = send(&ring, reservation.publish(&ring), &one);
-    assert_eq!(rt; second, Ok(2));
-    assert_eq!(rt; sender.look(&ring).prod.get(), 6);
-    Ok(())
+    let seats = Seats {
+        sender: reservation.publish(&ring),
+        consumer,
+    };
+    play(&rt, &ring, seats, "send 1 = number 2\nlook = 6 0 open");
 }
 
 #[test]
-fn a_ring_of_two_slots(rt: HostRuntime) -> Result<(), RingFault> {
-    let (ring, mut senders, _consumer) = Ring::new::<NoEntries>(rt.alloc(), 1, 2, 4)?;
-    let second = senders.pop().expect(&rt, "two senders");
-    let first = senders.pop().expect(&rt, "two senders");
-    assert_eq!(rt; (first.id(), second.id()), (0, 1));
-    let one = batch_of(&rt, 1);
-    let Ok(first) = first.send_bare(&ring, &one, 1) else {
-        return Ok(());
+fn a_ring_of_two_slots(rt: HostRuntime) {
+    let (ring, first, seats) = ring_of_two(&rt, 1, 4);
+    let Seats {
+        sender: second,
+        consumer,
+    } = seats;
+    let seats = Seats {
+        sender: first,
+        consumer,
     };
-    let (_second, full) = send(&ring, second, &one);
+    let seats = play(&rt, &ring, seats, "bare 1 = sent");
+    let (_second, full) = send(&ring, second, &batch_of(&rt, 1));
     assert_eq!(rt; full, Err(Cause::Full));
-    let cause = match first.send_bare(&ring, &batch_of(&rt, 3), 1) {
-        Ok(_) => return Ok(()),
-        Err(refused) => refused.cause,
-    };
-    assert_eq!(rt; cause, Cause::TooLong);
-    Ok(())
+    play(&rt, &ring, seats, "bare 3 = Q4");
 }
 
 #[test]
-fn a_batch_over_the_end_of_a_flag_word(rt: HostRuntime) -> Result<(), RingFault> {
-    let (ring, mut senders, _consumer) = Ring::new::<NoEntries>(rt.alloc(), 7, 1, 8)?;
-    let sender = senders.pop().expect(&rt, "one sender");
-    let Ok(sender) = sender.send_bare(&ring, &batch_of(&rt, 32), 1) else {
-        return Ok(());
-    };
-    let (mut sender, whole) = send(&ring, sender, &batch_of(&rt, 63));
-    assert_eq!(rt; whole, Ok(1));
-    assert_eq!(rt; sender.look(&ring).prod.get(), 96);
-    Ok(())
+fn a_batch_over_the_end_of_a_flag_word(rt: HostRuntime) {
+    expect_answers(
+        &rt,
+        7,
+        8,
+        "bare 32 = sent\n\
+         send 63 = number 1\n\
+         look = 96 0 open",
+    );
 }
 
 /// Makes a ring and sends a batch, and says how it went.

@@ -1,11 +1,10 @@
-//! Steps of the tests' senders and consumer.
+//! Steps of the tests' consumer.
 ghost use Rattle.std.specs.Prelude.{◌≡◌, []};
 ghost use Rattle.ringcore.specs.world.World.{outcome_of};
 
 use crate::device::NoEntries;
-use batch::Batch;
 use cmdcodec::{Raw, decode};
-use ring::{Cause, Consumer, Outcome, Refused, Ring, Sender, Summary, Taken};
+use ring::{Consumer, Outcome, Ring, Sender, Summary, Taken};
 use std::alloc::AllocError;
 
 /// What was at the head.
@@ -15,18 +14,6 @@ pub enum Head {
     Drained,
     Unwritten,
     Command(Raw),
-}
-
-/// Sends a batch once: the number of its CMD_SYNC, or why it is refused.
-pub fn send(ring: &Ring, sender: Sender, batch: &Batch) -> (Sender, Result<u32, Cause>)
-    requires { sender.ring ≡ ring.now }
-    ensures ring { result.0.ring ≡ ring.now }
-    ensures id { result.0.number ≡ sender.number }
-{
-    match sender.send(ring, batch, 1) {
-        Ok((sender, receipt)) => (sender, Ok(receipt.number())),
-        Err(Refused { sender, cause }) => (sender, Err(cause)),
-    }
 }
 
 /// A legal command is applied, an illegal one replaced.
@@ -54,6 +41,22 @@ pub fn take_one(ring: &Ring, consumer: Consumer<NoEntries>) -> (Consumer<NoEntri
                 pending.complete(ring, outcome_of(raw), &NoEntries),
                 Head::Command(raw),
             )
+        }
+    }
+}
+
+/// Takes the command at the head, if there is one, and puts it back.
+pub fn take_and_put_back(ring: &Ring, consumer: Consumer<NoEntries>) -> (Consumer<NoEntries>, Head)
+    requires { consumer.ring ≡ ring.now }
+    ensures { result.0.ring ≡ ring.now }
+{
+    match consumer.take(ring) {
+        Taken::Empty(consumer) => (consumer, Head::Empty),
+        Taken::Drained(consumer) => (consumer, Head::Drained),
+        Taken::Unwritten(consumer) => (consumer, Head::Unwritten),
+        Taken::Ready(pending) => {
+            let raw = pending.raw();
+            (pending.put_back(), Head::Command(raw))
         }
     }
 }

@@ -2,11 +2,14 @@
 ghost use Rattle.std.specs.Prelude.{◌≡◌, ◌≤◌};
 
 use crate::batches::batch_of;
+use crate::calls::{Seats, play, ring_of_one, ring_of_two};
 use crate::device::NoEntries;
+use crate::sender_calls::send;
 use crate::steps::{finish, take_one};
 use batch::Batch;
-use ring::{Cause, Consumer, Ring, RingFault, Sender};
-use std::thread::join;
+use ring::{Cause, Consumer, Ring, Sender};
+use std::alloc::AllocError;
+use std::thread::{Threads, join};
 
 /// Sends four batches, at 100 tries each: whether all of them were sent.
 fn send_four(ring: &Ring, sender: Sender, batch: &Batch) -> (Sender, bool)
@@ -27,36 +30,55 @@ fn send_four(ring: &Ring, sender: Sender, batch: &Batch) -> (Sender, bool)
     (sender, all_sent)
 }
 
+/// Has two senders send four batches each, at a time: whether all of them were sent.
+fn send_at_a_time(
+    rt: &impl Threads,
+    ring: &Ring,
+    senders: (Sender, Sender),
+    batch: &Batch,
+) -> ((Sender, bool), (Sender, bool))
+    requires first { senders.0.ring ≡ ring.now }
+    requires second { senders.1.ring ≡ ring.now }
+    ensures first { result.0.0.ring ≡ ring.now }
+    ensures second { result.1.0.ring ≡ ring.now }
+{
+    let (first, second) = senders;
+    join(
+        rt,
+        || -> (Sender, bool)
+            requires { first.ring ≡ ring.now }
+            ensures { result.0.ring ≡ ring.entry.now }
+        { send_four(ring, first, batch) },
+        || -> (Sender, bool)
+            requires { second.ring ≡ ring.now }
+            ensures { result.0.ring ≡ ring.entry.now }
+        { send_four(ring, second, batch) },
+    )
+}
+
 // A sender's exchange is lost at most four times, once for each batch of the other.
 #[test]
-fn two_senders_at_a_time(rt: HostRuntime) -> Result<(), RingFault> {
-    let (ring, mut senders, _consumer) = Ring::new::<NoEntries>(rt.alloc(), 4, 2, 8)?;
-    let second = senders.pop().expect(&rt, "two senders");
-    let first = senders.pop().expect(&rt, "two senders");
-    let one = batch_of(&rt, 1);
-    let ((mut first, four), (second, four_more)) = join(
+fn two_senders_at_a_time(rt: HostRuntime) {
+    let (ring, first, seats) = ring_of_two(&rt, 4, 8);
+    let Seats { sender, consumer } = seats;
+    let ((first, four), (sender, four_more)) = send_at_a_time(
         &rt,
-        || -> (Sender, bool)
-            requires { first.ring ≡ ring }
-            ensures { result.0.ring ≡ ring }
-        { send_four(&ring, first, &one) },
-        || -> (Sender, bool)
-            requires { second.ring ≡ ring }
-            ensures { result.0.ring ≡ ring }
-        { send_four(&ring, second, &one) },
+        &ring,
+        (first, sender),
+        &batch_of(&rt, 1),
     );
     assert_eq!(rt; (four, four_more), (true, true));
-    let seen = first.look(&ring);
-    assert_eq!(rt;
-        (seen.prod.get(), seen.cons.get(), seen.closed),
-        (16, 0, false)
+    play(
+        &rt,
+        &ring,
+        Seats {
+            sender: first,
+            consumer,
+        },
+        "look = 16 0 open",
     );
-    let cause = match second.send(&ring, &one, 1) {
-        Ok(_) => return Ok(()),
-        Err(refused) => refused.cause,
-    };
-    assert_eq!(rt; cause, Cause::Full);
-    Ok(())
+    let (_second, sent) = send(&ring, sender, &batch_of(&rt, 1));
+    assert_eq!(rt; sent, Err(Cause::Full));
 }
 
 /// Sends up to `count` batches, at 50 tries each: how many of them were sent.
@@ -89,34 +111,62 @@ fn take_many(ring: &Ring, consumer: Consumer<NoEntries>, turns: u32) -> Consumer
     consumer
 }
 
-#[test]
-fn a_sender_beside_the_consumer(rt: HostRuntime) -> Result<(), RingFault> {
-    let (ring, mut senders, consumer) = Ring::new::<NoEntries>(rt.alloc(), 2, 1, 1_000)?;
-    let sender = senders.pop().expect(&rt, "one sender");
-    let one = batch_of(&rt, 1);
+/// Has a sender send up to 1,000 batches beside 1,000 turns of the consumer: how many of them were sent.
+fn at_a_time(rt: &impl Threads, ring: &Ring, seats: Seats, batch: &Batch) -> (Seats, u32)
+    requires sender { seats.sender.ring ≡ ring.now }
+    requires consumer { seats.consumer.ring ≡ ring.now }
+    ensures sender { result.0.sender.ring ≡ ring.now }
+    ensures id { result.0.sender.number ≡ seats.sender.number }
+    ensures consumer { result.0.consumer.ring ≡ ring.now }
+    ensures most { result.1 ≤ 1000 }
+{
+    let Seats { sender, consumer } = seats;
     let ((sender, sent), consumer) = join(
-        &rt,
+        rt,
         || -> (Sender, u32)
-            requires { sender.ring ≡ ring }
-            ensures { (result.0.ring ≡ ring) × (result.0.number ≡ sender.number) × (result.1 ≤ 1000) }
-        { send_many(&ring, sender, &one, 1_000) },
+            requires { sender.ring ≡ ring.now }
+            ensures { (result.0.ring ≡ ring.entry.now) × (result.0.number ≡ sender.number) × (result.1 ≤ 1000) }
+        { send_many(ring, sender, batch, 1_000) },
         || -> Consumer<NoEntries>
-            requires { consumer.ring ≡ ring }
-            ensures { result.ring ≡ ring }
-        { take_many(&ring, consumer, 1_000) },
+            requires { consumer.ring ≡ ring.now }
+            ensures { result.ring ≡ ring.entry.now }
+        { take_many(ring, consumer, 1_000) },
     );
-    // The rest on one thread: two commands for each batch.
-    let mut left = 1_000 - sent;
-    let (mut sender, mut consumer) = (sender, consumer);
+    (Seats { sender, consumer }, sent)
+}
+
+/// Takes two commands in each of 2,000 turns, and sends a batch where one is left of so many.
+fn the_rest(ring: &Ring, seats: Seats, batch: &Batch, left: u32) -> Seats
+    requires sender { seats.sender.ring ≡ ring.now }
+    requires consumer { seats.consumer.ring ≡ ring.now }
+    ensures sender { result.sender.ring ≡ ring.now }
+    ensures id { result.sender.number ≡ seats.sender.number }
+    ensures consumer { result.consumer.ring ≡ ring.now }
+{
+    let mut left = left;
+    let Seats {
+        mut sender,
+        mut consumer,
+    } = seats;
     for _ in 0..2_000 {
-        consumer = take_many(&ring, consumer, 2);
+        consumer = take_many(ring, consumer, 2);
         if left > 0 {
-            let (again, more) = send_many(&ring, sender, &one, 1);
+            let (again, sent) = send_many(ring, sender, batch, 1);
             sender = again;
-            left -= more;
+            left -= sent;
         }
     }
-    let end = finish(ring, senders, sender, consumer)?;
+    Seats { sender, consumer }
+}
+
+#[test]
+fn a_sender_beside_the_consumer(rt: HostRuntime) -> Result<(), AllocError> {
+    let (ring, seats) = ring_of_one(&rt, 2, 1_000);
+    let one = batch_of(&rt, 1);
+    let (seats, sent) = at_a_time(&rt, &ring, seats, &one);
+    // On one thread: two commands for each batch.
+    let Seats { sender, consumer } = the_rest(&ring, seats, &one, 1_000 - sent);
+    let end = finish(ring, Vec::new(rt.alloc()), sender, consumer)?;
     assert_eq!(rt;
         (end.reserved(), end.taken(), end.closed()),
         (2_000, 2_000, false)

@@ -1,23 +1,14 @@
 //! Words that are decoded, from the command line on.
-use crate::serving::decode_text;
-use crate::tests::running::run;
-use fake_streams::{Sink, Source};
-use std::io::ErrorKind;
+use crate::running::run;
+use program::decode_text;
 use std::process::Abort;
 use std::test::Fail;
-
-const PIPE: ErrorKind = ErrorKind::BrokenPipe;
 
 /// Runs the program on some words, with an input that fails when it is read, and wants this text and
 /// this status of it.
 fn expect_told<R: AllocGlobal + Abort>(rt: &R, name: &str, words: &[&str], text: &str, status: u8) {
-    let mut input = Source::new(b"", 100, 1, PIPE);
-    let mut output = Sink::new(100, 0, PIPE);
-    let mut faults = Sink::new(100, 0, PIPE);
-    let ended = run(rt, words, &mut input, &mut output, &mut faults);
-    assert_eq!(rt; output.text(), text, "{name}");
-    assert_eq!(rt; ended, status, "{name}");
-    assert_eq!(rt; faults.text().is_empty(), status != 2, "{name}");
+    let ran = run(rt, words, "", (1, 0));
+    assert_eq!(rt; ran.told(), (status, text, status != 2), "{name}");
 }
 
 /// Decodes the words of a table, each on a line `WORD: TEXT: WHAT IT IS`, and wants this status of each.
@@ -90,13 +81,8 @@ fn words_that_are_not_decoded(rt: HostRuntime) {
 }
 
 fn expect_failed_write<R: AllocGlobal + Abort>(rt: &R, name: &str, word: &str) {
-    let mut input = Source::new(b"", 100, 1, PIPE);
-    let mut output = Sink::new(100, 1, PIPE);
-    let mut faults = Sink::new(100, 0, PIPE);
-    let status = run(rt, &["decode", word], &mut input, &mut output, &mut faults);
-    assert_eq!(rt; status, 4, "{name}");
-    assert_eq!(rt; output.text(), "", "{name}");
-    assert_eq!(rt; faults.text(), "", "{name}");
+    let ran = run(rt, &["decode", word], "", (1, 1));
+    assert_eq!(rt; ran.told(), (4, "", true), "{name}");
 }
 
 #[test]
@@ -120,16 +106,12 @@ fn a_text_has_no_line_end(rt: HostRuntime) -> Result<(), Fail> {
 #[test]
 fn every_allocation_of_decode(rt: HostRuntime) {
     let words = ["decode", "46100000010000000000004000000000"];
-    let mut input = Source::new(b"", 100, 1, PIPE);
-    let mut output = Sink::new(100, 0, PIPE);
-    let mut faults = Sink::new(100, 0, PIPE);
-    let status = run(&rt, &words, &mut input, &mut output, &mut faults);
-    let outcome = match (status, output.text()) {
-        (0, "CMD_SYNC cs=1 msh=0 attr=0 data=1 addr=0x40000000\n") => "whole",
-        (3, "no memory\n") => "refused",
+    let ran = run(&rt, &words, "", (1, 0));
+    let outcome = match ran.told() {
+        (0, "CMD_SYNC cs=1 msh=0 attr=0 data=1 addr=0x40000000\n", true) => "whole",
+        (3, "no memory\n", true) => "refused",
         _ => "wrong",
     };
-    assert_ne!(rt; outcome, "wrong", "{status}");
-    assert_eq!(rt; faults.text(), "");
+    assert_ne!(rt; outcome, "wrong");
     println!(rt; "every_allocation_of_decode: {outcome}").expect(&rt, "the line is printed");
 }

@@ -1,14 +1,13 @@
-//! The program: its command line, and what it ends with.
+//! The program, over any reader and writers: what it does, and what it ends with.
 ghost use Rattle.std.specs.Prelude.{◌≡◌, ◌⊎◌, ◌++◌, OnOk, codes};
 ghost use Rattle.std.specs.Io.KnownBytes.{Appends};
 ghost use Rattle.script.specs.Writing.{no_memory_line};
 ghost use Rattle.schedule.specs.Scheduling.{ExitsAsSchedule};
 ghost use Rattle.replay.specs.Replaying.{ExitsAsReplay};
-ghost use Rattle.smmuq.specs.Program.{Decodes, ExitsAsDecode, ExitsAsTold, ExitsAsProgram};
+ghost use Rattle.program.specs.Program.{Decodes, ExitsAsDecode, ExitsAsTold, ExitsAsProgram};
 
 use crate::serving::{decode_text, replay, schedule};
-use clap::error::ErrorKind;
-use clap::{Arg, Command, Error};
+use command_line::{Misunderstood, Subcommand, understand};
 use script::Status;
 use std::alloc::{AllocError, Global};
 use std::io;
@@ -16,57 +15,6 @@ use std::io::{Read, Write};
 
 /// The exit status of a command line that isn't understood.
 const NOT_UNDERSTOOD: u8 = 2;
-
-/// The subcommand that plays a schedule.
-const SCHEDULE: &str = "schedule";
-
-/// The subcommand that decodes a word, and the name of that word.
-const DECODE: &str = "decode";
-
-const HEX: &str = "HEX";
-
-/// What the words of a command line ask for.
-#[derive(Clone, Copy)]
-enum Subcommand<'a> {
-    /// That a script is served.
-    Replay,
-    /// That a script is played as a schedule of a ring's atomic steps.
-    Schedule,
-    /// That it is said what a word means as a command.
-    Decode(&'a str),
-}
-
-fn command_line<'a>(alloc: Global) -> Result<Command<'a>, AllocError> {
-    let replay = Command::new(alloc, "replay").about(
-        "Serves a script from standard input and answers it on standard output",
-    );
-    let schedule = Command::new(alloc, SCHEDULE).about(
-        "Plays a ring's atomic steps in the order of a script from standard input",
-    );
-    let decode = Command::new(alloc, DECODE)
-        .about("Says what 32 hexadecimal digits mean as a command")
-        .arg(Arg::new(alloc, HEX).required(true))?;
-    Command::new(alloc, "smmuq")
-        .about("The command queue and the caches of an SMMUv3, as a simulator")
-        .no_binary_name(true)
-        .subcommand_required(true)
-        .subcommand(replay)?
-        .subcommand(schedule)?
-        .subcommand(decode)
-}
-
-fn understand<'a>(alloc: Global, words: &'a [&'a str]) -> Result<Subcommand<'a>, Error> {
-    let matches = command_line(alloc)?.try_get_matches_from(words)?;
-    if matches.subcommand_matches(SCHEDULE).is_some() {
-        return Ok(Subcommand::Schedule);
-    }
-    let decode = matches.subcommand_matches(DECODE);
-    // A `decode` without its word isn't understood, so of these two only `replay` has none.
-    match decode.and_then(|decode| decode.get_str(HEX)) {
-        Some(word) => Ok(Subcommand::Decode(word)),
-        None => Ok(Subcommand::Replay),
-    }
-}
 
 fn print_line<W: Write>(line: &str, output: &mut W) -> io::Result<()>
     ensures { OnOk result (Appends (W.contents output.old) (W.contents output.new) (line.now ++ codes "\n")) }
@@ -76,7 +24,7 @@ fn print_line<W: Write>(line: &str, output: &mut W) -> io::Result<()>
 }
 
 /// Tells that memory was wanting.
-pub(crate) fn tell_of_memory<W: Write>(output: &mut W) -> Status
+pub fn tell_of_memory<W: Write>(output: &mut W) -> Status
     ensures told { result ≡ Status.NoMemory → Appends (W.contents output.old) (W.contents output.new) no_memory_line }
     ensures failed { (result ≡ Status.NoMemory) ⊎ (result ≡ Status.WriteFailed) }
 {
@@ -86,22 +34,17 @@ pub(crate) fn tell_of_memory<W: Write>(output: &mut W) -> Status
     }
 }
 
-fn print_help<W: Write>(error: &Error, output: &mut W) -> io::Result<()> {
-    write!(output, "{error}")?;
-    output.flush()
-}
-
 /// Tells what is wrong with the command line, or the help that it asks for.
-fn tell<O: Write, F: Write>(error: &Error, output: &mut O, faults: &mut F) -> u8
+fn tell<O: Write, F: Write>(error: &Misunderstood, output: &mut O, faults: &mut F) -> u8
     ensures { ExitsAsTold result (O.contents output.old) (O.contents output.new) }
 {
-    if error.kind() == ErrorKind::OutOfMemory {
+    if error.is_want_of_memory() {
         return tell_of_memory(output).exit_status();
     }
-    let (told, status) = if error.use_stderr() {
-        (print_help(error, faults), NOT_UNDERSTOOD)
+    let (told, status) = if error.is_fault() {
+        (error.write_to(faults), NOT_UNDERSTOOD)
     } else {
-        (print_help(error, output), Status::Good.exit_status())
+        (error.write_to(output), Status::Good.exit_status())
     };
     match told {
         Ok(()) => status,

@@ -1,0 +1,98 @@
+//! The words of the command line, and the exit status.
+use crate::running::run;
+use std::process::Abort;
+
+#[test]
+fn a_whole_script(rt: HostRuntime) {
+    let ran = run(
+        &rt,
+        &["replay"],
+        "ring 1 2 8 4\n\
+         fill ste 5 70\n\
+         send 0 03000000050000000100000000000000\n\
+         send 1 03000000050000000100000000000000\n\
+         step 2\n\
+         send 1 03000000050000000100000000000000\n\
+         dump\n",
+        (0, 0),
+    );
+    let text = "ring size 2\n\
+                filled\n\
+                sent 0 number 1\n\
+                refused Q2\n\
+                applied CFGI_STE sid=5 leaf=1 removed=1\n\
+                applied CMD_SYNC cs=1 msh=0 attr=0 data=1 addr=0x40000000 removed=0\n\
+                sent 1 number 1\n\
+                prod 0x00000000\n\
+                cons 0x00000002\n\
+                gerror 0 gerrorn 0\n\
+                taken 2 applied 2 replaced 0 syncs 1 removed 1\n\
+                end\n";
+    assert_eq!(rt; ran.told(), (0, text, true));
+}
+
+#[test]
+fn a_whole_schedule(rt: HostRuntime) {
+    let ran = run(
+        &rt,
+        &["schedule"],
+        "ring 1 2\n\
+         look 0\n\
+         look 1\n\
+         reserve 1 03000000050000000100000000000000\n\
+         reserve 0 03000000050000000100000000000000\n\
+         test 1\n",
+        (0, 0),
+    );
+    let text = "ring size 2\n\
+                control 0 0 open\n\
+                control 0 0 open\n\
+                reserved 0 number 1\n\
+                lost 2 0 open\n\
+                line 6: F5\n";
+    assert_eq!(rt; ran.told(), (1, text, true));
+}
+
+/// Runs the program on some words, with an input that fails when it is read.
+fn expect_not_understood<R: AllocGlobal + Abort>(rt: &R, name: &str, words: &[&str]) {
+    let ran = run(rt, words, "ring 3 1 4 4\n", (1, 0));
+    assert_eq!(rt; ran.told(), (2, "", false), "{name}");
+}
+
+#[test]
+fn command_lines_that_are_not_understood(rt: HostRuntime) {
+    expect_not_understood(&rt, "no word", &[]);
+    expect_not_understood(&rt, "a word that means nothing", &["explode"]);
+    expect_not_understood(&rt, "a word too many", &["replay", "more"]);
+    expect_not_understood(&rt, "a word behind schedule", &["schedule", "more"]);
+}
+
+#[test]
+fn help(rt: HostRuntime) {
+    let ran = run(&rt, &["--help"], "", (1, 0));
+    let (status, text, is_silent) = ran.told();
+    assert_eq!(rt; (status, text.is_empty(), is_silent), (0, false, true));
+}
+
+/// Runs the program on one word, where the read and the write of these numbers fail, and wants this status.
+fn expect_status<R: AllocGlobal + Abort>(
+    rt: &R,
+    word: &str,
+    script: &str,
+    bad: (usize, usize),
+    wanted: u8,
+) {
+    let ran = run(rt, &[word], script, bad);
+    let (status, _, is_silent) = ran.told();
+    assert_eq!(rt; (status, is_silent), (wanted, true), "{script}");
+}
+
+#[test]
+fn exit_statuses(rt: HostRuntime) {
+    expect_status(&rt, "replay", "ring 3 1 4 4\n", (0, 0), 0);
+    // A script that is refused, a read that fails, a write that fails, and help that can't be written.
+    expect_status(&rt, "replay", "dump\n", (0, 0), 1);
+    expect_status(&rt, "replay", "ring 3 1 4 4\n", (1, 0), 4);
+    expect_status(&rt, "replay", "ring 3 1 4 4\n", (0, 1), 4);
+    expect_status(&rt, "--help", "", (0, 1), 4);
+}

@@ -1,0 +1,11 @@
+//! Tests of the program: what no clause says of the command line, words that are decoded from there on, and writers and
+//! allocations that fail. They stand in a crate of their own, since a build of a crate's tests proves the crate once
+//! more.
+#![tactic(auto)]
+
+#[cfg(test)]
+mod command_line_tests;
+#[cfg(test)]
+mod decoding_tests;
+#[cfg(test)]
+mod running;

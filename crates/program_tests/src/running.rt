@@ -1,0 +1,54 @@
+//! Runs of the program on fake streams.
+use fake_streams::{Sink, Source};
+use program::program;
+use std::io::{ErrorKind, Read, Write};
+
+const PIPE: ErrorKind = ErrorKind::BrokenPipe;
+
+/// What the program wrote, and what it ended with.
+#[derive(Drop)]
+pub struct Ran {
+    pub status: u8,
+    pub output: Sink,
+    pub faults: Sink,
+}
+
+impl Ran {
+    /// The status, what was written to standard output, and whether nothing was told of faults.
+    pub fn told(&self) -> (u8, &str, bool) {
+        (
+            self.status,
+            self.output.text(),
+            self.faults.text().is_empty(),
+        )
+    }
+}
+
+// The theorem isn't passed on, since it would be dear in each test.
+fn status_of<'a, A: AllocGlobal, I: Read, O: Write, F: Write>(
+    rt: &A,
+    words: &'a [&'a str],
+    input: &mut I,
+    output: &mut O,
+    faults: &mut F,
+) -> u8 {
+    program(rt, words, input, output, faults)
+}
+
+/// Runs the program, where the read and the write to `output` of these numbers fail, counted from 1.
+pub fn run<'a, A: AllocGlobal>(
+    rt: &A,
+    words: &'a [&'a str],
+    script: &str,
+    (bad_read, bad_write): (usize, usize),
+) -> Ran {
+    let mut input = Source::new(script.as_bytes(), 100, bad_read, PIPE);
+    let mut output = Sink::new(100, bad_write, PIPE);
+    let mut faults = Sink::new(100, 0, PIPE);
+    let status = status_of(rt, words, &mut input, &mut output, &mut faults);
+    Ran {
+        status,
+        output,
+        faults,
+    }
+}
