@@ -1,6 +1,7 @@
 //! The unit: the caches, and the stop at an illegal command.
-ghost use Rattle.std.specs.Prelude.{◌≡◌, ◌<◌, ◌≤◌, ◌^◌, ◌↔◌, ◌≢◌, [], All, IfOk, IfSome, OnOk, OnErr, IsTrue, Ok, Err, None, Some};
+ghost use Rattle.std.specs.Prelude.{◌≡◌, ◌<◌, ◌≤◌, ◌^◌, ◌↔◌, ◌≢◌, [], List, All, IfOk, IfSome, OnOk, OnErr, IsTrue, Ok, Err, None, Some};
 ghost use Rattle.std.specs.FinMap as finite;
+ghost use Rattle.ringcore.specs.world.World.{Taken};
 ghost use Rattle.caches.specs.Blocks.{IsBlock};
 ghost use Rattle.caches.specs.Held.{held};
 ghost use Rattle.engine.specs.Settled.{IsSettled};
@@ -153,6 +154,14 @@ impl Unit {
 }
 
 impl Unit {
+    /// A witness of what a ring asks of a unit that is its device: that its entries are settled for all that was taken.
+    /// It does nothing.
+    pub fn is_settled_as_a_device(&self)
+        ensures { (list : List Taken) → ⟦<Unit as Device>⟧.settled self.now list ↔ IsSettled self.now.caches.entries list }
+    {
+        let _ = &self.caches;
+    }
+
     /// Puts in an entry that is born now, and answers the one of its tag that was held before.
     ///
     /// Errors, in this order, which leave the unit as it was: C2 where its block isn't well formed; C1 where its tag
