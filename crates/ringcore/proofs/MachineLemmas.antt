@@ -1,4 +1,5 @@
 pub mod FaultlessIsAllowed
+pub mod AllowedIsFaultless
 pub mod ConsumerKnows
 pub mod Tallies
 pub mod SomeAndAllBelow

@@ -3,6 +3,7 @@ pub mod Faults
 pub mod FaultNames
 pub mod StepAnswers
 pub mod Played
+pub mod NamedSteps
 pub mod SenderViews
 pub mod ConsumerViews
 pub mod SyncTallies
