@@ -11,6 +11,42 @@ const DECODE: &str = "decode";
 
 const HEX: &str = "HEX";
 
+const REPLAY_HELP: &str = "\
+Reads lines from standard input and writes their answers to standard output,
+each as soon as its line was read. A line that is at fault ends the script.
+
+Example:
+    smmuq replay < examples/first-run.script
+
+docs/FORMATS.md describes the lines, under 'A script of smmuq replay'.";
+
+const SCHEDULE_HELP: &str = "\
+Reads lines from standard input and writes their answers to standard output,
+each as soon as its line was read. A line that is at fault ends the script.
+
+Example:
+    smmuq schedule < examples/two-laps.schedule
+
+docs/FORMATS.md describes the lines, under 'A script of smmuq schedule'.";
+
+const DECODE_HELP: &str = "\
+Reads no input, and writes one line to standard output: the command, or what is
+illegal in it.
+
+Example:
+    smmuq decode 12302000010002000004010000000000
+
+docs/FORMATS.md describes the words and the line, under 'What smmuq decode HEX
+says'.";
+
+const HELP: &str = "\
+A script is read from standard input, and is answered on standard output.
+
+Example:
+    smmuq replay < examples/first-run.script
+
+docs/FORMATS.md describes the lines of scripts, the answers and the exit status.";
+
 /// What the words of a command line ask for.
 #[derive(Clone, Copy)]
 pub enum Subcommand<'a> {
@@ -24,25 +60,31 @@ pub enum Subcommand<'a> {
 
 /// The word that is decoded.
 fn hex<'a>(alloc: Global) -> Arg<'a> {
-    Arg::new(alloc, HEX).required(true)
+    Arg::new(alloc, HEX)
+        .help("16 bytes of a command, as they lie in the queue")
+        .required(true)
 }
 
 fn decode<'a>(alloc: Global) -> Result<Command<'a>, AllocError> {
-    let decode = Command::new(alloc, DECODE).about(
-        "Says what 32 hexadecimal digits mean as a command",
-    );
-    decode.arg(hex(alloc))
+    Command::new(alloc, DECODE)
+        .about("Says what 32 hexadecimal digits mean as a command")
+        .override_usage("smmuq decode <HEX>")
+        .after_help(DECODE_HELP)
+        .arg(hex(alloc))
 }
 
 fn command_line<'a>(alloc: Global) -> Result<Command<'a>, AllocError> {
-    let replay = Command::new(alloc, "replay").about(
-        "Serves a script from standard input and answers it on standard output",
-    );
-    let schedule = Command::new(alloc, SCHEDULE).about(
-        "Plays a ring's atomic steps in the order of a script from standard input",
-    );
+    let replay = Command::new(alloc, "replay")
+        .about("Serves a script of a ring, its caches and commands")
+        .override_usage("smmuq replay < SCRIPT")
+        .after_help(REPLAY_HELP);
+    let schedule = Command::new(alloc, SCHEDULE)
+        .about("Plays a script of a ring's atomic steps, in any order")
+        .override_usage("smmuq schedule < SCRIPT")
+        .after_help(SCHEDULE_HELP);
     Command::new(alloc, "smmuq")
         .about("The command queue and the caches of an SMMUv3, as a simulator")
+        .after_help(HELP)
         .no_binary_name(true)
         .subcommand_required(true)
         .subcommand(replay)?

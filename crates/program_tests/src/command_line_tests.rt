@@ -67,11 +67,23 @@ fn command_lines_that_are_not_understood(rt: HostRuntime) {
     expect_not_understood(&rt, "a word behind schedule", &["schedule", "more"]);
 }
 
+/// Asks for help, and wants a text with this in it.
+fn expect_help<R: AllocGlobal + Abort>(rt: &R, words: &[&str], wanted: &str) {
+    let ran = run(rt, words, "", (1, 0));
+    let (status, text, is_silent) = ran.told();
+    assert_eq!(rt;
+        (status, text.contains(wanted), is_silent),
+        (0, true, true),
+        "{wanted}"
+    );
+}
+
 #[test]
 fn help(rt: HostRuntime) {
-    let ran = run(&rt, &["--help"], "", (1, 0));
-    let (status, text, is_silent) = ran.told();
-    assert_eq!(rt; (status, text.is_empty(), is_silent), (0, false, true));
+    expect_help(&rt, &["--help"], "smmuq replay < examples/first-run.script");
+    expect_help(&rt, &["replay", "--help"], "Usage: smmuq replay");
+    expect_help(&rt, &["schedule", "--help"], "Usage: smmuq schedule");
+    expect_help(&rt, &["decode", "--help"], "Usage: smmuq decode <HEX>");
 }
 
 /// Runs the program on one word, where the read and the write of these numbers fail, and wants this status.
