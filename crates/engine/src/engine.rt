@@ -1,5 +1,5 @@
 //! The engine: a unit with the consumer of a ring.
-ghost use Rattle.std.specs.Prelude.{◌≡◌, ◌≢◌, ◌≤◌, ◌↔◌, [], length, All, IfOk, IfSome, IsTrue, OnOk, OnErr, Ok, Err, None, Some};
+ghost use Rattle.std.specs.Prelude.{◌≡◌, ◌≢◌, ◌≤◌, ◌^◌, ◌↔◌, [], length, All, IfOk, IfSome, IsTrue, OnOk, OnErr, Ok, Err, None, Some};
 ghost use Rattle.std.specs.FinMap as finite;
 ghost use Rattle.caches.specs.Blocks.{IsBlock};
 ghost use Rattle.caches.specs.Held.{held};
@@ -68,6 +68,8 @@ impl Engine {
     pub fn step(&mut self, ring: &Ring) -> StepAnswer
         requires { self.old.consumer.ring ≡ ring.now }
         ensures stepped { HasStepped self.old self.new result }
+        ensures still { (result ≡ StepAnswer.StillStopped) ↔ IsStopped self.old.unit.stop.mode }
+        ensures exhausted { (result ≡ StepAnswer.Exhausted) ↔ (¬ IsStopped self.old.unit.stop.mode × (taken self.old.unit.counts ≡ 2 ^ 46)) }
         ensures settled { IsSettled self.new.unit.caches.entries (taken_of self.new.consumer.trail) }
         ensures ring { self.new.consumer.ring ≡ self.old.consumer.ring }
     {
@@ -84,6 +86,8 @@ impl Engine {
         requires some { 1 ≤ most }
         requires most { most ≤ 64 }
         ensures stepped { HasRun most self.old self.new result }
+        ensures still { (result ≡ RunAnswer.StillStopped) ↔ IsStopped self.old.unit.stop.mode }
+        ensures exhausted { (result ≡ RunAnswer.Exhausted) ↔ (¬ IsStopped self.old.unit.stop.mode × (taken self.old.unit.counts ≡ 2 ^ 46)) }
         ensures settled { IsSettled self.new.unit.caches.entries (taken_of self.new.consumer.trail) }
         ensures ring { self.new.consumer.ring ≡ self.old.consumer.ring }
     {

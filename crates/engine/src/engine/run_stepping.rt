@@ -1,10 +1,11 @@
 //! A step of a run of commands.
-ghost use Rattle.std.specs.Prelude.{◌≡◌, ◌≤◌, ◌+◌, ◌*◌, length, take, drop, slice_get, None, Some};
+ghost use Rattle.std.specs.Prelude.{◌≡◌, ◌≤◌, ◌↔◌, ◌^◌, ◌+◌, ◌*◌, length, take, drop, slice_get, None, Some};
 ghost use Rattle.cmdcodec.specs.declared.raw.Raw.{Raw as RawOf};
 ghost use Rattle.cmdcodec.specs.declared.ill.Ill.{Ill as IllOf};
 ghost use Rattle.cmdcodec.specs.Legality.{first_ill};
 ghost use Rattle.engine.specs.declared.stop.Mode.TheVariants.{Running};
 ghost use Rattle.ring.specs.consumer.Completing.{taken_of};
+ghost use Rattle.engine.specs.Stops.{IsStopped};
 ghost use Rattle.engine.specs.Counting.{taken};
 ghost use Rattle.engine.specs.Units.{AreApplied};
 ghost use Rattle.engine.specs.Engines.{AreTogether, HasRun};
@@ -27,6 +28,8 @@ pub(crate) fn step_run_with(
     requires some { 1 ≤ most }
     requires most { most ≤ 64 }
     ensures stepped { HasRun most (record { consumer = consumer; unit = unit.old }) (record { consumer = result.0; unit = unit.new }) result.1 }
+    ensures still { (result.1 ≡ RunAnswer.StillStopped) ↔ IsStopped unit.old.stop.mode }
+    ensures exhausted { (result.1 ≡ RunAnswer.Exhausted) ↔ (¬ IsStopped unit.old.stop.mode × (taken unit.old.counts ≡ 2 ^ 46)) }
     ensures together { AreTogether result.0 unit.new }
     ensures ring { result.0.ring ≡ consumer.ring }
 {

@@ -1,5 +1,7 @@
 //! A step of one command.
-ghost use Rattle.std.specs.Prelude.{◌≡◌};
+ghost use Rattle.std.specs.Prelude.{◌≡◌, ◌↔◌, ◌^◌};
+ghost use Rattle.engine.specs.Stops.{IsStopped};
+ghost use Rattle.engine.specs.Counting.{taken};
 ghost use Rattle.engine.specs.Engines.{AreTogether, HasStepped};
 
 use crate::answer::StepAnswer;
@@ -16,6 +18,8 @@ pub(crate) fn step_with(
     requires ring { consumer.ring ≡ ring.now }
     requires together { AreTogether consumer unit.old }
     ensures stepped { HasStepped (record { consumer = consumer; unit = unit.old }) (record { consumer = result.0; unit = unit.new }) result.1 }
+    ensures still { (result.1 ≡ StepAnswer.StillStopped) ↔ IsStopped unit.old.stop.mode }
+    ensures exhausted { (result.1 ≡ StepAnswer.Exhausted) ↔ (¬ IsStopped unit.old.stop.mode × (taken unit.old.counts ≡ 2 ^ 46)) }
     ensures together { AreTogether result.0 unit.new }
     ensures ring { result.0.ring ≡ consumer.ring }
 {
