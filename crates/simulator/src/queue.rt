@@ -21,7 +21,7 @@ mod taking;
 use qindex::Control;
 pub use reserving::Reserved;
 use crate::queue::seen::number_in;
-use crate::queue::steps::take;
+use crate::queue::steps::{take, view};
 use ringcore::{Core, CoreFault, Step};
 use std::alloc::Global;
 use std::marker::Model;
@@ -75,7 +75,7 @@ impl Queue {
         requires { sender < (ring_in self.now).senders }
         ensures { AfterEach self.now (λ run. result ≡ is_open (trail_of (Sender sender) run)) }
     {
-        self.core.sender(sender).unwrap().is_open()
+        view(&self.core, sender).is_open()
     }
 
     /// What the control word says.

@@ -1,7 +1,6 @@
 use Rattle.std.proofs.Common.{◌≡◌, ◌<◌, Some, sym, ap, ◌∙◌, subst}
 use Rattle.ringcore.specs.declared.world.event.Who.TheVariants.{Sender}
 use Rattle.ringcore.specs.declared.machine.step.Step.TheVariants.{Look}
-use Rattle.ringcore.specs.world.Trails.{Run}
 use Rattle.ringcore.specs.world.World.{world, control}
 use Rattle.ringcore.specs.world.Allowed.{Ring}
 use Rattle.simulator.specs.queue.Reserving.{looked_by}
