@@ -1,12 +1,15 @@
--- A sender looks, closes or asks.
-use Rattle.std.proofs.Common.{ℕ, ◌<◌, refl, Some}
+-- A sender looks, closes or asks; and what a look finds.
+use Rattle.std.proofs.Common.{◌≡◌, ℕ, ◌<◌, refl, ap, Some}
+use Rattle.qindex.specs.Indexes.{IsQueue}
 use Rattle.qindex.specs.declared.control.Control.{Control}
 use Rattle.ringcore.specs.declared.world.event.Who.TheVariants.{Sender}
 use Rattle.ringcore.specs.declared.world.event.Event.{Event}
 use Rattle.ringcore.specs.declared.world.event.Event.TheVariants as event
 use Rattle.ringcore.specs.declared.machine.step.Step.TheVariants.{Look, Close, Ask}
 use Rattle.ringcore.specs.world.Trails.{Run}
-use Rattle.ringcore.specs.world.World.{world, control}
+use Rattle.ringcore.specs.world.World.{tail, head, world, control}
+use Rattle.ringcore.specs.world.Allowed.{Ring}
+use Rattle.ringcore.specs.world.Laws.{IsWithin}
 use Rattle.simulator.specs.queue.Taking.{IsNext}
 use Rattle.simulator.specs.queue.Standing.{QueueValue, ring_in}
 use Rattle.simulator.proofs.QueueLemmas.Standing.{IsQuiet}
@@ -35,3 +38,9 @@ module _ (queue : QueueValue) (s : ℕ) (low : s < (ring_in queue).senders) wher
 
   pub may_ask : (run : Run) → IsNext (ring_in queue) run (Ask s) (Sender s) (ask_of run)
   may_ask run = record { seat = low; allowed = refl; asked = refl }
+
+-- What a look finds are the indexes of a queue.
+pub found_queue : (ring : Ring) (run : Run) (seen : Control) → seen ≡ control ring.geometry (world run) → IsWithin ring (world run)
+    → IsQueue seen.prod seen.cons ring.geometry (tail (world run)) (head (world run))
+found_queue ring run seen is within =
+    record { prod_is = ap (λ (k : Control). k.prod) is; cons_is = ap (λ (k : Control). k.cons) is; order = within.behind; within = within.within }

@@ -174,12 +174,6 @@ module _ (queue : QueueValue) (s : ℕ) (low : s < (ring_in queue).senders) (bod
 
 -- ---- the try
 
--- What a look finds are the indexes of a queue.
-pub found_queue : (ring : Ring) (run : Run) (seen : Control) → seen ≡ control ring.geometry (world run) → IsWithin ring (world run)
-    → IsQueue seen.prod seen.cons ring.geometry (tail (world run)) (head (world run))
-found_queue ring run seen is within =
-    record { prod_is = ap (λ (k : Control). k.prod) is; cons_is = ap (λ (k : Control). k.cons) is; order = within.behind; within = within.within }
-
 abbrev pub look_after : QueueValue → ℕ → Run → Run
 look_after queue s run = looked_by (Sender s) (ring_in queue).geometry run
 

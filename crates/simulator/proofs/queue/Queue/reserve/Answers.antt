@@ -10,7 +10,8 @@ use Rattle.ring.specs.declared.sender.cause.Cause.TheVariants.{TooLong, Exhauste
 use Rattle.simulator.specs.queue.Reserving.{Try, refused_for, won, MayReserve}
 use Rattle.simulator.specs.queue.Standing.{QueueValue, ring_in, IsQueueAfter, IsQueue, AfterEach}
 use Rattle.simulator.proofs.QueueLemmas.Standing.{each_inside}
-use Rattle.simulator.proofs.QueueLemmas.Reserving.{try_after, look_after, found_queue, may_reserve, too_long, exhausted, closed, full, wins, refused_ahead, refused_seen, may_win, has_won, is_answered}
+use Rattle.simulator.proofs.QueueLemmas.Looking.{found_queue}
+use Rattle.simulator.proofs.QueueLemmas.Reserving.{try_after, look_after, may_reserve, too_long, exhausted, closed, full, wins, refused_ahead, refused_seen, may_win, has_won, is_answered}
 use Rattle.simulator.proofs.queue.Queue.reserve.Goals as goal
 
 pub returns-then-many-size-clause-run : goal.returns-then-many-size-clause-run
