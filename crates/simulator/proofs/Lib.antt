@@ -5,3 +5,4 @@ pub mod Filling
 pub mod Acknowledging
 pub mod Judging
 pub mod Stepping
+pub mod QueueLemmas
