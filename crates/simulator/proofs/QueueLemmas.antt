@@ -3,3 +3,4 @@ pub mod Looking
 pub mod Reserving
 pub mod Reading
 pub mod Heads
+pub mod Completing

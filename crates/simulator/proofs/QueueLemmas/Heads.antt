@@ -23,6 +23,7 @@ use Rattle.simulator.specs.queue.Reserving.{looked_by}
 use Rattle.simulator.specs.queue.Heads.{raw_at_head, ready_with, head_of, found_by, head_taken, IsHeadSlot, head_is_flipped, tested, IsReadyAt, read_both}
 use Rattle.simulator.specs.queue.Taking.{IsNext, MayTake, Takes}
 use Rattle.simulator.specs.queue.Standing.{QueueValue, ring_in, IsQueueAfter, IsQueue as IsAQueue, AfterEach, GoesOn, HasRead}
+use Rattle.simulator.proofs.QueueLemmas.Standing.{stays_queue}
 use Rattle.simulator.proofs.QueueLemmas.Looking.{found_queue}
 
 -- ---- what stands at the head
@@ -85,7 +86,7 @@ look_next queue run = record { seat = tt; allowed = refl; asked = refl }
 
 pub may_look_at : (queue : QueueValue) → IsAQueue queue → MayTake queue.core (Look None)
 may_look_at queue is =
-    record { run = is.0; stands = is.1.stands; who = Consumer; e = event.Look (control (ring_in queue).geometry (world is.0)); next = look_next queue is.0 }
+    record { run = is.run; stands = is.after.stands; who = Consumer; e = event.Look (control (ring_in queue).geometry (world is.run)); next = look_next queue is.run }
 
 module _ (queue : QueueValue) (core : CoreValue) (seen : Seen) (taken : Takes queue.core core (Look None) seen) (same : ring_of core ≡ ring_of queue.core) where
   abbrev look_run : Run → Run
@@ -107,7 +108,7 @@ module _ (queue : QueueValue) (core : CoreValue) (seen : Seen) (taken : Takes qu
     head_goes_on stands = record { runs = after_head stands; ring = ring ∙ same; max_batches = refl }
 
     pub head_is_queue : AfterEach queue (λ run. StandsAfter last (head_taken (ring_in queue).geometry run)) → IsAQueue queue → IsAQueue new
-    head_is_queue stands is = (head_taken (ring_in queue).geometry is.0, after_head stands is.0 is.1)
+    head_is_queue stands is = stays_queue queue new is (ring ∙ same) (head_taken (ring_in queue).geometry is.run) (after_head stands is.run is.after)
 
   module _ (found : Control) (says : (run : Run) → StandsAfter core run → found ≡ control core.words.geometry (world run)) (within : NeverMoreThanFull)
       (empty : Bool) (by_queue : (geometry tail head : ℕ) → IsQueue found.prod found.cons geometry tail head → empty ≡ (tail == head)) where
@@ -140,7 +141,7 @@ module _ (queue : QueueValue) (core : CoreValue) (seen : Seen) (taken : Takes qu
       slot_is run is = slot_by core.words.geometry (head (world run)) (ap (λ (k : Control). k.cons) (says (look_run run) (looked_stands run is)))
 
       pub may_test_it : IsAQueue queue → (run : Run) × StandsAfter core run × IsHeadSlot (ring_of core) run slot
-      may_test_it is = (look_run is.0, looked_stands is.0 is.1, slot_is is.0 is.1)
+      may_test_it is = (look_run is.run, looked_stands is.run is.after, slot_is is.run is.after)
 
       module _ (flipped : Bool) (mid : CoreValue) (tests : (run : Run) → StandsAfter core run → IsHeadSlot (ring_of core) run slot → (flipped ≡ head_is_flipped run) × StandsAfter mid (tested run)) where
         tested_is : AfterEach queue (λ run. (flipped ≡ head_is_flipped run) × StandsAfter mid (tested (look_run run)))
@@ -171,7 +172,7 @@ module _ (queue : QueueValue) (core : CoreValue) (seen : Seen) (taken : Takes qu
           is_ready run is = record { slot_is = slot_is run is ∙ ap (λ r. place r.geometry (head (world run))) (sym ring); ready = omega arith; there = (raw_is run is).1 }
 
           pub may_read_it : IsAQueue queue → (run : Run) × (raw : Raw) × StandsAfter mid run × IsReadyAt (ring_of mid) run slot raw
-          may_read_it is = (ready_run is.0, (raw_is is.0 is.1).0, ready_stands is.0 is.1, is_ready is.0 is.1)
+          may_read_it is = (ready_run is.run, (raw_is is.run is.after).0, ready_stands is.run is.after, is_ready is.run is.after)
 
           module _ (told : Raw) (last : CoreValue)
               (reads : (run : Run) (raw : Raw) → StandsAfter mid run → IsReadyAt (ring_of mid) run slot raw → (told ≡ raw) × StandsAfter last (read_both raw run)) where

@@ -5,8 +5,6 @@ use Rattle.std.specs.Prelude.{nat_lt, nat_le, is_some, if◌then◌else◌}
 use Rattle.cmdcodec.specs.declared.raw.Raw.{Raw}
 use Rattle.cmdcodec.specs.Bodies.{IsBody}
 use Rattle.qindex.specs.Positions.{size, index_of}
-use Rattle.qindex.specs.Indexes.{IsQueue}
-use Rattle.qindex.specs.declared.control.Control.{Control}
 use Rattle.ringcore.specs.declared.world.event.Who.TheVariants.{Sender}
 use Rattle.ringcore.specs.declared.world.event.Event.{Event}
 use Rattle.ringcore.specs.declared.world.event.Event.TheVariants as event
@@ -15,18 +13,17 @@ use Rattle.ringcore.specs.declared.machine.step.Seen.{Seen}
 use Rattle.ringcore.specs.world.Trails.{Trail, Run, trail_of, batches_made, batch_length, reserved_length, has_flipped, IsSettled}
 use Rattle.ringcore.specs.world.World.{World, tail, head, world, control}
 use Rattle.ringcore.specs.world.Allowed.{Ring, IsNextNumber, MayWin, length_with}
-use Rattle.ringcore.specs.world.Laws.{IsWithin}
 use Rattle.ringcore.specs.machine.Open.{some_below, is_open}
 use Rattle.ringcore.specs.machine.StepAnswers.{next_number}
 use Rattle.ringcore.specs.machine.NamedSteps.{AsksFor}
-use Rattle.ringcore.specs.machine.Core.{CoreValue}
+use Rattle.ringcore.specs.machine.Core.{CoreValue, ring_of}
 use Rattle.ring.specs.declared.sender.cause.Cause.{Cause}
 use Rattle.ring.specs.declared.sender.cause.Cause.TheVariants.{TooLong, Exhausted, Closed, Full}
 use Rattle.simulator.specs.declared.queue.reserving.Reserved.{Reserved}
 use Rattle.simulator.specs.queue.Reserving.{looked_by, cause_ahead, cause_seen, Try, refused_for, won, MayReserve, unless_seen, unless_ahead, try_to_reserve}
 use Rattle.simulator.specs.queue.Taking.{IsNext, MayTake, Takes}
 use Rattle.simulator.specs.queue.Standing.{QueueValue, ring_in, IsQueueAfter, IsQueue as IsAQueue, AfterEach, GoesOn}
-use Rattle.simulator.proofs.QueueLemmas.Standing.{IsQuiet, quiet_after}
+use Rattle.simulator.proofs.QueueLemmas.Standing.{IsQuiet, quiet_after, stays_queue}
 
 -- ---- how it is answered
 
@@ -172,6 +169,11 @@ module _ (queue : QueueValue) (s : ℕ) (low : s < (ring_in queue).senders) (bod
         quiet_after queue (record { core = core; max_batches = queue.max_batches }) run s (won_of run) (won_quiet s body (next_number (trail_of (Sender s) run) closes)) is
         (taken run (Sender s) (won_of run) is.stands (won_next run may)).stands
 
+    pub won_is_queue : IsAQueue queue → ring_of core ≡ ring_of queue.core → (run : Run) → IsQueueAfter queue run → MayReserve (ring_in queue) s body closes run
+        → (let q : QueueValue = record { core = core; max_batches = queue.max_batches } in IsAQueue q)
+    won_is_queue queued ring run is may =
+        stays_queue queue (record { core = core; max_batches = queue.max_batches }) queued ring (won (ring_in queue) s body closes run run).run (won_after run is may)
+
 -- ---- the try
 
 abbrev pub look_after : QueueValue → ℕ → Run → Run
@@ -194,7 +196,7 @@ module _ (queue : QueueValue) (s : ℕ) (body : List Raw) (closes : Bool) where
 
     module _ (may : AfterEach queue (λ run. MayReserve (ring_in queue) s body closes (look_after queue s run))) where
       pub may_win : IsAQueue queue → (run : Run) × IsQueueAfter looked run × MayReserve (ring_in looked) s body closes run
-      may_win is = (look_after queue s is.0, goes.runs is.0 is.1, subst (λ (r : Ring). MayReserve r s body closes (look_after queue s is.0)) (sym goes.ring) (may is.0 is.1))
+      may_win is = (look_after queue s is.run, goes.runs is.run is.after, subst (λ (r : Ring). MayReserve r s body closes (look_after queue s is.run)) (sym goes.ring) (may is.run is.after))
 
       module _ (new : QueueValue) (wins : AfterEach queue (λ run. try_after run ≡ won (ring_in queue) s body closes run (look_after queue s run))) where
         pub has_won : ring_in new ≡ ring_in looked → new.max_batches ≡ looked.max_batches

@@ -1,11 +1,12 @@
 -- A queue stands as after one more event.
-use Rattle.std.proofs.Common.{◌≡◌, ℕ, Bool, true, false, ◌==◌, cond, ◌∷◌, refl, sym, ◌∙◌, subst, eqb-true}
+use Rattle.std.proofs.Common.{◌≤◌, ◌≡◌, ℕ, Bool, true, false, ◌==◌, cond, ◌∷◌, refl, sym, ◌∙◌, subst, eqb-true}
 use Rattle.ringcore.specs.declared.world.event.Who.TheVariants.{Sender}
 use Rattle.ringcore.specs.declared.world.event.Event.{Event}
 use Rattle.ringcore.specs.declared.machine.step.Step.{Step}
 use Rattle.ringcore.specs.declared.machine.step.Seen.{Seen}
 use Rattle.ringcore.specs.world.Trails.{Trail, Run, trail_of}
 use Rattle.ringcore.specs.world.World.{world}
+use Rattle.ringcore.specs.world.Allowed.{Ring}
 use Rattle.ringcore.specs.machine.Core.{CoreValue, ring_of, StandsAfter, AfterEachRun}
 use Rattle.simulator.specs.queue.Taking.{IsNext, MayTake, Takes}
 use Rattle.simulator.specs.queue.Standing.{QueueValue, ring_in, IsUntouched, IsQueueAfter, IsQueue, AfterEach, GoesOn}
@@ -32,10 +33,13 @@ quiet_after old new run s e quiet is stands = record {
   acknowledged = λ t. quiet.acknowledged run t ∙ is.acknowledged t;
 }
 
+pub stays_queue : (old new : QueueValue) → IsQueue old → ring_in new ≡ ring_in old → (run : Run) → IsQueueAfter new run → IsQueue new
+stays_queue old new is ring run after = record { few = subst (λ (r : Ring). r.senders ≤ 256) (sym ring) is.few; run = run; after = after }
+
 -- A sender takes one step, which is this event after each run.
 module _ (old : QueueValue) (s : ℕ) (step : Step) (e : Run → Event) (next : (run : Run) → IsNext (ring_in old) run step (Sender s) (e run)) where
   pub may_take : IsQueue old → MayTake old.core step
-  may_take is = record { run = is.0; stands = is.1.stands; who = Sender s; e = e is.0; next = next is.0 }
+  may_take is = record { run = is.run; stands = is.after.stands; who = Sender s; e = e is.run; next = next is.run }
 
   module _ (core : CoreValue) (seen : Seen) (taken : Takes old.core core step seen) (ring : ring_of core ≡ ring_of old.core) (quiet : (run : Run) → IsQuiet s (e run)) where
     abbrev new : QueueValue
@@ -48,7 +52,7 @@ module _ (old : QueueValue) (s : ℕ) (step : Step) (e : Run → Event) (next : 
     goes_on = record { runs = goes_on_after; ring = ring; max_batches = refl }
 
     pub is_queue : IsQueue old → IsQueue new
-    is_queue is = ((Sender s, e is.0) ∷ is.0, goes_on_after is.0 is.1)
+    is_queue is = stays_queue old new is ring ((Sender s, e is.run) ∷ is.run) (goes_on_after is.run is.after)
 
 -- What is known of the machine of a queue is known of the queue.
 pub each_inside : (inside outside : QueueValue) → inside ≡ outside → (P : Run → Type 0) → AfterEachRun inside.core P → AfterEach outside P

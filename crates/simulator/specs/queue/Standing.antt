@@ -1,5 +1,5 @@
 -- When a queue stands as after a run, and what calls do to that.
-use Rattle.std.specs.Prelude.{◌≡◌, ℕ, true, false, [], ◌∷◌}
+use Rattle.std.specs.Prelude.{◌≡◌, ◌≤◌, ℕ, true, false, [], ◌∷◌}
 use Rattle.ringcore.specs.declared.world.event.Who.TheVariants.{Consumer, Sender}
 use Rattle.ringcore.specs.world.Trails.{Trail, Run, trail_of, has_flipped}
 use Rattle.ringcore.specs.world.World.{world}
@@ -28,9 +28,11 @@ pub record IsQueueAfter (queue : QueueValue) (run : Run) : Type 0 where
   pub untouched : (s : ℕ) → IsUntouched (trail_of (Sender s) run)
   pub acknowledged : (s : ℕ) → (world run).acknowledged s ≡ syncs_taken s (trail_of Consumer run)
 
--- Some run is such.
-abbrev pub IsQueue : QueueValue → Type 0
-IsQueue queue = (run : Run) × IsQueueAfter queue run
+-- Some run is such, and at most 256 senders take its steps.
+pub record IsQueue (queue : QueueValue) : Type 0 where
+  pub few : (ring_in queue).senders ≤ 256
+  pub run : Run
+  pub after : IsQueueAfter queue run
 
 -- This holds after each such run.
 abbrev pub AfterEach : QueueValue → (Run → Type 0) → Type 0

@@ -4,6 +4,7 @@ ghost use Rattle.cmdcodec.specs.declared.raw.Raw.{Raw as RawOf};
 ghost use Rattle.ringcore.specs.world.Trails.{Run};
 ghost use Rattle.ringcore.specs.world.World.{world};
 ghost use Rattle.ringcore.specs.machine.Core.{ring_of, StandsAfter};
+ghost use Rattle.ring.specs.consumer.Completing.{sync_sender, sync_number, IsClosingSync};
 ghost use Rattle.simulator.specs.queue.Heads.{head_of, head_taken, completed, IsHeadSlot, head_is_flipped, tested, IsReadyAt, read_both};
 ghost use Rattle.simulator.specs.queue.Standing.{ring_in, IsQueueAfter, AfterEach, GoesOn, HasRead};
 
@@ -11,7 +12,8 @@ use crate::queue::Queue;
 use crate::queue::seen::{half_in, ready_in};
 use crate::queue::steps::take;
 use cmdcodec::{Raw, cell_owner};
-use ringcore::{Core, Step, world_law};
+use ringcore::laws::consumer_trail;
+use ringcore::{Core, Step, counts_law, world_law};
 
 /// What stands at the head.
 #[derive(Clone, Copy, Debug, PartialEq, Eq)]
@@ -57,10 +59,12 @@ impl Queue {
         ensures ring { ring_in self.new ≡ ring_in self.old }
         ensures max_batches { self.new.max_batches ≡ self.old.max_batches }
     {
+        counts_law();
+        consumer_trail();
         take(&mut self.core, Step::Advance { count: 1 });
         if raw.is_sync() {
-            let sender = cell_owner(raw.hi).unwrap() as u32;
-            let number = (raw.lo / 0x1_0000_0000) as u32;
+            let sender = closing_sender(raw);
+            let number = closing_number(raw);
             take(&mut self.core, Step::Acknowledge { sender, number });
         }
     }
@@ -84,4 +88,19 @@ fn read(core: &mut Core, slot: u32) -> Raw
     let lo = half_in(take(core, Step::Read { slot, half: 0 })).unwrap();
     let hi = half_in(take(core, Step::Read { slot, half: 1 })).unwrap();
     Raw { lo, hi }
+}
+
+/// Whose closing CMD_SYNC it is, by the completion cell that it writes into.
+fn closing_sender(raw: Raw) -> u32
+    requires { IsClosingSync raw }
+    ensures { result ≡ sync_sender raw }
+{
+    cell_owner(raw.hi).unwrap() as u32
+}
+
+/// The number of a closing CMD_SYNC: its MSIDATA.
+fn closing_number(raw: Raw) -> u32
+    ensures { result ≡ sync_number raw }
+{
+    (raw.lo / 0x1_0000_0000) as u32
 }

@@ -20,8 +20,8 @@ pub unwrap-requires : goal.unwrap-requires
 unwrap-requires c =
     let q : QueueValue = record { core = c.self.inside.core; max_batches = c.self.inside.max_batches } in let s = c.args.sender in
     let low = subst (λ (x : QueueValue). s < (ring_in x).senders) (sym c.self.view_is) c.requires in
-    let run = c.self.invariant.0 in
-    let is : c.number_in.result ≡ Some ((world run).acknowledged s) = c.number_in.ensures ∙ ap number_in (c.take.ensures.taken run (Sender s) (ask_of q s low run) c.self.invariant.1.stands (may_ask q s low run)).answer in
+    let run = c.self.invariant.run in
+    let is : c.number_in.result ≡ Some ((world run).acknowledged s) = c.number_in.ensures ∙ ap number_in (c.take.ensures.taken run (Sender s) (ask_of q s low run) c.self.invariant.after.stands (may_ask q s low run)).answer in
     search rules
 
 pub invariant_of-self : goal.invariant_of-self
