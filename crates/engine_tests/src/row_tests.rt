@@ -50,7 +50,7 @@ fn a_run_of_illegal_commands(rt: HostRuntime) {
     let mut engine = Engine::new(consumer, caches);
     let illegal = Batch::from_raws(&[ILLEGAL; 63]).expect(&rt, "63 commands");
     let Ok((sender, _receipt)) = sender.send(&ring, &illegal, 1) else {
-        return;
+        panic!(rt; "the batch is refused");
     };
     assert_eq!(rt; replace_each(&ring, &mut engine, 63), 63);
     let parts = expect_answers(

@@ -24,7 +24,7 @@ fn a_unit_alone(rt: HostRuntime) -> Result<(), CacheFault> {
         removed,
     } = unit.judge(LEGAL)
     else {
-        return Ok(());
+        panic!(rt; "a legal command isn't applied");
     };
     assert_eq!(rt; removed, 1);
     assert_eq!(rt; unit.judge(ILLEGAL), Verdict::Stopped(Ill::UnknownOpcode));

@@ -29,12 +29,7 @@ fn lap<R: AllocGlobal + Abort>(rt: &R, ring: &Ring, seats: Seats, number: u32) -
     let Seats { sender, consumer } = seats;
     let (mut sender, receipt) = match sender.send(ring, &batch_of(rt, 1), 1) {
         Ok(sent) => sent,
-        Err(refused) => {
-            return Seats {
-                sender: refused.sender,
-                consumer,
-            };
-        }
+        Err(_) => panic!(rt; "the batch is refused"),
     };
     assert!(rt; !sender.is_done(ring, &receipt));
     let calls = calls_of_lap(rt, number);
@@ -65,7 +60,7 @@ fn a_stalled_sender(rt: HostRuntime) {
     let (ring, first, seats) = ring_of_two(&rt, 3, 4);
     let one = batch_of(&rt, 1);
     let Ok(reservation) = first.reserve(&ring, &one) else {
-        return;
+        panic!(rt; "the batch is refused");
     };
     let seats = play(
         &rt,
@@ -91,7 +86,7 @@ fn a_close_while_a_reservation_is_open(rt: HostRuntime) {
     let (ring, first, seats) = ring_of_two(&rt, 3, 4);
     let one = batch_of(&rt, 1);
     let Ok(reservation) = first.reserve(&ring, &one) else {
-        return;
+        panic!(rt; "the batch is refused");
     };
     let seats = play(
         &rt,

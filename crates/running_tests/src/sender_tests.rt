@@ -66,7 +66,7 @@ fn a_reservation_step_by_step(rt: HostRuntime) {
     let (ring, seats) = ring_of_one(&rt, 2, 8);
     let two = batch_of(&rt, 2);
     let Ok(mut reservation) = seats.sender.reserve(&ring, &two) else {
-        return;
+        panic!(rt; "the batch is refused");
     };
     assert_eq!(rt; (reservation.unwritten(), reservation.unflipped()), (3, 0));
     reservation.write_next(&ring);
@@ -88,7 +88,7 @@ fn bare_batches_have_no_number(rt: HostRuntime) {
     let Seats { sender, consumer } = play(&rt, &ring, seats, "bare 1 = sent\nsend 1 = number 1");
     let one = batch_of(&rt, 1);
     let Ok(mut reservation) = sender.reserve_bare(&ring, &one) else {
-        return;
+        panic!(rt; "the batch is refused");
     };
     assert_eq!(rt; reservation.unwritten(), 1);
     reservation.write_next(&ring);

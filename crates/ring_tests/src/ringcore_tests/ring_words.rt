@@ -68,9 +68,7 @@ fn ring_of_4(alloc: Global) -> Option<RingWords> {
 
 #[test]
 fn one_operation_after_another(rt: HostRuntime) {
-    let Some(mut words) = ring_of_4(rt.alloc()) else {
-        return;
-    };
+    let mut words = ring_of_4(rt.alloc()).expect(&rt, "a ring of 4 slots");
     assert_eq!(rt; said(&words), Some((0, 0, false)));
     assert_eq!(rt; reserved(&mut words, 1, 3), Some(false));
     assert_eq!(rt; reserved(&mut words, 0, 3), Some(true));

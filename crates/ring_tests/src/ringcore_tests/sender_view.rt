@@ -30,12 +30,8 @@ fn slots(view: &SenderView, geometry: Geometry) -> Option<[Option<u32>; 4]> {
 
 #[test]
 fn one_batch(rt: HostRuntime) {
-    let Some(geometry) = Geometry::new(2) else {
-        return;
-    };
-    let Some(found) = Control::unpack(geometry, 0x3_0000_0003) else {
-        return;
-    };
+    let geometry = Geometry::new(2).expect(&rt, "4 slots");
+    let found = Control::unpack(geometry, 0x3_0000_0003).expect(&rt, "a control word");
     let mut view = SenderView::new();
     assert!(rt; !view.expects(&found));
     view.looks(&found);
