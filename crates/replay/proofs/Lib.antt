@@ -1,10 +1,1 @@
-pub mod TestLemmas
-pub mod ParseLemmas
-pub mod HistoryLemmas
-pub mod WorldLemmas
-pub mod SmmuLemmas
-pub mod EffectLemmas
-pub mod RefusalLemmas
-pub mod StepsLemmas
-pub mod DumpLemmas
-pub mod ServedLemmas
+pub mod BodyLemmas
