@@ -1,1 +1,2 @@
 pub mod requests
+pub mod texts

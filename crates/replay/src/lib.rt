@@ -3,3 +3,4 @@
 
 mod parsing;
 mod request;
+mod telling;
