@@ -10,7 +10,7 @@ mod world;
 pub use laws::{batches_law, counts_law, steps_law, world_law};
 pub use machine::{
     ConsumerView, Core, CoreFault, Seen, SenderView, Step, StepFault, SyncTallies, batch_commands,
-    run,
+    index_of, run,
 };
 pub use memory::{
     RingWords, cell, control_word, data_word, flag_word, flip_mask, new_flags, polarity, ready_run,

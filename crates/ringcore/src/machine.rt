@@ -1,11 +1,12 @@
 //! The ring with one owner: its words, and what each seat knows.
-ghost use Rattle.std.specs.Prelude.{◌≡◌, ◌<◌, ◌≤◌, [], length, IfOk, IfErr, OnErr};
+ghost use Rattle.std.specs.Prelude.{◌≡◌, ◌<◌, ◌≤◌, [], length, IfOk, IfErr, OnErr, MatchOption};
 ghost use Rattle.qindex.specs.ControlWord.{IsControl};
 ghost use Rattle.ringcore.specs.world.Trails.{Run};
 ghost use Rattle.ringcore.specs.world.World.{world, control};
 ghost use Rattle.ringcore.specs.world.Delivery.{IsOrderedDelivery};
+ghost use Rattle.ringcore.specs.machine.SenderViews.{Knows};
 ghost use Rattle.ringcore.specs.machine.Played.{played};
-ghost use Rattle.ringcore.specs.machine.Core.{ring_of, ring_with, AllKnow, StandsAfter, IsTaken, IsRefused, IsTakenOrRefused, IsNew, IsNotMade, number_fault, HasPlayed};
+ghost use Rattle.ringcore.specs.machine.Core.{ring_of, ring_with, AllKnow, AfterEachRun, StandsAfter, IsTaken, IsRefused, IsTakenOrRefused, IsNew, IsNotMade, number_fault, HasPlayed};
 
 use crate::memory::{RingWords, laws as word_laws};
 use crate::world::laws::world_law;
@@ -30,6 +31,7 @@ mod sync_tallies;
 pub use commands::batch_commands;
 pub use consumer_view::ConsumerView;
 pub use core_fault::CoreFault;
+pub use places::index_of;
 pub use sender_view::SenderView;
 pub use step::{Seen, Step};
 pub use step_fault::StepFault;
@@ -135,6 +137,16 @@ impl Core {
         control_words_say_their_control();
         indexes_tell_the_queue();
         self.words.control().unwrap()
+    }
+
+    /// What the sender of this number knows. None where the ring has no such sender.
+    pub fn sender(&self, sender: u32) -> Option<&SenderView>
+        ensures { MatchOption result (self.now.words.senders ≤ sender) (λ view. (sender < self.now.words.senders) × AfterEachRun self.now (λ run. Knows run sender view.now)) }
+    {
+        if sender as usize >= self.senders.len() {
+            return None;
+        }
+        Some(&self.senders[sender as usize])
     }
 }
 

@@ -27,7 +27,7 @@ fn foreign(is_held: bool) -> StepFault
 }
 
 /// The index of a position.
-pub(crate) fn index_of(geometry: Geometry, position: u64) -> Index
+pub fn index_of(geometry: Geometry, position: u64) -> Index
     ensures { result ≡ index_of geometry position }
 {
     let number = position % u64::from(2 * geometry.size());

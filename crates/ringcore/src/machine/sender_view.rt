@@ -11,7 +11,7 @@ ghost use Rattle.ringcore.specs.declared.machine.sender_view.Progress.{Progress}
 ghost use Rattle.ringcore.specs.declared.world.event.Who.TheVariants.{Sender};
 ghost use Rattle.ringcore.specs.declared.world.event.Half.TheVariants.{Lo, Hi};
 ghost use Rattle.ringcore.specs.declared.world.event.Event.TheVariants.{Look, Won, Lost, Write, Flip};
-ghost use Rattle.ringcore.specs.world.Trails.{Run, looked, trail_of, reserved_length, has_written, has_flipped};
+ghost use Rattle.ringcore.specs.world.Trails.{Run, looked, trail_of, batches_made, reserved_length, has_written, has_flipped};
 ghost use Rattle.ringcore.specs.world.World.{tail, world};
 ghost use Rattle.ringcore.specs.memory.StepLaws.{reserved_commands};
 ghost use Rattle.ringcore.specs.world.Allowed.{Ring};
@@ -130,6 +130,13 @@ impl SenderView {
         ensures { (run : Run) (s : ℕ) → Knows run s self.old → Knows ((Sender s, Flip offset count) ∷ run) s self.new }
     {
         mark_flipped(&mut self.progress, offset as usize, count as usize);
+    }
+
+    /// How many batches it made.
+    pub fn batches(&self) -> u32
+        ensures { WhereKnown self.now (λ run s mine. result ≡ batches_made mine) }
+    {
+        self.batches
     }
 
     /// How many commands its last reservation has.

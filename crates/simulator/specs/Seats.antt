@@ -1,0 +1,40 @@
+-- What a sender does: look, reserve, publish, close and ask.
+use Rattle.std.specs.Prelude.{ℕ, Bool, List, ◌∷◌, ⊤, Option, Result}
+use Rattle.cmdcodec.specs.declared.raw.Raw.{Raw}
+use Rattle.qindex.specs.declared.control.Control.{Control}
+use Rattle.ringcore.specs.declared.world.event.Who.TheVariants.{Sender}
+use Rattle.ringcore.specs.declared.world.event.Event.TheVariants.{Close, Ask}
+use Rattle.ringcore.specs.world.Trails.{Run}
+use Rattle.ringcore.specs.world.World.{world, control}
+use Rattle.ring.specs.declared.sender.cause.Cause.{Cause}
+use Rattle.simulator.specs.declared.queue.reserving.Reserved.{Reserved}
+use Rattle.simulator.specs.queue.Reserving.{looked_by, try_to_reserve}
+use Rattle.simulator.specs.queue.Publishing.{last_number, published}
+use Rattle.simulator.specs.State.{State, Answered, mine}
+
+abbrev pub with_run : State → Run → State
+with_run state run = record state { run = run }
+
+abbrev pub looked : ℕ → State → Answered Control
+looked s state = record {
+  answer = control state.ring.geometry (world state.run);
+  state = with_run state (looked_by (Sender s) state.ring.geometry state.run);
+}
+
+abbrev pub closed : ℕ → State → Answered ⊤
+closed s state = record { answer = tt; state = with_run state ((Sender s, Close) ∷ state.run) }
+
+abbrev pub asked : ℕ → State → Answered ℕ
+asked s state =
+    let number = (world state.run).acknowledged s in
+    record { answer = number; state = with_run state ((Sender s, Ask number) ∷ state.run) }
+
+-- a batch of this body, which closes with a CMD_SYNC or doesn't
+abbrev pub reserved : ℕ → List Raw → Bool → State → Answered (Result Reserved Cause)
+reserved s body closes state =
+    let tried = try_to_reserve state.ring state.max_batches s body closes state.run in
+    record { answer = tried.answer; state = with_run state tried.run }
+
+-- the batch that is reserved
+abbrev pub published_by : ℕ → State → Answered (Option ℕ)
+published_by s state = record { answer = last_number (mine s state); state = with_run state (published state.ring.geometry s state.run) }

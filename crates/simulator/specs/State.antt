@@ -1,0 +1,93 @@
+-- The SMMU's queue and caches, by their histories: what happened to each, and what is read off that.
+use Rattle.std.specs.Prelude.{ℕ, ◌+◌, ◌-◌, ◌*◌, ◌^◌, Bool, true, false, not, List, [], ◌∷◌, count_by, Option, Some, None}
+use Rattle.std.specs.FinMap as finite
+use Rattle.cmdcodec.specs.declared.command.Command.{Command}
+use Rattle.cmdcodec.specs.Opcodes.{is_sync}
+use Rattle.qindex.specs.Positions.{index_of}
+use Rattle.ringcore.specs.declared.world.event.Who.TheVariants.{Sender}
+use Rattle.ringcore.specs.declared.world.event.Outcome.{Outcome}
+use Rattle.ringcore.specs.declared.world.event.Outcome.TheVariants.{Applied, Replaced}
+use Rattle.ringcore.specs.world.Trails.{Trail, Run, trail_of}
+use Rattle.ringcore.specs.world.World.{World, Taken, tail, head, world}
+use Rattle.ringcore.specs.world.Allowed.{Ring}
+use Rattle.ringcore.specs.machine.Core.{ring_with}
+use Rattle.caches.specs.Held.{Entries, History, Item, Fill, Evict, Take, held, without_covered}
+use Rattle.engine.specs.declared.answer.Registers.{Registers}
+use Rattle.engine.specs.Stops.{StopValue, unstopped, err_of, word_of}
+use Rattle.engine.specs.Counting.{CountsValue}
+use Rattle.simulator.specs.declared.shape.Shape.{Shape}
+
+-- The ring, how many batches each of its senders may reserve, and how many entries the caches may hold; all that
+-- happened to the ring, the newest first, and to the caches; and how the stop at an illegal command stands.
+pub record State : Type 0 where
+  pub ring : Ring
+  pub max_batches : ℕ
+  pub capacity : ℕ
+  pub run : Run
+  pub history : History
+  pub stop : StopValue
+
+-- before anything happened
+abbrev pub made : Shape → State
+made shape = record {
+  ring = ring_with shape.log2 shape.senders;
+  max_batches = shape.max_batches;
+  capacity = shape.capacity;
+  run = [];
+  history = [];
+  stop = unstopped;
+}
+
+-- How a call is answered, and how things stand after it.
+pub record Answered (Answer : Type 0) : Type 0 where
+  pub answer : Answer
+  pub state : State
+
+-- ---- what is read off it
+
+abbrev pub mine : ℕ → State → Trail
+mine s state = trail_of (Sender s) state.run
+
+abbrev pub entries : State → Entries
+entries state = held state.history
+
+-- how many commands were taken
+abbrev pub taken_so_far : State → ℕ
+taken_so_far state = head (world state.run)
+
+-- how many entries a command removes from these
+abbrev pub removed_from : Command → Entries → ℕ
+removed_from command entries = finite.len entries - finite.len (without_covered command entries)
+
+-- how many a history's commands removed
+abbrev pub removed_in : History → ℕ
+removed_in [] = 0
+removed_in (Fill entry ∷ history) = removed_in history
+removed_in (Evict tag ∷ history) = removed_in history
+removed_in (Take command ∷ history) = removed_in history + removed_from command (held history)
+
+abbrev pub is_applied : Outcome → Bool
+is_applied Applied = true
+is_applied Replaced = false
+
+-- what is counted of the commands that were taken
+abbrev pub counted : Run → History → CountsValue
+counted run history =
+    let taken = (world run).taken in
+    record {
+      applied = count_by (λ (t : Taken). is_applied t.outcome) taken;
+      replaced = count_by (λ (t : Taken). not (is_applied t.outcome)) taken;
+      syncs = count_by (λ (t : Taken). is_sync t.raw) taken;
+      removed = removed_in history;
+    }
+
+-- the queue's registers
+abbrev pub registers : State → Registers
+registers state =
+    let w = world state.run in
+    record {
+      prod = (index_of state.ring.geometry (tail w)).number;
+      cons = (index_of state.ring.geometry (head w)).number + err_of state.stop.mode * 2 ^ 24;
+      gerror = word_of state.stop.error;
+      gerrorn = word_of state.stop.acknowledged;
+    }

@@ -1,0 +1,4 @@
+pub mod Reserving
+pub mod Publishing
+pub mod Heads
+pub mod Standing

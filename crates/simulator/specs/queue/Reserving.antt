@@ -1,0 +1,64 @@
+-- A try to reserve a batch: how it is answered, and which events it is.
+use Rattle.std.specs.Prelude.{ℕ, ◌+◌, Bool, nat_lt, nat_le, List, ◌∷◌, Option, Some, None, Result, Ok, Err, if◌then◌else◌}
+use Rattle.cmdcodec.specs.declared.raw.Raw.{Raw}
+use Rattle.qindex.specs.Positions.{size, index_of}
+use Rattle.ringcore.specs.declared.world.event.Who.{Who}
+use Rattle.ringcore.specs.declared.world.event.Who.TheVariants.{Sender}
+use Rattle.ringcore.specs.declared.world.event.Event.TheVariants.{Look, Won}
+use Rattle.ringcore.specs.world.Trails.{Trail, Run, trail_of, batches_made}
+use Rattle.ringcore.specs.world.World.{World, tail, head, world, control}
+use Rattle.ringcore.specs.world.Allowed.{Ring, length_with}
+use Rattle.ringcore.specs.machine.StepAnswers.{next_number}
+use Rattle.ring.specs.declared.sender.cause.Cause.{Cause}
+use Rattle.ring.specs.declared.sender.cause.Cause.TheVariants.{TooLong, Exhausted, Closed, Full}
+use Rattle.simulator.specs.declared.queue.reserving.Reserved.{Reserved}
+
+-- a seat looks at the control word
+abbrev pub looked_by : Who → ℕ → Run → Run
+looked_by who geometry run = (who, Look (control geometry (world run))) ∷ run
+
+-- Why a batch of so many commands isn't reserved, ahead of a look: the ring is too short for it, or the sender has
+-- no batch left.
+abbrev pub cause_ahead : Ring → ℕ → Trail → ℕ → Option Cause
+cause_ahead ring max_batches mine many =
+    if nat_lt (size ring.geometry) many then Some TooLong
+    else if nat_le max_batches (batches_made mine) then Some Exhausted
+    else None
+
+-- And by what a look finds: the ring is closed, or has too little room.
+abbrev pub cause_seen : Ring → World → ℕ → Option Cause
+cause_seen ring w many =
+    if w.closed then Some Closed
+    else if nat_lt (head w + size ring.geometry) (tail w + many) then Some Full
+    else None
+
+-- how the try is answered, and the run after it
+pub record Try : Type 0 where
+  pub answer : Result Reserved Cause
+  pub run : Run
+
+abbrev pub refused_for : Cause → Run → Try
+refused_for cause run = record { answer = Err cause; run = run }
+
+-- The batch stands from the tail on, with the next of its sender's numbers where it closes.
+abbrev pub won : Ring → ℕ → List Raw → Bool → Run → Run → Try
+won ring s body closes before run =
+    let number = next_number (trail_of (Sender s) before) closes in
+    record {
+      answer = Ok (record { first = index_of ring.geometry (tail (world before)); number = number });
+      run = (Sender s, Won body number) ∷ run;
+    }
+
+abbrev pub unless_seen : Ring → ℕ → List Raw → Bool → Run → Option Cause → Try
+unless_seen ring s body closes run (Some cause) = refused_for cause (looked_by (Sender s) ring.geometry run)
+unless_seen ring s body closes run None = won ring s body closes run (looked_by (Sender s) ring.geometry run)
+
+abbrev pub unless_ahead : Ring → ℕ → List Raw → Bool → Run → Option Cause → Try
+unless_ahead ring s body closes run (Some cause) = refused_for cause run
+unless_ahead ring s body closes run None = unless_seen ring s body closes run (cause_seen ring (world run) (length_with closes body))
+
+-- A sender tries to reserve a batch of this body, which closes with a CMD_SYNC or doesn't; each sender may reserve at
+-- most so many.
+unfoldable pub try_to_reserve : Ring → ℕ → ℕ → List Raw → Bool → Run → Try
+try_to_reserve ring max_batches s body closes run =
+    unless_ahead ring s body closes run (cause_ahead ring max_batches (trail_of (Sender s) run) (length_with closes body))

@@ -1,0 +1,198 @@
+//! The queue with its unit.
+ghost use Rattle.std.specs.Prelude.{◌≡◌, ◌<◌, IfOk, IfErr, IfSome, OnErr, Err, true, false, None};
+ghost use Rattle.std.specs.FinMap as finite;
+ghost use Rattle.qindex.specs.ControlWord.{IsControl};
+ghost use Rattle.ringcore.specs.machine.Open.{is_open};
+ghost use Rattle.ringcore.specs.machine.Faults.{has_sender};
+ghost use Rattle.simulator.specs.Shapes.{shape_fault, IsNotMade};
+ghost use Rattle.simulator.specs.queue.Standing.{ring_in};
+ghost use Rattle.simulator.specs.State.{made, mine, entries, counted, registers};
+ghost use Rattle.simulator.specs.Fills.{filled, evicted};
+ghost use Rattle.simulator.specs.Seats.{looked, closed, asked, reserved, published_by};
+ghost use Rattle.simulator.specs.Steps.{stepped, acknowledged};
+ghost use Rattle.simulator.specs.Standing.{Stands, Does, MayDo, Tells};
+
+mod stepping;
+
+use crate::queue::{Queue, Reserved};
+use crate::shape::{Shape, ShapeFault};
+use batch::Batch;
+use caches::{CacheFault, Caches, Entry, Tag};
+use engine::{AckFault, Counts, Registers, Remedy, StepAnswer, Unit};
+use qindex::Control;
+use ring::Cause;
+use ringcore::CoreFault;
+use std::alloc::Global;
+use std::marker::Model;
+
+/// A ring with its senders, and the unit that takes what they send: one owner takes every step.
+#[derive(Drop)]
+pub struct Simulator {
+    queue: Queue,
+    unit: Unit,
+}
+
+impl Model for Simulator {
+    ghost use Rattle.std.specs.Coded.{codes};
+    ghost use Rattle.caches.specs.Stored.{stored_code};
+    ghost use Rattle.simulator.specs.Standing.{SimulatorValue, IsSimulator};
+
+    ghost Value = { SimulatorValue };
+
+    ghost coded = { Prim.hlevel (codes, stored_code) };
+
+    ghost view = { λ s. record { queue = s.queue; unit = s.unit } };
+
+    ghost invariant = { λ s. IsSimulator (record { queue = s.queue; unit = s.unit }) };
+}
+
+impl Simulator {
+    /// A simulator to which nothing has happened yet.
+    ///
+    /// Errors, in this order: N1, N2, N3 and C4 where a number of the shape is out of range; want of memory.
+    pub fn new(alloc: Global, shape: &Shape) -> Result<Simulator, ShapeFault>
+        ensures made { IfOk result (λ simulator. Stands simulator (made shape.now)) }
+        ensures numbers { IfOk result (λ simulator. shape_fault shape.now ≡ None) }
+        ensures refused { IfErr result (λ fault. IsNotMade (shape_fault shape.now) fault) }
+    {
+        if let Some(fault) = shape.fault() {
+            return Err(fault);
+        }
+        let caches = Caches::new(alloc, shape.capacity).unwrap();
+        match Queue::new(alloc, shape.log2, shape.senders, shape.max_batches) {
+            Ok(queue) => Ok(Simulator {
+                queue,
+                unit: Unit::new(caches),
+            }),
+            Err(CoreFault::Memory(error)) => Err(ShapeFault::Memory(error)),
+            Err(CoreFault::Size) => Err(ShapeFault::Size),
+            Err(CoreFault::Senders) => Err(ShapeFault::Senders),
+        }
+    }
+
+    /// Whether the ring has a sender of this number.
+    pub fn has_sender(&self, sender: u32) -> bool
+        ensures told { Tells self.now (λ state. result ≡ has_sender state.ring sender) }
+        ensures there { result ≡ true → sender < (ring_in self.now.queue).senders }
+    {
+        self.queue.has_sender(sender)
+    }
+
+    /// Whether a sender has an open reservation.
+    pub fn is_open(&self, sender: u32) -> bool
+        requires { sender < (ring_in self.now.queue).senders }
+        ensures { Tells self.now (λ state. result ≡ is_open (mine sender state)) }
+    {
+        self.queue.is_open(sender)
+    }
+
+    /// A sender tries once to reserve a batch, which closes with a CMD_SYNC or doesn't.
+    ///
+    /// Errors, in this order: Q4, Q5, Q1, Q2.
+    pub fn reserve(&mut self, sender: u32, batch: &Batch, closes: bool) -> Result<Reserved, Cause>
+        requires sender { sender < (ring_in self.old.queue).senders }
+        requires settled { Tells self.old (λ state. is_open (mine sender state) ≡ false) }
+        ensures { Does self.old self.new result (reserved sender batch.now closes) }
+    {
+        self.queue.reserve(sender, batch, closes)
+    }
+
+    /// A sender writes its open reservation and hands it over, and tells the number of its batch, if it has one.
+    pub fn publish(&mut self, sender: u32) -> Option<u32>
+        requires sender { sender < (ring_in self.old.queue).senders }
+        requires open { Tells self.old (λ state. is_open (mine sender state) ≡ true) }
+        ensures { Does self.old self.new result (published_by sender) }
+    {
+        self.queue.publish(sender)
+    }
+
+    /// A sender looks: both indexes, and whether the ring is closed.
+    pub fn look(&mut self, sender: u32) -> Control
+        requires { sender < (ring_in self.old.queue).senders }
+        ensures { Does self.old self.new result (looked sender) }
+    {
+        self.queue.look(sender)
+    }
+
+    /// A sender closes: nothing is reserved after it.
+    pub fn close(&mut self, sender: u32)
+        requires { sender < (ring_in self.old.queue).senders }
+        ensures { Does self.old self.new tt (closed sender) }
+    {
+        self.queue.close(sender)
+    }
+
+    /// A sender asks up to which number its batches are completed.
+    pub fn done_up_to(&mut self, sender: u32) -> u32
+        requires { sender < (ring_in self.old.queue).senders }
+        ensures { Does self.old self.new result (asked sender) }
+    {
+        self.queue.ask(sender)
+    }
+}
+
+impl Simulator {
+    /// Puts in an entry that is born now, and answers the one of its tag that was held before.
+    ///
+    /// Errors, in this order: C2 where its block isn't well formed; C1 where its tag is new and the caches are full; C3
+    /// for want of memory, where its tag is new.
+    pub fn fill(&mut self, tag: Tag, value: u64) -> Result<Option<Entry>, CacheFault>
+        ensures { MayDo self.old self.new result (λ wanting. filled wanting tag value) }
+    {
+        self.unit.fill(tag, value)
+    }
+
+    /// Removes the entry of this tag, and answers it.
+    pub fn evict(&mut self, tag: &Tag) -> Option<Entry>
+        ensures { Does self.old self.new result (evicted tag.now) }
+    {
+        self.unit.evict(tag)
+    }
+
+    /// The entry of this tag that is held, if one is.
+    pub fn lookup(&self, tag: &Tag) -> Option<Entry>
+        ensures { Tells self.now (λ state. result ≡ finite.get (entries state) tag.now) }
+    {
+        self.unit.lookup(tag)
+    }
+
+    /// All entries that are held, in the order of their tags.
+    ///
+    /// Errors: C3 for want of memory, and no other.
+    pub fn entries(&self) -> Result<Vec<Entry>, CacheFault>
+        ensures ok { IfOk result (λ list. Tells self.now (λ state. list.items ≡ finite.values (entries state))) }
+        ensures err { OnErr result (result ≡ Err CacheFault.NoMemory) }
+    {
+        self.unit.entries()
+    }
+
+    /// Software writes SMMU_GERRORN, and says what is to become of the command at which consumption stopped.
+    ///
+    /// Errors, in this order: G1 where no error is active; G2 where CMDQ_ERR of the word isn't that of SMMU_GERROR.
+    pub fn acknowledge(&mut self, gerrorn: u32, remedy: Remedy) -> Result<(), AckFault>
+        ensures { Does self.old self.new result (acknowledged gerrorn remedy) }
+    {
+        self.unit.acknowledge(gerrorn, remedy)
+    }
+
+    /// The queue's registers.
+    pub fn registers(&self) -> Registers
+        ensures { Tells self.now (λ state. result ≡ registers state) }
+    {
+        let control = self.queue.control();
+        let (err, gerror, gerrorn) = self.unit.error();
+        Registers {
+            prod: control.prod_register(),
+            cons: control.cons_register(err),
+            gerror,
+            gerrorn,
+        }
+    }
+
+    /// What was counted of the commands taken.
+    pub fn counts(&self) -> Counts
+        ensures { Tells self.now (λ state. result ≡ counted state.run state.history) }
+    {
+        self.unit.counts()
+    }
+}
