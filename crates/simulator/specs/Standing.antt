@@ -1,11 +1,14 @@
 -- When a simulator stands for a state, and what its calls do.
-use Rattle.std.specs.Prelude.{◌≡◌, Bool, Some}
+use Rattle.std.specs.Prelude.{◌≡◌, ℕ, Bool, Some}
 use Rattle.cmdcodec.specs.declared.raw.Raw.{Raw}
+use Rattle.ringcore.specs.declared.world.event.Who.TheVariants.{Sender}
+use Rattle.ringcore.specs.world.Trails.{trail_of}
 use Rattle.ringcore.specs.world.World.{world}
+use Rattle.ringcore.specs.machine.Open.{is_open}
 use Rattle.caches.specs.Held.{held}
 use Rattle.engine.specs.Units.{UnitValue}
 use Rattle.simulator.specs.queue.Heads.{raw_at_head}
-use Rattle.simulator.specs.queue.Standing.{QueueValue, ring_in, IsQueueAfter}
+use Rattle.simulator.specs.queue.Standing.{QueueValue, ring_in, IsQueueAfter, AfterEach}
 use Rattle.simulator.specs.State.{State, Answered, counted}
 
 pub record SimulatorValue : Type 0 where
@@ -35,6 +38,10 @@ Does old new answer then = (state : State) → Stands old state → (answer ≡ 
 -- The same, memory being wanting or not.
 abbrev pub MayDo : {Answer : Type 0} → SimulatorValue → SimulatorValue → Answer → (Bool → State → Answered Answer) → Type 0
 MayDo old new answer then = (state : State) → Stands old state → (wanting : Bool) × (answer ≡ (then wanting state).answer) × Stands new (then wanting state).state
+
+-- A sender has an open reservation, or has none, after each run that the queue stands as after.
+abbrev pub HasOpen : SimulatorValue → ℕ → Bool → Type 0
+HasOpen simulator s open = AfterEach simulator.queue (λ run. is_open (trail_of (Sender s) run) ≡ open)
 
 -- This is told of whatever state it stands for.
 abbrev pub Tells : SimulatorValue → (State → Type 0) → Type 0

@@ -71,15 +71,16 @@ is_applied Applied = true
 is_applied Replaced = false
 
 -- what is counted of the commands that were taken
+abbrev pub counts_of : List Taken → History → CountsValue
+counts_of taken history = record {
+  applied = count_by (λ (t : Taken). is_applied t.outcome) taken;
+  replaced = count_by (λ (t : Taken). not (is_applied t.outcome)) taken;
+  syncs = count_by (λ (t : Taken). is_sync t.raw) taken;
+  removed = removed_in history;
+}
+
 abbrev pub counted : Run → History → CountsValue
-counted run history =
-    let taken = (world run).taken in
-    record {
-      applied = count_by (λ (t : Taken). is_applied t.outcome) taken;
-      replaced = count_by (λ (t : Taken). not (is_applied t.outcome)) taken;
-      syncs = count_by (λ (t : Taken). is_sync t.raw) taken;
-      removed = removed_in history;
-    }
+counted run history = counts_of (world run).taken history
 
 -- the queue's registers
 abbrev pub registers : State → Registers

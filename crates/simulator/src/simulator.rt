@@ -1,5 +1,5 @@
 //! The queue with its unit.
-ghost use Rattle.std.specs.Prelude.{◌≡◌, ◌<◌, IfOk, IfErr, IfSome, OnErr, Err, true, false, None};
+ghost use Rattle.std.specs.Prelude.{◌≡◌, ◌<◌, IfOk, IfErr, OnOk, OnErr, Err, true, false, None};
 ghost use Rattle.std.specs.FinMap as finite;
 ghost use Rattle.qindex.specs.ControlWord.{IsControl};
 ghost use Rattle.ringcore.specs.machine.Open.{is_open};
@@ -10,7 +10,7 @@ ghost use Rattle.simulator.specs.State.{made, mine, entries, counted, registers}
 ghost use Rattle.simulator.specs.Fills.{filled, evicted};
 ghost use Rattle.simulator.specs.Seats.{looked, closed, asked, reserved, published_by};
 ghost use Rattle.simulator.specs.Steps.{stepped, acknowledged};
-ghost use Rattle.simulator.specs.Standing.{Stands, Does, MayDo, Tells};
+ghost use Rattle.simulator.specs.Standing.{Stands, Does, MayDo, HasOpen, Tells};
 
 mod stepping;
 
@@ -81,7 +81,8 @@ impl Simulator {
     /// Whether a sender has an open reservation.
     pub fn is_open(&self, sender: u32) -> bool
         requires { sender < (ring_in self.now.queue).senders }
-        ensures { Tells self.now (λ state. result ≡ is_open (mine sender state)) }
+        ensures told { Tells self.now (λ state. result ≡ is_open (mine sender state)) }
+        ensures ever { HasOpen self.now sender result }
     {
         self.queue.is_open(sender)
     }
@@ -91,16 +92,20 @@ impl Simulator {
     /// Errors, in this order: Q4, Q5, Q1, Q2.
     pub fn reserve(&mut self, sender: u32, batch: &Batch, closes: bool) -> Result<Reserved, Cause>
         requires sender { sender < (ring_in self.old.queue).senders }
-        requires settled { Tells self.old (λ state. is_open (mine sender state) ≡ false) }
-        ensures { Does self.old self.new result (reserved sender batch.now closes) }
+        requires settled { HasOpen self.old sender false }
+        ensures done { Does self.old self.new result (reserved sender batch.now closes) }
+        ensures open { OnOk result (HasOpen self.new sender true) }
     {
-        self.queue.reserve(sender, batch, closes)
+        batch.len();
+        let answer = self.queue.reserve(sender, batch, closes);
+        self.queue.is_open(sender);
+        answer
     }
 
     /// A sender writes its open reservation and hands it over, and tells the number of its batch, if it has one.
     pub fn publish(&mut self, sender: u32) -> Option<u32>
         requires sender { sender < (ring_in self.old.queue).senders }
-        requires open { Tells self.old (λ state. is_open (mine sender state) ≡ true) }
+        requires open { HasOpen self.old sender true }
         ensures { Does self.old self.new result (published_by sender) }
     {
         self.queue.publish(sender)

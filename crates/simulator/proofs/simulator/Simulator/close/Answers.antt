@@ -1,0 +1,9 @@
+use Rattle.std.proofs.Common.{refl}
+use Rattle.simulator.specs.Seats.{with_run}
+use Rattle.simulator.proofs.Standings.{after_run}
+use Rattle.simulator.proofs.simulator.Simulator.close.Goals as goal
+
+pub invariant_of-self : goal.invariant_of-self
+invariant_of-self c =
+    let is = c.self.invariant in
+    (with_run is.0 _, after_run c.self.inside.queue c.close.new.self c.self.inside.unit is.0 _ c.close.ensures (record { taken = refl; head = λ raw e. e }) is.1)
