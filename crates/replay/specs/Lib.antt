@@ -1,2 +1,6 @@
 pub mod requests
 pub mod texts
+pub mod effects
+pub mod Stepping
+pub mod ReplayText
+pub mod Replaying

@@ -1,6 +1,12 @@
 //! Replays: scripts that make a ring, fill the caches, send commands and take them.
 #![tactic(auto)]
 
+mod interpreter;
+mod lines;
 mod parsing;
 mod request;
+mod sender_fault;
+mod serving;
 mod telling;
+
+pub use serving::{replay, serve};

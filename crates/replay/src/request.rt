@@ -5,6 +5,7 @@ ghost use Rattle.cmdcodec.specs.declared.raw.Raw.{Raw};
 use caches::Tag;
 use cmdcodec::{Asid, Page, Raw, Sid, Vmid};
 use engine::Remedy;
+use simulator::Shape;
 use std::marker::Model;
 
 /// What a line asks for.
@@ -36,18 +37,6 @@ pub(crate) enum Request {
     Close { sender: u32 },
     /// The registers, the totals and the entries.
     Dump,
-}
-
-/// How a ring and its unit are made: the numbers of a `ring` line.
-#[derive(Clone, Copy, Debug, PartialEq, Eq)]
-pub(crate) struct Shape {
-    /// The ring has `2^log2` slots.
-    pub log2: u32,
-    pub senders: u32,
-    /// How many batches a sender may send.
-    pub max_batches: u32,
-    /// How many entries the caches hold at most.
-    pub capacity: u32,
 }
 
 /// A batch that a sender is to send, or to reserve alone.

@@ -3,8 +3,9 @@ ghost use Rattle.std.specs.Prelude.{◌≡◌};
 ghost use Rattle.script.specs.Words.{words_of};
 ghost use Rattle.replay.specs.requests.RingLine.{ring_of};
 
-use crate::request::{Request, Shape};
+use crate::request::Request;
 use script::{is_end, next_u32};
+use simulator::Shape;
 
 #[tactic(auto, unfolding(crate::specs::requests::RingLine::ring_of))]
 pub(super) fn parse_ring(text: &[u8]) -> Option<Request>

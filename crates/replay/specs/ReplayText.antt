@@ -1,0 +1,53 @@
+-- The text that a script of `replay` is answered with.
+use Rattle.std.specs.Prelude.{ℕ, List, [], Bool, true, Option, Some, None, codes}
+use Rattle.script.specs.Answers.{Answer}
+use Rattle.script.specs.Effects.{Effect, answers, faults}
+use Rattle.script.specs.Kinds as kinds
+use Rattle.script.specs.Kinds.{Kind}
+use Rattle.script.specs.Texts.{ring_text}
+use Rattle.simulator.specs.declared.shape.Shape.{Shape}
+use Rattle.simulator.specs.declared.shape.ShapeFault.{ShapeFault}
+use Rattle.simulator.specs.Shapes.{fault_label, shape_fault}
+use Rattle.simulator.specs.State.{State, made}
+use Rattle.replay.specs.declared.request.Request.{Request}
+use Rattle.replay.specs.declared.request.Request.TheVariants as asks
+use Rattle.replay.specs.requests.Whole.{request_of}
+use Rattle.replay.specs.effects.CacheEffects.{fill_effect, evict_effect, lookup_effect}
+use Rattle.replay.specs.effects.SendEffects.{send_effect}
+use Rattle.replay.specs.effects.SenderEffects.{look_effect, close_effect, done_effect, publish_effect}
+use Rattle.replay.specs.effects.UnitEffects.{step_effect, acknowledge_effect, dump_effect}
+
+-- by which of its numbers is out of range, if one is
+abbrev pub ring_or_fault : ℕ → Shape → Option ShapeFault → Effect State
+ring_or_fault number shape (Some fault) = faults number (fault_label fault) None
+ring_or_fault number shape None = answers (ring_text shape.log2) (made shape)
+
+-- what a request does once the ring is made
+unfoldable pub served : ℕ → Bool → Request → State → Effect State
+served number wanting asks.Nothing state = answers [] state
+served number wanting (asks.Ring shape) state = faults number (codes "second ring") (Some state)
+served number wanting (asks.Fill tag value) state = fill_effect wanting tag value state
+served number wanting (asks.Evict tag) state = evict_effect tag state
+served number wanting (asks.Lookup tag) state = lookup_effect tag state
+served number wanting (asks.Send sending) state = send_effect number sending state
+served number wanting (asks.Publish sender) state = publish_effect number sender state
+served number wanting (asks.Step count) state = step_effect count state
+served number wanting (asks.Acknowledge gerrorn remedy) state = acknowledge_effect gerrorn remedy state
+served number wanting (asks.Done sender) state = done_effect number sender state
+served number wanting (asks.Look sender) state = look_effect number sender state
+served number wanting (asks.Close sender) state = close_effect number sender state
+served number wanting asks.Dump state = dump_effect state
+
+-- what a request does before that
+unfoldable pub first_served : ℕ → Request → Effect State
+first_served number asks.Nothing = record { text = []; state = None; goes_on = true }
+first_served number (asks.Ring shape) = ring_or_fault number shape (shape_fault shape)
+first_served number request = faults number (codes "no ring") None
+
+-- Memory may be wanting for a fill of a new tag that there is room for.
+abbrev pub replays : Kind
+replays = record { State = State; Request = Request; request_of = request_of; first_served = first_served; served = served }
+
+-- The answer to a script. Where memory is never wanting the choice is [].
+abbrev pub answer_to : List Bool → List ℕ → Answer
+answer_to choice script = kinds.answer_to replays choice script

@@ -1,0 +1,33 @@
+//! `replay` from any reader to any writer.
+ghost use Rattle.script.specs.Giving.{MayAnswer};
+ghost use Rattle.script.specs.Serves.{Serves};
+ghost use Rattle.replay.specs.ReplayText.{replays};
+ghost use Rattle.replay.specs.Replaying.{Replays};
+
+use crate::interpreter::Replay;
+use script::{Ending, ServeError, Status, status_of};
+use std::alloc::Global;
+use std::io::{Read, Write};
+
+/// Reads a script, serves its lines in order, and writes their answers.
+///
+/// Each answer is written and flushed before the read that follows its line. A `write` may take any
+/// count from 1 on, and an interrupted call is made again.
+pub fn serve<R: Read, W: Write>(
+    alloc: Global,
+    input: &mut R,
+    output: &mut W,
+) -> Result<Ending, ServeError>
+    ensures { Serves (MayAnswer replays) result (R.remaining input.old) (R.remaining input.new) (W.contents output.old) (W.contents output.new) }
+{
+    let mut replay = Replay::new(alloc);
+    script::serve(alloc, &mut replay, input, output)
+}
+
+/// Reads a script and writes its answers, the line `no memory` among them, and says how it went.
+pub fn replay<R: Read, W: Write>(alloc: Global, input: &mut R, output: &mut W) -> Status
+    ensures { Replays result (R.remaining input.old) (R.remaining input.new) (W.contents output.old) (W.contents output.new) }
+{
+    let served = serve(alloc, input, output);
+    status_of(&served)
+}
