@@ -1,7 +1,10 @@
 -- The functions of words and commands are the relation of spelling.
 use Rattle.std.proofs.Common.{◌≡◌, ℕ, ◌<◌, ◌≤◌, ◌==◌, ◌||◌, zero, suc, inl, inr, Bool, true, false, refl, ap, sym, subst, ◌∙◌, arith, Option, Some, None, Ok, Err}
-use Rattle.std.proofs.lemmas.Bool.{le-ltb, ne_eqb, or_cases, eqb-true, eqb-false, cases_Bool}
+use Rattle.std.specs.Prelude.{is_none}
+use Rattle.std.proofs.lemmas.Option.{same_Some}
+use Rattle.std.proofs.lemmas.Bool.{cond-true, le-ltb, ne_eqb, or_cases, eqb-true, eqb-false, cases_Bool}
 use Rattle.cmdcodec.specs.declared.raw.Raw.{Raw}
+use Rattle.cmdcodec.specs.declared.ill.Ill.{Ill}
 use Rattle.cmdcodec.specs.declared.ill.Ill.TheVariants.{UnknownOpcode}
 use Rattle.cmdcodec.specs.declared.opcode.Opcode.{Opcode}
 use Rattle.cmdcodec.specs.declared.opcode.Opcode.TheVariants as op
@@ -147,6 +150,17 @@ pub only : (raw : Raw) (command : Command) → Spells raw command → decoding r
 only raw command spells =
     let m = made raw command spells in
     decoded raw m.opcode (ap opcode_named m.number ∙ number_named m.opcode) (legal raw command spells) ∙ ap Ok m.makes
+
+unnamed_is_unknown : (raw : Raw) → opcode_named (opcode_of raw) ≡ None → first_ill raw ≡ Some UnknownOpcode
+unnamed_is_unknown raw named = cond-true (is_none (opcode_named (opcode_of raw))) (Some UnknownOpcode) _ (ap is_none named)
+
+pub ill_decoded : (raw : Raw) (ill : Ill) → first_ill raw ≡ Some ill → decoding raw ≡ Err ill
+unfolding decoding
+ill_decoded raw ill e = by_opcode (opcode_named (opcode_of raw)) refl
+  where
+    by_opcode : (o : Option Opcode) → opcode_named (opcode_of raw) ≡ o → decoding raw ≡ Err ill
+    by_opcode None named = unknown raw named ∙ ap Err (same_Some UnknownOpcode ill (sym (unnamed_is_unknown raw named) ∙ e))
+    by_opcode (Some opcode) named = ap (λ o. command_or_ill o (first_ill raw) raw) named ∙ ap (λ i. command_or_ill (Some opcode) i raw) e
 
 bit_is : (n : ℕ) → n < 2 → n ≡ bit (n == 1)
 bit_is zero small = refl

@@ -1,7 +1,8 @@
 -- What the spelling is held to.
-use Rattle.std.specs.Prelude.{◌≡◌, ◌<◌, ◌↔◌, ℕ, false, None}
+use Rattle.std.specs.Prelude.{◌≡◌, ◌<◌, ◌↔◌, ℕ, false, Some, None, Ok, Err}
 use Rattle.cmdcodec.specs.declared.raw.Raw.{Raw}
 use Rattle.cmdcodec.specs.declared.command.Command.{Command}
+use Rattle.cmdcodec.specs.declared.ill.Ill.{Ill}
 use Rattle.cmdcodec.specs.declared.reach.Reach.{Reach}
 use Rattle.cmdcodec.specs.Opcodes.{opcode_of, is_kept}
 use Rattle.cmdcodec.specs.Legality.{first_ill}
@@ -18,6 +19,13 @@ LegalWordsSpellOneCommand =
 -- Illegal words spell none.
 abbrev pub SpelledWordsAreLegal : Type 0
 SpelledWordsAreLegal = (raw : Raw) (command : Command) → Spells raw command → first_ill raw ≡ None
+
+-- Words decode to what they spell, and illegal ones to what is illegal in them.
+abbrev pub WordsDecodeToWhatTheySpell : Type 0
+WordsDecodeToWhatTheySpell = (raw : Raw) (command : Command) → Spells raw command → decoding raw ≡ Ok command
+
+abbrev pub IllegalWordsDecodeToTheirFault : Type 0
+IllegalWordsDecodeToTheirFault = (raw : Raw) (ill : Ill) → first_ill raw ≡ Some ill → decoding raw ≡ Err ill
 
 -- Of two pairs of words that differ in free bits alone both spell the command, and decode alike. A kept
 -- command has no free bits.

@@ -1,0 +1,173 @@
+-- What a fill comes to, by what the unit's fill is answered.
+use Rattle.std.proofs.Common.{◌≡◌, refl, ap, sym, ◌∙◌, subst, arith, ℕ, ◌+◌, ◌≤◌, ◌%◌, ◌^◌, ◌==◌, Bool, true, false, not, cond, ◌&&◌, nat_le, List, Option, Some, None, Result, Ok, Err}
+use Rattle.std.specs.Prelude.{◌↔◌, is_some, IfOk, OnOk, OnErr}
+use Rattle.std.specs.FinMap as finite
+use Rattle.std.proofs.lemmas.Bool.{both_ways, and_parts, and_from, leb-true, le-leb, eqb-true, eq-eqb, ne_eqb, false_from_ne_true}
+use Rattle.caches.specs.declared.tag.Tag.{Tag}
+use Rattle.caches.specs.declared.tag.Tag.TheVariants.{Ste, Cd, S1, S2, El2, Atc}
+use Rattle.caches.specs.declared.tag.Entry.{Entry}
+use Rattle.caches.specs.declared.fault.CacheFault.{CacheFault}
+use Rattle.caches.specs.declared.fault.CacheFault.TheVariants.{Full, BadBlock, NoMemory, BadCapacity}
+use Rattle.caches.specs.Blocks.{IsAligned, IsBlock}
+use Rattle.caches.specs.Held.{Entries}
+use Rattle.simulator.specs.Blocks.{is_aligned, is_block}
+use Rattle.ringcore.specs.world.World.{world}
+use Rattle.caches.specs.Held.{Fill, Evict}
+use Rattle.engine.specs.Counting.{taken}
+use Rattle.engine.specs.Units.{UnitValue, with_entries, filled as filled_in_unit}
+use Rattle.simulator.specs.queue.Standing.{QueueValue}
+use Rattle.simulator.specs.State.{State, Answered, entries, taken_so_far}
+use Rattle.simulator.specs.Fills.{with_item, fill_fault, filled_unless, filled}
+use Rattle.simulator.specs.Standing.{Stands}
+use Rattle.simulator.proofs.Counts.{all_counted}
+
+-- ---- blocks
+
+aligned_is : (page span : ℕ) → is_aligned page span ≡ true → IsAligned page span
+aligned_is page span e =
+    let both = and_parts (nat_le span 52) (page % 2 ^ span == 0) e in
+    record { at_most = leb-true span 52 both.0; multiple = eqb-true (page % 2 ^ span) 0 both.1 }
+
+aligned_test : (page span : ℕ) → IsAligned page span → is_aligned page span ≡ true
+aligned_test page span a = and_from (nat_le span 52) (page % 2 ^ span == 0) (le-leb span 52 a.at_most) (eq-eqb (page % 2 ^ span) 0 a.multiple)
+
+block_is : (tag : Tag) → is_block tag ≡ true → IsBlock tag
+block_is (Ste sid) e = tt
+block_is (Cd sid ssid) e = tt
+block_is (S1 vmid scope page span) e = aligned_is page span e
+block_is (S2 vmid page span) e =
+    let both = and_parts (is_aligned page span) (nat_le (page + 2 ^ span) (2 ^ 40)) e in
+    (aligned_is page span both.0, leb-true (page + 2 ^ span) (2 ^ 40) both.1)
+block_is (El2 scope page span) e = aligned_is page span e
+block_is (Atc sid ssid page span) e = aligned_is page span e
+
+block_test : (tag : Tag) → IsBlock tag → is_block tag ≡ true
+block_test (Ste sid) b = refl
+block_test (Cd sid ssid) b = refl
+block_test (S1 vmid scope page span) b = aligned_test page span b
+block_test (S2 vmid page span) b =
+    and_from (is_aligned page span) (nat_le (page + 2 ^ span) (2 ^ 40)) (aligned_test page span b.0) (le-leb (page + 2 ^ span) (2 ^ 40) b.1)
+block_test (El2 scope page span) b = aligned_test page span b
+block_test (Atc sid ssid page span) b = aligned_test page span b
+
+-- ---- faults
+
+-- when a fill is refused, and for what
+pub record FillClauses (held : Entries) (capacity : ℕ) (tag : Tag) (r : Result (Option Entry) CacheFault) : Type 0 where
+  pub bad : (r ≡ Err BadBlock) ↔ ¬ IsBlock tag
+  pub full : (r ≡ Err Full) ↔ (IsBlock tag × (finite.get held tag ≡ None) × (finite.len held ≡ capacity))
+  pub named : ¬ (r ≡ Err BadCapacity)
+  pub new_only : r ≡ Err NoMemory → finite.get held tag ≡ None
+
+-- what the test of a fill says, part by part
+abbrev by_parts : Bool → Option Entry → Bool → Bool → Option CacheFault
+by_parts block was full wanting =
+    cond (not block) (Some BadBlock) (cond (is_some was) None (cond full (Some Full) (cond wanting (Some NoMemory) None)))
+
+-- a well formed block, unless it was refused for that
+well_formed : (tag : Tag) (r : Result (Option Entry) CacheFault) → ((r ≡ Err BadBlock) ↔ ¬ IsBlock tag) → ¬ (r ≡ Err BadBlock) → is_block tag ≡ true
+well_formed tag r bad other = by_test (is_block tag) refl
+  where
+    by_test : (b : Bool) → is_block tag ≡ b → b ≡ true
+    by_test true e = refl
+    by_test false e = absurd (other (bad.1 (λ block. both_ways (is_block tag) e (block_test tag block))))
+
+not_full : (held : Entries) (capacity : ℕ) (tag : Tag) (r : Result (Option Entry) CacheFault) → FillClauses held capacity tag r → is_block tag ≡ true → finite.get held tag ≡ None
+    → ¬ (r ≡ Err Full) → (finite.len held == capacity) ≡ false
+not_full held capacity tag r clauses block absent other =
+    ne_eqb (finite.len held) capacity (λ same. other (clauses.full.1 (block_is tag block, absent, same)))
+
+fault_is : (state : State) (tag : Tag) (wanting : Bool) (block : Bool) (was : Option Entry) (full : Bool) → is_block tag ≡ block → finite.get (entries state) tag ≡ was
+    → (finite.len (entries state) == state.capacity) ≡ full → fill_fault wanting tag state ≡ by_parts block was full wanting
+fault_is state tag wanting block was full b w f =
+    ap (λ x. by_parts x (finite.get (entries state) tag) (finite.len (entries state) == state.capacity) wanting) b
+    ∙ ap (λ x. by_parts block x (finite.len (entries state) == state.capacity) wanting) w
+    ∙ ap (λ x. by_parts block was x wanting) f
+
+no_fault : (state : State) (tag : Tag) (was : Option Entry) (r : Result (Option Entry) CacheFault) (result : Option Entry) → FillClauses (entries state) state.capacity tag r → r ≡ Ok result
+    → finite.get (entries state) tag ≡ was → fill_fault false tag state ≡ None
+no_fault state tag (Some old) r result clauses ok e =
+    fault_is state tag false true (Some old) _ (well_formed tag r clauses.bad (λ bad. absurd cc)) e refl
+no_fault state tag None r result clauses ok e =
+    let block = well_formed tag r clauses.bad (λ bad. absurd cc) in
+    fault_is state tag false true None false block e (not_full (entries state) state.capacity tag r clauses block e (λ full. absurd cc))
+
+-- The test has the fault that the unit's fill told; want of memory is a choice.
+pub fill_refused : (state : State) (tag : Tag) (r : Result (Option Entry) CacheFault) (fault : CacheFault) → FillClauses (entries state) state.capacity tag r → r ≡ Err fault
+    → (wanting : Bool) × (fill_fault wanting tag state ≡ Some fault)
+fill_refused state tag r BadBlock clauses e =
+    (false, fault_is state tag false false _ _ (false_from_ne_true (is_block tag) (λ block. clauses.bad.0 e (block_is tag block))) refl refl)
+fill_refused state tag r Full clauses e =
+    let is = clauses.full.0 e in
+    (false, fault_is state tag false true None true (block_test tag is.0) is.1 (eq-eqb (finite.len (entries state)) state.capacity is.2))
+fill_refused state tag r NoMemory clauses e =
+    let block = well_formed tag r clauses.bad (λ bad. absurd cc) in
+    let absent = clauses.new_only e in
+    (true, fault_is state tag true true None false block absent (not_full (entries state) state.capacity tag r clauses block absent (λ full. absurd cc)))
+fill_refused state tag r BadCapacity clauses e = absurd (clauses.named e)
+
+pub fill_accepted : (state : State) (tag : Tag) (r : Result (Option Entry) CacheFault) (was : Option Entry) → FillClauses (entries state) state.capacity tag r → r ≡ Ok was
+    → fill_fault false tag state ≡ None
+fill_accepted state tag r was clauses e = no_fault state tag (finite.get (entries state) tag) r was clauses e refl
+
+-- ---- how the simulator stands after it
+
+pub after_evict : (queue : QueueValue) (unit new : UnitValue) (state : State) (tag : Tag) → new ≡ with_entries unit (finite.remove unit.caches.entries tag)
+    → Stands (record { queue = queue; unit = unit }) state → Stands (record { queue = queue; unit = new }) (with_item (Evict tag) state)
+after_evict queue unit new state tag e s =
+    subst (λ (u : UnitValue). Stands (record { queue = queue; unit = u }) (with_item (Evict tag) state)) (sym e) (record {
+      ring = s.ring;
+      max_batches = s.max_batches;
+      run = s.run;
+      capacity = s.capacity;
+      entries = ap (λ held. finite.remove held tag) s.entries;
+      stop = s.stop;
+      counts = s.counts;
+      awaited = s.awaited;
+    })
+
+-- the entry that is put in, by the state
+abbrev born_now : State → Tag → ℕ → Entry
+born_now state tag value = record { tag = tag; value = value; born = taken_so_far state }
+
+after_fill : (queue : QueueValue) (unit new : UnitValue) (state : State) (tag : Tag) (value : ℕ) → new ≡ with_entries unit (filled_in_unit tag value unit)
+    → Stands (record { queue = queue; unit = unit }) state → Stands (record { queue = queue; unit = new }) (with_item (Fill (born_now state tag value)) state)
+after_fill queue unit new state tag value e s =
+    let born = ap taken s.counts ∙ all_counted (world state.run).taken state.history in
+    subst (λ (u : UnitValue). Stands (record { queue = queue; unit = u }) (with_item (Fill (born_now state tag value)) state)) (sym e) (record {
+      ring = s.ring;
+      max_batches = s.max_batches;
+      run = s.run;
+      capacity = s.capacity;
+      entries = ap (λ held. finite.insert held tag (record { tag = tag; value = value; born = taken unit.counts })) s.entries
+          ∙ ap (λ n. finite.insert (entries state) tag (record { tag = tag; value = value; born = n })) born;
+      stop = s.stop;
+      counts = s.counts;
+      awaited = s.awaited;
+    })
+
+clauses_at : (unit : UnitValue) (state : State) (tag : Tag) (r : Result (Option Entry) CacheFault) → unit.caches.entries ≡ entries state → unit.caches.capacity ≡ state.capacity
+    → FillClauses unit.caches.entries unit.caches.capacity tag r → FillClauses (entries state) state.capacity tag r
+clauses_at unit state tag r e c clauses =
+    subst (λ n. FillClauses (entries state) n tag r) c (subst (λ held. FillClauses held unit.caches.capacity tag r) e clauses)
+
+pub filled_is : (queue : QueueValue) (unit new : UnitValue) (state : State) (tag : Tag) (value : ℕ) (r : Result (Option Entry) CacheFault)
+    → FillClauses unit.caches.entries unit.caches.capacity tag r → IfOk r (λ was. was ≡ finite.get unit.caches.entries tag)
+    → OnOk r (new ≡ with_entries unit (filled_in_unit tag value unit)) → OnErr r (new ≡ unit) → Stands (record { queue = queue; unit = unit }) state
+    → (wanting : Bool) × (r ≡ (filled wanting tag value state).answer) × Stands (record { queue = queue; unit = new }) (filled wanting tag value state).state
+unfolding filled
+filled_is queue unit new state tag value (Ok was) clauses is ok err s =
+    let none = fill_accepted state tag (Ok was) was (clauses_at unit state tag (Ok was) s.entries s.capacity clauses) refl in
+    let same = ap (λ fault. filled_unless fault tag value state) none in (
+      false,
+      ap Ok (is ∙ ap (λ held. finite.get held tag) s.entries) ∙ ap (λ (a : Answered (Result (Option Entry) CacheFault)). a.answer) (sym same),
+      subst (λ (a : Answered (Result (Option Entry) CacheFault)). Stands (record { queue = queue; unit = new }) a.state) (sym same) (after_fill queue unit new state tag value ok s),
+    )
+filled_is queue unit new state tag value (Err fault) clauses is ok err s =
+    let refused = fill_refused state tag (Err fault) fault (clauses_at unit state tag (Err fault) s.entries s.capacity clauses) refl in
+    let same = ap (λ f. filled_unless f tag value state) refused.1 in (
+      refused.0,
+      ap (λ (a : Answered (Result (Option Entry) CacheFault)). a.answer) (sym same),
+      subst (λ (a : Answered (Result (Option Entry) CacheFault)). Stands (record { queue = queue; unit = new }) a.state) (sym same)
+          (subst (λ (u : UnitValue). Stands (record { queue = queue; unit = u }) state) (sym err) s),
+    )

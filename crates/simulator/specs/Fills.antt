@@ -33,5 +33,5 @@ filled_unless None tag value state = record {
 unfoldable pub filled : Bool → Tag → ℕ → State → Answered (Result (Option Entry) CacheFault)
 filled wanting tag value state = filled_unless (fill_fault wanting tag state) tag value state
 
-unfoldable pub evicted : Tag → State → Answered (Option Entry)
+abbrev pub evicted : Tag → State → Answered (Option Entry)
 evicted tag state = record { answer = finite.get (entries state) tag; state = with_item (Evict tag) state }

@@ -1,3 +1,5 @@
+pub mod Answers
+pub mod Taking
 pub mod Reserving
 pub mod Publishing
 pub mod Heads

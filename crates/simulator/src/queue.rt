@@ -14,11 +14,15 @@ ghost use Rattle.simulator.specs.queue.Standing.{ring_in, IsQueueAfter, AfterEac
 
 mod publishing;
 mod reserving;
+mod seen;
+mod steps;
 mod taking;
 
 use qindex::Control;
 pub use reserving::Reserved;
-use ringcore::{Core, CoreFault, Seen, Step};
+use crate::queue::seen::number_in;
+use crate::queue::steps::{take, view};
+use ringcore::{Core, CoreFault, Step};
 use std::alloc::Global;
 use std::marker::Model;
 pub(crate) use taking::Head;
@@ -71,7 +75,7 @@ impl Queue {
         requires { sender < (ring_in self.now).senders }
         ensures { AfterEach self.now (λ run. result ≡ is_open (trail_of (Sender sender) run)) }
     {
-        self.core.sender(sender).unwrap().is_open()
+        view(&self.core, sender).is_open()
     }
 
     /// What the control word says.
@@ -89,7 +93,7 @@ impl Queue {
         ensures found { AfterEach self.old (λ run. result ≡ control (ring_in self.old).geometry (world run)) }
         ensures geometry { IsControl (ring_in self.old).geometry result }
     {
-        let _ = self.core.apply(Step::Look { who: Some(sender) });
+        take(&mut self.core, Step::Look { who: Some(sender) });
         self.core.control()
     }
 
@@ -98,7 +102,7 @@ impl Queue {
         requires { sender < (ring_in self.old).senders }
         ensures { GoesOn self.old self.new (λ run. (Sender sender, Close) ∷ run) }
     {
-        let _ = self.core.apply(Step::Close { sender });
+        take(&mut self.core, Step::Close { sender });
     }
 
     /// A sender asks for the number in its completion cell.
@@ -107,9 +111,6 @@ impl Queue {
         ensures run { GoesOn self.old self.new (λ run. (Sender sender, Ask ((world run).acknowledged sender)) ∷ run) }
         ensures found { AfterEach self.old (λ run. result ≡ (world run).acknowledged sender) }
     {
-        match self.core.apply(Step::Ask { sender }) {
-            Ok(Seen::Done(number)) => number,
-            _ => 0,
-        }
+        number_in(take(&mut self.core, Step::Ask { sender })).unwrap()
     }
 }

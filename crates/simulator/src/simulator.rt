@@ -94,7 +94,7 @@ impl Simulator {
         requires sender { sender < (ring_in self.old.queue).senders }
         requires settled { HasOpen self.old sender false }
         ensures done { Does self.old self.new result (reserved sender batch.now closes) }
-        ensures open { OnOk result (HasOpen self.new sender true) }
+        ensures opened { OnOk result (HasOpen self.new sender true) }
     {
         batch.len();
         let answer = self.queue.reserve(sender, batch, closes);
@@ -105,7 +105,7 @@ impl Simulator {
     /// A sender writes its open reservation and hands it over, and tells the number of its batch, if it has one.
     pub fn publish(&mut self, sender: u32) -> Option<u32>
         requires sender { sender < (ring_in self.old.queue).senders }
-        requires open { HasOpen self.old sender true }
+        requires opened { HasOpen self.old sender true }
         ensures { Does self.old self.new result (published_by sender) }
     {
         self.queue.publish(sender)

@@ -1,17 +1,20 @@
 //! A try to reserve a batch.
-ghost use Rattle.std.specs.Prelude.{◌≡◌, ◌<◌, false};
+ghost use Rattle.std.specs.Prelude.{◌≡◌, ◌<◌, ◌≤◌, Ok, false};
+ghost use Rattle.cmdcodec.specs.Bodies.{IsBody};
 ghost use Rattle.ringcore.specs.declared.world.event.Who.TheVariants.{Sender};
-ghost use Rattle.ringcore.specs.world.Trails.{trail_of};
+ghost use Rattle.ringcore.specs.world.Trails.{Run, trail_of};
+ghost use Rattle.ringcore.specs.world.Allowed.{length_with};
 ghost use Rattle.ringcore.specs.machine.Open.{is_open};
-ghost use Rattle.simulator.specs.queue.Reserving.{try_to_reserve};
-ghost use Rattle.simulator.specs.queue.Standing.{ring_in, AfterEach, GoesOn};
+ghost use Rattle.simulator.specs.queue.Reserving.{won, MayReserve, try_to_reserve};
+ghost use Rattle.simulator.specs.queue.Standing.{ring_in, IsQueueAfter, AfterEach, GoesOn};
 
 use crate::queue::Queue;
+use crate::queue::steps::{take, view};
 use batch::Batch;
 use cmdcodec::RawList;
 use qindex::Index;
 use ring::Cause;
-use ringcore::{Seen, Step};
+use ringcore::{Step, world_law};
 
 /// What was reserved.
 #[derive(Clone, Copy, Debug, PartialEq, Eq)]
@@ -37,18 +40,19 @@ impl Queue {
         ensures run { GoesOn self.old self.new (λ run. (try_to_reserve (ring_in self.old) self.old.max_batches sender batch.now closes run).run) }
         ensures answer { AfterEach self.old (λ run. result ≡ (try_to_reserve (ring_in self.old) self.old.max_batches sender batch.now closes run).answer) }
     {
-        let many = batch.len() as u32 + u32::from(closes);
+        let many = batch_length(batch, closes);
         let size = self.control().prod.geometry().size();
         if many > size {
             return Err(Cause::TooLong);
         }
-        if self.core.sender(sender).unwrap().batches() >= self.max_batches {
+        if view(&self.core, sender).batches() >= self.max_batches {
             return Err(Cause::Exhausted);
         }
         let seen = self.look(sender);
         if seen.closed {
             return Err(Cause::Closed);
         }
+        world_law();
         if seen.prod.distance(seen.cons) + many > size {
             return Err(Cause::Full);
         }
@@ -56,20 +60,44 @@ impl Queue {
     }
 
     /// Reserves a batch that there is room for, by what the sender has just looked at.
-    fn win(&mut self, sender: u32, batch: &Batch, closes: bool) -> Reserved {
-        let mut body = RawList::new();
-        body.try_extend_from_slice(batch.as_slice()).unwrap();
+    fn win(&mut self, sender: u32, batch: &Batch, closes: bool) -> Reserved
+        requires sender { sender < (ring_in self.old).senders }
+        requires may { (run : Run) × IsQueueAfter self.old run × MayReserve (ring_in self.old) sender batch.now closes run }
+        ensures run { AfterEach self.old (λ run. MayReserve (ring_in self.old) sender batch.now closes run → IsQueueAfter self.new (won (ring_in self.old) sender batch.now closes run run).run) }
+        ensures answer { AfterEach self.old (λ run. Ok result ≡ (won (ring_in self.old) sender batch.now closes run run).answer) }
+        ensures ring { ring_in self.new ≡ ring_in self.old }
+        ensures max_batches { self.new.max_batches ≡ self.old.max_batches }
+    {
+        let first = self.control().prod;
+        let number = view(&self.core, sender).next_number(closes);
         let step = Step::Reserve {
             sender,
-            body,
+            body: body_of(batch),
             closes,
         };
-        match self.core.apply(step) {
-            Ok(Seen::Reserved { first, number }) => Reserved { first, number },
-            _ => Reserved {
-                first: self.control().prod,
-                number: None,
-            },
-        }
+        take(&mut self.core, step);
+        Reserved { first, number }
     }
+}
+
+/// How many commands a batch has, with its CMD_SYNC where it closes with one.
+fn batch_length(batch: &Batch, closes: bool) -> u32
+    ensures value { result ≡ length_with closes batch.now }
+    ensures body { IsBody batch.now }
+    ensures few { result ≤ 64 }
+{
+    if closes {
+        batch.len() as u32 + 1
+    } else {
+        batch.len() as u32
+    }
+}
+
+/// The commands of a batch ahead of its CMD_SYNC.
+fn body_of(batch: &Batch) -> RawList
+    ensures { result.items ≡ batch.now }
+{
+    let mut body = RawList::new();
+    body.try_extend_from_slice(batch.as_slice()).unwrap();
+    body
 }

@@ -3,12 +3,15 @@ ghost use Rattle.std.specs.Prelude.{◌≡◌};
 ghost use Rattle.cmdcodec.specs.declared.raw.Raw.{Raw as RawOf};
 ghost use Rattle.ringcore.specs.world.Trails.{Run};
 ghost use Rattle.ringcore.specs.world.World.{world};
-ghost use Rattle.simulator.specs.queue.Heads.{head_of, head_taken, completed};
+ghost use Rattle.ringcore.specs.machine.Core.{ring_of, StandsAfter};
+ghost use Rattle.simulator.specs.queue.Heads.{head_of, head_taken, completed, IsHeadSlot, head_is_flipped, tested, IsReadyAt, read_both};
 ghost use Rattle.simulator.specs.queue.Standing.{ring_in, IsQueueAfter, AfterEach, GoesOn, HasRead};
 
 use crate::queue::Queue;
+use crate::queue::seen::{half_in, ready_in};
+use crate::queue::steps::take;
 use cmdcodec::{Raw, cell_owner};
-use ringcore::{Seen, Step};
+use ringcore::{Core, Step, world_law};
 
 /// What stands at the head.
 #[derive(Clone, Copy, Debug, PartialEq, Eq)]
@@ -30,9 +33,10 @@ impl Queue {
         ensures head { AfterEach self.old (λ run. result ≡ head_of (world run)) }
         ensures read { (raw : RawOf) → result ≡ Head.Ready raw → AfterEach self.old (λ run. HasRead raw (head_taken (ring_in self.old).geometry run)) }
     {
-        let _ = self.core.apply(Step::Look { who: None });
+        take(&mut self.core, Step::Look { who: None });
         let found = self.core.control();
-        if found.prod.get() == found.cons.get() {
+        world_law();
+        if found.prod.is_empty(found.cons) {
             return if found.closed {
                 Head::Drained
             } else {
@@ -40,24 +44,10 @@ impl Queue {
             };
         }
         let slot = found.cons.place();
-        match self.core.apply(Step::Test { slot, count: 1 }) {
-            Ok(Seen::Ready(1)) => Head::Ready(self.read(slot)),
-            _ => Head::Unwritten,
+        if !test(&mut self.core, slot) {
+            return Head::Unwritten;
         }
-    }
-
-    /// Reads both halves of the command at the head, which a test has found ready.
-    fn read(&mut self, slot: u32) -> Raw {
-        let lo = self.read_half(slot, 0);
-        let hi = self.read_half(slot, 1);
-        Raw { lo, hi }
-    }
-
-    fn read_half(&mut self, slot: u32, half: u32) -> u64 {
-        match self.core.apply(Step::Read { slot, half }) {
-            Ok(Seen::Half(word)) => word,
-            _ => 0,
-        }
+        Head::Ready(read(&mut self.core, slot))
     }
 
     /// The consumer takes the command that it has just read, and acknowledges it where it is a CMD_SYNC.
@@ -67,11 +57,31 @@ impl Queue {
         ensures ring { ring_in self.new ≡ ring_in self.old }
         ensures max_batches { self.new.max_batches ≡ self.old.max_batches }
     {
-        let _ = self.core.apply(Step::Advance { count: 1 });
+        take(&mut self.core, Step::Advance { count: 1 });
         if raw.is_sync() {
             let sender = cell_owner(raw.hi).unwrap() as u32;
             let number = (raw.lo / 0x1_0000_0000) as u32;
-            let _ = self.core.apply(Step::Acknowledge { sender, number });
+            take(&mut self.core, Step::Acknowledge { sender, number });
         }
     }
+}
+
+/// Whether the command at the head is handed over, by a test of its slot alone.
+fn test(core: &mut Core, slot: u32) -> bool
+    requires { (run : Run) × StandsAfter core.old run × IsHeadSlot (ring_of core.old) run slot }
+    ensures taken { (run : Run) → StandsAfter core.old run → IsHeadSlot (ring_of core.old) run slot → (result ≡ head_is_flipped run) × StandsAfter core.new (tested run) }
+    ensures ring { ring_of core.new ≡ ring_of core.old }
+{
+    ready_in(take(core, Step::Test { slot, count: 1 })).unwrap() == 1
+}
+
+/// Both halves of the command at the head, which a test has found ready.
+fn read(core: &mut Core, slot: u32) -> Raw
+    requires { (run : Run) × (raw : RawOf) × StandsAfter core.old run × IsReadyAt (ring_of core.old) run slot raw }
+    ensures taken { (run : Run) (raw : RawOf) → StandsAfter core.old run → IsReadyAt (ring_of core.old) run slot raw → (result ≡ raw) × StandsAfter core.new (read_both raw run) }
+    ensures ring { ring_of core.new ≡ ring_of core.old }
+{
+    let lo = half_in(take(core, Step::Read { slot, half: 0 })).unwrap();
+    let hi = half_in(take(core, Step::Read { slot, half: 1 })).unwrap();
+    Raw { lo, hi }
 }

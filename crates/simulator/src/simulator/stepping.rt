@@ -1,10 +1,11 @@
 //! A step of the unit.
+ghost use Rattle.simulator.specs.State.{State};
 ghost use Rattle.simulator.specs.Steps.{stepped};
-ghost use Rattle.simulator.specs.Standing.{Does};
+ghost use Rattle.simulator.specs.Standing.{Stands, Does, IsFound, Judges};
 
 use crate::queue::Head;
 use crate::simulator::Simulator;
-use cmdcodec::Raw;
+use cmdcodec::{Raw, legal_words_spell_one_command};
 use engine::{StepAnswer, Verdict};
 
 impl Simulator {
@@ -28,7 +29,11 @@ impl Simulator {
     }
 
     /// Judges the command that was just read at the head, and completes it unless consumption stops there.
-    fn judge(&mut self, raw: Raw) -> StepAnswer {
+    fn judge(&mut self, raw: Raw) -> StepAnswer
+        requires { (state : State) × Stands self.old state × IsFound raw state }
+        ensures { Judges raw self.old self.new result }
+    {
+        legal_words_spell_one_command();
         match self.unit.judge(raw) {
             Verdict::Applied { command, removed } => {
                 self.queue.complete(raw);

@@ -1,0 +1,5 @@
+pub mod Standing
+pub mod Looking
+pub mod Reserving
+pub mod Reading
+pub mod Heads
