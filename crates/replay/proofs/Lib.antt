@@ -1,10 +1,5 @@
-pub mod TestLemmas
-pub mod ParseLemmas
-pub mod HistoryLemmas
-pub mod WorldLemmas
-pub mod SmmuLemmas
-pub mod EffectLemmas
-pub mod RefusalLemmas
-pub mod StepsLemmas
-pub mod DumpLemmas
+pub mod BodyLemmas
+pub mod FirstLemmas
+pub mod SendLemmas
 pub mod ServedLemmas
+pub mod StepsLemmas

@@ -3,34 +3,35 @@ use Rattle.std.proofs.Common.{◌≡◌, ℕ, suc, ◌-◌, ◌+◌, ◌<◌, tr
 use Rattle.script.specs.Effects.{answers}
 use Rattle.script.specs.Standing.{Acts}
 use Rattle.script.proofs.EffectLemmas.{produces_at}
-use Rattle.replay.specs.declared.smmu.Smmu.{Smmu}
-use Rattle.replay.specs.ReplayText.{State, Step, step_of, steps_of, step_effect}
-use Rattle.replay.specs.Standing.{Stands, Stepped, Steps}
+use Rattle.simulator.specs.State.{State}
+use Rattle.simulator.specs.Standing.{SimulatorValue, Stands}
+use Rattle.replay.specs.effects.UnitEffects.{Step, step_of, steps_of, step_effect}
+use Rattle.replay.specs.Stepping.{Stepped, Steps}
 
 -- a step with more text ahead
 abbrev pub ahead : List ℕ → Step → Step
 ahead text step = record { text = text ++ step.text; state = step.state; may_follow = step.may_follow }
 
 -- from `state`, so much was told, and so many steps are left from the state that `now` stands for
-pub record Reached (state : State) (now : Smmu) (told : List ℕ) (count left : ℕ) : Type 0 where
+pub record Reached (state : State) (now : SimulatorValue) (told : List ℕ) (count left : ℕ) : Type 0 where
   pub here : State
   pub stands : Stands now here
   pub same : steps_of count state ≡ ahead told (steps_of left here)
 
-pub record Running (old now : Smmu) (before after : List ℕ) (count left : ℕ) : Type 0 where
+pub record Running (old now : SimulatorValue) (before after : List ℕ) (count left : ℕ) : Type 0 where
   pub told : List ℕ
   pub text : after ≡ before ++ told
   pub reached : (state : State) → Stands old state → Reached state now told count left
 
-pub starts_running : (smmu : Smmu) (text : List ℕ) (count left : ℕ) → left ≡ count → Running smmu smmu text text count left
-starts_running smmu text count left all = record {
+pub starts_running : (simulator : SimulatorValue) (text : List ℕ) (count left : ℕ) → left ≡ count → Running simulator simulator text text count left
+starts_running simulator text count left all = record {
   told = [];
   text = sym (append-nil text);
   reached = λ state s. record { here = state; stands = s; same = ap (λ n. steps_of n state) (sym all) };
 }
 
 -- what is told, and what the next step says
-one_on : (told : List ℕ) (left : ℕ) (here : State) (now : Smmu) (answer : List ℕ) → Stepped (step_of here) now answer true
+one_on : (told : List ℕ) (left : ℕ) (here : State) (now : SimulatorValue) (answer : List ℕ) → Stepped (step_of here) now answer true
     → ahead told (steps_of (suc left) here) ≡ ahead (told ++ answer) (steps_of left (step_of here).state)
 unfolding steps_of
 one_on told left here now answer s =
@@ -39,7 +40,7 @@ one_on told left here now answer s =
     ∙ ap (λ t. ahead told (record { text = t ++ rest.text; state = rest.state; may_follow = rest.may_follow })) s.text
     ∙ ap (λ t. record { text = t; state = rest.state; may_follow = rest.may_follow }) (sym (append_assoc told answer rest.text))
 
-ended : (told : List ℕ) (left : ℕ) (here : State) (now : Smmu) (answer : List ℕ) → Stepped (step_of here) now answer false
+ended : (told : List ℕ) (left : ℕ) (here : State) (now : SimulatorValue) (answer : List ℕ) → Stepped (step_of here) now answer false
     → ahead told (steps_of (suc left) here) ≡ ahead told (step_of here)
 unfolding steps_of
 ended told left here now answer s =
@@ -49,7 +50,7 @@ ended told left here now answer s =
 left_is : (count i : ℕ) → i < count → count - i ≡ suc (count - (i + 1))
 left_is count i low = omega arith
 
-pub runs_on : (old now new : Smmu) (before mid after : List ℕ) (count i : ℕ) → i < count → Running old now before mid count (count - i) → Steps step_of now new mid after true
+pub runs_on : (old now new : SimulatorValue) (before mid after : List ℕ) (count i : ℕ) → i < count → Running old now before mid count (count - i) → Steps step_of now new mid after true
     → Running old new before after count (count - (i + 1))
 runs_on old now new before mid after count i low r s = record {
   told = r.told ++ s.answer;
@@ -65,7 +66,7 @@ runs_on old now new before mid after count i low r s = record {
 }
 
 -- the step after which none follows
-pub stops_running : (old now new : Smmu) (before mid after : List ℕ) (count i : ℕ) → i < count → Running old now before mid count (count - i) → Steps step_of now new mid after false
+pub stops_running : (old now new : SimulatorValue) (before mid after : List ℕ) (count i : ℕ) → i < count → Running old now before mid count (count - i) → Steps step_of now new mid after false
     → Acts Stands (λ wanting. step_effect count) old new before after true
 unfolding step_effect
 stops_running old now new before mid after count i low r s = record {
@@ -82,7 +83,7 @@ stops_running old now new before mid after count i low r s = record {
 }
 
 -- all steps were taken
-pub ran : (old now : Smmu) (before after : List ℕ) (count left : ℕ) → left ≡ 0 → Running old now before after count left → Acts Stands (λ wanting. step_effect count) old now before after true
+pub ran : (old now : SimulatorValue) (before after : List ℕ) (count left : ℕ) → left ≡ 0 → Running old now before after count left → Acts Stands (λ wanting. step_effect count) old now before after true
 unfolding step_effect steps_of
 ran old now before after count left none r = record {
   answer = r.told;

@@ -1,10 +1,6 @@
-pub mod Requests
-pub mod Shapes
-pub mod Refusals
-pub mod Covers
-pub mod History
-pub mod Holding
-pub mod World
+pub mod requests
+pub mod texts
+pub mod effects
+pub mod Stepping
 pub mod ReplayText
-pub mod Standing
 pub mod Replaying

@@ -1,17 +1,12 @@
 //! Replays: scripts that make a ring, fill the caches, send commands and take them.
 #![tactic(auto)]
 
-mod answer;
-mod counts;
-mod entries;
 mod interpreter;
-mod parse;
-mod queue;
-mod refusal;
+mod lines;
+mod parsing;
 mod request;
+mod sender_fault;
 mod serving;
-mod shape;
-mod smmu;
-mod tag;
+mod telling;
 
 pub use serving::{replay, serve};

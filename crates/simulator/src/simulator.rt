@@ -95,6 +95,7 @@ impl Simulator {
         requires settled { HasOpen self.old sender false }
         ensures done { Does self.old self.new result (reserved sender batch.now closes) }
         ensures opened { OnOk result (HasOpen self.new sender true) }
+        ensures ring { ring_in self.new.queue ≡ ring_in self.old.queue }
     {
         batch.len();
         let answer = self.queue.reserve(sender, batch, closes);

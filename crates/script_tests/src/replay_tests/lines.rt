@@ -36,16 +36,16 @@ fn lines(rt: HostRuntime) {
         &rt,
         "a first word that means nothing",
         b"ring 3 1 1 1\n\
-         look 0\n",
+         stare 0\n",
         "ring size 8\n\
          line 2: bad line\n",
         Status::Refused,
     );
     expect_answer(
         &rt,
-        "a tag of another kind",
+        "a tag of no kind",
         b"ring 3 1 1 1\n\
-         fill cd 5 1 9\n",
+         fill s3 5 1 9\n",
         "ring size 8\n\
          line 2: bad line\n",
         Status::Refused,
@@ -110,47 +110,47 @@ fn numbers_in_lines(rt: HostRuntime) {
 }
 
 #[test]
-fn commands_that_make_a_line_bad(rt: HostRuntime) {
+fn words_that_make_a_line_bad(rt: HostRuntime) {
     let text = "ring size 8\nline 2: bad line\n";
+    let lines = [
+        "send 0 03\n",
+        "detach 0\n",
+        "detach 0 1 2\n",
+        "fill ste 5\n",
+        "fill s1 1 - 0x10 0 7\n",
+        "fill s2 65536 0x10 0 7\n",
+        "fill atc 5 g 0x10 0 7\n",
+        "fill cd 5 0x100000 7\n",
+        "lookup s1 1 g 0x10000000000000 0\n",
+        "evict el2 g 0x10 256\n",
+        "ack 1\n",
+        "ack 1 again\n",
+        "step 1000001\n",
+        "close\n",
+    ];
+    for line in lines {
+        let script = format!(in rt.alloc(); "ring 3 1 1 1\n{line}").expect(
+            &rt,
+            "the script is made",
+        );
+        expect_answer(&rt, line, script.as_bytes(), text, Status::Refused);
+    }
+}
+
+#[test]
+fn any_command_is_sent(rt: HostRuntime) {
     expect_answer(
         &rt,
-        "one byte alone",
-        b"ring 3 1 1 1\n\
-         send 0 03\n",
-        text,
-        Status::Refused,
-    );
-    expect_answer(
-        &rt,
-        "an opcode of other caches",
-        b"ring 3 1 1 1\n\
-         send 0 11000000010002000000000000000000\n",
-        text,
-        Status::Refused,
-    );
-    expect_answer(
-        &rt,
-        "a good command and an opcode that is none, ILL1",
-        b"ring 3 1 1 1\n\
-         send 0 03000000050000000100000000000000 ff000000000000000000000000000000\n",
-        text,
-        Status::Refused,
-    );
-    expect_answer(
-        &rt,
-        "a secure command, ILL2",
-        b"ring 3 1 1 1\n\
-         send 0 03040000050000000100000000000000\n",
-        text,
-        Status::Refused,
-    );
-    expect_answer(
-        &rt,
-        "a CMD_SYNC with a signal that is none, ILL3",
-        b"ring 3 1 1 1\n\
-         send 0 46300000000000000000000000000000\n",
-        text,
-        Status::Refused,
+        "commands of each illegal kind, which stay where they are, and a CMD_SYNC, legal or not",
+        b"ring 3 1 4 1\n\
+         bare 0 ff000000000000000000000000000000 03040000050000000100000000000000\n\
+         send 0 46300000000000000000000000000000\n\
+         step\n",
+        "ring size 8\n\
+         sent 0 bare\n\
+         refused B2\n\
+         stopped ILL1\n",
+        Status::Good,
     );
 }
 

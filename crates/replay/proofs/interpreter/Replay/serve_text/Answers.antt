@@ -2,15 +2,15 @@ use Rattle.std.proofs.Common.{string_bytes, sym, ◌∙◌}
 use Rattle.std.proofs.lemmas.Result.{IfOk-weaker}
 use Rattle.script.proofs.RequestLemmas.{line_acts, bad_line}
 use Rattle.replay.specs.ReplayText.{replays}
-use Rattle.replay.specs.Standing.{Stands}
+use Rattle.simulator.specs.Standing.{Stands}
 use Rattle.replay.proofs.interpreter.Replay.serve_text.Goals as goal
 
 pub returns-in-Some : goal.returns-in-Some
 returns-in-Some c =
     IfOk-weaker c.serve_request.result _ _ (λ goes_on acts.
-    line_acts replays Stands c.args.number c.args.line.now c.in-Some.request c.args.self.now.smmu c.serve_request.new.self.smmu (string_bytes c.args.reply.now) (string_bytes c.serve_request.new.reply) goes_on
+    line_acts replays Stands c.args.number c.args.line.now c.in-Some.request c.args.self.now.simulator c.serve_request.new.self.simulator (string_bytes c.args.reply.now) (string_bytes c.serve_request.new.reply) goes_on
     c.requires (sym c.in-Some.is ∙ c.in_ok-request.ensures) acts) c.serve_request.ensures
 
 pub returns-in_ok-say_fault-in-None : goal.returns-in_ok-say_fault-in-None
 returns-in_ok-say_fault-in-None c =
-    bad_line replays Stands c.args.number c.args.line.now c.args.self.now.smmu (string_bytes c.args.reply.now) (string_bytes c.say_fault.new.reply) c.requires (sym c.in-None.is ∙ c.in_ok-request.ensures) c.in_ok-say_fault-in-None.ensures
+    bad_line replays Stands c.args.number c.args.line.now c.args.self.now.simulator (string_bytes c.args.reply.now) (string_bytes c.say_fault.new.reply) c.requires (sym c.in-None.is ∙ c.in_ok-request.ensures) c.in_ok-say_fault-in-None.ensures

@@ -1,0 +1,7 @@
+pub mod Numbers
+pub mod Tags
+pub mod RingLine
+pub mod CacheLines
+pub mod SendLines
+pub mod UnitLines
+pub mod Whole

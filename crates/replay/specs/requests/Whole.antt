@@ -1,0 +1,57 @@
+-- What any line of a replay asks for.
+use Rattle.std.specs.Prelude.{ℕ, List, [], ◌∷◌, true, false, Option, Some, None, codes, if◌then◌else◌}
+use Rattle.std.specs.List.{list_all}
+use Rattle.std.specs.Str.{bytes_eq}
+use Rattle.script.specs.Words.{words_of}
+use Rattle.script.specs.Fields.{is_comment, is_printable}
+use Rattle.replay.specs.declared.request.Request.{Request}
+use Rattle.replay.specs.declared.request.Request.TheVariants.{Nothing}
+use Rattle.replay.specs.requests.RingLine.{ring_of}
+use Rattle.replay.specs.requests.CacheLines.{fill_of, evict_of, lookup_of}
+use Rattle.replay.specs.requests.SendLines.{commands_of, inval_of, detach_of, publish_of}
+use Rattle.replay.specs.requests.UnitLines.{steps_of, ack_of, done_of, look_of, close_of, dump_of}
+
+-- a line of the unit or one that looks, by its first word
+unfoldable pub unit_line : List ℕ → List (List ℕ) → Option Request
+unit_line name words =
+    if bytes_eq name (codes "step") then steps_of words
+    else if bytes_eq name (codes "ack") then ack_of words
+    else if bytes_eq name (codes "done") then done_of words
+    else if bytes_eq name (codes "look") then look_of words
+    else if bytes_eq name (codes "close") then close_of words
+    else if bytes_eq name (codes "dump") then dump_of words
+    else None
+
+-- a line that sends what stands in no hexadecimal digits, or else one of the unit
+unfoldable pub sender_line : List ℕ → List (List ℕ) → Option Request
+sender_line name words =
+    if bytes_eq name (codes "inval") then inval_of words
+    else if bytes_eq name (codes "detach") then detach_of words
+    else if bytes_eq name (codes "publish") then publish_of words
+    else unit_line name words
+
+-- a line that makes the ring or is of the caches, or else another one without commands
+unfoldable pub plain_line : List ℕ → List (List ℕ) → Option Request
+plain_line name words =
+    if bytes_eq name (codes "ring") then ring_of words
+    else if bytes_eq name (codes "fill") then fill_of words
+    else if bytes_eq name (codes "evict") then evict_of words
+    else if bytes_eq name (codes "lookup") then lookup_of words
+    else sender_line name words
+
+-- a line with commands, or else one without
+unfoldable pub named : List ℕ → List (List ℕ) → Option Request
+named name words =
+    if bytes_eq name (codes "send") then commands_of true true words
+    else if bytes_eq name (codes "bare") then commands_of false true words
+    else if bytes_eq name (codes "open") then commands_of true false words
+    else if bytes_eq name (codes "openbare") then commands_of false false words
+    else plain_line name words
+
+abbrev pub request_from : List (List ℕ) → Option Request
+request_from [] = Some Nothing
+request_from (name ∷ words) = if is_comment name then Some Nothing else named name words
+
+-- what a line asks for; None is a bad line
+unfoldable pub request_of : List ℕ → Option Request
+request_of line = if list_all is_printable line then request_from (words_of line) else None

@@ -1,0 +1,28 @@
+-- The text of a dump: the registers, the totals and the entries.
+use Rattle.std.specs.Prelude.{ℕ, ◌-◌, ◌^◌, List, [], ◌++◌, false, flat_map, codes, decimal}
+use Rattle.std.specs.Fmt.{digits, padded_integral, format_spec}
+use Rattle.caches.specs.declared.tag.Entry.{Entry}
+use Rattle.engine.specs.declared.answer.Registers.{Registers}
+use Rattle.engine.specs.Counting.{CountsValue, taken}
+use Rattle.replay.specs.texts.Entries.{entry_line}
+
+-- 0x and eight lower-case hexadecimal digits
+abbrev pub register : ℕ → List ℕ
+register n = codes "0x" ++ padded_integral (format_spec 32 0 4 8 (2 ^ 64 - 1)) false [] (digits 16 false n)
+
+abbrev pub register_line : List ℕ → ℕ → List ℕ
+register_line name n = name ++ codes " " ++ register n ++ codes "\n"
+
+abbrev pub errors_line : Registers → List ℕ
+errors_line registers = codes "gerror " ++ decimal registers.gerror ++ codes " gerrorn " ++ decimal registers.gerrorn ++ codes "\n"
+
+abbrev pub registers_text : Registers → List ℕ
+registers_text registers = register_line (codes "prod") registers.prod ++ register_line (codes "cons") registers.cons ++ errors_line registers
+
+abbrev pub totals_line : CountsValue → List ℕ
+totals_line counts =
+    codes "taken " ++ decimal (taken counts) ++ codes " applied " ++ decimal counts.applied ++ codes " replaced " ++ decimal counts.replaced
+    ++ codes " syncs " ++ decimal counts.syncs ++ codes " removed " ++ decimal counts.removed ++ codes "\n"
+
+abbrev pub dump_text : Registers → CountsValue → List Entry → List ℕ
+dump_text registers counts entries = registers_text registers ++ totals_line counts ++ flat_map entry_line entries ++ codes "end\n"

@@ -1,0 +1,17 @@
+-- The texts of what a sender sees.
+use Rattle.std.specs.Prelude.{ℕ, List, ◌++◌, codes, decimal, if◌then◌else◌}
+use Rattle.qindex.specs.declared.control.Control.{Control}
+
+-- of a look
+abbrev pub control_text : Control → List ℕ
+control_text control =
+    codes "control " ++ decimal control.prod.number ++ codes " " ++ decimal control.cons.number
+    ++ (if control.closed then codes " closed\n" else codes " open\n")
+
+-- All of a sender's batches up to this number are done.
+abbrev pub done_text : ℕ → ℕ → List ℕ
+done_text sender number = codes "done " ++ decimal sender ++ codes " up to " ++ decimal number ++ codes "\n"
+
+-- The ring is closed.
+abbrev pub closed_text : List ℕ
+closed_text = codes "closed\n"

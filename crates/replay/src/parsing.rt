@@ -1,0 +1,114 @@
+//! From a line to what it asks for.
+ghost use Rattle.std.specs.Prelude.{◌≡◌, IfOk};
+ghost use Rattle.script.specs.Words.{words_of};
+ghost use Rattle.replay.specs.requests.Whole.{unit_line, sender_line, plain_line, named, request_from, request_of};
+
+mod cache_lines;
+mod numbers;
+mod ring_line;
+mod send_lines;
+mod tags;
+mod unit_lines;
+
+use crate::request::Request;
+use cache_lines::{parse_evict, parse_fill, parse_lookup};
+use ring_line::parse_ring;
+use script::{is_comment, is_text, next_word};
+use send_lines::{parse_commands, parse_detach, parse_inval, parse_publish};
+use std::alloc::{AllocError, Global};
+use unit_lines::{parse_ack, parse_close, parse_done, parse_dump, parse_look, parse_step};
+
+#[tactic(auto, unfolding(crate::specs::requests::Whole::unit_line))]
+fn parse_unit_line(name: &[u8], rest: &[u8]) -> Option<Request>
+    ensures { result ≡ unit_line name.now (words_of rest.now) }
+{
+    if name == b"step".as_slice() {
+        parse_step(rest)
+    } else if name == b"ack".as_slice() {
+        parse_ack(rest)
+    } else if name == b"done".as_slice() {
+        parse_done(rest)
+    } else if name == b"look".as_slice() {
+        parse_look(rest)
+    } else if name == b"close".as_slice() {
+        parse_close(rest)
+    } else if name == b"dump".as_slice() {
+        parse_dump(rest)
+    } else {
+        None
+    }
+}
+
+#[tactic(auto, unfolding(crate::specs::requests::Whole::sender_line))]
+fn parse_sender_line(name: &[u8], rest: &[u8]) -> Option<Request>
+    ensures { result ≡ sender_line name.now (words_of rest.now) }
+{
+    if name == b"inval".as_slice() {
+        parse_inval(rest)
+    } else if name == b"detach".as_slice() {
+        parse_detach(rest)
+    } else if name == b"publish".as_slice() {
+        parse_publish(rest)
+    } else {
+        parse_unit_line(name, rest)
+    }
+}
+
+#[tactic(auto, unfolding(crate::specs::requests::Whole::plain_line))]
+fn parse_plain_line(name: &[u8], rest: &[u8]) -> Option<Request>
+    ensures { result ≡ plain_line name.now (words_of rest.now) }
+{
+    if name == b"ring".as_slice() {
+        parse_ring(rest)
+    } else if name == b"fill".as_slice() {
+        parse_fill(rest)
+    } else if name == b"evict".as_slice() {
+        parse_evict(rest)
+    } else if name == b"lookup".as_slice() {
+        parse_lookup(rest)
+    } else {
+        parse_sender_line(name, rest)
+    }
+}
+
+#[tactic(auto, unfolding(crate::specs::requests::Whole::named))]
+fn parse_named(alloc: Global, name: &[u8], rest: &[u8]) -> Result<Option<Request>, AllocError>
+    ensures { IfOk result (λ request. request ≡ named name.now (words_of rest.now)) }
+{
+    if name == b"send".as_slice() {
+        parse_commands(alloc, true, true, rest)
+    } else if name == b"bare".as_slice() {
+        parse_commands(alloc, false, true, rest)
+    } else if name == b"open".as_slice() {
+        parse_commands(alloc, true, false, rest)
+    } else if name == b"openbare".as_slice() {
+        parse_commands(alloc, false, false, rest)
+    } else {
+        Ok(parse_plain_line(name, rest))
+    }
+}
+
+fn parse_words(alloc: Global, line: &[u8]) -> Result<Option<Request>, AllocError>
+    ensures { IfOk result (λ request. request ≡ request_from (words_of line.now)) }
+{
+    let Some((name, rest)) = next_word(line) else {
+        return Ok(Some(Request::Nothing));
+    };
+    if is_comment(name) {
+        Ok(Some(Request::Nothing))
+    } else {
+        parse_named(alloc, name, rest)
+    }
+}
+
+/// What a line asks for. None is a bad line.
+#[tactic(auto, unfolding(crate::specs::requests::Whole::request_of))]
+pub(crate) fn parse(alloc: Global, line: &[u8]) -> Result<Option<Request>, AllocError>
+    ensures { IfOk result (λ request. request ≡ request_of line.now) }
+{
+    if is_text(line) {
+        parse_words(alloc, line)
+    } else {
+        Ok(None)
+    }
+}

@@ -1,0 +1,64 @@
+//! The text of a dump: the registers, the totals and the entries.
+ghost use Rattle.std.specs.Prelude.{◌≡◌, ◌++◌, OnOk, flat_map, string_bytes};
+ghost use Rattle.replay.specs.texts.Entries.{entry_line};
+ghost use Rattle.replay.specs.texts.Dumps.{register_line, errors_line, registers_text, totals_line, dump_text};
+
+use super::entries::say_entry;
+use caches::Entry;
+use engine::{Counts, Registers};
+use std::alloc::AllocError;
+use std::fmt::Write;
+
+fn say_register(name: &str, value: u32, reply: &mut String) -> Result<(), AllocError>
+    ensures { OnOk result (string_bytes reply.new ≡ string_bytes reply.old ++ register_line name.now value) }
+{
+    write!(reply, "{name} 0x{value:08x}\n")
+}
+
+fn say_errors(registers: &Registers, reply: &mut String) -> Result<(), AllocError>
+    ensures { OnOk result (string_bytes reply.new ≡ string_bytes reply.old ++ errors_line registers.now) }
+{
+    let (gerror, gerrorn) = (registers.gerror, registers.gerrorn);
+    write!(reply, "gerror {gerror} gerrorn {gerrorn}\n")
+}
+
+fn say_registers(registers: &Registers, reply: &mut String) -> Result<(), AllocError>
+    ensures { OnOk result (string_bytes reply.new ≡ string_bytes reply.old ++ registers_text registers.now) }
+{
+    say_register("prod", registers.prod, reply)?;
+    say_register("cons", registers.cons, reply)?;
+    say_errors(registers, reply)
+}
+
+fn say_totals(counts: &Counts, reply: &mut String) -> Result<(), AllocError>
+    ensures { OnOk result (string_bytes reply.new ≡ string_bytes reply.old ++ totals_line counts.now) }
+{
+    let (taken, applied, replaced) = (counts.taken(), counts.applied(), counts.replaced());
+    write!(reply, "taken {taken} applied {applied} replaced {replaced}")?;
+    let (syncs, removed) = (counts.syncs(), counts.removed());
+    write!(reply, " syncs {syncs} removed {removed}\n")
+}
+
+fn say_entries(entries: &[Entry], reply: &mut String) -> Result<(), AllocError>
+    ensures { OnOk result (string_bytes reply.new ≡ string_bytes reply.old ++ flat_map entry_line entries.now) }
+{
+    'entries: for entry in entries {
+        say_entry(entry, reply)?;
+    }
+    Ok(())
+}
+
+/// Tells the registers, the totals, and the entries in the order that they stand in.
+pub(crate) fn say_dump(
+    registers: &Registers,
+    counts: &Counts,
+    entries: &[Entry],
+    reply: &mut String,
+) -> Result<(), AllocError>
+    ensures { OnOk result (string_bytes reply.new ≡ string_bytes reply.old ++ dump_text registers.now counts.now entries.now) }
+{
+    say_registers(registers, reply)?;
+    say_totals(counts, reply)?;
+    say_entries(entries, reply)?;
+    reply.push_str("end\n")
+}

@@ -1,0 +1,33 @@
+//! The texts of what a sender sees.
+ghost use Rattle.std.specs.Prelude.{◌≡◌, ◌++◌, OnOk, string_bytes};
+ghost use Rattle.replay.specs.texts.Looks.{control_text, done_text, closed_text};
+
+use qindex::Control;
+use std::alloc::AllocError;
+use std::fmt::Write;
+
+/// Tells what the control word says.
+pub(crate) fn say_control(control: &Control, reply: &mut String) -> Result<(), AllocError>
+    ensures { OnOk result (string_bytes reply.new ≡ string_bytes reply.old ++ control_text control.now) }
+{
+    let (prod, cons) = (control.prod.get(), control.cons.get());
+    if control.closed {
+        write!(reply, "control {prod} {cons} closed\n")
+    } else {
+        write!(reply, "control {prod} {cons} open\n")
+    }
+}
+
+/// Tells up to which number a sender's batches are done.
+pub(crate) fn say_done(sender: u32, number: u32, reply: &mut String) -> Result<(), AllocError>
+    ensures { OnOk result (string_bytes reply.new ≡ string_bytes reply.old ++ done_text sender number) }
+{
+    write!(reply, "done {sender} up to {number}\n")
+}
+
+/// Tells that the ring is closed.
+pub(crate) fn say_closed(reply: &mut String) -> Result<(), AllocError>
+    ensures { OnOk result (string_bytes reply.new ≡ string_bytes reply.old ++ closed_text) }
+{
+    reply.push_str("closed\n")
+}

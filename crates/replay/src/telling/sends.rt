@@ -1,0 +1,51 @@
+//! The texts of what senders reserve and hand over. A batch without a closing CMD_SYNC has no number.
+ghost use Rattle.std.specs.Prelude.{◌≡◌, ◌++◌, OnOk, string_bytes};
+ghost use Rattle.replay.specs.texts.Sends.{sent_text, opened_text, published_text};
+
+use qindex::Index;
+use std::alloc::AllocError;
+use std::fmt::Write;
+
+/// Tells of a batch that was reserved and handed over.
+pub(crate) fn say_sent(
+    sender: u32,
+    number: Option<u32>,
+    reply: &mut String,
+) -> Result<(), AllocError>
+    ensures { OnOk result (string_bytes reply.new ≡ string_bytes reply.old ++ sent_text sender number) }
+{
+    match number {
+        Some(number) => write!(reply, "sent {sender} number {number}\n"),
+        None => write!(reply, "sent {sender} bare\n"),
+    }
+}
+
+/// Tells of a batch that was reserved alone, from this index on.
+pub(crate) fn say_opened(
+    sender: u32,
+    number: Option<u32>,
+    first: Index,
+    reply: &mut String,
+) -> Result<(), AllocError>
+    ensures { OnOk result (string_bytes reply.new ≡ string_bytes reply.old ++ opened_text sender number first.number) }
+{
+    let first = first.get();
+    match number {
+        Some(number) => write!(reply, "opened {sender} number {number} first {first}\n"),
+        None => write!(reply, "opened {sender} bare first {first}\n"),
+    }
+}
+
+/// Tells of a batch that was handed over after it was reserved alone.
+pub(crate) fn say_published(
+    sender: u32,
+    number: Option<u32>,
+    reply: &mut String,
+) -> Result<(), AllocError>
+    ensures { OnOk result (string_bytes reply.new ≡ string_bytes reply.old ++ published_text sender number) }
+{
+    match number {
+        Some(number) => write!(reply, "published {sender} number {number}\n"),
+        None => write!(reply, "published {sender} bare\n"),
+    }
+}
