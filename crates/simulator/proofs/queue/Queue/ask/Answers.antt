@@ -43,5 +43,5 @@ returns-clause-found c =
     let low = subst (λ (x : QueueValue). s < (ring_in x).senders) (sym c.self.view_is) c.requires in
     subst (λ (x : QueueValue). AfterEach x (λ run. c.unwrap.result ≡ (world run).acknowledged s)) c.self.view_is
     (λ run is.
-      let seen : c.number_in.result ≡ Some ((world run).acknowledged s) = c.number_in.ensures ∙ ap number_in (c.take.ensures.taken run (Sender s) (ask_of q s low run) is.stands (may_ask q s low run)).answer in
-      same_Some _ _ (sym c.unwrap.ensures ∙ seen))
+    let seen : c.number_in.result ≡ Some ((world run).acknowledged s) = c.number_in.ensures ∙ ap number_in (c.take.ensures.taken run (Sender s) (ask_of q s low run) is.stands (may_ask q s low run)).answer in
+    same_Some _ _ (sym c.unwrap.ensures ∙ seen))

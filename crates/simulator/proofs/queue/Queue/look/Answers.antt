@@ -34,5 +34,5 @@ returns-clause-found c =
     let low = subst (λ (x : QueueValue). s < (ring_in x).senders) (sym c.self.view_is) c.requires in
     subst (λ (x : QueueValue). AfterEach x (λ run. c.control.result ≡ control (ring_in x).geometry (world run))) c.self.view_is
     (λ run is.
-      c.control.ensures.says (looked_by (Sender s) (ring_in q).geometry run) (c.take.ensures.taken run (Sender s) (look_of q s low run) is.stands (may_look q s low run)).stands
-      ∙ ap (λ (r : Ring). control r.geometry (world run)) c.take.ensures.ring)
+    c.control.ensures.says (looked_by (Sender s) (ring_in q).geometry run) (c.take.ensures.taken run (Sender s) (look_of q s low run) is.stands (may_look q s low run)).stands
+    ∙ ap (λ (r : Ring). control r.geometry (world run)) c.take.ensures.ring)
