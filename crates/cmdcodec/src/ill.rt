@@ -1,3 +1,7 @@
+//! What is illegal in the words of a command.
+ghost use Rattle.std.specs.Prelude.{◌≡◌};
+ghost use Rattle.cmdcodec.specs.Labels.{label_of};
+
 use thiserror::Error;
 
 /// What is illegal in the words of a command, which stops consumption with CERROR_ILL.
@@ -16,4 +20,18 @@ pub enum Ill {
     /// ILL4: an ATC_INV is for more than `2^52` pages.
     #[error("ILL4: an oversized span")]
     OversizedSpan,
+}
+
+impl Ill {
+    /// Its label alone, `ILL1` to `ILL4`.
+    pub fn label(self) -> &'static str
+        ensures { result.now ≡ label_of self }
+    {
+        match self {
+            Ill::UnknownOpcode => "ILL1",
+            Ill::SecureStream => "ILL2",
+            Ill::ReservedSignal => "ILL3",
+            Ill::OversizedSpan => "ILL4",
+        }
+    }
 }

@@ -4,16 +4,10 @@ use Rattle.hex.specs.Hex.{decode_of}
 use Rattle.hex.specs.declared.error.FromHexError.{FromHexError}
 use Rattle.cmdcodec.specs.declared.command.Command.{Command}
 use Rattle.cmdcodec.specs.declared.ill.Ill.{Ill}
-use Rattle.cmdcodec.specs.declared.ill.Ill.TheVariants.{UnknownOpcode, SecureStream, ReservedSignal, OversizedSpan}
+use Rattle.cmdcodec.specs.Labels.{label_of}
 use Rattle.cmdcodec.specs.Bytes.{raw_of}
 use Rattle.cmdcodec.specs.Words.{decoding}
 use Rattle.cmdcodec.specs.Text.{text_of}
-
-abbrev pub label_of : Ill → List ℕ
-label_of UnknownOpcode = codes "ILL1"
-label_of SecureStream = codes "ILL2"
-label_of ReservedSignal = codes "ILL3"
-label_of OversizedSpan = codes "ILL4"
 
 -- of what the words of a command spell
 abbrev pub command_text : Result Command Ill → List ℕ × Bool

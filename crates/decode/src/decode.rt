@@ -1,22 +1,11 @@
 //! What a word means as a command.
 ghost use Rattle.std.specs.Prelude.{◌≡◌, IfOk, string_bytes};
 ghost use Rattle.cmdcodec.specs.Words.{decoding};
-ghost use Rattle.decode.specs.DecodeText.{label_of, command_text, bytes_text, decode_text};
+ghost use Rattle.decode.specs.DecodeText.{command_text, bytes_text, decode_text};
 
 use cmdcodec::{Command, Ill, decode, from_bytes, text};
 use hex::FromHexError;
 use std::alloc::{AllocError, Global};
-
-fn label(ill: Ill) -> &'static str
-    ensures { result.now ≡ label_of ill }
-{
-    match ill {
-        Ill::UnknownOpcode => "ILL1",
-        Ill::SecureStream => "ILL2",
-        Ill::ReservedSignal => "ILL3",
-        Ill::OversizedSpan => "ILL4",
-    }
-}
 
 fn command_text(alloc: Global, decoded: Result<Command, Ill>) -> Result<(String, bool), AllocError>
     ensures { IfOk result (λ told. (string_bytes told.0 ≡ (command_text decoded).0) × (told.1 ≡ (command_text decoded).1)) }
@@ -24,7 +13,7 @@ fn command_text(alloc: Global, decoded: Result<Command, Ill>) -> Result<(String,
     match decoded {
         Ok(command) => Ok((text(alloc, &command)?, true)),
         Err(ill) => {
-            let label = label(ill);
+            let label = ill.label();
             Ok((format!(in alloc; "illegal {label}")?, false))
         }
     }

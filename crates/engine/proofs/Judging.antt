@@ -30,12 +30,6 @@ not_stopped Replacing is stopped = stopped
 pub any_next : (stop : StopValue) (raw : Raw) → stop.next ≡ None → MayComeNext raw stop
 any_next stop raw none awaited is = let no_words = sym none ∙ is in absurd (cc)
 
--- While it isn't stopped the error is acknowledged.
-pub no_error : (mode : Mode) (error acknowledged : Bool) → ¬ IsStopped mode → IsActive mode error acknowledged → error ≡ acknowledged
-no_error Running error acknowledged going active = active
-no_error (Stopped ill) error acknowledged going active = absurd (going tt)
-no_error Replacing error acknowledged going active = active
-
 -- An illegal command that it wasn't told to replace comes while it is running.
 pub stops : (mode : Mode) → ¬ IsStopped mode → ¬ (mode ≡ Replacing) → mode ≡ Running
 stops Running going other = λ _. Running

@@ -1,7 +1,6 @@
 //! The texts of answers, each appended to a reply.
 mod dumps;
 mod entries;
-mod ill_label;
 mod looks;
 mod refusals;
 mod sends;

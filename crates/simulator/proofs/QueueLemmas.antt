@@ -4,3 +4,7 @@ pub mod Reserving
 pub mod Reading
 pub mod Heads
 pub mod Completing
+pub mod Numbers
+pub mod Writing
+pub mod Flipping
+pub mod Publishing

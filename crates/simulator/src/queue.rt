@@ -12,6 +12,7 @@ ghost use Rattle.ringcore.specs.machine.Core.{number_fault, IsNotMade, ring_with
 ghost use Rattle.simulator.specs.queue.Reserving.{looked_by};
 ghost use Rattle.simulator.specs.queue.Standing.{ring_in, IsQueueAfter, AfterEach, GoesOn};
 
+mod closing;
 mod publishing;
 mod reserving;
 mod seen;

@@ -2,7 +2,6 @@
 ghost use Rattle.std.specs.Prelude.{◌≡◌, ◌++◌, OnOk, string_bytes};
 ghost use Rattle.replay.specs.texts.Steps.{step_text, acknowledged_text};
 
-use super::ill_label::label;
 use engine::StepAnswer;
 use std::alloc::AllocError;
 use std::fmt::Write;
@@ -19,11 +18,11 @@ pub(crate) fn say_step(answer: &StepAnswer, reply: &mut String) -> Result<(), Al
             write!(reply, "applied {command} removed={removed}\n")
         }
         StepAnswer::Stopped(ill) => {
-            let label = label(*ill);
+            let label = ill.label();
             write!(reply, "stopped {label}\n")
         }
         StepAnswer::Replaced(ill) => {
-            let label = label(*ill);
+            let label = ill.label();
             write!(reply, "replaced {label}\n")
         }
         StepAnswer::StillStopped => reply.push_str("still stopped\n"),

@@ -4,14 +4,14 @@ ghost use Rattle.cmdcodec.specs.declared.raw.Raw.{Raw as RawOf};
 ghost use Rattle.ringcore.specs.world.Trails.{Run};
 ghost use Rattle.ringcore.specs.world.World.{world};
 ghost use Rattle.ringcore.specs.machine.Core.{ring_of, StandsAfter};
-ghost use Rattle.ring.specs.consumer.Completing.{sync_sender, sync_number, IsClosingSync};
 ghost use Rattle.simulator.specs.queue.Heads.{head_of, head_taken, completed, IsHeadSlot, head_is_flipped, tested, IsReadyAt, read_both};
 ghost use Rattle.simulator.specs.queue.Standing.{ring_in, IsQueueAfter, AfterEach, GoesOn, HasRead};
 
 use crate::queue::Queue;
+use crate::queue::closing::{closing_number, closing_sender};
 use crate::queue::seen::{half_in, ready_in};
 use crate::queue::steps::take;
-use cmdcodec::{Raw, cell_owner};
+use cmdcodec::Raw;
 use ringcore::laws::consumer_trail;
 use ringcore::{Core, Step, counts_law, world_law};
 
@@ -88,19 +88,4 @@ fn read(core: &mut Core, slot: u32) -> Raw
     let lo = half_in(take(core, Step::Read { slot, half: 0 })).unwrap();
     let hi = half_in(take(core, Step::Read { slot, half: 1 })).unwrap();
     Raw { lo, hi }
-}
-
-/// Whose closing CMD_SYNC it is, by the completion cell that it writes into.
-fn closing_sender(raw: Raw) -> u32
-    requires { IsClosingSync raw }
-    ensures { result ≡ sync_sender raw }
-{
-    cell_owner(raw.hi).unwrap() as u32
-}
-
-/// The number of a closing CMD_SYNC: its MSIDATA.
-fn closing_number(raw: Raw) -> u32
-    ensures { result ≡ sync_number raw }
-{
-    (raw.lo / 0x1_0000_0000) as u32
 }
