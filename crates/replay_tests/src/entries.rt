@@ -1,0 +1,117 @@
+//! Entries that are filled, looked up, evicted and dumped.
+use crate::transcripts::expect_transcript;
+use script::Status;
+
+#[test]
+fn entries(rt: HostRuntime) {
+    expect_transcript(
+        &rt,
+        "the last page of stage 2 and one behind it, all pages and twice as many",
+        Status::Good,
+        "> ring 4 1 4 8
+ring size 16
+> fill s2 1 0xffffffffff 0 1
+filled
+> fill s2 1 0x10000000000 0 1
+refused C2
+> fill s1 1 2 0 52 1
+filled
+> fill s1 1 2 0 53 1
+refused C2",
+    );
+    expect_transcript(
+        &rt,
+        "what is no block is neither filled nor found",
+        Status::Good,
+        "> ring 3 1 4 4
+ring size 8
+> fill s1 1 2 0 255 1
+refused C2
+> lookup s1 1 2 0 255
+absent
+> evict s1 1 2 1 4
+absent
+> fill s2 1 0 40 1
+filled
+> fill s2 1 0 41 1
+refused C2",
+    );
+    expect_transcript(
+        &rt,
+        "a span that no field holds",
+        Status::Refused,
+        "> ring 3 1 4 4
+ring size 8
+> lookup s1 1 2 0 256
+line 2: bad line",
+    );
+    expect_transcript(
+        &rt,
+        "full caches take another value for what they hold",
+        Status::Good,
+        "> ring 3 1 4 1
+ring size 8
+> fill ste 1 10
+filled
+> fill ste 1 11
+replaced value=10 born=0
+> fill ste 2 12
+refused C1",
+    );
+    expect_transcript(
+        &rt,
+        "what is no block is told ahead of full caches",
+        Status::Good,
+        "> ring 3 1 4 1
+ring size 8
+> fill ste 1 1
+filled
+> fill atc 1 - 1 1 1
+refused C2
+> fill atc 1 - 1 0 1
+refused C1",
+    );
+    expect_transcript(
+        &rt,
+        "the order of a dump, in whose reverse the entries are filled",
+        Status::Good,
+        "> ring 3 1 4 20
+ring size 8
+> fill atc 1 0 0 0 1
+filled
+> fill atc 1 - 4 0 2
+filled
+> fill el2 0 0 0 3
+filled
+> fill el2 g 9 0 4
+filled
+> fill s2 0 0 0 5
+filled
+> fill s1 1 0 0 0 6
+filled
+> fill s1 1 g 9 0 7
+filled
+> fill s1 0 7 9 0 8
+filled
+> fill cd 1 2 9
+filled
+> fill ste 9 10
+filled
+> dump
+prod 0x00000000
+cons 0x00000000
+gerror 0 gerrorn 0
+taken 0 applied 0 replaced 0 syncs 0 removed 0
+entry ste sid=9 value=10 born=0
+entry cd sid=1 ssid=2 value=9 born=0
+entry s1 vmid=0 asid=7 page=0x9 span=0 value=8 born=0
+entry s1 vmid=1 global page=0x9 span=0 value=7 born=0
+entry s1 vmid=1 asid=0 page=0x0 span=0 value=6 born=0
+entry s2 vmid=0 page=0x0 span=0 value=5 born=0
+entry el2 global page=0x9 span=0 value=4 born=0
+entry el2 asid=0 page=0x0 span=0 value=3 born=0
+entry atc sid=1 ssid=none page=0x4 span=0 value=2 born=0
+entry atc sid=1 ssid=0 page=0x0 span=0 value=1 born=0
+end",
+    );
+}

@@ -1,0 +1,43 @@
+//! Caches that hold as many entries as they may.
+use crate::transcripts::expect_answer;
+use script::Status;
+use std::alloc::{AllocError, Global};
+use std::fmt::Write as _;
+use std::test::Fail;
+
+/// Lines that fill the stream table entries of so many streams, each with the number of its stream.
+fn fills(alloc: Global, streams: u32) -> Result<String, AllocError> {
+    let mut lines = String::new(alloc);
+    for stream in 0..streams {
+        writeln!(lines, "fill ste {stream} {stream}")?;
+    }
+    Ok(lines)
+}
+
+// The block of 1,024 streams that holds stream 40,000 is removed: 39,936 to 40,959.
+#[test]
+fn caches_of_65536_entries(rt: HostRuntime) -> Result<(), Fail> {
+    let fills = fills(rt.alloc(), 65_536)?;
+    let filled = "filled\n".repeat(rt.alloc(), 65_536)?;
+    let rest = "fill ste 65536 1
+send 0 04000000409c00000900000000000000
+step
+lookup ste 39935
+lookup ste 39936
+lookup ste 40959
+lookup ste 40960
+";
+    let answered = "refused C1
+sent 0 number 1
+applied CFGI_STE_RANGE sid=40000 range=9 removed=1024
+found value=39935 born=0
+absent
+absent
+found value=40960 born=0
+";
+    let script = format!(in rt.alloc(); "ring 4 1 4 65536\n{fills}{rest}")?;
+    let answers = format!(in rt.alloc(); "ring size 16\n{filled}{answered}")?;
+    let name = "65,536 entries, and a block of 1,024 of them";
+    expect_answer(&rt, name, script.as_bytes(), answers.as_str(), Status::Good);
+    Ok(())
+}

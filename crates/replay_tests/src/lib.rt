@@ -1,0 +1,30 @@
+//! Worked scripts of `replay` with their answers, each as one transcript where it can be. They stand in a crate of
+//! their own, since a build of a crate's tests proves the crate once more.
+#![tactic(auto)]
+
+#[cfg(test)]
+mod closing;
+#[cfg(test)]
+mod entries;
+#[cfg(test)]
+mod full_caches;
+#[cfg(test)]
+mod lines;
+#[cfg(test)]
+mod long_batches;
+#[cfg(test)]
+mod ranges;
+#[cfg(test)]
+mod reservations;
+#[cfg(test)]
+mod rings;
+#[cfg(test)]
+mod sending;
+#[cfg(test)]
+mod stops;
+#[cfg(test)]
+mod stream_covers;
+#[cfg(test)]
+mod transcripts;
+#[cfg(test)]
+mod translation_covers;

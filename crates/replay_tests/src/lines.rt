@@ -1,0 +1,122 @@
+//! What a line has to be: its bytes, its words and its numbers.
+use crate::transcripts::{expect_answer, expect_transcript};
+use script::Status;
+use std::test::Fail;
+
+#[test]
+fn words_and_numbers(rt: HostRuntime) {
+    expect_transcript(
+        &rt,
+        "a command of two digits",
+        Status::Refused,
+        "> ring 3 1 1 1
+ring size 8
+> send 0 03
+line 2: bad line",
+    );
+    expect_transcript(
+        &rt,
+        "a million steps end at the first that finds nothing",
+        Status::Good,
+        "> ring 3 1 4 1
+ring size 8
+> step 1000000
+empty",
+    );
+    expect_transcript(
+        &rt,
+        "hexadecimal digits of both cases, 20 decimal digits, and the largest number",
+        Status::Good,
+        "> ring 0x3 1 00000000000000000001 0x0000000000000001
+ring size 8
+> fill ste 0xABCdef 18446744073709551615
+filled
+> fill ste 0xabcDEF 0xffffffffffffffff
+replaced value=18446744073709551615 born=0",
+    );
+    expect_transcript(
+        &rt,
+        "2^64",
+        Status::Refused,
+        "> ring 3 1 1 1
+ring size 8
+> fill ste 1 18446744073709551616
+line 2: bad line",
+    );
+    expect_transcript(
+        &rt,
+        "21 digits",
+        Status::Refused,
+        "> ring 000000000000000000003 1 1 1
+line 1: bad line",
+    );
+    expect_transcript(
+        &rt,
+        "a capital X",
+        Status::Refused,
+        "> ring 0X3 1 1 1
+line 1: bad line",
+    );
+}
+
+#[test]
+fn bytes_of_a_line(rt: HostRuntime) {
+    expect_answer(&rt, "no line at all", b"", "", Status::Good);
+    expect_answer(
+        &rt,
+        "a last line without its end",
+        b"ring 3 1 4 4\nstep",
+        "ring size 8\nempty\n",
+        Status::Good,
+    );
+    expect_answer(
+        &rt,
+        "spaces before, between and behind words, and an empty line",
+        b"  ring 3 1 4 4  \n\n step  1 \n",
+        "ring size 8\nempty\n",
+        Status::Good,
+    );
+    expect_answer(
+        &rt,
+        "a carriage return",
+        b"ring 3 1 4 4\nstep\r\n",
+        "ring size 8\nline 2: bad line\n",
+        Status::Refused,
+    );
+    expect_answer(
+        &rt,
+        "a byte that is no ASCII",
+        b"ring 3 1 4 4\nstep \x80\n",
+        "ring size 8\nline 2: bad line\n",
+        Status::Refused,
+    );
+    expect_answer(
+        &rt,
+        "such a byte in a comment",
+        b"ring 3 1 4 4\n# \x80\n",
+        "ring size 8\nline 2: bad line\n",
+        Status::Refused,
+    );
+}
+
+#[test]
+fn a_line_has_4096_bytes_at_most(rt: HostRuntime) -> Result<(), Fail> {
+    let most = " ".repeat(rt.alloc(), 4096)?;
+    let script = format!(in rt.alloc(); "ring 3 1 4 4\n{most}\nstep\n")?;
+    expect_answer(
+        &rt,
+        "4,096 spaces",
+        script.as_bytes(),
+        "ring size 8\nempty\n",
+        Status::Good,
+    );
+    let script = format!(in rt.alloc(); "ring 3 1 4 4\n{most} \n")?;
+    expect_answer(
+        &rt,
+        "4,097 spaces",
+        script.as_bytes(),
+        "ring size 8\nline 2: long line\n",
+        Status::Refused,
+    );
+    Ok(())
+}

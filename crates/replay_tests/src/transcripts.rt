@@ -1,0 +1,55 @@
+//! Transcripts of replays, as a driver's author pastes them: each line of the script behind `> `, and below it the
+//! lines that it is answered with.
+use replay::replay;
+use script::Status;
+use std::alloc::{AllocError, Global};
+use std::io::{Read, Write};
+use std::process::Abort;
+
+// The theorem of `replay` isn't passed on, since it would be dear in each test.
+/// Replays a script.
+pub fn status_of<R: Read, W: Write>(alloc: Global, input: &mut R, output: &mut W) -> Status {
+    replay(alloc, input, output)
+}
+
+/// Replays a script, and wants this text and this status of it.
+pub fn expect_answer<R: AllocGlobal + Abort>(
+    rt: &R,
+    name: &str,
+    script: &[u8],
+    text: &str,
+    status: Status,
+) {
+    let mut input = script;
+    let mut output = Vec::new(rt.alloc());
+    let ended = status_of(rt.alloc(), &mut input, &mut output);
+    let answer = str::from_utf8(output.as_slice()).unwrap_or("no text");
+    assert_eq!(rt; answer, text, "{name}");
+    assert_eq!(rt; ended, status, "{name}");
+}
+
+/// The script of a transcript, and its answers.
+fn halves(alloc: Global, transcript: &str) -> Result<(String, String), AllocError> {
+    let mut script = String::new(alloc);
+    let mut answers = String::new(alloc);
+    for line in transcript.lines() {
+        let (half, text) = match line.strip_prefix("> ") {
+            Some(asked) => (&mut script, asked),
+            None => (&mut answers, line),
+        };
+        half.push_str(text)?;
+        half.push_str("\n")?;
+    }
+    Ok((script, answers))
+}
+
+/// Replays the script of a transcript, and wants its answers and this status.
+pub fn expect_transcript<R: AllocGlobal + Abort>(
+    rt: &R,
+    name: &str,
+    status: Status,
+    transcript: &str,
+) {
+    let (script, answers) = halves(rt.alloc(), transcript).expect(rt, "there is memory");
+    expect_answer(rt, name, script.as_bytes(), answers.as_str(), status);
+}
