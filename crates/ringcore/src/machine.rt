@@ -106,8 +106,7 @@ impl Core {
         ensures { IsTakenOrRefused self.old self.new step.now result }
     {
         match step {
-            Step::Look { who: None } => Ok(self.consumer_looks()),
-            Step::Look { who: Some(sender) } => self.sender_looks(*sender),
+            Step::Look { who } => self.look(*who),
             Step::Reserve {
                 sender,
                 body,

@@ -1,10 +1,10 @@
 -- From what a request's own part does to what the request does.
-use Rattle.std.proofs.Common.{◌≡◌, ℕ, Bool, true, false, List, ◌∷◌, ◌++◌, ap, sym, ◌∙◌, Option, Some, None, subst, codes}
+use Rattle.std.proofs.Common.{◌≡◌, ℕ, Bool, true, false, List, ◌∷◌, ◌++◌, ap, refl, sym, ◌∙◌, Option, Some, None, Ok, Err, IfSome, subst, codes}
 use Rattle.script.specs.Outcome.{fault_line}
 use Rattle.script.specs.Texts.{ring_text}
-use Rattle.script.specs.Effects.{answers}
+use Rattle.script.specs.Effects.{answers, faults}
 use Rattle.script.specs.Standing.{Acts, ActsAt}
-use Rattle.script.proofs.EffectLemmas.{produces_at, nothing_done, fault_told, nothing_first, fault_first, answer_first}
+use Rattle.script.proofs.EffectLemmas.{produces_at, fault_told, nothing_first, fault_first, answer_first}
 use Rattle.ringcore.specs.declared.machine.core_fault.CoreFault.{CoreFault}
 use Rattle.ringcore.specs.declared.machine.step.Step.{Step}
 use Rattle.ringcore.specs.declared.machine.step.Seen.{Seen}
@@ -17,7 +17,8 @@ use Rattle.ringcore.specs.machine.Core.{CoreValue, StandsAfter, ring_of, IsNew, 
 use Rattle.schedule.specs.declared.request.Request.{Request}
 use Rattle.schedule.specs.declared.request.Request.TheVariants as asks
 use Rattle.schedule.specs.Texts.{answer_line}
-use Rattle.schedule.specs.ScheduleText.{State, made, ring_or_fault, taken, step_or_fault, step_effect, served, first_served}
+use Rattle.schedule.specs.ScheduleText.{State, made, ring_or_fault, taken, step_or_fault, step_effect, asked_effect, served, first_served}
+use Rattle.schedule.specs.Steps.{step_of, IsAnswered}
 use Rattle.schedule.specs.Standing.{Stands}
 
 -- ---- a step
@@ -55,15 +56,34 @@ step_taken number step is_counted seen old new before after took same text = rec
       (λ on. stands_taken old new state step s same takes.stands);
 }
 
+pub asked_refused : (number : ℕ) (asked : Option (Step × Bool)) (fault : StepFault) (old new : CoreValue) (before after : List ℕ) → IsAnswered asked old new (Some (Err fault))
+    → after ≡ before ++ fault_line number (label_of fault) → Acts Stands (λ wanting. asked_effect number asked) old new before after false
+asked_refused number None fault old new before after answered text = absurd answered
+asked_refused number (Some asked) fault old new before after answered text = step_refused number asked.0 asked.1 fault old new before after answered.0 text
+
+pub asked_taken : (number : ℕ) (asked : Option (Step × Bool)) (seen : Seen) (old new : CoreValue) (before after : List ℕ) → IsAnswered asked old new (Some (Ok seen))
+    → IfSome asked (λ a. after ≡ before ++ answer_line a.0 a.1 seen) → Acts Stands (λ wanting. asked_effect number asked) old new before after true
+asked_taken number None seen old new before after answered text = absurd answered
+asked_taken number (Some asked) seen old new before after answered text = step_taken number asked.0 asked.1 seen old new before after answered.0 answered.1 text
+
 -- ---- once the ring is made
 
-pub served_step : (number : ℕ) (request : Request) (step : Step) (is_counted : Bool) → request ≡ asks.Step step is_counted → (state : State) → served number request state ≡ step_effect number step is_counted state
+-- a request for no second ring
+pub served_asked : (number : ℕ) (request : Request) → ((log2 senders : ℕ) → request ≡ asks.Ring log2 senders → ⊥) → (state : State)
+    → served number request state ≡ asked_effect number (step_of request) state
 unfolding served
-served_step number request step is_counted e state = ap (λ r. served number r state) e
-
-pub served_nothing : (number : ℕ) (request : Request) (core : CoreValue) (text : List ℕ) → request ≡ asks.Nothing → Acts Stands (λ wanting. served number request) core core text text true
-unfolding served
-served_nothing number request core text e = nothing_done Stands (λ wanting. served number request) core text (λ state. ap (λ r. served number r state) e)
+served_asked number asks.Nothing not_ring state = refl
+served_asked number (asks.Ring log2 senders) not_ring state = absurd (not_ring log2 senders refl)
+served_asked number (asks.Look who) not_ring state = refl
+served_asked number (asks.Reserve sender body closes) not_ring state = refl
+served_asked number (asks.Write sender slot half) not_ring state = refl
+served_asked number (asks.Flip sender slot count is_counted) not_ring state = refl
+served_asked number (asks.Test slot count is_counted) not_ring state = refl
+served_asked number (asks.Read slot half) not_ring state = refl
+served_asked number (asks.Advance count is_counted) not_ring state = refl
+served_asked number (asks.Close sender) not_ring state = refl
+served_asked number (asks.Acknowledge sender sync) not_ring state = refl
+served_asked number (asks.Ask sender) not_ring state = refl
 
 pub served_ring : (number : ℕ) (request : Request) (log2 senders : ℕ) (core : CoreValue) (before after : List ℕ) → request ≡ asks.Ring log2 senders → after ≡ before ++ fault_line number (codes "second ring")
     → Acts Stands (λ wanting. served number request) core core before after false
@@ -78,11 +98,28 @@ pub first_nothing : (number : ℕ) (request : Request) (core : Option CoreValue)
 unfolding first_served
 first_nothing number request core text none e = nothing_first Stands (first_served number request) core text none (ap (first_served number) e)
 
-pub first_step : (number : ℕ) (request : Request) (step : Step) (is_counted : Bool) (core : Option CoreValue) (before after : List ℕ) → request ≡ asks.Step step is_counted
-    → after ≡ before ++ fault_line number (codes "no ring") → ActsAt Stands (λ wanting state. first_served number request) None core before after false
+-- a request that wants a ring
+first_other : (number : ℕ) (request : Request) → (request ≡ asks.Nothing → ⊥) → ((log2 senders : ℕ) → request ≡ asks.Ring log2 senders → ⊥)
+    → first_served number request ≡ faults number (codes "no ring") None
 unfolding first_served
-first_step number request step is_counted core before after e text =
-    fault_first Stands (first_served number request) core number (codes "no ring") before after (ap (first_served number) e) text
+first_other number asks.Nothing not_nothing not_ring = absurd (not_nothing refl)
+first_other number (asks.Ring log2 senders) not_nothing not_ring = absurd (not_ring log2 senders refl)
+first_other number (asks.Look who) not_nothing not_ring = refl
+first_other number (asks.Reserve sender body closes) not_nothing not_ring = refl
+first_other number (asks.Write sender slot half) not_nothing not_ring = refl
+first_other number (asks.Flip sender slot count is_counted) not_nothing not_ring = refl
+first_other number (asks.Test slot count is_counted) not_nothing not_ring = refl
+first_other number (asks.Read slot half) not_nothing not_ring = refl
+first_other number (asks.Advance count is_counted) not_nothing not_ring = refl
+first_other number (asks.Close sender) not_nothing not_ring = refl
+first_other number (asks.Acknowledge sender sync) not_nothing not_ring = refl
+first_other number (asks.Ask sender) not_nothing not_ring = refl
+
+pub first_fault : (number : ℕ) (request : Request) (core : Option CoreValue) (before after : List ℕ) → (request ≡ asks.Nothing → ⊥)
+    → ((log2 senders : ℕ) → request ≡ asks.Ring log2 senders → ⊥) → after ≡ before ++ fault_line number (codes "no ring")
+    → ActsAt Stands (λ wanting state. first_served number request) None core before after false
+first_fault number request core before after not_nothing not_ring text =
+    fault_first Stands (first_served number request) core number (codes "no ring") before after (first_other number request not_nothing not_ring) text
 
 pub first_ring_is : (number : ℕ) (request : Request) (log2 senders : ℕ) → request ≡ asks.Ring log2 senders → first_served number request ≡ ring_or_fault number log2 senders (number_fault log2 senders)
 unfolding first_served

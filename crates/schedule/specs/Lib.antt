@@ -1,4 +1,5 @@
 pub mod Lines
+pub mod Steps
 pub mod Texts
 pub mod ScheduleText
 pub mod Standing

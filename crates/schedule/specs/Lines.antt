@@ -6,8 +6,6 @@ use Rattle.arrayvec.specs.ArrayVec.{ArrayVec}
 use Rattle.cmdcodec.specs.declared.raw.Raw.{Raw}
 use Rattle.script.specs.Words.{words_of}
 use Rattle.script.specs.Fields.{◌>>=◌, guard, next_below, is_end, hex_of, is_comment, is_printable}
-use Rattle.ringcore.specs.declared.machine.step.Step.{Step}
-use Rattle.ringcore.specs.declared.machine.step.Step.TheVariants as steps
 use Rattle.schedule.specs.declared.request.Request.{Request}
 use Rattle.schedule.specs.declared.request.Request.TheVariants as asks
 
@@ -59,34 +57,30 @@ body_of words = option_map (λ raws. record { items = take 64 raws }) (raws_of w
 
 -- ---- lines
 
--- of a line without a COUNT
-abbrev pub plain : Step → Request
-plain step = asks.Step step false
-
 -- `ring LOG2 SENDERS`
 unfoldable pub ring_of : List (List ℕ) → Option Request
 ring_of words = option_map (λ numbers. asks.Ring numbers.0 numbers.1) (two_numbers words)
 
 -- `look S`
 unfoldable pub look_of_sender : List (List ℕ) → Option Request
-look_of_sender words = option_map (λ sender. plain (steps.Look (Some sender))) (one_number words)
+look_of_sender words = option_map (λ sender. asks.Look (Some sender)) (one_number words)
 
 -- `look c`, or `look S`
 unfoldable pub look_of : List (List ℕ) → Option Request
 look_of [] = None
 look_of (who ∷ words) =
-    if bytes_eq who (codes "c") then guard (is_end words) (plain (steps.Look None)) else look_of_sender (who ∷ words)
+    if bytes_eq who (codes "c") then guard (is_end words) (asks.Look None) else look_of_sender (who ∷ words)
 
 -- `reserve S HEX ..`, which closes its batch, or `bare S HEX ..`, which doesn't
 unfoldable pub reserve_of : Bool → List (List ℕ) → Option Request
 reserve_of closes words = do
   sender ← next_below (2 ^ 32) words
   body ← body_of sender.1
-  Some (plain (steps.Reserve sender.0 body closes))
+  Some (asks.Reserve sender.0 body closes)
 
 -- `write S SLOT HALF`
 unfoldable pub write_of : List (List ℕ) → Option Request
-write_of words = option_map (λ numbers. plain (steps.Write numbers.0 numbers.1 numbers.2)) (three_numbers words)
+write_of words = option_map (λ numbers. asks.Write numbers.0 numbers.1 numbers.2) (three_numbers words)
 
 -- `flip S SLOT` or `flip S SLOT COUNT`
 unfoldable pub flip_of : List (List ℕ) → Option Request
@@ -94,34 +88,34 @@ flip_of words = do
   sender ← next_below (2 ^ 32) words
   slot ← next_below (2 ^ 32) sender.1
   count ← count_of slot.1
-  Some (asks.Step (steps.Flip sender.0 slot.0 count.0) count.1)
+  Some (asks.Flip sender.0 slot.0 count.0 count.1)
 
 -- `test SLOT` or `test SLOT COUNT`
 unfoldable pub test_of : List (List ℕ) → Option Request
 test_of words = do
   slot ← next_below (2 ^ 32) words
   count ← count_of slot.1
-  Some (asks.Step (steps.Test slot.0 count.0) count.1)
+  Some (asks.Test slot.0 count.0 count.1)
 
 -- `read SLOT HALF`
 unfoldable pub read_of : List (List ℕ) → Option Request
-read_of words = option_map (λ numbers. plain (steps.Read numbers.0 numbers.1)) (two_numbers words)
+read_of words = option_map (λ numbers. asks.Read numbers.0 numbers.1) (two_numbers words)
 
 -- `advance` or `advance COUNT`
 unfoldable pub advance_of : List (List ℕ) → Option Request
-advance_of words = option_map (λ count. asks.Step (steps.Advance count.0) count.1) (count_of words)
+advance_of words = option_map (λ count. asks.Advance count.0 count.1) (count_of words)
 
 -- `close S`
 unfoldable pub close_of : List (List ℕ) → Option Request
-close_of words = option_map (λ sender. plain (steps.Close sender)) (one_number words)
+close_of words = option_map (λ sender. asks.Close sender) (one_number words)
 
 -- `ack S K`
 unfoldable pub ack_of : List (List ℕ) → Option Request
-ack_of words = option_map (λ numbers. plain (steps.Acknowledge numbers.0 numbers.1)) (two_numbers words)
+ack_of words = option_map (λ numbers. asks.Acknowledge numbers.0 numbers.1) (two_numbers words)
 
 -- `ask S`
 unfoldable pub ask_of : List (List ℕ) → Option Request
-ask_of words = option_map (λ sender. plain (steps.Ask sender)) (one_number words)
+ask_of words = option_map (λ sender. asks.Ask sender) (one_number words)
 
 -- a line of the consumer's, by its first word
 unfoldable pub consumer_line : List ℕ → List (List ℕ) → Option Request
@@ -135,20 +129,25 @@ consumer_line name words =
 -- a line of a sender's, or else of the consumer's
 unfoldable pub sender_line : List ℕ → List (List ℕ) → Option Request
 sender_line name words =
-    if bytes_eq name (codes "reserve") then reserve_of true words
-    else if bytes_eq name (codes "bare") then reserve_of false words
-    else if bytes_eq name (codes "write") then write_of words
+    if bytes_eq name (codes "write") then write_of words
     else if bytes_eq name (codes "flip") then flip_of words
     else if bytes_eq name (codes "close") then close_of words
     else if bytes_eq name (codes "ask") then ask_of words
     else consumer_line name words
 
--- any line, by its first word
-unfoldable pub named : List ℕ → List (List ℕ) → Option Request
-named name words =
+-- a line without commands, by its first word
+unfoldable pub plain_line : List ℕ → List (List ℕ) → Option Request
+plain_line name words =
     if bytes_eq name (codes "ring") then ring_of words
     else if bytes_eq name (codes "look") then look_of words
     else sender_line name words
+
+-- any line, by its first word
+unfoldable pub named : List ℕ → List (List ℕ) → Option Request
+named name words =
+    if bytes_eq name (codes "reserve") then reserve_of true words
+    else if bytes_eq name (codes "bare") then reserve_of false words
+    else plain_line name words
 
 abbrev pub request_from : List (List ℕ) → Option Request
 request_from [] = Some asks.Nothing

@@ -17,6 +17,7 @@ use Rattle.ringcore.specs.machine.Core.{ring_with, number_fault, answer_to as se
 use Rattle.schedule.specs.declared.request.Request.{Request}
 use Rattle.schedule.specs.declared.request.Request.TheVariants as asks
 use Rattle.schedule.specs.Lines.{request_of}
+use Rattle.schedule.specs.Steps.{step_of}
 use Rattle.schedule.specs.Texts.{answer_line}
 
 -- how things stand once the ring is made: the ring, and what happened to it so far
@@ -49,19 +50,23 @@ step_or_fault number step is_counted state None =
 unfoldable pub step_effect : ℕ → Step → Bool → State → Effect State
 step_effect number step is_counted state = step_or_fault number step is_counted state (fault_of state.ring state.run step)
 
+-- of the step that a request asks for, if it asks for one
+abbrev pub asked_effect : ℕ → Option (Step × Bool) → State → Effect State
+asked_effect number None state = answers [] state
+asked_effect number (Some asked) state = step_effect number asked.0 asked.1 state
+
 -- ---- lines
 
 -- what a request does once the ring is made
 unfoldable pub served : ℕ → Request → State → Effect State
-served number asks.Nothing state = answers [] state
 served number (asks.Ring log2 senders) state = faults number (codes "second ring") (Some state)
-served number (asks.Step step is_counted) state = step_effect number step is_counted state
+served number request state = asked_effect number (step_of request) state
 
 -- what a request does before that
 unfoldable pub first_served : ℕ → Request → Effect State
 first_served number asks.Nothing = record { text = []; state = None; goes_on = true }
 first_served number (asks.Ring log2 senders) = ring_or_fault number log2 senders (number_fault log2 senders)
-first_served number (asks.Step step is_counted) = faults number (codes "no ring") None
+first_served number request = faults number (codes "no ring") None
 
 -- A schedule's requests don't look at whether memory is wanting, so that a script has one answer.
 abbrev pub schedules : Kind

@@ -3,13 +3,14 @@ ghost use Rattle.std.specs.Prelude.{◌≡◌, ◌≤◌, IfOk, None, is_some, l
 ghost use Rattle.ringcore.specs.machine.Core.{number_fault};
 ghost use Rattle.script.specs.Kinds.{request_effect, line_effect};
 ghost use Rattle.script.specs.Standing.{Acts, ActsAt};
-ghost use Rattle.schedule.specs.ScheduleText.{ring_or_fault, step_effect, served, first_served, schedules};
+ghost use Rattle.schedule.specs.ScheduleText.{ring_or_fault, asked_effect, served, first_served, schedules};
 ghost use Rattle.schedule.specs.Standing.{Stands};
+ghost use Rattle.schedule.specs.Steps.{step_of, IsAnswered};
 
 use crate::parsing::parse;
 use crate::request::Request;
-use crate::telling::{flags_of, say_answer, say_step_fault, word_name};
-use ringcore::{Core, CoreFault, Step};
+use crate::telling::{say_answer, say_step_fault};
+use ringcore::{Core, CoreFault, Seen, StepFault};
 use script::{Interpreter, say_fault, say_ring};
 use std::alloc::{AllocError, Global};
 
@@ -48,24 +49,51 @@ fn first_ring(
     }
 }
 
-/// Takes a step, and says whether the run goes on.
-fn take_step(
+/// Takes the step that a request asks for, if it asks for one.
+fn take(core: &mut Core, request: &Request) -> Option<Result<Seen, StepFault>>
+    ensures { IsAnswered (step_of request.now) core.old core.new result }
+{
+    match request {
+        Request::Nothing => None,
+        Request::Ring { .. } => None,
+        Request::Look { who } => Some(core.look(*who)),
+        Request::Reserve {
+            sender,
+            body,
+            closes,
+        } => Some(core.reserve(*sender, body.commands(), *closes)),
+        Request::Write { sender, slot, half } => Some(core.write(*sender, *slot, *half)),
+        Request::Flip {
+            sender,
+            slot,
+            count,
+            ..
+        } => Some(core.flip(*sender, *slot, *count)),
+        Request::Test { slot, count, .. } => Some(core.test(*slot, *count)),
+        Request::Read { slot, half } => Some(core.read(*slot, *half)),
+        Request::Advance { count, .. } => Some(core.advance(*count)),
+        Request::Close { sender } => Some(core.close(*sender)),
+        Request::Acknowledge { sender, number } => Some(core.acknowledge(*sender, *number)),
+        Request::Ask { sender } => Some(core.ask(*sender)),
+    }
+}
+
+/// Serves the step that a request asks for, if it asks for one, and says whether the run goes on.
+fn serve_step(
     core: &mut Core,
     number: u64,
-    step: Step,
-    is_counted: bool,
+    request: &Request,
     reply: &mut String,
 ) -> Result<bool, AllocError>
-    ensures { IfOk result (λ goes_on. Acts Stands (λ wanting. step_effect number step is_counted) core.old core.new (string_bytes reply.old) (string_bytes reply.new) goes_on) }
+    ensures { IfOk result (λ goes_on. Acts Stands (λ wanting. asked_effect number (step_of request.now)) core.old core.new (string_bytes reply.old) (string_bytes reply.new) goes_on) }
 {
-    let name = word_name(&step);
-    let flags = flags_of(&step);
-    match core.apply(step) {
-        Ok(seen) => {
-            say_answer(name, flags, is_counted, seen, reply)?;
+    match take(core, request) {
+        None => Ok(true),
+        Some(Ok(seen)) => {
+            say_answer(request, seen, reply)?;
             Ok(true)
         }
-        Err(fault) => {
+        Some(Err(fault)) => {
             say_step_fault(number, fault, reply)?;
             Ok(false)
         }
@@ -76,18 +104,17 @@ fn take_step(
 fn serve_made(
     core: &mut Core,
     number: u64,
-    request: Request,
+    request: &Request,
     reply: &mut String,
 ) -> Result<bool, AllocError>
-    ensures { IfOk result (λ goes_on. Acts Stands (λ wanting. served number request) core.old core.new (string_bytes reply.old) (string_bytes reply.new) goes_on) }
+    ensures { IfOk result (λ goes_on. Acts Stands (λ wanting. served number request.now) core.old core.new (string_bytes reply.old) (string_bytes reply.new) goes_on) }
 {
     match request {
-        Request::Nothing => Ok(true),
         Request::Ring { .. } => {
             say_fault(number, "second ring", reply)?;
             Ok(false)
         }
-        Request::Step { step, is_counted } => take_step(core, number, step, is_counted, reply),
+        _ => serve_step(core, number, request, reply),
     }
 }
 
@@ -102,21 +129,21 @@ impl Schedule {
     fn serve_first(
         &mut self,
         number: u64,
-        request: Request,
+        request: &Request,
         reply: &mut String,
     ) -> Result<bool, AllocError>
         requires { self.old.core ≡ None }
-        ensures { IfOk result (λ goes_on. ActsAt Stands (λ wanting state. first_served number request) None self.new.core (string_bytes reply.old) (string_bytes reply.new) goes_on) }
+        ensures { IfOk result (λ goes_on. ActsAt Stands (λ wanting state. first_served number request.now) None self.new.core (string_bytes reply.old) (string_bytes reply.new) goes_on) }
     {
         match request {
             Request::Nothing => Ok(true),
             Request::Ring { log2, senders } => {
-                let made = first_ring(self.alloc, number, log2, senders, reply)?;
+                let made = first_ring(self.alloc, number, *log2, *senders, reply)?;
                 let is_made = made.is_some();
                 self.core = made;
                 Ok(is_made)
             }
-            Request::Step { .. } => {
+            _ => {
                 say_fault(number, "no ring", reply)?;
                 Ok(false)
             }
@@ -126,10 +153,10 @@ impl Schedule {
     fn serve_request(
         &mut self,
         number: u64,
-        request: Request,
+        request: &Request,
         reply: &mut String,
     ) -> Result<bool, AllocError>
-        ensures { IfOk result (λ goes_on. ActsAt Stands (λ wanting state. request_effect schedules number wanting request state) self.old.core self.new.core (string_bytes reply.old) (string_bytes reply.new) goes_on) }
+        ensures { IfOk result (λ goes_on. ActsAt Stands (λ wanting state. request_effect schedules number wanting request.now state) self.old.core self.new.core (string_bytes reply.old) (string_bytes reply.new) goes_on) }
     {
         match &mut self.core {
             Some(core) => serve_made(core, number, request, reply),
@@ -146,8 +173,8 @@ impl Schedule {
         requires { length line.now ≤ 4096 }
         ensures { IfOk result (λ goes_on. ActsAt Stands (λ wanting state. line_effect schedules number wanting line.now state) self.old.core self.new.core (string_bytes reply.old) (string_bytes reply.new) goes_on) }
     {
-        match parse(line) {
-            Some(request) => self.serve_request(number, request, reply),
+        match parse(self.alloc, line)? {
+            Some(request) => self.serve_request(number, &request, reply),
             None => {
                 say_fault(number, "bad line", reply)?;
                 Ok(false)

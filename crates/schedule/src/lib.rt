@@ -1,12 +1,14 @@
 //! Schedules: any interleaving of a ring's atomic steps, played by a script of lines.
 #![tactic(auto)]
 
+mod body;
 mod interpreter;
 mod parsing;
 mod request;
 mod serving;
 mod telling;
 
+pub use body::Body;
 pub use parsing::parse;
 pub use request::Request;
 pub use serving::{schedule, serve};

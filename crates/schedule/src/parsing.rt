@@ -1,12 +1,13 @@
 //! From a line to what it asks for.
-ghost use Rattle.std.specs.Prelude.{◌≡◌, ◌≤◌, [], ◌∷◌, ◌++◌, length, take, option_map};
+ghost use Rattle.std.specs.Prelude.{◌≡◌, ◌≤◌, [], ◌∷◌, ◌++◌, length, take, option_map, IfOk};
 ghost use Rattle.script.specs.Words.{words_of};
-ghost use Rattle.schedule.specs.Lines.{one_number, two_numbers, three_numbers, given_count, count_of, body_of, plain, ring_of, look_of_sender, look_of, reserve_of, write_of, flip_of, test_of, read_of, advance_of, close_of, ack_of, ask_of, consumer_line, sender_line, named, request_from, request_of};
+ghost use Rattle.schedule.specs.Lines.{one_number, two_numbers, three_numbers, given_count, count_of, body_of, ring_of, look_of_sender, look_of, reserve_of, write_of, flip_of, test_of, read_of, advance_of, close_of, ack_of, ask_of, consumer_line, sender_line, plain_line, named, request_from, request_of};
 
+use crate::body::Body;
 use crate::request::Request;
 use cmdcodec::{Raw, RawList};
-use ringcore::Step;
 use script::{is_comment, is_end, is_text, next_u32, next_word, raw};
+use std::alloc::{AllocError, Global};
 
 /// The most flags that one step goes over.
 const MOST_FLAGS: u32 = 64;
@@ -94,22 +95,12 @@ fn parse_ring(text: &[u8]) -> Option<Request>
     Some(Request::Ring { log2, senders })
 }
 
-// What a line without a COUNT asks for.
-fn plain(step: Step) -> Request
-    ensures { result ≡ plain step }
-{
-    Request::Step {
-        step,
-        is_counted: false,
-    }
-}
-
 #[tactic(auto, unfolding(crate::specs::Lines::look_of_sender))]
 fn parse_look_of_sender(text: &[u8]) -> Option<Request>
     ensures { result ≡ look_of_sender (words_of text.now) }
 {
     let sender = one_number(text)?;
-    Some(plain(Step::Look { who: Some(sender) }))
+    Some(Request::Look { who: Some(sender) })
 }
 
 #[tactic(auto, unfolding(crate::specs::Lines::look_of))]
@@ -123,16 +114,21 @@ fn parse_look(text: &[u8]) -> Option<Request>
     if !is_end(rest) {
         return None;
     }
-    Some(plain(Step::Look { who: None }))
+    Some(Request::Look { who: None })
 }
 
 #[tactic(auto, unfolding(crate::specs::Lines::reserve_of))]
-fn parse_reserve(closes: bool, text: &[u8]) -> Option<Request>
-    ensures { result ≡ reserve_of closes (words_of text.now) }
+fn parse_reserve(alloc: Global, closes: bool, text: &[u8]) -> Result<Option<Request>, AllocError>
+    ensures { IfOk result (λ request. request ≡ reserve_of closes (words_of text.now)) }
 {
-    let (sender, rest) = next_u32(text)?;
-    let body = parse_body(rest)?;
-    Some(plain(Step::Reserve {
+    let Some((sender, rest)) = next_u32(text) else {
+        return Ok(None);
+    };
+    let Some(commands) = parse_body(rest) else {
+        return Ok(None);
+    };
+    let body = Body::new(alloc, commands)?;
+    Ok(Some(Request::Reserve {
         sender,
         body,
         closes,
@@ -144,7 +140,7 @@ fn parse_write(text: &[u8]) -> Option<Request>
     ensures { result ≡ write_of (words_of text.now) }
 {
     let (sender, slot, half) = three_numbers(text)?;
-    Some(plain(Step::Write { sender, slot, half }))
+    Some(Request::Write { sender, slot, half })
 }
 
 #[tactic(auto, unfolding(crate::specs::Lines::flip_of))]
@@ -154,12 +150,12 @@ fn parse_flip(text: &[u8]) -> Option<Request>
     let (sender, rest) = next_u32(text)?;
     let (slot, rest) = next_u32(rest)?;
     let (count, is_counted) = parse_count(rest)?;
-    let step = Step::Flip {
+    Some(Request::Flip {
         sender,
         slot,
         count,
-    };
-    Some(Request::Step { step, is_counted })
+        is_counted,
+    })
 }
 
 #[tactic(auto, unfolding(crate::specs::Lines::test_of))]
@@ -168,8 +164,11 @@ fn parse_test(text: &[u8]) -> Option<Request>
 {
     let (slot, rest) = next_u32(text)?;
     let (count, is_counted) = parse_count(rest)?;
-    let step = Step::Test { slot, count };
-    Some(Request::Step { step, is_counted })
+    Some(Request::Test {
+        slot,
+        count,
+        is_counted,
+    })
 }
 
 #[tactic(auto, unfolding(crate::specs::Lines::read_of))]
@@ -177,7 +176,7 @@ fn parse_read(text: &[u8]) -> Option<Request>
     ensures { result ≡ read_of (words_of text.now) }
 {
     let (slot, half) = two_numbers(text)?;
-    Some(plain(Step::Read { slot, half }))
+    Some(Request::Read { slot, half })
 }
 
 #[tactic(auto, unfolding(crate::specs::Lines::advance_of))]
@@ -185,8 +184,7 @@ fn parse_advance(text: &[u8]) -> Option<Request>
     ensures { result ≡ advance_of (words_of text.now) }
 {
     let (count, is_counted) = parse_count(text)?;
-    let step = Step::Advance { count };
-    Some(Request::Step { step, is_counted })
+    Some(Request::Advance { count, is_counted })
 }
 
 #[tactic(auto, unfolding(crate::specs::Lines::close_of))]
@@ -194,7 +192,7 @@ fn parse_close(text: &[u8]) -> Option<Request>
     ensures { result ≡ close_of (words_of text.now) }
 {
     let sender = one_number(text)?;
-    Some(plain(Step::Close { sender }))
+    Some(Request::Close { sender })
 }
 
 #[tactic(auto, unfolding(crate::specs::Lines::ack_of))]
@@ -202,7 +200,7 @@ fn parse_ack(text: &[u8]) -> Option<Request>
     ensures { result ≡ ack_of (words_of text.now) }
 {
     let (sender, number) = two_numbers(text)?;
-    Some(plain(Step::Acknowledge { sender, number }))
+    Some(Request::Acknowledge { sender, number })
 }
 
 #[tactic(auto, unfolding(crate::specs::Lines::ask_of))]
@@ -210,7 +208,7 @@ fn parse_ask(text: &[u8]) -> Option<Request>
     ensures { result ≡ ask_of (words_of text.now) }
 {
     let sender = one_number(text)?;
-    Some(plain(Step::Ask { sender }))
+    Some(Request::Ask { sender })
 }
 
 #[tactic(auto, unfolding(crate::specs::Lines::consumer_line))]
@@ -234,11 +232,7 @@ fn parse_consumer_line(name: &[u8], rest: &[u8]) -> Option<Request>
 fn parse_sender_line(name: &[u8], rest: &[u8]) -> Option<Request>
     ensures { result ≡ sender_line name.now (words_of rest.now) }
 {
-    if name == b"reserve".as_slice() {
-        parse_reserve(true, rest)
-    } else if name == b"bare".as_slice() {
-        parse_reserve(false, rest)
-    } else if name == b"write".as_slice() {
+    if name == b"write".as_slice() {
         parse_write(rest)
     } else if name == b"flip".as_slice() {
         parse_flip(rest)
@@ -251,9 +245,9 @@ fn parse_sender_line(name: &[u8], rest: &[u8]) -> Option<Request>
     }
 }
 
-#[tactic(auto, unfolding(crate::specs::Lines::named))]
-fn parse_named(name: &[u8], rest: &[u8]) -> Option<Request>
-    ensures { result ≡ named name.now (words_of rest.now) }
+#[tactic(auto, unfolding(crate::specs::Lines::plain_line))]
+fn parse_plain_line(name: &[u8], rest: &[u8]) -> Option<Request>
+    ensures { result ≡ plain_line name.now (words_of rest.now) }
 {
     if name == b"ring".as_slice() {
         parse_ring(rest)
@@ -264,26 +258,42 @@ fn parse_named(name: &[u8], rest: &[u8]) -> Option<Request>
     }
 }
 
-fn parse_words(line: &[u8]) -> Option<Request>
-    ensures { result ≡ request_from (words_of line.now) }
+#[tactic(auto, unfolding(crate::specs::Lines::named))]
+fn parse_named(alloc: Global, name: &[u8], rest: &[u8]) -> Result<Option<Request>, AllocError>
+    ensures { IfOk result (λ request. request ≡ named name.now (words_of rest.now)) }
+{
+    if name == b"reserve".as_slice() {
+        parse_reserve(alloc, true, rest)
+    } else if name == b"bare".as_slice() {
+        parse_reserve(alloc, false, rest)
+    } else {
+        Ok(parse_plain_line(name, rest))
+    }
+}
+
+fn parse_words(alloc: Global, line: &[u8]) -> Result<Option<Request>, AllocError>
+    ensures { IfOk result (λ request. request ≡ request_from (words_of line.now)) }
 {
     let Some((name, rest)) = next_word(line) else {
-        return Some(Request::Nothing);
+        return Ok(Some(Request::Nothing));
     };
     if is_comment(name) {
-        return Some(Request::Nothing);
+        Ok(Some(Request::Nothing))
+    } else {
+        parse_named(alloc, name, rest)
     }
-    parse_named(name, rest)
 }
 
 /// What a line asks for. None is a bad line.
+///
+/// Errors: want of memory for the commands of a line that reserves.
 #[tactic(auto, unfolding(crate::specs::Lines::request_of))]
-pub fn parse(line: &[u8]) -> Option<Request>
-    ensures { result ≡ request_of line.now }
+pub fn parse(alloc: Global, line: &[u8]) -> Result<Option<Request>, AllocError>
+    ensures { IfOk result (λ request. request ≡ request_of line.now) }
 {
     if is_text(line) {
-        parse_words(line)
+        parse_words(alloc, line)
     } else {
-        None
+        Ok(None)
     }
 }

@@ -1,11 +1,13 @@
 //! The texts that the steps of a schedule are answered with.
-ghost use Rattle.std.specs.Prelude.{◌≡◌, ◌++◌, OnOk, codes, decimal, string_bytes};
+ghost use Rattle.std.specs.Prelude.{◌≡◌, ◌++◌, IfSome, OnOk, codes, decimal, string_bytes};
 ghost use Rattle.ringcore.specs.machine.FaultNames.{label_of};
 ghost use Rattle.script.specs.Outcome.{fault_line};
-ghost use Rattle.schedule.specs.Texts.{control_text, flags_text, number_text, ready_text, word_name, flags_of, seen_text};
+ghost use Rattle.schedule.specs.Texts.{control_text, flags_text, number_text, ready_text, word_name, flags_of, seen_text, answer_line};
+ghost use Rattle.schedule.specs.Steps.{step_of};
 
+use crate::request::Request;
 use qindex::{Control, Index};
-use ringcore::{Seen, Step, StepFault};
+use ringcore::{Seen, StepFault};
 use std::alloc::AllocError;
 use std::fmt::Write;
 
@@ -54,24 +56,36 @@ fn say_ready(is_counted: bool, found: u32, reply: &mut String) -> Result<(), All
     }
 }
 
-/// What the control word in a step's answer is.
-pub(crate) fn word_name(step: &Step) -> &'static str
-    ensures { result.now ≡ word_name step.now }
+/// What the control word in the answer to a request's step is.
+fn word_name(request: &Request) -> &'static str
+    ensures { IfSome (step_of request.now) (λ asked. result.now ≡ word_name asked.0) }
 {
-    match step {
-        Step::Advance { .. } => "advanced ",
-        Step::Close { .. } => "closed ",
+    match request {
+        Request::Advance { .. } => "advanced ",
+        Request::Close { .. } => "closed ",
         _ => "control ",
     }
 }
 
-/// How many flags a step turns.
-pub(crate) fn flags_of(step: &Step) -> u32
-    ensures { result ≡ flags_of step.now }
+/// How many flags a request's step turns.
+fn flags_of(request: &Request) -> u32
+    ensures { IfSome (step_of request.now) (λ asked. result ≡ flags_of asked.0) }
 {
-    match step {
-        Step::Flip { count, .. } => *count,
+    match request {
+        Request::Flip { count, .. } => *count,
         _ => 0,
+    }
+}
+
+/// Whether a request's line has a COUNT.
+fn has_count(request: &Request) -> bool
+    ensures { IfSome (step_of request.now) (λ asked. result ≡ asked.1) }
+{
+    match request {
+        Request::Flip { is_counted, .. } => *is_counted,
+        Request::Test { is_counted, .. } => *is_counted,
+        Request::Advance { is_counted, .. } => *is_counted,
+        _ => false,
     }
 }
 
@@ -106,17 +120,16 @@ fn say_seen(
     }
 }
 
-/// Tells what a step of such a word and so many flags was answered, on a line of its own.
+/// Tells what the step of a request was answered, on a line of its own.
 pub(crate) fn say_answer(
-    name: &str,
-    flags: u32,
-    is_counted: bool,
+    request: &Request,
     seen: Seen,
     reply: &mut String,
 ) -> Result<(), AllocError>
-    ensures { OnOk result (string_bytes reply.new ≡ string_bytes reply.old ++ (seen_text name.now flags is_counted seen ++ codes "\n")) }
+    ensures { OnOk result (IfSome (step_of request.now) (λ asked. string_bytes reply.new ≡ string_bytes reply.old ++ answer_line asked.0 asked.1 seen)) }
 {
-    say_seen(name, flags, is_counted, seen, reply)?;
+    let (name, flags) = (word_name(request), flags_of(request));
+    say_seen(name, flags, has_count(request), seen, reply)?;
     reply.push_str("\n")
 }
 

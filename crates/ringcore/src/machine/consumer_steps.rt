@@ -20,7 +20,9 @@ impl Core {
     }
 
     /// A load of the head's flag word, which looks at so many flags at most.
-    pub(super) fn test(&mut self, slot: u32, count: u32) -> Result<Seen, StepFault>
+    ///
+    /// Errors: F8 where there is no such slot, and for a count that isn't 1 to 64; F5 where the slot isn't the head's.
+    pub fn test(&mut self, slot: u32, count: u32) -> Result<Seen, StepFault>
         ensures { IsTakenOrRefused self.old self.new (Test slot count) result }
     {
         if let Some(fault) = self.test_fault(slot, count) {
@@ -33,8 +35,11 @@ impl Core {
         Ok(Seen::Ready(found))
     }
 
-    /// A load of a data word.
-    pub(super) fn read(&mut self, slot: u32, half: u32) -> Result<Seen, StepFault>
+    /// A load of the word for a half of a slot: 0 (lo) or 1 (hi).
+    ///
+    /// Errors: F8 where there is no such slot or half; F5 where the slot is neither the head's nor one that the last test
+    /// found, F6 where it is the head's and nothing was found.
+    pub fn read(&mut self, slot: u32, half: u32) -> Result<Seen, StepFault>
         ensures { IsTakenOrRefused self.old self.new (Read slot half) result }
     {
         let offset = self.read_offset(slot, half)?;
@@ -46,7 +51,9 @@ impl Core {
     }
 
     /// An exclusive or of the control word, to take so many commands.
-    pub(super) fn advance(&mut self, count: u32) -> Result<Seen, StepFault>
+    ///
+    /// Errors: F8 for a count that isn't 1 to 64; F6 for more than the last test found, F4 where a half isn't read.
+    pub fn advance(&mut self, count: u32) -> Result<Seen, StepFault>
         ensures { IsTakenOrRefused self.old self.new (Advance count) result }
     {
         if let Some(fault) = self.advance_fault(count) {
@@ -63,7 +70,9 @@ impl Core {
     }
 
     /// A load of the sender's completion cell.
-    pub(super) fn ask(&mut self, sender: u32) -> Result<Seen, StepFault>
+    ///
+    /// Errors: F8 where there is no such sender.
+    pub fn ask(&mut self, sender: u32) -> Result<Seen, StepFault>
         ensures { IsTakenOrRefused self.old self.new (Ask sender) result }
     {
         if sender as usize >= self.senders.len() {
@@ -73,8 +82,10 @@ impl Core {
         Ok(Seen::Done(self.done(sender)))
     }
 
-    /// A store in the sender's completion cell.
-    pub(super) fn acknowledge(&mut self, sender: u32, number: u32) -> Result<Seen, StepFault>
+    /// A store of a closing sync's number in its sender's completion cell.
+    ///
+    /// Errors: F8 where there is no such sender; F7 for a number that isn't the next one, or whose sync isn't taken.
+    pub fn acknowledge(&mut self, sender: u32, number: u32) -> Result<Seen, StepFault>
         ensures { IsTakenOrRefused self.old self.new (Acknowledge sender number) result }
     {
         if let Some(fault) = self.acknowledge_fault(sender, number) {

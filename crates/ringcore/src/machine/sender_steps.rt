@@ -15,8 +15,19 @@ use qindex::{
 };
 
 impl Core {
-    /// A load of the control word.
-    pub(super) fn sender_looks(&mut self, sender: u32) -> Result<Seen, StepFault>
+    /// A load of the control word: by a sender, or by the consumer where none is named.
+    ///
+    /// Errors: F8 where there is no such sender.
+    pub fn look(&mut self, who: Option<u32>) -> Result<Seen, StepFault>
+        ensures { IsTakenOrRefused self.old self.new (Look who) result }
+    {
+        match who {
+            None => Ok(self.consumer_looks()),
+            Some(sender) => self.sender_looks(sender),
+        }
+    }
+
+    fn sender_looks(&mut self, sender: u32) -> Result<Seen, StepFault>
         ensures { IsTakenOrRefused self.old self.new (Look (Some sender)) result }
     {
         if sender as usize >= self.senders.len() {
@@ -28,8 +39,10 @@ impl Core {
         Ok(Seen::Word(found))
     }
 
-    /// An or of the control word with the closed bit.
-    pub(super) fn close(&mut self, sender: u32) -> Result<Seen, StepFault>
+    /// An or of the control word with the closed bit, by a sender.
+    ///
+    /// Errors: F8 where there is no such sender.
+    pub fn close(&mut self, sender: u32) -> Result<Seen, StepFault>
         ensures { IsTakenOrRefused self.old self.new (Close sender) result }
     {
         if sender as usize >= self.senders.len() {
@@ -40,8 +53,11 @@ impl Core {
         Ok(Seen::Word(self.control()))
     }
 
-    /// A store of the word that the sender's reservation has for a half of the slot.
-    pub(super) fn write(&mut self, sender: u32, slot: u32, half: u32) -> Result<Seen, StepFault>
+    /// A store of the word that the sender's reservation has for a half of the slot: 0 (lo) or 1 (hi).
+    ///
+    /// Errors: F8 where there is no such sender, slot or half; F2 where no open reservation holds the slot, F1 where
+    /// another sender's does; F3 where the slot is flipped.
+    pub fn write(&mut self, sender: u32, slot: u32, half: u32) -> Result<Seen, StepFault>
         ensures { IsTakenOrRefused self.old self.new (Write sender slot half) result }
     {
         let offset = self.write_offset(sender, slot, half)?;
@@ -56,8 +72,12 @@ impl Core {
         Ok(Seen::Written)
     }
 
-    /// An exclusive or of a flag word, for so many slots of the sender's reservation.
-    pub(super) fn flip(&mut self, sender: u32, slot: u32, count: u32) -> Result<Seen, StepFault>
+    /// An exclusive or of a flag word, for so many slots of the sender's reservation, from this one on.
+    ///
+    /// Errors: F8 where there is no such sender or slot, for a count that isn't 1 to 64 or is above the ring's size, and
+    /// where the slots leave their flag word; F2 where no open reservation holds one of them, F1 where others' hold all;
+    /// F3 where one is flipped, F4 where a half isn't written.
+    pub fn flip(&mut self, sender: u32, slot: u32, count: u32) -> Result<Seen, StepFault>
         ensures { IsTakenOrRefused self.old self.new (Flip sender slot count) result }
     {
         let offset = self.flip_offset(sender, slot, count)?;
@@ -72,13 +92,13 @@ impl Core {
         Ok(Seen::Flipped(new_flags(geometry, first, count)))
     }
 
-    /// An exchange of the control word that the sender looked at, to reserve these commands.
-    pub(super) fn reserve(
-        &mut self,
-        sender: u32,
-        body: &RawList,
-        closes: bool,
-    ) -> Result<Seen, StepFault>
+    /// An exchange of the control word that the sender looked at, to reserve these commands: with a closing sync behind
+    /// them, or without.
+    ///
+    /// Errors: F8 where there is no such sender; F10 with a reservation open, or with all batches made; F11 for a body
+    /// of none, of more than 63, or with a CMD_SYNC; F9 without a look since the last exchange, and where by that look
+    /// the ring is closed or has no room.
+    pub fn reserve(&mut self, sender: u32, body: &RawList, closes: bool) -> Result<Seen, StepFault>
         ensures { IsTakenOrRefused self.old self.new (Reserve sender body.now closes) result }
     {
         if sender as usize >= self.senders.len() {

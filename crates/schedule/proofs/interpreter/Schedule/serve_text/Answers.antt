@@ -9,8 +9,8 @@ pub returns-in-Some : goal.returns-in-Some
 returns-in-Some c =
     IfOk-weaker c.serve_request.result _ _ (λ goes_on acts.
     line_acts schedules Stands c.args.number c.args.line.now c.in-Some.request c.args.self.now.core c.serve_request.new.self.core (string_bytes c.args.reply.now) (string_bytes c.serve_request.new.reply) goes_on
-    c.requires (sym c.in-Some.is ∙ c.parse.ensures) acts) c.serve_request.ensures
+    c.requires (sym c.in-Some.is ∙ c.in_ok-request.ensures) acts) c.serve_request.ensures
 
 pub returns-in_ok-say_fault-in-None : goal.returns-in_ok-say_fault-in-None
 returns-in_ok-say_fault-in-None c =
-    bad_line schedules Stands c.args.number c.args.line.now c.args.self.now.core (string_bytes c.args.reply.now) (string_bytes c.say_fault.new.reply) c.requires (sym c.in-None.is ∙ c.parse.ensures) c.in_ok-say_fault-in-None.ensures
+    bad_line schedules Stands c.args.number c.args.line.now c.args.self.now.core (string_bytes c.args.reply.now) (string_bytes c.say_fault.new.reply) c.requires (sym c.in-None.is ∙ c.in_ok-request.ensures) c.in_ok-say_fault-in-None.ensures

@@ -1,0 +1,41 @@
+//! The commands of a line that reserves.
+ghost use Rattle.std.specs.Prelude.{◌≡◌, IfOk};
+
+use cmdcodec::RawList;
+use std::alloc::{AllocError, Global};
+use std::marker::Model;
+
+/// The commands that a line reserves, apart from it: so a request is small, whatever it asks for.
+#[derive(Debug, Drop)]
+pub struct Body {
+    commands: Box<RawList>,
+}
+
+impl Model for Body {
+    ghost use Rattle.arrayvec.specs.ArrayVec.{ArrayVec};
+    ghost use Rattle.cmdcodec.specs.declared.raw.Raw.{Raw};
+
+    ghost Value = { ArrayVec Raw };
+
+    ghost view = { λ body. body.commands.value };
+}
+
+impl Body {
+    /// A body of these commands.
+    ///
+    /// Errors: want of memory.
+    pub(crate) fn new(alloc: Global, commands: RawList) -> Result<Body, AllocError>
+        ensures { IfOk result (λ body. body ≡ commands) }
+    {
+        Ok(Body {
+            commands: Box::new(alloc, commands)?,
+        })
+    }
+
+    /// The commands, in order.
+    pub fn commands(&self) -> &RawList
+        ensures { result.now ≡ self.now }
+    {
+        &self.commands
+    }
+}
