@@ -1,6 +1,6 @@
 -- How the simulator stands once the command at the head was judged.
 use Rattle.std.proofs.Common.{◌≡◌, refl, ap, sym, ◌∙◌, subst, arith, ℕ, ◌+◌, ◌-◌, Bool, true, false, not, cond, List, [], ◌∷◌, ◌++◌, Option, Some, None, Result, Ok, Err}
-use Rattle.std.specs.Prelude.{count_by, is_none, if◌then◌else◌}
+use Rattle.std.specs.Prelude.{is_none}
 use Rattle.std.specs.FinMap as finite
 use Rattle.cmdcodec.specs.declared.raw.Raw.{Raw}
 use Rattle.cmdcodec.specs.declared.ill.Ill.{Ill}
@@ -10,7 +10,6 @@ use Rattle.cmdcodec.specs.Legality.{first_ill}
 use Rattle.cmdcodec.specs.Words.{decoding}
 use Rattle.ringcore.specs.declared.world.event.Who.TheVariants.{Consumer}
 use Rattle.ringcore.specs.declared.world.event.Event.TheVariants.{Advance, Acknowledge}
-use Rattle.ringcore.specs.declared.world.event.Outcome.{Outcome}
 use Rattle.ringcore.specs.declared.world.event.Outcome.TheVariants as outcome
 use Rattle.ringcore.specs.world.Trails.{Run}
 use Rattle.ringcore.specs.world.World.{Taken, outcome_of, taken_as, world}
@@ -20,13 +19,12 @@ use Rattle.engine.specs.declared.answer.StepAnswer.{StepAnswer}
 use Rattle.engine.specs.declared.answer.StepAnswer.TheVariants.{Applied, Stopped, Replaced}
 use Rattle.engine.specs.declared.stop.Mode.{Mode}
 use Rattle.engine.specs.Stops.{StopValue, stopped_at, gone_on}
-use Rattle.engine.specs.Counting.{CountsValue, syncs_with, counted_applied, counted_replaced}
+use Rattle.engine.specs.Counting.{syncs_with, counted_applied, counted_replaced}
 use Rattle.engine.specs.Units.{UnitValue, IsApplied, IsStoppedAt, IsReplaced}
-use Rattle.simulator.specs.queue.Heads.{raw_at_head, completed}
+use Rattle.simulator.specs.queue.Heads.{completed}
 use Rattle.simulator.specs.queue.Standing.{QueueValue, ring_in, IsQueueAfter, HasRead}
 use Rattle.simulator.specs.State.{State, Answered, entries, removed_from, removed_in, is_applied, counts_of}
-use Rattle.simulator.specs.Fills.{with_item}
-use Rattle.simulator.specs.Steps.{completes, illegal, judged}
+use Rattle.simulator.specs.Steps.{illegal, judged}
 use Rattle.simulator.specs.Standing.{Stands, IsFound}
 use Rattle.simulator.proofs.Counts.{count_by-snoc}
 

@@ -1,5 +1,5 @@
 -- What a queue's calls keep of a state, and how a simulator stands after them.
-use Rattle.std.proofs.Common.{◌≡◌, refl, ap, sym, ◌∙◌, subst, ℕ, zero, suc, ◌-◌, Bool, List, [], ◌∷◌, ◌++◌, Option, Some, None, option_map, slice_get}
+use Rattle.std.proofs.Common.{◌≡◌, refl, ap, sym, ◌∙◌, ℕ, zero, suc, ◌-◌, Bool, List, [], ◌∷◌, ◌++◌, Option, Some, None, option_map, slice_get}
 use Rattle.std.proofs.lemmas.Option.{none-some}
 use Rattle.cmdcodec.specs.declared.raw.Raw.{Raw}
 use Rattle.ringcore.specs.declared.world.event.Who.TheVariants.{Sender}
@@ -8,13 +8,13 @@ use Rattle.ringcore.specs.world.World.{Item, Taken, World, world}
 use Rattle.ringcore.specs.world.Allowed.{Ring, length_with}
 use Rattle.ring.specs.declared.sender.cause.Cause.{Cause}
 use Rattle.engine.specs.Units.{UnitValue}
-use Rattle.simulator.specs.queue.Reserving.{looked_by, cause_ahead, cause_seen, unless_seen, unless_ahead, try_to_reserve}
+use Rattle.simulator.specs.queue.Reserving.{cause_ahead, cause_seen, unless_seen, unless_ahead, try_to_reserve}
 use Rattle.simulator.specs.queue.Publishing.{written, flipped, first_flags, published}
 use Rattle.simulator.specs.queue.Heads.{raw_at_head}
 use Rattle.simulator.specs.queue.Standing.{QueueValue, GoesOn}
 use Rattle.simulator.specs.State.{State, counts_of, counted}
 use Rattle.simulator.specs.Seats.{with_run}
-use Rattle.simulator.specs.Standing.{SimulatorValue, Stands}
+use Rattle.simulator.specs.Standing.{Stands}
 
 -- Nothing more is taken, and what stands at the head stays there.
 pub record Keeps (old new : Run) : Type 0 where

@@ -1,5 +1,5 @@
 -- The SMMU's queue and caches, by their histories: what happened to each, and what is read off that.
-use Rattle.std.specs.Prelude.{ℕ, ◌+◌, ◌-◌, ◌*◌, ◌^◌, Bool, true, false, not, List, [], ◌∷◌, count_by, Option, Some, None}
+use Rattle.std.specs.Prelude.{ℕ, ◌+◌, ◌-◌, ◌*◌, ◌^◌, Bool, true, false, not, List, [], ◌∷◌, count_by}
 use Rattle.std.specs.FinMap as finite
 use Rattle.cmdcodec.specs.declared.command.Command.{Command}
 use Rattle.cmdcodec.specs.Opcodes.{is_sync}
@@ -8,10 +8,10 @@ use Rattle.ringcore.specs.declared.world.event.Who.TheVariants.{Sender}
 use Rattle.ringcore.specs.declared.world.event.Outcome.{Outcome}
 use Rattle.ringcore.specs.declared.world.event.Outcome.TheVariants.{Applied, Replaced}
 use Rattle.ringcore.specs.world.Trails.{Trail, Run, trail_of}
-use Rattle.ringcore.specs.world.World.{World, Taken, tail, head, world}
+use Rattle.ringcore.specs.world.World.{Taken, tail, head, world}
 use Rattle.ringcore.specs.world.Allowed.{Ring}
 use Rattle.ringcore.specs.machine.Core.{ring_with}
-use Rattle.caches.specs.Held.{Entries, History, Item, Fill, Evict, Take, held, without_covered}
+use Rattle.caches.specs.Held.{Entries, History, Fill, Evict, Take, held, without_covered}
 use Rattle.engine.specs.declared.answer.Registers.{Registers}
 use Rattle.engine.specs.Stops.{StopValue, unstopped, err_of, word_of}
 use Rattle.engine.specs.Counting.{CountsValue}

@@ -1,10 +1,9 @@
 -- What a step of the unit does, and how a stop is acknowledged.
-use Rattle.std.specs.Prelude.{ℕ, ◌^◌, ◌==◌, Bool, true, false, not, ⊤, Option, Result, Ok, Err, if◌then◌else◌}
+use Rattle.std.specs.Prelude.{ℕ, ◌^◌, ◌==◌, Bool, true, false, not, ⊤, Result, Ok, Err, if◌then◌else◌}
 use Rattle.cmdcodec.specs.declared.raw.Raw.{Raw}
 use Rattle.cmdcodec.specs.declared.ill.Ill.{Ill}
 use Rattle.cmdcodec.specs.declared.command.Command.{Command}
 use Rattle.cmdcodec.specs.Words.{decoding}
-use Rattle.ringcore.specs.world.Trails.{Run}
 use Rattle.ringcore.specs.world.World.{world}
 use Rattle.caches.specs.Held.{Take}
 use Rattle.engine.specs.declared.answer.StepAnswer.{StepAnswer}
@@ -14,7 +13,7 @@ use Rattle.engine.specs.declared.stop.Mode.TheVariants as mode
 use Rattle.engine.specs.declared.remedy.Remedy.{Remedy}
 use Rattle.engine.specs.declared.remedy.AckFault.{AckFault}
 use Rattle.engine.specs.declared.remedy.AckFault.TheVariants.{NoError, OtherBit}
-use Rattle.engine.specs.Stops.{StopValue, stopped_at, gone_on, told, command_queue_bit}
+use Rattle.engine.specs.Stops.{stopped_at, gone_on, told, command_queue_bit}
 use Rattle.simulator.specs.declared.queue.taking.Head.{Head}
 use Rattle.simulator.specs.declared.queue.taking.Head.TheVariants as head
 use Rattle.simulator.specs.queue.Heads.{head_of, head_taken, completed}

@@ -20,10 +20,10 @@ mod steps;
 mod taking;
 
 use crate::queue::seen::number_in;
-use crate::queue::steps::{take, view};
+use crate::queue::steps::{PlainStep, take, view};
 use qindex::Control;
 pub use reserving::Reserved;
-use ringcore::{Core, CoreFault, Step};
+use ringcore::{Core, CoreFault};
 use std::alloc::Global;
 use std::marker::Model;
 pub(crate) use taking::Head;
@@ -94,7 +94,7 @@ impl Queue {
         ensures found { AfterEach self.old (λ run. result ≡ control (ring_in self.old).geometry (world run)) }
         ensures geometry { IsControl (ring_in self.old).geometry result }
     {
-        take(&mut self.core, Step::Look { who: Some(sender) });
+        take(&mut self.core, PlainStep::Look { who: Some(sender) });
         self.core.control()
     }
 
@@ -103,7 +103,7 @@ impl Queue {
         requires { sender < (ring_in self.old).senders }
         ensures { GoesOn self.old self.new (λ run. (Sender sender, Close) ∷ run) }
     {
-        take(&mut self.core, Step::Close { sender });
+        take(&mut self.core, PlainStep::Close { sender });
     }
 
     /// A sender asks for the number in its completion cell.
@@ -112,6 +112,6 @@ impl Queue {
         ensures run { GoesOn self.old self.new (λ run. (Sender sender, Ask ((world run).acknowledged sender)) ∷ run) }
         ensures found { AfterEach self.old (λ run. result ≡ (world run).acknowledged sender) }
     {
-        number_in(take(&mut self.core, Step::Ask { sender })).unwrap()
+        number_in(take(&mut self.core, PlainStep::Ask { sender })).unwrap()
     }
 }

@@ -3,6 +3,7 @@ use Rattle.std.specs.Prelude.{◌≡◌, ◌∷◌}
 use Rattle.ringcore.specs.declared.world.event.Who.{Who}
 use Rattle.ringcore.specs.declared.world.event.Event.{Event}
 use Rattle.ringcore.specs.declared.machine.step.Step.{Step}
+use Rattle.ringcore.specs.declared.machine.step.Step.TheVariants.{Look, Write, Flip, Test, Read, Advance, Close, Acknowledge, Ask}
 use Rattle.ringcore.specs.declared.machine.step.Seen.{Seen}
 use Rattle.ringcore.specs.world.Trails.{Run, trail_of}
 use Rattle.ringcore.specs.world.World.{world}
@@ -11,6 +12,20 @@ use Rattle.ringcore.specs.world.Laws.{IsOne}
 use Rattle.ringcore.specs.machine.NamedSteps.{AsksFor}
 use Rattle.ringcore.specs.machine.StepAnswers.{seen_of}
 use Rattle.ringcore.specs.machine.Core.{CoreValue, ring_of, StandsAfter}
+use Rattle.simulator.specs.declared.queue.steps.PlainStep.{PlainStep}
+use Rattle.simulator.specs.declared.queue.steps.PlainStep.TheVariants as plain
+
+-- a step that hands in no commands, as one of ringcore's
+abbrev pub step_of : PlainStep → Step
+step_of (plain.Look who) = Look who
+step_of (plain.Write sender slot half) = Write sender slot half
+step_of (plain.Flip sender slot count) = Flip sender slot count
+step_of (plain.Test slot count) = Test slot count
+step_of (plain.Read slot half) = Read slot half
+step_of (plain.Advance count) = Advance count
+step_of (plain.Close sender) = Close sender
+step_of (plain.Acknowledge sender number) = Acknowledge sender number
+step_of (plain.Ask sender) = Ask sender
 
 -- After the run the step asks for this event, which is allowed to its seat.
 pub record IsNext (ring : Ring) (run : Run) (step : Step) (who : Who) (e : Event) : Type 0 where

@@ -11,10 +11,10 @@ ghost use Rattle.simulator.specs.queue.Standing.{ring_in, AfterEach, GoesOn};
 
 use crate::queue::Queue;
 use crate::queue::closing::closing_number;
-use crate::queue::steps::{take, view};
+use crate::queue::steps::{PlainStep, take, view};
 use qindex::Index;
 use ringcore::laws::{consumer_trail, sender_trail};
-use ringcore::{Core, Step, counts_law, index_of, shared_word, world_law};
+use ringcore::{Core, counts_law, index_of, shared_word, world_law};
 
 impl Queue {
     /// A sender writes its open reservation and hands it over, and tells the number of its batch, if it has one.
@@ -65,13 +65,13 @@ fn write_all(core: &mut Core, sender: u32, first: Index, many: u32)
 {
     for offset in 0..many {
         let slot = first.forward(offset).place();
-        let low = Step::Write {
+        let low = PlainStep::Write {
             sender,
             slot,
             half: 0,
         };
         take(core, low);
-        let high = Step::Write {
+        let high = PlainStep::Write {
             sender,
             slot,
             half: 1,
@@ -89,7 +89,7 @@ fn flip_run(core: &mut Core, sender: u32, at: Index, left: u32) -> u32
     ensures ring { ring_of core.new ≡ ring_of core.old }
 {
     let count = shared_word(at).min(left);
-    let step = Step::Flip {
+    let step = PlainStep::Flip {
         sender,
         slot: at.place(),
         count,

@@ -13,12 +13,12 @@ ghost use Rattle.simulator.specs.queue.Reserving.{cause_ahead, cause_seen, won, 
 ghost use Rattle.simulator.specs.queue.Standing.{ring_in, IsQueueAfter, AfterEach, GoesOn};
 
 use crate::queue::Queue;
-use crate::queue::steps::{take, view};
+use crate::queue::steps::{reserve, view};
 use batch::Batch;
 use cmdcodec::RawList;
 use qindex::{Control, Index};
 use ring::Cause;
-use ringcore::{Core, Step, world_law};
+use ringcore::{Core, world_law};
 
 /// What was reserved.
 #[derive(Clone, Copy, Debug, PartialEq, Eq)]
@@ -67,12 +67,7 @@ impl Queue {
     {
         let first = self.control().prod;
         let number = view(&self.core, sender).next_number(closes);
-        let step = Step::Reserve {
-            sender,
-            body: body_of(batch),
-            closes,
-        };
-        take(&mut self.core, step);
+        reserve(&mut self.core, sender, &body_of(batch), closes);
         Reserved { first, number }
     }
 }

@@ -10,10 +10,10 @@ ghost use Rattle.simulator.specs.queue.Standing.{ring_in, IsQueueAfter, AfterEac
 use crate::queue::Queue;
 use crate::queue::closing::{closing_number, closing_sender};
 use crate::queue::seen::{half_in, ready_in};
-use crate::queue::steps::take;
+use crate::queue::steps::{PlainStep, take};
 use cmdcodec::Raw;
 use ringcore::laws::consumer_trail;
-use ringcore::{Core, Step, counts_law, world_law};
+use ringcore::{Core, counts_law, world_law};
 
 /// What stands at the head.
 #[derive(Clone, Copy, Debug, PartialEq, Eq)]
@@ -35,7 +35,7 @@ impl Queue {
         ensures head { AfterEach self.old (λ run. result ≡ head_of (world run)) }
         ensures read { (raw : RawOf) → result ≡ Head.Ready raw → AfterEach self.old (λ run. HasRead raw (head_taken (ring_in self.old).geometry run)) }
     {
-        take(&mut self.core, Step::Look { who: None });
+        take(&mut self.core, PlainStep::Look { who: None });
         let found = self.core.control();
         world_law();
         if found.prod.is_empty(found.cons) {
@@ -61,11 +61,11 @@ impl Queue {
     {
         counts_law();
         consumer_trail();
-        take(&mut self.core, Step::Advance { count: 1 });
+        take(&mut self.core, PlainStep::Advance { count: 1 });
         if raw.is_sync() {
             let sender = closing_sender(raw);
             let number = closing_number(raw);
-            take(&mut self.core, Step::Acknowledge { sender, number });
+            take(&mut self.core, PlainStep::Acknowledge { sender, number });
         }
     }
 }
@@ -76,7 +76,7 @@ fn test(core: &mut Core, slot: u32) -> bool
     ensures taken { (run : Run) → StandsAfter core.old run → IsHeadSlot (ring_of core.old) run slot → (result ≡ head_is_flipped run) × StandsAfter core.new (tested run) }
     ensures ring { ring_of core.new ≡ ring_of core.old }
 {
-    ready_in(take(core, Step::Test { slot, count: 1 })).unwrap() == 1
+    ready_in(take(core, PlainStep::Test { slot, count: 1 })).unwrap() == 1
 }
 
 /// Both halves of the command at the head, which a test has found ready.
@@ -85,7 +85,7 @@ fn read(core: &mut Core, slot: u32) -> Raw
     ensures taken { (run : Run) (raw : RawOf) → StandsAfter core.old run → IsReadyAt (ring_of core.old) run slot raw → (result ≡ raw) × StandsAfter core.new (read_both raw run) }
     ensures ring { ring_of core.new ≡ ring_of core.old }
 {
-    let lo = half_in(take(core, Step::Read { slot, half: 0 })).unwrap();
-    let hi = half_in(take(core, Step::Read { slot, half: 1 })).unwrap();
+    let lo = half_in(take(core, PlainStep::Read { slot, half: 0 })).unwrap();
+    let hi = half_in(take(core, PlainStep::Read { slot, half: 1 })).unwrap();
     Raw { lo, hi }
 }

@@ -1,7 +1,6 @@
 use Rattle.std.proofs.Common.{ap, sym, ◌∙◌, subst}
 use Rattle.std.specs.FinMap as finite
 use Rattle.caches.specs.Held.{Evict}
-use Rattle.engine.specs.Units.{UnitValue}
 use Rattle.simulator.specs.Fills.{with_item}
 use Rattle.simulator.specs.Standing.{SimulatorValue, Stands}
 use Rattle.simulator.proofs.Filling.{after_evict}

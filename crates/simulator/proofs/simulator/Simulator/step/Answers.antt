@@ -1,13 +1,11 @@
-use Rattle.std.proofs.Common.{◌≡◌, ◌<◌, ◌≤◌, ◌^◌, ◌⊎◌, inl, inr, refl, ap, sym, ◌∙◌, subst, arith, ℕ, Bool, true, false}
+use Rattle.std.proofs.Common.{◌≡◌, ◌<◌, ◌≤◌, ◌^◌, ◌⊎◌, inl, inr, refl, ap, sym, ◌∙◌, subst, arith, ℕ, Bool, false}
 use Rattle.std.specs.Prelude.{◌↔◌, IsTrue}
 use Rattle.std.proofs.lemmas.Bool.{both_ways, cases_order}
 use Rattle.engine.specs.declared.answer.StepAnswer.{StepAnswer}
-use Rattle.engine.specs.declared.answer.StepAnswer.TheVariants.{StillStopped, Exhausted, Empty, Drained, Unwritten}
+use Rattle.engine.specs.declared.answer.StepAnswer.TheVariants.{Empty, Drained, Unwritten}
 use Rattle.engine.specs.Stops.{StopValue, IsStopped}
-use Rattle.engine.specs.Counting.{CountsValue, taken}
-use Rattle.simulator.specs.declared.queue.taking.Head.{Head}
+use Rattle.engine.specs.Counting.{taken}
 use Rattle.simulator.specs.declared.queue.taking.Head.TheVariants as head
-use Rattle.simulator.specs.queue.Standing.{QueueValue}
 use Rattle.simulator.specs.State.{State, Answered}
 use Rattle.simulator.specs.Standing.{SimulatorValue, Stands}
 use Rattle.simulator.proofs.Stepping.{stays_stopped, is_exhausted, finds, is_found, found_state, nothing_taken}
