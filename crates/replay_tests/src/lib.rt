@@ -13,6 +13,8 @@ mod lines;
 #[cfg(test)]
 mod long_batches;
 #[cfg(test)]
+mod memory;
+#[cfg(test)]
 mod ranges;
 #[cfg(test)]
 mod reservations;
