@@ -27,6 +27,8 @@ mod stops;
 #[cfg(test)]
 mod stream_covers;
 #[cfg(test)]
+mod streams;
+#[cfg(test)]
 mod transcripts;
 #[cfg(test)]
 mod translation_covers;
