@@ -19,10 +19,10 @@ mod seen;
 mod steps;
 mod taking;
 
-use qindex::Control;
-pub use reserving::Reserved;
 use crate::queue::seen::number_in;
 use crate::queue::steps::{take, view};
+use qindex::Control;
+pub use reserving::Reserved;
 use ringcore::{Core, CoreFault, Step};
 use std::alloc::Global;
 use std::marker::Model;

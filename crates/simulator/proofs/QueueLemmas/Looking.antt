@@ -23,20 +23,20 @@ closed_quiet s = record { untouched = λ mine is. is; acknowledged = λ run t. r
 pub asked_quiet : (s number : ℕ) → IsQuiet s (event.Ask number)
 asked_quiet s number = record { untouched = λ mine is. is; acknowledged = λ run t. refl }
 
-module _ (queue : QueueValue) (s : ℕ) (low : s < (ring_in queue).senders) where
-  abbrev pub look_of : Run → Event
-  look_of run = event.Look (control (ring_in queue).geometry (world run))
+abbrev pub look_of : QueueValue → Run → Event
+look_of queue run = event.Look (control (ring_in queue).geometry (world run))
 
-  pub may_look : (run : Run) → IsNext (ring_in queue) run (Look (Some s)) (Sender s) (look_of run)
+abbrev pub ask_of : ℕ → Run → Event
+ask_of s run = event.Ask ((world run).acknowledged s)
+
+module _ (queue : QueueValue) (s : ℕ) (low : s < (ring_in queue).senders) where
+  pub may_look : (run : Run) → IsNext (ring_in queue) run (Look (Some s)) (Sender s) (look_of queue run)
   may_look run = record { seat = low; allowed = refl; asked = refl }
 
   pub may_close : (run : Run) → IsNext (ring_in queue) run (Close s) (Sender s) event.Close
   may_close run = record { seat = low; allowed = tt; asked = refl }
 
-  abbrev pub ask_of : Run → Event
-  ask_of run = event.Ask ((world run).acknowledged s)
-
-  pub may_ask : (run : Run) → IsNext (ring_in queue) run (Ask s) (Sender s) (ask_of run)
+  pub may_ask : (run : Run) → IsNext (ring_in queue) run (Ask s) (Sender s) (ask_of s run)
   may_ask run = record { seat = low; allowed = refl; asked = refl }
 
 -- What a look finds are the indexes of a queue.

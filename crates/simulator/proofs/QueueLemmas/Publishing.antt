@@ -8,12 +8,12 @@ use Rattle.ringcore.specs.declared.world.event.Event.TheVariants as event
 use Rattle.ringcore.specs.world.Trails.{Trail, Run, trail_of, reserved_length, is_among, has_written, has_flipped}
 use Rattle.ringcore.specs.world.World.{world, head}
 use Rattle.ringcore.specs.world.Allowed.{Ring}
-use Rattle.ringcore.specs.world.Laws.{IsWithin, syncs_taken}
+use Rattle.ringcore.specs.world.Laws.{EveryRun, IsWithin, NeverMoreThanFull, syncs_taken}
 use Rattle.ringcore.specs.world.ConsumerLaws.{TakenAreFlipped}
 use Rattle.ringcore.specs.memory.Flags.{shared_word, IndexesTellSharedWords, BatchesHaveTwoFlagWords}
 use Rattle.ringcore.specs.memory.SenderLaws.{SendersHaveTheirSlots}
 use Rattle.ringcore.specs.machine.Open.{some_below, is_open}
-use Rattle.ringcore.specs.machine.Core.{CoreValue, ring_of, StandsAfter}
+use Rattle.ringcore.specs.machine.Core.{CoreValue, ring_of, StandsAfter, AfterEachRun}
 use Rattle.simulator.specs.queue.Publishing.{written, flipped, first_flags, published, IsOpenAt, IsLeftAt}
 use Rattle.simulator.specs.queue.Standing.{QueueValue, ring_in, IsUntouched, IsQueueAfter, IsQueue, AfterEach, GoesOn}
 use Rattle.simulator.proofs.QueueLemmas.Standing.{stays_queue}
@@ -39,6 +39,19 @@ open_fits ring run s slots passed within opened untouched = elim (cases_lt ((wor
       absurd (cc)
   | inr over ↦ let end = (slots s).reserved in let most = within.within in omega (arith, over, end, most)
 ]
+
+pub opens_at : (ring : Ring) (run : Run) (s : ℕ) (first : IndexValue) (many : ℕ) → s < ring.senders → first ≡ index_of ring.geometry ((world run).start s)
+    → many ≡ reserved_length (trail_of (Sender s) run) → many ≤ 64 → SendersHaveTheirSlots run → TakenAreFlipped run → IsWithin ring (world run)
+    → is_open (trail_of (Sender s) run) ≡ true → IsUntouched (trail_of (Sender s) run) → IsOpenAt ring s first many run
+opens_at ring run s first many known first_is many_is few slots passed within opened untouched = record {
+  known = known;
+  first_is = first_is;
+  many_is = many_is;
+  some = (let some = open_some (trail_of (Sender s) run) opened in omega (arith, some, many_is));
+  few = few;
+  fits = (let fits = open_fits ring run s slots passed within opened untouched in omega (arith, fits, many_is));
+  unflipped = untouched opened;
+}
 
 -- ---- what is left to flip
 
@@ -161,6 +174,16 @@ by_flips geometry s many here run many_is here_is =
     ap₂ (λ (n h : ℕ). flipped s h (n - h) (flipped s 0 h (written s n run))) (sym many_is) (sym here_is)
 
 -- ---- the whole of it
+
+-- What the sender knows of its reservation.
+pub opened : (queue : QueueValue) (s : ℕ) (first : IndexValue) (many : ℕ) → s < (ring_in queue).senders → AfterEach queue (λ run. is_open (trail_of (Sender s) run) ≡ true)
+    → (geometry : ℕ) → geometry ≡ (ring_in queue).geometry → (start : ℕ) → AfterEachRun queue.core (λ run. start ≡ (world run).start s) → first ≡ index_of geometry start
+    → AfterEachRun queue.core (λ run. many ≡ reserved_length (trail_of (Sender s) run)) → many ≤ 64 → EveryRun SendersHaveTheirSlots → EveryRun TakenAreFlipped → NeverMoreThanFull
+    → AfterEach queue (IsOpenAt (ring_in queue) s first many)
+opened queue s first many known is_opened geometry geometry_is start start_is first_is many_is few slots passed within run is =
+    let ring : Ring = ring_in queue in let ok = is.stands.words_are.run_is in
+    opens_at ring run s first many known (first_is ∙ ap₂ index_of geometry_is (start_is run is.stands)) (many_is run is.stands) few
+    (slots ring run ok) (passed ring run ok) (within ring run ok) (is_opened run is) (is.untouched s)
 
 module _ (queue : QueueValue) (s : ℕ) (first : IndexValue) (many : ℕ) (opens : AfterEach queue (IsOpenAt (ring_in queue) s first many)) where
   pub may_write_all : IsQueue queue → IsOpenAfter queue.core s first many

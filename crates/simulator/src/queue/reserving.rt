@@ -1,20 +1,24 @@
 //! A try to reserve a batch.
 ghost use Rattle.std.specs.Prelude.{◌≡◌, ◌<◌, ◌≤◌, Ok, false};
 ghost use Rattle.cmdcodec.specs.Bodies.{IsBody};
+ghost use Rattle.qindex.specs.ControlWord.{IsControl};
 ghost use Rattle.ringcore.specs.declared.world.event.Who.TheVariants.{Sender};
 ghost use Rattle.ringcore.specs.world.Trails.{Run, trail_of};
-ghost use Rattle.ringcore.specs.world.Allowed.{length_with};
+ghost use Rattle.ringcore.specs.world.World.{world, control};
+ghost use Rattle.ringcore.specs.world.Allowed.{Ring, length_with};
+ghost use Rattle.ringcore.specs.world.Laws.{IsWithin};
 ghost use Rattle.ringcore.specs.machine.Open.{is_open};
-ghost use Rattle.simulator.specs.queue.Reserving.{won, MayReserve, try_to_reserve};
+ghost use Rattle.ringcore.specs.machine.Core.{ring_of, AfterEachRun};
+ghost use Rattle.simulator.specs.queue.Reserving.{cause_ahead, cause_seen, won, MayReserve, try_to_reserve};
 ghost use Rattle.simulator.specs.queue.Standing.{ring_in, IsQueueAfter, AfterEach, GoesOn};
 
 use crate::queue::Queue;
 use crate::queue::steps::{take, view};
 use batch::Batch;
 use cmdcodec::RawList;
-use qindex::Index;
+use qindex::{Control, Index};
 use ring::Cause;
-use ringcore::{Step, world_law};
+use ringcore::{Core, Step, world_law};
 
 /// What was reserved.
 #[derive(Clone, Copy, Debug, PartialEq, Eq)]
@@ -41,20 +45,13 @@ impl Queue {
         ensures answer { AfterEach self.old (λ run. result ≡ (try_to_reserve (ring_in self.old) self.old.max_batches sender batch.now closes run).answer) }
     {
         let many = batch_length(batch, closes);
-        let size = self.control().prod.geometry().size();
-        if many > size {
-            return Err(Cause::TooLong);
-        }
-        if view(&self.core, sender).batches() >= self.max_batches {
-            return Err(Cause::Exhausted);
+        if let Some(cause) = cause_ahead(&self.core, self.max_batches, sender, many) {
+            return Err(cause);
         }
         let seen = self.look(sender);
-        if seen.closed {
-            return Err(Cause::Closed);
-        }
         world_law();
-        if seen.prod.distance(seen.cons) + many > size {
-            return Err(Cause::Full);
+        if let Some(cause) = cause_seen(&seen, many) {
+            return Err(cause);
         }
         Ok(self.win(sender, batch, closes))
     }
@@ -77,6 +74,35 @@ impl Queue {
         };
         take(&mut self.core, step);
         Reserved { first, number }
+    }
+}
+
+/// Why a batch of so many commands isn't reserved, ahead of a look.
+fn cause_ahead(core: &Core, max_batches: u32, sender: u32, many: u32) -> Option<Cause>
+    requires { sender < (ring_of core.now).senders }
+    ensures { AfterEachRun core.now (λ run. result ≡ cause_ahead (ring_of core.now) max_batches (trail_of (Sender sender) run) many) }
+{
+    if many > core.control().prod.geometry().size() {
+        Some(Cause::TooLong)
+    } else if view(core, sender).batches() >= max_batches {
+        Some(Cause::Exhausted)
+    } else {
+        None
+    }
+}
+
+/// Why a batch of so many commands isn't reserved, by what a look found.
+fn cause_seen(seen: &Control, many: u32) -> Option<Cause>
+    requires few { many ≤ 64 }
+    requires control { IsControl seen.now.prod.geometry seen.now }
+    ensures { (ring : Ring) (run : Run) → seen.now ≡ control ring.geometry (world run) → IsWithin ring (world run) → result ≡ cause_seen ring (world run) many }
+{
+    if seen.closed {
+        Some(Cause::Closed)
+    } else if seen.prod.distance(seen.cons) + many > seen.prod.geometry().size() {
+        Some(Cause::Full)
+    } else {
+        None
     }
 }
 

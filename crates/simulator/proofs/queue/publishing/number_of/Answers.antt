@@ -26,11 +26,11 @@ returns-then-is_sync c =
     let some = open_some (trail_of (Sender s) open_run.0) open_run.2 in
     let many = c.len.ensures.reservation open_run.0 s (c.view-mine.ensures open_run.0 open_run.1) in
     λ run stands.
-      let known = c.view-mine.ensures run stands in
-      let len = c.len.ensures.reservation run s known in let long = c.sender_trail.ensures.length s (trail_of (Sender s) run) in
-      ap Some c.closing_number.ensures
-      ∙ ends_with_number c.counts_law.ensures.words s c.command-last.result (ring_of c.args.core.now) run stands.words_are.run_is (c.len.result - 1)
-      (omega (arith, some, many, len, long)) (c.command-last.ensures run s known) (sym c.is_sync.ensures ∙ c.if-is_sync.true)
+    let known = c.view-mine.ensures run stands in
+    let len = c.len.ensures.reservation run s known in let long = c.sender_trail.ensures.length s (trail_of (Sender s) run) in
+    ap Some c.closing_number.ensures
+    ∙ ends_with_number c.counts_law.ensures.words s c.command-last.result (ring_of c.args.core.now) run stands.words_are.run_is (c.len.result - 1)
+    (omega (arith, some, many, len, long)) (c.command-last.ensures run s known) (sym c.is_sync.ensures ∙ c.if-is_sync.true)
 
 pub returns-else-is_sync : goal.returns-else-is_sync
 returns-else-is_sync c =
@@ -38,7 +38,7 @@ returns-else-is_sync c =
     let some = open_some (trail_of (Sender s) open_run.0) open_run.2 in
     let many = c.len.ensures.reservation open_run.0 s (c.view-mine.ensures open_run.0 open_run.1) in
     λ run stands.
-      let known = c.view-mine.ensures run stands in
-      let len = c.len.ensures.reservation run s known in let long = c.sender_trail.ensures.length s (trail_of (Sender s) run) in
-      ends_without c.counts_law.ensures.words s c.command-last.result (ring_of c.args.core.now) run stands.words_are.run_is (c.len.result - 1)
-      (omega (arith, some, many, len, long)) (c.command-last.ensures run s known) (sym c.is_sync.ensures ∙ c.if-is_sync.false)
+    let known = c.view-mine.ensures run stands in
+    let len = c.len.ensures.reservation run s known in let long = c.sender_trail.ensures.length s (trail_of (Sender s) run) in
+    ends_without c.counts_law.ensures.words s c.command-last.result (ring_of c.args.core.now) run stands.words_are.run_is (c.len.result - 1)
+    (omega (arith, some, many, len, long)) (c.command-last.ensures run s known) (sym c.is_sync.ensures ∙ c.if-is_sync.false)
