@@ -1,9 +1,11 @@
-//! A reader and a writer for tests, which take small pieces, and fail where they are told to. They carry no
-//! promise.
+//! A reader and a writer for tests, which take small pieces, and fail where they are told to; and what texts are that
+//! end where memory was wanting. They carry no promise.
 #![tactic(auto)]
 
 mod sink;
 mod source;
+mod telling;
 
 pub use sink::Sink;
 pub use source::Source;
+pub use telling::{answers_in, ends_without_memory};

@@ -3,7 +3,7 @@ use std::io;
 use std::io::{ErrorKind, Write};
 
 /// How many bytes are kept at most. The calls after that take nothing.
-const MOST_KEPT: usize = 1024;
+const MOST_KEPT: usize = 4096;
 
 /// Keeps what it is given in a place of its own, at most so many bytes a call. The call of number `bad`
 /// fails, counted from 1; 0 is no call.

@@ -13,6 +13,8 @@ mod lines;
 #[cfg(test)]
 mod long_batches;
 #[cfg(test)]
+mod memory;
+#[cfg(test)]
 mod ranges;
 #[cfg(test)]
 mod reservations;
@@ -24,6 +26,8 @@ mod sending;
 mod stops;
 #[cfg(test)]
 mod stream_covers;
+#[cfg(test)]
+mod streams;
 #[cfg(test)]
 mod transcripts;
 #[cfg(test)]

@@ -29,7 +29,7 @@ pub fn expect_answer<R: AllocGlobal + Abort>(
 }
 
 /// The script of a transcript, and its answers.
-fn halves(alloc: Global, transcript: &str) -> Result<(String, String), AllocError> {
+pub fn halves(alloc: Global, transcript: &str) -> Result<(String, String), AllocError> {
     let mut script = String::new(alloc);
     let mut answers = String::new(alloc);
     for line in transcript.lines() {

@@ -11,5 +11,3 @@ mod schedule_tests;
 mod script_tests;
 #[cfg(test)]
 mod served;
-#[cfg(test)]
-mod telling;

@@ -1,7 +1,6 @@
 //! Allocations that fail.
 use crate::served::{Kind, status_of};
-use crate::telling::{answers_in, ends_without_memory};
-use fake_streams::Sink;
+use fake_streams::{Sink, answers_in, ends_without_memory};
 use script::Status;
 use std::io::ErrorKind;
 

@@ -99,12 +99,12 @@ fn nothing_is_written_after_a_failed_write(rt: HostRuntime) {
 
 #[test]
 fn a_writer_that_takes_nothing_has_failed(rt: HostRuntime) -> Result<(), Fail> {
-    let script = vec![in rt.alloc(); b'\n'; 300]?;
+    let script = vec![in rt.alloc(); b'\n'; 1000]?;
     let mut input = Source::new(script.as_slice(), 100, 0, PIPE);
     let mut output = Sink::new(100, 0, PIPE);
     let outcome = serve_lengths(rt.alloc(), &mut input, &mut output);
     assert!(rt; matches!(outcome, Err(ServeError::Write(_))));
-    assert_eq!(rt; output.text().len(), 1024);
+    assert_eq!(rt; output.text().len(), 4096);
     Ok(())
 }
 
