@@ -18,7 +18,8 @@ use Rattle.schedule.specs.declared.request.Request.{Request}
 use Rattle.schedule.specs.declared.request.Request.TheVariants as asks
 use Rattle.schedule.specs.Texts.{answer_line}
 use Rattle.schedule.specs.ScheduleText.{State, made, ring_or_fault, taken, step_or_fault, step_effect, asked_effect, served, first_served}
-use Rattle.schedule.specs.Steps.{step_of, IsAnswered}
+use Rattle.schedule.specs.Steps.{step_of}
+use Rattle.schedule.specs.Taking.{IsAnswered}
 use Rattle.schedule.specs.Standing.{Stands}
 
 -- ---- a step

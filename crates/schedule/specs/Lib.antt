@@ -3,4 +3,5 @@ pub mod Steps
 pub mod Texts
 pub mod ScheduleText
 pub mod Standing
+pub mod Taking
 pub mod Scheduling

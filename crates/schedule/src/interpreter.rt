@@ -5,7 +5,8 @@ ghost use Rattle.script.specs.Kinds.{request_effect, line_effect};
 ghost use Rattle.script.specs.Standing.{Acts, ActsAt};
 ghost use Rattle.schedule.specs.ScheduleText.{ring_or_fault, asked_effect, served, first_served, schedules};
 ghost use Rattle.schedule.specs.Standing.{Stands};
-ghost use Rattle.schedule.specs.Steps.{step_of, IsAnswered};
+ghost use Rattle.schedule.specs.Steps.{step_of};
+ghost use Rattle.schedule.specs.Taking.{IsAnswered};
 
 use crate::parsing::parse;
 use crate::request::Request;

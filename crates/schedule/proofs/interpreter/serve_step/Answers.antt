@@ -1,5 +1,6 @@
 use Rattle.std.proofs.Common.{Some, subst}
-use Rattle.schedule.specs.Steps.{step_of, IsAnswered}
+use Rattle.schedule.specs.Steps.{step_of}
+use Rattle.schedule.specs.Taking.{IsAnswered}
 use Rattle.schedule.proofs.ServedLemmas.{asked_taken, asked_refused}
 use Rattle.schedule.proofs.interpreter.serve_step.Goals as goal
 
