@@ -1,7 +1,7 @@
 //! Replays and their answers, and readers, writers and allocations that fail.
 mod answers;
-mod caches;
 mod entries;
+mod filling;
 mod lines;
 mod memory;
 mod reservations;

@@ -3,7 +3,7 @@ use super::answers::expect_answer;
 use script::Status;
 
 #[test]
-fn caches(rt: HostRuntime) {
+fn fillings(rt: HostRuntime) {
     expect_answer(
         &rt,
         "a range covers the two streams that differ in their lowest bit",
