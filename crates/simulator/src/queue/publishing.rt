@@ -25,11 +25,7 @@ impl Queue {
         ensures number { AfterEach self.old (λ run. result ≡ last_number (trail_of (Sender sender) run)) }
     {
         let number = number_of(&self.core, sender);
-        let many = view(&self.core, sender).len();
-        let geometry = self.control().prod.geometry();
-        let first = index_of(geometry, view(&self.core, sender).start());
-        world_law();
-        consumer_trail();
+        let (first, many) = self.reservation(sender);
         sender_trail();
         write_all(&mut self.core, sender, first, many);
         let here = flip_run(&mut self.core, sender, first, many);
@@ -37,6 +33,20 @@ impl Queue {
             flip_run(&mut self.core, sender, first.forward(here), many - here);
         }
         number
+    }
+
+    /// The index of the first slot of a sender's open reservation, and how many commands it has.
+    fn reservation(&self, sender: u32) -> (Index, u32)
+        requires sender { sender < (ring_in self.now).senders }
+        requires open { AfterEach self.now (λ run. is_open (trail_of (Sender sender) run) ≡ true) }
+        ensures { AfterEach self.now (IsOpenAt (ring_in self.now) sender result.0 result.1) }
+    {
+        world_law();
+        consumer_trail();
+        sender_trail();
+        let geometry = self.control().prod.geometry();
+        let mine = view(&self.core, sender);
+        (index_of(geometry, mine.start()), mine.len())
     }
 }
 
