@@ -7,9 +7,9 @@ use Rattle.ringcore.specs.declared.machine.step.Seen.{Seen}
 use Rattle.ringcore.specs.world.Trails.{Trail, Run, trail_of}
 use Rattle.ringcore.specs.world.World.{world}
 use Rattle.ringcore.specs.world.Allowed.{Ring}
-use Rattle.ringcore.specs.machine.Core.{CoreValue, ring_of, StandsAfter, AfterEachRun}
+use Rattle.ringcore.specs.machine.Core.{CoreValue, ring_of, StandsAfter}
 use Rattle.simulator.specs.queue.Taking.{IsNext, MayTake, Takes}
-use Rattle.simulator.specs.queue.Standing.{QueueValue, ring_in, IsUntouched, IsQueueAfter, IsQueue, AfterEach, GoesOn}
+use Rattle.simulator.specs.queue.Standing.{QueueValue, ring_in, IsUntouched, IsQueueAfter, IsQueue, GoesOn}
 
 -- Whose event it was has touched none of an open reservation: so it is with all.
 pub all_untouched : (run : Run) (s : ℕ) (e : Event) → ((t : ℕ) → IsUntouched (trail_of (Sender t) run)) → IsUntouched (e ∷ trail_of (Sender s) run)
@@ -53,7 +53,3 @@ module _ (old : QueueValue) (s : ℕ) (step : Step) (e : Run → Event) (next : 
 
     pub is_queue : IsQueue old → IsQueue new
     is_queue is = stays_queue old new is ring ((Sender s, e is.run) ∷ is.run) (goes_on_after is.run is.after)
-
--- What is known of the machine of a queue is known of the queue.
-pub each_inside : (inside outside : QueueValue) → inside ≡ outside → (P : Run → Type 0) → AfterEachRun inside.core P → AfterEach outside P
-each_inside inside outside is P all run after = all run (subst (λ (q : QueueValue). StandsAfter q.core run) (sym is) after.stands)

@@ -102,9 +102,6 @@ pub record HasWritten (old : CoreValue) (s : ℕ) (first : IndexValue) (many k :
   pub ring : ring_of core ≡ ring_of old
   pub stands : (run : Run) → StandsAfter old run → IsOpenAt (ring_of old) s first many run → StandsAfter core (written s k run)
 
-pub none_written : (old : CoreValue) (s : ℕ) (first : IndexValue) (many : ℕ) → HasWritten old s first many 0 old
-none_written old s first many = record { ring = refl; stands = λ run stands is. stands }
-
 abbrev pub IsOpenAfter : CoreValue → ℕ → IndexValue → ℕ → Type 0
 IsOpenAfter core s first many = (run : Run) × StandsAfter core run × IsOpenAt (ring_of core) s first many run
 
