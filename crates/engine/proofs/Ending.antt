@@ -8,7 +8,7 @@ use Rattle.ringcore.specs.declared.world.event.Event.TheVariants.{Advance, Ask}
 use Rattle.ringcore.specs.declared.world.event.Outcome.TheVariants.{Applied}
 use Rattle.ringcore.specs.world.Trails.{Run, Trail, raws_by}
 use Rattle.ringcore.specs.declared.world.event.Who.TheVariants.{Sender}
-use Rattle.ringcore.specs.world.World.{taken_as, outcome_of, world}
+use Rattle.ringcore.specs.world.World.{Taken, taken_as, outcome_of, world}
 use Rattle.ringcore.specs.world.Delivery.{advanced, Begins}
 use Rattle.ringcore.specs.world.Laws.{EveryRun}
 use Rattle.ringcore.specs.world.ConsumerLaws.{TellsWhatIsAdvanced, TellsTheOutcomes}
@@ -18,7 +18,7 @@ use Rattle.ring.specs.sender.Senders.{SenderValue}
 use Rattle.ring.specs.consumer.Completing.{taken_of}
 use Rattle.ring.specs.Finishing.{SummaryValue, IsEnd, WasTold}
 use Rattle.engine.specs.Settled.{HasCovered, IsSettled}
-use Rattle.engine.specs.Counting.{CountsValue, taken}
+use Rattle.engine.specs.Counting.{CountsValue, taken, AreCountsOf}
 use Rattle.engine.specs.Engines.{EngineValue}
 use Rattle.engine.specs.Ends.{NoneIsOlder, reserved_ahead, WasToldTruly, IsEngineEnd}
 
@@ -75,13 +75,14 @@ module _ (run : Run) (entries : Entries) (settled : IsSettled entries (world run
 
 pub ends : (ring : RingValue) (senders : List SenderValue) (engine : EngineValue) (end : SummaryValue) (counts : CountsValue) (entries : Entries)
     → EveryRun TellsWhatIsAdvanced → EveryRun TellsTheOutcomes → IsEnd ring senders engine.consumer end
-    → IsSettled entries (taken_of engine.consumer.trail) → taken counts ≡ length (taken_of engine.consumer.trail)
+    → IsSettled entries (taken_of engine.consumer.trail) → taken counts ≡ length (taken_of engine.consumer.trail) → AreCountsOf (taken_of engine.consumer.trail) counts
     → IsEngineEnd ring senders engine end counts entries
-ends ring senders engine end counts entries advances outcomes is settled many = record {
+ends ring senders engine end counts entries advances outcomes is settled many counted = record {
   end_is = is;
   settled = settled_now;
   told = λ k s at newer older number trail_is. told_truly is.run entries settled_now outcomes_now k number older (is.told k s at newer older number trail_is);
   taken_are = is.taken ∙ sym (length-map (raws_by engine.consumer.trail) taken_as) ∙ sym many;
+  counted = subst (λ (l : List Taken). AreCountsOf l counts) (sym is.taken_list) counted;
 }
   where
     settled_now : IsSettled entries (world is.run).taken

@@ -1,5 +1,6 @@
 pub mod Settlings
 pub mod Judging
+pub mod Counted
 pub mod Stepping
 pub mod Running
 pub mod Ending

@@ -16,10 +16,8 @@ use Rattle.engine.specs.Settled.{IsSettled}
 use Rattle.engine.specs.Counting.{taken}
 use Rattle.engine.specs.Units.{UnitValue, IsApplied, AreApplied, StaysSettled}
 use Rattle.engine.proofs.Settlings.{settled_applied, settled_as_before}
+use Rattle.engine.proofs.Counted.{as_applied}
 use Rattle.engine.proofs.Stepping.{applied_more}
-
-abbrev pub as_applied : List Raw → List Taken
-as_applied raws = map (with_outcome Applied) raws
 
 -- A command's words spell it alone, so what it covers is gone.
 pub applied_settled : (raw : Raw) (command : Command) (removed : ℕ) (old new : UnitValue) → IsApplied raw command removed old new

@@ -15,9 +15,10 @@ use Rattle.ring.specs.consumer.Completing.{taken_of, with_outcome}
 use Rattle.ringcore.specs.declared.world.event.Outcome.{Outcome}
 use Rattle.caches.specs.Held.{Entries}
 use Rattle.engine.specs.Settled.{IsSettled}
-use Rattle.engine.specs.Counting.{taken}
+use Rattle.engine.specs.Counting.{CountsValue, taken, AreCountsOf}
 use Rattle.engine.specs.Units.{UnitValue, StaysSettled, IsApplied, IsStoppedAt, IsReplaced}
 use Rattle.engine.specs.Engines.{AreTogether, IsEngine, consumer_in}
+use Rattle.engine.proofs.Counted.{StaysCounted}
 
 -- reads take nothing
 reads_keep : (offset : ℕ) (raws : List Raw) (t : Trail) → taken_of (reads_from offset raws t) ≡ taken_of t
@@ -28,14 +29,14 @@ module _ (d : ConsumerValue) (unit : UnitValue) (t : AreTogether d unit) where
   -- ---- nothing was taken
   pub still_looked : (control : Control) (e : ConsumerValue) → e ≡ with_trail d (Look control ∷ d.trail) → AreTogether e unit
   still_looked control e is =
-      subst (λ (x : ConsumerValue). AreTogether x unit) (sym is) (record { many = t.many; settled = t.settled; seen = λ raw is half. t.seen raw is half })
+      subst (λ (x : ConsumerValue). AreTogether x unit) (sym is) (record { many = t.many; counted = t.counted; settled = t.settled; seen = λ raw is half. t.seen raw is half })
 
   pub still_none : (closed : Bool) (e : ConsumerValue) → TookNone closed d e → AreTogether e unit
   still_none closed e took = still_looked took.seen e took.trail_is
 
   pub still_unwritten : (most : ℕ) (e : ConsumerValue) → TookUnwritten most d e → AreTogether e unit
   still_unwritten most e took =
-      subst (λ (x : ConsumerValue). AreTogether x unit) (sym took.trail_is) (record { many = t.many; settled = t.settled; seen = λ raw is half. t.seen raw is half })
+      subst (λ (x : ConsumerValue). AreTogether x unit) (sym took.trail_is) (record { many = t.many; counted = t.counted; settled = t.settled; seen = λ raw is half. t.seen raw is half })
 
   module _ (most : ℕ) (p : PendingValue) (took : TookRun most d p) where
     -- what was taken before the reads was taken after them
@@ -53,13 +54,17 @@ module _ (d : ConsumerValue) (unit : UnitValue) (t : AreTogether d unit) where
 
     -- ---- some commands were taken
     pub taken_together : (e : ConsumerValue) (new : UnitValue) (more : List Taken) → taken_of e.trail ≡ taken_of p.consumer.trail ++ more
-        → IsSettled new.caches.entries (taken_of p.consumer.trail ++ more) → taken new.counts ≡ taken unit.counts + length more → new.stop.next ≡ None → AreTogether e new
-    taken_together e new more longer settled counted none = record {
+        → IsSettled new.caches.entries (taken_of p.consumer.trail ++ more) → taken new.counts ≡ taken unit.counts + length more → StaysCounted unit new more → new.stop.next ≡ None
+        → AreTogether e new
+    taken_together e new more longer settled counted keeps none = record {
       many =
           let m = t.many in
           let same : length (taken_of p.consumer.trail) ≡ length (taken_of d.trail) = ap (λ (l : List Taken). length l) taken_before in
           let grown : length (taken_of e.trail) ≡ length (taken_of p.consumer.trail) + length more = ap (λ (l : List Taken). length l) longer ∙ length-append (taken_of p.consumer.trail) more in
           omega (arith, m, same, grown, counted);
+      counted =
+          subst (λ (l : List Taken). AreCountsOf l new.counts) (sym longer)
+          (keeps (taken_of p.consumer.trail) (subst (λ (l : List Taken). AreCountsOf l unit.counts) (sym taken_before) t.counted));
       settled = subst (λ (l : List Taken). IsSettled new.caches.entries l) (sym longer) settled;
       seen = λ raw is. absurd (none_some raw (sym none ∙ is));
     }
@@ -72,12 +77,16 @@ module _ (d : ConsumerValue) (unit : UnitValue) (t : AreTogether d unit) where
         → IsStoppedAt raw ill unit new → AreTogether e new
     stopped_together e new raw at_head ill same e_is seen stop = record {
       many = ap (λ (u : UnitValue). taken u.counts) stop.new_is ∙ t.many ∙ sym (ap (λ (l : List Taken). length l) same_taken);
+      counted = subst (λ (x : List Taken × CountsValue). AreCountsOf x.0 x.1) (λ k. (sym same_taken k, sym same_counts k)) t.counted;
       settled = subst (λ (x : List Taken × Entries). IsSettled x.1 x.0) (λ k. (sym same_taken k, sym same_entries k)) t.settled;
       seen = λ other is. subst (λ (r : Raw). HasSeen e.trail r) (sym same ∙ some_raw raw other (sym (ap (λ (u : UnitValue). u.stop.next) stop.new_is) ∙ is)) seen;
     }
       where
         same_taken : taken_of e.trail ≡ taken_of d.trail
         same_taken = ap (λ (x : ConsumerValue). taken_of x.trail) e_is ∙ taken_before
+
+        same_counts : new.counts ≡ unit.counts
+        same_counts = ap (λ (u : UnitValue). u.counts) stop.new_is
 
         same_entries : new.caches.entries ≡ unit.caches.entries
         same_entries = ap (λ (u : UnitValue). u.caches.entries) stop.new_is
@@ -101,6 +110,7 @@ pub still_counted : (o : Option ConsumerValue) (old new : UnitValue) → IsEngin
 still_counted None old new together counts next keeps = together
 still_counted (Some d) old new together counts next keeps = record {
   many = ap taken counts ∙ together.many;
+  counted = subst (AreCountsOf (taken_of d.trail)) (sym counts) together.counted;
   settled = subst (λ (l : List Taken). IsSettled new.caches.entries l) (append-nil (taken_of d.trail)) (keeps (taken_of d.trail) (sym together.many) together.settled);
   seen = λ raw is. together.seen raw (sym next ∙ is);
 }

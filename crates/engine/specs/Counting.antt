@@ -1,7 +1,10 @@
 -- What is counted of the commands taken.
-use Rattle.std.specs.Prelude.{◌≤◌, ◌^◌, ◌+◌, ◌*◌, ℕ, cond}
+use Rattle.std.specs.Prelude.{◌≡◌, ◌≤◌, ◌^◌, ◌+◌, ◌*◌, ℕ, Bool, true, false, cond, not, List, [], ◌∷◌}
 use Rattle.cmdcodec.specs.declared.raw.Raw.{Raw}
 use Rattle.cmdcodec.specs.Opcodes.{is_sync}
+use Rattle.ringcore.specs.declared.world.event.Outcome.{Outcome}
+use Rattle.ringcore.specs.declared.world.event.Outcome.TheVariants.{Applied, Replaced}
+use Rattle.ringcore.specs.world.World.{Taken}
 
 -- how many commands were applied and how many replaced, how many of both are a CMD_SYNC, and how many entries those
 -- that were applied removed
@@ -31,3 +34,20 @@ pub record AreCounts (c : CountsValue) : Type 0 where
   pub few : taken c ≤ 2 ^ 46
   pub syncs : c.syncs ≤ taken c
   pub removed : c.removed ≤ 65536 * taken c
+
+-- ---- of a whole list of commands taken
+
+-- how many of the commands taken are so
+abbrev pub how_many : (Taken → Bool) → List Taken → ℕ
+how_many is_so [] = 0
+how_many is_so (t ∷ ts) = cond (is_so t) 1 0 + how_many is_so ts
+
+abbrev pub is_applied : Outcome → Bool
+is_applied Applied = true
+is_applied Replaced = false
+
+-- The counts tell how many of these were applied and how many replaced, and how many are a CMD_SYNC.
+pub record AreCountsOf (list : List Taken) (c : CountsValue) : Type 0 where
+  pub applied : c.applied ≡ how_many (λ t. is_applied t.outcome) list
+  pub replaced : c.replaced ≡ how_many (λ t. not (is_applied t.outcome)) list
+  pub syncs : c.syncs ≡ how_many (λ t. is_sync t.raw) list

@@ -18,7 +18,7 @@ use Rattle.ring.specs.Rings.{RingValue}
 use Rattle.ring.specs.sender.Senders.{SenderValue}
 use Rattle.ring.specs.Finishing.{SummaryValue, IsEnd, WasTold}
 use Rattle.engine.specs.Settled.{IsSettled}
-use Rattle.engine.specs.Counting.{CountsValue, taken}
+use Rattle.engine.specs.Counting.{CountsValue, taken, AreCountsOf}
 use Rattle.engine.specs.Engines.{EngineValue}
 
 -- The first commands that a ring ever had are these. No entry that one of them covers was filled before it was taken.
@@ -38,11 +38,12 @@ pub record WasToldTruly (run : Run) (entries : Entries) (s told : ℕ) (older : 
   pub was_told : WasTold run s told older
   pub none_older : (number : ℕ) (some : 1 ≤ number) (most : number ≤ told) → NoneIsOlder entries (reserved_ahead (was_told.applied number some most))
 
--- There is one run that has all steps. The entries are settled for what is taken in it, and whatever a sender was told
--- in it was so.
+-- There is one run that has all steps. The entries are settled for what is taken in it, the counts are those of what is
+-- taken in it, and whatever a sender was told in it was so.
 pub record IsEngineEnd (ring : RingValue) (senders : List SenderValue) (engine : EngineValue) (end : SummaryValue) (counts : CountsValue) (entries : Entries) : Type 0 where
   pub end_is : IsEnd ring senders engine.consumer end
   pub settled : IsSettled entries (world end_is.run).taken
   pub told : (k : ℕ) (s : SenderValue) → slice_get senders k ≡ Some s → (newer older : Trail) (number : ℕ) → s.trail ≡ newer ++ Ask number ∷ older
       → WasToldTruly end_is.run entries k number older
   pub taken_are : end.taken ≡ taken counts
+  pub counted : AreCountsOf (world end_is.run).taken counts

@@ -17,7 +17,7 @@ use Rattle.engine.specs.declared.answer.RunAnswer.{RunAnswer}
 use Rattle.engine.specs.declared.answer.RunAnswer.TheVariants as run
 use Rattle.engine.specs.Settled.{IsSettled}
 use Rattle.engine.specs.Stops.{IsStopped, err_of, word_of}
-use Rattle.engine.specs.Counting.{taken}
+use Rattle.engine.specs.Counting.{taken, AreCountsOf}
 use Rattle.engine.specs.Units.{UnitValue, IsApplied, IsStoppedAt, IsReplaced, AreApplied}
 
 -- the engine: its consumer and its unit
@@ -25,10 +25,11 @@ pub record EngineValue : Type 0 where
   pub consumer : ConsumerValue
   pub unit : UnitValue
 
--- The unit has taken what the consumer has, and is settled for it; the words at which it stopped are those that the
--- consumer read at the head.
+-- The unit has taken what the consumer has, counted it, and is settled for it; the words at which it stopped are those
+-- that the consumer read at the head.
 pub record AreTogether (consumer : ConsumerValue) (unit : UnitValue) : Type 0 where
   pub many : taken unit.counts ≡ length (taken_of consumer.trail)
+  pub counted : AreCountsOf (taken_of consumer.trail) unit.counts
   pub settled : IsSettled unit.caches.entries (taken_of consumer.trail)
   pub seen : (raw : Raw) → unit.stop.next ≡ Some raw → HasSeen consumer.trail raw
 

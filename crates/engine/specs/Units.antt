@@ -9,6 +9,7 @@ use Rattle.cmdcodec.specs.Legality.{first_ill}
 use Rattle.ringcore.specs.declared.world.event.Outcome.TheVariants.{Applied as AsApplied, Replaced as AsReplaced}
 use Rattle.ringcore.specs.world.World.{Taken}
 use Rattle.caches.specs.declared.tag.Tag.{Tag}
+use Rattle.caches.specs.declared.tag.Entry.{Entry}
 use Rattle.caches.specs.Stored.{Stored}
 use Rattle.caches.specs.Held.{Entries, without_covered}
 use Rattle.engine.specs.declared.stop.Mode.TheVariants.{Running, Replacing}
@@ -90,3 +91,10 @@ AreApplied [] removed old new = (removed ≡ 0) × (new ≡ old)
 AreApplied (raw ∷ raws) removed old new =
     (between : UnitValue) × (command : Command) × (first : ℕ) × (rest : ℕ)
     × IsApplied raw command first old between × AreApplied raws rest between new × (removed ≡ first + rest)
+
+-- ---- what no command does
+
+-- No entry is new or another than before, and what is gone is counted as removed.
+pub record OnlyRemoves (old new : UnitValue) : Type 0 where
+  pub held : (tag : Tag) (entry : Entry) → finite.get new.caches.entries tag ≡ Some entry → finite.get old.caches.entries tag ≡ Some entry
+  pub counted : new.counts.removed + finite.len new.caches.entries ≡ old.counts.removed + finite.len old.caches.entries

@@ -7,8 +7,8 @@ ghost use Rattle.ring.specs.Finishing.{AreAll};
 ghost use Rattle.ring.specs.consumer.Completing.{taken_of};
 ghost use Rattle.engine.specs.Settled.{IsSettled};
 ghost use Rattle.engine.specs.Stops.{IsStopped, told, err_of, word_of, command_queue_bit};
-ghost use Rattle.engine.specs.Counting.{taken};
-ghost use Rattle.engine.specs.Units.{new_unit, filled, with_entries};
+ghost use Rattle.engine.specs.Counting.{taken, AreCountsOf};
+ghost use Rattle.engine.specs.Units.{new_unit, filled, with_entries, OnlyRemoves};
 ghost use Rattle.engine.specs.Engines.{HasStepped, HasRun, HasLooked};
 ghost use Rattle.engine.specs.Ends.{IsEngineEnd};
 
@@ -71,6 +71,7 @@ impl Engine {
         ensures still { (result ≡ StepAnswer.StillStopped) ↔ IsStopped self.old.unit.stop.mode }
         ensures exhausted { (result ≡ StepAnswer.Exhausted) ↔ (¬ IsStopped self.old.unit.stop.mode × (taken self.old.unit.counts ≡ 2 ^ 46)) }
         ensures settled { IsSettled self.new.unit.caches.entries (taken_of self.new.consumer.trail) }
+        ensures removes { OnlyRemoves self.old.unit self.new.unit }
         ensures ring { self.new.consumer.ring ≡ self.old.consumer.ring }
     {
         let consumer = self.consumer.take().unwrap();
@@ -89,6 +90,7 @@ impl Engine {
         ensures still { (result ≡ RunAnswer.StillStopped) ↔ IsStopped self.old.unit.stop.mode }
         ensures exhausted { (result ≡ RunAnswer.Exhausted) ↔ (¬ IsStopped self.old.unit.stop.mode × (taken self.old.unit.counts ≡ 2 ^ 46)) }
         ensures settled { IsSettled self.new.unit.caches.entries (taken_of self.new.consumer.trail) }
+        ensures removes { OnlyRemoves self.old.unit self.new.unit }
         ensures ring { self.new.consumer.ring ≡ self.old.consumer.ring }
     {
         let consumer = self.consumer.take().unwrap();
@@ -148,11 +150,12 @@ impl Engine {
 }
 
 impl Engine {
-    /// A witness that it is settled for all that it took: no entry that it holds is older than a command that covers
-    /// it. It does nothing.
+    /// A witness that it is settled for all that it took, no entry that it holds being older than a command that covers
+    /// it, and that its counts are those of all that it took. It does nothing.
     pub fn is_settled(&self)
         ensures settled { IsSettled self.now.unit.caches.entries (taken_of self.now.consumer.trail) }
-        ensures counted { taken self.now.unit.counts ≡ length (taken_of self.now.consumer.trail) }
+        ensures many { taken self.now.unit.counts ≡ length (taken_of self.now.consumer.trail) }
+        ensures counted { AreCountsOf (taken_of self.now.consumer.trail) self.now.unit.counts }
     {
         let _ = &self.consumer;
     }

@@ -1,3 +1,4 @@
 pub mod Tries
 pub mod InOrder
 pub mod TwoRuns
+pub mod ReservesNone

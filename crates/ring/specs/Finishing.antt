@@ -1,5 +1,5 @@
 -- What is known once all seats are joined.
-use Rattle.std.specs.Prelude.{◌≡◌, ℕ, ◌<◌, ◌≤◌, Bool, List, [], ◌∷◌, ◌++◌, map, length, Some, slice_get}
+use Rattle.std.specs.Prelude.{◌≡◌, ℕ, ◌<◌, ◌≤◌, Bool, true, List, [], ◌∷◌, ◌++◌, map, length, Some, slice_get}
 use Rattle.ringcore.specs.declared.world.event.Who.TheVariants.{Consumer, Sender}
 use Rattle.ringcore.specs.declared.world.event.Event.TheVariants.{Ask}
 use Rattle.ringcore.specs.world.Trails.{Run, Trail, trail_of, raws_by}
@@ -7,6 +7,7 @@ use Rattle.ringcore.specs.world.World.{world}
 use Rattle.ringcore.specs.world.Allowed.{Ring, IsRun}
 use Rattle.ringcore.specs.world.Delivery.{Batch, batches, joined, has_close, Begins, IsOrderedDelivery}
 use Rattle.ringcore.specs.world.Laws.{OnlyOf, batches_of, own_batches, IsApplied}
+use Rattle.ringcore.specs.world.ConsumerLaws.{SawDrained}
 use Rattle.ring.specs.declared.table.rule.Participant.{Participant}
 use Rattle.ring.specs.Rings.{RingValue}
 use Rattle.ring.specs.table.Rule.{participant}
@@ -53,7 +54,8 @@ pub record WasTold (run : Run) (s told : ℕ) (older : Trail) : Type 0 where
   pub applied : (number : ℕ) → 1 ≤ number → number ≤ told → IsApplied earlier s number
 
 -- There is one run that has all trails. It is ordered delivery, of batches that are a merge of the senders'; the
--- commands that are taken are a beginning of the merge, and the whole merge where as many were taken as reserved.
+-- commands that are taken are a beginning of the merge, and the whole merge where as many were taken as reserved. So it is
+-- where the consumer saw the ring closed and empty.
 pub record IsEnd (ring : RingValue) (senders : List SenderValue) (consumer : ConsumerValue) (end : SummaryValue) : Type 0 where
   pub run : Run
   pub run_of : IsRunOf ring senders consumer run
@@ -66,3 +68,4 @@ pub record IsEnd (ring : RingValue) (senders : List SenderValue) (consumer : Con
   pub taken : end.taken ≡ length (raws_by consumer.trail)
   pub closed : end.closed ≡ has_close run
   pub whole : end.taken ≡ end.reserved → raws_by consumer.trail ≡ joined (batches run)
+  pub drained : SawDrained consumer.trail → (end.closed ≡ true) × (end.taken ≡ end.reserved)

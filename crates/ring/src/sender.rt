@@ -30,6 +30,7 @@ pub use bare_reservation::BareReservation;
 use batch::Batch;
 pub use cause::{Cause, Refused};
 use qindex::Control;
+use ringcore::laws::newest_event;
 pub use receipt::Receipt;
 pub use reservation::Reservation;
 use std::marker::Model;
@@ -94,9 +95,13 @@ impl Sender {
     /// The number in its completion cell: that of its last CMD_SYNC that completed, 0 where none did.
     pub fn done_up_to(&mut self, ring: &Ring) -> u32
         requires { self.old.ring ≡ ring.now }
-        ensures { self.new ≡ record self.old { trail = Ask result ∷ self.old.trail } }
+        ensures asked { self.new ≡ record self.old { trail = Ask result ∷ self.old.trail } }
+        ensures few { result ≤ self.old.ring.made_with.max_batches }
     {
-        self.port.ask(ring, self.tally.sender)
+        newest_event();
+        let found = self.port.ask(ring, self.tally.sender);
+        self.port.trail_stands_in_a_run();
+        found
     }
 
     /// Whether the CMD_SYNC of this receipt completed, by the sender's completion cell.

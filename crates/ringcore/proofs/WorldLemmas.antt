@@ -16,5 +16,6 @@ pub mod SyncOrder
 pub mod Owners
 pub mod ConsumerTrail
 pub mod SteadyHead
+pub mod Drained
 pub mod Newest
 pub mod Applied

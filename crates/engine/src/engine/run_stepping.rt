@@ -7,7 +7,7 @@ ghost use Rattle.engine.specs.declared.stop.Mode.TheVariants.{Running};
 ghost use Rattle.ring.specs.consumer.Completing.{taken_of};
 ghost use Rattle.engine.specs.Stops.{IsStopped};
 ghost use Rattle.engine.specs.Counting.{taken};
-ghost use Rattle.engine.specs.Units.{AreApplied};
+ghost use Rattle.engine.specs.Units.{AreApplied, OnlyRemoves};
 ghost use Rattle.engine.specs.Engines.{AreTogether, HasRun};
 
 use crate::answer::RunAnswer;
@@ -31,6 +31,7 @@ pub(crate) fn step_run_with(
     ensures still { (result.1 ≡ RunAnswer.StillStopped) ↔ IsStopped unit.old.stop.mode }
     ensures exhausted { (result.1 ≡ RunAnswer.Exhausted) ↔ (¬ IsStopped unit.old.stop.mode × (taken unit.old.counts ≡ 2 ^ 46)) }
     ensures together { AreTogether result.0 unit.new }
+    ensures removes { OnlyRemoves unit.old unit.new }
     ensures ring { result.0.ring ≡ consumer.ring }
 {
     if unit.stopped() {

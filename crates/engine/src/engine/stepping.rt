@@ -2,6 +2,7 @@
 ghost use Rattle.std.specs.Prelude.{◌≡◌, ◌↔◌, ◌^◌};
 ghost use Rattle.engine.specs.Stops.{IsStopped};
 ghost use Rattle.engine.specs.Counting.{taken};
+ghost use Rattle.engine.specs.Units.{OnlyRemoves};
 ghost use Rattle.engine.specs.Engines.{AreTogether, HasStepped};
 
 use crate::answer::StepAnswer;
@@ -21,6 +22,7 @@ pub(crate) fn step_with(
     ensures still { (result.1 ≡ StepAnswer.StillStopped) ↔ IsStopped unit.old.stop.mode }
     ensures exhausted { (result.1 ≡ StepAnswer.Exhausted) ↔ (¬ IsStopped unit.old.stop.mode × (taken unit.old.counts ≡ 2 ^ 46)) }
     ensures together { AreTogether result.0 unit.new }
+    ensures removes { OnlyRemoves unit.old unit.new }
     ensures ring { result.0.ring ≡ consumer.ring }
 {
     if unit.stopped() {

@@ -16,7 +16,7 @@ use Rattle.ringcore.specs.world.World.{tail, head, world, control}
 use Rattle.ringcore.specs.world.Allowed.{Ring, IsRun}
 use Rattle.ringcore.specs.world.Delivery.{Begins, TakenInOrder, NumberedInOrder, NoneAfterClose, ToldWhenCompleted, batches, joined, advanced}
 use Rattle.ringcore.specs.world.Laws.{EveryRun, NeverMoreThanFull, ToldOfAllUpTo, AllOfBatches, ClosedByAClose, BatchesHaveOwners, SendersOrderIsKept, own_batches}
-use Rattle.ringcore.specs.world.ConsumerLaws.{TellsTheHead, TellsWhatIsAdvanced, TellsTheOutcomes, RawsAreCounted}
+use Rattle.ringcore.specs.world.ConsumerLaws.{TellsTheHead, TellsWhatIsAdvanced, TellsTheOutcomes, RawsAreCounted, SawDrained, DrainedIsTheEnd}
 use Rattle.ringcore.specs.memory.StepLaws.{Always, HasAControlWord}
 use Rattle.ring.specs.declared.table.rule.Participant.{Participant}
 use Rattle.ring.specs.Rings.{RingValue}
@@ -108,11 +108,11 @@ module _ (ring : RingValue) (senders : List SenderValue) (consumer : ConsumerVal
 
   pub end_is : EveryRun TakenInOrder → EveryRun NumberedInOrder → EveryRun NoneAfterClose → EveryRun ToldWhenCompleted → NeverMoreThanFull → EveryRun ToldOfAllUpTo
       → EveryRun SendersOrderIsKept → EveryRun AllOfBatches → EveryRun ClosedByAClose → BatchesHaveOwners
-      → EveryRun TellsTheHead → EveryRun TellsWhatIsAdvanced → EveryRun TellsTheOutcomes → RawsAreCounted
+      → EveryRun TellsTheHead → EveryRun TellsWhatIsAdvanced → EveryRun TellsTheOutcomes → RawsAreCounted → DrainedIsTheEnd
       → WordsSayTheirControl → QueuesHaveAControl → IndexesTellTheQueue
       → (word taken far : ℕ) (c : Control) → get_elem? ws 0 ≡ some word → c ≡ control_in key.geometry word → taken ≡ taken_by consumer.trail → far ≡ distance c.prod c.cons
       → IsEnd ring senders consumer record { reserved = taken + far; taken = taken; closed = c.closed }
-  end_is in_order numbered none_after told within told_of_all kept all_of closed_by owners tells_head tells_raws tells_outcomes counted said queue tells word taken far c at c_is taken_is far_is =
+  end_is in_order numbered none_after told within told_of_all kept all_of closed_by owners tells_head tells_raws tells_outcomes counted the_end said queue tells word taken far c at c_is taken_is far_is =
       let w = world run in let g : ℕ = key.geometry in
       let i = within key run ok in
       let good : IsControl g (control g w) = queue g (tail w) (head w) w.closed k.after.geometry_is i.behind i.within in
@@ -139,5 +139,9 @@ module _ (ring : RingValue) (senders : List SenderValue) (consumer : ConsumerVal
         reserved = reserved_is;
         taken = many;
         closed = ap (λ (x : Control). x.closed) same ∙ closed_by key run ok;
+        drained = λ saw.
+            let all_taken = the_end key run k.after.geometry_is ok (subst SawDrained (sym device.0.trail) saw) in
+            let agree : head w ≡ tail w = all_taken.whole in
+            (ap (λ (x : Control). x.closed) same ∙ all_taken.closed, omega (arith, agree, h, t, reserved_is));
         whole = λ agree. beginning_is_whole (raws_by consumer.trail) (joined (batches run)) begins (sym many ∙ agree ∙ reserved_is);
       }

@@ -1,9 +1,10 @@
 -- Which events writes, flips and the rest of a reservation added.
-use Rattle.std.specs.Prelude.{ℕ, zero, suc, ◌+◌, ◌-◌, nat_lt, cond, min, ◌∷◌}
+use Rattle.std.specs.Prelude.{◌≡◌, ℕ, zero, suc, ◌+◌, ◌-◌, nat_lt, cond, min, ◌∷◌}
 use Rattle.qindex.specs.Positions.{index_of}
 use Rattle.ringcore.specs.declared.world.event.Half.TheVariants.{Lo, Hi}
 use Rattle.ringcore.specs.declared.world.event.Event.TheVariants.{Write, Flip}
-use Rattle.ringcore.specs.world.Trails.{reserved_length, start_index}
+use Rattle.ringcore.specs.world.Trails.{Trail, reserved_length, start_index, numbers_given}
+use Rattle.ringcore.specs.world.Laws.{own_batches}
 use Rattle.ringcore.specs.memory.Flags.{shared_word}
 use Rattle.ring.specs.sender.Senders.{SenderValue}
 use Rattle.ring.specs.sender.Reservations.{ReservationValue}
@@ -39,3 +40,8 @@ published r = flipped_left (flipped_left (wrote_many (reserved_length r.trail - 
 -- the sender of a reservation, with its trail
 abbrev pub sender_of : ReservationValue → SenderValue
 sender_of r = record { ring = r.ring; number = r.sender; trail = r.trail }
+
+-- No batch was reserved in between.
+pub record ReservesNone (old new : Trail) : Type 0 where
+  pub batches : (s : ℕ) → own_batches s new ≡ own_batches s old
+  pub numbers : numbers_given new ≡ numbers_given old

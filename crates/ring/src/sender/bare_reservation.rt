@@ -2,7 +2,7 @@
 ghost use Rattle.std.specs.Prelude.{◌≡◌, ◌+◌, ◌<◌};
 ghost use Rattle.ringcore.specs.world.Trails.{reserved_length, IsSettled};
 ghost use Rattle.ring.specs.sender.Reservations.{IsWrittenUpTo, IsFlippedUpTo};
-ghost use Rattle.ring.specs.sender.Publishing.{wrote_one, flipped_one, published, sender_of};
+ghost use Rattle.ring.specs.sender.Publishing.{wrote_one, flipped_one, published, sender_of, ReservesNone};
 
 use crate::ring::Ring;
 use crate::sender::Sender;
@@ -67,6 +67,7 @@ impl<'b> BareReservation<'b> {
         ensures settled { IsSettled result.trail }
         ensures ring { result.ring ≡ self.entry.ring }
         ensures id { result.number ≡ self.entry.sender }
+        ensures batches { ReservesNone self.entry.trail result.trail }
     {
         let BareReservation { open } = self;
         open.publish(ring)

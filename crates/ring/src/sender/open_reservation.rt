@@ -4,7 +4,7 @@ ghost use Rattle.qindex.specs.Positions.{size};
 ghost use Rattle.ringcore.specs.world.Trails.{reserved_length, IsSettled};
 ghost use Rattle.ringcore.specs.memory.StepLaws.{reserved_commands};
 ghost use Rattle.ring.specs.sender.Reservations.{IsWrittenUpTo, IsFlippedUpTo, reserved_number};
-ghost use Rattle.ring.specs.sender.Publishing.{wrote_one, wrote_many, flipped_one, flipped_run, flipped_left, published, sender_of};
+ghost use Rattle.ring.specs.sender.Publishing.{wrote_one, wrote_many, flipped_one, flipped_run, flipped_left, published, sender_of, ReservesNone};
 
 use crate::ring::Ring;
 use crate::sender::Sender;
@@ -121,6 +121,7 @@ impl<'b> OpenReservation<'b> {
         ensures settled { IsSettled result.trail }
         ensures ring { result.ring ≡ self.entry.ring }
         ensures id { result.number ≡ self.entry.sender }
+        ensures batches { ReservesNone self.entry.trail result.trail }
     {
         self.len();
         let mut reservation = self.write_left(ring);

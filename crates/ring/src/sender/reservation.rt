@@ -2,7 +2,7 @@
 ghost use Rattle.std.specs.Prelude.{◌≡◌, ◌+◌, ◌<◌, Some};
 ghost use Rattle.ringcore.specs.world.Trails.{reserved_length, IsSettled};
 ghost use Rattle.ring.specs.sender.Reservations.{IsWrittenUpTo, IsFlippedUpTo, IsReceiptOf};
-ghost use Rattle.ring.specs.sender.Publishing.{wrote_one, flipped_one, published, sender_of};
+ghost use Rattle.ring.specs.sender.Publishing.{wrote_one, flipped_one, published, sender_of, ReservesNone};
 
 use crate::ring::Ring;
 use crate::sender::Sender;
@@ -68,6 +68,7 @@ impl<'b> Reservation<'b> {
         ensures settled { IsSettled result.0.trail }
         ensures ring { result.0.ring ≡ self.entry.ring }
         ensures id { result.0.number ≡ self.entry.sender }
+        ensures batches { ReservesNone self.entry.trail result.0.trail }
         ensures receipt { IsReceiptOf self.entry result.1 }
     {
         let Reservation { open } = self;

@@ -75,7 +75,7 @@ at_head ring ((Sender s, Ask found) ∷ xs) ok half x is = at_head ring xs ok.0 
 below_tail : (w : World) (half : Half) (x : ℕ) → IsAtHead w half x → head w < tail w
 below_tail w half x h = slice_get_within w.reserved (head w) h.item h.there
 
-indexes_differ : IndexesTellTheQueue → (g : ℕ) (w : World) → IsGeometry g → head w < tail w → tail w ≤ head w + size g → (control g w).prod.number ≢ (control g w).cons.number
+pub indexes_differ : IndexesTellTheQueue → (g : ℕ) (w : World) → IsGeometry g → head w < tail w → tail w ≤ head w + size g → (control g w).prod.number ≢ (control g w).cons.number
 indexes_differ queue g w geometry some most same =
     let prod = index_of g (tail w) in
     let cons = index_of g (head w) in

@@ -1,5 +1,6 @@
 -- What the consumer's own trail says, after any run.
-use Rattle.std.specs.Prelude.{◌≡◌, ◌≢◌, ℕ, ◌+◌, ◌<◌, ◌≤◌, true, [], ◌∷◌, map, length, Some, slice_get, ⊤}
+use Rattle.std.specs.Prelude.{◌≡◌, ◌≢◌, ◌⊎◌, ℕ, ◌+◌, ◌<◌, ◌≤◌, true, [], ◌∷◌, map, length, Some, slice_get, ⊤}
+use Rattle.qindex.specs.declared.control.Control.{Control}
 use Rattle.qindex.specs.Indexes.{IsGeometry}
 use Rattle.ringcore.specs.declared.world.event.Who.TheVariants.{Consumer}
 use Rattle.ringcore.specs.declared.world.event.Half.{Half}
@@ -82,3 +83,23 @@ IsSteady (e ∷ es) = FindsAgain e es × IsSteady es
 
 abbrev pub ConsumerIsSteady : Type 0
 ConsumerIsSteady = (ring : Ring) (run : Run) → IsGeometry ring.geometry → IsRun ring run → IsSteady (trail_of Consumer run)
+
+-- ---- the end
+
+-- A look of this trail found the ring closed and nothing reserved.
+abbrev pub IsDrained : Control → Type 0
+IsDrained found = (found.closed ≡ true) × (found.prod.number ≡ found.cons.number)
+
+abbrev pub SawDrained : Trail → Type 0
+SawDrained [] = ⊥
+SawDrained (Look found ∷ es) = IsDrained found ⊎ SawDrained es
+SawDrained (e ∷ es) = SawDrained es
+
+-- The ring is closed, and all that is reserved is taken.
+pub record IsAllTaken (w : World) : Type 0 where
+  pub closed : w.closed ≡ true
+  pub whole : head w ≡ tail w
+
+-- Once the consumer saw that, it is so for ever.
+abbrev pub DrainedIsTheEnd : Type 0
+DrainedIsTheEnd = (ring : Ring) (run : Run) → IsGeometry ring.geometry → IsRun ring run → SawDrained (trail_of Consumer run) → IsAllTaken (world run)

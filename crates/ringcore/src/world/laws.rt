@@ -1,7 +1,7 @@
 //! Laws of every run, whoever's step comes next.
 ghost use Rattle.ringcore.specs.world.Delivery.{TakenInOrder, NumberedInOrder, NoneAfterClose, ToldWhenCompleted};
 ghost use Rattle.ringcore.specs.world.Laws.{EveryRun, NeverMoreThanFull, AcknowledgedAreTaken, AcknowledgedAreApplied, ToldOfAllUpTo, CommandsOfBatches, AllOfBatches, ClosedByAClose, BatchesAreUnbroken, SendersOrderIsKept, EarlierStandsBefore, BatchesHaveOwners, FewAreReserved, ListsAreShort, SyncsTellTheirBatch, SyncsAddUp, SyncsAreCounted, NumbersAreFew, SyncsComeInOrder};
-ghost use Rattle.ringcore.specs.world.ConsumerLaws.{TellsTheHead, TellsTheNumbers, TellsWhatIsAdvanced, TellsTheOutcomes, RawsAreCounted, SyncsOfRawsAreCounted, TookSyncsInOrder, TakenAreFlipped, FlippedAreWritten, FoundIsReady, ReadsAreOfItems, ConsumerIsSteady};
+ghost use Rattle.ringcore.specs.world.ConsumerLaws.{TellsTheHead, TellsTheNumbers, TellsWhatIsAdvanced, TellsTheOutcomes, RawsAreCounted, SyncsOfRawsAreCounted, TookSyncsInOrder, TakenAreFlipped, FlippedAreWritten, FoundIsReady, ReadsAreOfItems, ConsumerIsSteady, DrainedIsTheEnd};
 ghost use Rattle.ringcore.specs.world.NewestEvents.{StepsGrowTheirTrail, OthersLeaveTheTrail, NewestWasAllowed, LooksFindControls, LookedAreControls, LostFoundAnother, AsksFindFew};
 
 use qindex::indexes_tell_the_queue;
@@ -48,7 +48,8 @@ pub fn counts_law()
 {}
 
 /// The consumer's own trail tells what is taken and acknowledged; what its last test found is flipped, what
-/// it read is so, and what it read at the head is found again until it is taken.
+/// it read is so, and what it read at the head is found again until it is taken. Where it saw the ring closed and
+/// empty, all that is ever reserved is taken.
 pub fn consumer_trail()
     ensures head { EveryRun TellsTheHead }
     ensures acknowledged { EveryRun TellsTheNumbers }
@@ -62,6 +63,7 @@ pub fn consumer_trail()
     ensures ready { EveryRun FoundIsReady }
     ensures read { EveryRun ReadsAreOfItems }
     ensures steady { ConsumerIsSteady }
+    ensures drained { DrainedIsTheEnd }
 {
     indexes_tell_the_queue();
 }

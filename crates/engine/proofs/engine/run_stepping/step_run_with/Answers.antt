@@ -8,6 +8,7 @@ use Rattle.ring.specs.consumer.Completing.{taken_of, with_outcome}
 use Rattle.engine.specs.Settled.{IsSettled}
 use Rattle.engine.specs.Stops.{StopValue}
 use Rattle.engine.specs.Units.{UnitValue, AreApplied}
+use Rattle.engine.proofs.Counted.{StaysCounted, run_counted, replaced_counted, same_removes, run_removes, stopped_removes, replaced_removes}
 use Rattle.engine.proofs.Stepping.{still_none, still_unwritten, taken_before, taken_settled, taken_together, stopped_together, applied_more, replaced_more}
 use Rattle.engine.proofs.Running.{all_applied, all_legal, all_settled, all_counted, none_kept, first_is, first_and_rest, take_first, first_replaced, get_behind_first, length_behind_first}
 use Rattle.engine.proofs.engine.run_stepping.step_run_with.Goals as goal
@@ -58,6 +59,7 @@ returns-in-Applied-clause-together c =
     taken_together _ _ c.requires.together _ _ c.in-Ready.ensures.taken c.complete_run.result c.apply_rest-more.new.unit (map (with_outcome Applied) raws) c.complete_run.ensures.taken
     (taken_settled _ _ c.requires.together _ _ c.in-Ready.ensures.taken c.apply_rest-more.new.unit _ (all_settled _ _ _ _ (applied c.before)))
     (let counted = all_counted _ _ _ _ (applied c.before) in let same = length-map raws (with_outcome Applied) in omega (arith, counted, same))
+    (run_counted _ _ _ _ (applied c.before))
     (none_kept _ _ _ _ c.apply_rest-more.ensures.applied (ap (λ (s : StopValue). s.next) c.in-Applied.ensures.judged.stop))
 
 -- ---- the first was replaced
@@ -83,6 +85,8 @@ returns-in-Replaced-clause-together c =
     let same = length-map raws (with_outcome Replaced) in
     let one = ap (λ (l : List Raw). length l) (take_first c.in-Ready.run'.raws c.unwrap.result (sym c.get.ensures ∙ c.unwrap.ensures)) in
     omega (arith, counted, same, one))
+    (subst (λ (xs : List Raw). StaysCounted c.args.unit.now c.judge.new.self (map (with_outcome Replaced) xs)) (sym (take_first c.in-Ready.run'.raws c.unwrap.result (sym c.get.ensures ∙ c.unwrap.ensures)))
+    (replaced_counted _ _ _ _ c.in-Replaced.ensures.judged))
     (ap (λ (u : UnitValue). u.stop.next) c.in-Replaced.ensures.judged.new_is)
 
 -- ---- it stopped at the first
@@ -108,3 +112,14 @@ returns-in-Drained-clause-together c = still_none _ _ c.requires.together true _
 
 pub returns-in-Unwritten-clause-together : goal.returns-in-Unwritten-clause-together
 returns-in-Unwritten-clause-together c = still_unwritten _ _ c.requires.together _ _ c.in-Unwritten.ensures.taken
+
+-- ---- entries
+
+pub returns-in-Applied-clause-removes : goal.returns-in-Applied-clause-removes
+returns-in-Applied-clause-removes c = run_removes _ _ _ _ (applied c.before)
+
+pub returns-in-Replaced-clause-removes : goal.returns-in-Replaced-clause-removes
+returns-in-Replaced-clause-removes c = replaced_removes _ _ _ _ c.in-Replaced.ensures.judged
+
+pub returns-in-Stopped-clause-removes : goal.returns-in-Stopped-clause-removes
+returns-in-Stopped-clause-removes c = stopped_removes _ _ _ _ c.in-Stopped.ensures.judged

@@ -1,6 +1,7 @@
 use Rattle.ringcore.proofs.WorldLemmas.ConsumerTrail.{head_is, numbers, advanced_is, outcomes, raws_counted, syncs_of_raws, took_in_order, found_is_ready, reads_are}
 use Rattle.ringcore.proofs.WorldLemmas.Slots.{deep}
 use Rattle.ringcore.proofs.WorldLemmas.SteadyHead.{steady}
+use Rattle.ringcore.proofs.WorldLemmas.Drained.{drained}
 use Rattle.ringcore.proofs.world.laws.consumer_trail.Goals as goal
 
 pub returns-clause-head : goal.returns-clause-head
@@ -38,3 +39,6 @@ returns-clause-read c = reads_are
 
 pub returns-clause-steady : goal.returns-clause-steady
 returns-clause-steady c = λ ring run is_geometry ok. steady c.indexes_tell_the_queue.ensures.queue ring is_geometry run ok
+
+pub returns-clause-drained : goal.returns-clause-drained
+returns-clause-drained c = λ ring run is_geometry ok. drained c.indexes_tell_the_queue.ensures.queue ring is_geometry run ok

@@ -1,11 +1,12 @@
 use Rattle.std.proofs.Common.{◌≡◌, ◌+◌, ◌-◌, ap, sym, subst, arith, ◌∙◌}
 use Rattle.qindex.specs.Positions.{size}
-use Rattle.ringcore.specs.world.Trails.{reserved_length}
+use Rattle.ringcore.specs.world.Trails.{Trail, reserved_length}
 use Rattle.ring.specs.sender.Senders.{SenderValue}
 use Rattle.ring.specs.sender.Reservations.{ReservationValue}
+use Rattle.ring.proofs.SenderLemmas.ReservesNone.{published_none}
 use Rattle.ring.proofs.SenderLemmas.TwoRuns.{published_ring, published_sender, wrote_is, left_is, all_flipped}
 use Rattle.ring.proofs.sender.open_reservation.OpenReservation.publish.Goals as goal
-use Rattle.ring.specs.sender.Publishing.{flipped_left}
+use Rattle.ring.specs.sender.Publishing.{flipped_left, ReservesNone}
 
 pub flip_left-requires : goal.flip_left-requires
 flip_left-requires c = ap (λ (r : ReservationValue). r.ring) c.write_left-reservation.ensures ∙ (wrote_is (reserved_length c.args.self.trail - c.args.self.written) c.args.self).ring_is ∙ c.requires
@@ -39,3 +40,11 @@ returns-clause-id c =
     ap (λ (s : SenderValue). s.number) c.into_sender.ensures.sender
     ∙ ap (λ (r : ReservationValue). r.sender) (c.flip_left-2.ensures ∙ ap flipped_left (c.flip_left.ensures ∙ ap flipped_left c.write_left-reservation.ensures))
     ∙ published_sender c.args.self
+
+pub returns-clause-batches : goal.returns-clause-batches
+returns-clause-batches c =
+    subst (λ (t : Trail). ReservesNone c.args.self.trail t)
+    (sym
+    (ap (λ (s : SenderValue). s.trail) c.into_sender.ensures.sender
+    ∙ ap (λ (r : ReservationValue). r.trail) (c.flip_left-2.ensures ∙ ap flipped_left (c.flip_left.ensures ∙ ap flipped_left c.write_left-reservation.ensures))))
+    (published_none c.args.self)

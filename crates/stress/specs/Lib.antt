@@ -1,0 +1,7 @@
+pub mod Plans
+pub mod Workers
+pub mod EngineTurns
+pub mod Totals
+pub mod FirstEntries
+pub mod Reports
+pub mod ReportText

@@ -1,0 +1,75 @@
+-- What a worker has sent.
+use Rattle.std.specs.Prelude.{◌≡◌, ℕ, suc, ◌<◌, ◌≤◌, Bool, true, false, cond, List, [], ◌∷◌, ◌++◌, map}
+use Rattle.cmdcodec.specs.declared.raw.Raw.{Raw}
+use Rattle.ringcore.specs.world.Trails.{numbers_given}
+use Rattle.ringcore.specs.world.Delivery.{Batch}
+use Rattle.ringcore.specs.world.Laws.{own_batches}
+use Rattle.ringcore.specs.machine.StepAnswers.{next_number}
+use Rattle.ring.specs.Rings.{RingValue}
+use Rattle.ring.specs.sender.Senders.{SenderValue}
+use Rattle.ring.specs.sender.Publishing.{ReservesNone}
+use Rattle.stress.specs.declared.attempt.Attempt.{Attempt}
+use Rattle.stress.specs.declared.attempt.Attempt.TheVariants.{Refused, Sent, SentBare}
+use Rattle.stress.specs.Plans.{PlanValue, IsPlan, numbered, planned}
+
+pub record WorkerValue : Type 0 where
+  pub plan : PlanValue
+  pub sender : SenderValue
+  pub sent : ℕ
+
+-- The sender has sent the first so many batches of its plan, and nothing else.
+pub record IsOnPlan (plan : PlanValue) (sender : SenderValue) (sent : ℕ) : Type 0 where
+  pub plan_is : IsPlan plan
+  pub known : sender.number < plan.senders
+  pub batches_are : own_batches sender.number sender.trail ≡ planned plan sender.number sent
+  pub numbers_are : numbers_given sender.trail ≡ numbered plan sent
+  pub within : sent ≤ plan.batches
+
+-- ---- what never changes of a worker
+
+-- its plan, its ring, and its sender's number
+pub record Assignment : Type 0 where
+  pub plan : PlanValue
+  pub ring : RingValue
+  pub number : ℕ
+
+abbrev pub assignment : WorkerValue → Assignment
+assignment w = record { plan = w.plan; ring = w.sender.ring; number = w.sender.number }
+
+abbrev pub assignments : List WorkerValue → List Assignment
+assignments ws = map assignment ws
+
+-- of a sender that is to send this plan
+abbrev pub assignment_of : PlanValue → SenderValue → Assignment
+assignment_of plan s = record { plan = plan; ring = s.ring; number = s.number }
+
+abbrev pub assignments_of : PlanValue → List SenderValue → List Assignment
+assignments_of plan ss = map (assignment_of plan) ss
+
+-- ---- before and after
+
+-- It is one of the plan's, and has taken no step.
+abbrev pub IsNew : PlanValue → SenderValue → Type 0
+IsNew plan s = (s.number < plan.senders) × (s.trail ≡ [])
+
+-- The whole of its plan is sent.
+abbrev pub HasSent : PlanValue → SenderValue → Type 0
+HasSent plan s = own_batches s.number s.trail ≡ planned plan s.number plan.batches
+
+-- ---- a try to send
+
+abbrev pub is_sent : Attempt → Bool
+is_sent Refused = false
+is_sent (Sent receipt) = true
+is_sent SentBare = true
+
+-- This batch was reserved, and no other.
+pub record HasReservedOne (body : List Raw) (closes : Bool) (s t : SenderValue) : Type 0 where
+  pub batches : own_batches s.number t.trail ≡ own_batches s.number s.trail ++ record { sender = s.number; number = next_number s.trail closes; body = body } ∷ []
+  pub numbers : numbers_given t.trail ≡ cond closes (suc (numbers_given s.trail)) (numbers_given s.trail)
+
+-- Nothing was reserved where it was refused, and else this batch.
+abbrev pub HasTried : List Raw → Bool → SenderValue → SenderValue → Attempt → Type 0
+HasTried body closes s t Refused = ReservesNone s.trail t.trail
+HasTried body closes s t (Sent receipt) = HasReservedOne body closes s t
+HasTried body closes s t SentBare = HasReservedOne body closes s t

@@ -1,0 +1,55 @@
+//! The engine's part in a run.
+ghost use Rattle.std.specs.Prelude.{◌≡◌, Ok};
+ghost use Rattle.ringcore.specs.world.ConsumerLaws.{SawDrained};
+ghost use Rattle.stress.specs.EngineTurns.{GoesOn};
+
+use crate::fault::StressFault;
+use crate::gate::Gate;
+use engine::{Engine, RunAnswer};
+use ring::Ring;
+
+/// The most commands that a turn takes.
+const MOST_COMMANDS: u32 = 64;
+
+/// How a ring was found that has nothing to take.
+#[derive(Clone, Copy, Debug, PartialEq, Eq)]
+pub(crate) enum Found {
+    Empty,
+    /// Empty, and closed: nothing will come.
+    Drained,
+}
+
+/// As many turns as this.
+pub(crate) fn run_engine<G: Gate>(
+    ring: &Ring,
+    gate: &G,
+    turns: u32,
+    mut engine: Engine,
+) -> Engine
+    requires { engine.consumer.ring ≡ ring.now }
+    ensures { GoesOn engine result }
+{
+    for turn in 0..turns {
+        gate.turn(turn + 1);
+        engine.step_run(ring, MOST_COMMANDS);
+    }
+    engine
+}
+
+/// Turns until the ring has nothing to take, at most one more than it has slots.
+///
+/// Errors: S2 where there is something even then.
+pub(crate) fn drain(ring: &Ring, slots: u32, engine: &mut Engine) -> Result<Found, StressFault>
+    requires { engine.old.consumer.ring ≡ ring.now }
+    ensures goes_on { GoesOn engine.old engine.new }
+    ensures drained { result ≡ Ok Found.Drained → SawDrained engine.new.consumer.trail }
+{
+    for _ in 0..=slots {
+        match engine.step_run(ring, MOST_COMMANDS) {
+            RunAnswer::Empty => return Ok(Found::Empty),
+            RunAnswer::Drained => return Ok(Found::Drained),
+            _ => {}
+        }
+    }
+    Err(StressFault::Unfinished)
+}

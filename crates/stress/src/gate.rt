@@ -1,0 +1,25 @@
+//! What a run tells its caller on the way.
+use ring::Receipt;
+
+/// Called by all workers of a run, each on its own thread (own).
+pub trait Gate {
+    /// Ahead of the first try of a batch. Batches are counted from 1.
+    fn before(&self, sender: u32, batch: u32);
+
+    /// After a batch was sent, with its receipt where it has one; or once the turns are used up.
+    fn after(&self, sender: u32, batch: u32, receipt: Option<&Receipt>);
+
+    /// Ahead of a turn of the engine. Turns are counted from 1.
+    fn turn(&self, turn: u32);
+}
+
+/// A gate that does nothing.
+pub struct NoGate;
+
+impl Gate for NoGate {
+    fn before(&self, _sender: u32, _batch: u32) {}
+
+    fn after(&self, _sender: u32, _batch: u32, _receipt: Option<&Receipt>) {}
+
+    fn turn(&self, _turn: u32) {}
+}
