@@ -7,10 +7,10 @@ use Rattle.cmdcodec.specs.declared.raw.Raw.{Raw}
 use Rattle.cmdcodec.specs.declared.command.Command.{Command}
 use Rattle.cmdcodec.specs.declared.ill.Ill.{Ill}
 use Rattle.cmdcodec.specs.Opcodes.{is_sync}
+use Rattle.ringcore.specs.declared.world.event.Outcome.{Outcome}
 use Rattle.ringcore.specs.declared.world.event.Outcome.TheVariants.{Applied, Replaced}
 use Rattle.ringcore.specs.world.World.{Taken}
 use Rattle.ring.specs.consumer.Completing.{with_outcome}
-use Rattle.caches.specs.declared.tag.Tag.{Tag}
 use Rattle.caches.specs.declared.tag.Entry.{Entry}
 use Rattle.caches.specs.Covers.{covers}
 use Rattle.caches.specs.TagOrder.{tag_cmp_exact}
@@ -72,6 +72,10 @@ applied_counted raw command removed old new is list are =
 pub replaced_counted : (raw : Raw) (ill : Ill) (old new : UnitValue) → IsReplaced raw ill old new → StaysCounted old new (with_outcome Replaced raw ∷ [])
 replaced_counted raw ill old new is list are =
     subst (λ (u : UnitValue). AreCountsOf (list ++ with_outcome Replaced raw ∷ []) u.counts) (sym is.new_is) (replaced_counts list raw old.counts are)
+
+pub same_words : (old new : UnitValue) (outcome : Outcome) (raw other : Raw) → raw ≡ other → StaysCounted old new (with_outcome outcome raw ∷ [])
+    → StaysCounted old new (with_outcome outcome other ∷ [])
+same_words old new outcome raw other same keeps = subst (λ (r : Raw). StaysCounted old new (with_outcome outcome r ∷ [])) same keeps
 
 pub run_counted : (raws : List Raw) (removed : ℕ) (old new : UnitValue) → AreApplied raws removed old new → StaysCounted old new (as_applied raws)
 run_counted [] removed old new is list are =

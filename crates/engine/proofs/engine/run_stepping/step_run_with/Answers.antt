@@ -8,7 +8,7 @@ use Rattle.ring.specs.consumer.Completing.{taken_of, with_outcome}
 use Rattle.engine.specs.Settled.{IsSettled}
 use Rattle.engine.specs.Stops.{StopValue}
 use Rattle.engine.specs.Units.{UnitValue, AreApplied}
-use Rattle.engine.proofs.Counted.{StaysCounted, run_counted, replaced_counted, same_removes, run_removes, stopped_removes, replaced_removes}
+use Rattle.engine.proofs.Counted.{StaysCounted, run_counted, replaced_counted, run_removes, stopped_removes, replaced_removes}
 use Rattle.engine.proofs.Stepping.{still_none, still_unwritten, taken_before, taken_settled, taken_together, stopped_together, applied_more, replaced_more}
 use Rattle.engine.proofs.Running.{all_applied, all_legal, all_settled, all_counted, none_kept, first_is, first_and_rest, take_first, first_replaced, get_behind_first, length_behind_first}
 use Rattle.engine.proofs.engine.run_stepping.step_run_with.Goals as goal

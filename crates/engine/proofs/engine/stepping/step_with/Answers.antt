@@ -1,7 +1,7 @@
 use Rattle.std.proofs.Common.{true, false, ap, ◌∙◌}
 use Rattle.engine.specs.Stops.{StopValue}
 use Rattle.engine.specs.Units.{UnitValue}
-use Rattle.engine.proofs.Counted.{applied_counted, replaced_counted, applied_removes, stopped_removes, replaced_removes}
+use Rattle.engine.proofs.Counted.{applied_counted, replaced_counted, same_words, applied_removes, stopped_removes, replaced_removes}
 use Rattle.engine.proofs.Stepping.{still_none, still_unwritten, one_settled, taken_together, stopped_together, applied_more, replaced_more}
 use Rattle.engine.proofs.engine.stepping.step_with.Goals as goal
 
@@ -27,13 +27,13 @@ pub returns-in-Applied-clause-together : goal.returns-in-Applied-clause-together
 returns-in-Applied-clause-together c =
     let settled = one_settled _ _ c.requires.together 1 _ c.in-Ready.ensures.taken c.judge.new.self _ _ _ c.raw.ensures c.in-Applied.ensures.settled in
     taken_together _ _ c.requires.together 1 _ c.in-Ready.ensures.taken _ _ _ c.complete.ensures.taken settled
-    (applied_more _ _ _ _ _ c.in-Applied.ensures.judged) (applied_counted _ _ _ _ _ c.in-Applied.ensures.judged) (ap (λ (s : StopValue). s.next) c.in-Applied.ensures.judged.stop)
+    (applied_more _ _ _ _ _ c.in-Applied.ensures.judged) (same_words c.args.unit.now c.judge.new.self _ _ _ c.raw.ensures (applied_counted _ _ _ _ _ c.in-Applied.ensures.judged)) (ap (λ (s : StopValue). s.next) c.in-Applied.ensures.judged.stop)
 
 pub returns-in-Replaced-clause-together : goal.returns-in-Replaced-clause-together
 returns-in-Replaced-clause-together c =
     let settled = one_settled _ _ c.requires.together 1 _ c.in-Ready.ensures.taken c.judge.new.self _ _ _ c.raw.ensures c.in-Replaced.ensures.settled in
     taken_together _ _ c.requires.together 1 _ c.in-Ready.ensures.taken _ _ _ c.complete-in-Replaced.ensures.taken settled
-    (replaced_more _ _ _ _ c.in-Replaced.ensures.judged) (replaced_counted _ _ _ _ c.in-Replaced.ensures.judged) (ap (λ (u : UnitValue). u.stop.next) c.in-Replaced.ensures.judged.new_is)
+    (replaced_more _ _ _ _ c.in-Replaced.ensures.judged) (same_words c.args.unit.now c.judge.new.self _ _ _ c.raw.ensures (replaced_counted _ _ _ _ c.in-Replaced.ensures.judged)) (ap (λ (u : UnitValue). u.stop.next) c.in-Replaced.ensures.judged.new_is)
 
 pub returns-in-Stopped-clause-together : goal.returns-in-Stopped-clause-together
 returns-in-Stopped-clause-together c =
