@@ -1,7 +1,7 @@
 pub mod Plans
 pub mod Workers
+pub mod FirstEntries
 pub mod EngineTurns
 pub mod Totals
-pub mod FirstEntries
 pub mod Reports
 pub mod ReportText

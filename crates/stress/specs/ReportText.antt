@@ -1,5 +1,5 @@
 -- The lines of a report.
-use Rattle.std.specs.Prelude.{ℕ, ◌-◌, ◌*◌, ◌+◌, suc, Bool, true, false, cond, List, [], ◌∷◌, ◌++◌, codes, decimal}
+use Rattle.std.specs.Prelude.{ℕ, ◌-◌, ◌*◌, suc, Bool, true, false, List, [], ◌∷◌, ◌++◌, codes, decimal}
 use Rattle.stress.specs.declared.fault.StressFault.{StressFault}
 use Rattle.stress.specs.declared.fault.StressFault.TheVariants.{NoMemory, Unfinished}
 use Rattle.stress.specs.Reports.{ReportValue}

@@ -1,5 +1,5 @@
 -- The report of a run, and what is so of each.
-use Rattle.std.specs.Prelude.{◌≡◌, ℕ, ◌≤◌, Bool, true, List, ◌∷◌, length, Some, slice_get}
+use Rattle.std.specs.Prelude.{◌≡◌, ℕ, ◌≤◌, true, List, ◌∷◌, length, Some, slice_get}
 use Rattle.std.specs.FinMap as finite
 use Rattle.ringcore.specs.declared.world.event.Event.TheVariants.{Ask}
 use Rattle.ringcore.specs.world.Trails.{Trail}
@@ -7,10 +7,10 @@ use Rattle.caches.specs.Held.{Entries}
 use Rattle.ring.specs.Rings.{RingValue}
 use Rattle.ring.specs.sender.Senders.{SenderValue}
 use Rattle.ring.specs.Finishing.{SummaryValue}
-use Rattle.engine.specs.Counting.{CountsValue, taken}
+use Rattle.engine.specs.Counting.{CountsValue}
 use Rattle.engine.specs.Engines.{EngineValue}
 use Rattle.engine.specs.Ends.{IsEngineEnd}
-use Rattle.stress.specs.Plans.{PlanValue, IsPlan}
+use Rattle.stress.specs.Plans.{PlanValue}
 use Rattle.stress.specs.Totals.{all_commands, all_syncs}
 
 -- its plan, the ring's summary and the engine's counts at the end, how many entries are held then, and what each
@@ -33,12 +33,13 @@ pub record IsAsPlanned (plan : PlanValue) (r : ReportValue) : Type 0 where
   pub removed : r.counts.removed ≡ plan.senders
   pub entries : r.entries ≡ 0
   pub closed : r.summary.closed ≡ true
+  pub done : length r.done ≡ plan.senders
 
--- The last step of each sender was an ask, which found what is told, and no more than it has batches.
-pub record HaveAsked (plan : PlanValue) (senders : List SenderValue) (done : List ℕ) : Type 0 where
+-- The newest step of each sender is an ask, which found what is told, and that is no more than this.
+pub record HaveAsked (most : ℕ) (senders : List SenderValue) (done : List ℕ) : Type 0 where
   pub each : (k : ℕ) (s : SenderValue) (found : ℕ) → slice_get senders k ≡ Some s → slice_get done k ≡ Some found
-      → (found ≤ plan.batches) × (older : Trail) × (s.trail ≡ Ask found ∷ older)
-  pub many : length done ≡ plan.senders
+      → (found ≤ most) × (older : Trail) × (s.trail ≡ Ask found ∷ older)
+  pub many : length done ≡ length senders
 
 -- There was a ring with an engine, whose end it tells.
 pub record IsOfARun (plan : PlanValue) (r : ReportValue) : Type 0 where
@@ -48,4 +49,4 @@ pub record IsOfARun (plan : PlanValue) (r : ReportValue) : Type 0 where
   pub held : Entries
   pub end : IsEngineEnd ring senders engine r.summary r.counts held
   pub entries_are : r.entries ≡ finite.len held
-  pub asked : HaveAsked plan senders r.done
+  pub asked : HaveAsked plan.batches senders r.done

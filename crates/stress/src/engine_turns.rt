@@ -20,12 +20,7 @@ pub(crate) enum Found {
 }
 
 /// As many turns as this.
-pub(crate) fn run_engine<G: Gate>(
-    ring: &Ring,
-    gate: &G,
-    turns: u32,
-    mut engine: Engine,
-) -> Engine
+pub(crate) fn run_engine<G: Gate>(ring: &Ring, gate: &G, turns: u32, mut engine: Engine) -> Engine
     requires { engine.consumer.ring ≡ ring.now }
     ensures { GoesOn engine result }
 {

@@ -10,6 +10,7 @@ mod gate;
 mod plan;
 mod report;
 mod run;
+mod telling;
 mod worker;
 mod workers;
 

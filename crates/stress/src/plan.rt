@@ -2,6 +2,7 @@
 ghost use Rattle.std.specs.Prelude.{◌≡◌, ◌<◌, ◌≤◌};
 ghost use Rattle.std.specs.Option.{SomeIff};
 ghost use Rattle.cmdcodec.specs.Words.{encoding};
+ghost use Rattle.qindex.specs.Positions.{size};
 ghost use Rattle.stress.specs.Plans.{PlanValue, IsPlan, body, body_length, closes, command, commands_to};
 
 use batch::Batch;
@@ -20,6 +21,7 @@ pub struct Plan {
 }
 
 impl Model for Plan {
+    ghost use Rattle.qindex.specs.Positions.{size};
     ghost use Rattle.stress.specs.Plans.{PlanValue, IsPlan};
 
     ghost Value = { PlanValue };
@@ -42,13 +44,7 @@ impl Plan {
 
     /// The same where of each `every` batches of a sender the last has no CMD_SYNC; 0 to 100,000, and 0 where each has
     /// one.
-    pub fn with_bare(
-        log2: u32,
-        senders: u32,
-        batches: u32,
-        turns: u32,
-        every: u32,
-    ) -> Option<Plan>
+    pub fn with_bare(log2: u32, senders: u32, batches: u32, turns: u32, every: u32) -> Option<Plan>
         ensures { SomeIff result (IsPlan (record { log2 = log2; senders = senders; batches = batches; turns = turns; every = every })) (record { log2 = log2; senders = senders; batches = batches; turns = turns; every = every }) }
     {
         let ring = 1 <= log2 && log2 <= 19 && 1 <= senders && senders <= 64;
@@ -72,6 +68,13 @@ impl Plan {
         ensures plan { IsPlan self }
     {
         self.log2
+    }
+
+    /// How many slots the ring has.
+    pub(crate) fn slots(self) -> u32
+        ensures { result ≡ size self.log2 }
+    {
+        1 << self.log2
     }
 
     /// How many senders there are.

@@ -1,0 +1,13 @@
+pub mod Bodies
+pub mod Turns
+pub mod Own
+pub mod Lines
+pub mod Asked
+pub mod Filled
+pub mod Numbered
+pub mod Weights
+pub mod Totals
+pub mod Emptied
+pub mod Whole
+pub mod Rows
+pub mod Reports

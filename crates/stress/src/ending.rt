@@ -1,0 +1,158 @@
+//! What is left to do once all workers have ended, on one thread.
+ghost use Rattle.std.specs.Prelude.{◌≡◌, ◌+◌, ◌<◌, ◌≤◌, ◌++◌, ◌∷◌, [], OnOk, IfOk, vec_len};
+ghost use Rattle.std.specs.List.{All};
+ghost use Rattle.stress.specs.Plans.{IsPlan};
+ghost use Rattle.stress.specs.EngineTurns.{GoesOn};
+ghost use Rattle.stress.specs.Workers.{IsNew, assignment, assignments, assignment_of, assignments_of, HasSent};
+ghost use Rattle.stress.specs.Reports.{HaveAsked};
+
+use crate::engine_turns::drain;
+use crate::fault::StressFault;
+use crate::plan::Plan;
+use crate::worker::Worker;
+use engine::Engine;
+use ring::{Ring, Sender};
+use std::alloc::{AllocError, Global};
+
+/// How often a batch is tried, each time behind a drain.
+const TRIES: u32 = 8;
+
+/// A worker for each sender, in the order of the senders.
+pub(crate) fn employ(
+    alloc: Global,
+    plan: Plan,
+    mut senders: Vec<Sender>,
+) -> Result<Vec<Worker>, AllocError>
+    requires plan { IsPlan plan }
+    requires new { All (IsNew plan) senders.items }
+    ensures { IfOk result (λ v. assignments v.items ≡ assignments_of plan senders.items) }
+{
+    let Some(sender) = senders.pop() else {
+        return Ok(Vec::new(alloc));
+    };
+    let mut workers = employ(alloc, plan, senders)?;
+    workers.push(Worker {
+        plan,
+        sender,
+        sent: 0,
+    })?;
+    Ok(workers)
+}
+
+/// Tries to send a worker's next batch, each time behind a drain.
+///
+/// Errors: S2 where all tries were refused, or a drain didn't come to its end.
+fn send_next(ring: &Ring, worker: Worker, engine: &mut Engine) -> Result<Worker, StressFault>
+    requires ring { worker.sender.ring ≡ ring.now }
+    requires engine { engine.old.consumer.ring ≡ ring.now }
+    requires left { worker.sent < worker.plan.batches }
+    ensures assignment { IfOk result (λ next. assignment next ≡ assignment worker) }
+    ensures sent { IfOk result (λ next. next.sent ≡ worker.sent + 1) }
+    ensures engine { OnOk result (GoesOn engine.old engine.new) }
+{
+    let mut worker = worker;
+    let slots = worker.plan.slots();
+    for _ in 0..TRIES {
+        drain(ring, slots, engine)?;
+        let (next, attempt) = worker.try_next(ring);
+        worker = next;
+        if attempt.is_sent() {
+            return Ok(worker);
+        }
+    }
+    Err(StressFault::Unfinished)
+}
+
+/// Sends what is left of a worker's plan, and gives its sender back.
+fn send_left(
+    plan: Plan,
+    ring: &Ring,
+    worker: Worker,
+    engine: &mut Engine,
+) -> Result<Sender, StressFault>
+    requires plan { worker.plan ≡ plan }
+    requires ring { worker.sender.ring ≡ ring.now }
+    requires engine { engine.old.consumer.ring ≡ ring.now }
+    ensures assignment { IfOk result (λ sender. assignment_of plan sender ≡ assignment worker) }
+    ensures sent { IfOk result (λ sender. HasSent plan sender) }
+    ensures engine { OnOk result (GoesOn engine.old engine.new) }
+{
+    let mut worker = worker;
+    for _ in 0..worker.left() {
+        worker = send_next(ring, worker, engine)?;
+    }
+    Ok(worker.into_sender())
+}
+
+/// Sends what is left of all plans, in the order of the senders.
+pub(crate) fn send_all(
+    alloc: Global,
+    plan: Plan,
+    ring: &Ring,
+    mut workers: Vec<Worker>,
+    engine: &mut Engine,
+) -> Result<Vec<Sender>, StressFault>
+    requires workers { All (λ w. (w.plan ≡ plan) × (w.sender.ring ≡ ring.now)) workers.items }
+    requires engine { engine.old.consumer.ring ≡ ring.now }
+    ensures sent { IfOk result (λ v. All (HasSent plan) v.items) }
+    ensures senders { IfOk result (λ v. assignments_of plan v.items ≡ assignments workers.items) }
+    ensures engine { OnOk result (GoesOn engine.old engine.new) }
+{
+    let Some(worker) = workers.pop() else {
+        return Ok(Vec::new(alloc));
+    };
+    let senders = send_all(alloc, plan, ring, workers, engine)?;
+    let sender = send_left(plan, ring, worker, engine)?;
+    with(plan, senders, sender)
+}
+
+/// One more that has sent its plan.
+fn with(plan: Plan, mut senders: Vec<Sender>, sender: Sender) -> Result<Vec<Sender>, StressFault>
+    requires all { All (HasSent plan) senders.items }
+    requires one { HasSent plan sender }
+    ensures items { IfOk result (λ v. v.items ≡ senders.items ++ sender ∷ []) }
+    ensures all { IfOk result (λ v. All (HasSent plan) v.items) }
+{
+    if senders.push(sender).is_err() {
+        return Err(StressFault::NoMemory);
+    }
+    Ok(senders)
+}
+
+/// The first sender closes the ring.
+pub(crate) fn close_first(plan: Plan, ring: &Ring, mut senders: Vec<Sender>) -> Vec<Sender>
+    requires ring { All (λ s. s.ring ≡ ring.now) senders.items }
+    requires sent { All (HasSent plan) senders.items }
+    ensures assignments { assignments_of plan result.items ≡ assignments_of plan senders.items }
+    ensures sent { All (HasSent plan) result.items }
+{
+    if !senders.is_empty() {
+        senders[0].close(ring);
+    }
+    senders
+}
+
+/// What each sender's completion cell says, in the order of the senders.
+pub(crate) fn ask_all(
+    alloc: Global,
+    plan: Plan,
+    ring: &Ring,
+    mut senders: Vec<Sender>,
+) -> Result<(Vec<Sender>, Vec<u32>), StressFault>
+    requires ring { All (λ s. s.ring ≡ ring.now) senders.items }
+    requires sent { All (HasSent plan) senders.items }
+    ensures assignments { IfOk result (λ r. assignments_of plan r.0.items ≡ assignments_of plan senders.items) }
+    ensures sent { IfOk result (λ r. All (HasSent plan) r.0.items) }
+    ensures asked { IfOk result (λ r. HaveAsked ring.now.made_with.max_batches r.0.items r.1.items) }
+{
+    let Some(mut sender) = senders.pop() else {
+        return Ok((senders, Vec::new(alloc)));
+    };
+    let (senders, mut done) = ask_all(alloc, plan, ring, senders)?;
+    let found = sender.done_up_to(ring);
+    if done.push(found).is_err() {
+        return Err(StressFault::NoMemory);
+    }
+    let senders = with(plan, senders, sender)?;
+    Ok((senders, done))
+}
