@@ -1,0 +1,120 @@
+//! Whole runs, and the lines of their reports.
+use stress::{NoGate, Plan, run_all};
+
+#[test]
+fn four_senders(rt: HostRuntime) {
+    let plan = Plan::new(4, 4, 1000, 100_000).expect(&rt, "a plan");
+    let report = run_all(&rt, &plan, &NoGate).expect(&rt, "a report");
+    let text = report.text(rt.alloc()).expect(&rt, "there is memory");
+    let wanted = "senders 4\n\
+                  batches 4000\n\
+                  commands 14000\n\
+                  syncs 4000\n\
+                  applied 14000\n\
+                  replaced 0\n\
+                  removed 4\n\
+                  entries 0\n\
+                  left 0\n\
+                  closed yes\n\
+                  sender 0 batches 1000 done 1000\n\
+                  sender 1 batches 1000 done 1000\n\
+                  sender 2 batches 1000 done 1000\n\
+                  sender 3 batches 1000 done 1000\n";
+    assert_eq!(rt; text.as_str(), wanted);
+}
+
+#[test]
+fn every_third_batch_is_bare(rt: HostRuntime) {
+    let plan = Plan::with_bare(4, 4, 1000, 100_000, 3).expect(&rt, "a plan");
+    let report = run_all(&rt, &plan, &NoGate).expect(&rt, "a report");
+    let text = report.text(rt.alloc()).expect(&rt, "there is memory");
+    let wanted = "senders 4\n\
+                  batches 4000\n\
+                  commands 12668\n\
+                  syncs 2668\n\
+                  applied 12668\n\
+                  replaced 0\n\
+                  removed 4\n\
+                  entries 0\n\
+                  left 0\n\
+                  closed yes\n\
+                  sender 0 batches 1000 done 667\n\
+                  sender 1 batches 1000 done 667\n\
+                  sender 2 batches 1000 done 667\n\
+                  sender 3 batches 1000 done 667\n";
+    assert_eq!(rt; text.as_str(), wanted);
+}
+
+#[test]
+fn the_smallest_run(rt: HostRuntime) {
+    let plan = Plan::new(1, 1, 1, 1).expect(&rt, "a plan");
+    let report = run_all(&rt, &plan, &NoGate).expect(&rt, "a report");
+    let (summary, counts) = (report.summary(), report.counts());
+    assert_eq!(rt;
+        (summary.reserved(), summary.taken(), summary.closed()),
+        (2, 2, true)
+    );
+    assert_eq!(rt;
+        (
+            counts.syncs(),
+            counts.applied(),
+            counts.replaced(),
+            counts.removed()
+        ),
+        (1, 2, 0, 1)
+    );
+    assert_eq!(rt;
+        (report.plan(), report.entries(), report.done()),
+        (plan, 0, &[1u32][..])
+    );
+}
+
+#[test]
+fn all_batches_are_bare(rt: HostRuntime) {
+    let plan = Plan::with_bare(1, 3, 5, 7, 1).expect(&rt, "a plan");
+    let report = run_all(&rt, &plan, &NoGate).expect(&rt, "a report");
+    assert_eq!(rt;
+        (
+            report.summary().taken(),
+            report.counts().syncs(),
+            report.counts().removed()
+        ),
+        (15, 0, 3)
+    );
+    assert_eq!(rt; report.done(), &[0u32, 0, 0][..]);
+}
+
+#[test]
+fn a_distance_of_bare_batches_that_is_never_reached(rt: HostRuntime) {
+    let plan = Plan::with_bare(4, 2, 10, 100_000, 11).expect(&rt, "a plan");
+    let report = run_all(&rt, &plan, &NoGate).expect(&rt, "a report");
+    assert_eq!(rt;
+        (report.summary().taken(), report.counts().syncs()),
+        (72, 20)
+    );
+}
+
+/// Each worker has one turn, so all but some batches are sent in the last part.
+#[test]
+fn many_senders_and_a_turn_each(rt: HostRuntime) {
+    let plan = Plan::new(1, 64, 3, 1).expect(&rt, "a plan");
+    let report = run_all(&rt, &plan, &NoGate).expect(&rt, "a report");
+    assert_eq!(rt;
+        (report.summary().taken(), report.counts().removed()),
+        (384, 64)
+    );
+}
+
+/// 8 x 20,000 batches of 1 + ((s + k) mod 4) commands and a CMD_SYNC: 400,000 commands and 160,000 CMD_SYNCs.
+#[test]
+fn eight_senders_and_many_batches(rt: HostRuntime) {
+    let plan = Plan::new(10, 8, 20_000, 10_000_000).expect(&rt, "a plan");
+    let report = run_all(&rt, &plan, &NoGate).expect(&rt, "a report");
+    let (summary, counts) = (report.summary(), report.counts());
+    assert_eq!(rt; (summary.reserved(), summary.taken()), (560_000, 560_000));
+    assert_eq!(rt;
+        (counts.syncs(), counts.applied(), counts.removed()),
+        (160_000, 560_000, 8)
+    );
+    assert_eq!(rt; report.done(), &[20_000u32; 8][..]);
+}
