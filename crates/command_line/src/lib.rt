@@ -2,7 +2,9 @@
 #![tactic(auto)]
 
 mod misunderstood;
+mod stress_numbers;
 mod subcommand;
 
 pub use misunderstood::Misunderstood;
+pub use stress_numbers::StressNumbers;
 pub use subcommand::{Subcommand, understand};

@@ -1,5 +1,6 @@
 //! What the words of a command line ask for.
 use crate::misunderstood::Misunderstood;
+use crate::stress_numbers::{STRESS, StressNumbers, numbers_in, stress};
 use clap::{Arg, ArgMatches, Command, Error};
 use std::alloc::{AllocError, Global};
 
@@ -56,6 +57,8 @@ pub enum Subcommand<'a> {
     Schedule,
     /// That it is said what a word means as a command.
     Decode(&'a str),
+    /// That many senders and an engine run at the same time.
+    Stress(StressNumbers),
 }
 
 /// The word that is decoded.
@@ -89,12 +92,16 @@ fn command_line<'a>(alloc: Global) -> Result<Command<'a>, AllocError> {
         .subcommand_required(true)
         .subcommand(replay)?
         .subcommand(schedule)?
-        .subcommand(decode(alloc)?)
+        .subcommand(decode(alloc)?)?
+        .subcommand(stress(alloc)?)
 }
 
 fn subcommand_in<'a>(matches: &ArgMatches<'a>) -> Subcommand<'a> {
     if matches.subcommand_matches(SCHEDULE).is_some() {
         return Subcommand::Schedule;
+    }
+    if let Some(stress) = matches.subcommand_matches(STRESS) {
+        return Subcommand::Stress(numbers_in(stress));
     }
     let decode = matches.subcommand_matches(DECODE);
     // A `decode` without its word isn't understood, so of these two only `replay` has none.

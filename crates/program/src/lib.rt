@@ -3,6 +3,7 @@
 
 mod running;
 mod serving;
+mod stressing;
 
 pub use running::{program, tell_of_memory};
 pub use script::Status;

@@ -7,16 +7,25 @@ ghost use Rattle.replay.specs.Replaying.{ExitsAsReplay};
 ghost use Rattle.program.specs.Program.{Decodes, ExitsAsDecode, ExitsAsTold, ExitsAsProgram};
 
 use crate::serving::{decode_text, replay, schedule};
+use crate::stressing::stress_to_exit;
 use command_line::{Misunderstood, Subcommand, understand};
 use script::Status;
 use std::alloc::{AllocError, Global};
 use std::io;
 use std::io::{Read, Write};
+use std::thread::Threads;
 
 /// The exit status of a command line that isn't understood.
-const NOT_UNDERSTOOD: u8 = 2;
+pub(crate) const NOT_UNDERSTOOD: u8 = 2;
 
-fn print_line<W: Write>(line: &str, output: &mut W) -> io::Result<()>
+pub(crate) fn print<W: Write>(text: &str, output: &mut W) -> io::Result<()>
+    ensures { OnOk result (Appends (W.contents output.old) (W.contents output.new) text.now) }
+{
+    write!(output, "{text}")?;
+    output.flush()
+}
+
+pub(crate) fn print_line<W: Write>(line: &str, output: &mut W) -> io::Result<()>
     ensures { OnOk result (Appends (W.contents output.old) (W.contents output.new) (line.now ++ codes "\n")) }
 {
     writeln!(output, "{line}")?;
@@ -89,21 +98,22 @@ fn schedule_to_exit<I: Read, O: Write>(alloc: Global, input: &mut I, output: &mu
 ///
 /// The command line is judged before any input is read. Answers go to `output`, and what is wrong with
 /// the command line goes to `faults`.
-pub fn program<'a, A: AllocGlobal, I: Read, O: Write, F: Write>(
+pub fn program<'a, A: Threads + AllocGlobal + Sync, I: Read, O: Write, F: Write>(
     rt: &A,
     words: &'a [&'a str],
     input: &mut I,
     output: &mut O,
     faults: &mut F,
 ) -> u8
-    // Either a script was replayed, or played as a schedule; or no input was read, and a word was decoded, or
-    // help or a fault told.
+    // Either a script was replayed, or played as a schedule; or no input was read, and a word was decoded, a stress
+    // run was made, or help or a fault told.
     ensures { ExitsAsProgram result (I.remaining input.old) (I.remaining input.new) (O.contents output.old) (O.contents output.new) }
 {
     match understand(rt.alloc(), words) {
         Ok(Subcommand::Replay) => replay_to_exit(rt.alloc(), input, output),
         Ok(Subcommand::Schedule) => schedule_to_exit(rt.alloc(), input, output),
         Ok(Subcommand::Decode(word)) => decode_to_exit(rt.alloc(), word, output),
+        Ok(Subcommand::Stress(numbers)) => stress_to_exit(rt, numbers, output, faults),
         Err(error) => tell(&error, output, faults),
     }
 }

@@ -1,0 +1,93 @@
+//! The numbers of a stress run.
+use clap::builder::ValueParser;
+use clap::{Arg, ArgMatches, Command, value_parser};
+use std::alloc::{AllocError, Global};
+
+/// The subcommand that runs many senders and an engine at the same time.
+pub(crate) const STRESS: &str = "stress";
+
+const LOG2: &str = "log2";
+
+const SENDERS: &str = "senders";
+
+const BATCHES: &str = "batches";
+
+const TURNS: &str = "turns";
+
+const BARE: &str = "bare";
+
+const STRESS_HELP: &str = "\
+Reads no input. Runs each sender and the engine on a thread of its own, all at
+the same time on one ring, then sends and takes what is left, and writes totals
+to standard output, which are the same for every schedule.
+
+Example:
+    smmuq stress --log2 4 --senders 4 --batches 1000 --turns 100000
+
+docs/FORMATS.md describes the batches and the lines, under 'What smmuq stress
+says'.";
+
+/// The numbers of a stress run, as they stand on the command line.
+#[derive(Clone, Copy, Debug, PartialEq, Eq)]
+pub struct StressNumbers {
+    /// The binary logarithm of the ring's slots.
+    pub log2: u32,
+    /// How many senders there are.
+    pub senders: u32,
+    /// How many batches each sends.
+    pub batches: u32,
+    /// How many turns each thread has.
+    pub turns: u32,
+    /// Of so many batches of a sender the last has no CMD_SYNC; 0 where each has one.
+    pub bare: u32,
+}
+
+/// A number of this name that is wanted.
+fn number<'a>(
+    alloc: Global,
+    name: &'a str,
+    value: &'a str,
+    range: ValueParser<'a>,
+    help: &'a str,
+) -> Arg<'a> {
+    Arg::new(alloc, name)
+        .long(name)
+        .value_name(value)
+        .value_parser(range)
+        .help(help)
+}
+
+/// The subcommand, with its numbers in their ranges.
+pub(crate) fn stress<'a>(alloc: Global) -> Result<Command<'a>, AllocError> {
+    let log2 = value_parser!(u32).range(1..=19);
+    let log2 = number(alloc, LOG2, "L", log2, "The ring has 2^L slots, 1 to 19");
+    let senders = value_parser!(u32).range(1..=64);
+    let senders = number(alloc, SENDERS, "S", senders, "How many senders, 1 to 64");
+    let batches = value_parser!(u32).range(1..=100_000);
+    let batches = number(alloc, BATCHES, "B", batches, "How many batches each, 1 to 100000");
+    let turns = value_parser!(u32).range(1..=10_000_000);
+    let turns = number(alloc, TURNS, "T", turns, "How many turns each, 1 to 10000000");
+    let bare = value_parser!(u32).range(0..=100_000);
+    let bare = number(alloc, BARE, "E", bare, "Each E-th batch has no CMD_SYNC; 0 for none");
+    Command::new(alloc, STRESS)
+        .about("Runs many senders and an engine at the same time")
+        .override_usage("smmuq stress --log2 <L> --senders <S> --batches <B> --turns <T> [--bare <E>]")
+        .after_help(STRESS_HELP)
+        .arg(log2.required(true))?
+        .arg(senders.required(true))?
+        .arg(batches.required(true))?
+        .arg(turns.required(true))?
+        .arg(bare.default_value("0"))
+}
+
+/// The numbers that the words gave. Each is wanted or has a default, so none is wanting.
+pub(crate) fn numbers_in(matches: &ArgMatches<'_>) -> StressNumbers {
+    let number = |name| matches.get_one::<u32>(name).unwrap_or(0);
+    StressNumbers {
+        log2: number(LOG2),
+        senders: number(SENDERS),
+        batches: number(BATCHES),
+        turns: number(TURNS),
+        bare: number(BARE),
+    }
+}
