@@ -1,11 +1,12 @@
 -- The order of keys: which are equal, and which stand in a range.
-use Rattle.std.proofs.Common.{◌≡◌, ℕ, ◌+◌, ◌<◌, ◌≤◌, Bool, true, false, not, ◌&&◌, Option, Some, None, refl, sym, ◌∙◌, ap, subst, arith}
+use Rattle.std.proofs.Common.{◌≡◌, ℕ, ◌+◌, ◌<◌, ◌≤◌, Bool, true, false, not, ◌&&◌, inl, inr, Option, Some, None, refl, sym, ◌∙◌, ap, subst, arith}
 use Rattle.std.specs.declared.cmp.Ordering.{Ordering}
 use Rattle.std.specs.declared.cmp.Ordering.TheVariants.{Less, Equal, Greater}
 use Rattle.std.specs.declared.ops.Bound.TheVariants.{Included, Excluded}
 use Rattle.std.specs.Ordering.{nat_cmp, ordering_then, is_le}
 use Rattle.std.specs.Cmp.{IsTotalOrder, ranked}
 use Rattle.std.specs.BTreeMap.Range.{range_contains}
+use Rattle.std.proofs.lemmas.Bool.{cases_lt}
 use Rattle.std.proofs.lemmas.Map.Lookups.{exact_unsigned}
 use Rattle.cmdcodec.specs.declared.reach.PageRun.{PageRun}
 use Rattle.caches.specs.declared.key.Stage.{Stage}
@@ -152,20 +153,21 @@ in_pages w first end (Endpoint v p n c) o a b =
     subst (λ w. range_contains key_cmp (Included (least w first 0)) (Excluded (least w end 0)) (Endpoint v p n c) ≡ true) e
     (between _ _ (le_then v v _ (omega arith) (le_then first p _ a (le_then 0 n _ (omega arith) (low c)))) (same_then v v _ refl (more_then end p _ b)))
 
-pub in_span : (w : Owner) (page span : ℕ) (k : Key) → owner_of k ≡ Some w → page_of k ≡ page → span_of k ≡ span → range_contains key_cmp (Included (least w page span)) (Excluded (least w page (span + 1))) k ≡ true
-in_span w page span (Configuration s c) o a b = cc
-in_span w page span (Machine v p n c) o a b =
+-- blocks that begin at a page, of a span or longer
+pub in_start : (w : Owner) (page span : ℕ) (k : Key) → owner_of k ≡ Some w → page_of k ≡ page → span ≤ span_of k → range_contains key_cmp (Included (least w page span)) (Excluded (least w (page + 1) 0)) k ≡ true
+in_start w page span (Configuration s c) o a b = cc
+in_start w page span (Machine v p n c) o a b =
     let e : Guest v ≡ w = cc in
-    subst (λ w. range_contains key_cmp (Included (least w page span)) (Excluded (least w page (span + 1))) (Machine v p n c) ≡ true) e
-    (between _ _ (le_then v v _ (omega arith) (le_then page p _ (omega arith) (le_then span n _ (omega arith) (low_stage c)))) (same_then v v _ refl (same_then page p _ (sym a) (more_then (span + 1) n _ (omega arith)))))
-in_span w page span (Hypervisor p n c) o a b =
+    subst (λ w. range_contains key_cmp (Included (least w page span)) (Excluded (least w (page + 1) 0)) (Machine v p n c) ≡ true) e
+    (between _ _ (le_then v v _ (omega arith) (le_then page p _ (omega arith) (le_then span n _ b (low_stage c)))) (same_then v v _ refl (more_then (page + 1) p _ (omega arith))))
+in_start w page span (Hypervisor p n c) o a b =
     let e : Host ≡ w = cc in
-    subst (λ w. range_contains key_cmp (Included (least w page span)) (Excluded (least w page (span + 1))) (Hypervisor p n c) ≡ true) e
-    (between _ _ (le_then page p _ (omega arith) (le_then span n _ (omega arith) (low c))) (same_then page p _ (sym a) (more_then (span + 1) n _ (omega arith))))
-in_span w page span (Endpoint v p n c) o a b =
+    subst (λ w. range_contains key_cmp (Included (least w page span)) (Excluded (least w (page + 1) 0)) (Hypervisor p n c) ≡ true) e
+    (between _ _ (le_then page p _ (omega arith) (le_then span n _ b (low c))) (more_then (page + 1) p _ (omega arith)))
+in_start w page span (Endpoint v p n c) o a b =
     let e : Device v ≡ w = cc in
-    subst (λ w. range_contains key_cmp (Included (least w page span)) (Excluded (least w page (span + 1))) (Endpoint v p n c) ≡ true) e
-    (between _ _ (le_then v v _ (omega arith) (le_then page p _ (omega arith) (le_then span n _ (omega arith) (low c)))) (same_then v v _ refl (same_then page p _ (sym a) (more_then (span + 1) n _ (omega arith)))))
+    subst (λ w. range_contains key_cmp (Included (least w page span)) (Excluded (least w (page + 1) 0)) (Endpoint v p n c) ≡ true) e
+    (between _ _ (le_then v v _ (omega arith) (le_then page p _ (omega arith) (le_then span n _ b (low c)))) (same_then v v _ refl (more_then (page + 1) p _ (omega arith))))
 
 pub in_streams : (run : PageRun) (k : Key) → IsOfStreams run k → range_contains key_cmp (Included (Configuration run.first None)) (Excluded (Configuration run.end None)) k ≡ true
 in_streams run (Configuration s c) h = between _ _ (le_then run.first s _ h.0 (low c)) (more_then run.end s _ h.1)
@@ -178,3 +180,61 @@ in_top_streams run (Configuration s c) h = between _ _ (le_then run.first s _ h.
 in_top_streams run (Machine u p n c) h = absurd h
 in_top_streams run (Hypervisor p n c) h = absurd h
 in_top_streams run (Endpoint u p n c) h = absurd h
+
+-- ---- keys from an owner's own key on and below a page of that owner
+le_pages : (p r page : ℕ) (o s : Ordering) → is_le s ≡ true → is_le (ordering_then (nat_cmp p r) o) ≡ true → is_le (ordering_then (nat_cmp page r) s) ≡ false → (p ≤ r) × (r < page)
+le_pages p r page o s l a b = (at_most, below)
+  where
+    at_most : p ≤ r
+    at_most = elim (cases_lt r p) as (λ _. p ≤ r) [
+      | inl h ↦ let f : false ≡ true = sym (more_then p r o h) ∙ a in cc
+      | inr h ↦ h
+    ]
+
+    below : r < page
+    below = elim (cases_lt r page) as (λ _. r < page) [
+      | inl h ↦ h
+      | inr h ↦ let f : true ≡ false = sym (le_then page r s h l) ∙ b in cc
+    ]
+
+le_owners : (v u p r page : ℕ) (o s : Ordering) → is_le s ≡ true → is_le (ordering_then (nat_cmp v u) (ordering_then (nat_cmp p r) o)) ≡ true → is_le (ordering_then (nat_cmp v u) (ordering_then (nat_cmp page r) s)) ≡ false
+    → (u ≡ v) × (p ≤ r) × (r < page)
+le_owners v u p r page o s l =
+    elim (nat_cmp v u) as (λ t. nat_cmp v u ≡ t → is_le (ordering_then t (ordering_then (nat_cmp p r) o)) ≡ true → is_le (ordering_then t (ordering_then (nat_cmp page r) s)) ≡ false → (u ≡ v) × (p ≤ r) × (r < page)) [
+      | Less ↦ λ e a b. cc
+      | Equal ↦ λ e a b. let h = le_pages p r page o s l a b in (sym (exact_unsigned v u e), h.0, h.1)
+      | Greater ↦ λ e a b. cc
+    ] refl
+
+-- k is of the same owner, and its page stands between q's and that one
+abbrev pub StandsBefore : Owner → ℕ → Key → Key → Type 0
+StandsBefore w page q k = is_le (key_cmp q k) ≡ true → is_le (key_cmp (least w page 0) k) ≡ false → (owner_of k ≡ Some w) × (page_of q ≤ page_of k) × (page_of k < page)
+
+guest_before : (v p n : ℕ) (c : Stage) (page : ℕ) (k : Key) → StandsBefore (Guest v) page (Machine v p n c) k
+guest_before v p n c page (Configuration s d) a b = let f : false ≡ true = a in cc
+guest_before v p n c page (Machine u r m d) a b = let h = le_owners v u p r page _ _ (le_then 0 m _ (omega arith) (low_stage d)) a b in (ap (λ x. Some (Guest x)) h.0, h.1, h.2)
+guest_before v p n c page (Hypervisor r m d) a b = let f : true ≡ false = b in cc
+guest_before v p n c page (Endpoint u r m d) a b = let f : true ≡ false = b in cc
+
+host_before : (p n : ℕ) (c : Option ℕ) (page : ℕ) (k : Key) → StandsBefore Host page (Hypervisor p n c) k
+host_before p n c page (Configuration s d) a b = let f : false ≡ true = a in cc
+host_before p n c page (Machine u r m d) a b = let f : false ≡ true = a in cc
+host_before p n c page (Hypervisor r m d) a b = let h = le_pages p r page _ _ (le_then 0 m _ (omega arith) (low d)) a b in (refl, h.0, h.1)
+host_before p n c page (Endpoint u r m d) a b = let f : true ≡ false = b in cc
+
+device_before : (v p n : ℕ) (c : Option ℕ) (page : ℕ) (k : Key) → StandsBefore (Device v) page (Endpoint v p n c) k
+device_before v p n c page (Configuration s d) a b = let f : false ≡ true = a in cc
+device_before v p n c page (Machine u r m d) a b = let f : false ≡ true = a in cc
+device_before v p n c page (Hypervisor r m d) a b = let f : false ≡ true = a in cc
+device_before v p n c page (Endpoint u r m d) a b = let h = le_owners v u p r page _ _ (le_then 0 m _ (omega arith) (low d)) a b in (ap (λ x. Some (Device x)) h.0, h.1, h.2)
+
+pub stands_before : (w : Owner) (page : ℕ) (q k : Key) → owner_of q ≡ Some w → StandsBefore w page q k
+stands_before w page (Configuration s c) k o = cc
+stands_before w page (Machine v p n c) k o = let e : Guest v ≡ w = cc in subst (λ w. StandsBefore w page (Machine v p n c) k) e (guest_before v p n c page k)
+stands_before w page (Hypervisor p n c) k o = let e : Host ≡ w = cc in subst (λ w. StandsBefore w page (Hypervisor p n c) k) e (host_before p n c page k)
+stands_before w page (Endpoint v p n c) k o = let e : Device v ≡ w = cc in subst (λ w. StandsBefore w page (Endpoint v p n c) k) e (device_before v p n c page k)
+
+pub owner_of-least : (w : Owner) (page span : ℕ) → owner_of (least w page span) ≡ Some w
+owner_of-least (Guest v) page span = refl
+owner_of-least Host page span = refl
+owner_of-least (Device s) page span = refl

@@ -1,3 +1,4 @@
+pub mod Ahead
 pub mod Aligned
 pub mod FirstInRange
 pub mod InOrder

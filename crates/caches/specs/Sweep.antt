@@ -1,5 +1,5 @@
--- The next entry of a map, and the words of a removal by ranges.
-use Rattle.std.specs.Prelude.{◌≡◌, ◌⊎◌, cond, Bool, true, not, ◌&&◌, IsSome, Option, Some, None}
+-- The next entry of a map, the last ahead of a page, and the words of a removal by ranges.
+use Rattle.std.specs.Prelude.{◌≡◌, ◌⊎◌, ℕ, ◌<◌, ◌≤◌, cond, Bool, true, not, ◌&&◌, IsSome, Option, Some, None}
 use Rattle.std.specs.declared.cmp.Ordering.{Ordering}
 use Rattle.std.specs.declared.ops.Bound.{Bound}
 use Rattle.std.specs.Option.{MatchOption}
@@ -8,7 +8,8 @@ use Rattle.std.specs.BTreeMap as tree
 use Rattle.std.specs.BTreeMap.Range.{IsLeBy, range_contains, is_from_start}
 use Rattle.caches.specs.declared.tag.Entry.{Entry}
 use Rattle.caches.specs.declared.key.Key.{Key}
-use Rattle.caches.specs.Keys.{tag_of, IsKept}
+use Rattle.caches.specs.declared.key.Owner.{Owner}
+use Rattle.caches.specs.Keys.{tag_of, owner_of, page_of, IsKept}
 
 -- each entry of the map stands under the key of its tag, whose block is well formed
 abbrev pub IsKeeping : (Key → Key → Ordering) → BTreeMap Key Entry → Type 0
@@ -20,6 +21,13 @@ IsNext {K} cmp m from end found = MatchOption found
     ((q : K) → range_contains cmp from end q ≡ true → tree.get cmp m q ≡ None)
     (λ e. (range_contains cmp from end e.0 ≡ true) × (tree.get cmp m e.0 ≡ Some e.1)
     × ((q : K) → range_contains cmp from end q ≡ true → IsSome (tree.get cmp m q) → IsLeBy cmp e.0 q))
+
+-- the greatest page below this one at which a block of this owner begins that the map has, or none
+abbrev pub IsLastPage : (Key → Key → Ordering) → BTreeMap Key Entry → Owner → ℕ → Option ℕ → Type 0
+IsLastPage cmp m owner page found = MatchOption found
+    ((q : Key) → owner_of q ≡ Some owner → page_of q < page → tree.get cmp m q ≡ None)
+    (λ last. (last < page) × ((k : Key) × (owner_of k ≡ Some owner) × (page_of k ≡ last) × IsSome (tree.get cmp m k))
+    × ((q : Key) → owner_of q ≡ Some owner → page_of q < page → IsSome (tree.get cmp m q) → page_of q ≤ last))
 
 module _ {K : Type 0} (cmp : K → K → Ordering) where
   -- what a sweep from first to end removes

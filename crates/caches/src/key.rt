@@ -108,6 +108,17 @@ impl Key {
             },
         }
     }
+
+    /// The page at which its block begins; 0 where it has none.
+    pub(crate) fn page(&self) -> u64
+        ensures { result ≡ page_of self.now }
+    {
+        match *self {
+            Key::Configuration { .. } => 0,
+            Key::Machine { page, .. } | Key::Hypervisor { page, .. } | Key::Endpoint { page, .. } =>
+                page,
+        }
+    }
 }
 
 impl Owner {

@@ -6,7 +6,7 @@ ghost use Rattle.caches.specs.declared.key.Key.{Key};
 ghost use Rattle.caches.specs.Blocks.{block};
 ghost use Rattle.caches.specs.Covers.{meets_run};
 ghost use Rattle.caches.specs.Keys.{covers_key, owner_of, page_of, span_of, IsOfStreams, IsOfMachines};
-ghost use Rattle.caches.specs.Sweep.{IsKeeping, IsPruned, IsWithout};
+ghost use Rattle.caches.specs.Sweep.{IsKeeping, IsLastPage, IsPruned, IsWithout};
 
 use crate::covering::aligned;
 use crate::key::{Key, Owner};
@@ -71,25 +71,45 @@ fn block_start(page: u64, span: u8) -> u64
     page - page % (1 << span)
 }
 
+/// The greatest page before this one at which an entry of this owner begins.
+fn last_page_before(map: &BTreeMap<Key, Entry>, owner: Owner, page: u64) -> Option<u64>
+    ensures { IsLastPage ⟦<Key as Ord>⟧.cmp map.now owner page result }
+{
+    let first = Bound::Included(owner.least(0, 0));
+    let end = Bound::Excluded(owner.least(page, 0));
+    match map.range((first, end)).next_back() {
+        Some((key, _)) => Some(key.page()),
+        None => None,
+    }
+}
+
 /// Removes what is covered and begins before a page, for a command that covers blocks of this owner alone
 /// that end behind that page.
 ///
 /// A block begins at a multiple of its length, so one that begins before the page and holds it begins at
-/// the page rounded down to one of 53 powers of two.
+/// the page rounded down to one of 53 powers of two. These starts fall as the powers rise, and one is passed
+/// over where the owner's next entry lies further down.
 fn sweep_before(map: &mut BTreeMap<Key, Entry>, owner: Owner, page: u64, command: &Command)
     requires keeping { IsKeeping ⟦<Key as Ord>⟧.cmp map.old }
     requires reach { (q : Key) → covers_key command.now q ≡ true → (owner_of q ≡ Some owner) × (page < page_of q + 2 ^ span_of q) }
     ensures pruned { IsPruned ⟦<Key as Ord>⟧.cmp (covers_key command.now) map.old map.new }
     ensures clean { (q : Key) → covers_key command.now q ≡ true → page_of q < page → tree.get ⟦<Key as Ord>⟧.cmp map.new q ≡ None }
 {
+    let mut before = last_page_before(map, owner, page);
     for span in 0..53u8 {
+        let Some(last) = before else {
+            return;
+        };
         let start = block_start(page, span);
-        remove_covered(
-            map,
-            Bound::Included(owner.least(start, span)),
-            Bound::Excluded(owner.least(start, span + 1)),
-            command,
-        );
+        if start <= last {
+            remove_covered(
+                map,
+                Bound::Included(owner.least(start, span)),
+                Bound::Excluded(owner.least(start + 1, 0)),
+                command,
+            );
+            before = last_page_before(map, owner, start);
+        }
     }
 }
 

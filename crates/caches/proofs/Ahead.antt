@@ -1,0 +1,70 @@
+-- What is covered and begins ahead of a page, as the spans rise.
+use Rattle.std.proofs.Common.{◌≡◌, ℕ, ◌+◌, ◌-◌, ◌%◌, ◌^◌, ◌<◌, ◌≤◌, Bool, true, cond, inl, inr, Option, Some, None, sym, ◌∙◌, arith}
+use Rattle.std.specs.Option.{MatchOption}
+use Rattle.std.specs.declared.ops.Bound.TheVariants.{Included, Excluded}
+use Rattle.std.specs.BTreeMap.{BTreeMap, get}
+use Rattle.std.proofs.lemmas.Bool.{cases_lt}
+use Rattle.caches.specs.declared.tag.Entry.{Entry}
+use Rattle.caches.specs.declared.key.Key.{Key}
+use Rattle.caches.specs.declared.key.Owner.{Owner}
+use Rattle.caches.specs.Keys.{owner_of, page_of, span_of, least}
+use Rattle.caches.specs.Sweep.{IsKeeping, IsLastPage, is_swept}
+use Rattle.caches.proofs.Aligned.{aligned_start, start_falls}
+use Rattle.caches.proofs.FirstInRange.{is_some_at}
+use Rattle.caches.proofs.KeyOrder.{key_cmp, in_start}
+use Rattle.caches.proofs.Pruned.{aligned_key, none_comes, none_unless, some_was}
+
+module _ (p : Key → Bool) (w : Owner) (page : ℕ) where
+  -- nothing is left of a span below this one
+  abbrev pub AreGone : BTreeMap Key Entry → ℕ → Type 0
+  AreGone m span = (q : Key) → span_of q < span → p q ≡ true → page_of q < page → get key_cmp m q ≡ None
+
+  -- what is left begins before a bound
+  abbrev pub AreBelow : BTreeMap Key Entry → ℕ → Type 0
+  AreBelow m bound = (q : Key) (e : Entry) → p q ≡ true → page_of q < page → get key_cmp m q ≡ Some e → page_of q < bound
+
+  -- what is left begins at or before the last page that was found, or nothing is left
+  abbrev pub AreFound : BTreeMap Key Entry → Option ℕ → Type 0
+  AreFound m found = MatchOption found
+      ((q : Key) → p q ≡ true → page_of q < page → get key_cmp m q ≡ None)
+      (λ last. (last < page) × AreBelow m (last + 1))
+
+  module _ (reach : (q : Key) → p q ≡ true → (owner_of q ≡ Some w) × (page < page_of q + 2 ^ span_of q)) where
+    -- a look before a bound finds them where they begin before it
+    pub found_before : (m : BTreeMap Key Entry) (bound : ℕ) (found : Option ℕ) → bound ≤ page → AreBelow m bound → IsLastPage key_cmp m w bound found → AreFound m found
+    found_before m bound None at below is = λ q covered before. none_unless (get key_cmp m q) (λ e there. is q (reach q covered).0 (below q e covered before there))
+    found_before m bound (Some last) at below is = (
+      omega (arith, is.0),
+      λ q e covered before there.
+          let h : page_of q ≤ last = is.2 q (reach q covered).0 (below q e covered before there) (is_some_at _ e there) in
+          omega arith,
+    )
+
+    starts_at : (m : BTreeMap Key Entry) → IsKeeping key_cmp m → (q : Key) (e : Entry) → p q ≡ true → page_of q < page → get key_cmp m q ≡ Some e → page - page % 2 ^ span_of q ≡ page_of q
+    starts_at m keeping q e covered before there = aligned_start (page_of q) page (span_of q) (aligned_key q (keeping q e there).well_formed).1 (omega arith) (reach q covered).1
+
+    module _ (span start : ℕ) (is : start ≡ page - page % 2 ^ span) where
+      -- none of a span is left where all begin before the page rounded down to it
+      pub gone_below : (m : BTreeMap Key Entry) → IsKeeping key_cmp m → AreBelow m start → AreGone m (span + 1)
+      gone_below m keeping below q h covered before = none_unless (get key_cmp m q) (λ e there.
+          let a = starts_at m keeping q e covered before there in
+          let b = start_falls page (span_of q) span (omega arith) in
+          let c = below q e covered before there in
+          absurd (omega arith))
+
+      -- what a sweep of the blocks that begin there leaves
+      pub below_start : (first end : Key) → first ≡ least w start span → end ≡ least w (start + 1) 0 → (m n : BTreeMap Key Entry) → IsKeeping key_cmp n → AreGone m span
+          → ((q : Key) → get key_cmp n q ≡ cond (is_swept key_cmp p (Included first) (Excluded end) q) None (get key_cmp m q)) → AreBelow n start
+      below_start first end f g m n keeping gone after q e covered before there =
+          let a : page - page % 2 ^ span_of q ≡ page_of q = starts_at n keeping q e covered before there in
+          let was : get key_cmp m q ≡ Some e = some_was (is_swept key_cmp p (Included first) (Excluded end) q) (get key_cmp m q) e (sym (after q) ∙ there) in
+          elim (cases_lt (span_of q) span) as (λ _. page_of q < start) [
+            | inl less ↦ let h : None ≡ Some e = sym (gone q less covered before) ∙ was in cc
+            | inr more ↦ elim (cases_lt (page_of q) start) as (λ _. page_of q < start) [
+              | inl below ↦ below
+              | inr at ↦
+                  let b : page - page % 2 ^ span_of q ≤ page - page % 2 ^ span = start_falls page span (span_of q) more in
+                  let h : None ≡ Some e = sym (none_comes key_cmp p (Included first) (Excluded end) m n after q covered (rw (f, g) (in_start w start span q (reach q covered).0 (omega arith) more))) ∙ there in
+                  cc
+            ]
+          ]
