@@ -1,6 +1,7 @@
 //! The words of the command line, and the exit status.
 use crate::running::run;
 use std::process::Abort;
+use std::thread::Threads;
 
 #[test]
 fn a_whole_script(rt: HostRuntime) {
@@ -54,7 +55,11 @@ fn a_whole_schedule(rt: HostRuntime) {
 }
 
 /// Runs the program on some words, with an input that fails when it is read.
-fn expect_not_understood<R: AllocGlobal + Abort>(rt: &R, name: &str, words: &[&str]) {
+fn expect_not_understood<R: Threads + AllocGlobal + Abort + Sync>(
+    rt: &R,
+    name: &str,
+    words: &[&str],
+) {
     let ran = run(rt, words, "ring 3 1 4 4\n", (1, 0));
     assert_eq!(rt; ran.told(), (2, "", false), "{name}");
 }
@@ -68,7 +73,7 @@ fn command_lines_that_are_not_understood(rt: HostRuntime) {
 }
 
 /// Asks for help, and wants a text with this in it.
-fn expect_help<R: AllocGlobal + Abort>(rt: &R, words: &[&str], wanted: &str) {
+fn expect_help<R: Threads + AllocGlobal + Abort + Sync>(rt: &R, words: &[&str], wanted: &str) {
     let ran = run(rt, words, "", (1, 0));
     let (status, text, is_silent) = ran.told();
     assert_eq!(rt;
@@ -84,10 +89,11 @@ fn help(rt: HostRuntime) {
     expect_help(&rt, &["replay", "--help"], "Usage: smmuq replay");
     expect_help(&rt, &["schedule", "--help"], "Usage: smmuq schedule");
     expect_help(&rt, &["decode", "--help"], "Usage: smmuq decode <HEX>");
+    expect_help(&rt, &["stress", "--help"], "Usage: smmuq stress --log2 <L>");
 }
 
 /// Runs the program on one word, where the read and the write of these numbers fail, and wants this status.
-fn expect_status<R: AllocGlobal + Abort>(
+fn expect_status<R: Threads + AllocGlobal + Abort + Sync>(
     rt: &R,
     word: &str,
     script: &str,

@@ -3,16 +3,23 @@ use crate::running::run;
 use program::decode_text;
 use std::process::Abort;
 use std::test::Fail;
+use std::thread::Threads;
 
 /// Runs the program on some words, with an input that fails when it is read, and wants this text and
 /// this status of it.
-fn expect_told<R: AllocGlobal + Abort>(rt: &R, name: &str, words: &[&str], text: &str, status: u8) {
+fn expect_told<R: Threads + AllocGlobal + Abort + Sync>(
+    rt: &R,
+    name: &str,
+    words: &[&str],
+    text: &str,
+    status: u8,
+) {
     let ran = run(rt, words, "", (1, 0));
     assert_eq!(rt; ran.told(), (status, text, status != 2), "{name}");
 }
 
 /// Decodes the words of a table, each on a line `WORD: TEXT: WHAT IT IS`, and wants this status of each.
-fn expect_decoded<R: AllocGlobal + Abort>(rt: &R, table: &str, status: u8) {
+fn expect_decoded<R: Threads + AllocGlobal + Abort + Sync>(rt: &R, table: &str, status: u8) {
     for line in table.lines() {
         let (word, rest) = line.split_once(": ").unwrap_or((line, ""));
         let (text, name) = rest.split_once(": ").unwrap_or((rest, ""));
@@ -80,7 +87,7 @@ fn words_that_are_not_decoded(rt: HostRuntime) {
     expect_told(&rt, name, &["decode", "--", "-0"], "bad hex\n", 1);
 }
 
-fn expect_failed_write<R: AllocGlobal + Abort>(rt: &R, name: &str, word: &str) {
+fn expect_failed_write<R: Threads + AllocGlobal + Abort + Sync>(rt: &R, name: &str, word: &str) {
     let ran = run(rt, &["decode", word], "", (1, 1));
     assert_eq!(rt; ran.told(), (4, "", true), "{name}");
 }

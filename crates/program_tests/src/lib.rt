@@ -9,3 +9,5 @@ mod command_line_tests;
 mod decoding_tests;
 #[cfg(test)]
 mod running;
+#[cfg(test)]
+mod stressing_tests;

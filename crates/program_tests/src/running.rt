@@ -2,6 +2,7 @@
 use fake_streams::{Sink, Source};
 use program::program;
 use std::io::{ErrorKind, Read, Write};
+use std::thread::Threads;
 
 const PIPE: ErrorKind = ErrorKind::BrokenPipe;
 
@@ -25,7 +26,7 @@ impl Ran {
 }
 
 // The theorem isn't passed on, since it would be dear in each test.
-fn status_of<'a, A: AllocGlobal, I: Read, O: Write, F: Write>(
+fn status_of<'a, A: Threads + AllocGlobal + Sync, I: Read, O: Write, F: Write>(
     rt: &A,
     words: &'a [&'a str],
     input: &mut I,
@@ -36,7 +37,7 @@ fn status_of<'a, A: AllocGlobal, I: Read, O: Write, F: Write>(
 }
 
 /// Runs the program, where the read and the write to `output` of these numbers fail, counted from 1.
-pub fn run<'a, A: AllocGlobal>(
+pub fn run<'a, A: Threads + AllocGlobal + Sync>(
     rt: &A,
     words: &'a [&'a str],
     script: &str,
