@@ -1,5 +1,5 @@
 -- What a worker has sent.
-use Rattle.std.specs.Prelude.{◌≡◌, ℕ, suc, ◌<◌, ◌≤◌, Bool, true, false, cond, List, [], ◌∷◌, ◌++◌, map}
+use Rattle.std.specs.Prelude.{◌≡◌, ℕ, suc, ◌<◌, ◌≤◌, Bool, true, false, cond, List, [], ◌∷◌, ◌++◌, map, Some, None}
 use Rattle.cmdcodec.specs.declared.raw.Raw.{Raw}
 use Rattle.ringcore.specs.world.Trails.{numbers_given}
 use Rattle.ringcore.specs.world.Laws.{own_batches}
@@ -67,8 +67,8 @@ pub record HasReservedOne (body : List Raw) (closes : Bool) (s t : SenderValue) 
   pub batches : own_batches s.number t.trail ≡ own_batches s.number s.trail ++ record { sender = s.number; number = next_number s.trail closes; body = body } ∷ []
   pub numbers : numbers_given t.trail ≡ cond closes (suc (numbers_given s.trail)) (numbers_given s.trail)
 
--- Nothing was reserved where it was refused, and else this batch.
+-- Nothing was reserved where it was refused, and else this batch; the receipt is of it.
 abbrev pub HasTried : List Raw → Bool → SenderValue → SenderValue → Attempt → Type 0
 HasTried body closes s t Refused = ReservesNone s.trail t.trail
-HasTried body closes s t (Sent receipt) = HasReservedOne body closes s t
-HasTried body closes s t SentBare = HasReservedOne body closes s t
+HasTried body closes s t (Sent receipt) = HasReservedOne body closes s t × (receipt.sender ≡ s.number) × (next_number s.trail closes ≡ Some receipt.number)
+HasTried body closes s t SentBare = HasReservedOne body closes s t × (next_number s.trail closes ≡ None)

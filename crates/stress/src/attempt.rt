@@ -1,5 +1,6 @@
 //! One try to send a batch.
-ghost use Rattle.std.specs.Prelude.{◌≡◌};
+ghost use Rattle.std.specs.Prelude.{◌≡◌, ◌≢◌, MatchOption};
+ghost use Rattle.ring.specs.sender.Senders.{ReceiptValue};
 ghost use Rattle.ring.specs.sender.Publishing.{ReservesNone};
 ghost use Rattle.stress.specs.Workers.{is_sent, HasReservedOne, HasTried};
 
@@ -26,7 +27,10 @@ impl Attempt {
         }
     }
 
-    pub(crate) fn receipt(&self) -> Option<&Receipt> {
+    /// The receipt of a batch that was sent with its CMD_SYNC.
+    pub(crate) fn receipt(&self) -> Option<&Receipt>
+        ensures { MatchOption result ((receipt : ReceiptValue) → self.now ≢ Attempt.Sent receipt) (λ r. self.now ≡ Attempt.Sent r.now) }
+    {
         match self {
             Attempt::Sent(receipt) => Some(receipt),
             Attempt::Refused | Attempt::SentBare => None,
