@@ -1,11 +1,10 @@
 //! One step of a seat.
 ghost use Rattle.std.specs.Prelude.{◌≡◌, ◌<◌};
-ghost use Rattle.ringcore.specs.declared.machine.step.Step.TheVariants.{Reserve};
 ghost use Rattle.ringcore.specs.machine.SenderViews.{Knows};
-ghost use Rattle.ringcore.specs.machine.Core.{ring_of, AfterEachRun, IsTakenOrRefused};
+ghost use Rattle.ringcore.specs.machine.Core.{ring_of, reserving, AfterEachRun, IsTakenOrRefused};
 ghost use Rattle.simulator.specs.queue.Taking.{step_of, MayTake, Takes};
 
-use cmdcodec::RawList;
+use cmdcodec::Raw;
 use ringcore::{Core, Seen, SenderView, StepFault, steps_law};
 
 /// A step that hands in no commands, which are a kilobyte: any but an exchange.
@@ -63,9 +62,9 @@ pub(super) fn take(core: &mut Core, step: PlainStep) -> Seen
 }
 
 /// Takes an exchange that is allowed: it isn't refused.
-pub(super) fn reserve(core: &mut Core, sender: u32, body: &RawList, closes: bool) -> Seen
-    requires { MayTake core.old (Reserve sender body.now closes) }
-    ensures taken { Takes core.old core.new (Reserve sender body.now closes) result }
+pub(super) fn reserve(core: &mut Core, sender: u32, body: &[Raw], closes: bool) -> Seen
+    requires { MayTake core.old (reserving sender body.now closes) }
+    ensures taken { Takes core.old core.new (reserving sender body.now closes) result }
     ensures ring { ring_of core.new ≡ ring_of core.old }
 {
     steps_law();
