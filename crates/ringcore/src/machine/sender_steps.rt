@@ -18,6 +18,7 @@ impl Core {
     /// A load of the control word: by a sender, or by the consumer where none is named.
     ///
     /// Errors: F8 where there is no such sender.
+    #[inline]
     pub fn look(&mut self, who: Option<u32>) -> Result<Seen, StepFault>
         ensures { IsTakenOrRefused self.old self.new (Look who) result }
     {
@@ -57,6 +58,7 @@ impl Core {
     ///
     /// Errors: F8 where there is no such sender, slot or half; F2 where no open reservation holds the slot, F1 where
     /// another sender's does; F3 where the slot is flipped.
+    #[inline]
     pub fn write(&mut self, sender: u32, slot: u32, half: u32) -> Result<Seen, StepFault>
         ensures { IsTakenOrRefused self.old self.new (Write sender slot half) result }
     {
@@ -77,6 +79,7 @@ impl Core {
     /// Errors: F8 where there is no such sender or slot, for a count that isn't 1 to 64 or is above the ring's size, and
     /// where the slots leave their flag word; F2 where no open reservation holds one of them, F1 where others' hold all;
     /// F3 where one is flipped, F4 where a half isn't written.
+    #[inline]
     pub fn flip(&mut self, sender: u32, slot: u32, count: u32) -> Result<Seen, StepFault>
         ensures { IsTakenOrRefused self.old self.new (Flip sender slot count) result }
     {

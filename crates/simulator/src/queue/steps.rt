@@ -31,6 +31,7 @@ pub(super) enum PlainStep {
 }
 
 /// Hands a step to the machine.
+#[inline(always)]
 fn apply(core: &mut Core, step: PlainStep) -> Result<Seen, StepFault>
     ensures { IsTakenOrRefused core.old core.new (step_of step) result }
 {
@@ -51,7 +52,8 @@ fn apply(core: &mut Core, step: PlainStep) -> Result<Seen, StepFault>
     }
 }
 
-/// Takes a step that is allowed: it isn't refused.
+/// Takes a step that is allowed: it isn't refused. Each caller names its step, so nothing is left of the match there.
+#[inline(always)]
 pub(super) fn take(core: &mut Core, step: PlainStep) -> Seen
     requires { MayTake core.old (step_of step) }
     ensures taken { Takes core.old core.new (step_of step) result }
