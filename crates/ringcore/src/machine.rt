@@ -111,7 +111,7 @@ impl Core {
                 sender,
                 body,
                 closes,
-            } => self.reserve(*sender, body, *closes),
+            } => self.reserve(*sender, body.as_slice(), *closes),
             Step::Write { sender, slot, half } => self.write(*sender, *slot, *half),
             Step::Flip {
                 sender,

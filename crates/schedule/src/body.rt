@@ -1,7 +1,7 @@
 //! The commands of a line that reserves.
 ghost use Rattle.std.specs.Prelude.{◌≡◌, IfOk};
 
-use cmdcodec::RawList;
+use cmdcodec::{Raw, RawList};
 use std::alloc::{AllocError, Global};
 use std::marker::Model;
 
@@ -33,9 +33,9 @@ impl Body {
     }
 
     /// The commands, in order.
-    pub fn commands(&self) -> &RawList
-        ensures { result.now ≡ self.now }
+    pub fn commands(&self) -> &[Raw]
+        ensures { result.now ≡ self.now.items }
     {
-        &self.commands
+        self.commands.as_slice()
     }
 }

@@ -77,9 +77,9 @@ pub(super) fn send(
         say_fault(number, fault.label(), reply)?;
         return Ok(false);
     }
-    match batch_of(&sending.content) {
-        Ok(batch) => send_batch(simulator, sending, &batch, reply)?,
-        Err(fault) => say_batch_refused(fault, reply)?,
+    match &batch_of(&sending.content) {
+        Ok(batch) => send_batch(simulator, sending, batch, reply)?,
+        Err(fault) => say_batch_refused(*fault, reply)?,
     }
     Ok(true)
 }

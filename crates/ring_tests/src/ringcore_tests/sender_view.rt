@@ -1,5 +1,5 @@
 //! What sender 7 knows on the way of one batch, in a ring of 4 slots.
-use cmdcodec::{Raw, RawList};
+use cmdcodec::Raw;
 use qindex::{Control, Geometry};
 use ringcore::{Half, SenderView, StepFault};
 
@@ -36,9 +36,7 @@ fn one_batch(rt: HostRuntime) {
     assert!(rt; !view.expects(&found));
     view.looks(&found);
     assert!(rt; view.expects(&found));
-    let mut body = RawList::new();
-    body.push(CFGI_ALL);
-    assert_eq!(rt; view.wins(7, &body, true, 3), Some(1));
+    assert_eq!(rt; view.wins(7, &[CFGI_ALL], true, 3), Some(1));
     assert!(rt; !view.expects(&found));
     assert_eq!(rt; view.start(), 3);
     assert_eq!(rt; view.len(), 2);

@@ -1,7 +1,7 @@
 -- What the consumer's view says is what its trail says, and events leave it so.
-use Rattle.std.proofs.Common.{◌≡◌, ℕ, ◌+◌, ◌<◌, ◌≤◌, Bool, ◌&&◌, List, [], ◌∷◌, length, map, take, Option, None, Some, refl, ap, ap₂, ◌∙◌, inl, inr, arith, length-append}
+use Rattle.std.proofs.Common.{◌≡◌, ℕ, ◌+◌, ◌-◌, ◌<◌, ◌≤◌, Bool, ◌&&◌, List, [], ◌∷◌, ◌++◌, length, map, take, drop, Option, None, Some, refl, ap, ap₂, ◌∙◌, inl, inr, arith, length-append, length-drop, length-take-le}
 use Rattle.std.proofs.lemmas.Bool.{cases_lt}
-use Rattle.std.proofs.lemmas.List.{length-map, get_or-replicate, get_or_past, length-replicate}
+use Rattle.std.proofs.lemmas.List.{length-map, get_or-replicate, get_or_past, get_or_append_left, get_or-append_right, get_or-drop, length-replicate}
 use Rattle.std.specs.Prelude.{slice_index_or, replicate, is_some, nat_lt, if◌then◌else◌}
 use Rattle.std.specs.List.{list_all}
 use Rattle.cmdcodec.specs.declared.raw.Raw.{Raw}
@@ -16,39 +16,69 @@ use Rattle.ringcore.specs.world.Trails.{Trail, Run, trail_of, half_read}
 use Rattle.ringcore.specs.machine.Open.{all_below}
 use Rattle.ringcore.specs.machine.Faults.{advance_fault}
 use Rattle.ringcore.specs.world.World.{taken_as, head, world}
-use Rattle.ringcore.specs.machine.ConsumerViews.{ConsumerValue, KnowsTaken, ConsumerKnows, unread, read_half, halves_at, SendersLeaveIt, ConsumersLookLeavesIt, AcknowledgementLeavesIt}
+use Rattle.ringcore.specs.machine.ConsumerViews.{ConsumerValue, KnowsTaken, ConsumerKnows, unread, AreUnread, AreReadBelow, read_half, halves_at, SendersLeaveIt, ConsumersLookLeavesIt, AcknowledgementLeavesIt}
 use Rattle.ringcore.proofs.MachineLemmas.SomeAndAllBelow.{all_is}
 
-nothing : (k : ℕ) (half : Half) → read_half half (slice_index_or (replicate 64 unread) k unread) ≡ None
-nothing k half = elim (cases_lt k 64) [
-  | inl low ↦ ap (read_half half) (get_or-replicate 64 k unread unread low) ∙ none half
-  | inr high ↦ ap (read_half half) (get_or_past (replicate 64 unread) k unread (omega (arith, high, length-replicate 64 unread))) ∙ none half
+-- ---- where nothing is read
+
+-- of as many commands as are unread
+pub all_unread : (many : ℕ) → AreUnread (replicate many unread)
+all_unread many k = elim (cases_lt k many) [
+  | inl low ↦ get_or-replicate many k unread unread low
+  | inr high ↦ get_or_past (replicate many unread) k unread (omega (arith, high, length-replicate many unread))
 ]
+
+pub length_below : (end : ℕ) (commands : List ReadHalves) → AreReadBelow end commands → length (take end commands) ≡ end
+length_below end commands are = let within = are.within in let places = are.places in length-take-le end commands (omega (arith, within, places))
+
+-- Of commands of which nothing is read from an offset on, nothing is once those below it are cleared.
+pub cleared : (end : ℕ) (commands : List ReadHalves) → AreReadBelow end commands → AreUnread (replicate end unread ++ drop end commands)
+cleared end commands are k = elim (cases_lt k end) [
+  | inl low ↦
+      get_or_append_left (replicate end unread) (drop end commands) unread k (omega (arith, low, length-replicate end unread)) ∙ get_or-replicate end k unread unread low
+  | inr high ↦
+      get_or-append_right (replicate end unread) (drop end commands) end k unread (length-replicate end unread) high ∙ get_or-drop end commands (k - end) unread
+      ∙ ap (λ n. slice_index_or commands n unread) (let e : end + (k - end) ≡ k = omega (arith, high) in e) ∙ are.behind k high
+]
+
+pub cleared_below : (end : ℕ) (commands : List ReadHalves) → AreReadBelow end commands → AreReadBelow 0 (replicate end unread ++ drop end commands)
+cleared_below end commands are = record {
+  places =
+      let within = are.within in
+      let places = are.places in
+      let rest = length-drop end commands in
+      let all = length-append (replicate end unread) (drop end commands) in
+      omega (arith, within, places, rest, all, length-replicate end unread);
+  within = omega arith;
+  behind = λ k from. cleared end commands are k;
+}
+
+nothing : (commands : List ReadHalves) → AreUnread commands → (k : ℕ) (half : Half) → read_half half (slice_index_or commands k unread) ≡ None
+nothing commands are k half = ap (read_half half) (are k) ∙ none half
   where
     none : (half : Half) → read_half half unread ≡ None
     none Lo = refl
     none Hi = refl
 
--- the view in which nothing was read
-abbrev pub view_unread : ℕ → ℕ → ConsumerValue
-view_unread taken found = record { taken = taken; found = found; read = replicate 64 unread }
+pub new_known : ConsumerKnows [] (record { taken = 0; found = 0; read = replicate 64 unread })
+new_known = record { taken_is = refl; found_is = refl; read_is = λ k half low. nothing (replicate 64 unread) (all_unread 64) k half }
 
-pub new_known : ConsumerKnows [] (view_unread 0 0)
-new_known = record { taken_is = refl; found_is = refl; read_is = λ k half low. nothing k half }
+pub tested_known : (run : Run) (view new : ConsumerValue) (limit found : ℕ) → new.taken ≡ view.taken → new.found ≡ found → AreUnread new.read
+    → ConsumerKnows run view → ConsumerKnows ((Consumer, Test limit found) ∷ run) new
+tested_known run view new limit found taken_is found_is are known =
+    record { taken_is = taken_is ∙ known.taken_is; found_is = found_is; read_is = λ k half low. nothing new.read are k half }
 
-pub tested_known : (run : Run) (view : ConsumerValue) (limit found : ℕ) → ConsumerKnows run view → ConsumerKnows ((Consumer, Test limit found) ∷ run) (view_unread view.taken found)
-tested_known run view limit found known = record { taken_is = known.taken_is; found_is = refl; read_is = λ k half low. nothing k half }
-
-pub advanced_known : (run : Run) (view : ConsumerValue) (count : ℕ) (raws : List Raw) → length raws ≡ count → ConsumerKnows run view
-    → ConsumerKnows ((Consumer, Advance raws) ∷ run) (view_unread (view.taken + count) 0)
-advanced_known run view count raws long known = record {
+pub advanced_known : (run : Run) (view new : ConsumerValue) (count : ℕ) (raws : List Raw) → length raws ≡ count
+    → new.taken ≡ view.taken + count → new.found ≡ 0 → AreUnread new.read
+    → ConsumerKnows run view → ConsumerKnows ((Consumer, Advance raws) ∷ run) new
+advanced_known run view new count raws long taken_is found_is are known = record {
   taken_is =
       let was : view.taken ≡ head (world run) = known.taken_is in
       let grown = length-append (world run).taken (map taken_as raws) in
       let many = length-map raws taken_as in
-      omega (arith, was, grown, many, long);
-  found_is = refl;
-  read_is = λ k half low. nothing k half;
+      omega (arith, was, grown, many, long, taken_is);
+  found_is = found_is;
+  read_is = λ k half low. nothing new.read are k half;
 }
 
 -- ---- what an advance is refused for

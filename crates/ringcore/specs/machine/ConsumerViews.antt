@@ -1,5 +1,5 @@
 -- What the consumer knows of a run at run time: what its own trail says, and how many commands are taken.
-use Rattle.std.specs.Prelude.{◌≡◌, ℕ, zero, suc, ◌<◌, List, [], ◌∷◌, ◌++◌, Option, Some, None, slice_index_or}
+use Rattle.std.specs.Prelude.{◌≡◌, ℕ, zero, suc, ◌<◌, ◌≤◌, List, [], ◌∷◌, ◌++◌, length, Option, Some, None, slice_index_or}
 use Rattle.cmdcodec.specs.declared.raw.Raw.{Raw}
 use Rattle.qindex.specs.declared.control.Control.{Control}
 use Rattle.ringcore.specs.declared.world.event.Who.TheVariants.{Consumer, Sender}
@@ -21,6 +21,21 @@ pub record ConsumerValue : Type 0 where
 -- a command of which nothing is read
 abbrev pub unread : ReadHalves
 unread = record { lo = None; hi = None }
+
+-- Of commands nothing is read.
+abbrev pub AreUnread : List ReadHalves → Type 0
+AreUnread commands = (k : ℕ) → slice_index_or commands k unread ≡ unread
+
+-- Of 64 commands nothing is read from this offset on.
+pub record AreReadBelow (end : ℕ) (commands : List ReadHalves) : Type 0 where
+  pub places : length commands ≡ 64
+  pub within : end ≤ 64
+  pub behind : (k : ℕ) → end ≤ k → slice_index_or commands k unread ≡ unread
+
+-- A view says the same but of what was read.
+pub record SameButRead (old new : ConsumerValue) : Type 0 where
+  pub taken_is : new.taken ≡ old.taken
+  pub found_is : new.found ≡ old.found
 
 abbrev pub read_half : Half → ReadHalves → Option ℕ
 read_half Lo halves = halves.lo

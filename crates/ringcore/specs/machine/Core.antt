@@ -1,9 +1,11 @@
 -- What the machine with one owner stands for: a run, as its words and its seats know it.
 use Rattle.std.specs.Prelude.{◌≡◌, ℕ, ◌≤◌, Bool, not, ◌&&◌, nat_le, List, [], ◌∷◌, length, Option, Some, None, Result, Ok, Err, slice_get, if◌then◌else◌}
+use Rattle.cmdcodec.specs.declared.raw.Raw.{Raw}
 use Rattle.cmdcodec.specs.Bodies.{most_batches}
 use Rattle.qindex.specs.declared.control.Control.{Control}
 use Rattle.ringcore.specs.declared.world.event.Who.TheVariants.{Sender}
 use Rattle.ringcore.specs.declared.machine.step.Step.{Step}
+use Rattle.ringcore.specs.declared.machine.step.Step.TheVariants.{Reserve}
 use Rattle.ringcore.specs.declared.machine.step.Seen.{Seen}
 use Rattle.ringcore.specs.declared.machine.step_fault.StepFault.{StepFault}
 use Rattle.ringcore.specs.declared.machine.core_fault.CoreFault.{CoreFault}
@@ -71,6 +73,10 @@ abbrev pub AfterEachRun : CoreValue → (Run → Type 0) → Type 0
 AfterEachRun core P = (run : Run) → StandsAfter core run → P run
 
 -- ---- what a step does to it
+
+-- the step that reserves these commands
+abbrev pub reserving : ℕ → List Raw → Bool → Step
+reserving s body closes = Reserve s (record { items = body }) closes
 
 -- how a step is answered after a run
 abbrev pub answer_to : Ring → Run → Step → Seen

@@ -12,9 +12,19 @@ pub fn batch_commands(sender: u32, body: &[Raw], number: Option<u32>) -> RawList
     ensures { result.items ≡ commands sender number body.now }
 {
     let mut commands = RawList::new();
-    commands.try_extend_from_slice(body).unwrap();
-    if let Some(number) = number {
-        commands.push(encode(&closing_sync(sender, number)));
-    }
+    fill_with_batch(&mut commands, sender, body, number);
     commands
+}
+
+/// Leaves the commands of a sender's batch in a list, and no others.
+pub(crate) fn fill_with_batch(list: &mut RawList, sender: u32, body: &[Raw], number: Option<u32>)
+    requires sender { sender < 256 }
+    requires body { length body.now ≤ 63 }
+    ensures { list.new.items ≡ commands sender number body.now }
+{
+    list.clear();
+    list.try_extend_from_slice(body).unwrap();
+    if let Some(number) = number {
+        list.push(encode(&closing_sync(sender, number)));
+    }
 }

@@ -22,6 +22,7 @@ impl Core {
     /// A load of the head's flag word, which looks at so many flags at most.
     ///
     /// Errors: F8 where there is no such slot, and for a count that isn't 1 to 64; F5 where the slot isn't the head's.
+    #[inline]
     pub fn test(&mut self, slot: u32, count: u32) -> Result<Seen, StepFault>
         ensures { IsTakenOrRefused self.old self.new (Test slot count) result }
     {
@@ -39,6 +40,7 @@ impl Core {
     ///
     /// Errors: F8 where there is no such slot or half; F5 where the slot is neither the head's nor one that the last test
     /// found, F6 where it is the head's and nothing was found.
+    #[inline]
     pub fn read(&mut self, slot: u32, half: u32) -> Result<Seen, StepFault>
         ensures { IsTakenOrRefused self.old self.new (Read slot half) result }
     {
@@ -53,6 +55,7 @@ impl Core {
     /// An exclusive or of the control word, to take so many commands.
     ///
     /// Errors: F8 for a count that isn't 1 to 64; F6 for more than the last test found, F4 where a half isn't read.
+    #[inline]
     pub fn advance(&mut self, count: u32) -> Result<Seen, StepFault>
         ensures { IsTakenOrRefused self.old self.new (Advance count) result }
     {

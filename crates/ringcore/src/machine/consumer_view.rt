@@ -11,7 +11,7 @@ ghost use Rattle.ringcore.specs.world.Trails.{Run, found_ready, half_read};
 ghost use Rattle.ringcore.specs.world.World.{head, world};
 ghost use Rattle.ringcore.specs.world.Allowed.{Ring};
 ghost use Rattle.ringcore.specs.machine.Faults.{advance_fault, tested_offset};
-ghost use Rattle.ringcore.specs.machine.ConsumerViews.{ConsumerKnows, WhereConsumerKnows, both_halves, command_at};
+ghost use Rattle.ringcore.specs.machine.ConsumerViews.{ConsumerKnows, WhereConsumerKnows, AreUnread, SameButRead, both_halves, command_at};
 
 use crate::machine::StepFault;
 use crate::machine::slot_offset::offset_of_slot;
@@ -40,17 +40,18 @@ pub struct ConsumerView {
     taken: u64,
     found: u32,
     read: [ReadHalves; MOST_COMMANDS],
+    /// From this offset on nothing is read, so that no more than what was read is forgotten.
+    read_end: usize,
 }
 
 impl Model for ConsumerView {
-    ghost use Rattle.std.specs.Prelude.{◌≡◌, length};
-    ghost use Rattle.ringcore.specs.machine.ConsumerViews.{ConsumerValue};
+    ghost use Rattle.ringcore.specs.machine.ConsumerViews.{ConsumerValue, AreReadBelow};
 
     ghost Value = { ConsumerValue };
 
     ghost view = { λ v. record { taken = v.taken; found = v.found; read = v.read } };
 
-    ghost invariant = { λ v. length v.read ≡ 64 };
+    ghost invariant = { λ v. AreReadBelow v.read_end v.read };
 }
 
 impl ConsumerView {
@@ -62,6 +63,7 @@ impl ConsumerView {
             taken: 0,
             found: 0,
             read: [UNREAD; MOST_COMMANDS],
+            read_end: 0,
         }
     }
 
@@ -86,7 +88,7 @@ impl ConsumerView {
         ensures { (run : Run) (limit : ℕ) → ConsumerKnows run self.old → ConsumerKnows ((Consumer, Test limit found) ∷ run) self.new }
     {
         self.found = found;
-        self.read = [UNREAD; MOST_COMMANDS];
+        self.forget();
     }
 
     /// Takes note of a half that was read, at this offset from the head.
@@ -94,7 +96,9 @@ impl ConsumerView {
         requires { offset < 64 }
         ensures { (run : Run) → ConsumerKnows run self.old → ConsumerKnows ((Consumer, Read offset half word) ∷ run) self.new }
     {
-        let halves = &mut self.read[offset as usize];
+        let place = offset as usize;
+        self.read_end = self.read_end.max(place + 1);
+        let halves = &mut self.read[place];
         match half {
             Half::Lo => halves.lo = Some(word),
             Half::Hi => halves.hi = Some(word),
@@ -121,7 +125,17 @@ impl ConsumerView {
     {
         self.taken += u64::from(count);
         self.found = 0;
-        self.read = [UNREAD; MOST_COMMANDS];
+        self.forget();
+    }
+
+    /// Counts nothing as read any more.
+    fn forget(&mut self)
+        ensures same { SameButRead self.old self.new }
+        ensures unread { AreUnread self.new.read }
+    {
+        let end = self.read_end;
+        self.read[..end].fill(UNREAD);
+        self.read_end = 0;
     }
 
     /// The offset from the head of a slot that the last test found, if it is one.

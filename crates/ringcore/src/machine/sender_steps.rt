@@ -1,14 +1,14 @@
 //! The steps of the senders.
 ghost use Rattle.std.specs.Prelude.{◌≡◌, ◌<◌, ◌≤◌, Some, Ok, true, false};
-ghost use Rattle.ringcore.specs.declared.machine.step.Step.TheVariants.{Look, Reserve, Write, Flip, Close};
-ghost use Rattle.ringcore.specs.machine.Core.{HasNoFault, FindsControl, IsTakenOrRefused};
+ghost use Rattle.ringcore.specs.declared.machine.step.Step.TheVariants.{Look, Write, Flip, Close};
+ghost use Rattle.ringcore.specs.machine.Core.{reserving, HasNoFault, FindsControl, IsTakenOrRefused};
 
 use crate::laws;
 use crate::laws::steps_law;
 use crate::machine::places::{half_of, half_of_number, index_of};
 use crate::machine::{Core, Seen, StepFault};
 use crate::memory::new_flags;
-use cmdcodec::RawList;
+use cmdcodec::Raw;
 use qindex::{
     Control, control_words_say_their_control, indexes_tell_place_and_wrap_bit,
     indexes_tell_the_queue,
@@ -18,6 +18,7 @@ impl Core {
     /// A load of the control word: by a sender, or by the consumer where none is named.
     ///
     /// Errors: F8 where there is no such sender.
+    #[inline]
     pub fn look(&mut self, who: Option<u32>) -> Result<Seen, StepFault>
         ensures { IsTakenOrRefused self.old self.new (Look who) result }
     {
@@ -57,6 +58,7 @@ impl Core {
     ///
     /// Errors: F8 where there is no such sender, slot or half; F2 where no open reservation holds the slot, F1 where
     /// another sender's does; F3 where the slot is flipped.
+    #[inline]
     pub fn write(&mut self, sender: u32, slot: u32, half: u32) -> Result<Seen, StepFault>
         ensures { IsTakenOrRefused self.old self.new (Write sender slot half) result }
     {
@@ -77,6 +79,7 @@ impl Core {
     /// Errors: F8 where there is no such sender or slot, for a count that isn't 1 to 64 or is above the ring's size, and
     /// where the slots leave their flag word; F2 where no open reservation holds one of them, F1 where others' hold all;
     /// F3 where one is flipped, F4 where a half isn't written.
+    #[inline]
     pub fn flip(&mut self, sender: u32, slot: u32, count: u32) -> Result<Seen, StepFault>
         ensures { IsTakenOrRefused self.old self.new (Flip sender slot count) result }
     {
@@ -98,8 +101,8 @@ impl Core {
     /// Errors: F8 where there is no such sender; F10 with a reservation open, or with all batches made; F11 for a body
     /// of none, of more than 63, or with a CMD_SYNC; F9 without a look since the last exchange, and where by that look
     /// the ring is closed or has no room.
-    pub fn reserve(&mut self, sender: u32, body: &RawList, closes: bool) -> Result<Seen, StepFault>
-        ensures { IsTakenOrRefused self.old self.new (Reserve sender body.now closes) result }
+    pub fn reserve(&mut self, sender: u32, body: &[Raw], closes: bool) -> Result<Seen, StepFault>
+        ensures { IsTakenOrRefused self.old self.new (reserving sender body.now closes) result }
     {
         if sender as usize >= self.senders.len() {
             return Err(StepFault::NoSuchPlace);
@@ -108,7 +111,7 @@ impl Core {
         let view = &self.senders[sender as usize];
         control_words_say_their_control();
         indexes_tell_the_queue();
-        if let Some(fault) = view.reserve_fault(geometry, body.as_slice(), closes) {
+        if let Some(fault) = view.reserve_fault(geometry, body, closes) {
             return Err(fault);
         }
         let found = self.control();
@@ -120,10 +123,10 @@ impl Core {
     }
 
     /// Reserves a batch where the control word is the one that the sender looked at.
-    fn win(&mut self, sender: u32, body: &RawList, closes: bool, found: &Control) -> Seen
+    fn win(&mut self, sender: u32, body: &[Raw], closes: bool, found: &Control) -> Seen
         requires there { sender < self.old.words.senders }
-        requires accepted { HasNoFault self.old (Reserve sender body.now closes) (λ run. FindsControl self.old run sender found.now true) }
-        ensures { IsTakenOrRefused self.old self.new (Reserve sender body.now closes) (Ok result) }
+        requires accepted { HasNoFault self.old (reserving sender body.now closes) (λ run. FindsControl self.old run sender found.now true) }
+        ensures { IsTakenOrRefused self.old self.new (reserving sender body.now closes) (Ok result) }
     {
         laws::reserve_won();
         steps_law();
@@ -145,10 +148,10 @@ impl Core {
     }
 
     /// Reserves nothing where the control word is another.
-    fn lose(&mut self, sender: u32, body: &RawList, closes: bool, found: &Control) -> Seen
+    fn lose(&mut self, sender: u32, body: &[Raw], closes: bool, found: &Control) -> Seen
         requires there { sender < self.old.words.senders }
-        requires accepted { HasNoFault self.old (Reserve sender body.now closes) (λ run. FindsControl self.old run sender found.now false) }
-        ensures { IsTakenOrRefused self.old self.new (Reserve sender body.now closes) (Ok result) }
+        requires accepted { HasNoFault self.old (reserving sender body.now closes) (λ run. FindsControl self.old run sender found.now false) }
+        ensures { IsTakenOrRefused self.old self.new (reserving sender body.now closes) (Ok result) }
     {
         steps_law();
         self.senders[sender as usize].loses();

@@ -21,7 +21,7 @@ ghost use Rattle.ringcore.specs.machine.StepAnswers.{is_same_word, next_number};
 ghost use Rattle.ringcore.specs.machine.SenderViews.{Knows, WhereKnown, AreFlipped};
 
 use crate::machine::StepFault;
-use crate::machine::commands::batch_commands;
+use crate::machine::commands::fill_with_batch;
 use crate::machine::slot_offset::offset_of_slot;
 use crate::world::Half;
 use cmdcodec::{MOST_BATCH_COMMANDS, MOST_BATCHES, MOST_BODY_COMMANDS, Raw, RawList};
@@ -96,19 +96,19 @@ impl SenderView {
 
     /// Takes note of a batch that was reserved from this position on, and answers the number of its
     /// closing sync, if it has one.
-    pub fn wins(&mut self, sender: u32, body: &RawList, closes: bool, start: u64) -> Option<u32>
+    pub fn wins(&mut self, sender: u32, body: &[Raw], closes: bool, start: u64) -> Option<u32>
         requires sender { sender < 256 }
-        requires body { length body.now.items ≤ 63 }
+        requires body { length body.now ≤ 63 }
         requires batches { self.old.batches < most_batches }
         ensures number { WhereKnown self.old (λ run s mine. result ≡ next_number mine closes) }
-        ensures view { (run : Run) → Knows run sender self.old → start ≡ tail (world run) → Knows ((Sender sender, Won body.now.items result) ∷ run) sender self.new }
+        ensures view { (run : Run) → Knows run sender self.old → start ≡ tail (world run) → Knows ((Sender sender, Won body.now result) ∷ run) sender self.new }
     {
         let number = self.next_number(closes);
         self.looked = None;
         self.batches += 1;
         self.numbers += u32::from(closes);
         self.start = start;
-        self.commands = batch_commands(sender, body.as_slice(), number);
+        fill_with_batch(&mut self.commands, sender, body, number);
         self.progress = [UNTOUCHED; MOST_BATCH_COMMANDS];
         number
     }

@@ -15,7 +15,6 @@ ghost use Rattle.simulator.specs.queue.Standing.{ring_in, IsQueueAfter, AfterEac
 use crate::queue::Queue;
 use crate::queue::steps::{reserve, view};
 use batch::Batch;
-use cmdcodec::RawList;
 use qindex::{Control, Index};
 use ring::Cause;
 use ringcore::{Core, world_law};
@@ -67,7 +66,7 @@ impl Queue {
     {
         let first = self.control().prod;
         let number = view(&self.core, sender).next_number(closes);
-        reserve(&mut self.core, sender, &body_of(batch), closes);
+        reserve(&mut self.core, sender, batch.as_slice(), closes);
         Reserved { first, number }
     }
 }
@@ -112,13 +111,4 @@ fn batch_length(batch: &Batch, closes: bool) -> u32
     } else {
         batch.len() as u32
     }
-}
-
-/// The commands of a batch ahead of its CMD_SYNC.
-fn body_of(batch: &Batch) -> RawList
-    ensures { result.items ≡ batch.now }
-{
-    let mut body = RawList::new();
-    body.try_extend_from_slice(batch.as_slice()).unwrap();
-    body
 }

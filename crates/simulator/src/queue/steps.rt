@@ -1,11 +1,10 @@
 //! One step of a seat.
 ghost use Rattle.std.specs.Prelude.{◌≡◌, ◌<◌};
-ghost use Rattle.ringcore.specs.declared.machine.step.Step.TheVariants.{Reserve};
 ghost use Rattle.ringcore.specs.machine.SenderViews.{Knows};
-ghost use Rattle.ringcore.specs.machine.Core.{ring_of, AfterEachRun, IsTakenOrRefused};
+ghost use Rattle.ringcore.specs.machine.Core.{ring_of, reserving, AfterEachRun, IsTakenOrRefused};
 ghost use Rattle.simulator.specs.queue.Taking.{step_of, MayTake, Takes};
 
-use cmdcodec::RawList;
+use cmdcodec::Raw;
 use ringcore::{Core, Seen, SenderView, StepFault, steps_law};
 
 /// A step that hands in no commands, which are a kilobyte: any but an exchange.
@@ -32,6 +31,7 @@ pub(super) enum PlainStep {
 }
 
 /// Hands a step to the machine.
+#[inline(always)]
 fn apply(core: &mut Core, step: PlainStep) -> Result<Seen, StepFault>
     ensures { IsTakenOrRefused core.old core.new (step_of step) result }
 {
@@ -52,7 +52,8 @@ fn apply(core: &mut Core, step: PlainStep) -> Result<Seen, StepFault>
     }
 }
 
-/// Takes a step that is allowed: it isn't refused.
+/// Takes a step that is allowed: it isn't refused. Each caller names its step, so nothing is left of the match there.
+#[inline(always)]
 pub(super) fn take(core: &mut Core, step: PlainStep) -> Seen
     requires { MayTake core.old (step_of step) }
     ensures taken { Takes core.old core.new (step_of step) result }
@@ -63,9 +64,9 @@ pub(super) fn take(core: &mut Core, step: PlainStep) -> Seen
 }
 
 /// Takes an exchange that is allowed: it isn't refused.
-pub(super) fn reserve(core: &mut Core, sender: u32, body: &RawList, closes: bool) -> Seen
-    requires { MayTake core.old (Reserve sender body.now closes) }
-    ensures taken { Takes core.old core.new (Reserve sender body.now closes) result }
+pub(super) fn reserve(core: &mut Core, sender: u32, body: &[Raw], closes: bool) -> Seen
+    requires { MayTake core.old (reserving sender body.now closes) }
+    ensures taken { Takes core.old core.new (reserving sender body.now closes) result }
     ensures ring { ring_of core.new ≡ ring_of core.old }
 {
     steps_law();

@@ -2,11 +2,10 @@ use Rattle.std.proofs.Common.{◌≡◌, ◌<◌, true, false, refl, sym, ap, �
 use Rattle.std.proofs.lemmas.Option.{slice_get_read}
 use Rattle.qindex.specs.ControlWord.{IsControl}
 use Rattle.ringcore.specs.declared.world.event.Who.TheVariants.{Sender}
-use Rattle.ringcore.specs.declared.machine.step.Step.TheVariants.{Reserve}
 use Rattle.ringcore.specs.world.Trails.{Run, trail_of}
 use Rattle.ringcore.specs.world.World.{world, control}
 use Rattle.ringcore.specs.machine.Faults.{reserve_fault, fault_of}
-use Rattle.ringcore.specs.machine.Core.{CoreValue, core_of, ring_of, StandsAfter, IsRefused, HasNoFault, FindsControl}
+use Rattle.ringcore.specs.machine.Core.{CoreValue, reserving, core_of, ring_of, StandsAfter, IsRefused, HasNoFault, FindsControl}
 use Rattle.ringcore.proofs.WorldLemmas.LookedControls.{looked_is_control}
 use Rattle.ringcore.proofs.MachineLemmas.SenderSteps.{there_is}
 use Rattle.ringcore.proofs.machine.Core.reserve.Goals as goal
@@ -33,11 +32,10 @@ returns-in-Some c =
     let low : s < core.words.senders = omega (arith, views, c.len.ensures, c.if-sender-len.false) in
     let view = c.index-view.result.now in
     let at = slice_get_read core.senders core.words.senders s view (sym views) low c.index-view.ensures in
-    let judged : (run : Run) → StandsAfter core run → fault_of (ring_of core) run (Reserve s c.args.body.now c.args.closes) ≡ c.reserve_fault.result = λ run stands.
-    there_is s core.words.senders (reserve_fault (ring_of core) (trail_of (Sender s) run) c.args.body.now.items c.args.closes) low
-    ∙ sym (c.reserve_fault.ensures (ring_of core) (sym c.geometry-geometry.ensures) refl run s (stands.senders_know s view at)
-    ∙ ap (λ b. reserve_fault (ring_of core) (trail_of (Sender s) run) b c.args.closes) c.as_slice.ensures.value) in
-    (subst (λ m. IsRefused m (Reserve s c.args.body.now c.args.closes) c.in-Some.fault) c.self.view_is (λ run stands. judged run stands ∙ c.in-Some.is), refl)
+    let judged : (run : Run) → StandsAfter core run → fault_of (ring_of core) run (reserving s c.args.body.now c.args.closes) ≡ c.reserve_fault.result = λ run stands.
+    there_is s core.words.senders (reserve_fault (ring_of core) (trail_of (Sender s) run) c.args.body.now c.args.closes) low
+    ∙ sym (c.reserve_fault.ensures (ring_of core) (sym c.geometry-geometry.ensures) refl run s (stands.senders_know s view at)) in
+    (subst (λ m. IsRefused m (reserving s c.args.body.now c.args.closes) c.in-Some.fault) c.self.view_is (λ run stands. judged run stands ∙ c.in-Some.is), refl)
 
 pub win-requires-clause-accepted : goal.win-requires-clause-accepted
 win-requires-clause-accepted c =
@@ -48,11 +46,10 @@ win-requires-clause-accepted c =
     let low : s < core.words.senders = omega (arith, views, c.len.ensures, c.if-sender-len.false) in
     let view = c.index-view.result.now in
     let at = slice_get_read core.senders core.words.senders s view (sym views) low c.index-view.ensures in
-    let judged : (run : Run) → StandsAfter core run → fault_of (ring_of core) run (Reserve s c.args.body.now c.args.closes) ≡ c.reserve_fault.result = λ run stands.
-    there_is s core.words.senders (reserve_fault (ring_of core) (trail_of (Sender s) run) c.args.body.now.items c.args.closes) low
-    ∙ sym (c.reserve_fault.ensures (ring_of core) (sym c.geometry-geometry.ensures) refl run s (stands.senders_know s view at)
-    ∙ ap (λ b. reserve_fault (ring_of core) (trail_of (Sender s) run) b c.args.closes) c.as_slice.ensures.value) in
-    subst (λ m. HasNoFault m (Reserve s c.args.body.now c.args.closes) (λ run. FindsControl m run s c.control-found.result true)) c.self.view_is
+    let judged : (run : Run) → StandsAfter core run → fault_of (ring_of core) run (reserving s c.args.body.now c.args.closes) ≡ c.reserve_fault.result = λ run stands.
+    there_is s core.words.senders (reserve_fault (ring_of core) (trail_of (Sender s) run) c.args.body.now c.args.closes) low
+    ∙ sym (c.reserve_fault.ensures (ring_of core) (sym c.geometry-geometry.ensures) refl run s (stands.senders_know s view at)) in
+    subst (λ m. HasNoFault m (reserving s c.args.body.now c.args.closes) (λ run. FindsControl m run s c.control-found.result true)) c.self.view_is
     (λ run stands. (
       judged run stands ∙ c.in_default.is,
       (
@@ -70,11 +67,10 @@ lose-requires-clause-accepted c =
     let low : s < core.words.senders = omega (arith, views, c.len.ensures, c.if-sender-len.false) in
     let view = c.index-view.result.now in
     let at = slice_get_read core.senders core.words.senders s view (sym views) low c.index-view.ensures in
-    let judged : (run : Run) → StandsAfter core run → fault_of (ring_of core) run (Reserve s c.args.body.now c.args.closes) ≡ c.reserve_fault.result = λ run stands.
-    there_is s core.words.senders (reserve_fault (ring_of core) (trail_of (Sender s) run) c.args.body.now.items c.args.closes) low
-    ∙ sym (c.reserve_fault.ensures (ring_of core) (sym c.geometry-geometry.ensures) refl run s (stands.senders_know s view at)
-    ∙ ap (λ b. reserve_fault (ring_of core) (trail_of (Sender s) run) b c.args.closes) c.as_slice.ensures.value) in
-    subst (λ m. HasNoFault m (Reserve s c.args.body.now c.args.closes) (λ run. FindsControl m run s c.control-found.result false)) c.self.view_is
+    let judged : (run : Run) → StandsAfter core run → fault_of (ring_of core) run (reserving s c.args.body.now c.args.closes) ≡ c.reserve_fault.result = λ run stands.
+    there_is s core.words.senders (reserve_fault (ring_of core) (trail_of (Sender s) run) c.args.body.now c.args.closes) low
+    ∙ sym (c.reserve_fault.ensures (ring_of core) (sym c.geometry-geometry.ensures) refl run s (stands.senders_know s view at)) in
+    subst (λ m. HasNoFault m (reserving s c.args.body.now c.args.closes) (λ run. FindsControl m run s c.control-found.result false)) c.self.view_is
     (λ run stands. (
       judged run stands ∙ c.in_default.is,
       (

@@ -1,6 +1,6 @@
-use Rattle.std.proofs.Common.{◌≡◌, ◌<◌, ◌≤◌, sym, subst, arith}
+use Rattle.std.proofs.Common.{◌<◌, ◌≤◌, sym, subst, arith}
 use Rattle.std.proofs.lemmas.Option.{slice_get_read}
-use Rattle.ringcore.specs.machine.Core.{CoreValue, core_of, AfterEachRun, StandsAfter}
+use Rattle.ringcore.specs.machine.Core.{CoreValue, core_of, AfterEachRun}
 use Rattle.ringcore.specs.machine.SenderViews.{Knows}
 use Rattle.ringcore.proofs.machine.Core.sender.Goals as goal
 

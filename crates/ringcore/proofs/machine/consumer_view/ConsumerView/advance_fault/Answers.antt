@@ -8,10 +8,10 @@ pub returns-then-all_read : goal.returns-then-all_read
 returns-then-all_read c = λ run known.
     let view : ConsumerValue = record { taken = c.self.inside.taken; found = c.self.inside.found; read = c.self.inside.read } in
     ap₂ fault_seen (sym (le-ltb view.found c.args.count c.if-self-count.false)) (sym (sym c.all_read.ensures ∙ c.if-all_read.true))
-    ∙ fault_known run view (subst (ConsumerKnows run) (sym c.self.view_is) known) c.self.invariant c.args.count c.requires.most
+    ∙ fault_known run view (subst (ConsumerKnows run) (sym c.self.view_is) known) c.self.invariant.places c.args.count c.requires.most
 
 pub returns-else-all_read : goal.returns-else-all_read
 returns-else-all_read c = λ run known.
     let view : ConsumerValue = record { taken = c.self.inside.taken; found = c.self.inside.found; read = c.self.inside.read } in
     ap₂ fault_seen (sym (le-ltb view.found c.args.count c.if-self-count.false)) (sym (sym c.all_read.ensures ∙ c.if-all_read.false))
-    ∙ fault_known run view (subst (ConsumerKnows run) (sym c.self.view_is) known) c.self.invariant c.args.count c.requires.most
+    ∙ fault_known run view (subst (ConsumerKnows run) (sym c.self.view_is) known) c.self.invariant.places c.args.count c.requires.most

@@ -6,4 +6,4 @@ use Rattle.ringcore.proofs.machine.consumer_view.ConsumerView.advances.Goals as 
 pub returns : goal.returns
 returns c = λ run raws long known.
     let view : ConsumerValue = record { taken = c.self.inside.taken; found = c.self.inside.found; read = c.self.inside.read } in
-    advanced_known run view c.from.result raws (long ∙ sym c.from.ensures) (subst (ConsumerKnows run) (sym c.self.view_is) known)
+    advanced_known run view c.forget.new.self c.from.result raws (long ∙ sym c.from.ensures) c.forget.ensures.same.taken_is c.forget.ensures.same.found_is c.forget.ensures.unread (subst (ConsumerKnows run) (sym c.self.view_is) known)

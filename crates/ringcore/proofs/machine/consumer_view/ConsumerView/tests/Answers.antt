@@ -6,4 +6,4 @@ use Rattle.ringcore.proofs.machine.consumer_view.ConsumerView.tests.Goals as goa
 pub returns : goal.returns
 returns c = λ run limit known.
     let view : ConsumerValue = record { taken = c.self.inside.taken; found = c.self.inside.found; read = c.self.inside.read } in
-    tested_known run view limit c.args.found (subst (ConsumerKnows run) (sym c.self.view_is) known)
+    tested_known run view c.forget.new.self limit c.args.found c.forget.ensures.same.taken_is c.forget.ensures.same.found_is c.forget.ensures.unread (subst (ConsumerKnows run) (sym c.self.view_is) known)
