@@ -5,6 +5,8 @@
 #[cfg(test)]
 mod at_once_tests;
 #[cfg(test)]
+mod gate_tests;
+#[cfg(test)]
 mod plan_tests;
 #[cfg(test)]
 mod report_tests;

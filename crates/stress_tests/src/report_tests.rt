@@ -1,5 +1,7 @@
 //! Whole runs, and the lines of their reports.
-use stress::{NoGate, Plan, run_all};
+use std::test::Fail;
+use std::thread::Threads;
+use stress::{NoGate, Plan, StressFault, run_all};
 
 #[test]
 fn four_senders(rt: HostRuntime) {
@@ -117,4 +119,35 @@ fn eight_senders_and_many_batches(rt: HostRuntime) {
         (160_000, 560_000, 8)
     );
     assert_eq!(rt; report.done(), &[20_000u32; 8][..]);
+}
+
+/// The smallest run, and the lines of its report: whole, refused for want of memory, or wrong.
+fn outcome<R: Threads + AllocGlobal + Sync>(rt: &R) -> &'static str {
+    let Some(plan) = Plan::new(1, 1, 1, 1) else {
+        return "wrong";
+    };
+    let report = match run_all(rt, &plan, &NoGate) {
+        Ok(report) => report,
+        Err(StressFault::NoMemory) => return "refused",
+        Err(StressFault::Unfinished) => return "wrong",
+    };
+    match report.text(rt.alloc()) {
+        Ok(text)
+            if text
+                .as_str()
+                .starts_with("senders 1\nbatches 1\ncommands 2\n") => "whole",
+        Ok(_) => "wrong",
+        Err(_) => "refused",
+    }
+}
+
+// Nothing but the run and its text allocates here, so that each of its allocations can be made to fail.
+#[test]
+fn every_allocation_of_the_smallest_run(rt: HostRuntime) {
+    let outcome = outcome(&rt);
+    assert_ne!(rt; outcome, "wrong");
+    println!(rt; "every_allocation_of_the_smallest_run: {outcome}").expect(
+        &rt,
+        "the line is printed",
+    );
 }
