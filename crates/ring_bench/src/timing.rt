@@ -1,9 +1,10 @@
-//! Times of batches.
+//! Times of batches of one sender, which nobody takes.
 ghost use Rattle.std.specs.Prelude.{◌≡◌, ◌≤◌};
 
+use crate::commands::batch_of;
+use crate::nothing::Nothing;
 use batch::Batch;
-use cmdcodec::Raw;
-use ring::{Device, Ring, Sender};
+use ring::{Ring, Sender};
 use std::io;
 use std::io::ErrorKind;
 use std::rt::Clock;
@@ -14,21 +15,6 @@ const BATCHES: u32 = 10_000_000;
 
 /// The largest ring, of `2^19` slots.
 const LOG2: u32 = 19;
-
-/// CMD_CFGI_STE of stream 7.
-const CFGI_STE: Raw = Raw {
-    lo: 0x0000_0007_0000_0003,
-    hi: 1,
-};
-
-/// Nothing is taken here.
-struct Nothing;
-
-impl Device for Nothing {
-    ghost use Rattle.std.specs.Prelude.{⊤};
-
-    ghost settled = { λ device taken. ⊤ };
-}
 
 /// Reserves and publishes the batch as often as the ring has room, at most so often: how often it did.
 fn fill(ring: &Ring, sender: Sender, batch: &Batch, most: u32) -> u32
@@ -72,9 +58,7 @@ fn time_batches<R: Clock + AllocGlobal>(rt: &R, batch: &Batch) -> io::Result<u12
 /// many batches, and how many batches.
 pub(crate) fn time_all<R: Clock + Print + AllocGlobal>(rt: &R) -> io::Result<()> {
     for length in [1usize, 63] {
-        let Ok(batch) = Batch::from_raws(&[CFGI_STE; 63][..length]) else {
-            return Err(io::Error::from(ErrorKind::InvalidData));
-        };
+        let batch = batch_of(length)?;
         let nanoseconds = time_batches(rt, &batch)?;
         println!(rt; "{length} {nanoseconds} {BATCHES}")?;
     }

@@ -1,0 +1,65 @@
+//! The consumer's part.
+ghost use Rattle.std.specs.Prelude.{◌≡◌, ◌≤◌, Some, true, false, length, slice_get, take};
+ghost use Rattle.cmdcodec.specs.declared.raw.Raw.{Raw as RawOf};
+ghost use Rattle.ringcore.specs.world.World.{outcome_of};
+ghost use Rattle.ringcore.specs.declared.world.event.Outcome.TheVariants.{Applied, Replaced};
+ghost use Rattle.ring.specs.consumer.Completing.{HasOutcome};
+
+use crate::nothing::Nothing;
+use cmdcodec::{Raw, decode};
+use ring::{Consumer, Outcome, PendingRun, Ring, TakenRun};
+
+/// The most commands that are taken at once.
+const MOST_COMMANDS: u32 = 64;
+
+/// Takes so many commands, or until the ring is closed.
+pub(crate) fn take_all(ring: &Ring, consumer: Consumer<Nothing>, wanted: u64) -> Consumer<Nothing>
+    requires { consumer.ring ≡ ring.now }
+{
+    let mut consumer = consumer;
+    for _ in 0..u64::MAX {
+        if consumer.taken() >= wanted {
+            return consumer;
+        }
+        consumer = match consumer.take_run(ring, MOST_COMMANDS) {
+            TakenRun::Drained(consumer) => return consumer,
+            TakenRun::Empty(consumer) | TakenRun::Unwritten(consumer) => consumer,
+            TakenRun::Ready(run) => complete(ring, run),
+        };
+    }
+    consumer
+}
+
+/// Completes all that was read ahead of the first illegal command, or that one where nothing is ahead of it.
+fn complete(ring: &Ring, run: PendingRun<Nothing>) -> Consumer<Nothing>
+    requires { run.consumer.ring ≡ ring.now }
+    ensures { result.ring ≡ ring.now }
+{
+    let count = count_legal(&run);
+    if count == 0 {
+        return run.complete_run(ring, 1, Outcome::Replaced, &Nothing);
+    }
+    run.complete_run(ring, count, Outcome::Applied, &Nothing)
+}
+
+/// How many commands from the first on are legal.
+fn count_legal(run: &PendingRun<Nothing>) -> u32
+    ensures within { result ≤ length run.now.raws }
+    ensures legal { HasOutcome Applied (take result run.now.raws) }
+    ensures longest { (raw : RawOf) → slice_get run.now.raws result ≡ Some raw → Replaced ≡ outcome_of raw }
+{
+    let many = run.len();
+    for count in 0..many {
+        if !is_legal(run.get(count).unwrap()) {
+            return count;
+        }
+    }
+    many
+}
+
+fn is_legal(raw: Raw) -> bool
+    ensures legal { result ≡ true → Applied ≡ outcome_of raw }
+    ensures illegal { result ≡ false → Replaced ≡ outcome_of raw }
+{
+    decode(raw).is_ok()
+}

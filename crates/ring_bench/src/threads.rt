@@ -1,0 +1,117 @@
+//! Times of senders and a consumer, each on a thread of its own.
+ghost use Rattle.std.specs.Prelude.{◌≡◌};
+ghost use Rattle.std.specs.List.{All};
+ghost use Rattle.std.specs.Thread.{IsSync};
+
+use crate::commands::batch_of;
+use crate::nothing::Nothing;
+use crate::taking::take_all;
+use batch::Batch;
+use ring::{Consumer, Ring, Sender};
+use std::alloc::AllocGlobal;
+use std::io;
+use std::io::ErrorKind;
+use std::rt::Clock;
+use std::thread::{Threads, join};
+use std::time::Instant;
+
+/// The ring has `2^10` slots.
+const LOG2: u32 = 10;
+
+/// How many batches each sender sends.
+const BATCHES: u32 = 300_000;
+
+/// How many commands four batches of a sender have in a row, with their CMD_SYNC: 2, 3, 4 and 5.
+const FOUR_BATCHES: u64 = 14;
+
+/// Sends all batches: batch k of sender s has 1 + (s + k) mod 4 commands ahead of its CMD_SYNC. Where one can't be sent,
+/// it closes the ring.
+fn send_all(ring: &Ring, sender: Sender, batches: &[Batch; 4])
+    requires { sender.ring ≡ ring.now }
+{
+    let mut sender = sender;
+    let first = sender.id() % 4;
+    for k in 0..BATCHES {
+        let batch = &batches[((first + k) % 4) as usize];
+        match sender.send(ring, batch, u32::MAX) {
+            Ok((again, _receipt)) => sender = again,
+            Err(mut refused) => {
+                refused.sender.close(ring);
+                return;
+            }
+        }
+    }
+}
+
+/// Runs each sender on a thread of its own.
+fn run_senders<R: Threads + Sync>(
+    rt: &R,
+    ring: &Ring,
+    batches: &[Batch; 4],
+    mut senders: Vec<Sender>,
+)
+    requires { All (λ s. s.ring ≡ ring.now) senders.items }
+{
+    let Some(sender) = senders.pop() else {
+        return;
+    };
+    join(
+        rt,
+        move ||
+            requires { sender.ring ≡ ring.now }
+        { send_all(ring, sender, batches) },
+        move ||
+            requires { IsSync R.row × All (λ s. s.ring ≡ ring.now) senders.items }
+        { run_senders(rt, ring, batches, senders) },
+    );
+}
+
+/// Runs the consumer and each sender, each on a thread of its own: how many commands were taken.
+fn run_all<R: Threads + Sync>(
+    rt: &R,
+    ring: &Ring,
+    batches: &[Batch; 4],
+    senders: Vec<Sender>,
+    consumer: Consumer<Nothing>,
+    wanted: u64,
+) -> u64
+    requires senders { All (λ s. s.ring ≡ ring.now) senders.items }
+    requires consumer { consumer.ring ≡ ring.now }
+{
+    let (consumer, ()) = join(
+        rt,
+        move || -> Consumer<Nothing>
+            requires { consumer.ring ≡ ring.now }
+        { take_all(ring, consumer, wanted) },
+        move ||
+            requires { IsSync R.row × All (λ s. s.ring ≡ ring.now) senders.items }
+        { run_senders(rt, ring, batches, senders) },
+    );
+    consumer.taken()
+}
+
+/// The nanoseconds from before the threads start to after all are joined, and how many commands were taken.
+fn time_one<R: Clock + Threads + AllocGlobal + Sync>(
+    rt: &R,
+    batches: &[Batch; 4],
+    senders: u32,
+) -> io::Result<(u128, u64)> {
+    let Ok((ring, all, consumer)) = Ring::new::<Nothing>(rt.alloc(), LOG2, senders, BATCHES) else {
+        return Err(io::Error::from(ErrorKind::OutOfMemory));
+    };
+    let wanted = u64::from(BATCHES / 4) * FOUR_BATCHES * u64::from(senders);
+    let start = Instant::now(rt)?;
+    let taken = run_all(rt, &ring, batches, all, consumer, wanted);
+    Ok((start.elapsed(rt)?.as_nanos(), taken))
+}
+
+/// Prints a line for each of 1 to 3 senders: the name of the ring, how many senders, the nanoseconds, and how many
+/// commands were taken.
+pub(crate) fn time_all<R: Clock + Threads + Print + AllocGlobal + Sync>(rt: &R) -> io::Result<()> {
+    let batches = [batch_of(1)?, batch_of(2)?, batch_of(3)?, batch_of(4)?];
+    for senders in 1..4 {
+        let (nanoseconds, taken) = time_one(rt, &batches, senders)?;
+        println!(rt; "ring {senders} {nanoseconds} {taken}")?;
+    }
+    Ok(())
+}
