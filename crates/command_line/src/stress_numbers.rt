@@ -64,14 +64,34 @@ pub(crate) fn stress<'a>(alloc: Global) -> Result<Command<'a>, AllocError> {
     let senders = value_parser!(u32).range(1..=64);
     let senders = number(alloc, SENDERS, "S", senders, "How many senders, 1 to 64");
     let batches = value_parser!(u32).range(1..=100_000);
-    let batches = number(alloc, BATCHES, "B", batches, "How many batches each, 1 to 100000");
+    let batches = number(
+        alloc,
+        BATCHES,
+        "B",
+        batches,
+        "How many batches each, 1 to 100000",
+    );
     let turns = value_parser!(u32).range(1..=10_000_000);
-    let turns = number(alloc, TURNS, "T", turns, "How many turns each, 1 to 10000000");
+    let turns = number(
+        alloc,
+        TURNS,
+        "T",
+        turns,
+        "How many turns each, 1 to 10000000",
+    );
     let bare = value_parser!(u32).range(0..=100_000);
-    let bare = number(alloc, BARE, "E", bare, "Each E-th batch has no CMD_SYNC; 0 for none");
+    let bare = number(
+        alloc,
+        BARE,
+        "E",
+        bare,
+        "Each E-th batch has no CMD_SYNC; 0 for none",
+    );
     Command::new(alloc, STRESS)
         .about("Runs many senders and an engine at the same time")
-        .override_usage("smmuq stress --log2 <L> --senders <S> --batches <B> --turns <T> [--bare <E>]")
+        .override_usage(
+            "smmuq stress --log2 <L> --senders <S> --batches <B> --turns <T> [--bare <E>]",
+        )
         .after_help(STRESS_HELP)
         .arg(log2.required(true))?
         .arg(senders.required(true))?

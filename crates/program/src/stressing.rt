@@ -28,11 +28,7 @@ fn tell_report<O: Write>(alloc: Global, plan: &Plan, report: &Report, output: &m
 }
 
 /// Runs a plan, and writes its report, or why there is none.
-fn stress<A: Threads + AllocGlobal + Sync, O: Write>(
-    rt: &A,
-    plan: &Plan,
-    output: &mut O,
-) -> Status
+fn stress<A: Threads + AllocGlobal + Sync, O: Write>(rt: &A, plan: &Plan, output: &mut O) -> Status
     ensures { Stresses result plan.now (O.contents output.old) (O.contents output.new) }
 {
     match run_all(rt, plan, &NoGate) {

@@ -30,9 +30,9 @@ pub use bare_reservation::BareReservation;
 use batch::Batch;
 pub use cause::{Cause, Refused};
 use qindex::Control;
-use ringcore::laws::newest_event;
 pub use receipt::Receipt;
 pub use reservation::Reservation;
+use ringcore::laws::newest_event;
 use std::marker::Model;
 pub use tally::Tally;
 

@@ -1,12 +1,12 @@
 -- Where the consumer saw the ring closed and empty, all that is reserved is taken.
-use Rattle.std.proofs.Common.{◌≡◌, ℕ, suc, ◌+◌, ◌<◌, ◌≤◌, true, [], ◌∷◌, map, length, length-append, refl, sym, ap, ◌∙◌, subst, arith, ◌⊎◌, ⊎_elim}
+use Rattle.std.proofs.Common.{◌≡◌, ℕ, ◌<◌, ◌≤◌, [], ◌∷◌, map, length-append, refl, subst, arith, ⊎_elim}
 use Rattle.qindex.specs.declared.control.Control.{Control}
 use Rattle.qindex.specs.Indexes.{IsGeometry}
 use Rattle.qindex.specs.Laws.{IndexesTellTheQueue}
 use Rattle.ringcore.specs.declared.world.event.Who.TheVariants.{Consumer, Sender}
 use Rattle.ringcore.specs.declared.world.event.Event.TheVariants.{Look, Won, Lost, Write, Flip, Test, Read, Advance, Close, Acknowledge, Ask}
 use Rattle.ringcore.specs.world.Trails.{Run, trail_of}
-use Rattle.ringcore.specs.world.World.{World, taken_as, tail, head, world, control}
+use Rattle.ringcore.specs.world.World.{taken_as, tail, head, world, control}
 use Rattle.ringcore.specs.world.Allowed.{Ring, IsRun}
 use Rattle.ringcore.specs.world.ConsumerLaws.{IsDrained, SawDrained, IsAllTaken}
 use Rattle.ringcore.proofs.WorldLemmas.SteadyHead.{indexes_differ}
