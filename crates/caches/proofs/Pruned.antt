@@ -65,6 +65,9 @@ module _ {K X : Type 0} (R : K → K → Ordering) (p : K → Bool) where
         | inr e ↦ inr e
       ]
 
+  pub none_pruned : (m n : BTreeMap K X) → IsPruned R p m n → (q : K) → get R m q ≡ None → get R n q ≡ None
+  none_pruned m n f q e = elim (f q) as (λ _. get R n q ≡ None) [ inl d ↦ d ∙ e | inr d ↦ d.1 ]
+
   pub without_from_pruned : (m n : BTreeMap K X) → IsPruned R p m n → ((q : K) → p q ≡ true → get R n q ≡ None) → IsWithout R p m n
   without_from_pruned m n f clean q =
       elim (p q) as (λ b. p q ≡ b → get R n q ≡ cond b None (get R m q)) [

@@ -135,7 +135,7 @@ impl Caches {
         if !entry.tag.is_block() {
             return Err(CacheFault::BadBlock);
         }
-        if self.lookup(&entry.tag).is_none() && self.len() == self.capacity as usize {
+        if self.len() == self.capacity as usize && self.lookup(&entry.tag).is_none() {
             return Err(CacheFault::Full);
         }
         self.put(entry)

@@ -89,13 +89,20 @@ fn last_page_before(map: &BTreeMap<Key, Entry>, owner: Owner, page: u64) -> Opti
 /// A block begins at a multiple of its length, so one that begins before the page and holds it begins at
 /// the page rounded down to one of 53 powers of two. These starts fall as the powers rise, and one is passed
 /// over where the owner's next entry lies further down.
-fn sweep_before(map: &mut BTreeMap<Key, Entry>, owner: Owner, page: u64, command: &Command)
+fn sweep_before(
+    map: &mut BTreeMap<Key, Entry>,
+    owner: Owner,
+    page: u64,
+    last_before: Option<u64>,
+    command: &Command,
+)
     requires keeping { IsKeeping ⟦<Key as Ord>⟧.cmp map.old }
+    requires last_before { IsLastPage ⟦<Key as Ord>⟧.cmp map.old owner page last_before }
     requires reach { (q : Key) → covers_key command.now q ≡ true → (owner_of q ≡ Some owner) × (page < page_of q + 2 ^ span_of q) }
     ensures pruned { IsPruned ⟦<Key as Ord>⟧.cmp (covers_key command.now) map.old map.new }
     ensures clean { (q : Key) → covers_key command.now q ≡ true → page_of q < page → tree.get ⟦<Key as Ord>⟧.cmp map.new q ≡ None }
 {
-    let mut before = last_page_before(map, owner, page);
+    let mut before = last_before;
     for span in 0..53u8 {
         let Some(last) = before else {
             return;
@@ -113,21 +120,47 @@ fn sweep_before(map: &mut BTreeMap<Key, Entry>, owner: Owner, page: u64, command
     }
 }
 
-/// Removes what is covered, for a command that covers blocks of this owner alone that meet this run.
-fn sweep_run(map: &mut BTreeMap<Key, Entry>, owner: Owner, run: PageRun, command: &Command)
+/// Removes what is covered and begins in this run, and tells the greatest page before it at which an entry of this
+/// owner begins.
+///
+/// One look from the end of the run finds that page where no entry begins in it, as is so most often.
+fn sweep_within(
+    map: &mut BTreeMap<Key, Entry>,
+    owner: Owner,
+    run: PageRun,
+    command: &Command,
+) -> Option<u64>
     requires keeping { IsKeeping ⟦<Key as Ord>⟧.cmp map.old }
-    requires reach { (q : Key) → covers_key command.now q ≡ true → (owner_of q ≡ Some owner) × (run.first < page_of q + 2 ^ span_of q) × (page_of q < run.end) }
-    ensures after { IsWithout ⟦<Key as Ord>⟧.cmp (covers_key command.now) map.old map.new }
+    requires reach { (q : Key) → covers_key command.now q ≡ true → owner_of q ≡ Some owner }
+    ensures pruned { IsPruned ⟦<Key as Ord>⟧.cmp (covers_key command.now) map.old map.new }
+    ensures clean { (q : Key) → covers_key command.now q ≡ true → run.first ≤ page_of q → page_of q < run.end → tree.get ⟦<Key as Ord>⟧.cmp map.new q ≡ None }
+    ensures before { IsLastPage ⟦<Key as Ord>⟧.cmp map.new owner run.first result }
 {
-    sweep_before(map, owner, run.first, command);
     // A range of the map may not run backward.
     let end = run.end.max(run.first);
+    let Some(last) = last_page_before(map, owner, end) else {
+        return None;
+    };
+    if last < run.first {
+        return Some(last);
+    }
     remove_covered(
         map,
         Bound::Included(owner.least(run.first, 0)),
         Bound::Excluded(owner.least(end, 0)),
         command,
     );
+    last_page_before(map, owner, run.first)
+}
+
+/// Removes what is covered, for a command that covers blocks of this owner alone that meet this run.
+fn sweep_run(map: &mut BTreeMap<Key, Entry>, owner: Owner, run: PageRun, command: &Command)
+    requires keeping { IsKeeping ⟦<Key as Ord>⟧.cmp map.old }
+    requires reach { (q : Key) → covers_key command.now q ≡ true → (owner_of q ≡ Some owner) × (run.first < page_of q + 2 ^ span_of q) × (page_of q < run.end) }
+    ensures after { IsWithout ⟦<Key as Ord>⟧.cmp (covers_key command.now) map.old map.new }
+{
+    let before = sweep_within(map, owner, run, command);
+    sweep_before(map, owner, run.first, before, command);
 }
 
 /// Removes what is covered, for a command by address that covers blocks of this owner alone.

@@ -29,7 +29,7 @@ loop-span-preserved c =
           rw (b.map-is, b.before-is) (record {
             pruned = pruned;
             gone = gone_below p w page c.requires.reach c.loop-span.span start c.block_start-start.ensures n keeping below;
-            found = found_before p w page c.requires.reach n start b.last_page_before-before-then-start-last.result (omega (arith, c.block_start-start.ensures)) below b.last_page_before-before-then-start-last.ensures;
+            found = found_before p w page c.requires.reach n start b.last_page_before-before.result (omega (arith, c.block_start-start.ensures)) below b.last_page_before-before.ensures;
           })
       | else-start-last b ↦
           let found : AreFound p w page m (Some c.in-Some.last) = rw c.in-Some.is at c.loop-span.invariant.found in
