@@ -1,5 +1,5 @@
 //! What a run came to.
-ghost use Rattle.std.specs.Prelude.{◌≡◌, IfOk, string_bytes};
+ghost use Rattle.std.specs.Prelude.{◌≡◌, IfOk, OnErr, Err, string_bytes};
 ghost use Rattle.std.specs.FinMap as finite;
 ghost use Rattle.stress.specs.ReportText.{report_text};
 
@@ -85,7 +85,8 @@ impl Report {
     ///
     /// Errors: S1.
     pub fn text(&self, alloc: Global) -> Result<String, StressFault>
-        ensures { IfOk result (λ text. string_bytes text ≡ report_text self.now) }
+        ensures lines { IfOk result (λ text. string_bytes text ≡ report_text self.now) }
+        ensures err { OnErr result (result ≡ Err StressFault.NoMemory) }
     {
         let mut text = String::new(alloc);
         if say_report(self, &mut text).is_err() {
