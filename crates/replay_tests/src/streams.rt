@@ -4,6 +4,7 @@ use fake_streams::{Sink, Source};
 use script::Status;
 use std::alloc::Global;
 use std::io::ErrorKind;
+use std::process::Abort;
 use std::test::Fail;
 
 const PIPE: ErrorKind = ErrorKind::BrokenPipe;
@@ -251,40 +252,65 @@ fn a_read_that_fails_at_the_end_of_each_line(rt: HostRuntime) -> Result<(), Fail
     Ok(())
 }
 
-// Seven bytes come with each read, and the one after the last byte finds the end.
+/// The lines of a script up to the first empty one.
+fn first_part(script: &str) -> &str {
+    let (part, _) = script.split_once("\n\n").unwrap_or((script, ""));
+    part
+}
+
+/// Has each read fail in turn, where so many bytes come with each, and wants just the answers to the lines whose ends
+/// were read. The read after the last byte finds the end.
+fn expect_failed_reads<R: AllocGlobal + Abort>(rt: &R, script: &str, answers: &str, most: usize) {
+    for calls in 0..=script.len().div_ceil(most.max(1)) {
+        let mut input = Source::new(script.as_bytes(), most, calls.saturating_add(1), PIPE);
+        let mut output = Sink::new(5, 0, PIPE);
+        let ended = status_of(rt.alloc(), &mut input, &mut output);
+        let read = calls.saturating_mul(most).min(script.len());
+        let told = answered(TRANSCRIPT, read);
+        assert_eq!(rt; ended, Status::ReadFailed, "{read} by {most}");
+        assert_eq!(rt;
+            Some(output.text()),
+            answers.get(..told),
+            "{read} by {most}"
+        );
+    }
+}
+
 #[test]
 fn each_read_fails_in_turn(rt: HostRuntime) -> Result<(), Fail> {
     let (script, answers) = halves(rt.alloc(), TRANSCRIPT)?;
-    for calls in 0..=script.len().div_ceil(7) {
-        let mut input = Source::new(script.as_bytes(), 7, calls.saturating_add(1), PIPE);
-        let mut output = Sink::new(5, 0, PIPE);
-        let ended = status_of(rt.alloc(), &mut input, &mut output);
-        let told = answered(TRANSCRIPT, calls.saturating_mul(7));
-        assert_eq!(rt; ended, Status::ReadFailed, "{calls}");
-        assert_eq!(rt; Some(output.text()), answers.get(..told), "{calls}");
-    }
+    let (script, answers) = (script.as_str(), answers.as_str());
+    expect_failed_reads(&rt, script, answers, 7);
+    expect_failed_reads(&rt, first_part(script), answers, 1);
     Ok(())
 }
 
-/// How many writes it takes where each takes seven bytes at most and seven bytes come with each read.
-fn writes(alloc: Global, script: &str) -> usize {
+/// How many writes a script takes where seven bytes come with each read, and each write takes so many bytes at most.
+fn writes(alloc: Global, script: &str, most: usize) -> usize {
     let mut input = Source::new(script.as_bytes(), 7, 0, PIPE);
-    let mut output = Sink::new(7, 0, PIPE);
+    let mut output = Sink::new(most, 0, PIPE);
     status_of(alloc, &mut input, &mut output);
     output.calls
+}
+
+/// Has each write fail in turn, and wants a beginning of the answers.
+fn expect_failed_writes<R: AllocGlobal + Abort>(rt: &R, script: &str, answers: &str, most: usize) {
+    for bad in 1..=writes(rt.alloc(), script, most) {
+        let mut input = Source::new(script.as_bytes(), 7, 0, PIPE);
+        let mut output = Sink::new(most, bad, PIPE);
+        let ended = status_of(rt.alloc(), &mut input, &mut output);
+        assert_eq!(rt; ended, Status::WriteFailed, "{bad} by {most}");
+        assert_eq!(rt; output.calls, bad);
+        assert!(rt; answers.starts_with(output.text()), "{bad} by {most}");
+    }
 }
 
 #[test]
 fn each_write_fails_in_turn(rt: HostRuntime) -> Result<(), Fail> {
     let (script, answers) = halves(rt.alloc(), TRANSCRIPT)?;
-    for bad in 1..=writes(rt.alloc(), script.as_str()) {
-        let mut input = Source::new(script.as_bytes(), 7, 0, PIPE);
-        let mut output = Sink::new(7, bad, PIPE);
-        let ended = status_of(rt.alloc(), &mut input, &mut output);
-        assert_eq!(rt; ended, Status::WriteFailed, "{bad}");
-        assert_eq!(rt; output.calls, bad);
-        assert!(rt; answers.starts_with(output.text()), "{bad}");
-    }
+    let (script, answers) = (script.as_str(), answers.as_str());
+    expect_failed_writes(&rt, script, answers, 7);
+    expect_failed_writes(&rt, first_part(script), answers, 1);
     Ok(())
 }
 
