@@ -41,3 +41,24 @@ found value=40960 born=0
     expect_answer(&rt, name, script.as_bytes(), answers.as_str(), Status::Good);
     Ok(())
 }
+
+// A single line is answered with all of them.
+#[test]
+fn a_dump_of_65536_entries(rt: HostRuntime) -> Result<(), Fail> {
+    let fills = fills(rt.alloc(), 65_536)?;
+    let filled = "filled\n".repeat(rt.alloc(), 65_536)?;
+    let mut entries = String::new(rt.alloc());
+    for stream in 0..65_536 {
+        writeln!(entries, "entry ste sid={stream} value={stream} born=0")?;
+    }
+    let dumped = "prod 0x00000000
+cons 0x00000000
+gerror 0 gerrorn 0
+taken 0 applied 0 replaced 0 syncs 0 removed 0
+";
+    let script = format!(in rt.alloc(); "ring 4 1 4 65536\n{fills}dump\n")?;
+    let answers = format!(in rt.alloc(); "ring size 16\n{filled}{dumped}{entries}end\n")?;
+    let name = "a dump of 65,536 entries";
+    expect_answer(&rt, name, script.as_bytes(), answers.as_str(), Status::Good);
+    Ok(())
+}

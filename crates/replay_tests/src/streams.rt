@@ -1,14 +1,16 @@
-//! Lines of all kinds in one script, from a reader and to a writer that fail.
-use crate::transcripts::{expect_transcript, halves, status_of};
+//! Lines of all kinds in one script, in pieces of several lengths, and from a reader and to a writer that fail.
+use crate::transcripts::{answered, expect_transcript, halves, status_of};
 use fake_streams::{Sink, Source};
 use script::Status;
+use std::alloc::Global;
 use std::io::ErrorKind;
+use std::process::Abort;
 use std::test::Fail;
 
 const PIPE: ErrorKind = ErrorKind::BrokenPipe;
 
 const TRANSCRIPT: &str = "> # Two drivers share a ring of 16 slots.
-> ring 4 2 16 16
+> ring 4 2 5 8
 ring size 16
 > fill ste 5 50
 filled
@@ -26,6 +28,10 @@ filled
 filled
 > fill atc 5 - 0x100 0 74
 filled
+> fill atc 5 9 0x100 0 75
+refused C1
+> fill s1 1 2 0x101 4 76
+refused C2
 > fill ste 6 61
 replaced value=60 born=0
 > evict el2 7 0x100 0
@@ -73,35 +79,128 @@ replaced ILL1
 applied TLBI_NH_VA vmid=1 asid=2 leaf=1 addr=0x100000 tg=1 num=0 scale=4 removed=2
 applied CMD_SYNC cs=1 msh=0 attr=0 data=1 addr=0x40000004 removed=0
 empty
-> openbare 1 03000000050000000100000000000000
-opened 1 bare first 5
-> detach 0 5
-sent 0 number 2
-> publish 1
-published 1 bare
+>\x20
+> # Entries of the hypervisor, and a stream beside stream 5.
+> fill el2 g 0x20 3 80
+filled
+> fill el2 9 0x20 0 81
+filled
+> fill ste 4 82
+filled
+> lookup el2 g 0x20 3
+found value=80 born=5
+> openbare 0 22000000000009000100020000000000 21000000000009000000000000000000
+opened 0 bare first 5
+> look 1
+control 7 5 open
+> step
+unwritten
+> send 1 04000000050000000000000000000000
+sent 1 number 2
+> publish 0
+published 0 bare
+> done 0
+done 0 up to 1
+> step 2
+applied TLBI_EL2_VA asid=9 leaf=1 addr=0x20000 removed=2
+applied TLBI_EL2_ASID asid=9 removed=0
+> step
+applied CFGI_STE_RANGE sid=5 range=0 removed=3
+> fill ste 5 90
+filled
+> step 2
+applied CMD_SYNC cs=1 msh=0 attr=0 data=2 addr=0x40000004 removed=0
+empty
+> lookup ste 5
+found value=90 born=8
+> lookup cd 5 1
+absent
+>\x20\x20\x20
+> # What is refused changes nothing.
+> send 0
+refused B5
+> send 0 46100000010000000000004000000000
+refused B2
+> inval 0 1 2 0x100 0
+refused B3
+> inval 0 1 2 0xfffffffffffff 2
+refused B4
+> inval 0 1 2 0 4398046511104
+refused B1
+> evict ste 7
+absent
+> ack 1 replace
+refused G1
+> detach 1 5
+sent 1 number 3
+> openbare 0 40000000050000003500000000000000
+opened 0 bare first 13
+> look 1
+control 14 9 open
+> inval 1 1 2 0 0xb000000000
+refused Q2
+> inval 1 1 2 0 0x10000000000
+refused Q4
+> step 3
+applied CFGI_STE sid=5 leaf=1 removed=1
+applied CFGI_CD_ALL sid=5 removed=0
+applied ATC_INV sid=5 ssv=0 ssid=0 global=0 size=52 addr=0x0 removed=1
+> step 2
+applied CMD_SYNC cs=1 msh=0 attr=0 data=3 addr=0x40000004 removed=0
+unwritten
+> publish 0
+published 0 bare
+> step 64
+stopped ILL4
+> step
+still stopped
+> look 0
+control 14 13 open
+> fill cd 5 1 95
+filled
+> dump
+prod 0x0000000e
+cons 0x0100000d
+gerror 1 gerrorn 0
+taken 13 applied 12 replaced 1 syncs 4 removed 10
+entry cd sid=5 ssid=1 value=95 born=13
+entry s2 vmid=1 page=0x100 span=0 value=72 born=0
+end
+> ack 1 replace
+acknowledged
+> step
+replaced ILL4
+> step
+empty
+> open 1 05100000050000000100000000000000
+opened 1 number 4 first 14
 > close 0
 closed
 > send 0 03000000050000000100000000000000
 refused Q1
-> step 9
-applied CFGI_STE sid=5 leaf=1 removed=2
-applied CFGI_STE sid=5 leaf=1 removed=0
-applied CFGI_CD_ALL sid=5 removed=0
-applied ATC_INV sid=5 ssv=0 ssid=0 global=0 size=52 addr=0x0 removed=1
-applied CMD_SYNC cs=1 msh=0 attr=0 data=2 addr=0x40000000 removed=0
+> step 5
+unwritten
+> look 0
+control 16 14 closed
+> publish 1
+published 1 number 4
+> bare 1 03000000050000000100000000000000
+refused Q5
+> step 5
+applied CFGI_CD sid=5 ssid=1 leaf=1 removed=1
+applied CMD_SYNC cs=1 msh=0 attr=0 data=4 addr=0x40000004 removed=0
 drained
 > done 0
-done 0 up to 2
+done 0 up to 1
 > done 1
-done 1 up to 1
-> look 0
-control 10 10 closed
+done 1 up to 4
+> evict s2 1 0x100 0
+evicted value=72 born=0
 > dump
-prod 0x0000000a
-cons 0x0000000a
-gerror 0 gerrorn 0
-taken 10 applied 9 replaced 1 syncs 3 removed 6
-entry s2 vmid=1 page=0x100 span=0 value=72 born=0
+prod 0x00000010
+cons 0x00000010
+gerror 1 gerrorn 1
+taken 16 applied 14 replaced 2 syncs 5 removed 11
 end
 ";
 
@@ -109,33 +208,42 @@ end
 fn lines_of_all_kinds(rt: HostRuntime) {
     expect_transcript(
         &rt,
-        "two drivers, a stop, and a ring that is closed",
+        "two drivers, two stops, refusals, and a ring that is closed",
         Status::Good,
         TRANSCRIPT,
     );
 }
 
-/// How many bytes the answers have to those lines whose ends are among so many bytes of the script.
-fn answered(transcript: &str, bytes: usize) -> usize {
-    let mut read = 0usize;
-    let mut told = 0usize;
-    for line in transcript.lines() {
-        match line.strip_prefix("> ") {
-            Some(asked) => read = read.saturating_add(asked.len()).saturating_add(1),
-            None if read <= bytes => told = told.saturating_add(line.len()).saturating_add(1),
-            None => {}
-        }
+// The pieces of reads and of writes have these lengths at most.
+#[test]
+fn answers_do_not_depend_on_the_pieces(rt: HostRuntime) -> Result<(), Fail> {
+    let (script, answers) = halves(rt.alloc(), TRANSCRIPT)?;
+    for (read, written) in [(1, 1), (1, 100_000), (100_000, 1), (2, 3), (7, 64), (33, 5)] {
+        let mut input = Source::new(script.as_bytes(), read, 0, PIPE);
+        let mut output = Sink::new(written, 0, PIPE);
+        let ended = status_of(rt.alloc(), &mut input, &mut output);
+        assert_eq!(rt; ended, Status::Good, "{read} and {written}");
+        assert_eq!(rt; output.text(), answers.as_str(), "{read} and {written}");
     }
-    told
+    Ok(())
 }
 
-// A byte comes with each read, and the one after the last byte finds the end.
+/// Whether so many bytes of a text end with a line, or lack just its end.
+fn is_at_the_end_of_a_line(text: &str, bytes: usize) -> bool {
+    let (front, rest) = text.split_at_checked(bytes).unwrap_or((text, ""));
+    front.ends_with("\n") || rest.starts_with("\n")
+}
+
+// One read gives so many bytes, and the next fails.
 #[test]
-fn a_failed_read_leaves_the_answers_of_the_lines_read(rt: HostRuntime) -> Result<(), Fail> {
+fn a_read_that_fails_at_the_end_of_each_line(rt: HostRuntime) -> Result<(), Fail> {
     let (script, answers) = halves(rt.alloc(), TRANSCRIPT)?;
-    for read in 0..=script.len() {
-        let mut input = Source::new(script.as_bytes(), 1, read.saturating_add(1), PIPE);
-        let mut output = Sink::new(100, 0, PIPE);
+    for read in 1..=script.len() {
+        if !is_at_the_end_of_a_line(script.as_str(), read) {
+            continue;
+        }
+        let mut input = Source::new(script.as_bytes(), read, 2, PIPE);
+        let mut output = Sink::new(100_000, 0, PIPE);
         let ended = status_of(rt.alloc(), &mut input, &mut output);
         let told = answered(TRANSCRIPT, read);
         assert_eq!(rt; ended, Status::ReadFailed, "{read}");
@@ -144,16 +252,79 @@ fn a_failed_read_leaves_the_answers_of_the_lines_read(rt: HostRuntime) -> Result
     Ok(())
 }
 
-// A byte goes with each write.
-#[test]
-fn a_failed_write_leaves_a_beginning_of_the_answers(rt: HostRuntime) -> Result<(), Fail> {
-    let (script, answers) = halves(rt.alloc(), TRANSCRIPT)?;
-    for written in 0..answers.len() {
-        let mut input = Source::new(script.as_bytes(), 100, 0, PIPE);
-        let mut output = Sink::new(1, written.saturating_add(1), PIPE);
+/// The lines of a script up to the first empty one.
+fn first_part(script: &str) -> &str {
+    let (part, _) = script.split_once("\n\n").unwrap_or((script, ""));
+    part
+}
+
+/// Has each read fail in turn, where so many bytes come with each, and wants just the answers to the lines whose ends
+/// were read. The read after the last byte finds the end.
+fn expect_failed_reads<R: AllocGlobal + Abort>(rt: &R, script: &str, answers: &str, most: usize) {
+    for calls in 0..=script.len().div_ceil(most.max(1)) {
+        let mut input = Source::new(script.as_bytes(), most, calls.saturating_add(1), PIPE);
+        let mut output = Sink::new(5, 0, PIPE);
         let ended = status_of(rt.alloc(), &mut input, &mut output);
-        assert_eq!(rt; ended, Status::WriteFailed, "{written}");
-        assert_eq!(rt; Some(output.text()), answers.get(..written), "{written}");
+        let read = calls.saturating_mul(most).min(script.len());
+        let told = answered(TRANSCRIPT, read);
+        assert_eq!(rt; ended, Status::ReadFailed, "{read} by {most}");
+        assert_eq!(rt;
+            Some(output.text()),
+            answers.get(..told),
+            "{read} by {most}"
+        );
+    }
+}
+
+#[test]
+fn each_read_fails_in_turn(rt: HostRuntime) -> Result<(), Fail> {
+    let (script, answers) = halves(rt.alloc(), TRANSCRIPT)?;
+    let (script, answers) = (script.as_str(), answers.as_str());
+    expect_failed_reads(&rt, script, answers, 7);
+    expect_failed_reads(&rt, first_part(script), answers, 1);
+    Ok(())
+}
+
+/// How many writes a script takes where seven bytes come with each read, and each write takes so many bytes at most.
+fn writes(alloc: Global, script: &str, most: usize) -> usize {
+    let mut input = Source::new(script.as_bytes(), 7, 0, PIPE);
+    let mut output = Sink::new(most, 0, PIPE);
+    status_of(alloc, &mut input, &mut output);
+    output.calls
+}
+
+/// Has each write fail in turn, and wants a beginning of the answers.
+fn expect_failed_writes<R: AllocGlobal + Abort>(rt: &R, script: &str, answers: &str, most: usize) {
+    for bad in 1..=writes(rt.alloc(), script, most) {
+        let mut input = Source::new(script.as_bytes(), 7, 0, PIPE);
+        let mut output = Sink::new(most, bad, PIPE);
+        let ended = status_of(rt.alloc(), &mut input, &mut output);
+        assert_eq!(rt; ended, Status::WriteFailed, "{bad} by {most}");
+        assert_eq!(rt; output.calls, bad);
+        assert!(rt; answers.starts_with(output.text()), "{bad} by {most}");
+    }
+}
+
+#[test]
+fn each_write_fails_in_turn(rt: HostRuntime) -> Result<(), Fail> {
+    let (script, answers) = halves(rt.alloc(), TRANSCRIPT)?;
+    let (script, answers) = (script.as_str(), answers.as_str());
+    expect_failed_writes(&rt, script, answers, 7);
+    expect_failed_writes(&rt, first_part(script), answers, 1);
+    Ok(())
+}
+
+// All answers are written at once: the first write takes some of the bytes, and the second fails.
+#[test]
+fn what_a_write_took_stays(rt: HostRuntime) -> Result<(), Fail> {
+    let (script, answers) = halves(rt.alloc(), TRANSCRIPT)?;
+    for tenth in 0..10 {
+        let taken = answers.len() / 10 * tenth;
+        let mut input = Source::new(script.as_bytes(), 100_000, 0, PIPE);
+        let mut output = Sink::new(taken, 2, PIPE);
+        let ended = status_of(rt.alloc(), &mut input, &mut output);
+        assert_eq!(rt; ended, Status::WriteFailed, "{taken}");
+        assert_eq!(rt; Some(output.text()), answers.get(..taken), "{taken}");
     }
     Ok(())
 }

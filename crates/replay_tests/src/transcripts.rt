@@ -43,6 +43,21 @@ pub fn halves(alloc: Global, transcript: &str) -> Result<(String, String), Alloc
     Ok((script, answers))
 }
 
+/// How many bytes the answers have of a transcript have to those lines whose ends are among the first so many bytes of
+/// its script.
+pub fn answered(transcript: &str, bytes: usize) -> usize {
+    let mut read = 0usize;
+    let mut told = 0usize;
+    for line in transcript.lines() {
+        match line.strip_prefix("> ") {
+            Some(asked) => read = read.saturating_add(asked.len()).saturating_add(1),
+            None if read <= bytes => told = told.saturating_add(line.len()).saturating_add(1),
+            None => {}
+        }
+    }
+    told
+}
+
 /// Replays the script of a transcript, and wants its answers and this status.
 pub fn expect_transcript<R: AllocGlobal + Abort>(
     rt: &R,

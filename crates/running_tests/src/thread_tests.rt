@@ -5,7 +5,7 @@ use crate::batches::batch_of;
 use crate::calls::{Seats, play, ring_of_one, ring_of_two};
 use crate::device::NoEntries;
 use crate::sender_calls::send;
-use crate::steps::{finish, take_one};
+use crate::steps::{Head, finish, take_one};
 use batch::Batch;
 use ring::{Cause, Consumer, Ring, Sender};
 use std::alloc::AllocError;
@@ -172,4 +172,85 @@ fn a_sender_beside_the_consumer(rt: HostRuntime) -> Result<(), AllocError> {
         (2_000, 2_000, false)
     );
     Ok(())
+}
+
+/// Closes the ring and then sends a batch: its number, or why it is refused.
+fn close_and_send(ring: &Ring, sender: Sender, batch: &Batch) -> (Sender, Result<u32, Cause>)
+    requires { sender.ring ≡ ring.now }
+    ensures { result.0.ring ≡ ring.now }
+{
+    let mut sender = sender;
+    sender.close(ring);
+    send(ring, sender, batch)
+}
+
+/// Takes a command in each of so many turns, where there is one: whether each turn found the head unwritten.
+fn find_unwritten(
+    ring: &Ring,
+    consumer: Consumer<NoEntries>,
+    turns: u32,
+) -> (Consumer<NoEntries>, bool)
+    requires { consumer.ring ≡ ring.now }
+    ensures { result.0.ring ≡ ring.now }
+{
+    let mut consumer = consumer;
+    let mut unwritten = true;
+    for _ in 0..turns {
+        let (again, head) = take_one(ring, consumer);
+        consumer = again;
+        unwritten = unwritten && head == Head::Unwritten;
+    }
+    (consumer, unwritten)
+}
+
+/// Has a sender close the ring and send a batch beside 1,000 turns of the consumer.
+fn close_beside_the_consumer(
+    rt: &impl Threads,
+    ring: &Ring,
+    seats: Seats,
+    batch: &Batch,
+) -> ((Sender, Result<u32, Cause>), (Consumer<NoEntries>, bool))
+    requires sender { seats.sender.ring ≡ ring.now }
+    requires consumer { seats.consumer.ring ≡ ring.now }
+    ensures sender { result.0.0.ring ≡ ring.now }
+    ensures consumer { result.1.0.ring ≡ ring.now }
+{
+    let Seats { sender, consumer } = seats;
+    join(
+        rt,
+        || -> (Sender, Result<u32, Cause>)
+            requires { sender.ring ≡ ring.now }
+            ensures { result.0.ring ≡ ring.entry.now }
+        { close_and_send(ring, sender, batch) },
+        || -> (Consumer<NoEntries>, bool)
+            requires { consumer.ring ≡ ring.now }
+            ensures { result.0.ring ≡ ring.entry.now }
+        { find_unwritten(ring, consumer, 1_000) },
+    )
+}
+
+#[test]
+fn a_close_on_another_thread_while_a_reservation_is_open(rt: HostRuntime) {
+    let (ring, first, seats) = ring_of_two(&rt, 3, 4);
+    let one = batch_of(&rt, 1);
+    let Ok(reservation) = first.reserve(&ring, &one) else {
+        panic!(rt; "the batch is refused");
+    };
+    let ((_second, sent), (consumer, unwritten)) = close_beside_the_consumer(
+        &rt, &ring, seats, &one,
+    );
+    assert_eq!(rt; sent, Err(Cause::Closed));
+    assert!(rt; unwritten);
+    let (sender, _receipt) = reservation.publish(&ring);
+    play(
+        &rt,
+        &ring,
+        Seats { sender, consumer },
+        "send 1 = Q1\n\
+         consumer take = 0x700000003 0x1\n\
+         consumer take = 0x100001046 0x40000000\n\
+         consumer take = drained\n\
+         done = 1\n\
+         look = 2 2 closed",
+    );
 }

@@ -4,6 +4,8 @@
 #![tactic(auto)]
 
 #[cfg(test)]
+mod long_lines;
+#[cfg(test)]
 mod replay_tests;
 #[cfg(test)]
 mod schedule_tests;
