@@ -1,0 +1,31 @@
+//! The caller that simulator's README shows.
+use batch::Batch;
+use cmdcodec::Raw;
+use simulator::{Shape, Simulator};
+
+/// CMD_CFGI_STE of stream 5 with Leaf 1.
+const CFGI_STE: Raw = Raw {
+    lo: 0x0000_0005_0000_0003,
+    hi: 1,
+};
+
+#[test]
+fn a_batch_of_one_owner(rt: HostRuntime) {
+    let shape = Shape {
+        log2: 3,
+        senders: 1,
+        max_batches: 4,
+        capacity: 4,
+    };
+    let mut simulator = Simulator::new(rt.alloc(), &shape).expect(&rt, "memory");
+    let batch = Batch::new(CFGI_STE).expect(&rt, "no CMD_SYNC");
+    assert!(rt; simulator.has_sender(0) && !simulator.is_open(0));
+    simulator.reserve(0, &batch, true).expect(&rt, "room");
+    assert_eq!(rt; simulator.publish(0), Some(1));
+    // The command, and its CMD_SYNC.
+    simulator.step();
+    simulator.step();
+    assert!(rt; simulator.has_sender(0));
+    assert_eq!(rt; simulator.done_up_to(0), 1);
+    assert_eq!(rt; simulator.counts().taken(), 2);
+}
