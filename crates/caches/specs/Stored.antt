@@ -18,7 +18,7 @@ pub record Stored : Type 0 where
 abbrev pub stored_code : Coded Stored
 stored_code = code_by (ℕ × Entries) (coded× coded_ℕ (finite.code tag_code entry_code)) (λ s. (s.capacity, s.entries)) (λ p. record { capacity = p.0; entries = p.1 }) (λ _. refl)
 
--- an entry put in, with the one of its tag that was there before, or want of memory for a new tag
+-- an entry put in, with the one of its tag that was there before, or no memory for a new tag
 abbrev pub IsFilled : Entries → Entry → Entries → Result (Option Entry) CacheFault → Type 0
 IsFilled old entry new result = MatchResult result
     (λ was. (was ≡ finite.get old entry.tag) × (new ≡ finite.insert old entry.tag entry))

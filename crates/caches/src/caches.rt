@@ -78,7 +78,7 @@ impl Caches {
 
     /// All entries that are held, in the order of their tags.
     ///
-    /// Errors: C3 for want of memory, and no other.
+    /// Errors: C3 when out of memory, and no other.
     pub fn entries(&self) -> Result<Vec<Entry>, CacheFault>
         ensures ok { IfOk result (λ list. list.items ≡ finite.values self.now.entries) }
         // Each stands under its own tag.
@@ -120,7 +120,7 @@ impl Caches {
     /// Puts an entry in, and answers the one of its tag that was held before.
     ///
     /// Errors, in this order, which leave the caches as they were: C2 where its block isn't well formed;
-    /// C1 where its tag is new and the caches are full; C3 for want of memory, where its tag is new.
+    /// C1 where its tag is new and the caches are full; C3 when out of memory, where its tag is new.
     pub fn fill(&mut self, entry: Entry) -> Result<Option<Entry>, CacheFault>
         ensures was { IfOk result (λ was. was ≡ finite.get self.old.entries entry.tag) }
         ensures after { OnOk result (self.new.entries ≡ finite.insert self.old.entries entry.tag entry) }

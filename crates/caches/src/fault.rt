@@ -12,7 +12,7 @@ pub enum CacheFault {
     Full,
     /// C2: the block of the tag isn't well formed.
     BadBlock,
-    /// C3: want of memory.
+    /// C3: out of memory.
     NoMemory,
     /// C4: the capacity isn't 1 to 65,536.
     BadCapacity,

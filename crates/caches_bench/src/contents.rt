@@ -118,7 +118,7 @@ impl Contents {
         }
     }
 
-    /// Caches that are full with so many entries, or none for want of memory.
+    /// Caches that are full with so many entries, or none where memory ran out.
     pub(crate) fn full(self, alloc: Global, size: u32) -> Option<Caches>
         requires { size ≤ 65536 }
     {

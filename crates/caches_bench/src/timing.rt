@@ -61,7 +61,7 @@ struct Times {
 }
 
 impl Sizes {
-    /// They, or none for want of memory.
+    /// They, or none where memory ran out.
     fn new(alloc: Global, contents: Contents) -> Option<Sizes> {
         Some(Sizes {
             small: contents.full(alloc, 256)?,

@@ -3,7 +3,7 @@ use crate::notation::{cd, ste};
 use caches::{CacheFault, Caches, Entry};
 use std::alloc::Global;
 
-/// Puts an entry in; where memory is wanting, twice. Whether it was put in at once, or none where an
+/// Puts an entry in; where memory runs out, twice. Whether it was put in at once, or none where an
 /// answer is wrong.
 fn fill(caches: &mut Caches, new: Entry) -> Option<bool> {
     let before = caches.len();
@@ -32,7 +32,7 @@ fn sum(caches: &Caches) -> Option<u64> {
     }
 }
 
-/// Fills and lists, and says how it went. Memory for one call may be wanting, and then it is had again.
+/// Fills and lists, and says how it went. Memory for one call may run out, and then it is had again.
 fn run(alloc: Global) -> &'static str {
     let mut outcome = "whole";
     let Ok(mut caches) = Caches::new(alloc, 40) else {

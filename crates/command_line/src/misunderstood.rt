@@ -4,14 +4,14 @@ use clap::error::ErrorKind;
 use std::io;
 use std::io::Write;
 
-/// Why words ask for no subcommand: they ask for help, they aren't understood, or memory was wanting.
+/// Why words ask for no subcommand: they ask for help, they aren't understood, or memory ran out.
 #[derive(Drop)]
 pub struct Misunderstood {
     pub(crate) error: Error,
 }
 
 impl Misunderstood {
-    /// Whether memory was wanting.
+    /// Whether memory ran out.
     pub fn is_want_of_memory(&self) -> bool {
         self.error.kind() == ErrorKind::OutOfMemory
     }

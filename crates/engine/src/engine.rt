@@ -201,7 +201,7 @@ impl Engine {
     /// Puts in an entry that is born now, and answers the one of its tag that was held before.
     ///
     /// Errors, in this order, which leave the engine as it was: C2 where its block isn't well formed; C1 where its tag
-    /// is new and the caches are full; C3 for want of memory, where its tag is new.
+    /// is new and the caches are full; C3 when out of memory, where its tag is new.
     pub fn fill(&mut self, tag: Tag, value: u64) -> Result<Option<Entry>, CacheFault>
         ensures was { IfOk result (λ was. was ≡ finite.get self.old.unit.caches.entries tag) }
         ensures ok { OnOk result (self.new ≡ record self.old { unit = with_entries self.old.unit (filled tag value self.old.unit) }) }
@@ -236,7 +236,7 @@ impl Engine {
 
     /// All entries that are held, in the order of their tags.
     ///
-    /// Errors: C3 for want of memory, and no other.
+    /// Errors: C3 when out of memory, and no other.
     pub fn entries(&self) -> Result<Vec<Entry>, CacheFault>
         ensures ok { IfOk result (λ list. list.items ≡ finite.values self.now.unit.caches.entries) }
         ensures own { IfOk result (λ list. All (λ entry. finite.get self.now.unit.caches.entries entry.tag ≡ Some entry) list.items) }

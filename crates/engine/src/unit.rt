@@ -165,7 +165,7 @@ impl Unit {
     /// Puts in an entry that is born now, and answers the one of its tag that was held before.
     ///
     /// Errors, in this order, which leave the unit as it was: C2 where its block isn't well formed; C1 where its tag
-    /// is new and the caches are full; C3 for want of memory, where its tag is new.
+    /// is new and the caches are full; C3 when out of memory, where its tag is new.
     pub fn fill(&mut self, tag: Tag, value: u64) -> Result<Option<Entry>, CacheFault>
         ensures was { IfOk result (λ was. was ≡ finite.get self.old.caches.entries tag) }
         ensures ok { OnOk result (self.new ≡ with_entries self.old (filled tag value self.old)) }
@@ -199,7 +199,7 @@ impl Unit {
 
     /// All entries that are held, in the order of their tags.
     ///
-    /// Errors: C3 for want of memory, and no other.
+    /// Errors: C3 when out of memory, and no other.
     pub fn entries(&self) -> Result<Vec<Entry>, CacheFault>
         ensures ok { IfOk result (λ list. list.items ≡ finite.values self.now.caches.entries) }
         ensures own { IfOk result (λ list. All (λ entry. finite.get self.now.caches.entries entry.tag ≡ Some entry) list.items) }

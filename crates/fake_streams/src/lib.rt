@@ -1,5 +1,5 @@
 //! Readers and a writer for tests: of small pieces, which fail where they are told to, and of a line without an end; and
-//! what texts are that end where memory was wanting. They carry no promise.
+//! what texts are that end where memory ran out. They carry no promise.
 #![tactic(auto)]
 
 mod long_source;

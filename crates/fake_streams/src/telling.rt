@@ -1,4 +1,4 @@
-//! Texts that end where memory was wanting.
+//! Texts that end where memory ran out.
 
 /// How many answers a text is made of, from the first on, if of nothing else.
 pub fn answers_in(answers: &[&str], text: &str) -> Option<usize> {
@@ -16,7 +16,7 @@ pub fn answers_in(answers: &[&str], text: &str) -> Option<usize> {
     }
 }
 
-/// Whether a text is the answers to some lines and then tells that memory was wanting.
+/// Whether a text is the answers to some lines and then tells that memory ran out.
 pub fn ends_without_memory(answers: &[&str], text: &str) -> bool {
     match text.strip_suffix("no memory\n") {
         Some(front) => answers_in(answers, front).is_some(),

@@ -53,7 +53,7 @@ ExitsAsStress exit plan before after = (status : Status) × (exit ≡ exit_statu
 -- ---- the program
 
 -- None of these was asked for, and help or a fault was told: the status isn't that of a refused word or script,
--- a fault of the command line goes elsewhere than answers, and want of memory is told by its line alone.
+-- a fault of the command line goes elsewhere than answers, and being out of memory is told by its line alone.
 abbrev pub ExitsAsTold : ℕ → Option (List ℕ) → Option (List ℕ) → Type 0
 ExitsAsTold exit before after = (exit ≢ 1) × (exit ≡ 2 → Keeps before after) × (exit ≡ 3 → Appends before after no_memory_line)
 

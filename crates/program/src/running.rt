@@ -32,7 +32,7 @@ pub(crate) fn print_line<W: Write>(line: &str, output: &mut W) -> io::Result<()>
     output.flush()
 }
 
-/// Tells that memory was wanting.
+/// Tells that memory ran out.
 pub fn tell_of_memory<W: Write>(output: &mut W) -> Status
     ensures told { result ≡ Status.NoMemory → Appends (W.contents output.old) (W.contents output.new) no_memory_line }
     ensures failed { (result ≡ Status.NoMemory) ⊎ (result ≡ Status.WriteFailed) }
@@ -94,7 +94,7 @@ fn schedule_to_exit<I: Read, O: Write>(alloc: Global, input: &mut I, output: &mu
 }
 
 /// Does what the words ask, without the program's own name, and answers the exit status: 0 good,
-/// 1 refused input, 2 a command line that isn't understood, 3 want of memory, 4 a failed read or write.
+/// 1 refused input, 2 a command line that isn't understood, 3 out of memory, 4 a failed read or write.
 ///
 /// The command line is judged before any input is read. Answers go to `output`, and what is wrong with
 /// the command line goes to `faults`.

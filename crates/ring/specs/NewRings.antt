@@ -15,7 +15,7 @@ number_fault log2 senders max_batches =
     else if max_batches == 0 then Some Batches
     else None
 
--- It isn't made for that fault, or for want of memory where there is none.
+-- It isn't made for that fault, or where there is none because memory ran out.
 abbrev pub IsNotMade : Option RingFault → RingFault → Type 0
 IsNotMade numbers (Memory error) = numbers ≡ None
 IsNotMade numbers fault = numbers ≡ Some fault

@@ -15,7 +15,7 @@ pub enum RingFault {
     Senders,
     /// N3: a sender may reserve no batch.
     Batches,
-    /// N4: want of memory.
+    /// N4: out of memory.
     Memory(AllocError),
 }
 

@@ -40,7 +40,7 @@ impl Ring {
     /// may reserve `max_batches` batches. No later call of this crate takes memory.
     ///
     /// Errors: N1 where log2 isn't 1 to 19, N2 where the senders aren't 1 to 256, N3 where max_batches is 0, N4 for
-    /// want of memory.
+    /// out of memory.
     pub fn new<D: Device>(
         alloc: Global,
         log2: u32,

@@ -61,7 +61,7 @@ impl Model for Core {
 impl Core {
     /// A new ring of `2^log2` slots, for so many senders.
     ///
-    /// Errors: N1 where log2 isn't 1 to 19, N2 where the senders aren't 1 to 256, N4 for want of memory.
+    /// Errors: N1 where log2 isn't 1 to 19, N2 where the senders aren't 1 to 256, N4 when out of memory.
     pub fn new(alloc: Global, log2: u32, senders: u32) -> Result<Core, CoreFault>
         ensures made { IfOk result (λ core. IsNew core log2 senders) }
         ensures refused { IfErr result (λ fault. IsNotMade (number_fault log2 senders) fault) }

@@ -68,7 +68,7 @@ first_served number asks.Nothing = record { text = []; state = None; goes_on = t
 first_served number (asks.Ring log2 senders) = ring_or_fault number log2 senders (number_fault log2 senders)
 first_served number request = faults number (codes "no ring") None
 
--- A schedule's requests don't look at whether memory is wanting, so that a script has one answer.
+-- A schedule's requests don't look at whether memory runs out, so that a script has one answer.
 abbrev pub schedules : Kind
 schedules = record {
   State = State;

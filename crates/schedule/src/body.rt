@@ -23,7 +23,7 @@ impl Model for Body {
 impl Body {
     /// A body of these commands.
     ///
-    /// Errors: want of memory.
+    /// Errors: out of memory.
     pub(crate) fn new(alloc: Global, commands: RawList) -> Result<Body, AllocError>
         ensures { IfOk result (λ body. body ≡ commands) }
     {

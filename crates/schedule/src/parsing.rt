@@ -286,7 +286,7 @@ fn parse_words(alloc: Global, line: &[u8]) -> Result<Option<Request>, AllocError
 
 /// What a line asks for. None is a bad line.
 ///
-/// Errors: want of memory for the commands of a line that reserves.
+/// Errors: out of memory for the commands of a line that reserves.
 #[tactic(auto, unfolding(crate::specs::Lines::request_of))]
 pub fn parse(alloc: Global, line: &[u8]) -> Result<Option<Request>, AllocError>
     ensures { IfOk result (λ request. request ≡ request_of line.now) }

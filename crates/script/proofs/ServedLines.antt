@@ -119,7 +119,7 @@ stops_after before after a b c x stops more =
     (sym (ap (λ ys. ys ++ more) x.split ∙ append_assoc x.used b.pending more))
     (x.gives (b.pending ++ more) _ (stops more))
 
--- memory was wanting at the next line
+-- memory ran out at the next line
 pub halts_after : (before after : ℕ → List (List ℕ) → Outcome → Type 0) (a b c : Run) → EndsWithNothing after → Advances before after a b → string_bytes c.text ≡ string_bytes b.text
     → Halts before a c
 halts_after before after a b c nothing x text = record {

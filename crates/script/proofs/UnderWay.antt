@@ -163,7 +163,7 @@ pub under_way_begins : (may now_may : ℕ → List (List ℕ) → Outcome → Ty
 under_way_begins may now_may input rest before now s cut begins u =
     under_way_part may now_may input rest before now now s cut begins u (record { front = []; rest = string_bytes s.text; split = refl; written = Appends-nil now })
 
--- memory was wanting at a line, whatever follows
+-- memory ran out at a line, whatever follows
 stops_for_memory : (may now_may : ℕ → List (List ℕ) → Outcome → Type 0) (input rest before now : Option (List ℕ)) (s t : Run) (u : IsUnderWay may now_may input rest before now s)
     → Halts now_may s t → (more : List ℕ) → StopsForMemory may ((u.whole ++ s.pending) ++ more) ((u.told ++ string_bytes t.text) ++ no_memory_line)
 stops_for_memory may now_may input rest before now s t u h more = record {
@@ -200,7 +200,7 @@ under_way_no_memory_part may now_may input rest before mid now s t u h f =
       beginning = λ more _. inr ((u.told ++ string_bytes t.text) ++ no_memory_line, f.rest, stops_for_memory may now_may input rest before mid s t u h more, split);
     }
 
--- memory was wanting before any line
+-- memory ran out before any line
 stops_at_once : (may : ℕ → List (List ℕ) → Outcome → Type 0) (script : List ℕ) → EndsWithNothing may → StopsForMemory may script no_memory_line
 stops_at_once may script nothing = record {
   whole = [];

@@ -10,7 +10,7 @@ is_read (Memory e) = false
 is_read (Write e) = false
 is_read Endless = false
 
--- memory was wanting
+-- memory ran out
 abbrev pub is_memory : ServeError → Bool
 is_memory (Memory e) = true
 is_memory (Read e) = false

@@ -5,7 +5,7 @@ use Rattle.script.specs.Answers.{EndsAs}
 use Rattle.script.specs.Kinds.{Kind, answer_from}
 use Rattle.script.specs.Standing.{StandsAt}
 
--- what lines may come to from a state, under some choice of those at which memory is wanting
+-- what lines may come to from a state, under some choice of those at which memory runs out
 abbrev pub MayCome : (kind : Kind) → Option kind.State → ℕ → List (List ℕ) → Outcome → Type 0
 MayCome kind state number lines outcome = (choice : List Bool) × EndsAs (answer_from kind number choice state lines) outcome.text outcome.ending
 

@@ -35,7 +35,7 @@ abbrev pub after_effect : {State : Type 0} → Effect State → (Option State �
 after_effect effect rest =
     if effect.goes_on then with_text effect.text (rest effect.state) else record { text = effect.text; is_good = false }
 
--- whether memory is wanting at the first of some lines: a choice that says nothing of a line is no
+-- whether memory runs out at the first of some lines: a choice that says nothing of a line is no
 abbrev pub first_choice : List Bool → Bool
 first_choice [] = false
 first_choice (wanting ∷ choice) = wanting
@@ -44,7 +44,7 @@ abbrev pub later_choice : List Bool → List Bool
 later_choice [] = []
 later_choice (wanting ∷ choice) = choice
 
--- The answer to lines, the first of which has this number. `choice` says at which lines memory is wanting.
+-- The answer to lines, the first of which has this number. `choice` says at which lines memory runs out.
 unfoldable pub answer_from : (kind : Kind) → ℕ → List Bool → Option kind.State → List (List ℕ) → Answer
 answer_from kind number choice state [] = record { text = []; is_good = true }
 answer_from kind number choice state (line ∷ lines) =
@@ -54,6 +54,6 @@ answer_from kind number choice state (line ∷ lines) =
 abbrev pub answer_to : Kind → List Bool → List ℕ → Answer
 answer_to kind choice script = answer_from kind 1 choice None (lines_of script)
 
--- No request of the kind looks at whether memory is wanting. A script of such a kind has one answer.
+-- No request of the kind looks at whether memory runs out. A script of such a kind has one answer.
 abbrev pub HasNoChoice : Kind → Type 0
 HasNoChoice kind = (number : ℕ) (wanting : Bool) (request : kind.Request) (state : kind.State) → kind.served number wanting request state ≡ kind.served number false request state

@@ -16,7 +16,7 @@ abbrev pub WritesAnswer : (ℕ → List (List ℕ) → Outcome → Type 0) → O
 WritesAnswer may input before after ending =
     IfSome input (λ script. (text : List ℕ) × ComesTo may script text (Some ending) × Appends before after text)
 
--- the line that ends a run for want of memory
+-- the line that ends a run when memory ran out
 abbrev pub no_memory_line : List ℕ
 no_memory_line = codes "no memory\n"
 

@@ -14,7 +14,7 @@ pub trait Interpreter {
     ghost gives: { Self → ℕ → List (List ℕ) → Outcome → Type 0 };
 
     /// Serves the line of this number, appends its answer to `reply`, and says whether the run goes on.
-    /// Where memory was wanting the run is over, and neither `self` nor `reply` is of use.
+    /// Where memory ran out the run is over, and neither `self` nor `reply` is of use.
     fn serve_line(
         &mut self,
         number: u64,

@@ -217,7 +217,7 @@ impl Run {
         Ok(())
     }
 
-    // Writes the text, and where memory was wanting the line that tells of it. Gives the error that ends the run.
+    // Writes the text, and where memory ran out the line that tells of it. Gives the error that ends the run.
     fn give_up<W: Write>(&mut self, output: &mut W, e: ServeError) -> ServeError
         ensures same { SameButText self.old self.new }
         ensures told { is_memory result ≡ true → Appends (W.contents output.old) (W.contents output.new) (string_bytes self.old.text ++ no_memory_line) }

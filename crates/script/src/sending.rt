@@ -10,7 +10,7 @@ use std::alloc::AllocError;
 use std::io;
 use std::io::{ErrorKind, Write};
 
-/// Writes the line that tells that memory was wanting, with no memory. Gives the error that ends the run.
+/// Writes the line that tells that memory ran out, with no memory. Gives the error that ends the run.
 pub(crate) fn tell_of_memory<W: Write>(output: &mut W, e: AllocError) -> ServeError
     ensures told { is_memory result ≡ true → Appends (W.contents output.old) (W.contents output.new) no_memory_line }
     ensures part { WritesFront (W.contents output.old) (W.contents output.new) no_memory_line }

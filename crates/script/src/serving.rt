@@ -24,7 +24,7 @@ pub fn serve<I: Interpreter, R: Read, W: Write>(
     ensures answer { IfOk result (λ ending. WritesAnswer (I.gives interpreter.old) (R.remaining input.old) (W.contents output.old) (W.contents output.new) ending) }
     ensures end { IfOk result (λ ending. ending ≡ Ending.Finished → IsAtEnd (R.remaining input.new)) }
 
-    // Where memory was wanting, the answers to the lines before were written, and then the line that tells of it.
+    // Where memory ran out, the answers to the lines before were written, and then the line that tells of it.
     ensures memory { IfErr result (λ e. is_memory e ≡ true
         → WritesNoMemory (I.gives interpreter.old) (R.remaining input.old) (W.contents output.old) (W.contents output.new)) }
 
@@ -35,7 +35,7 @@ pub fn serve<I: Interpreter, R: Read, W: Write>(
     ensures read { IfErr result (λ e. is_read e ≡ true
         → AnswersWholeLines (I.gives interpreter.old) (R.remaining input.old) (R.remaining input.new) (W.contents output.old) (W.contents output.new)) }
 
-    // Any other error than want of memory, a failed read or a failed write takes a script of 2^63 bytes or more.
+    // Any other error than being out of memory, a failed read or a failed write takes a script of 2^63 bytes or more.
     ensures endless { IfErr result (λ e. is_endless e ≡ true → ReadsAtLeast (2 ^ 63) (R.remaining input.old) (R.remaining input.new)) }
 {
     let mut run = match Run::new(alloc) {

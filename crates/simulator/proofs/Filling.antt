@@ -92,7 +92,7 @@ no_fault state tag None r result clauses ok e =
     let block = well_formed tag r clauses.bad (λ bad. absurd cc) in
     fault_is state tag false true None false block e (not_full (entries state) state.capacity tag r clauses block e (λ full. absurd cc))
 
--- The test has the fault that the unit's fill told; want of memory is a choice.
+-- The test has the fault that the unit's fill told; whether memory runs out is a choice.
 pub fill_refused : (state : State) (tag : Tag) (r : Result (Option Entry) CacheFault) (fault : CacheFault) → FillClauses (entries state) state.capacity tag r → r ≡ Err fault
     → (wanting : Bool) × (fill_fault wanting tag state ≡ Some fault)
 fill_refused state tag r BadBlock clauses e =

@@ -23,7 +23,7 @@ shape_fault shape =
     else if not (is_within 1 65536 shape.capacity) then Some Capacity
     else None
 
--- Nothing is made for that fault, or for want of memory where there is none.
+-- Nothing is made for that fault, or where there is none because memory ran out.
 abbrev pub IsNotMade : Option ShapeFault → ShapeFault → Type 0
 IsNotMade numbers (Memory error) = numbers ≡ None
 IsNotMade numbers fault = numbers ≡ Some fault

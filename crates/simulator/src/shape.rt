@@ -30,7 +30,7 @@ pub enum ShapeFault {
     Batches,
     /// C4: the capacity isn't 1 to 65,536.
     Capacity,
-    /// N4: want of memory.
+    /// N4: out of memory.
     Memory(AllocError),
 }
 

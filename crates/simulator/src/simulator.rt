@@ -49,7 +49,7 @@ impl Model for Simulator {
 impl Simulator {
     /// A simulator to which nothing has happened yet.
     ///
-    /// Errors, in this order: N1, N2, N3 and C4 where a number of the shape is out of range; want of memory.
+    /// Errors, in this order: N1, N2, N3 and C4 where a number of the shape is out of range; out of memory.
     pub fn new(alloc: Global, shape: &Shape) -> Result<Simulator, ShapeFault>
         ensures made { IfOk result (λ simulator. Stands simulator (made shape.now)) }
         ensures numbers { IfOk result (λ simulator. shape_fault shape.now ≡ None) }
@@ -141,7 +141,7 @@ impl Simulator {
     /// Puts in an entry that is born now, and answers the one of its tag that was held before.
     ///
     /// Errors, in this order: C2 where its block isn't well formed; C1 where its tag is new and the caches are full; C3
-    /// for want of memory, where its tag is new.
+    /// out of memory, where its tag is new.
     pub fn fill(&mut self, tag: Tag, value: u64) -> Result<Option<Entry>, CacheFault>
         ensures { MayDo self.old self.new result (λ wanting. filled wanting tag value) }
     {
@@ -164,7 +164,7 @@ impl Simulator {
 
     /// All entries that are held, in the order of their tags.
     ///
-    /// Errors: C3 for want of memory, and no other.
+    /// Errors: C3 when out of memory, and no other.
     pub fn entries(&self) -> Result<Vec<Entry>, CacheFault>
         ensures ok { IfOk result (λ list. Tells self.now (λ state. list.items ≡ finite.values (entries state))) }
         ensures err { OnErr result (result ≡ Err CacheFault.NoMemory) }

@@ -5,7 +5,7 @@ use std::fmt;
 /// Why there is no report.
 #[derive(Clone, Copy, Debug, PartialEq, Eq, Drop)]
 pub enum StressFault {
-    /// S1: memory is wanting.
+    /// S1: out of memory.
     NoMemory,
     /// S2: behind the workers a batch was refused eight times, or a drain found a command that wasn't handed over.
     Unfinished,

@@ -45,7 +45,7 @@ pub(crate) fn filled_engine(
     };
     let mut engine = Engine::new(consumer, caches);
     for sender in 0..senders {
-        // With a new tag, a whole block and room there is no other fault than the want of memory.
+        // With a new tag, a whole block and room there is no other fault than being out of memory.
         if engine.fill(first_tag(sender), u64::from(sender)).is_err() {
             return Err(StressFault::NoMemory);
         }

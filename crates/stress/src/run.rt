@@ -27,7 +27,7 @@ use std::thread::Threads;
 /// which of its batches completed, and the ring is finished. Whatever the schedule was, the totals are the plan's. No
 /// memory is taken between the start of the workers and their end.
 ///
-/// Errors: S1 for want of memory, S2 where a batch was refused eight times behind the workers' end, or a drain didn't
+/// Errors: S1 when out of memory, S2 where a batch was refused eight times behind the workers' end, or a drain didn't
 /// come to its end.
 pub fn run_all<R: Threads + AllocGlobal + Sync, G: Gate + Sync>(
     rt: &R,

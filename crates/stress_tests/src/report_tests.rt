@@ -121,7 +121,7 @@ fn eight_senders_and_many_batches(rt: HostRuntime) {
     assert_eq!(rt; report.done(), &[20_000u32; 8][..]);
 }
 
-/// The smallest run, and the lines of its report: whole, refused for want of memory, or wrong.
+/// The smallest run, and the lines of its report: whole, refused as memory ran out, or wrong.
 fn outcome<R: Threads + AllocGlobal + Sync>(rt: &R) -> &'static str {
     let Some(plan) = Plan::new(1, 1, 1, 1) else {
         return "wrong";

@@ -117,7 +117,7 @@ number_fault log2 senders =
     else if not (nat_le 1 senders && nat_le senders 256) then Some Senders
     else None
 
--- It isn't made for that fault, or for want of memory where there is none.
+-- It isn't made for that fault, or where there is none because memory ran out.
 abbrev pub IsNotMade : Option CoreFault → CoreFault → Type 0
 IsNotMade numbers (Memory error) = numbers ≡ None
 IsNotMade numbers fault = numbers ≡ Some fault

@@ -13,7 +13,7 @@ pub enum CoreFault {
     Size,
     /// N2: the senders aren't 1 to 256.
     Senders,
-    /// N4: want of memory.
+    /// N4: out of memory.
     Memory(AllocError),
 }
 

@@ -27,7 +27,7 @@ impl Model for SyncTallies {
 impl SyncTallies {
     /// No syncs yet, of so many senders.
     ///
-    /// Errors: want of memory.
+    /// Errors: out of memory.
     pub fn new(alloc: Global, senders: u32) -> Result<SyncTallies, AllocError>
         ensures none { IfOk result (λ tallies. tallies ≡ replicate senders 0) }
         ensures begins { IfOk result (λ tallies. AreTallies [] tallies) }

@@ -37,7 +37,7 @@ impl Model for RingWords {
 impl RingWords {
     /// The words of a new ring of so many senders, at most 256: all 0.
     ///
-    /// Errors: want of memory.
+    /// Errors: out of memory.
     pub fn new(alloc: Global, geometry: Geometry, senders: u32) -> Result<RingWords, AllocError>
         requires { senders ≤ 256 }
         ensures { IfOk result (λ w. w ≡ record { geometry = geometry; senders = senders; words = replicate (words_of geometry senders) 0 }) }
