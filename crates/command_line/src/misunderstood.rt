@@ -12,7 +12,7 @@ pub struct Misunderstood {
 
 impl Misunderstood {
     /// Whether memory ran out.
-    pub fn is_want_of_memory(&self) -> bool {
+    pub fn is_out_of_memory(&self) -> bool {
         self.error.kind() == ErrorKind::OutOfMemory
     }
 

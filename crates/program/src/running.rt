@@ -47,7 +47,7 @@ pub fn tell_of_memory<W: Write>(output: &mut W) -> Status
 fn tell<O: Write, F: Write>(error: &Misunderstood, output: &mut O, faults: &mut F) -> u8
     ensures { ExitsAsTold result (O.contents output.old) (O.contents output.new) }
 {
-    if error.is_want_of_memory() {
+    if error.is_out_of_memory() {
         return tell_of_memory(output).exit_status();
     }
     let (told, status) = if error.is_fault() {
