@@ -1,6 +1,9 @@
 //! A writer that keeps what it is given.
+ghost use Rattle.std.specs.Prelude.{◌≡◌, ◌⊎◌, [], codes};
+
 use std::io;
 use std::io::{ErrorKind, Write};
+use std::marker::Model;
 
 /// How many bytes are kept at most. The calls after that take nothing.
 const MOST_KEPT: usize = 4096;
@@ -18,7 +21,22 @@ pub struct Sink {
     pub calls: usize,
 }
 
+impl Model for Sink {
+    ghost use Rattle.std.specs.Prelude.{◌≤◌, take};
+    ghost use Rattle.fake_streams.specs.Streams.{SinkValue};
+
+    ghost Value = { SinkValue };
+
+    ghost view = { λ s. record { kept = take s.len s.kept; calls = s.calls; bad = s.bad } };
+
+    ghost invariant = { λ s. s.len ≤ 4096 };
+}
+
 impl Write for Sink {
+    ghost use Rattle.std.specs.Prelude.{Some};
+
+    ghost contents = { λ s. Some s.kept };
+
     fn write(&mut self, buf: &[u8]) -> io::Result<usize> {
         self.calls = self.calls.saturating_add(1);
         if self.calls == self.bad {
@@ -41,7 +59,9 @@ impl Write for Sink {
 
 impl Sink {
     /// A writer that is empty, and fails in this way.
-    pub fn new(most: usize, bad: usize, kind: ErrorKind) -> Sink {
+    pub fn new(most: usize, bad: usize, kind: ErrorKind) -> Sink
+        ensures { result ≡ record { kept = []; calls = 0; bad = bad } }
+    {
         Sink {
             kept: [0; MOST_KEPT],
             len: 0,
@@ -53,7 +73,9 @@ impl Sink {
     }
 
     /// What was written, or `no text` where it is none.
-    pub fn text(&self) -> &str {
+    pub fn text(&self) -> &str
+        ensures { (result.now ≡ self.now.kept) ⊎ (result.now ≡ codes "no text") }
+    {
         str::from_utf8(self.kept.get(..self.len).unwrap_or_default()).unwrap_or("no text")
     }
 }

@@ -1,8 +1,12 @@
 //! A reader that gives a text in pieces.
+ghost use Rattle.std.specs.Prelude.{◌≡◌};
+
 use std::io;
 use std::io::{ErrorKind, Read};
+use std::marker::Model;
 
-/// Gives a text, at most so many bytes a call. The call of number `bad` fails, counted from 1; 0 is no call.
+/// Gives a text, at most so many bytes a call, and one at least. The call of number `bad` fails, counted from 1; 0 is no
+/// call.
 #[derive(Drop)]
 pub struct Source<'a> {
     text: &'a [u8],
@@ -14,7 +18,22 @@ pub struct Source<'a> {
     pub least_room: usize,
 }
 
+impl<'a> Model for Source<'a> {
+    ghost use Rattle.std.specs.Prelude.{◌≤◌, ℕ, List};
+    ghost use Rattle.fake_streams.specs.Streams.{SourceValue};
+
+    ghost Value = { SourceValue };
+
+    ghost view = { λ s. record { left = s.text.now; calls = s.calls; bad = s.bad } };
+
+    ghost invariant = { λ s. 1 ≤ s.most };
+}
+
 impl<'a> Read for Source<'a> {
+    ghost use Rattle.std.specs.Prelude.{Some};
+
+    ghost remaining = { λ s. Some s.left };
+
     fn read(&mut self, buf: &mut [u8]) -> io::Result<usize> {
         self.least_room = self.least_room.min(buf.len());
         self.calls = self.calls.saturating_add(1);
@@ -30,10 +49,12 @@ impl<'a> Read for Source<'a> {
 
 impl<'a> Source<'a> {
     /// A reader of this text, which fails in this way.
-    pub fn new(text: &'a [u8], most: usize, bad: usize, kind: ErrorKind) -> Source<'a> {
+    pub fn new(text: &'a [u8], most: usize, bad: usize, kind: ErrorKind) -> Source<'a>
+        ensures { result ≡ record { left = text.now; calls = 0; bad = bad } }
+    {
         Source {
             text,
-            most,
+            most: most.max(1),
             calls: 0,
             bad,
             kind,

@@ -1,7 +1,12 @@
 //! Texts that end where memory ran out.
+ghost use Rattle.std.specs.Prelude.{◌≡◌, ◌↔◌, ℕ, IfSome, IsTrue, None};
+ghost use Rattle.fake_streams.specs.Telling.{texts_of, AreAnswers, EndsWithoutMemory};
 
 /// How many answers a text is made of, from the first on, if of nothing else.
-pub fn answers_in(answers: &[&str], text: &str) -> Option<usize> {
+pub fn answers_in(answers: &[&str], text: &str) -> Option<usize>
+    ensures some { IfSome result (λ n. AreAnswers (texts_of answers.now) text.now n) }
+    ensures none { result ≡ None → (n : ℕ) → ¬ AreAnswers (texts_of answers.now) text.now n }
+{
     let mut rest = text;
     for (count, answer) in answers.iter().enumerate() {
         if rest.is_empty() {
@@ -17,7 +22,9 @@ pub fn answers_in(answers: &[&str], text: &str) -> Option<usize> {
 }
 
 /// Whether a text is the answers to some lines and then tells that memory ran out.
-pub fn ends_without_memory(answers: &[&str], text: &str) -> bool {
+pub fn ends_without_memory(answers: &[&str], text: &str) -> bool
+    ensures { IsTrue result ↔ EndsWithoutMemory (texts_of answers.now) text.now }
+{
     match text.strip_suffix("no memory\n") {
         Some(front) => answers_in(answers, front).is_some(),
         None => false,

@@ -1,14 +1,16 @@
 //! A line of ten million bytes without an end: no more of it is read than tells that it is too long.
 use crate::served::{Kind, status_of};
-use fake_streams::{LongSource, Sink};
+use fake_streams::{Pieces, Sink};
 use script::Status;
-use std::io::ErrorKind;
+use std::io;
+use std::io::{ErrorKind, Read};
 use std::process::Abort;
 
 /// Serves these lines and then ten million spaces, and wants this text.
 fn expect_long_line<R: AllocGlobal + Abort>(rt: &R, kind: Kind, front: &str, text: &str) {
     for most in [1, 1_000, 10_000] {
-        let mut input = LongSource::new(front.as_bytes(), 10_000_000, most);
+        let spaces = io::repeat(b' ').take(10_000_000);
+        let mut input = Pieces::new(front.as_bytes().chain(spaces), most);
         let mut output = Sink::new(100, 0, ErrorKind::BrokenPipe);
         let ended = status_of(kind, rt.alloc(), &mut input, &mut output);
         assert_eq!(rt; ended, Status::Refused, "{front}");
