@@ -1,4 +1,8 @@
 //! The numbers of a stress run.
+ghost use Rattle.std.specs.Prelude.{◌≡◌, IfOk, false};
+ghost use Rattle.clap.specs.Words.{app_of, found_of, rows_of, rule_of};
+ghost use Rattle.command_line.specs.CommandLine as spec;
+
 use clap::builder::ValueParser;
 use clap::{Arg, ArgMatches, Command, value_parser};
 use std::alloc::{AllocError, Global};
@@ -49,7 +53,10 @@ fn number<'a>(
     value: &'a str,
     range: ValueParser<'a>,
     help: &'a str,
-) -> Arg<'a> {
+) -> Arg<'a>
+    ensures rule { rule_of result ≡ spec.number name.entry.now range.entry }
+    ensures local { result.global ≡ false }
+{
     Arg::new(alloc, name)
         .long(name)
         .value_name(value)
@@ -58,7 +65,9 @@ fn number<'a>(
 }
 
 /// The subcommand, with its numbers in their ranges.
-pub(crate) fn stress<'a>(alloc: Global) -> Result<Command<'a>, AllocError> {
+pub(crate) fn stress<'a>(alloc: Global) -> Result<Command<'a>, AllocError>
+    ensures { IfOk result (λ command. app_of command ≡ spec.stress) }
+{
     let log2 = value_parser!(u32).range(1..=19);
     let log2 = number(alloc, LOG2, "L", log2, "The ring has 2^L slots, 1 to 19");
     let senders = value_parser!(u32).range(1..=64);
@@ -100,14 +109,22 @@ pub(crate) fn stress<'a>(alloc: Global) -> Result<Command<'a>, AllocError> {
         .arg(bare.default_value("0"))
 }
 
-/// The numbers that the words gave. Each is wanted or has a default, so none is wanting.
-pub(crate) fn numbers_in(matches: &ArgMatches<'_>) -> StressNumbers {
-    let number = |name| matches.get_one::<u32>(name).unwrap_or(0);
+/// The number of this name that the words gave. Each is wanted or has a default, so none is wanting.
+fn number_in(matches: &ArgMatches<'_>, name: &str) -> u32
+    ensures { spec.IsNumberAt (rows_of (found_of matches.now)) name.now result }
+{
+    matches.get_one::<u32>(name).unwrap_or(0)
+}
+
+/// The numbers that the words gave.
+pub(crate) fn numbers_in(matches: &ArgMatches<'_>) -> StressNumbers
+    ensures { spec.AreNumbersIn (rows_of (found_of matches.now)) result }
+{
     StressNumbers {
-        log2: number(LOG2),
-        senders: number(SENDERS),
-        batches: number(BATCHES),
-        turns: number(TURNS),
-        bare: number(BARE),
+        log2: number_in(matches, LOG2),
+        senders: number_in(matches, SENDERS),
+        batches: number_in(matches, BATCHES),
+        turns: number_in(matches, TURNS),
+        bare: number_in(matches, BARE),
     }
 }

@@ -1,4 +1,9 @@
 //! What the words of a command line ask for.
+ghost use Rattle.std.specs.Prelude.{◌≡◌, IfOk, false};
+ghost use Rattle.clap.specs.Words.{FailsBy, app_of, fault_of, rule_of, subcommand_of, subcommand_rows_of};
+ghost use Rattle.clap.specs.Walk.{texts};
+ghost use Rattle.command_line.specs.CommandLine as spec;
+
 use crate::misunderstood::Misunderstood;
 use crate::stress_numbers::{STRESS, StressNumbers, numbers_in, stress};
 use clap::{Arg, ArgMatches, Command, Error};
@@ -61,14 +66,37 @@ pub enum Subcommand<'a> {
     Stress(StressNumbers),
 }
 
+fn replay<'a>(alloc: Global) -> Command<'a>
+    ensures { app_of result ≡ spec.replay }
+{
+    Command::new(alloc, "replay")
+        .about("Serves a script of a ring, its caches and commands")
+        .override_usage("smmuq replay < SCRIPT")
+        .after_help(REPLAY_HELP)
+}
+
+fn schedule<'a>(alloc: Global) -> Command<'a>
+    ensures { app_of result ≡ spec.schedule }
+{
+    Command::new(alloc, SCHEDULE)
+        .about("Plays a script of a ring's atomic steps, in any order")
+        .override_usage("smmuq schedule < SCRIPT")
+        .after_help(SCHEDULE_HELP)
+}
+
 /// The word that is decoded.
-fn hex<'a>(alloc: Global) -> Arg<'a> {
+fn hex<'a>(alloc: Global) -> Arg<'a>
+    ensures rule { rule_of result ≡ spec.hex }
+    ensures local { result.global ≡ false }
+{
     Arg::new(alloc, HEX)
         .help("16 bytes of a command, as they lie in the queue")
         .required(true)
 }
 
-fn decode<'a>(alloc: Global) -> Result<Command<'a>, AllocError> {
+fn decode<'a>(alloc: Global) -> Result<Command<'a>, AllocError>
+    ensures { IfOk result (λ command. app_of command ≡ spec.decode) }
+{
     Command::new(alloc, DECODE)
         .about("Says what 32 hexadecimal digits mean as a command")
         .override_usage("smmuq decode <HEX>")
@@ -76,51 +104,52 @@ fn decode<'a>(alloc: Global) -> Result<Command<'a>, AllocError> {
         .arg(hex(alloc))
 }
 
-fn command_line<'a>(alloc: Global) -> Result<Command<'a>, AllocError> {
-    let replay = Command::new(alloc, "replay")
-        .about("Serves a script of a ring, its caches and commands")
-        .override_usage("smmuq replay < SCRIPT")
-        .after_help(REPLAY_HELP);
-    let schedule = Command::new(alloc, SCHEDULE)
-        .about("Plays a script of a ring's atomic steps, in any order")
-        .override_usage("smmuq schedule < SCRIPT")
-        .after_help(SCHEDULE_HELP);
+fn command_line<'a>(alloc: Global) -> Result<Command<'a>, AllocError>
+    ensures { IfOk result (λ command. app_of command ≡ spec.smmuq) }
+{
     Command::new(alloc, "smmuq")
         .about("The command queue and the caches of an SMMUv3, as a simulator")
         .after_help(HELP)
         .no_binary_name(true)
         .subcommand_required(true)
-        .subcommand(replay)?
-        .subcommand(schedule)?
+        .subcommand(replay(alloc))?
+        .subcommand(schedule(alloc))?
         .subcommand(decode(alloc)?)?
         .subcommand(stress(alloc)?)
 }
 
-fn subcommand_in<'a>(matches: &ArgMatches<'a>) -> Subcommand<'a> {
+fn subcommand_in<'a>(matches: &ArgMatches<'a>) -> Subcommand<'a>
+    ensures { spec.Names (subcommand_rows_of matches.now) result }
+{
     if matches.subcommand_matches(SCHEDULE).is_some() {
         return Subcommand::Schedule;
     }
     if let Some(stress) = matches.subcommand_matches(STRESS) {
         return Subcommand::Stress(numbers_in(stress));
     }
-    let decode = matches.subcommand_matches(DECODE);
-    // A `decode` without its word isn't understood, so of these two only `replay` has none.
-    match decode.and_then(|decode| decode.get_str(HEX)) {
+    let Some(decode) = matches.subcommand_matches(DECODE) else {
+        return Subcommand::Replay;
+    };
+    // A `decode` without its word isn't understood, so each has one.
+    match decode.get_str(HEX) {
         Some(word) => Subcommand::Decode(word),
         None => Subcommand::Replay,
     }
 }
 
-fn parse<'a>(alloc: Global, words: &'a [&'a str]) -> Result<Subcommand<'a>, Error> {
+fn parse<'a>(alloc: Global, words: &'a [&'a str]) -> Result<Subcommand<'a>, Error>
+    ensures named { IfOk result (λ subcommand. spec.Names (subcommand_of spec.smmuq (texts words.entry.now)) subcommand) }
+    ensures kinds { FailsBy (fault_of spec.smmuq (texts words.entry.now)) result }
+{
     let matches = command_line(alloc)?.try_get_matches_from(words)?;
     Ok(subcommand_in(&matches))
 }
 
 /// Says what the words ask for, without the program's own name.
-pub fn understand<'a>(
-    alloc: Global,
-    words: &'a [&'a str],
-) -> Result<Subcommand<'a>, Misunderstood> {
+pub fn understand<'a>(alloc: Global, words: &'a [&'a str]) -> Result<Subcommand<'a>, Misunderstood>
+    ensures named { IfOk result (λ subcommand. spec.Names (subcommand_of spec.smmuq (texts words.entry.now)) subcommand) }
+    ensures kinds { spec.FailsOnlyBy (fault_of spec.smmuq (texts words.entry.now)) result }
+{
     match parse(alloc, words) {
         Ok(subcommand) => Ok(subcommand),
         Err(error) => Err(Misunderstood { error }),

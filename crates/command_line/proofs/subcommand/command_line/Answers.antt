@@ -1,0 +1,30 @@
+use Rattle.std.proofs.Common.{rules, ap, ap₂, ◌≡◌, ◌∙◌, true}
+use Rattle.std.proofs.lemmas.Result.{IfOk-weaker}
+use Rattle.clap.specs.Words.{App, app_of, with_subcommand}
+use Rattle.clap.proofs.SimpleLemmas.{is_false}
+use Rattle.clap.proofs.WalkLemmas.{both}
+use Rattle.command_line.specs.CommandLine as spec
+use Rattle.command_line.proofs.subcommand.command_line.Goals as goal
+
+abbrev top_is_plain : App → Type 0
+top_is_plain a = a.top.is_plain ≡ true
+
+pub returns : goal.returns
+returns c =
+    let alone : app_of c.subcommand_required.result ≡ spec.alone = search rules in
+    let replay_is : app_of c.replay.result ≡ spec.replay = c.replay.ensures in
+    let schedule_is : app_of c.schedule.result ≡ spec.schedule = c.schedule.ensures in
+    let decode_is : app_of c.in_ok-decode.field-0 ≡ spec.decode = search rules in
+    let stress_is : app_of c.in_ok-stress.field-0 ≡ spec.stress = search rules in
+    let first : app_of c.in_ok-subcommand.field-0 ≡ with_subcommand spec.alone spec.replay.top =
+    c.in_ok-subcommand.ensures.shape (is_false _ (both _ _ (both _ _ (both _ _ (ap (λ (a : App). a.top.is_plain) replay_is)).1).1).0)
+    ∙ ap₂ with_subcommand alone (ap (λ (a : App). a.top) replay_is) in
+    let second : app_of c.in_ok-subcommand-2.field-0 ≡ with_subcommand (with_subcommand spec.alone spec.replay.top) spec.schedule.top =
+    c.in_ok-subcommand-2.ensures.shape (is_false _ (both _ _ (both _ _ (both _ _ (ap (λ (a : App). a.top.is_plain) schedule_is)).1).1).0)
+    ∙ ap₂ with_subcommand first (ap (λ (a : App). a.top) schedule_is) in
+    let third : app_of c.in_ok-subcommand-3.field-0 ≡ with_subcommand (with_subcommand (with_subcommand spec.alone spec.replay.top) spec.schedule.top) spec.decode.top =
+    c.in_ok-subcommand-3.ensures.shape (is_false _ (both _ _ (both _ _ (both _ _ (ap (λ (a : App). a.top.is_plain) decode_is)).1).1).0)
+    ∙ ap₂ with_subcommand second (ap (λ (a : App). a.top) decode_is) in
+    IfOk-weaker c.subcommand-4.result _ _ (λ command h.
+    h.shape (is_false _ (both _ _ (both _ _ (both _ _ (ap (λ (a : App). a.top.is_plain) stress_is)).1).1).0)
+    ∙ ap₂ with_subcommand third (ap (λ (a : App). a.top) stress_is)) c.subcommand-4.ensures

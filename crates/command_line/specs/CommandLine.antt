@@ -1,0 +1,94 @@
+-- What a command line may say, and what it asks for.
+use Rattle.std.specs.Prelude.{◌≡◌, ◌≢◌, ◌⊎◌, ◌<◌, ◌^◌, ℕ, true, List, ◌∷◌, [], Option, Some, None, Result, MatchResult, codes, pos}
+use Rattle.std.specs.Str.Parse.{IsNumeral, digits_value, without_leading_plus}
+use Rattle.clap.specs.Words.{App, IsAmong, Kinds, Row, Rule, Text, first_of, new_app, new_rule, one_of, with_rule, with_subcommand}
+use Rattle.clap.specs.declared.builder.value_parser.ValueParser.{ValueParser}
+use Rattle.clap.specs.declared.builder.value_parser.ValueParser.TheVariants.{Signed}
+use Rattle.clap.specs.declared.error.kind.ErrorKind.{ErrorKind}
+use Rattle.clap.specs.declared.error.kind.ErrorKind.TheVariants.{OutOfMemory}
+use Rattle.command_line.specs.declared.stress_numbers.StressNumbers.{StressNumbers}
+use Rattle.command_line.specs.declared.subcommand.Subcommand.{Subcommand}
+use Rattle.command_line.specs.declared.subcommand.Subcommand.TheVariants.{Replay, Schedule, Decode, Stress}
+
+-- ---- what it may say
+
+abbrev pub replay : App
+replay = new_app (codes "replay")
+
+abbrev pub schedule : App
+schedule = new_app (codes "schedule")
+
+-- the one word of `decode`
+abbrev pub hex : Rule
+hex = record (new_rule (codes "HEX")) { required = true }
+
+abbrev pub decode : App
+decode = with_rule (new_app (codes "decode")) hex
+
+-- a number from low to high
+abbrev pub between : ℕ → ℕ → ValueParser
+between low high = Signed (pos low) (pos high)
+
+-- the option `--name` with its number, which may be left out
+abbrev pub number : Text → ValueParser → Rule
+number name range = record (new_rule name) { long = Some name; value_names = 1; parser = Some range }
+
+-- the same, which must be given
+abbrev pub wanted : Text → ValueParser → Rule
+wanted name range = record (number name range) { required = true }
+
+abbrev pub log2 : Rule
+log2 = wanted (codes "log2") (between 1 19)
+
+abbrev pub senders : Rule
+senders = wanted (codes "senders") (between 1 64)
+
+abbrev pub batches : Rule
+batches = wanted (codes "batches") (between 1 100000)
+
+abbrev pub turns : Rule
+turns = wanted (codes "turns") (between 1 10000000)
+
+abbrev pub bare : Rule
+bare = record (number (codes "bare") (between 0 100000)) { defaults = codes "0" ∷ [] }
+
+abbrev pub stress : App
+stress = with_rule (with_rule (with_rule (with_rule (with_rule (new_app (codes "stress")) log2) senders) batches) turns) bare
+
+-- `smmuq` itself, before its subcommands: it has no word or option of its own, and wants a subcommand
+abbrev pub alone : App
+alone = record (new_app (codes "smmuq")) { top = record (new_app (codes "smmuq")).top { no_binary_name = true; subcommand_required = true } }
+
+abbrev pub smmuq : App
+smmuq =
+    with_subcommand (with_subcommand (with_subcommand (with_subcommand alone
+    replay.top) schedule.top) decode.top) stress.top
+
+-- ---- what it asks for
+
+-- n is the number that clap reads for the option `name`, where its text is one of 32 bits
+abbrev pub IsNumberAt : List Row → Text → ℕ → Type 0
+IsNumberAt rows name n = (text : Text) → one_of name rows ≡ Some text → IsNumeral 10 (without_leading_plus text)
+    → digits_value 10 (without_leading_plus text) < 2 ^ 32 → n ≡ digits_value 10 (without_leading_plus text)
+
+pub record AreNumbersIn (rows : List Row) (numbers : StressNumbers) : Type 0 where
+  pub log2 : IsNumberAt rows (codes "log2") numbers.log2
+  pub senders : IsNumberAt rows (codes "senders") numbers.senders
+  pub batches : IsNumberAt rows (codes "batches") numbers.batches
+  pub turns : IsNumberAt rows (codes "turns") numbers.turns
+  pub bare : IsNumberAt rows (codes "bare") numbers.bare
+
+-- by the name of a subcommand and what was found for its arguments
+abbrev pub IsNamed : Text → List Row → Subcommand → Type 0
+IsNamed name rows Replay = (name ≢ codes "schedule") × (name ≢ codes "stress") × (name ≡ codes "decode" → first_of (codes "HEX") rows ≡ None)
+IsNamed name rows Schedule = name ≡ codes "schedule"
+IsNamed name rows (Decode word) = (name ≡ codes "decode") × (first_of (codes "HEX") rows ≡ Some word.now)
+IsNamed name rows (Stress numbers) = (name ≡ codes "stress") × AreNumbersIn rows numbers
+
+abbrev pub Names : Option (Text × List Row) → Subcommand → Type 0
+Names None subcommand = subcommand ≡ Replay
+Names (Some found) subcommand = IsNamed found.0 found.1 subcommand
+
+-- memory ran out, or the kind is one of these; nothing is `Ok` unless there is none
+abbrev pub FailsOnlyBy : {T : Type 0} → Kinds → Result T ErrorKind → Type 0
+FailsOnlyBy kinds r = MatchResult r (λ _. kinds ≡ []) (λ kind. (kind ≡ OutOfMemory) ⊎ IsAmong kind kinds)
