@@ -1,1 +1,5 @@
 mod Named
+mod Walks
+mod Leaves
+mod Stops
+mod Asked

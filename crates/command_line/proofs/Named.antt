@@ -2,7 +2,7 @@
 use Rattle.std.proofs.Common.{◌≡◌, ◌∙◌, List, Option, Some, None, refl, sym, ap, subst, codes, option_map, unwrap_or}
 use Rattle.std.specs.Borrow.{Bor}
 use Rattle.clap.specs.Words.{Row, Text, first_of}
-use Rattle.command_line.specs.CommandLine.{AreNumbersIn, Names}
+use Rattle.command_line.specs.CommandLine.{Reads, ReadsNumbers}
 use Rattle.command_line.specs.declared.stress_numbers.StressNumbers.{StressNumbers}
 use Rattle.command_line.specs.declared.subcommand.Subcommand.TheVariants.{Replay, Schedule, Decode, Stress}
 
@@ -19,21 +19,21 @@ first_of_both f g (Some x) = refl
 inside : {X : Type 0} (x y : X) → Some x ≡ Some y → x ≡ y
 inside x y e = ap (λ o. unwrap_or o x) e
 
-pub scheduled : (o : Option (Text × List Row)) → name_in o ≡ Some (codes "schedule") → Names o Schedule
+pub scheduled : (o : Option (Text × List Row)) → name_in o ≡ Some (codes "schedule") → Reads o Schedule
 scheduled None name = cc
 scheduled (Some p) name = inside _ _ name
 
-pub stressed : (o : Option (Text × List Row)) (rows : List Row) (numbers : StressNumbers) → name_in o ≡ Some (codes "stress") → rows_in o ≡ Some rows → AreNumbersIn rows numbers
-    → Names o (Stress numbers)
+pub stressed : (o : Option (Text × List Row)) (rows : List Row) (numbers : StressNumbers) → name_in o ≡ Some (codes "stress") → rows_in o ≡ Some rows → ReadsNumbers rows numbers
+    → Reads o (Stress numbers)
 stressed None rows numbers name has h = cc
-stressed (Some p) rows numbers name has h = (inside _ _ name, subst (λ rs. AreNumbersIn rs numbers) (inside _ _ (sym has)) h)
+stressed (Some p) rows numbers name has h = (inside _ _ name, subst (λ rs. ReadsNumbers rs numbers) (inside _ _ (sym has)) h)
 
 pub decoded : (o : Option (Text × List Row)) (rows : List Row) (word : Bor Text) → name_in o ≡ Some (codes "decode") → rows_in o ≡ Some rows → first_of (codes "HEX") rows ≡ Some word.now
-    → Names o (Decode word)
+    → Reads o (Decode word)
 decoded None rows word name has h = cc
 decoded (Some p) rows word name has h = (inside _ _ name, ap (first_of (codes "HEX")) (inside _ _ has) ∙ h)
 
 pub replayed : (o : Option (Text × List Row)) → (name_in o ≡ Some (codes "schedule") → ⊥) → (name_in o ≡ Some (codes "stress") → ⊥)
-    → (name_in o ≡ Some (codes "decode") → (rows : List Row) × (rows_in o ≡ Some rows) × (first_of (codes "HEX") rows ≡ None)) → Names o Replay
+    → (name_in o ≡ Some (codes "decode") → (rows : List Row) × (rows_in o ≡ Some rows) × (first_of (codes "HEX") rows ≡ None)) → Reads o Replay
 replayed None schedule stress decode = refl
 replayed (Some p) schedule stress decode = (λ e. schedule (ap Some e), λ e. stress (ap Some e), λ e. let has = decode (ap Some e) in ap (first_of (codes "HEX")) (inside _ _ has.1) ∙ has.2)

@@ -1,7 +1,7 @@
 -- What a command line may say, and what it asks for.
-use Rattle.std.specs.Prelude.{◌≡◌, ◌≢◌, ◌⊎◌, ◌<◌, ◌^◌, ℕ, true, List, ◌∷◌, [], Option, Some, None, Result, MatchResult, codes, pos}
+use Rattle.std.specs.Prelude.{◌≡◌, ◌≢◌, ◌⊎◌, ◌<◌, ◌≤◌, ◌^◌, ℕ, true, List, ◌∷◌, [], Option, Some, None, Result, MatchResult, codes, pos}
 use Rattle.std.specs.Str.Parse.{IsNumeral, digits_value, without_leading_plus}
-use Rattle.clap.specs.Words.{App, IsAmong, Kinds, Row, Rule, Text, first_of, new_app, new_rule, one_of, with_rule, with_subcommand}
+use Rattle.clap.specs.Words.{App, IsAmong, Kinds, Row, Rule, Text, first_of, new_app, new_rule, one_of, subcommand_of, with_rule, with_subcommand}
 use Rattle.clap.specs.declared.builder.value_parser.ValueParser.{ValueParser}
 use Rattle.clap.specs.declared.builder.value_parser.ValueParser.TheVariants.{Signed}
 use Rattle.clap.specs.declared.error.kind.ErrorKind.{ErrorKind}
@@ -66,29 +66,55 @@ smmuq =
 
 -- ---- what it asks for
 
--- n is the number that clap reads for the option `name`, where its text is one of 32 bits
-abbrev pub IsNumberAt : List Row → Text → ℕ → Type 0
-IsNumberAt rows name n = (text : Text) → one_of name rows ≡ Some text → IsNumeral 10 (without_leading_plus text)
-    → digits_value 10 (without_leading_plus text) < 2 ^ 32 → n ≡ digits_value 10 (without_leading_plus text)
+-- The text that was found for the option `name` writes n, which lies from low to high.
+abbrev pub IsNumber : Text → ℕ → ℕ → List Row → ℕ → Type 0
+IsNumber name low high rows n = (text : Text) × (one_of name rows ≡ Some text) × IsNumeral 10 (without_leading_plus text)
+    × (n ≡ digits_value 10 (without_leading_plus text)) × (low ≤ n) × (n ≤ high)
 
-pub record AreNumbersIn (rows : List Row) (numbers : StressNumbers) : Type 0 where
-  pub log2 : IsNumberAt rows (codes "log2") numbers.log2
-  pub senders : IsNumberAt rows (codes "senders") numbers.senders
-  pub batches : IsNumberAt rows (codes "batches") numbers.batches
-  pub turns : IsNumberAt rows (codes "turns") numbers.turns
-  pub bare : IsNumberAt rows (codes "bare") numbers.bare
+pub record AreNumbers (rows : List Row) (numbers : StressNumbers) : Type 0 where
+  pub log2 : IsNumber (codes "log2") 1 19 rows numbers.log2
+  pub senders : IsNumber (codes "senders") 1 64 rows numbers.senders
+  pub batches : IsNumber (codes "batches") 1 100000 rows numbers.batches
+  pub turns : IsNumber (codes "turns") 1 10000000 rows numbers.turns
+  pub bare : IsNumber (codes "bare") 0 100000 rows numbers.bare
 
--- by the name of a subcommand and what was found for its arguments
-abbrev pub IsNamed : Text → List Row → Subcommand → Type 0
-IsNamed name rows Replay = (name ≢ codes "schedule") × (name ≢ codes "stress") × (name ≡ codes "decode" → first_of (codes "HEX") rows ≡ None)
-IsNamed name rows Schedule = name ≡ codes "schedule"
-IsNamed name rows (Decode word) = (name ≡ codes "decode") × (first_of (codes "HEX") rows ≡ Some word.now)
-IsNamed name rows (Stress numbers) = (name ≡ codes "stress") × AreNumbersIn rows numbers
+-- what a subcommand of this name asks for, with what was found for its arguments
+abbrev pub Asks : Text → List Row → Subcommand → Type 0
+Asks name rows Replay = name ≡ codes "replay"
+Asks name rows Schedule = name ≡ codes "schedule"
+Asks name rows (Decode word) = (name ≡ codes "decode") × (first_of (codes "HEX") rows ≡ Some word.now)
+Asks name rows (Stress numbers) = (name ≡ codes "stress") × AreNumbers rows numbers
 
-abbrev pub Names : Option (Text × List Row) → Subcommand → Type 0
-Names None subcommand = subcommand ≡ Replay
-Names (Some found) subcommand = IsNamed found.0 found.1 subcommand
+-- The subcommand is what the words ask for: by clap's definition they name one, and give its arguments what is found
+-- for them.
+abbrev pub AskFor : List Text → Subcommand → Type 0
+AskFor words subcommand = (name : Text) × (rows : List Row) × (subcommand_of smmuq words ≡ Some (name, rows)) × Asks name rows subcommand
 
--- memory ran out, or the kind is one of these; nothing is `Ok` unless there is none
+-- Memory ran out, or the kind is one of these; and nothing is `Ok` unless there is none.
 abbrev pub FailsOnlyBy : {T : Type 0} → Kinds → Result T ErrorKind → Type 0
 FailsOnlyBy kinds r = MatchResult r (λ _. kinds ≡ []) (λ kind. (kind ≡ OutOfMemory) ⊎ IsAmong kind kinds)
+
+-- ---- what is read of any matches, also of those that no words give
+
+-- n is the number of the option `name`, where its text writes one of 32 bits
+abbrev pub ReadsNumber : List Row → Text → ℕ → Type 0
+ReadsNumber rows name n = (text : Text) → one_of name rows ≡ Some text → IsNumeral 10 (without_leading_plus text)
+    → digits_value 10 (without_leading_plus text) < 2 ^ 32 → n ≡ digits_value 10 (without_leading_plus text)
+
+pub record ReadsNumbers (rows : List Row) (numbers : StressNumbers) : Type 0 where
+  pub log2 : ReadsNumber rows (codes "log2") numbers.log2
+  pub senders : ReadsNumber rows (codes "senders") numbers.senders
+  pub batches : ReadsNumber rows (codes "batches") numbers.batches
+  pub turns : ReadsNumber rows (codes "turns") numbers.turns
+  pub bare : ReadsNumber rows (codes "bare") numbers.bare
+
+-- of a subcommand's name and what was found for its arguments
+abbrev pub ReadsOf : Text → List Row → Subcommand → Type 0
+ReadsOf name rows Replay = (name ≢ codes "schedule") × (name ≢ codes "stress") × (name ≡ codes "decode" → first_of (codes "HEX") rows ≡ None)
+ReadsOf name rows Schedule = name ≡ codes "schedule"
+ReadsOf name rows (Decode word) = (name ≡ codes "decode") × (first_of (codes "HEX") rows ≡ Some word.now)
+ReadsOf name rows (Stress numbers) = (name ≡ codes "stress") × ReadsNumbers rows numbers
+
+abbrev pub Reads : Option (Text × List Row) → Subcommand → Type 0
+Reads None subcommand = subcommand ≡ Replay
+Reads (Some found) subcommand = ReadsOf found.0 found.1 subcommand

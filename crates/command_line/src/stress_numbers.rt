@@ -111,14 +111,14 @@ pub(crate) fn stress<'a>(alloc: Global) -> Result<Command<'a>, AllocError>
 
 /// The number of this name that the words gave. Each is wanted or has a default, so none is wanting.
 fn number_in(matches: &ArgMatches<'_>, name: &str) -> u32
-    ensures { spec.IsNumberAt (rows_of (found_of matches.now)) name.now result }
+    ensures { spec.ReadsNumber (rows_of (found_of matches.now)) name.now result }
 {
     matches.get_one::<u32>(name).unwrap_or(0)
 }
 
 /// The numbers that the words gave.
 pub(crate) fn numbers_in(matches: &ArgMatches<'_>) -> StressNumbers
-    ensures { spec.AreNumbersIn (rows_of (found_of matches.now)) result }
+    ensures { spec.ReadsNumbers (rows_of (found_of matches.now)) result }
 {
     StressNumbers {
         log2: number_in(matches, LOG2),

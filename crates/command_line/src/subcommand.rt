@@ -1,6 +1,6 @@
 //! What the words of a command line ask for.
 ghost use Rattle.std.specs.Prelude.{◌≡◌, IfOk, false};
-ghost use Rattle.clap.specs.Words.{FailsBy, app_of, fault_of, rule_of, subcommand_of, subcommand_rows_of};
+ghost use Rattle.clap.specs.Words.{FailsBy, app_of, fault_of, rule_of, subcommand_rows_of};
 ghost use Rattle.clap.specs.Walk.{texts};
 ghost use Rattle.command_line.specs.CommandLine as spec;
 
@@ -119,7 +119,7 @@ fn command_line<'a>(alloc: Global) -> Result<Command<'a>, AllocError>
 }
 
 fn subcommand_in<'a>(matches: &ArgMatches<'a>) -> Subcommand<'a>
-    ensures { spec.Names (subcommand_rows_of matches.now) result }
+    ensures { spec.Reads (subcommand_rows_of matches.now) result }
 {
     if matches.subcommand_matches(SCHEDULE).is_some() {
         return Subcommand::Schedule;
@@ -138,7 +138,7 @@ fn subcommand_in<'a>(matches: &ArgMatches<'a>) -> Subcommand<'a>
 }
 
 fn parse<'a>(alloc: Global, words: &'a [&'a str]) -> Result<Subcommand<'a>, Error>
-    ensures named { IfOk result (λ subcommand. spec.Names (subcommand_of spec.smmuq (texts words.entry.now)) subcommand) }
+    ensures asked { IfOk result (spec.AskFor (texts words.entry.now)) }
     ensures kinds { FailsBy (fault_of spec.smmuq (texts words.entry.now)) result }
 {
     let matches = command_line(alloc)?.try_get_matches_from(words)?;
@@ -147,7 +147,7 @@ fn parse<'a>(alloc: Global, words: &'a [&'a str]) -> Result<Subcommand<'a>, Erro
 
 /// Says what the words ask for, without the program's own name.
 pub fn understand<'a>(alloc: Global, words: &'a [&'a str]) -> Result<Subcommand<'a>, Misunderstood>
-    ensures named { IfOk result (λ subcommand. spec.Names (subcommand_of spec.smmuq (texts words.entry.now)) subcommand) }
+    ensures asked { IfOk result (spec.AskFor (texts words.entry.now)) }
     ensures kinds { spec.FailsOnlyBy (fault_of spec.smmuq (texts words.entry.now)) result }
 {
     match parse(alloc, words) {
