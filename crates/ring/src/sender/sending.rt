@@ -58,17 +58,18 @@ impl Sender {
         ensures id { MatchResult result (λ r. r.sender ≡ self.number) (λ e. e.sender.number ≡ self.number) }
     {
         let mut sender = self;
-        for tried in 0..tries - 1 {
+        // The only call of `open` here: so it is inlined, and no reservation is moved through memory.
+        for tried in 0..tries {
             match sender.open(ring, batch, closes) {
                 Ok(open) => return Ok(open),
                 Err(refused) => {
-                    if !refused.cause.may_pass() {
+                    if tried + 1 == tries || !refused.cause.may_pass() {
                         return Err(refused);
                     }
                     sender = refused.sender;
                 }
             }
         }
-        sender.open(ring, batch, closes)
+        unreachable!()
     }
 }

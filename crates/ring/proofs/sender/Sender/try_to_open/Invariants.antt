@@ -1,4 +1,4 @@
-use Rattle.std.proofs.Common.{◌≡◌}
+use Rattle.std.proofs.Common.{◌≡◌, ◌<◌}
 use Rattle.ring.specs.sender.Sending.{HasTried}
 use Rattle.ring.proofs.sender.Sender.try_to_open.Given as goal
 
@@ -6,5 +6,6 @@ abbrev pub invariant-loop-tried : goal.invariant-loop-tried
 invariant-loop-tried l = record {
   ring : l.sender.ring ≡ l.fn.self.ring;
   number : l.sender.number ≡ l.fn.self.number;
+  left : l.tried < l.tries;
   tried : HasTried l.batch l.closes l.tried l.fn.self l.sender;
 }
