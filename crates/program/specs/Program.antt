@@ -1,6 +1,10 @@
 -- What the program writes, and what it ends with.
-use Rattle.std.specs.Prelude.{◌≡◌, ◌≢◌, ℕ, List, ◌++◌, ◌⊎◌, true, false, Option, codes, ⊤}
+use Rattle.std.specs.Prelude.{◌≡◌, ◌≢◌, ℕ, List, ◌++◌, ◌⊎◌, true, false, [], Option, codes, ⊤}
 use Rattle.std.specs.Io.KnownBytes.{Appends, Keeps}
+use Rattle.command_line.specs.CommandLine.{AskFor, DisplayHelp, DisplayVersion, ErrorKind, IsAmong, OutOfMemory, Text, fault_of, smmuq}
+use Rattle.command_line.specs.declared.stress_numbers.StressNumbers.{StressNumbers}
+use Rattle.command_line.specs.declared.subcommand.Subcommand.{Subcommand}
+use Rattle.command_line.specs.declared.subcommand.Subcommand.TheVariants.{Replay, Schedule, Decode, Stress}
 use Rattle.script.specs.Writing.{no_memory_line}
 use Rattle.script.specs.declared.status.Status.{Status}
 use Rattle.script.specs.declared.status.Status.TheVariants.{Good, Refused, NoMemory, ReadFailed, WriteFailed, Endless}
@@ -50,18 +54,41 @@ Stresses Endless plan before after = ⊥
 abbrev pub ExitsAsStress : ℕ → PlanValue → Option (List ℕ) → Option (List ℕ) → Type 0
 ExitsAsStress exit plan before after = (status : Status) × (exit ≡ exit_status status) × Stresses status plan before after
 
+-- what these numbers plan
+abbrev pub plan_of : StressNumbers → PlanValue
+plan_of numbers = record { log2 = numbers.log2; senders = numbers.senders; batches = numbers.batches; turns = numbers.turns; every = numbers.bare }
+
 -- ---- the program
 
--- None of these was asked for, and help or a fault was told: the status isn't that of a refused word or script,
--- a fault of the command line goes elsewhere than answers, and being out of memory is told by its line alone.
-abbrev pub ExitsAsTold : ℕ → Option (List ℕ) → Option (List ℕ) → Type 0
-ExitsAsTold exit before after = (exit ≢ 1) × (exit ≡ 2 → Keeps before after) × (exit ≡ 3 → Appends before after no_memory_line)
+-- It did what was asked for: a script was replayed, or played as a schedule; or nothing was read, and a word was decoded
+-- or a stress run made.
+abbrev pub ExitsAs : Subcommand → ℕ → Option (List ℕ) → Option (List ℕ) → Option (List ℕ) → Option (List ℕ) → Type 0
+ExitsAs Replay exit input rest before after = ExitsAsReplay exit input rest before after
+ExitsAs Schedule exit input rest before after = ExitsAsSchedule exit input rest before after
+ExitsAs (Decode word) exit input rest before after = Keeps input rest × ExitsAsDecode exit word.now before after
+ExitsAs (Stress numbers) exit input rest before after = Keeps input rest × ExitsAsStress exit (plan_of numbers) before after
 
--- A script was replayed, or played as a schedule; or no input was read, and a word was decoded, a stress run was made,
--- or the command line asked for none of these.
-abbrev pub ExitsAsProgram : ℕ → Option (List ℕ) → Option (List ℕ) → Option (List ℕ) → Option (List ℕ) → Type 0
-ExitsAsProgram exit input rest before after =
-    ExitsAsReplay exit input rest before after
-    ⊎ ExitsAsSchedule exit input rest before after
-    ⊎ (Keeps input rest
-    × (((word : List ℕ) × ExitsAsDecode exit word before after) ⊎ ((plan : PlanValue) × ExitsAsStress exit plan before after) ⊎ ExitsAsTold exit before after))
+-- Why words ask for nothing was told: that memory ran out by its line, help among the answers, and a fault elsewhere.
+-- Status 4 is a failed write.
+pub record ExitsAsTold (why : ErrorKind) (exit : ℕ) (before after : Option (List ℕ)) : Type 0 where
+  pub memory : why ≡ OutOfMemory → ((exit ≡ 3) × Appends before after no_memory_line) ⊎ (exit ≡ 4)
+  pub help : (why ≡ DisplayHelp) ⊎ (why ≡ DisplayVersion) → (exit ≡ 0) ⊎ (exit ≡ 4)
+  pub fault : why ≢ OutOfMemory → why ≢ DisplayHelp → why ≢ DisplayVersion → Keeps before after × ((exit ≡ 2) ⊎ (exit ≡ 4))
+
+-- The words have no fault, and it did what they ask for.
+pub record ExitsAsAsked (words : List Text) (exit : ℕ) (input rest before after : Option (List ℕ)) : Type 0 where
+  pub sound : fault_of smmuq words ≡ []
+  pub subcommand : Subcommand
+  pub asked : AskFor words subcommand
+  pub done : ExitsAs subcommand exit input rest before after
+
+-- Memory ran out over the words, or they ask for help, or they have a fault; nothing was read, and that was told.
+pub record ExitsAsMisunderstood (words : List Text) (exit : ℕ) (input rest before after : Option (List ℕ)) : Type 0 where
+  pub why : ErrorKind
+  pub has : (why ≡ OutOfMemory) ⊎ IsAmong why (fault_of smmuq words)
+  pub told : ExitsAsTold why exit before after
+  pub unread : Keeps input rest
+
+abbrev pub ExitsAsProgram : List Text → ℕ → Option (List ℕ) → Option (List ℕ) → Option (List ℕ) → Option (List ℕ) → Type 0
+ExitsAsProgram words exit input rest before after =
+    ExitsAsAsked words exit input rest before after ⊎ ExitsAsMisunderstood words exit input rest before after

@@ -1,6 +1,7 @@
 //! The program, over any reader and writers: what it does, and what it ends with.
 ghost use Rattle.std.specs.Prelude.{◌≡◌, ◌⊎◌, ◌++◌, OnOk, codes};
 ghost use Rattle.std.specs.Io.KnownBytes.{Appends};
+ghost use Rattle.command_line.specs.CommandLine.{texts};
 ghost use Rattle.script.specs.Writing.{no_memory_line};
 ghost use Rattle.schedule.specs.Scheduling.{ExitsAsSchedule};
 ghost use Rattle.replay.specs.Replaying.{ExitsAsReplay};
@@ -16,7 +17,7 @@ use std::io::{Read, Write};
 use std::thread::Threads;
 
 /// The exit status of a command line that isn't understood.
-pub(crate) const NOT_UNDERSTOOD: u8 = 2;
+const NOT_UNDERSTOOD: u8 = 2;
 
 pub(crate) fn print<W: Write>(text: &str, output: &mut W) -> io::Result<()>
     ensures { OnOk result (Appends (W.contents output.old) (W.contents output.new) text.now) }
@@ -45,7 +46,7 @@ pub fn tell_of_memory<W: Write>(output: &mut W) -> Status
 
 /// Tells what is wrong with the command line, or the help that it asks for.
 fn tell<O: Write, F: Write>(error: &Misunderstood, output: &mut O, faults: &mut F) -> u8
-    ensures { ExitsAsTold result (O.contents output.old) (O.contents output.new) }
+    ensures { ExitsAsTold error.now result (O.contents output.old) (O.contents output.new) }
 {
     if error.is_out_of_memory() {
         return tell_of_memory(output).exit_status();
@@ -105,15 +106,14 @@ pub fn program<'a, A: Threads + AllocGlobal + Sync, I: Read, O: Write, F: Write>
     output: &mut O,
     faults: &mut F,
 ) -> u8
-    // Either a script was replayed, or played as a schedule; or no input was read, and a word was decoded, a stress
-    // run was made, or help or a fault told.
-    ensures { ExitsAsProgram result (I.remaining input.old) (I.remaining input.new) (O.contents output.old) (O.contents output.new) }
+    // Either the words have no fault, and what they ask for was done; or it was told why they ask for nothing.
+    ensures { ExitsAsProgram (texts words.entry.now) result (I.remaining input.old) (I.remaining input.new) (O.contents output.old) (O.contents output.new) }
 {
     match understand(rt.alloc(), words) {
         Ok(Subcommand::Replay) => replay_to_exit(rt.alloc(), input, output),
         Ok(Subcommand::Schedule) => schedule_to_exit(rt.alloc(), input, output),
         Ok(Subcommand::Decode(word)) => decode_to_exit(rt.alloc(), word, output),
-        Ok(Subcommand::Stress(numbers)) => stress_to_exit(rt, numbers, output, faults),
+        Ok(Subcommand::Stress(numbers)) => stress_to_exit(rt, numbers, output),
         Err(error) => tell(&error, output, faults),
     }
 }

@@ -1,10 +1,9 @@
 //! The subcommand that runs many senders and an engine at the same time.
-ghost use Rattle.std.specs.Prelude.{◌≡◌, ◌⊎◌};
 ghost use Rattle.stress.specs.Reports.{IsAsPlanned, IsOfARun};
-ghost use Rattle.stress.specs.Plans.{PlanValue};
-ghost use Rattle.program.specs.Program.{Stresses, ExitsAsStress, ExitsAsTold};
+ghost use Rattle.stress.specs.Plans.{IsPlan};
+ghost use Rattle.program.specs.Program.{Stresses, ExitsAsStress, plan_of};
 
-use crate::running::{NOT_UNDERSTOOD, print, print_line, tell_of_memory};
+use crate::running::{print, print_line, tell_of_memory};
 use command_line::StressNumbers;
 use script::Status;
 use std::alloc::Global;
@@ -41,14 +40,14 @@ fn stress<A: Threads + AllocGlobal + Sync, O: Write>(rt: &A, plan: &Plan, output
     }
 }
 
-/// The exit status of a run of these numbers. Where they make no plan, that is told as a fault of the command line.
-pub(crate) fn stress_to_exit<A: Threads + AllocGlobal + Sync, O: Write, F: Write>(
+/// The exit status of a run of these numbers.
+pub(crate) fn stress_to_exit<A: Threads + AllocGlobal + Sync, O: Write>(
     rt: &A,
     numbers: StressNumbers,
     output: &mut O,
-    faults: &mut F,
 ) -> u8
-    ensures { ((plan : PlanValue) × ExitsAsStress result plan (O.contents output.old) (O.contents output.new)) ⊎ ExitsAsTold result (O.contents output.old) (O.contents output.new) }
+    requires { IsPlan (plan_of numbers) }
+    ensures { ExitsAsStress result (plan_of numbers) (O.contents output.old) (O.contents output.new) }
 {
     let StressNumbers {
         log2,
@@ -57,11 +56,6 @@ pub(crate) fn stress_to_exit<A: Threads + AllocGlobal + Sync, O: Write, F: Write
         turns,
         bare,
     } = numbers;
-    match Plan::with_bare(log2, senders, batches, turns, bare) {
-        Some(plan) => stress(rt, &plan, output).exit_status(),
-        None => match print_line("error: a number is out of its range", faults) {
-            Ok(()) => NOT_UNDERSTOOD,
-            Err(_) => Status::WriteFailed.exit_status(),
-        },
-    }
+    let plan = Plan::with_bare(log2, senders, batches, turns, bare).unwrap();
+    stress(rt, &plan, output).exit_status()
 }
