@@ -3,7 +3,6 @@ ghost use Rattle.std.specs.Prelude.{◌≡◌, IfOk, false};
 ghost use Rattle.clap.specs.Words.{app_of, found_of, rows_of, rule_of};
 ghost use Rattle.command_line.specs.CommandLine as spec;
 
-use clap::builder::ValueParser;
 use clap::{Arg, ArgMatches, Command, value_parser};
 use std::alloc::{AllocError, Global};
 
@@ -46,17 +45,19 @@ pub struct StressNumbers {
     pub bare: u32,
 }
 
-/// A number of this name that is wanted.
+/// An option whose number is from `low` to `high`.
 fn number<'a>(
     alloc: Global,
     name: &'a str,
     value: &'a str,
-    range: ValueParser<'a>,
+    low: u32,
+    high: u32,
     help: &'a str,
 ) -> Arg<'a>
-    ensures rule { rule_of result ≡ spec.number name.entry.now range.entry }
+    ensures rule { rule_of result ≡ spec.number name.entry.now (spec.between low high) }
     ensures local { result.global ≡ false }
 {
+    let range = value_parser!(u32).range(i64::from(low)..=i64::from(high));
     Arg::new(alloc, name)
         .long(name)
         .value_name(value)
@@ -64,49 +65,61 @@ fn number<'a>(
         .help(help)
 }
 
+fn log2<'a>(alloc: Global) -> Arg<'a>
+    ensures rule { rule_of result ≡ spec.log2 }
+    ensures local { result.global ≡ false }
+{
+    let help = "The ring has 2^L slots, 1 to 19";
+    number(alloc, LOG2, "L", 1, 19, help).required(true)
+}
+
+fn senders<'a>(alloc: Global) -> Arg<'a>
+    ensures rule { rule_of result ≡ spec.senders }
+    ensures local { result.global ≡ false }
+{
+    let help = "How many senders, 1 to 64";
+    number(alloc, SENDERS, "S", 1, 64, help).required(true)
+}
+
+fn batches<'a>(alloc: Global) -> Arg<'a>
+    ensures rule { rule_of result ≡ spec.batches }
+    ensures local { result.global ≡ false }
+{
+    let help = "How many batches each, 1 to 100000";
+    number(alloc, BATCHES, "B", 1, 100_000, help).required(true)
+}
+
+fn turns<'a>(alloc: Global) -> Arg<'a>
+    ensures rule { rule_of result ≡ spec.turns }
+    ensures local { result.global ≡ false }
+{
+    let help = "How many turns each, 1 to 10000000";
+    number(alloc, TURNS, "T", 1, 10_000_000, help).required(true)
+}
+
+fn bare<'a>(alloc: Global) -> Arg<'a>
+    ensures rule { rule_of result ≡ spec.bare }
+    ensures local { result.global ≡ false }
+{
+    let help = "Each E-th batch has no CMD_SYNC; 0 for none";
+    number(alloc, BARE, "E", 0, 100_000, help).default_value("0")
+}
+
 /// The subcommand, with its numbers in their ranges.
 pub(crate) fn stress<'a>(alloc: Global) -> Result<Command<'a>, AllocError>
     ensures { IfOk result (λ command. app_of command ≡ spec.stress) }
 {
-    let log2 = value_parser!(u32).range(1..=19);
-    let log2 = number(alloc, LOG2, "L", log2, "The ring has 2^L slots, 1 to 19");
-    let senders = value_parser!(u32).range(1..=64);
-    let senders = number(alloc, SENDERS, "S", senders, "How many senders, 1 to 64");
-    let batches = value_parser!(u32).range(1..=100_000);
-    let batches = number(
-        alloc,
-        BATCHES,
-        "B",
-        batches,
-        "How many batches each, 1 to 100000",
-    );
-    let turns = value_parser!(u32).range(1..=10_000_000);
-    let turns = number(
-        alloc,
-        TURNS,
-        "T",
-        turns,
-        "How many turns each, 1 to 10000000",
-    );
-    let bare = value_parser!(u32).range(0..=100_000);
-    let bare = number(
-        alloc,
-        BARE,
-        "E",
-        bare,
-        "Each E-th batch has no CMD_SYNC; 0 for none",
-    );
     Command::new(alloc, STRESS)
         .about("Runs many senders and an engine at the same time")
         .override_usage(
             "smmuq stress --log2 <L> --senders <S> --batches <B> --turns <T> [--bare <E>]",
         )
         .after_help(STRESS_HELP)
-        .arg(log2.required(true))?
-        .arg(senders.required(true))?
-        .arg(batches.required(true))?
-        .arg(turns.required(true))?
-        .arg(bare.default_value("0"))
+        .arg(log2(alloc))?
+        .arg(senders(alloc))?
+        .arg(batches(alloc))?
+        .arg(turns(alloc))?
+        .arg(bare(alloc))
 }
 
 /// The number of this name that the words gave. Each is wanted or has a default, so none is wanting.
