@@ -4,8 +4,9 @@ use Rattle.std.specs.Prelude.{find, option_and_then, pos, slice_get, unwrap_or}
 use Rattle.std.specs.List.{list_all, list_any}
 use Rattle.std.specs.Str.{bytes_eq}
 use Rattle.std.specs.Str.Parse.{IsNumeral, digits_value, starts_with_minus, without_leading_plus}
-use Rattle.std.proofs.lemmas.Bool.{ne_eqb}
+use Rattle.std.proofs.lemmas.Bool.{ne_eqb, not-true}
 use Rattle.std.proofs.lemmas.Int.{ints}
+use Rattle.std.proofs.lemmas.Option.{same_Some}
 use Rattle.std.proofs.lemmas.Slice.Eq.{bytes_eq-Decides}
 use Rattle.std.proofs.lemmas.Str.Parse.{digit_from_value}
 use Rattle.clap.specs.Lexer.{without_minus}
@@ -22,7 +23,7 @@ use Rattle.clap.specs.declared.builder.value_parser.ValueParser.TheVariants.{Sig
 use Rattle.clap.specs.declared.error.kind.ErrorKind.TheVariants as kind
 use Rattle.clap.proofs.ValueTestLemmas.{accepts-Accepts}
 use Rattle.clap.proofs.WalkLemmas.{both}
-use Rattle.command_line.proofs.Walks.{AreTaken, In, IsTaken, both_none, check_none, defaults_taken, defaults_there, found_in, given_has, inside, is_once, settle_taken, walk_taken}
+use Rattle.command_line.proofs.Walks.{AreTaken, In, IsTaken, both_none, check_none, defaults_taken, defaults_there, found_in, given_has, is_once, settle_taken, walk_taken}
 
 none_in : (p : Rule → Bool) (c : List Rule) (a : Rule) → list_any p c ≡ false → In a c → p a ≡ false
 none_in p [] a e member = absurd member
@@ -47,10 +48,6 @@ abbrev pub are_distinct : List Rule → Bool
 are_distinct [] = true
 are_distinct (x ∷ xs) = not (list_any (λ y. bytes_eq y.id x.id) xs) && are_distinct xs
 
-not_false : (b : Bool) → not b ≡ true → b ≡ false
-not_false true e = sym e
-not_false false e = refl
-
 -- the argument of an id is the one that is found by it
 only : (c : List Rule) (a b : Rule) (i : Text) → In a c → bytes_eq a.id i ≡ true → arg_by_id c i ≡ Some b → are_distinct c ≡ true → a ≡ b
 only [] a b i member same found distinct = absurd member
@@ -61,11 +58,11 @@ only (x ∷ xs) a b i member same found distinct = go (bytes_eq x.id i) refl (on
 
     go : (t : Bool) → bytes_eq x.id i ≡ t → (In a xs → bytes_eq a.id i ≡ true → arg_by_id xs i ≡ Some b → are_distinct xs ≡ true → a ≡ b)
         → In a (x ∷ xs) → cond t (Some x) (arg_by_id xs i) ≡ Some b → a ≡ b
-    go true is more (inl eq) f = sym eq ∙ inside _ _ f
+    go true is more (inl eq) f = sym eq ∙ same_Some _ _ f
     go true is more (inr member) f =
         let ids : a.id ≡ x.id = (bytes_eq-Decides a.id i).0 same ∙ sym ((bytes_eq-Decides x.id i).0 is) in
         let twice = any_in (λ y. bytes_eq y.id x.id) xs a member ((bytes_eq-Decides a.id x.id).1 ids) in
-        absurd (true≢false (sym twice ∙ not_false _ parts.0))
+        absurd (true≢false (sym twice ∙ not-true _ parts.0))
     go false is more (inl eq) f = absurd (true≢false (sym same ∙ ap (λ (y : Rule). bytes_eq y.id i) (sym eq) ∙ is))
     go false is more (inr member) f = more member same f parts.1
 

@@ -3,3 +3,4 @@ mod Walks
 mod Leaves
 mod Stops
 mod Asked
+pub mod WorkedWords

@@ -1,6 +1,7 @@
 -- What a subcommand's name and rows say of what is asked for.
-use Rattle.std.proofs.Common.{◌≡◌, ◌∙◌, List, Option, Some, None, refl, sym, ap, subst, codes, option_map, unwrap_or}
+use Rattle.std.proofs.Common.{◌≡◌, ◌∙◌, List, Option, Some, None, refl, sym, ap, subst, codes, option_map}
 use Rattle.std.specs.Borrow.{Bor}
+use Rattle.std.proofs.lemmas.Option.{same_Some}
 use Rattle.clap.specs.Words.{Row, Text, first_of}
 use Rattle.command_line.specs.CommandLine.{Reads, ReadsNumbers}
 use Rattle.command_line.specs.declared.stress_numbers.StressNumbers.{StressNumbers}
@@ -16,24 +17,21 @@ pub first_of_both : {X : Type 0} (f : X → Text) (g : X → List Row) (o : Opti
 first_of_both f g None = refl
 first_of_both f g (Some x) = refl
 
-inside : {X : Type 0} (x y : X) → Some x ≡ Some y → x ≡ y
-inside x y e = ap (λ o. unwrap_or o x) e
-
 pub scheduled : (o : Option (Text × List Row)) → name_in o ≡ Some (codes "schedule") → Reads o Schedule
 scheduled None name = cc
-scheduled (Some p) name = inside _ _ name
+scheduled (Some p) name = same_Some _ _ name
 
 pub stressed : (o : Option (Text × List Row)) (rows : List Row) (numbers : StressNumbers) → name_in o ≡ Some (codes "stress") → rows_in o ≡ Some rows → ReadsNumbers rows numbers
     → Reads o (Stress numbers)
 stressed None rows numbers name has h = cc
-stressed (Some p) rows numbers name has h = (inside _ _ name, subst (λ rs. ReadsNumbers rs numbers) (inside _ _ (sym has)) h)
+stressed (Some p) rows numbers name has h = (same_Some _ _ name, subst (λ rs. ReadsNumbers rs numbers) (same_Some _ _ (sym has)) h)
 
 pub decoded : (o : Option (Text × List Row)) (rows : List Row) (word : Bor Text) → name_in o ≡ Some (codes "decode") → rows_in o ≡ Some rows → first_of (codes "HEX") rows ≡ Some word.now
     → Reads o (Decode word)
 decoded None rows word name has h = cc
-decoded (Some p) rows word name has h = (inside _ _ name, ap (first_of (codes "HEX")) (inside _ _ has) ∙ h)
+decoded (Some p) rows word name has h = (same_Some _ _ name, ap (first_of (codes "HEX")) (same_Some _ _ has) ∙ h)
 
 pub replayed : (o : Option (Text × List Row)) → (name_in o ≡ Some (codes "schedule") → ⊥) → (name_in o ≡ Some (codes "stress") → ⊥)
     → (name_in o ≡ Some (codes "decode") → (rows : List Row) × (rows_in o ≡ Some rows) × (first_of (codes "HEX") rows ≡ None)) → Reads o Replay
 replayed None schedule stress decode = refl
-replayed (Some p) schedule stress decode = (λ e. schedule (ap Some e), λ e. stress (ap Some e), λ e. let has = decode (ap Some e) in ap (first_of (codes "HEX")) (inside _ _ has.1) ∙ has.2)
+replayed (Some p) schedule stress decode = (λ e. schedule (ap Some e), λ e. stress (ap Some e), λ e. let has = decode (ap Some e) in ap (first_of (codes "HEX")) (same_Some _ _ has.1) ∙ has.2)

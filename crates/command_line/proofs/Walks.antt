@@ -1,12 +1,13 @@
 -- What a walk that meets no fault leaves in the rows of a command with no subcommand: for each row one value, which its
 -- argument takes.
-use Rattle.std.proofs.Common.{◌≡◌, ◌∙◌, ◌⊎◌, inl, inr, ◌++◌, ◌∷◌, [], ◌&&◌, ◌||◌, ◌==◌, ℕ, Bool, true, false, true≢false, cond, not, zero, suc, List, length, Option, Some, None, is_some, refl, sym, ap, ap₂, subst, arith, unwrap_or, drop}
+use Rattle.std.proofs.Common.{◌≡◌, ◌∙◌, ◌⊎◌, inl, inr, ◌++◌, ◌∷◌, [], ◌&&◌, ◌||◌, ◌==◌, ℕ, Bool, true, false, true≢false, cond, not, zero, suc, List, length, Option, Some, None, is_some, refl, sym, ap, ap₂, subst, arith, drop}
 use Rattle.std.specs.Prelude.{⊤, encode_utf8, find, fold, slice_get}
 use Rattle.std.specs.List.{list_all, list_any}
 use Rattle.std.specs.Option.{option_map_or}
 use Rattle.std.specs.Str.{bytes_eq, chars}
 use Rattle.std.proofs.lemmas.Bool.{eqb-true}
 use Rattle.std.proofs.lemmas.List.{append-nil}
+use Rattle.std.proofs.lemmas.Option.{same_Some}
 use Rattle.std.proofs.lemmas.Slice.Eq.{bytes_eq-Decides}
 use Rattle.clap.specs.Lexer.{long_of, short_of}
 use Rattle.clap.specs.Facts.{explicit_source, parser_of_value, unwrap_or_range}
@@ -54,15 +55,12 @@ abbrev pub In : {X : Type 0} → X → List X → Type 0
 In a [] = ⊥
 In a (x ∷ xs) = (x ≡ a) ⊎ In a xs
 
-pub inside : {X : Type 0} (x y : X) → Some x ≡ Some y → x ≡ y
-inside x y e = ap (λ o. unwrap_or o x) e
-
 pub found_in : {X : Type 0} (p : X → Bool) (c : List X) (a : X) → find p c ≡ Some a → In a c
 found_in p [] a e = cc
 found_in p (x ∷ xs) a e = go (p x) (found_in p xs a) e
   where
     go : (b : Bool) → (find p xs ≡ Some a → In a xs) → cond b (Some x) (find p xs) ≡ Some a → In a (x ∷ xs)
-    go true more e = inl (inside _ _ e)
+    go true more e = inl (same_Some _ _ e)
     go false more e = inr (more e)
 
 -- what is found passes
@@ -71,7 +69,7 @@ found_passes p [] a e = cc
 found_passes p (x ∷ xs) a e = go (p x) refl (found_passes p xs a) e
   where
     go : (b : Bool) → p x ≡ b → (find p xs ≡ Some a → p a ≡ true) → cond b (Some x) (find p xs) ≡ Some a → p a ≡ true
-    go true is more e = ap p (sym (inside _ _ e)) ∙ is
+    go true is more e = ap p (sym (same_Some _ _ e)) ∙ is
     go false is more e = more e
 
 passes_in : (p : Rule → Bool) (c : List Rule) (a : Rule) → list_all p c ≡ true → In a c → p a ≡ true

@@ -31,7 +31,7 @@ impl Misunderstood {
         self.error.kind() == ErrorKind::OutOfMemory
     }
 
-    /// Whether the words aren't understood, so that no help was asked for.
+    /// Whether no help was asked for: the words aren't understood, or memory ran out.
     pub fn is_fault(&self) -> bool
         ensures { IsTrue result ↔ ((self.now ≢ DisplayHelp) × (self.now ≢ DisplayVersion)) }
     {

@@ -1,6 +1,6 @@
 //! The numbers of a stress run.
-ghost use Rattle.std.specs.Prelude.{◌≡◌, IfOk, false};
-ghost use Rattle.clap.specs.Words.{app_of, found_of, rows_of, rule_of};
+ghost use Rattle.std.specs.Prelude.{◌≡◌, IfOk, false, codes};
+ghost use Rattle.clap.specs.Words.{app_of, found_of, new_app, rows_of, rule_of};
 ghost use Rattle.command_line.specs.CommandLine as spec;
 
 use clap::{Arg, ArgMatches, Command, value_parser};
@@ -11,13 +11,23 @@ pub(crate) const STRESS: &str = "stress";
 
 const LOG2: &str = "log2";
 
+const LOG2_HELP: &str = "The ring has 2^L slots, 1 to 19";
+
 const SENDERS: &str = "senders";
+
+const SENDERS_HELP: &str = "How many senders, 1 to 64";
 
 const BATCHES: &str = "batches";
 
+const BATCHES_HELP: &str = "How many batches each, 1 to 100000";
+
 const TURNS: &str = "turns";
 
+const TURNS_HELP: &str = "How many turns each, 1 to 10000000";
+
 const BARE: &str = "bare";
+
+const BARE_HELP: &str = "Each E-th batch has no CMD_SYNC; 0 for none";
 
 const STRESS_HELP: &str = "\
 Reads no input. Runs each sender and the engine on a thread of its own, all at
@@ -65,49 +75,24 @@ fn number<'a>(
         .help(help)
 }
 
-fn log2<'a>(alloc: Global) -> Arg<'a>
-    ensures rule { rule_of result ≡ spec.log2 }
+/// The same, which must be given.
+fn wanted<'a>(
+    alloc: Global,
+    name: &'a str,
+    value: &'a str,
+    low: u32,
+    high: u32,
+    help: &'a str,
+) -> Arg<'a>
+    ensures rule { rule_of result ≡ spec.wanted name.entry.now (spec.between low high) }
     ensures local { result.global ≡ false }
 {
-    let help = "The ring has 2^L slots, 1 to 19";
-    number(alloc, LOG2, "L", 1, 19, help).required(true)
+    number(alloc, name, value, low, high, help).required(true)
 }
 
-fn senders<'a>(alloc: Global) -> Arg<'a>
-    ensures rule { rule_of result ≡ spec.senders }
-    ensures local { result.global ≡ false }
-{
-    let help = "How many senders, 1 to 64";
-    number(alloc, SENDERS, "S", 1, 64, help).required(true)
-}
-
-fn batches<'a>(alloc: Global) -> Arg<'a>
-    ensures rule { rule_of result ≡ spec.batches }
-    ensures local { result.global ≡ false }
-{
-    let help = "How many batches each, 1 to 100000";
-    number(alloc, BATCHES, "B", 1, 100_000, help).required(true)
-}
-
-fn turns<'a>(alloc: Global) -> Arg<'a>
-    ensures rule { rule_of result ≡ spec.turns }
-    ensures local { result.global ≡ false }
-{
-    let help = "How many turns each, 1 to 10000000";
-    number(alloc, TURNS, "T", 1, 10_000_000, help).required(true)
-}
-
-fn bare<'a>(alloc: Global) -> Arg<'a>
-    ensures rule { rule_of result ≡ spec.bare }
-    ensures local { result.global ≡ false }
-{
-    let help = "Each E-th batch has no CMD_SYNC; 0 for none";
-    number(alloc, BARE, "E", 0, 100_000, help).default_value("0")
-}
-
-/// The subcommand, with its numbers in their ranges.
-pub(crate) fn stress<'a>(alloc: Global) -> Result<Command<'a>, AllocError>
-    ensures { IfOk result (λ command. app_of command ≡ spec.stress) }
+/// The subcommand, before its options.
+fn without_options<'a>(alloc: Global) -> Command<'a>
+    ensures { app_of result ≡ new_app (codes "stress") }
 {
     Command::new(alloc, STRESS)
         .about("Runs many senders and an engine at the same time")
@@ -115,11 +100,18 @@ pub(crate) fn stress<'a>(alloc: Global) -> Result<Command<'a>, AllocError>
             "smmuq stress --log2 <L> --senders <S> --batches <B> --turns <T> [--bare <E>]",
         )
         .after_help(STRESS_HELP)
-        .arg(log2(alloc))?
-        .arg(senders(alloc))?
-        .arg(batches(alloc))?
-        .arg(turns(alloc))?
-        .arg(bare(alloc))
+}
+
+/// The subcommand, with its numbers in their ranges.
+pub(crate) fn stress<'a>(alloc: Global) -> Result<Command<'a>, AllocError>
+    ensures { IfOk result (λ command. app_of command ≡ spec.stress) }
+{
+    without_options(alloc)
+        .arg(wanted(alloc, LOG2, "L", 1, 19, LOG2_HELP))?
+        .arg(wanted(alloc, SENDERS, "S", 1, 64, SENDERS_HELP))?
+        .arg(wanted(alloc, BATCHES, "B", 1, 100_000, BATCHES_HELP))?
+        .arg(wanted(alloc, TURNS, "T", 1, 10_000_000, TURNS_HELP))?
+        .arg(number(alloc, BARE, "E", 0, 100_000, BARE_HELP).default_value("0"))
 }
 
 /// The number of this name that the words gave. Each is wanted or has a default, so none is wanting.
