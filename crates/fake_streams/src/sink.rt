@@ -1,5 +1,6 @@
 //! A writer that keeps what it is given.
-ghost use Rattle.std.specs.Prelude.{◌≡◌, ◌⊎◌, [], codes};
+ghost use Rattle.std.specs.Prelude.{◌≡◌, [], codes};
+ghost use Rattle.std.specs.Str.{IsUtf8};
 
 use std::io;
 use std::io::{ErrorKind, Write};
@@ -27,17 +28,27 @@ impl Model for Sink {
 
     ghost Value = { SinkValue };
 
-    ghost view = { λ s. record { kept = take s.len s.kept; calls = s.calls; bad = s.bad } };
+    ghost view = { λ s. record { kept = take s.len s.kept; calls = s.calls; bad = s.bad; kind = s.kind } };
 
     ghost invariant = { λ s. s.len ≤ 4096 };
 }
 
 impl Write for Sink {
     ghost use Rattle.std.specs.Prelude.{Some};
+    ghost use Rattle.std.specs.Io.{WritesAtMost};
+    ghost use Rattle.std.specs.Io.KnownBytes.{WriteAppends};
+    ghost use Rattle.fake_streams.specs.Streams.{FailsWhere, one_more};
 
     ghost contents = { λ s. Some s.kept };
 
-    fn write(&mut self, buf: &[u8]) -> io::Result<usize> {
+    fn write(&mut self, buf: &[u8]) -> io::Result<usize>
+        ensures bound { WritesAtMost result buf.now }
+        ensures bytes { WriteAppends (Some self.old.kept) (Some self.new.kept) result buf.now }
+        ensures calls { self.new.calls ≡ one_more self.old.calls }
+        ensures stays { self.new.bad ≡ self.old.bad }
+        ensures kind { self.new.kind ≡ self.old.kind }
+        ensures fails { FailsWhere self.new.calls self.old.bad self.old.kind result }
+    {
         self.calls = self.calls.saturating_add(1);
         if self.calls == self.bad {
             return Err(io::Error::from(self.kind));
@@ -60,7 +71,7 @@ impl Write for Sink {
 impl Sink {
     /// A writer that is empty, and fails in this way.
     pub fn new(most: usize, bad: usize, kind: ErrorKind) -> Sink
-        ensures { result ≡ record { kept = []; calls = 0; bad = bad } }
+        ensures { result ≡ record { kept = []; calls = 0; bad = bad; kind = kind } }
     {
         Sink {
             kept: [0; MOST_KEPT],
@@ -74,7 +85,8 @@ impl Sink {
 
     /// What was written, or `no text` where it is none.
     pub fn text(&self) -> &str
-        ensures { (result.now ≡ self.now.kept) ⊎ (result.now ≡ codes "no text") }
+        ensures text { IsUtf8 self.now.kept → result.now ≡ self.now.kept }
+        ensures none { ¬ IsUtf8 self.now.kept → result.now ≡ codes "no text" }
     {
         str::from_utf8(self.kept.get(..self.len).unwrap_or_default()).unwrap_or("no text")
     }

@@ -24,17 +24,27 @@ impl<'a> Model for Source<'a> {
 
     ghost Value = { SourceValue };
 
-    ghost view = { λ s. record { left = s.text.now; calls = s.calls; bad = s.bad } };
+    ghost view = { λ s. record { left = s.text.now; calls = s.calls; bad = s.bad; kind = s.kind } };
 
     ghost invariant = { λ s. 1 ≤ s.most };
 }
 
 impl<'a> Read for Source<'a> {
     ghost use Rattle.std.specs.Prelude.{Some};
+    ghost use Rattle.std.specs.Io.{ReadsAtMost};
+    ghost use Rattle.std.specs.Io.KnownBytes.{ReadConsumes};
+    ghost use Rattle.fake_streams.specs.Streams.{FailsWhere, one_more};
 
     ghost remaining = { λ s. Some s.left };
 
-    fn read(&mut self, buf: &mut [u8]) -> io::Result<usize> {
+    fn read(&mut self, buf: &mut [u8]) -> io::Result<usize>
+        ensures bound { ReadsAtMost result buf.new }
+        ensures bytes { ReadConsumes (Some self.old.left) (Some self.new.left) result buf.new }
+        ensures calls { self.new.calls ≡ one_more self.old.calls }
+        ensures stays { self.new.bad ≡ self.old.bad }
+        ensures kind { self.new.kind ≡ self.old.kind }
+        ensures fails { FailsWhere self.new.calls self.old.bad self.old.kind result }
+    {
         self.least_room = self.least_room.min(buf.len());
         self.calls = self.calls.saturating_add(1);
         if self.calls == self.bad {
@@ -50,7 +60,7 @@ impl<'a> Read for Source<'a> {
 impl<'a> Source<'a> {
     /// A reader of this text, which fails in this way.
     pub fn new(text: &'a [u8], most: usize, bad: usize, kind: ErrorKind) -> Source<'a>
-        ensures { result ≡ record { left = text.now; calls = 0; bad = bad } }
+        ensures { result ≡ record { left = text.now; calls = 0; bad = bad; kind = kind } }
     {
         Source {
             text,

@@ -1,8 +1,8 @@
-use Rattle.std.proofs.Common.{rules, ◌≡◌, ℕ, ◌<◌, ◌≤◌, ◌⊎◌, inl, inr, [], ap, sym, ◌∙◌, ◌++◌, length, arith}
+use Rattle.std.proofs.Common.{rules, inl, inr, ap, sym, ◌∙◌, ◌++◌, arith}
 use Rattle.std.proofs.lemmas.Bool.{cases_lt}
 use Rattle.std.specs.Prelude.{get_or}
-use Rattle.fake_streams.specs.Telling.{texts_of, AreAnswers}
-use Rattle.fake_streams.proofs.Joined.{one_more, not_fewer, not_more, is_left, past_end, length_texts}
+use Rattle.std.proofs.lemmas.List.{length-map}
+use Rattle.fake_streams.proofs.Joined.{one_more, not_fewer, not_more, is_left, past_end}
 use Rattle.fake_streams.proofs.telling.answers_in.Goals as goal
 
 pub loop-count-preserved : goal.loop-count-preserved
@@ -22,5 +22,5 @@ returns-in_err-rest-clause-none c = λ _ n are.
 
 pub returns-else-is_empty-2-clause-none : goal.returns-else-is_empty-2-clause-none
 returns-else-is_empty-2-clause-none c = λ _ n are.
-    not_fewer c.args.answers.now c.args.text.now c.loop-count.rest.now c.loop-count.count c.loop-count.invariant.1 (is_left c.loop-count.rest.now c.if-is_empty-2.ensures) n (omega (arith, are.few, length_texts c.args.answers.now, c.loop-count-test.false))
+    not_fewer c.args.answers.now c.args.text.now c.loop-count.rest.now c.loop-count.count c.loop-count.invariant.1 (is_left c.loop-count.rest.now c.if-is_empty-2.ensures) n (omega (arith, are.few, length-map c.args.answers.now (λ s. s.now), c.loop-count-test.false))
     are
