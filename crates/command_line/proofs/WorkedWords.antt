@@ -3,6 +3,7 @@ use Rattle.std.proofs.Common.{◌≡◌, ◌∷◌, [], List, refl, codes, arith
 use Rattle.clap.specs.declared.error.kind.ErrorKind.TheVariants as kind
 use Rattle.clap.proofs.OnLiterals.{clap_on_literals}
 use Rattle.command_line.specs.CommandLine.{AskFor, Text, fault_of, smmuq}
+use Rattle.clap.specs.Kinds.{Kinds}
 use Rattle.command_line.specs.declared.subcommand.Subcommand.TheVariants.{Replay, Schedule, Stress}
 
 -- ---- what words ask for
@@ -20,7 +21,10 @@ abbrev of_a_run : Text → Text → Text → Text → List Text
 of_a_run log2 senders batches turns =
     codes "stress" ∷ codes "--log2" ∷ log2 ∷ codes "--senders" ∷ senders ∷ codes "--batches" ∷ batches ∷ codes "--turns" ∷ turns ∷ []
 
-run_of_four : AskFor (of_a_run (codes "4") (codes "2") (codes "10") (codes "100")) (Stress (record { log2 = 4; senders = 2; batches = 10; turns = 100; bare = 0 }))
+abbrev a_run : List Text
+a_run = of_a_run (codes "4") (codes "2") (codes "10") (codes "100")
+
+run_of_four : AskFor a_run (Stress (record { log2 = 4; senders = 2; batches = 10; turns = 100; bare = 0 }))
 unfolding clap_on_literals
 run_of_four = (
   _,
@@ -38,79 +42,55 @@ run_of_four = (
   ),
 )
 
--- ---- words without a fault
+abbrev a_bare_run : Text → List Text
+a_bare_run bare = codes "stress" ∷ codes "--log2" ∷ codes "4" ∷ codes "--senders" ∷ codes "1" ∷ codes "--batches" ∷ codes "1" ∷ codes "--turns" ∷ codes "1" ∷ codes "--bare" ∷ bare ∷ []
 
-replay_is_sound : fault_of smmuq (codes "replay" ∷ []) ≡ []
+-- ---- of which fault words are
+
+abbrev AreOf : List Text → Kinds → Type 0
+AreOf words kinds = fault_of smmuq words ≡ kinds
+
+sound : AreOf (codes "replay" ∷ []) [] × AreOf (codes "decode" ∷ codes "12302000010002000004010000000000" ∷ []) [] × AreOf a_run []
 unfolding clap_on_literals
-replay_is_sound = refl
+sound = (refl, refl, refl)
 
-decode_is_sound : fault_of smmuq (codes "decode" ∷ codes "12302000010002000004010000000000" ∷ []) ≡ []
-unfolding clap_on_literals
-decode_is_sound = refl
-
-run_is_sound : fault_of smmuq (of_a_run (codes "4") (codes "2") (codes "10") (codes "100")) ≡ []
-unfolding clap_on_literals
-run_is_sound = refl
-
--- ---- faults
-
-help : fault_of smmuq (codes "--help" ∷ []) ≡ kind.DisplayHelp ∷ []
+help : AreOf (codes "--help" ∷ []) (kind.DisplayHelp ∷ [])
 unfolding clap_on_literals
 help = refl
 
-no_subcommand : fault_of smmuq ([]) ≡ kind.MissingSubcommand ∷ []
-unfolding clap_on_literals
-no_subcommand = refl
-
 -- either may be told
-unknown_subcommand : fault_of smmuq (codes "explode" ∷ []) ≡ kind.UnknownArgument ∷ kind.InvalidSubcommand ∷ []
+unknown_subcommand : AreOf (codes "explode" ∷ []) (kind.UnknownArgument ∷ kind.InvalidSubcommand ∷ [])
 unfolding clap_on_literals
 unknown_subcommand = refl
 
-more_than_replay : fault_of smmuq (codes "replay" ∷ codes "more" ∷ []) ≡ kind.UnknownArgument ∷ []
+missing_words : AreOf [] (kind.MissingSubcommand ∷ []) × AreOf (codes "decode" ∷ []) (kind.MissingRequiredArgument ∷ [])
+    × AreOf (codes "stress" ∷ codes "--log2" ∷ codes "4" ∷ codes "--senders" ∷ codes "2" ∷ codes "--batches" ∷ codes "10" ∷ []) (kind.MissingRequiredArgument ∷ [])
 unfolding clap_on_literals
-more_than_replay = refl
+missing_words = (refl, refl, refl)
 
-no_word : fault_of smmuq (codes "decode" ∷ []) ≡ kind.MissingRequiredArgument ∷ []
+words_too_many : AreOf (codes "replay" ∷ codes "more" ∷ []) (kind.UnknownArgument ∷ []) × AreOf (codes "decode" ∷ codes "0g" ∷ codes "0g" ∷ []) (kind.UnknownArgument ∷ [])
 unfolding clap_on_literals
-no_word = refl
+words_too_many = (refl, refl)
 
-two_words : fault_of smmuq (codes "decode" ∷ codes "0g" ∷ codes "0g" ∷ []) ≡ kind.UnknownArgument ∷ []
-unfolding clap_on_literals
-two_words = refl
+abbrev IsOutOfRange : List Text → Type 0
+IsOutOfRange words = AreOf words (kind.ValueValidation ∷ [])
 
-no_turns : fault_of smmuq (codes "stress" ∷ codes "--log2" ∷ codes "4" ∷ codes "--senders" ∷ codes "2" ∷ codes "--batches" ∷ codes "10" ∷ []) ≡ kind.MissingRequiredArgument ∷ []
+log2_out_of_range : IsOutOfRange (of_a_run (codes "0") (codes "1") (codes "1") (codes "1")) × IsOutOfRange (of_a_run (codes "20") (codes "1") (codes "1") (codes "1"))
 unfolding clap_on_literals
-no_turns = refl
+log2_out_of_range = (refl, refl)
 
-log2_0 : fault_of smmuq (of_a_run (codes "0") (codes "1") (codes "1") (codes "1")) ≡ kind.ValueValidation ∷ []
+senders_out_of_range : IsOutOfRange (of_a_run (codes "4") (codes "65") (codes "1") (codes "1"))
 unfolding clap_on_literals
-log2_0 = refl
+senders_out_of_range = refl
 
-log2_20 : fault_of smmuq (of_a_run (codes "20") (codes "1") (codes "1") (codes "1")) ≡ kind.ValueValidation ∷ []
+batches_out_of_range : IsOutOfRange (of_a_run (codes "4") (codes "1") (codes "0") (codes "1")) × IsOutOfRange (of_a_run (codes "4") (codes "1") (codes "100001") (codes "1"))
 unfolding clap_on_literals
-log2_20 = refl
+batches_out_of_range = (refl, refl)
 
-senders_65 : fault_of smmuq (of_a_run (codes "4") (codes "65") (codes "1") (codes "1")) ≡ kind.ValueValidation ∷ []
+turns_out_of_range : IsOutOfRange (of_a_run (codes "4") (codes "1") (codes "1") (codes "0")) × IsOutOfRange (of_a_run (codes "4") (codes "1") (codes "1") (codes "10000001"))
 unfolding clap_on_literals
-senders_65 = refl
+turns_out_of_range = (refl, refl)
 
-batches_0 : fault_of smmuq (of_a_run (codes "4") (codes "1") (codes "0") (codes "1")) ≡ kind.ValueValidation ∷ []
+bare_out_of_range : IsOutOfRange (a_bare_run (codes "100001"))
 unfolding clap_on_literals
-batches_0 = refl
-
-batches_100001 : fault_of smmuq (of_a_run (codes "4") (codes "1") (codes "100001") (codes "1")) ≡ kind.ValueValidation ∷ []
-unfolding clap_on_literals
-batches_100001 = refl
-
-turns_0 : fault_of smmuq (of_a_run (codes "4") (codes "1") (codes "1") (codes "0")) ≡ kind.ValueValidation ∷ []
-unfolding clap_on_literals
-turns_0 = refl
-
-turns_10000001 : fault_of smmuq (of_a_run (codes "4") (codes "1") (codes "1") (codes "10000001")) ≡ kind.ValueValidation ∷ []
-unfolding clap_on_literals
-turns_10000001 = refl
-
-bare_100001 : fault_of smmuq (codes "stress" ∷ codes "--log2" ∷ codes "4" ∷ codes "--senders" ∷ codes "1" ∷ codes "--batches" ∷ codes "1" ∷ codes "--turns" ∷ codes "1" ∷ codes "--bare" ∷ codes "100001" ∷ []) ≡ kind.ValueValidation ∷ []
-unfolding clap_on_literals
-bare_100001 = refl
+bare_out_of_range = refl

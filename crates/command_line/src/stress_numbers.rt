@@ -75,21 +75,6 @@ fn number<'a>(
         .help(help)
 }
 
-/// The same, which must be given.
-fn wanted<'a>(
-    alloc: Global,
-    name: &'a str,
-    value: &'a str,
-    low: u32,
-    high: u32,
-    help: &'a str,
-) -> Arg<'a>
-    ensures rule { rule_of result ≡ spec.wanted name.entry.now (spec.between low high) }
-    ensures local { result.global ≡ false }
-{
-    number(alloc, name, value, low, high, help).required(true)
-}
-
 /// The subcommand, before its options.
 fn without_options<'a>(alloc: Global) -> Command<'a>
     ensures { app_of result ≡ new_app (codes "stress") }
@@ -107,10 +92,10 @@ pub(crate) fn stress<'a>(alloc: Global) -> Result<Command<'a>, AllocError>
     ensures { IfOk result (λ command. app_of command ≡ spec.stress) }
 {
     without_options(alloc)
-        .arg(wanted(alloc, LOG2, "L", 1, 19, LOG2_HELP))?
-        .arg(wanted(alloc, SENDERS, "S", 1, 64, SENDERS_HELP))?
-        .arg(wanted(alloc, BATCHES, "B", 1, 100_000, BATCHES_HELP))?
-        .arg(wanted(alloc, TURNS, "T", 1, 10_000_000, TURNS_HELP))?
+        .arg(number(alloc, LOG2, "L", 1, 19, LOG2_HELP).required(true))?
+        .arg(number(alloc, SENDERS, "S", 1, 64, SENDERS_HELP).required(true))?
+        .arg(number(alloc, BATCHES, "B", 1, 100_000, BATCHES_HELP).required(true))?
+        .arg(number(alloc, TURNS, "T", 1, 10_000_000, TURNS_HELP).required(true))?
         .arg(number(alloc, BARE, "E", 0, 100_000, BARE_HELP).default_value("0"))
 }
 
