@@ -2,8 +2,10 @@
 //! of their own by the word `threads`. Without a word it does nothing.
 #![tactic(auto)]
 
+mod applying;
 mod commands;
 mod nothing;
+mod taker;
 mod taking;
 mod threads;
 mod timing;

@@ -1,4 +1,4 @@
-//! The consumer's part.
+//! The part of a consumer alone.
 ghost use Rattle.std.specs.Prelude.{◌≡◌, ◌≤◌, Some, true, false, length, slice_get, take};
 ghost use Rattle.cmdcodec.specs.declared.raw.Raw.{Raw as RawOf};
 ghost use Rattle.ringcore.specs.world.World.{outcome_of};
@@ -6,28 +6,27 @@ ghost use Rattle.ringcore.specs.declared.world.event.Outcome.TheVariants.{Applie
 ghost use Rattle.ring.specs.consumer.Completing.{HasOutcome};
 
 use crate::nothing::Nothing;
+use crate::taker::{MOST_COMMANDS, Taker};
 use cmdcodec::{Raw, decode};
 use ring::{Consumer, Outcome, PendingRun, Ring, TakenRun};
 
-/// The most commands that are taken at once.
-const MOST_COMMANDS: u32 = 64;
+impl Taker for Consumer<Nothing> {
+    ghost ring_of = { λ c. c.ring };
 
-/// Takes so many commands, or until the ring is closed.
-pub(crate) fn take_all(ring: &Ring, consumer: Consumer<Nothing>, wanted: u64) -> Consumer<Nothing>
-    requires { consumer.ring ≡ ring.now }
-{
-    let mut consumer = consumer;
-    for _ in 0..u64::MAX {
-        if consumer.taken() >= wanted {
-            return consumer;
+    fn take_all(self, ring: &Ring, wanted: u64) -> u64 {
+        let mut consumer = self;
+        for _ in 0..u64::MAX {
+            if consumer.taken() >= wanted {
+                return consumer.taken();
+            }
+            consumer = match consumer.take_run(ring, MOST_COMMANDS) {
+                TakenRun::Drained(consumer) => return consumer.taken(),
+                TakenRun::Empty(consumer) | TakenRun::Unwritten(consumer) => consumer,
+                TakenRun::Ready(run) => complete(ring, run),
+            };
         }
-        consumer = match consumer.take_run(ring, MOST_COMMANDS) {
-            TakenRun::Drained(consumer) => return consumer,
-            TakenRun::Empty(consumer) | TakenRun::Unwritten(consumer) => consumer,
-            TakenRun::Ready(run) => complete(ring, run),
-        };
+        consumer.taken()
     }
-    consumer
 }
 
 /// Completes all that was read ahead of the first illegal command, or that one where nothing is ahead of it.

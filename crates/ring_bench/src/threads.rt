@@ -5,9 +5,11 @@ ghost use Rattle.std.specs.Thread.{IsSync};
 
 use crate::commands::batch_of;
 use crate::nothing::Nothing;
-use crate::taking::take_all;
+use crate::taker::Taker;
 use batch::Batch;
-use ring::{Consumer, Ring, Sender};
+use caches::Caches;
+use engine::{Engine, Unit};
+use ring::{Ring, Sender};
 use std::alloc::AllocGlobal;
 use std::io;
 use std::io::ErrorKind;
@@ -66,32 +68,49 @@ fn run_senders<R: Threads + Sync>(
     );
 }
 
-/// Runs the consumer and each sender, each on a thread of its own: how many commands were taken.
-fn run_all<R: Threads + Sync>(
+/// Runs who takes and each sender, each on a thread of its own: how many commands were taken.
+fn run_all<R: Threads + Sync, T: Taker + Send + Drop>(
     rt: &R,
     ring: &Ring,
     batches: &[Batch; 4],
     senders: Vec<Sender>,
-    consumer: Consumer<Nothing>,
+    taker: T,
     wanted: u64,
 ) -> u64
     requires senders { All (λ s. s.ring ≡ ring.now) senders.items }
-    requires consumer { consumer.ring ≡ ring.now }
+    requires taker { T.ring_of taker ≡ ring.now }
 {
-    let (consumer, ()) = join(
+    let (taken, ()) = join(
         rt,
-        move || -> Consumer<Nothing>
-            requires { consumer.ring ≡ ring.now }
-        { take_all(ring, consumer, wanted) },
+        move || -> u64
+            requires { T.ring_of taker ≡ ring.now }
+        { taker.take_all(ring, wanted) },
         move ||
             requires { IsSync R.row × All (λ s. s.ring ≡ ring.now) senders.items }
         { run_senders(rt, ring, batches, senders) },
     );
-    consumer.taken()
+    taken
 }
 
 /// The nanoseconds from before the threads start to after all are joined, and how many commands were taken.
-fn time_one<R: Clock + Threads + AllocGlobal + Sync>(
+fn time_one<R: Clock + Threads + Sync, T: Taker + Send + Drop>(
+    rt: &R,
+    ring: &Ring,
+    batches: &[Batch; 4],
+    senders: Vec<Sender>,
+    taker: T,
+) -> io::Result<(u128, u64)>
+    requires senders { All (λ s. s.ring ≡ ring.now) senders.items }
+    requires taker { T.ring_of taker ≡ ring.now }
+{
+    let wanted = (u64::from(BATCHES / 4) * FOUR_BATCHES).saturating_mul(senders.len() as u64);
+    let start = Instant::now(rt)?;
+    let taken = run_all(rt, ring, batches, senders, taker, wanted);
+    Ok((start.elapsed(rt)?.as_nanos(), taken))
+}
+
+/// With a consumer alone, whose device does nothing.
+fn time_consumer<R: Clock + Threads + AllocGlobal + Sync>(
     rt: &R,
     batches: &[Batch; 4],
     senders: u32,
@@ -99,19 +118,33 @@ fn time_one<R: Clock + Threads + AllocGlobal + Sync>(
     let Ok((ring, all, consumer)) = Ring::new::<Nothing>(rt.alloc(), LOG2, senders, BATCHES) else {
         return Err(io::Error::from(ErrorKind::OutOfMemory));
     };
-    let wanted = u64::from(BATCHES / 4) * FOUR_BATCHES * u64::from(senders);
-    let start = Instant::now(rt)?;
-    let taken = run_all(rt, &ring, batches, all, consumer, wanted);
-    Ok((start.elapsed(rt)?.as_nanos(), taken))
+    time_one(rt, &ring, batches, all, consumer)
 }
 
-/// Prints a line for each of 1 to 3 senders: the name of the ring, how many senders, the nanoseconds, and how many
-/// commands were taken.
+/// With the engine, whose caches are empty.
+fn time_engine<R: Clock + Threads + AllocGlobal + Sync>(
+    rt: &R,
+    batches: &[Batch; 4],
+    senders: u32,
+) -> io::Result<(u128, u64)> {
+    let Ok((ring, all, consumer)) = Ring::new::<Unit>(rt.alloc(), LOG2, senders, BATCHES) else {
+        return Err(io::Error::from(ErrorKind::OutOfMemory));
+    };
+    let Ok(caches) = Caches::new(rt.alloc(), 1) else {
+        return Err(io::Error::from(ErrorKind::InvalidData));
+    };
+    time_one(rt, &ring, batches, all, Engine::new(consumer, caches))
+}
+
+/// Prints two lines for each of 1 to 3 senders, of a consumer alone and of the engine: who takes, how many senders, the
+/// nanoseconds, and how many commands were taken.
 pub(crate) fn time_all<R: Clock + Threads + Print + AllocGlobal + Sync>(rt: &R) -> io::Result<()> {
     let batches = [batch_of(1)?, batch_of(2)?, batch_of(3)?, batch_of(4)?];
     for senders in 1..4 {
-        let (nanoseconds, taken) = time_one(rt, &batches, senders)?;
+        let (nanoseconds, taken) = time_consumer(rt, &batches, senders)?;
         println!(rt; "ring {senders} {nanoseconds} {taken}")?;
+        let (nanoseconds, taken) = time_engine(rt, &batches, senders)?;
+        println!(rt; "engine {senders} {nanoseconds} {taken}")?;
     }
     Ok(())
 }
