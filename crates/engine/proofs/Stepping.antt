@@ -25,18 +25,22 @@ reads_keep : (offset : ℕ) (raws : List Raw) (t : Trail) → taken_of (reads_fr
 reads_keep offset [] t = λ _. taken_of t
 reads_keep offset (raw ∷ raws) t = reads_keep (suc offset) raws _
 
+-- whatever the consumer knows of the run, the two are together by its trail
+knowing : (e : ConsumerValue) (unit : UnitValue) → AreTogether (record e { history = [] }) unit → AreTogether e unit
+knowing e unit t = record { many = t.many; counted = t.counted; settled = t.settled; seen = λ raw is half. t.seen raw is half }
+
 module _ (d : ConsumerValue) (unit : UnitValue) (t : AreTogether d unit) where
   -- ---- nothing was taken
-  pub still_looked : (control : Control) (e : ConsumerValue) → e ≡ with_trail d (Look control ∷ d.trail) → AreTogether e unit
+  pub still_looked : (control : Control) (e : ConsumerValue) → record e { history = [] } ≡ with_trail (record d { history = [] }) (Look control ∷ d.trail) → AreTogether e unit
   still_looked control e is =
-      subst (λ (x : ConsumerValue). AreTogether x unit) (sym is) (record { many = t.many; counted = t.counted; settled = t.settled; seen = λ raw is half. t.seen raw is half })
+      knowing e unit (subst (λ (x : ConsumerValue). AreTogether x unit) (sym is) (record { many = t.many; counted = t.counted; settled = t.settled; seen = λ raw is half. t.seen raw is half }))
 
   pub still_none : (closed : Bool) (e : ConsumerValue) → TookNone closed d e → AreTogether e unit
   still_none closed e took = still_looked took.seen e took.trail_is
 
   pub still_unwritten : (most : ℕ) (e : ConsumerValue) → TookUnwritten most d e → AreTogether e unit
   still_unwritten most e took =
-      subst (λ (x : ConsumerValue). AreTogether x unit) (sym took.trail_is) (record { many = t.many; counted = t.counted; settled = t.settled; seen = λ raw is half. t.seen raw is half })
+      knowing e unit (subst (λ (x : ConsumerValue). AreTogether x unit) (sym took.trail_is) (record { many = t.many; counted = t.counted; settled = t.settled; seen = λ raw is half. t.seen raw is half }))
 
   module _ (most : ℕ) (p : PendingValue) (took : TookRun most d p) where
     -- what was taken before the reads was taken after them

@@ -9,7 +9,7 @@ use Rattle.ring.specs.NewRings.{made_with}
 use Rattle.ring.specs.consumer.Consumers.{ConsumerValue}
 use Rattle.ring.specs.consumer.Pendings.{PendingValue, HasSeen}
 use Rattle.ring.specs.consumer.Taking.{with_trail, TookNone, TookUnwritten, TookRun}
-use Rattle.ring.specs.consumer.Completing.{completed, taken_of}
+use Rattle.ring.specs.consumer.Completing.{completed, unknowing, taken_of}
 use Rattle.engine.specs.declared.answer.Registers.{Registers}
 use Rattle.engine.specs.declared.answer.StepAnswer.{StepAnswer}
 use Rattle.engine.specs.declared.answer.StepAnswer.TheVariants.{Empty, Drained, Unwritten, Applied, Stopped, Replaced, StillStopped, Exhausted}
@@ -39,6 +39,7 @@ abbrev pub nobody : ConsumerValue
 nobody = record {
   ring = record { table = record { words = 0; slots = 0; views_name = 0; atom = 0; block = 0; offset = 0; slot_names = [] }; made_with = made_with 0 0 0 };
   trail = [];
+  history = [];
 }
 
 abbrev pub consumer_in : Option ConsumerValue → ConsumerValue
@@ -63,7 +64,7 @@ HasStoppedAt most ill old new =
 
 abbrev pub HasReplaced : ℕ → Ill → EngineValue → EngineValue → Type 0
 HasReplaced most ill old new =
-    (p : PendingValue) × (raw : Raw) × IsFirst most old.consumer p raw × IsReplaced raw ill old.unit new.unit × (new.consumer ≡ completed 1 p)
+    (p : PendingValue) × (raw : Raw) × IsFirst most old.consumer p raw × IsReplaced raw ill old.unit new.unit × (record new.consumer { history = [] } ≡ completed 1 (unknowing p))
 
 -- ---- one command
 
@@ -73,7 +74,7 @@ HasStepped old new Empty = TookNone false old.consumer new.consumer × (new.unit
 HasStepped old new Drained = TookNone true old.consumer new.consumer × (new.unit ≡ old.unit)
 HasStepped old new Unwritten = TookUnwritten 1 old.consumer new.consumer × (new.unit ≡ old.unit)
 HasStepped old new (Applied command removed) =
-    (p : PendingValue) × (raw : Raw) × IsFirst 1 old.consumer p raw × IsApplied raw command removed old.unit new.unit × (new.consumer ≡ completed 1 p)
+    (p : PendingValue) × (raw : Raw) × IsFirst 1 old.consumer p raw × IsApplied raw command removed old.unit new.unit × (record new.consumer { history = [] } ≡ completed 1 (unknowing p))
 HasStepped old new (Stopped ill) = HasStoppedAt 1 ill old new
 HasStepped old new (Replaced ill) = HasReplaced 1 ill old new
 HasStepped old new StillStopped = IsStopped old.unit.stop.mode × (new ≡ old)
@@ -89,7 +90,7 @@ pub record HasAppliedRun (most count removed : ℕ) (old new : EngineValue) : Ty
   pub within : count ≤ length pending.raws
   pub applied : AreApplied (take count pending.raws) removed old.unit new.unit
   pub longest : (raw : Raw) → slice_get pending.raws count ≡ Some raw → (ill : Ill) × (first_ill raw ≡ Some ill)
-  pub completed_are : new.consumer ≡ completed count pending
+  pub completed_are : record new.consumer { history = [] } ≡ completed count (unknowing pending)
 
 -- What a step of at most so many commands did, by its answer.
 abbrev pub HasRun : ℕ → EngineValue → EngineValue → RunAnswer → Type 0
@@ -107,7 +108,7 @@ HasRun most old new run.Exhausted = (2 ^ 46 ≤ taken old.unit.counts) × (new �
 -- It looked, and the registers say what it found, and how the stop stands.
 pub record HasLooked (old new : EngineValue) (found : Registers) : Type 0 where
   pub control : Control
-  pub consumer_is : new.consumer ≡ with_trail old.consumer (Look control ∷ old.consumer.trail)
+  pub consumer_is : record new.consumer { history = [] } ≡ with_trail (record old.consumer { history = [] }) (Look control ∷ old.consumer.trail)
   pub unit_is : new.unit ≡ old.unit
   pub prod : found.prod ≡ control.prod.number
   pub cons : found.cons ≡ control.cons.number + err_of old.unit.stop.mode * 2 ^ 24

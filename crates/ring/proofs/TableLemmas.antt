@@ -5,3 +5,5 @@ pub mod StepKinds
 pub mod PortSteps
 pub mod Starts
 pub mod Asks
+pub mod OneRun
+pub mod Histories

@@ -10,7 +10,7 @@ use Rattle.ringcore.specs.world.Laws.{OnlyOf, batches_of, own_batches, IsApplied
 use Rattle.ringcore.specs.world.ConsumerLaws.{SawDrained}
 use Rattle.ring.specs.declared.table.rule.Participant.{Participant}
 use Rattle.ring.specs.Rings.{RingValue}
-use Rattle.ring.specs.table.Rule.{participant}
+use Rattle.ring.specs.table.Rule.{participant, WentOn}
 use Rattle.ring.specs.sender.Senders.{SenderValue}
 use Rattle.ring.specs.consumer.Consumers.{ConsumerValue}
 use Rattle.ring.specs.consumer.Completing.{taken_of}
@@ -25,19 +25,22 @@ pub record AreAll (ring : RingValue) (all : List SenderValue) : Type 0 where
   pub many : length all ≡ ring.made_with.senders
   pub each : (k : ℕ) (s : SenderValue) → slice_get all k ≡ Some s → (s.ring ≡ ring) × (s.number ≡ k)
 
--- those for whom the joined seat stands
+-- those for whom the joined seat stands, with the run as each of them knew it
 abbrev pub sender_in : SenderValue → Participant
-sender_in s = participant s.ring.made_with (Sender s.number) s.trail
+sender_in s = participant s.ring.made_with (Sender s.number) s.trail s.history
 
-abbrev pub all_in : Ring → Trail → List SenderValue → List Participant
-all_in ring trail all = map sender_in all ++ participant ring Consumer trail ∷ []
+abbrev pub all_in : Ring → Trail → Run → List SenderValue → List Participant
+all_in ring trail history all = map sender_in all ++ participant ring Consumer trail history ∷ []
 
--- One run has the trails of all seats, and no other steps.
+-- One run has the trails of all seats, and no other steps. What each of them knew at its newest step is an older part of
+-- it, behind which it took no step.
 pub record IsRunOf (ring : RingValue) (senders : List SenderValue) (consumer : ConsumerValue) (run : Run) : Type 0 where
   pub run_is : IsRun ring.made_with run
   pub only : OnlyOf ring.made_with.senders run
   pub of_senders : (k : ℕ) (s : SenderValue) → slice_get senders k ≡ Some s → trail_of (Sender k) run ≡ s.trail
   pub of_consumer : trail_of Consumer run ≡ consumer.trail
+  pub known_to_senders : (k : ℕ) (s : SenderValue) → slice_get senders k ≡ Some s → WentOn (Sender k) s.history run
+  pub known_to_consumer : WentOn Consumer consumer.history run
 
 -- Batches are a merge of the senders': those of each sender in its order, and nobody else's.
 pub record IsMerge (senders : List SenderValue) (all : List Batch) : Type 0 where

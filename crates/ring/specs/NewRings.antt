@@ -22,7 +22,7 @@ IsNotMade numbers fault = numbers ≡ Some fault
 
 -- a sender that has taken no step
 abbrev pub new_sender : RingValue → ℕ → SenderValue
-new_sender ring number = record { ring = ring; number = number; trail = [] }
+new_sender ring number = record { ring = ring; number = number; trail = []; history = [] }
 
 -- those below n, in the order of their numbers
 abbrev pub new_senders : RingValue → ℕ → List SenderValue
@@ -36,7 +36,7 @@ made_with log2 senders max_batches = record { geometry = log2; senders = senders
 pub record IsUnused (log2 senders max_batches : ℕ) (ring : RingValue) (all : List SenderValue) (consumer : ConsumerValue) : Type 0 where
   pub made_is : ring.made_with ≡ made_with log2 senders max_batches
   pub senders_are : all ≡ new_senders ring senders
-  pub consumer_is : consumer ≡ record { ring = ring; trail = [] }
+  pub consumer_is : consumer ≡ record { ring = ring; trail = []; history = [] }
 
 pub record IsNewRing (log2 senders max_batches : ℕ) (ring : RingValue) (all : List SenderValue) (consumer : ConsumerValue) : Type 0 where
   pub numbers : number_fault log2 senders max_batches ≡ None

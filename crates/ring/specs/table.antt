@@ -2,3 +2,5 @@ pub mod Rule
 pub mod Intents
 pub mod StepEvents
 pub mod Ports
+pub mod OneRun
+pub mod Histories

@@ -1,5 +1,5 @@
 //! The one who takes commands.
-ghost use Rattle.std.specs.Prelude.{◌≡◌, ◌∷◌, ◌≤◌, ◌^◌, length};
+ghost use Rattle.std.specs.Prelude.{◌≡◌, ◌∷◌, ◌≤◌, ◌^◌, length, []};
 ghost use Rattle.cmdcodec.specs.declared.raw.Raw.{Raw as RawOf};
 ghost use Rattle.qindex.specs.Positions.{size};
 ghost use Rattle.qindex.specs.ControlWord.{IsControl};
@@ -7,6 +7,8 @@ ghost use Rattle.ringcore.specs.declared.world.event.Event.TheVariants.{Look};
 ghost use Rattle.ringcore.specs.declared.world.event.Who.TheVariants.{Consumer as ConsumerOf};
 ghost use Rattle.ringcore.specs.world.Trails.{taken_by, found_ready};
 ghost use Rattle.ring.specs.table.Rule.{StandsInARun};
+ghost use Rattle.ring.specs.table.Histories.{IsHistory, GrewBy};
+ghost use Rattle.ringcore.specs.world.World.{world, control as control_of};
 ghost use Rattle.ring.specs.table.Ports.{SitsFor};
 ghost use Rattle.ring.specs.consumer.Pendings.{HasSeen, HasReadRun, reads_from};
 ghost use Rattle.ring.specs.consumer.Taking.{HasTaken, HasTakenRun, IsReadyWith, BeginsWith, IsOfRing, RunIsOfRing};
@@ -49,13 +51,14 @@ impl<D: Device> Model for Consumer<D> {
 impl<D: Device> Consumer<D> {
     /// A witness that all its steps are steps of one run of the ring. It does nothing.
     pub fn trail_stands_in_a_run(&self)
-        ensures { StandsInARun self.now.ring.made_with ConsumerOf self.now.trail }
+        ensures trail { StandsInARun self.now.ring.made_with ConsumerOf self.now.trail }
+        ensures history { IsHistory self.now.ring.made_with ConsumerOf self.now.trail self.now.history }
     {
         self.port.trail_stands_in_a_run();
     }
 
     pub(crate) fn into_seat(self) -> Seat<(), Participants>
-        ensures { SitsFor result.table_id result.me self.ring ConsumerOf self.trail }
+        ensures { SitsFor result.table_id result.me self.ring ConsumerOf self.trail self.history }
     {
         let Consumer {
             port,
@@ -68,8 +71,10 @@ impl<D: Device> Consumer<D> {
     /// What the control word says at this moment: SMMU_CMDQ_PROD and SMMU_CMDQ_CONS, and whether the ring is closed.
     pub fn look(&mut self, ring: &Ring) -> Control
         requires { self.old.ring ≡ ring.now }
-        ensures trail { self.new ≡ record self.old { trail = Look result ∷ self.old.trail } }
+        ensures trail { record self.new { history = [] } ≡ record self.old { trail = Look result ∷ self.old.trail; history = [] } }
         ensures control { IsControl self.old.ring.made_with.geometry result }
+        ensures history { GrewBy ConsumerOf (Look result) self.old.history self.new.history }
+        ensures current { result ≡ control_of self.old.ring.made_with.geometry (world self.new.history) }
     {
         self.port.look(ring)
     }
@@ -110,6 +115,7 @@ impl<D: Device> Consumer<D> {
         let mut consumer = self;
         let seen = consumer.look(ring);
         consumer.port.steady();
+        consumer.port.ends_tell_all();
         if seen.prod.get() == seen.cons.get() {
             return if seen.closed {
                 TakenRun::Drained(consumer)

@@ -1,5 +1,5 @@
 //! One who reserves slots for batches, writes them and hands them over.
-ghost use Rattle.std.specs.Prelude.{◌≡◌, ◌≢◌, ◌∷◌, ◌<◌, ◌≤◌, true, false, IfOk, IfErr, MatchResult};
+ghost use Rattle.std.specs.Prelude.{◌≡◌, ◌≢◌, ◌∷◌, ◌<◌, ◌≤◌, true, false, IfOk, IfErr, MatchResult, []};
 ghost use Rattle.cmdcodec.specs.Bodies.{IsBody};
 ghost use Rattle.qindex.specs.ControlWord.{IsControl};
 ghost use Rattle.qindex.specs.Positions.{size};
@@ -8,6 +8,8 @@ ghost use Rattle.ringcore.specs.declared.world.event.Who.TheVariants.{Sender as 
 ghost use Rattle.ringcore.specs.world.Trails.{looked, batches_made};
 ghost use Rattle.ringcore.specs.world.Allowed.{length_with};
 ghost use Rattle.ring.specs.table.Rule.{StandsInARun};
+ghost use Rattle.ring.specs.table.Histories.{IsHistory, GrewBy, AreApplied};
+ghost use Rattle.ringcore.specs.world.World.{world, control as control_of};
 ghost use Rattle.ring.specs.table.Ports.{SitsFor};
 ghost use Rattle.ring.specs.sender.Senders.{HasAsked};
 ghost use Rattle.ring.specs.sender.Reserving.{HasRoom, IsReserved, IsRefused, IsWon, IsLost, Fits, HasBatchLeft};
@@ -33,6 +35,7 @@ use qindex::Control;
 pub use receipt::Receipt;
 pub use reservation::Reservation;
 use ringcore::laws::newest_event;
+use ringcore::world_law;
 use std::marker::Model;
 pub use tally::Tally;
 
@@ -48,7 +51,7 @@ impl Model for Sender {
 
     ghost Value = { SenderValue };
 
-    ghost view = { λ s. record { ring = s.port.ring; number = s.tally.sender; trail = s.port.trail } };
+    ghost view = { λ s. record { ring = s.port.ring; number = s.tally.sender; trail = s.port.trail; history = s.port.history } };
 
     ghost invariant = { λ s. IsSender s.port s.tally };
 }
@@ -62,7 +65,7 @@ impl Sender {
     }
 
     pub(crate) fn into_seat(self) -> Seat<(), Participants>
-        ensures { SitsFor result.table_id result.me self.ring (SenderOf self.number) self.trail }
+        ensures { SitsFor result.table_id result.me self.ring (SenderOf self.number) self.trail self.history }
     {
         let Sender { port, tally: _ } = self;
         port.into_seat()
@@ -70,7 +73,8 @@ impl Sender {
 
     /// A witness that all its steps are steps of one run of the ring. It does nothing.
     pub fn trail_stands_in_a_run(&self)
-        ensures { StandsInARun self.now.ring.made_with (SenderOf self.now.number) self.now.trail }
+        ensures trail { StandsInARun self.now.ring.made_with (SenderOf self.now.number) self.now.trail }
+        ensures history { IsHistory self.now.ring.made_with (SenderOf self.now.number) self.now.trail self.now.history }
     {
         self.port.trail_stands_in_a_run();
     }
@@ -78,8 +82,10 @@ impl Sender {
     /// What the control word says at this moment: SMMU_CMDQ_PROD and SMMU_CMDQ_CONS, and whether the ring is closed.
     pub fn look(&mut self, ring: &Ring) -> Control
         requires { self.old.ring ≡ ring.now }
-        ensures trail { self.new ≡ record self.old { trail = Look result ∷ self.old.trail } }
+        ensures trail { record self.new { history = [] } ≡ record self.old { trail = Look result ∷ self.old.trail; history = [] } }
         ensures control { IsControl self.old.ring.made_with.geometry result }
+        ensures history { GrewBy (SenderOf self.old.number) (Look result) self.old.history self.new.history }
+        ensures current { result ≡ control_of self.old.ring.made_with.geometry (world self.new.history) }
     {
         self.port.look(ring)
     }
@@ -87,7 +93,7 @@ impl Sender {
     /// Closes the ring: from now on nothing is reserved, by any sender (own).
     pub fn close(&mut self, ring: &Ring)
         requires { self.old.ring ≡ ring.now }
-        ensures { self.new ≡ record self.old { trail = Close ∷ self.old.trail } }
+        ensures { record self.new { history = [] } ≡ record self.old { trail = Close ∷ self.old.trail; history = [] } }
     {
         self.port.close(ring, self.tally.sender);
     }
@@ -95,10 +101,13 @@ impl Sender {
     /// The number in its completion cell: that of its last CMD_SYNC that completed, 0 where none did.
     pub fn done_up_to(&mut self, ring: &Ring) -> u32
         requires { self.old.ring ≡ ring.now }
-        ensures asked { self.new ≡ record self.old { trail = Ask result ∷ self.old.trail } }
+        ensures asked { record self.new { history = [] } ≡ record self.old { trail = Ask result ∷ self.old.trail; history = [] } }
         ensures few { result ≤ self.old.ring.made_with.max_batches }
+        ensures history { GrewBy (SenderOf self.old.number) (Ask result) self.old.history self.new.history }
+        ensures told { AreApplied self.new.history self.old.number result }
     {
         newest_event();
+        world_law();
         let found = self.port.ask(ring, self.tally.sender);
         self.port.trail_stands_in_a_run();
         found
@@ -109,6 +118,7 @@ impl Sender {
         requires ring { self.old.ring ≡ ring.now }
         requires receipt { receipt.now.sender ≡ self.old.number }
         ensures asked { HasAsked receipt.now.number self.old self.new result }
+        ensures told { result ≡ true → AreApplied self.new.history self.old.number receipt.now.number }
         ensures ring { self.new.ring ≡ self.old.ring }
         ensures id { self.new.number ≡ self.old.number }
     {

@@ -99,7 +99,7 @@ module _ (old : PortValue) (raws : List Raw) (n : ℕ) (advanced : HasAdvanced o
   before = without_newest old.trail
 
   abbrev pub After : PortValue → ℕ → Type 0
-  After now i = now ≡ record old { trail = all_acknowledged (take i raws) old.trail }
+  After now i = record now { history = [] } ≡ record old { trail = all_acknowledged (take i raws) old.trail; history = [] }
 
   abbrev pub Soon : PortValue → ℕ → Type 0
   Soon now i = (s : ℕ) → acknowledged_by s now.trail ≡ syncs_taken s before + syncs_in s (take i raws)
@@ -114,10 +114,10 @@ module _ (old : PortValue) (raws : List Raw) (n : ℕ) (advanced : HasAdvanced o
   pub all_are : (now : PortValue) (i : ℕ) → i ≡ n → After now i → Soon now i → (s : ℕ) → acknowledged_by s now.trail ≡ syncs_taken s now.trail
   all_are now i end after acks s = acks s ∙ ap (λ (k : ℕ). syncs_taken s before + syncs_in s (take k raws)) end ∙ sym (whole now i after s)
 
-  next_after : (now new : PortValue) (i : ℕ) (raw : Raw) → slice_get raws i ≡ Some raw → After now i → new ≡ record now { trail = acknowledged raw now.trail } → After new (i + 1)
+  next_after : (now new : PortValue) (i : ℕ) (raw : Raw) → slice_get raws i ≡ Some raw → After now i → record new { history = [] } ≡ record now { trail = acknowledged raw now.trail; history = [] } → After new (i + 1)
   next_after now new i raw at after is =
       is ∙ ap (λ (p : PortValue). let q : PortValue = record p { trail = acknowledged raw p.trail } in q) after
-      ∙ ap (λ (t : Trail). let q : PortValue = record old { trail = t } in q) (sym (ap (λ (l : List Raw). all_acknowledged l old.trail) (take_more raws i raw at) ∙ acknowledged_snoc (take i raws) raw old.trail))
+      ∙ ap (λ (t : Trail). let q : PortValue = record old { trail = t; history = [] } in q) (sym (ap (λ (l : List Raw). all_acknowledged l old.trail) (take_more raws i raw at) ∙ acknowledged_snoc (take i raws) raw old.trail))
 
   soon_after : (new : PortValue) (i : ℕ) (raw : Raw) → slice_get raws i ≡ Some raw → ((s : ℕ) → acknowledged_by s new.trail ≡ syncs_taken s before + syncs_in s (take i raws ++ raw ∷ [])) → Soon new (i + 1)
   soon_after new i raw at sums s = sums s ∙ ap (λ (l : List Raw). syncs_taken s before + syncs_in s l) (sym (take_more raws i raw at))
@@ -146,14 +146,14 @@ module _ (old : PortValue) (raws : List Raw) (n : ℕ) (advanced : HasAdvanced o
     is_taken sync = taken add_up by_raws words senders few before (take i raws) behind raw now.trail acks ordered sync
         (λ s. whole now i after s ∙ ap (λ (l : List Raw). syncs_taken s before + syncs_in s l) split)
 
-    pub then_after : is_sync raw ≡ true → (new : PortValue) → new ≡ record now { trail = Acknowledge (sync_sender raw) (sync_number raw) ∷ now.trail } → After new (i + 1) × Soon new (i + 1)
+    pub then_after : is_sync raw ≡ true → (new : PortValue) → record new { history = [] } ≡ record now { trail = Acknowledge (sync_sender raw) (sync_number raw) ∷ now.trail; history = [] } → After new (i + 1) × Soon new (i + 1)
     then_after sync new is = (
-      next_after now new i raw at after (is ∙ ap (λ (b : Bool). let q : PortValue = record now { trail = cond b (Acknowledge (sync_sender raw) (sync_number raw) ∷ now.trail) now.trail } in q) (sym sync)),
+      next_after now new i raw at after (is ∙ ap (λ (b : Bool). let q : PortValue = record now { trail = cond b (Acknowledge (sync_sender raw) (sync_number raw) ∷ now.trail) now.trail; history = [] } in q) (sym sync)),
       soon_after new i raw at (λ s. ap (λ (p : PortValue). acknowledged_by s p.trail) is ∙ grown add_up by_raws words senders few before (take i raws) behind raw now.trail acks ordered sync s),
     )
 
     pub else_after : is_sync raw ≡ false → (new : PortValue) → new ≡ now → After new (i + 1) × Soon new (i + 1)
     else_after other new is = (
-      next_after now new i raw at after (is ∙ ap (λ (b : Bool). let q : PortValue = record now { trail = cond b (Acknowledge (sync_sender raw) (sync_number raw) ∷ now.trail) now.trail } in q) (sym other)),
+      next_after now new i raw at after (ap (λ (p : PortValue). let q : PortValue = record p { history = [] } in q) is ∙ ap (λ (b : Bool). let q : PortValue = record now { trail = cond b (Acknowledge (sync_sender raw) (sync_number raw) ∷ now.trail) now.trail; history = [] } in q) (sym other)),
       soon_after new i raw at (λ s. ap (λ (p : PortValue). acknowledged_by s p.trail) is ∙ passed add_up by_raws words senders few before (take i raws) behind raw now.trail acks other s),
     )

@@ -32,7 +32,7 @@ taken_after t raws outcome is =
     ∙ ap (λ (l : List Taken). taken_of t ++ l) (with_outcomes outcome raws is)
 
 pub is_consumer : (old passed new : PortValue) (head further : IndexValue) (taken many : ℕ) (raws : List Raw) → IsConsumer old head taken
-    → passed ≡ record old { trail = Advance raws ∷ old.trail } → (trail : Trail) → trail ≡ completed_trail raws old.trail → new ≡ record old { trail = trail }
+    → record passed { history = [] } ≡ record old { trail = Advance raws ∷ old.trail; history = [] } → (trail : Trail) → trail ≡ completed_trail raws old.trail → record new { history = [] } ≡ record old { trail = trail; history = [] }
     → length raws ≡ many → further ≡ index_of old.ring.made_with.geometry (taken + many)
     → ((s : ℕ) → acknowledged_by s new.trail ≡ syncs_taken s new.trail) → IsConsumer new further (taken + many)
 is_consumer old passed new head further taken many raws is passed_is trail trail_is new_is long further_is current = record {

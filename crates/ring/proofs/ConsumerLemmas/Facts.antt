@@ -8,15 +8,19 @@ use Rattle.ringcore.specs.world.World.{World, head, tail, world}
 use Rattle.ringcore.specs.world.Allowed.{Ring}
 use Rattle.ringcore.specs.world.Laws.{EveryRun, ListsAreShort, SyncsAreInOrder}
 use Rattle.ringcore.specs.world.ConsumerLaws.{TellsTheHead, IsReadyAt, FoundIsReady, TookSyncsInOrder, IsSteady, ConsumerIsSteady}
-use Rattle.ring.specs.table.Rule.{Holding, StandsInARun, ring_of, who_of, trail_of_first, IsAlone}
+use Rattle.ring.specs.table.Rule.{Holding, StandsInARun, ring_of, who_of, trail_of_first, history_of_first, IsAlone}
 use Rattle.ring.specs.table.Ports.{PortValue, port_of}
+
+-- the run that a seat knows is one
+pub in_a_run : (me : Holding) (who : Who) → IsAlone me who → StandsInARun (ring_of me.0) who (trail_of_first me.0)
+in_a_run me who alone = record { run = history_of_first me.0; words = alone.words; stands = alone.stands }
 
 -- what is so of the consumer's trail in any run is so of its port's
 of_port : (P : Ring → Trail → Type 0) → ((ring : Ring) (trail : Trail) → StandsInARun ring Consumer trail → P ring trail)
     → (table : TableId) (me : Holding) (p : PortValue) → port_of table me ≡ p → IsAlone me (who_of me.0) → p.who ≡ Consumer → P p.ring.made_with p.trail
 of_port P law table me p is alone who =
     subst (λ (q : PortValue). q.who ≡ Consumer → P q.ring.made_with q.trail) is
-    (λ w. law (ring_of me.0) (trail_of_first me.0) (subst (λ (u : Who). StandsInARun (ring_of me.0) u (trail_of_first me.0)) w alone.stands)) who
+    (λ w. law (ring_of me.0) (trail_of_first me.0) (subst (λ (u : Who). StandsInARun (ring_of me.0) u (trail_of_first me.0)) w (in_a_run me (who_of me.0) alone))) who
 
 pub few_are_taken : ListsAreShort → EveryRun TellsTheHead → (table : TableId) (me : Holding) (p : PortValue) → port_of table me ≡ p → IsAlone me (who_of me.0) → p.who ≡ Consumer → taken_by p.trail ≤ 2 ^ 46
 few_are_taken short tells = of_port (λ ring trail. taken_by trail ≤ 2 ^ 46) (λ ring trail s.

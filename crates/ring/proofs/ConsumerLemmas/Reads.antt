@@ -100,9 +100,9 @@ module _ (lo hi : ℕ) where
         ∙ before k raw half (sym (get_shorter xs (one ∷ []) k low) ∙ at)
   ]
 
-  pub run_more : (d s s1 s2 : ConsumerValue) (xs ys : List Raw) (i : ℕ) → length xs ≡ i → s ≡ record d { trail = reads_from 0 xs d.trail }
-      → s1 ≡ record s { trail = Read i Lo lo ∷ s.trail } → s2 ≡ record s1 { trail = Read i Hi hi ∷ s1.trail } → ys ≡ xs ++ one ∷ []
-      → s2 ≡ record d { trail = reads_from 0 ys d.trail }
+  pub run_more : (d s s1 s2 : ConsumerValue) (xs ys : List Raw) (i : ℕ) → length xs ≡ i → record s { history = [] } ≡ record d { trail = reads_from 0 xs d.trail; history = [] }
+      → record s1 { history = [] } ≡ record s { trail = Read i Lo lo ∷ s.trail; history = [] } → record s2 { history = [] } ≡ record s1 { trail = Read i Hi hi ∷ s1.trail; history = [] } → ys ≡ xs ++ one ∷ []
+      → record s2 { history = [] } ≡ record d { trail = reads_from 0 ys d.trail; history = [] }
   run_more d s s1 s2 xs ys i long s_is s1_is s2_is ys_is =
       let n : 0 + length xs ≡ i = omega (arith, long) in
       let trail : reads_from 0 ys d.trail ≡ Read i Hi hi ∷ Read i Lo lo ∷ reads_from 0 xs d.trail =
@@ -110,9 +110,9 @@ module _ (lo hi : ℕ) where
       ∙ ap (λ (k : ℕ). let u : Trail = Read k Hi hi ∷ Read k Lo lo ∷ reads_from 0 xs d.trail in u) n in
       s2_is ∙ ap (λ (x : ConsumerValue). let y : ConsumerValue = record x { trail = Read i Hi hi ∷ x.trail } in y) s1_is
       ∙ ap (λ (x : ConsumerValue). let y : ConsumerValue = record x { trail = Read i Hi hi ∷ Read i Lo lo ∷ x.trail } in y) s_is
-      ∙ ap (λ (t : Trail). let y : ConsumerValue = record d { trail = t } in y) (sym trail)
+      ∙ ap (λ (t : Trail). let y : ConsumerValue = record d { trail = t; history = [] } in y) (sym trail)
 
-  pub trail_more : (s s1 s2 : ConsumerValue) (i : ℕ) → s1 ≡ record s { trail = Read i Lo lo ∷ s.trail } → s2 ≡ record s1 { trail = Read i Hi hi ∷ s1.trail }
+  pub trail_more : (s s1 s2 : ConsumerValue) (i : ℕ) → record s1 { history = [] } ≡ record s { trail = Read i Lo lo ∷ s.trail; history = [] } → record s2 { history = [] } ≡ record s1 { trail = Read i Hi hi ∷ s1.trail; history = [] }
       → s2.trail ≡ Read i Hi hi ∷ Read i Lo lo ∷ s.trail
   trail_more s s1 s2 i s1_is s2_is =
       ap (λ (x : ConsumerValue). x.trail) s2_is ∙ ap (λ (x : ConsumerValue). let u : Trail = Read i Hi hi ∷ x.trail in u) s1_is

@@ -20,7 +20,7 @@ use Rattle.ringcore.specs.world.ConsumerLaws.{TellsTheHead, TellsWhatIsAdvanced,
 use Rattle.ringcore.specs.memory.StepLaws.{Always, HasAControlWord}
 use Rattle.ring.specs.declared.table.rule.Participant.{Participant}
 use Rattle.ring.specs.Rings.{RingValue}
-use Rattle.ring.specs.table.Rule.{participant, HasTrails, RuleHolds}
+use Rattle.ring.specs.table.Rule.{participant, WentOn, HasTrails, RuleHolds}
 use Rattle.ring.specs.sender.Senders.{SenderValue}
 use Rattle.ring.specs.consumer.Consumers.{ConsumerValue}
 use Rattle.ring.specs.consumer.Completing.{taken_of}
@@ -62,6 +62,11 @@ sender_trail ring run [] rest k s at has = absurd (cc)
 sender_trail ring run (x ∷ xs) rest zero s at has = let e : x ≡ s = cc in subst (λ (y : SenderValue). trail_of (Sender y.number) run ≡ y.trail) e has.0.trail
 sender_trail ring run (x ∷ xs) rest (suc k) s at has = sender_trail ring run xs rest k s at has.1
 
+sender_knew : (ring : Ring) (run : Run) (all : List SenderValue) (rest : List Participant) (k : ℕ) (s : SenderValue) → slice_get all k ≡ Some s → HasTrails ring run (map sender_in all ++ rest) → WentOn (Sender s.number) s.history run
+sender_knew ring run [] rest k s at has = absurd (cc)
+sender_knew ring run (x ∷ xs) rest zero s at has = let e : x ≡ s = cc in subst (λ (y : SenderValue). WentOn (Sender y.number) y.history run) e has.0.went_on
+sender_knew ring run (x ∷ xs) rest (suc k) s at has = sender_knew ring run xs rest k s at has.1
+
 rest_trails : (ring : Ring) (run : Run) (all : List SenderValue) (rest : List Participant) → HasTrails ring run (map sender_in all ++ rest) → HasTrails ring run rest
 rest_trails ring run [] rest has = has
 rest_trails ring run (x ∷ xs) rest has = rest_trails ring run xs rest has.1
@@ -73,7 +78,7 @@ first_is (y ∷ l) x e = some-injective y x e
 -- ---- once the table is closed
 
 module _ (ring : RingValue) (senders : List SenderValue) (consumer : ConsumerValue) (id : ℕ) (v : List Participant) (ws : List ℕ) (ss : List (Unit {0}))
-    (closed : Final (Seen (RuleHolds ring.made_with) id v) ws ss) (v_is : v ≡ all_in ring.made_with consumer.trail senders) (all : AreAll ring senders) where
+    (closed : Final (Seen (RuleHolds ring.made_with) id v) ws ss) (v_is : v ≡ all_in ring.made_with consumer.trail consumer.history senders) (all : AreAll ring senders) where
   abbrev key : Ring
   key = ring.made_with
 
@@ -86,11 +91,11 @@ module _ (ring : RingValue) (senders : List SenderValue) (consumer : ConsumerVal
   ok : IsRun key run
   ok = k.after.run_is
 
-  has : HasTrails key run (all_in key consumer.trail senders)
+  has : HasTrails key run (all_in key consumer.trail consumer.history senders)
   has = subst (HasTrails key run) v_is (k.seated id v closed.1.1).1
 
-  device : HasTrails key run (participant key Consumer consumer.trail ∷ [])
-  device = rest_trails key run senders (participant key Consumer consumer.trail ∷ []) has
+  device : HasTrails key run (participant key Consumer consumer.trail consumer.history ∷ [])
+  device = rest_trails key run senders (participant key Consumer consumer.trail consumer.history ∷ []) has
 
   word_at : (word : ℕ) → get_elem? ws 0 ≡ some word → slice_index closed.0.words 0 ≡ word
   word_at word at = ap (λ (l : List ℕ). slice_index l 0) closed.2 ∙ first_is ws word at
@@ -102,8 +107,10 @@ module _ (ring : RingValue) (senders : List SenderValue) (consumer : ConsumerVal
   run_of = record {
     run_is = ok;
     only = k.only;
-    of_senders = λ j s there. ap (λ (x : ℕ). trail_of (Sender x) run) (sym (all.each j s there).1) ∙ sender_trail key run senders (participant key Consumer consumer.trail ∷ []) j s there has;
+    of_senders = λ j s there. ap (λ (x : ℕ). trail_of (Sender x) run) (sym (all.each j s there).1) ∙ sender_trail key run senders (participant key Consumer consumer.trail consumer.history ∷ []) j s there has;
     of_consumer = device.0.trail;
+    known_to_senders = λ j s there. subst (λ (x : ℕ). WentOn (Sender x) s.history run) (all.each j s there).1 (sender_knew key run senders (participant key Consumer consumer.trail consumer.history ∷ []) j s there has);
+    known_to_consumer = device.0.went_on;
   }
 
   pub end_is : EveryRun TakenInOrder → EveryRun NumberedInOrder → EveryRun NoneAfterClose → EveryRun ToldWhenCompleted → NeverMoreThanFull → EveryRun ToldOfAllUpTo

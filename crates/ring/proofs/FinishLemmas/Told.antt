@@ -15,7 +15,7 @@ record StandsAt (who : Who) (e : Event) (run : Run) (older : Trail) : Type 0 whe
   run_is : run ≡ later ++ (who, e) ∷ earlier
   trail_is : trail_of who earlier ≡ older
 
-same_is : (u v : Who) → same u v ≡ true → u ≡ v
+pub same_is : (u v : Who) → same u v ≡ true → u ≡ v
 same_is Consumer Consumer is = refl
 same_is Consumer (Sender t) is = absurd (cc)
 same_is (Sender s) Consumer is = absurd (cc)

@@ -42,6 +42,24 @@ below a b l = grind (arith, nat_tests)
 not_below : (a b : ℕ) → b ≤ a → nat_lt a b ≡ false
 not_below a b le = grind (arith, nat_tests)
 
+-- whatever is known of the run, a reservation is open by its trail
+pub knowing : (port : PortValue) (tally : Tally) (body : List Raw) (closes : Bool) (start : IndexValue) (written flipped : ℕ) → IsOpen (record port { history = [] }) tally body closes start written flipped
+    → IsOpen port tally body closes start written flipped
+knowing port tally body closes start written flipped is = record {
+  tallied = record { who_is = is.tallied.who_is; batches_are = is.tallied.batches_are; numbers_are = is.tallied.numbers_are; numbered = is.tallied.numbered; most = is.tallied.most };
+  body_is = is.body_is;
+  number_is = is.number_is;
+  commands_are = is.commands_are;
+  many = is.many;
+  geometry_is = is.geometry_is;
+  start_is = is.start_is;
+  in_written = is.in_written;
+  in_flipped = is.in_flipped;
+  within = is.within;
+  behind = is.behind;
+  fits = is.fits;
+}
+
 module _ (port : PortValue) (tally : Tally) (body : List Raw) (closes : Bool) (start : IndexValue) (written flipped : ℕ) (is : IsOpen port tally body closes start written flipped) where
   pub may_write : written < reserved_length port.trail → MayWrite port.trail written
   may_write low = record { inside = low; unflipped = is.in_flipped written ∙ not_below written flipped is.behind }
@@ -57,9 +75,9 @@ module _ (port : PortValue) (tally : Tally) (body : List Raw) (closes : Bool) (s
   pub slot_at : (offset : ℕ) (slot : IndexValue) → ((geometry position : ℕ) → start ≡ index_of geometry position → slot ≡ index_of geometry (position + offset)) → IsSlotAt port slot offset
   slot_at offset slot forward position here = forward port.ring.made_with.geometry position (is.start_is ∙ here)
 
-  pub wrote_is : written < reserved_length port.trail → (new : PortValue) → new ≡ record port { trail = Write written Hi ∷ Write written Lo ∷ port.trail }
+  pub wrote_is : written < reserved_length port.trail → (new : PortValue) → record new { history = [] } ≡ record port { trail = Write written Hi ∷ Write written Lo ∷ port.trail; history = [] }
       → IsOpen new tally body closes start (written + 1) flipped
-  wrote_is low new new_is = subst (λ (q : PortValue). IsOpen q tally body closes start (written + 1) flipped) (sym new_is) record {
+  wrote_is low new new_is = knowing new tally body closes start (written + 1) flipped (subst (λ (q : PortValue). IsOpen q tally body closes start (written + 1) flipped) (sym new_is) record {
     tallied = record { who_is = is.tallied.who_is; batches_are = is.tallied.batches_are; numbers_are = is.tallied.numbers_are; numbered = is.tallied.numbered; most = is.tallied.most };
     body_is = is.body_is;
     number_is = is.number_is;
@@ -72,11 +90,11 @@ module _ (port : PortValue) (tally : Tally) (body : List Raw) (closes : Bool) (s
     within = (let m = is.many in omega arith);
     behind = (let b = is.behind in omega arith);
     fits = is.fits;
-  }
+  })
 
-  pub flipped_is : (count : ℕ) → flipped + count ≤ written → (new : PortValue) → new ≡ record port { trail = Flip flipped count ∷ port.trail }
+  pub flipped_is : (count : ℕ) → flipped + count ≤ written → (new : PortValue) → record new { history = [] } ≡ record port { trail = Flip flipped count ∷ port.trail; history = [] }
       → IsOpen new tally body closes start written (flipped + count)
-  flipped_is count low new new_is = subst (λ (q : PortValue). IsOpen q tally body closes start written (flipped + count)) (sym new_is) record {
+  flipped_is count low new new_is = knowing new tally body closes start written (flipped + count) (subst (λ (q : PortValue). IsOpen q tally body closes start written (flipped + count)) (sym new_is) record {
     tallied = record { who_is = is.tallied.who_is; batches_are = is.tallied.batches_are; numbers_are = is.tallied.numbers_are; numbered = is.tallied.numbered; most = is.tallied.most };
     body_is = is.body_is;
     number_is = is.number_is;
@@ -89,7 +107,7 @@ module _ (port : PortValue) (tally : Tally) (body : List Raw) (closes : Bool) (s
     within = is.within;
     behind = low;
     fits = is.fits;
-  }
+  })
 
   pub settled : flipped ≡ reserved_length port.trail → IsSettled port.trail
   settled all offset low = is.in_flipped offset ∙ below offset flipped (omega arith)

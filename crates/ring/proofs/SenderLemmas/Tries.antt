@@ -1,5 +1,5 @@
 -- What a sender knows before it tries, and once it has won.
-use Rattle.std.proofs.Common.{◌≡◌, ℕ, ◌<◌, ◌≤◌, Bool, true, false, List, Some, refl, sym, ap, subst, arith}
+use Rattle.std.proofs.Common.{◌≡◌, ℕ, ◌<◌, ◌≤◌, Bool, true, false, List, [], Some, refl, sym, ap, subst, arith}
 use Rattle.std.specs.Prelude.{nat_lt}
 use Rattle.std.proofs.lemmas.Bool.Decides.{nat_tests}
 use Rattle.cmdcodec.specs.declared.raw.Raw.{Raw}
@@ -14,9 +14,10 @@ use Rattle.ring.specs.table.Ports.{PortValue, has_won}
 use Rattle.ring.specs.sender.Senders.{SenderValue, IsTallied, one_more}
 use Rattle.ring.specs.sender.Reservations.{IsOpen}
 use Rattle.ring.specs.sender.Reserving.{HasRoom, HasBatchLeft}
+use Rattle.ring.proofs.SenderLemmas.InOrder.{knowing}
 
 pub may_try : (port : PortValue) (number : ℕ) (s : SenderValue) (body : List Raw) (closes : Bool) (many : ℕ) (seen : Control)
-    → (let t : SenderValue = record { ring = port.ring; number = number; trail = port.trail } in t) ≡ s
+    → (let t : SenderValue = record { ring = port.ring; number = number; trail = port.trail; history = port.history } in t) ≡ s
     → IsSettled port.trail → IsBody body → many ≡ length_with closes body → looked s.trail ≡ Some seen → HasRoom body closes s seen → HasBatchLeft s
     → MayTry port.ring.made_with port.trail body many seen
 may_try port number s body closes many seen view settled is many_is =
@@ -32,7 +33,7 @@ module _ (port : PortValue) (tally : Tally) (body : List Raw) (seen : Control) (
   abbrev pub Opens : Bool → PortValue → Type 0
   Opens closes new = IsOpen new (one_more closes tally) body closes seen.prod 0 0
 
-  opens_won : (closes : Bool) → length_with closes body ≤ size port.ring.made_with.geometry → Opens closes (has_won body closes port)
+  opens_won : (closes : Bool) → length_with closes body ≤ size port.ring.made_with.geometry → Opens closes (has_won body closes (record port { history = [] }))
   opens_won true fits = record {
     tallied = record {
       who_is = tallied.who_is;
@@ -74,5 +75,5 @@ module _ (port : PortValue) (tally : Tally) (body : List Raw) (seen : Control) (
     fits = fits;
   }
 
-  pub opens : (closes : Bool) (new : PortValue) → new ≡ has_won body closes port → length_with closes body ≤ size port.ring.made_with.geometry → Opens closes new
-  opens closes new new_is fits = subst (Opens closes) (sym new_is) (opens_won closes fits)
+  pub opens : (closes : Bool) (new : PortValue) → record new { history = [] } ≡ has_won body closes (record port { history = [] }) → length_with closes body ≤ size port.ring.made_with.geometry → Opens closes new
+  opens closes new new_is fits = knowing new (one_more closes tally) body closes seen.prod 0 0 (subst (Opens closes) (sym new_is) (opens_won closes fits))

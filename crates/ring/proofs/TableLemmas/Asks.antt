@@ -9,24 +9,24 @@ use Rattle.ringcore.specs.declared.world.event.Who.{Who}
 use Rattle.ringcore.specs.declared.world.event.Who.TheVariants.{Sender}
 use Rattle.ringcore.specs.declared.world.event.Event.{Event}
 use Rattle.ringcore.specs.declared.world.event.Event.TheVariants.{Ask}
-use Rattle.ringcore.specs.world.Trails.{Trail, trail_of}
+use Rattle.ringcore.specs.world.Trails.{Trail, Run, trail_of}
 use Rattle.ringcore.specs.world.World.{world}
 use Rattle.ringcore.specs.world.Allowed.{Allowed}
 use Rattle.ringcore.specs.world.Laws.{EveryRun, AcknowledgedAreTaken, NumbersAreFew}
 use Rattle.ringcore.specs.world.Allowed.{Ring}
-use Rattle.ring.specs.table.Rule.{Holding, ring_of, who_of, trail_of_first}
+use Rattle.ring.specs.table.Rule.{Holding, ring_of, who_of, trail_of_first, history_of_first}
 use Rattle.ring.specs.table.Intents.{asks}
 use Rattle.ring.specs.table.StepEvents.{IsNewest, adds_for}
 use Rattle.ring.specs.table.Ports.{port_of, PortValue}
 
-last_few : EveryRun AcknowledgedAreTaken → NumbersAreFew → (ring : Ring) (who : Who) (s x : ℕ) (trail : Trail) (e : Event) → IsNewest ring who trail e → who ≡ Sender s → e ≡ Ask x → x < 2 ^ 32
-last_few taken few ring who s x trail e last who_is e_is =
-    let found : x ≡ (world last.run).acknowledged s = subst (λ (q : Who × Event). Allowed ring (world last.run) (trail_of q.0 last.run) q.0 q.1) (λ k. (who_is k, e_is k)) last.after.after.run_is.1 in
+last_few : EveryRun AcknowledgedAreTaken → NumbersAreFew → (ring : Ring) (who : Who) (s x : ℕ) (trail : Trail) (older run : Run) (e : Event) → IsNewest ring who trail older run e → who ≡ Sender s → e ≡ Ask x → x < 2 ^ 32
+last_few taken few ring who s x trail older run e last who_is e_is =
+    let found : x ≡ (world run).acknowledged s = subst (λ (q : Who × Event). Allowed ring (world run) (trail_of q.0 run) q.0 q.1) (λ k. (who_is k, e_is k)) last.after.after.run_is.1 in
     let ok = last.before.after.run_is in let most = last.before.limits.batches in
     dite (dec_le 1 x)
-    (λ some. let le = few ring last.run ok s x (taken ring last.run ok s x some (omega arith)) in omega arith)
+    (λ some. let le = few ring run ok s x (taken ring run ok s x some (omega arith)) in omega arith)
     (λ none_yet. omega arith)
 
 pub ask_few : EveryRun AcknowledgedAreTaken → NumbersAreFew → (table : TableId) (me new : Holding) (p : PortValue) → port_of table me ≡ p → (s slots i x : ℕ) → p.who ≡ Sender s → adds_for asks (step slots i 0 0 none) me x new → x < 2 ^ 32
 ask_few taken few table me new p is s slots i x who did =
-    last_few taken few (ring_of me.0) (who_of me.0) s x (trail_of_first me.0) did.0 did.3 (ap (λ (q : PortValue). q.who) is ∙ who) did.1
+    last_few taken few (ring_of me.0) (who_of me.0) s x (trail_of_first me.0) (history_of_first me.0) did.1 did.0 did.4 (ap (λ (q : PortValue). q.who) is ∙ who) did.2

@@ -14,7 +14,7 @@ use Rattle.ringcore.specs.declared.world.event.Who.TheVariants.{Sender, Consumer
 use Rattle.ringcore.specs.declared.world.event.Half.{Half}
 use Rattle.ringcore.specs.declared.world.event.Event.{Event}
 use Rattle.ringcore.specs.declared.world.event.Event.TheVariants.{Won, Lost, Test}
-use Rattle.ringcore.specs.world.Trails.{Trail, trail_of, looked, start_index, found_ready, taken_by, acknowledged_by}
+use Rattle.ringcore.specs.world.Trails.{Trail, Run, trail_of, looked, start_index, found_ready, taken_by, acknowledged_by}
 use Rattle.ringcore.specs.world.World.{world, half_of}
 use Rattle.ringcore.specs.world.Allowed.{ShareAWord, Allowed, MayTry, MayLose, MayWrite, MayFlip, length_with, Ring, IsRunLength, MayAdvance}
 use Rattle.ringcore.specs.memory.Layout.{control_word, flag_word, data_word, cell, words_of}
@@ -22,7 +22,7 @@ use Rattle.ringcore.specs.memory.Flags.{IsFlipMask, ready_in}
 use Rattle.ringcore.specs.world.Laws.{IsOne, EveryRun, SyncsAreCounted, syncs_taken}
 use Rattle.ringcore.specs.memory.StepLaws.{Always, ClosesByAnOr, WinsByAnExchange, LosesByAnExchange, WritesByAStore, FlipsByAnExclusiveOr, AsksByALoad, StartsWhereItLooked, with_reserved, reserved_commands, ReadsByALoad, AdvancesByAnExclusiveOr, AcknowledgesByAStore, TestsFindReadyIn}
 use Rattle.ringcore.specs.machine.StepAnswers.{next_number}
-use Rattle.ring.specs.table.Rule.{Holding, participant, RuleHolds, ring_of, who_of, trail_of_first, IsAlone}
+use Rattle.ring.specs.table.Rule.{Holding, participant, RuleHolds, ring_of, who_of, trail_of_first, history_of_first, IsAlone}
 use Rattle.ring.specs.table.Intents.{Intent, closes, reserves, writes, flips, asks, tests, reads, advances, acknowledges}
 use Rattle.ring.specs.table.StepEvents.{IsEventOf, Added, IsNewest, adds_for}
 use Rattle.ring.proofs.TableLemmas.StepKinds.{closes_as, reserves_as, writes_as, flips_as, asks_as, flag_inside, data_inside, cell_inside, tests_as, reads_as, advances_as, acknowledges_as}
@@ -104,7 +104,7 @@ module _ (table : TableId) (me : Holding) (p : PortValue) (is : port_of table me
 pub sender_known : (table : TableId) (me : Holding) (p : PortValue) → port_of table me ≡ p → IsAlone me (who_of me.0) → (s : ℕ) → p.who ≡ Sender s → s < p.ring.made_with.senders
 sender_known table me p is alone s who =
     subst (λ (q : PortValue). q.who ≡ Sender s → s < q.ring.made_with.senders) is
-    (λ w. subst (λ (u : Who). IsOne (ring_of me.0).senders u) w alone.stands.stands.known) who
+    (λ w. subst (λ (u : Who). IsOne (ring_of me.0).senders u) w alone.stands.known) who
 
 -- ---- the words are in the table of the ring that is lent
 
@@ -126,13 +126,13 @@ module _ (key : Ring) (many : ℕ) (words : many ≡ words_of key.geometry key.s
 
 -- ---- what a step tells, as contracts see it
 
-pub stepped_is : (table new_table : TableId) (me new : Holding) (e : Event) → new_table ≡ table → new ≡ (participant (ring_of me.0) (who_of me.0) (e ∷ trail_of_first me.0) ∷ [], [])
-    → port_of new_table new ≡ record (port_of table me) { trail = e ∷ trail_of_first me.0 }
-stepped_is table new_table me new e same is = (λ k. port_of (same k) (is k))
+pub stepped_is : (table new_table : TableId) (me new : Holding) (e : Event) (history : Run) → new_table ≡ table → new ≡ (participant (ring_of me.0) (who_of me.0) (e ∷ trail_of_first me.0) history ∷ [], [])
+    → record (port_of new_table new) { history = [] } ≡ record (port_of table me) { trail = e ∷ trail_of_first me.0; history = [] }
+stepped_is table new_table me new e history same is = (λ k. let q : PortValue = record (port_of (same k) (is k)) { history = [] } in q)
 
 module _ (table new_table : TableId) (me new : Holding) (s : ℕ) (body : List Raw) (closing : Bool) (seen : Control) (x old : ℕ)
     (who_is : who_of me.0 ≡ Sender s) (looked_is : looked (trail_of_first me.0) ≡ Some seen) (same : new_table ≡ table)
-    (took : Added (ring_of me.0) (who_of me.0) (trail_of_first me.0) (IsEventOf (ring_of me.0) (trail_of_first me.0) (reserves body closing) old) x new) where
+    (took : Added (ring_of me.0) (who_of me.0) (trail_of_first me.0) (history_of_first me.0) (IsEventOf (ring_of me.0) (trail_of_first me.0) (reserves body closing) old) x new) where
   abbrev t : Trail
   t = trail_of_first me.0
 
@@ -141,17 +141,18 @@ module _ (table new_table : TableId) (me new : Holding) (s : ℕ) (body : List R
 
   told_by : (v : Bool) → (x == old) ≡ v → Told v
   told_by true hit =
-      let e_is : took.0 ≡ Won body (next_number t closing) = took.1 ∙ ap (λ (b : Bool). cond b (Won body (next_number t closing)) (Lost body closing (control_in (ring_of me.0).geometry x))) hit in
-      stepped_is table new_table me new took.0 same took.2 ∙ ap (λ (e : Event). let q : PortValue = record (port_of table me) { trail = e ∷ t } in q) e_is
+      let e_is : took.0 ≡ Won body (next_number t closing) = took.2 ∙ ap (λ (b : Bool). cond b (Won body (next_number t closing)) (Lost body closing (control_in (ring_of me.0).geometry x))) hit in
+      stepped_is table new_table me new took.0 ((who_of me.0, took.0) ∷ took.1) same took.3 ∙ ap (λ (e : Event). let q : PortValue = record (port_of table me) { trail = e ∷ t; history = [] } in q) e_is
   told_by false miss =
       let found : Control = control_in (ring_of me.0).geometry x in
-      let e_is : took.0 ≡ Lost body closing found = took.1 ∙ ap (λ (b : Bool). cond b (Won body (next_number t closing)) (Lost body closing found)) miss in
-      let last : IsNewest (ring_of me.0) (who_of me.0) t took.0 = took.3 in
-      let may : MayLose (ring_of me.0) (world last.run) (trail_of (Sender s) last.run) body closing found =
-      subst (λ (q : Who × Event). Allowed (ring_of me.0) (world last.run) (trail_of q.0 last.run) q.0 q.1) (λ k. (who_is k, e_is k)) last.after.after.run_is.1 in
-      let behind : trail_of (Sender s) last.run ≡ t = ap (λ (u : Who). trail_of u last.run) (sym who_is) ∙ last.before.trail_is in
+      let e_is : took.0 ≡ Lost body closing found = took.2 ∙ ap (λ (b : Bool). cond b (Won body (next_number t closing)) (Lost body closing found)) miss in
+      let run : Run = took.1 in
+      let last : IsNewest (ring_of me.0) (who_of me.0) t (history_of_first me.0) run took.0 = took.4 in
+      let may : MayLose (ring_of me.0) (world run) (trail_of (Sender s) run) body closing found =
+      subst (λ (q : Who × Event). Allowed (ring_of me.0) (world run) (trail_of q.0 run) q.0 q.1) (λ k. (who_is k, e_is k)) last.after.after.run_is.1 in
+      let behind : trail_of (Sender s) run ≡ t = ap (λ (u : Who). trail_of u run) (sym who_is) ∙ last.before.trail_is in
       let before_is : may.before ≡ seen = (let e : Some may.before ≡ Some seen = sym may.tries.looked_at ∙ ap looked behind ∙ looked_is in cc) in
-      (found, (λ is. may.other (is ∙ sym before_is)), stepped_is table new_table me new took.0 same took.2 ∙ ap (λ (e : Event). let q : PortValue = record (port_of table me) { trail = e ∷ t } in q) e_is)
+      (found, (λ is. may.other (is ∙ sym before_is)), stepped_is table new_table me new took.0 ((who_of me.0, took.0) ∷ took.1) same took.3 ∙ ap (λ (e : Event). let q : PortValue = record (port_of table me) { trail = e ∷ t; history = [] } in q) e_is)
 
   pub exchange_told : Told (x == old)
   exchange_told = told_by (x == old) refl
@@ -165,14 +166,15 @@ exchange_told_as table new_table me new p is s body closing seen intent slots i 
 
 -- a test, of what it answers
 pub tested : (table new_table : TableId) (me new : Holding) (p : PortValue) → port_of table me ≡ p → (intent : Intent) (slots i limit word found : ℕ) → new_table ≡ table → intent ≡ tests limit
-    → adds_for intent (step slots i 0 0 none) me word new → found ≡ ready_in p.ring.made_with.geometry word (taken_by p.trail) limit → port_of new_table new ≡ record p { trail = Test limit found ∷ p.trail }
+    → adds_for intent (step slots i 0 0 none) me word new → found ≡ ready_in p.ring.made_with.geometry word (taken_by p.trail) limit → record (port_of new_table new) { history = [] } ≡ record p { trail = Test limit found ∷ p.trail; history = [] }
 tested table new_table me new p is intent slots i limit word found same intent_is did =
-    subst (λ (q : PortValue). found ≡ ready_in q.ring.made_with.geometry word (taken_by q.trail) limit → port_of new_table new ≡ record q { trail = Test limit found ∷ q.trail }) is
+    subst (λ (q : PortValue). found ≡ ready_in q.ring.made_with.geometry word (taken_by q.trail) limit → record (port_of new_table new) { history = [] } ≡ record q { trail = Test limit found ∷ q.trail; history = [] }) is
     (λ found_is.
     let told = subst (λ (n : Intent). adds_for n (step slots i 0 0 none) me word new) intent_is did in
     let e : Event = Test limit (ready_in (ring_of me.0).geometry word (taken_by (trail_of_first me.0)) limit) in
-    stepped_is table new_table me new e same (told.2 ∙ ap (λ (d : Event). let m : Holding = (participant (ring_of me.0) (who_of me.0) (d ∷ trail_of_first me.0) ∷ [], []) in m) told.1)
-    ∙ ap (λ (n : ℕ). let q : PortValue = record (port_of table me) { trail = Test limit n ∷ trail_of_first me.0 } in q) (sym found_is))
+    let history : Run = (who_of me.0, told.0) ∷ told.1 in
+    stepped_is table new_table me new e history same (told.3 ∙ ap (λ (d : Event). let m : Holding = (participant (ring_of me.0) (who_of me.0) (d ∷ trail_of_first me.0) history ∷ [], []) in m) told.2)
+    ∙ ap (λ (n : ℕ). let q : PortValue = record (port_of table me) { trail = Test limit n ∷ trail_of_first me.0; history = [] } in q) (sym found_is))
 
 -- ---- a flip, by what its caller knows
 

@@ -1,20 +1,37 @@
 -- Which seat has which events, as the run grows and as seats are cut and joined.
-use Rattle.std.proofs.Common.{◌≡◌, ◌≢◌, ◌⊎◌, ℕ, zero, suc, Bool, false, cond, eqb, List, [], ◌∷◌, ◌++◌, length, refl, sym, ap, ◌∙◌, ⊎_elim, inl, inr, eq-eqb, ne_eqb}
+use Rattle.std.proofs.Common.{◌≡◌, ◌≢◌, ◌⊎◌, ℕ, zero, suc, Bool, false, cond, eqb, List, [], ◌∷◌, ◌++◌, length, set, refl, sym, ap, ◌∙◌, subst, ⊎_elim, inl, inr, eq-eqb, ne_eqb}
 use mathlib.Core.Option.{some, some-injective, some-ne-none}
+use mathlib.Core.Logic.{dite}
+use native.Mathlib.Decide.{ℕ_discrete}
 use lib.ListN.{get_elem?}
+use Rattle.atomic_table.proofs.Lists.{set_else, at_longer, at_last}
 use Rattle.ringcore.specs.declared.world.event.Who.{Who}
 use Rattle.ringcore.specs.declared.world.event.Event.{Event}
 use Rattle.ringcore.specs.world.Trails.{Run, same}
 use Rattle.ringcore.specs.world.Allowed.{Ring}
 use Rattle.ring.specs.declared.table.rule.Participant.{Participant}
-use Rattle.ring.specs.table.Rule.{HasTrails, SitAt}
+use Rattle.ring.specs.table.Rule.{WentOn, HasTrails, SitAt, Any, Among}
 use Rattle.ring.proofs.TableLemmas.Trails.{same_not, trail_else}
+
+-- a run went on by another's step, or has just come
+pub went_on_else : (who w : Who) (e : Event) (older run : Run) → who ≢ w → WentOn who older run → WentOn who older ((w, e) ∷ run)
+went_on_else who w e older run ne was = record {
+  newer = (w, e) ∷ was.newer;
+  run_is = ap (λ (l : Run). (w, e) ∷ l) was.run_is;
+  of_others = trail_else who w e was.newer ne ∙ was.of_others;
+}
+
+pub went_on_none : (who : Who) (run : Run) → WentOn who run run
+went_on_none who run = record { newer = []; run_is = refl; of_others = refl }
 
 -- those at another seat keep their trails
 pub trails_else : (ring : Ring) (seat : Who → ℕ) (i : ℕ) (w : Who) (e : Event) (run : Run) (hs : List Participant) → SitAt seat i hs → seat w ≢ i → HasTrails ring run hs → HasTrails ring ((w, e) ∷ run) hs
 trails_else ring seat i w e run [] sit ne has = tt
 trails_else ring seat i w e run (h ∷ hs) sit ne has =
-    (record { ring_is = has.0.ring_is; known = has.0.known; trail = trail_else h.who w e run (λ (is : h.who ≡ w). ne (ap seat (sym is) ∙ sit.0)) ∙ has.0.trail }, trails_else ring seat i w e run hs sit.1 ne has.1)
+    let other : h.who ≢ w = (λ (is : h.who ≡ w). ne (ap seat (sym is) ∙ sit.0)) in (
+      record { ring_is = has.0.ring_is; known = has.0.known; trail = trail_else h.who w e run other ∙ has.0.trail; went_on = went_on_else h.who w e h.history run other has.0.went_on },
+      trails_else ring seat i w e run hs sit.1 ne has.1,
+    )
 
 -- nobody among these is w
 abbrev pub Without : Who → List Participant → Type 0
@@ -59,3 +76,50 @@ at_snoc_index [] a b zero e = inr (refl, some-injective a b e)
 at_snoc_index [] a b (suc j) e = absurd (some-ne-none b (sym e))
 at_snoc_index (x ∷ xs) a b zero e = inl e
 at_snoc_index (x ∷ xs) a b (suc j) e = ⊎_elim inl (λ t. inr (ap suc t.0, t.1)) (at_snoc_index xs a b j e)
+
+-- ---- one of those who sit at a seat
+
+-- what is set where something was is there
+pub set_there : {A : Type 0} (l : List A) (i : ℕ) (a b : A) → get_elem? l i ≡ some a → get_elem? (set l i b) i ≡ some b
+set_there [] i a b e = absurd (some-ne-none a (sym e))
+set_there (x ∷ xs) zero a b e = refl
+set_there (x ∷ xs) (suc i) a b e = set_there xs i a b e
+
+any_left : (P : Participant → Type 0) (hs gs : List Participant) → Any P hs → Any P (hs ++ gs)
+any_left P [] gs one = absurd one
+any_left P (h ∷ hs) gs (inl here) = inl here
+any_left P (h ∷ hs) gs (inr more) = inr (any_left P hs gs more)
+
+any_right : (P : Participant → Type 0) (hs gs : List Participant) → Any P gs → Any P (hs ++ gs)
+any_right P [] gs one = one
+any_right P (h ∷ hs) gs one = inr (any_right P hs gs one)
+
+same_place : (views : List (List Participant)) (i : ℕ) (v w : List Participant) → get_elem? views i ≡ some v → (P : Participant → Type 0) (j : ℕ) → j ≡ i → get_elem? views j ≡ some w → Any P w → Any P v
+same_place views i v w at P j is there one = subst (Any P) (some-injective w v (sym there ∙ ap (get_elem? views) is ∙ at)) one
+
+-- a seat has other views, of which it is so where it was
+pub among_step : (P : Participant → Type 0) (views : List (List Participant)) (id : ℕ) (v w : List Participant) → get_elem? views id ≡ some v → (Any P v → Any P w) → Among P views → Among P (set views id w)
+among_step P views id v w at keeps one = dite (ℕ_discrete one.place id)
+    (λ here. record { place = id; there = w; at = set_there views id v w at; one = keeps (same_place views id v one.there at P one.place here one.at one.one) })
+    (λ else. record { place = one.place; there = one.there; at = set_else views id one.place w else ∙ one.at; one = one.one })
+
+-- the first of a seat goes to a new one
+pub among_dealt : (P : Participant → Type 0) (views : List (List Participant)) (id : ℕ) (g : Participant) (hs : List Participant) → get_elem? views id ≡ some (g ∷ hs) → Among P views → Among P (set views id hs ++ (g ∷ []) ∷ [])
+among_dealt P views id g hs at one = dite (ℕ_discrete one.place id)
+    (λ here. ⊎_elim
+    (λ (first : P g). record { place = length (set views id hs); there = g ∷ []; at = at_last (set views id hs) (g ∷ []) (length (set views id hs)) refl; one = inl first })
+    (λ (rest : Any P hs). record { place = id; there = hs; at = at_longer (set views id hs) ((g ∷ []) ∷ []) id hs (set_there views id (g ∷ hs) hs at); one = rest })
+    (same_place views id (g ∷ hs) one.there at P one.place here one.at one.one))
+    (λ else. record { place = one.place; there = one.there; at = at_longer (set views id hs) ((g ∷ []) ∷ []) one.place one.there (set_else views id one.place hs else ∙ one.at); one = one.one })
+
+-- a seat takes in all of another
+pub among_joined : (P : Participant → Type 0) (views : List (List Participant)) (id other : ℕ) (v w : List Participant) → get_elem? views id ≡ some v → other ≢ id → get_elem? (set views id (w ++ v)) other ≡ some w
+    → Among P views → Among P (set (set views id (w ++ v)) other [])
+among_joined P views id other v w at two there one =
+    let theirs : get_elem? views other ≡ some w = sym (set_else views id other (w ++ v) two) ∙ there in
+    let both : get_elem? (set (set views id (w ++ v)) other []) id ≡ some (w ++ v) = set_else (set views id (w ++ v)) other id [] (λ e. two (sym e)) ∙ set_there views id v (w ++ v) at in
+    dite (ℕ_discrete one.place id)
+    (λ here. record { place = id; there = w ++ v; at = both; one = any_right P w v (same_place views id v one.there at P one.place here one.at one.one) })
+    (λ else. dite (ℕ_discrete one.place other)
+    (λ here. record { place = id; there = w ++ v; at = both; one = any_left P w v (same_place views other w one.there theirs P one.place here one.at one.one) })
+    (λ away. record { place = one.place; there = one.there; at = set_else (set views id (w ++ v)) other one.place [] away ∙ set_else views id one.place (w ++ v) else ∙ one.at; one = one.one }))

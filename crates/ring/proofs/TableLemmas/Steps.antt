@@ -1,5 +1,5 @@
--- A step that the laws of ringcore allow keeps the rule, whatever kind it is.
-use Rattle.std.proofs.Common.{◌≡◌, ◌≢◌, ℕ, Bool, cond, List, [], ◌∷◌, ◌++◌, length, set, zero, suc, refl, sym, ap, ◌∙◌, subst, ⊎_elim}
+-- A step that the laws of ringcore allow keeps the rule, whatever kind it is: its event comes to the end of the run.
+use Rattle.std.proofs.Common.{◌≡◌, ◌≢◌, ℕ, Bool, cond, List, [], ◌∷◌, ◌++◌, length, set, zero, suc, refl, sym, ap, ◌∙◌, subst, ⊎_elim, inl}
 use Rattle.std.specs.Prelude.{slice_index, slice_set}
 use mathlib.Core.Option.{some}
 use lib.ListN.{get_elem?}
@@ -12,10 +12,10 @@ use Rattle.ringcore.specs.world.Laws.{OnlyOf}
 use Rattle.ringcore.specs.world.Allowed.{Ring}
 use Rattle.ringcore.specs.memory.Shadow.{AreAfter}
 use Rattle.ring.specs.declared.table.rule.Participant.{Participant}
-use Rattle.ring.specs.table.Rule.{Holding, participant, HasTrails, SitAt, RuleHolds, Stands, ring_of, who_of, trail_of_first, IsAlone}
+use Rattle.ring.specs.table.Rule.{Holding, participant, HasTrails, SitAt, RuleHolds, Stands, ring_of, who_of, trail_of_first, history_of_first, IsAlone}
 use Rattle.ring.specs.table.StepEvents.{Added}
 use Rattle.ring.proofs.TableLemmas.Trails.{same_refl, trail_here}
-use Rattle.ring.proofs.TableLemmas.Seats.{trails_else, Without, moved_to, sit_without, sit_else, taken_in, sit_taken, sit_stays, sit_append, trails_append, at_snoc_index}
+use Rattle.ring.proofs.TableLemmas.Seats.{trails_else, Without, moved_to, sit_without, sit_else, taken_in, sit_taken, sit_stays, sit_append, trails_append, at_snoc_index, went_on_none, set_there, among_step, among_dealt, among_joined}
 
 -- What the laws have to give: wherever the seat has this trail, the word may change so, by an event that is said of
 -- the word that was found.
@@ -24,13 +24,13 @@ MayStep ring who trail i f says =
     (run : Run) (words : List ℕ) → Stands ring who trail run words
     → (e : Event) × says (slice_index words i) e × AreAfter ring ((who, e) ∷ run) (slice_set words i (f (slice_index words i)))
 
-module _ (ring : Ring) (slots id : ℕ) (z : Ring) (who : Who) (trail : Trail) (i : ℕ) (f : ℕ → ℕ) (says : ℕ → Event → Type 0) (may : MayStep z who trail i f says) where
+module _ (ring : Ring) (slots id : ℕ) (z : Ring) (who : Who) (trail : Trail) (history : Run) (i : ℕ) (f : ℕ → ℕ) (says : ℕ → Event → Type 0) (may : MayStep z who trail i f says) where
   abbrev me : Holding
-  me = (participant z who trail ∷ [], [])
+  me = (participant z who trail history ∷ [], [])
 
-  pub steps_at : Allows (RuleHolds ring) slots id me i f (Added z who trail says)
+  pub steps_at : Allows (RuleHolds ring) slots id me i f (Added z who trail history says)
   steps_at s k _ at _ =
-      let mine = k.seated id (participant z who trail ∷ []) at in
+      let mine = k.seated id (participant z who trail history ∷ []) at in
       let same : trail_of who k.run ≡ trail = mine.1.0.trail in
       let zn : z ≡ ring = mine.1.0.ring_is in
       let here : Stands ring who trail k.run s.words = record { limits = k.limits; after = k.after; only = k.only; known = mine.1.0.known; trail_is = same } in
@@ -39,10 +39,10 @@ module _ (ring : Ring) (slots id : ℕ) (z : Ring) (who : Who) (trail : Trail) (
       let e : Event = did.0 in
       let longer : Run = (who, e) ∷ k.run in
       let words : List ℕ = slice_set s.words i (f (slice_index s.words i)) in
-      let w : List Participant = participant z who (e ∷ trail) ∷ [] in
+      let w : List Participant = participant z who (e ∷ trail) longer ∷ [] in
       let grown : trail_of who longer ≡ e ∷ trail = trail_here who e k.run ∙ ap (λ (t : Trail). e ∷ t) same in
       let after : AreAfter ring longer words = subst (λ (r : Ring). AreAfter r longer words) zn did.2 in
-      let new : HasTrails ring longer w = (record { ring_is = zn; known = mine.1.0.known; trail = grown }, tt) in
+      let new : HasTrails ring longer w = (record { ring_is = zn; known = mine.1.0.known; trail = grown; went_on = went_on_none who longer }, tt) in
       let only : OnlyOf ring.senders longer = (mine.1.0.known, k.only) in
       let there : Stands ring who (e ∷ trail) longer words = record { limits = k.limits; after = after; only = only; known = mine.1.0.known; trail_is = grown } in (
         w,
@@ -58,18 +58,20 @@ module _ (ring : Ring) (slots id : ℕ) (z : Ring) (who : Who) (trail : Trail) (
               (λ (own : (j ≡ id) × (w ≡ v)). subst (λ (t : ℕ × List Participant). SitAt k.seat t.0 t.1 × HasTrails ring longer t.1) (λ q. (sym own.0 q, own.1 q)) ((mine.0.0, tt), new))
               (λ (else : (j ≢ id) × (get_elem? s.views j ≡ some v)). let old = k.seated j v else.1 in (old.0, trails_else ring k.seat j who e k.run v old.0 (λ same_seat. else.0 (sym same_seat ∙ mine.0.0)) old.1))
               (at_set s.views id j w v got);
+          newest = record { place = id; there = w; at = set_there s.views id (participant z who trail history ∷ []) w at; one = inl refl };
+          everyone = λ u one. among_step (λ p. p.who ≡ u) s.views id (participant z who trail history ∷ []) w at (λ was. was) (k.everyone u one);
         },
-        (e, did.1, refl, record { run = k.run; words = s.words; new_words = words; before = now; after = subst (λ (r : Ring). Stands r who (e ∷ trail) longer words) (sym zn) there }),
+        (e, k.run, did.1, refl, record { words = s.words; new_words = words; went_on = mine.1.0.went_on; before = now; after = subst (λ (r : Ring). Stands r who (e ∷ trail) longer words) (sym zn) there }),
       )
 
 -- the same at a seat that is known to stand for one alone
 pub steps_as : (ring : Ring) (slots id : ℕ) (who : Who) (me : Holding) → IsAlone me who → (i : ℕ) (f : ℕ → ℕ) (says : ℕ → Event → Type 0)
     → MayStep (ring_of me.0) who (trail_of_first me.0) i f says
-    → Allows (RuleHolds ring) slots id me i f (Added (ring_of me.0) (who_of me.0) (trail_of_first me.0) says)
+    → Allows (RuleHolds ring) slots id me i f (Added (ring_of me.0) (who_of me.0) (trail_of_first me.0) (history_of_first me.0) says)
 steps_as ring slots id who me is i f says may =
-    let z : Ring = ring_of me.0 in let t : Trail = trail_of_first me.0 in
-    subst (λ (w : Who). Allows (RuleHolds ring) slots id me i f (Added z w t says)) (sym (ap (λ (m : Holding). who_of m.0) is.me_is))
-    (subst (λ (q : Holding). Allows (RuleHolds ring) slots id q i f (Added z who t says)) (sym is.me_is) (steps_at ring slots id z who t i f says may))
+    let z : Ring = ring_of me.0 in let t : Trail = trail_of_first me.0 in let h : Run = history_of_first me.0 in
+    subst (λ (w : Who). Allows (RuleHolds ring) slots id me i f (Added z w t h says)) (sym (ap (λ (m : Holding). who_of m.0) is.me_is))
+    (subst (λ (q : Holding). Allows (RuleHolds ring) slots id q i f (Added z who t h says)) (sym is.me_is) (steps_at ring slots id z who t h i f says may))
 
 -- ---- a seat is cut in two, and takes in another
 
@@ -92,6 +94,8 @@ deals_at ring id g hs apart s k at =
           (λ (last : (j ≡ new) × ((g ∷ []) ≡ v)). subst (λ (t : ℕ × List Participant). SitAt seat t.0 t.1 × HasTrails ring k.run t.1) (λ q. (sym last.0 q, last.1 q))
           ((ap (λ (b : Bool). cond b new (k.seat g.who)) (same_refl g.who), tt), (mine.1.0, tt)))
           (at_snoc_index (set s.views id hs) (g ∷ []) v j there);
+      newest = among_dealt (λ p. p.history ≡ k.run) s.views id g hs at k.newest;
+      everyone = λ who one. among_dealt (λ p. p.who ≡ who) s.views id g hs at (k.everyone who one);
     }
 
 -- a seat takes in all of another
@@ -115,6 +119,8 @@ gathers_at ring id other v w s k at two there =
           (λ (old : (j ≢ id) × (get_elem? s.views j ≡ some u)). let o = k.seated j u old.1 in (sit_stays other id j k.seat u else.0 o.0, o.1))
           (at_set s.views id j both u else.1))
           (at_set (set s.views id both) other j [] u e);
+      newest = among_joined (λ p. p.history ≡ k.run) s.views id other v w at two there k.newest;
+      everyone = λ who one. among_joined (λ p. p.who ≡ who) s.views id other v w at two there (k.everyone who one);
     }
 
 pub set_back : (ns : List ℕ) (i : ℕ) → slice_set ns i (slice_index ns i) ≡ ns

@@ -31,6 +31,10 @@ all_acknowledged (raw ∷ raws) t = all_acknowledged raws (acknowledged raw t)
 abbrev pub completed_trail : List Raw → Trail → Trail
 completed_trail raws t = all_acknowledged raws (Advance raws ∷ t)
 
+-- a run that is pending, without what its consumer knows of the ring's run
+abbrev pub unknowing : PendingValue → PendingValue
+unknowing p = record p { consumer = record p.consumer { history = [] } }
+
 -- The first so many are taken.
 abbrev pub completed : ℕ → PendingValue → ConsumerValue
 completed count p = record p.consumer { trail = completed_trail (take count p.raws) p.consumer.trail }

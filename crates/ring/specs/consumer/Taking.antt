@@ -1,9 +1,10 @@
 -- Which events a take added, by its answer.
-use Rattle.std.specs.Prelude.{◌≡◌, ◌≢◌, ◌≤◌, ℕ, Bool, true, false, List, ◌∷◌, length}
+use Rattle.std.specs.Prelude.{◌≡◌, ◌≢◌, ◌≤◌, ℕ, Bool, true, false, List, [], ◌∷◌, length}
 use Rattle.cmdcodec.specs.declared.raw.Raw.{Raw}
 use Rattle.qindex.specs.declared.control.Control.{Control}
 use Rattle.ringcore.specs.declared.world.event.Event.TheVariants.{Look, Test}
 use Rattle.ringcore.specs.world.Trails.{Trail}
+use Rattle.ringcore.specs.world.World.{head, tail, world, control}
 use Rattle.ring.specs.declared.consumer.taken.Taken.{Taken}
 use Rattle.ring.specs.declared.consumer.taken.Taken.TheVariants as one
 use Rattle.ring.specs.declared.consumer.taken.TakenRun.{TakenRun}
@@ -15,18 +16,20 @@ use Rattle.ring.specs.consumer.Pendings.{PendingValue, run_of, reads_from}
 abbrev pub with_trail : ConsumerValue → Trail → ConsumerValue
 with_trail d t = record d { trail = t }
 
--- a look that found nothing reserved
+-- a look that found nothing reserved: in the run as it is known then, all that is reserved is taken
 pub record TookNone (closed : Bool) (d e : ConsumerValue) : Type 0 where
   pub seen : Control
   pub nothing : seen.prod.number ≡ seen.cons.number
   pub closed_is : seen.closed ≡ closed
-  pub trail_is : e ≡ with_trail d (Look seen ∷ d.trail)
+  pub seen_is : seen ≡ control d.ring.made_with.geometry (world e.history)
+  pub all_taken : head (world e.history) ≡ tail (world e.history)
+  pub trail_is : record e { history = [] } ≡ with_trail (record d { history = [] }) (Look seen ∷ d.trail)
 
 -- a look that found something reserved, and a test that found the head not written
 pub record TookUnwritten (most : ℕ) (d e : ConsumerValue) : Type 0 where
   pub seen : Control
   pub something : seen.prod.number ≢ seen.cons.number
-  pub trail_is : e ≡ with_trail d (Test most 0 ∷ Look seen ∷ d.trail)
+  pub trail_is : record e { history = [] } ≡ with_trail (record d { history = [] }) (Test most 0 ∷ Look seen ∷ d.trail)
 
 -- a look that found something reserved, a test that found some ready, and reads of just these
 pub record TookRun (most : ℕ) (d : ConsumerValue) (p : PendingValue) : Type 0 where
@@ -34,7 +37,7 @@ pub record TookRun (most : ℕ) (d : ConsumerValue) (p : PendingValue) : Type 0 
   pub something : seen.prod.number ≢ seen.cons.number
   pub some : 1 ≤ length p.raws
   pub few : length p.raws ≤ most
-  pub trail_is : p.consumer ≡ with_trail d (reads_from 0 p.raws (Test most (length p.raws) ∷ Look seen ∷ d.trail))
+  pub trail_is : record p.consumer { history = [] } ≡ with_trail (record d { history = [] }) (reads_from 0 p.raws (Test most (length p.raws) ∷ Look seen ∷ d.trail))
 
 abbrev pub HasTakenRun : {D : Type 0} → ℕ → ConsumerValue → TakenRun D → Type 0
 HasTakenRun most d (Empty e) = TookNone false d e

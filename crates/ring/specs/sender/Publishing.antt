@@ -39,7 +39,7 @@ published r = flipped_left (flipped_left (wrote_many (reserved_length r.trail - 
 
 -- the sender of a reservation, with its trail
 abbrev pub sender_of : ReservationValue → SenderValue
-sender_of r = record { ring = r.ring; number = r.sender; trail = r.trail }
+sender_of r = record { ring = r.ring; number = r.sender; trail = r.trail; history = r.history }
 
 -- No batch was reserved in between.
 pub record ReservesNone (old new : Trail) : Type 0 where

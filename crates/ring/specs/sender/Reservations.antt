@@ -5,7 +5,7 @@ use Rattle.cmdcodec.specs.Bodies.{IsBody}
 use Rattle.qindex.specs.Positions.{IndexValue, size}
 use Rattle.ringcore.specs.declared.world.event.Half.{Half}
 use Rattle.ringcore.specs.declared.world.event.Event.TheVariants.{Won}
-use Rattle.ringcore.specs.world.Trails.{Trail, reserved_length, has_written, has_flipped, start_index}
+use Rattle.ringcore.specs.world.Trails.{Trail, Run, reserved_length, has_written, has_flipped, start_index}
 use Rattle.ringcore.specs.world.World.{commands}
 use Rattle.ringcore.specs.world.Allowed.{length_with}
 use Rattle.ringcore.specs.memory.StepLaws.{reserved_commands}
@@ -21,6 +21,7 @@ pub record ReservationValue : Type 0 where
   pub body : List Raw
   pub closes : Bool
   pub trail : Trail
+  pub history : Run
   pub written : ℕ
   pub flipped : ℕ
 

@@ -1,5 +1,5 @@
 -- Which events a try to reserve added, by its answer.
-use Rattle.std.specs.Prelude.{◌≡◌, ◌≢◌, ℕ, ◌+◌, ◌<◌, ◌≤◌, Bool, true, false, List, ◌∷◌}
+use Rattle.std.specs.Prelude.{◌≡◌, ◌≢◌, ℕ, ◌+◌, ◌<◌, ◌≤◌, Bool, true, false, List, [], ◌∷◌}
 use Rattle.cmdcodec.specs.declared.raw.Raw.{Raw}
 use Rattle.qindex.specs.declared.control.Control.{Control}
 use Rattle.qindex.specs.Positions.{size}
@@ -48,18 +48,19 @@ opened body closes s = record {
   body = body;
   closes = closes;
   trail = Won body (next_number s.trail closes) ∷ s.trail;
+  history = s.history;
   written = 0;
   flipped = 0;
 }
 
 abbrev pub IsWon : List Raw → Bool → SenderValue → ReservationValue → Type 0
-IsWon body closes s r = r ≡ opened body closes s
+IsWon body closes s r = record r { history = [] } ≡ opened body closes (record s { history = [] })
 
 -- The exchange found something else than what was looked at.
 pub record IsLost (body : List Raw) (closes : Bool) (seen : Control) (s t : SenderValue) : Type 0 where
   pub found : Control
   pub other : found ≢ seen
-  pub trail_is : t ≡ with_trail s (Lost body closes found ∷ s.trail)
+  pub trail_is : record t { history = [] } ≡ with_trail (record s { history = [] }) (Lost body closes found ∷ s.trail)
 
 -- ---- the answers
 
@@ -88,7 +89,7 @@ pub record IsClosed (body : List Raw) (closes : Bool) (s t : SenderValue) : Type
   pub left : HasBatchLeft s
   pub seen : Control
   pub closed : seen.closed ≡ true
-  pub looked : t ≡ has_looked s seen
+  pub looked : record t { history = [] } ≡ has_looked (record s { history = [] }) seen
 
 -- a look, and it found the ring open and too little room
 pub record IsFull (body : List Raw) (closes : Bool) (s t : SenderValue) : Type 0 where
@@ -97,7 +98,7 @@ pub record IsFull (body : List Raw) (closes : Bool) (s t : SenderValue) : Type 0
   pub seen : Control
   pub unclosed : seen.closed ≡ false
   pub full : ring_size s < distance seen.prod seen.cons + length_with closes body
-  pub looked : t ≡ has_looked s seen
+  pub looked : record t { history = [] } ≡ has_looked (record s { history = [] }) seen
 
 -- a look that found the ring open and the room, and an exchange that found something else
 pub record IsContended (body : List Raw) (closes : Bool) (s t : SenderValue) : Type 0 where

@@ -1,17 +1,18 @@
 -- What contracts see of a sender and its receipts.
-use Rattle.std.specs.Prelude.{◌≡◌, ℕ, ◌+◌, ◌≤◌, Bool, true, false, ◌∷◌, nat_le}
+use Rattle.std.specs.Prelude.{◌≡◌, ℕ, ◌+◌, ◌≤◌, Bool, true, false, [], ◌∷◌, nat_le}
 use Rattle.ringcore.specs.declared.world.event.Who.TheVariants.{Sender}
 use Rattle.ringcore.specs.declared.world.event.Event.TheVariants.{Ask}
-use Rattle.ringcore.specs.world.Trails.{Trail, IsSettled, batches_made, numbers_given}
+use Rattle.ringcore.specs.world.Trails.{Trail, Run, IsSettled, batches_made, numbers_given}
 use Rattle.ring.specs.declared.sender.tally.Tally.{Tally}
 use Rattle.ring.specs.Rings.{RingValue}
 use Rattle.ring.specs.table.Ports.{PortValue}
 
--- a sender: its ring, its number, and its trail
+-- a sender: its ring, its number, its trail, and the run up to its newest step
 pub record SenderValue : Type 0 where
   pub ring : RingValue
   pub number : ℕ
   pub trail : Trail
+  pub history : Run
 
 -- The tally is that of the trail.
 pub record IsTallied (port : PortValue) (tally : Tally) : Type 0 where
@@ -40,4 +41,4 @@ pub record ReceiptValue : Type 0 where
 
 -- It asked, and the answer is whether the number that it found is at least this one.
 abbrev pub HasAsked : ℕ → SenderValue → SenderValue → Bool → Type 0
-HasAsked number old new answer = (found : ℕ) × (new ≡ record old { trail = Ask found ∷ old.trail }) × (answer ≡ nat_le number found)
+HasAsked number old new answer = (found : ℕ) × (record new { history = [] } ≡ record old { trail = Ask found ∷ old.trail; history = [] }) × (answer ≡ nat_le number found)

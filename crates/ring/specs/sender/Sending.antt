@@ -1,5 +1,5 @@
 -- Which events a send added, by its answer.
-use Rattle.std.specs.Prelude.{◌≡◌, ℕ, zero, suc, ◌+◌, ◌<◌, Bool, true, false, List}
+use Rattle.std.specs.Prelude.{◌≡◌, ℕ, zero, suc, ◌+◌, ◌<◌, Bool, true, false, List, []}
 use Rattle.cmdcodec.specs.declared.raw.Raw.{Raw}
 use Rattle.ring.specs.declared.sender.cause.Cause.{Cause}
 use Rattle.ring.specs.declared.sender.cause.Cause.TheVariants.{TooLong, Exhausted, Closed, Full, Contended}
@@ -34,13 +34,13 @@ pub record IsReservedWithin (body : List Raw) (closes : Bool) (tries : ℕ) (s :
 pub record IsSent (body : List Raw) (tries : ℕ) (s t : SenderValue) (receipt : ReceiptValue) : Type 0 where
   pub reservation : ReservationValue
   pub reserved : IsReservedWithin body true tries s reservation
-  pub sender_is : t ≡ sender_of (published reservation)
+  pub sender_is : record t { history = [] } ≡ sender_of (published (record reservation { history = [] }))
   pub receipt_is : IsReceiptOf reservation receipt
 
 pub record IsSentBare (body : List Raw) (tries : ℕ) (s t : SenderValue) : Type 0 where
   pub reservation : ReservationValue
   pub reserved : IsReservedWithin body false tries s reservation
-  pub sender_is : t ≡ sender_of (published reservation)
+  pub sender_is : record t { history = [] } ≡ sender_of (published (record reservation { history = [] }))
 
 -- The last refusal is told: after so many tries, or at once where its cause doesn't pass.
 pub record IsGivenUp (body : List Raw) (closes : Bool) (tries : ℕ) (s : SenderValue) (cause : Cause) (t : SenderValue) : Type 0 where

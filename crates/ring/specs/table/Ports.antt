@@ -7,24 +7,25 @@ use Rattle.qindex.specs.declared.control.Control.{Control}
 use Rattle.ringcore.specs.declared.world.event.Who.{Who}
 use Rattle.ringcore.specs.declared.world.event.Half.{Half}
 use Rattle.ringcore.specs.declared.world.event.Event.TheVariants.{Won, Lost}
-use Rattle.ringcore.specs.world.Trails.{Trail, reserved_length, has_written, has_flipped, start_index}
+use Rattle.ringcore.specs.world.Trails.{Trail, Run, reserved_length, has_written, has_flipped, start_index}
 use Rattle.ringcore.specs.world.Allowed.{IsRunLength}
 use Rattle.ringcore.specs.machine.StepAnswers.{next_number}
 use Rattle.ring.specs.Rings.{RingValue}
-use Rattle.ring.specs.table.Rule.{Holding, participant, ring_of, who_of, trail_of_first}
+use Rattle.ring.specs.table.Rule.{Holding, participant, ring_of, who_of, trail_of_first, history_of_first}
 
--- a participant: its ring, who it is, and its trail
+-- a participant: its ring, who it is, its trail, and the run up to its newest step
 pub record PortValue : Type 0 where
   pub ring : RingValue
   pub who : Who
   pub trail : Trail
+  pub history : Run
 
 abbrev pub port_of : TableId → Holding → PortValue
-port_of table me = record { ring = record { table = table; made_with = ring_of me.0 }; who = who_of me.0; trail = trail_of_first me.0 }
+port_of table me = record { ring = record { table = table; made_with = ring_of me.0 }; who = who_of me.0; trail = trail_of_first me.0; history = history_of_first me.0 }
 
--- A seat of this ring stands for this participant alone, with this trail.
-abbrev pub SitsFor : TableId → Holding → RingValue → Who → Trail → Type 0
-SitsFor table me ring who trail = (table ≡ ring.table) × (me ≡ (participant ring.made_with who trail ∷ [], []))
+-- A seat of this ring stands for this participant alone, with this trail, and knows this run.
+abbrev pub SitsFor : TableId → Holding → RingValue → Who → Trail → Run → Type 0
+SitsFor table me ring who trail history = (table ≡ ring.table) × (me ≡ (participant ring.made_with who trail history ∷ [], []))
 
 -- ---- reserve
 
@@ -33,10 +34,10 @@ has_won body closing p = record p { trail = Won body (next_number p.trail closin
 
 -- What was found is something else than what was looked at.
 abbrev pub HasLost : List Raw → Bool → Control → PortValue → PortValue → Type 0
-HasLost body closing seen old new = (found : Control) × (found ≢ seen) × (new ≡ record old { trail = Lost body closing found ∷ old.trail })
+HasLost body closing seen old new = (found : Control) × (found ≢ seen) × (record new { history = [] } ≡ record old { trail = Lost body closing found ∷ old.trail; history = [] })
 
 abbrev pub IsWonOrLost : List Raw → Bool → Control → PortValue → PortValue → Bool → Type 0
-IsWonOrLost body closing seen old new true = new ≡ has_won body closing old
+IsWonOrLost body closing seen old new true = record new { history = [] } ≡ has_won body closing (record old { history = [] })
 IsWonOrLost body closing seen old new false = HasLost body closing seen old new
 
 -- ---- write and flip

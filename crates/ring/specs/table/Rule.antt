@@ -1,6 +1,6 @@
 -- The rule of a running ring: its words stand as after a run, and each seat that is held has the trails of those for
--- whom it stands.
-use Rattle.std.specs.Prelude.{◌≡◌, ℕ, zero, suc, ◌<◌, ◌≤◌, ◌^◌, List, [], ◌∷◌, ⊤}
+-- whom it stands, with the run as each of them knew it at its newest step.
+use Rattle.std.specs.Prelude.{◌≡◌, ◌⊎◌, ℕ, zero, suc, ◌<◌, ◌≤◌, ◌^◌, List, [], ◌∷◌, ◌++◌, ⊤}
 use mathlib.Core.Option.{some}
 use lib.ListN.{get_elem?}
 use Rattle.atomic_table.specs.Table.{State, Me}
@@ -20,19 +20,26 @@ TableState = State (Unit {0}) (List Participant)
 abbrev pub Holding : Type 0
 Holding = Me (Unit {0}) (List Participant)
 
-abbrev pub participant : Ring → Who → Trail → Participant
-participant ring who trail = record { ring = ring; who = who; trail = trail }
+abbrev pub participant : Ring → Who → Trail → Run → Participant
+participant ring who trail history = record { ring = ring; who = who; trail = trail; history = history }
 
 -- what a ring may be made with, beside its geometry
 pub record IsWithinLimits (ring : Ring) : Type 0 where
   pub senders : ring.senders ≤ 256
   pub batches : ring.max_batches < 2 ^ 32
 
--- The run has just these events of this participant.
+-- A run is an older one, and behind it steps of others than this one.
+pub record WentOn (who : Who) (older run : Run) : Type 0 where
+  pub newer : Run
+  pub run_is : run ≡ newer ++ older
+  pub of_others : trail_of who newer ≡ []
+
+-- The run has just these events of this participant, and since the newest of them it only went on.
 pub record IsIn (ring : Ring) (run : Run) (p : Participant) : Type 0 where
   pub ring_is : p.ring ≡ ring
   pub known : IsOne ring.senders p.who
   pub trail : trail_of p.who run ≡ p.trail
+  pub went_on : WentOn p.who p.history run
 
 abbrev pub HasTrails : Ring → Run → List Participant → Type 0
 HasTrails ring run [] = ⊤
@@ -43,8 +50,22 @@ abbrev pub SitAt : (Who → ℕ) → ℕ → List Participant → Type 0
 SitAt seat i [] = ⊤
 SitAt seat i (p ∷ ps) = (seat p.who ≡ i) × SitAt seat i ps
 
+-- Of one of these it is so.
+abbrev pub Any : (Participant → Type 0) → List Participant → Type 0
+Any P [] = ⊥
+Any P (p ∷ ps) = P p ⊎ Any P ps
+
+-- Of one who sits at a seat it is so.
+pub record Among (P : Participant → Type 0) (views : List (List Participant)) : Type 0 where
+  pub place : ℕ
+  pub there : List Participant
+  pub at : get_elem? views place ≡ some there
+  pub one : Any P there
+
 -- The rule: there is a run after which the words stand as they do, and whose events of each participant that sits at
--- a seat are that participant's trail.
+-- a seat are that participant's trail. It is the run as the one with the newest event knew it then, and what each
+-- other knew at its own newest event is an older part of it, behind which it took no step: so the run grows at its end
+-- alone, and what is in it stays.
 pub record RuleHolds (ring : Ring) (s : TableState) : Type 0 where
   pub limits : IsWithinLimits ring
   pub run : Run
@@ -52,11 +73,13 @@ pub record RuleHolds (ring : Ring) (s : TableState) : Type 0 where
   pub only : OnlyOf ring.senders run
   pub seat : Who → ℕ
   pub seated : (i : ℕ) (v : List Participant) → get_elem? s.views i ≡ some v → SitAt seat i v × HasTrails ring run v
+  pub newest : Among (λ p. p.history ≡ run) s.views
+  pub everyone : (who : Who) → IsOne ring.senders who → Among (λ p. p.who ≡ who) s.views
 
 -- the senders from the k-th on, and the consumer, before their first steps
 abbrev pub participants_from : Ring → ℕ → ℕ → List Participant
-participants_from ring k zero = participant ring Consumer [] ∷ []
-participants_from ring k (suc more) = participant ring (Sender k) [] ∷ participants_from ring (suc k) more
+participants_from ring k zero = participant ring Consumer [] [] ∷ []
+participants_from ring k (suc more) = participant ring (Sender k) [] [] ∷ participants_from ring (suc k) more
 
 abbrev pub first_participants : Ring → List Participant
 first_participants ring = participants_from ring 0 ring.senders
@@ -90,7 +113,12 @@ abbrev pub trail_of_first : List Participant → Trail
 trail_of_first [] = []
 trail_of_first (p ∷ ps) = p.trail
 
--- A seat stands for this participant alone.
+abbrev pub history_of_first : List Participant → Run
+history_of_first [] = []
+history_of_first (p ∷ ps) = p.history
+
+-- A seat stands for this participant alone, whose trail is that of the run that it knows.
 pub record IsAlone (me : Holding) (who : Who) : Type 0 where
-  pub me_is : me ≡ (participant (ring_of me.0) who (trail_of_first me.0) ∷ [], [])
-  pub stands : StandsInARun (ring_of me.0) who (trail_of_first me.0)
+  pub me_is : me ≡ (participant (ring_of me.0) who (trail_of_first me.0) (history_of_first me.0) ∷ [], [])
+  pub words : List ℕ
+  pub stands : Stands (ring_of me.0) who (trail_of_first me.0) (history_of_first me.0) words

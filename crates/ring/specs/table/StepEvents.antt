@@ -10,7 +10,7 @@ use Rattle.ringcore.specs.world.Allowed.{Ring}
 use Rattle.ringcore.specs.memory.Flags.{ready_in}
 use Rattle.ringcore.specs.machine.StepAnswers.{next_number}
 use Rattle.ring.specs.declared.table.rule.Participant.{Participant}
-use Rattle.ring.specs.table.Rule.{Holding, participant, Stands, ring_of, who_of, trail_of_first}
+use Rattle.ring.specs.table.Rule.{Holding, participant, WentOn, Stands, ring_of, who_of, trail_of_first, history_of_first}
 use Rattle.ring.specs.table.Intents.{Intent, looks, reserves, writes, flips, tests, reads, advances, closes, acknowledges, asks}
 
 -- The event of a step that is for this, whose first operand this is, and which found this word.
@@ -27,21 +27,22 @@ IsEventOf ring trail closes operand word e = e ≡ Close
 IsEventOf ring trail (acknowledges sender number) operand word e = e ≡ Acknowledge sender number
 IsEventOf ring trail asks operand word e = e ≡ Ask word
 
--- The event stands last in a run by the rule, behind this trail.
-pub record IsNewest (ring : Ring) (who : Who) (trail : Trail) (e : Event) : Type 0 where
-  pub run : Run
+-- The event stands last in the run, which went on from this older one, behind this trail.
+pub record IsNewest (ring : Ring) (who : Who) (trail : Trail) (older run : Run) (e : Event) : Type 0 where
   pub words : List ℕ
   pub new_words : List ℕ
+  pub went_on : WentOn who older run
   pub before : Stands ring who trail run words
   pub after : Stands ring who (e ∷ trail) ((who, e) ∷ run) new_words
 
--- A seat's trail grew by an event of which this is said, with the word that was found.
-abbrev pub Added : Ring → Who → Trail → (ℕ → Event → Type 0) → ℕ → Holding → Type 0
-Added ring who trail says word now = (e : Event) × says word e × (now ≡ (participant ring who (e ∷ trail) ∷ [], [])) × IsNewest ring who trail e
+-- A seat's trail grew by an event of which this is said, with the word that was found, and it stands last in the run.
+abbrev pub Added : Ring → Who → Trail → Run → (ℕ → Event → Type 0) → ℕ → Holding → Type 0
+Added ring who trail older says word now =
+    (e : Event) × (run : Run) × says word e × (now ≡ (participant ring who (e ∷ trail) ((who, e) ∷ run) ∷ [], [])) × IsNewest ring who trail older run e
 
 abbrev pub adds_for : Intent → Step (Unit {0}) → Holding → ℕ → Holding → Type 0
 adds_for intent step me word now =
-    Added (ring_of me.0) (who_of me.0) (trail_of_first me.0) (IsEventOf (ring_of me.0) (trail_of_first me.0) intent step.first) word now
+    Added (ring_of me.0) (who_of me.0) (trail_of_first me.0) (history_of_first me.0) (IsEventOf (ring_of me.0) (trail_of_first me.0) intent step.first) word now
 
 -- ---- a seat is cut in two
 

@@ -1,5 +1,5 @@
 //! The consumer's own port: its steps, with the index of the head.
-ghost use Rattle.std.specs.Prelude.{◌≡◌, ◌∷◌, ◌≤◌, ◌<◌, ◌+◌, ◌^◌, ℕ, length, take};
+ghost use Rattle.std.specs.Prelude.{◌≡◌, ◌∷◌, ◌≤◌, ◌<◌, ◌+◌, ◌^◌, ℕ, length, take, []};
 ghost use Rattle.qindex.specs.Positions.{size};
 ghost use Rattle.qindex.specs.ControlWord.{IsControl};
 ghost use Rattle.ringcore.specs.declared.world.event.Event.TheVariants.{Look, Test, Read};
@@ -8,6 +8,8 @@ ghost use Rattle.ringcore.specs.world.Trails.{taken_by, found_ready};
 ghost use Rattle.ringcore.specs.world.Allowed.{MayAdvance};
 ghost use Rattle.ringcore.specs.world.ConsumerLaws.{IsSteady};
 ghost use Rattle.ring.specs.table.Rule.{StandsInARun};
+ghost use Rattle.ring.specs.table.Histories.{IsHistory, GrewBy, EndsTellAll};
+ghost use Rattle.ringcore.specs.world.World.{world, control as control_of};
 ghost use Rattle.ring.specs.table.Ports.{SitsFor};
 ghost use Rattle.ring.specs.consumer.Pendings.{HasReadRun, reads_from};
 ghost use Rattle.ring.specs.consumer.Completing.{completed_trail};
@@ -17,8 +19,8 @@ use crate::ring::Ring;
 use crate::table::{Participants, Port};
 use atomic_table::Seat;
 use cmdcodec::Raw;
-use qindex::{Control, Index};
-use ringcore::Half;
+use qindex::{Control, Index, indexes_tell_the_queue};
+use ringcore::{Half, world_law};
 use std::marker::Model;
 
 /// The consumer's port, which has acknowledged each CMD_SYNC that it took.
@@ -36,20 +38,21 @@ impl Model for ConsumerPort {
 
     ghost Value = { ConsumerValue };
 
-    ghost view = { λ p. record { ring = p.port.ring; trail = p.port.trail } };
+    ghost view = { λ p. record { ring = p.port.ring; trail = p.port.trail; history = p.port.history } };
 
     ghost invariant = { λ p. IsConsumer p.port p.head p.taken };
 }
 
 impl ConsumerPort {
     pub(crate) fn trail_stands_in_a_run(&self)
-        ensures { StandsInARun self.now.ring.made_with Consumer self.now.trail }
+        ensures trail { StandsInARun self.now.ring.made_with Consumer self.now.trail }
+        ensures history { IsHistory self.now.ring.made_with Consumer self.now.trail self.now.history }
     {
         self.port.trail_stands_in_a_run();
     }
 
     pub(crate) fn into_seat(self) -> Seat<(), Participants>
-        ensures { SitsFor result.table_id result.me self.ring Consumer self.trail }
+        ensures { SitsFor result.table_id result.me self.ring Consumer self.trail self.history }
     {
         let ConsumerPort {
             port,
@@ -83,17 +86,28 @@ impl ConsumerPort {
 
     pub(crate) fn look(&mut self, ring: &Ring) -> Control
         requires { self.old.ring ≡ ring.now }
-        ensures trail { self.new ≡ record self.old { trail = Look result ∷ self.old.trail } }
+        ensures trail { record self.new { history = [] } ≡ record self.old { trail = Look result ∷ self.old.trail; history = [] } }
         ensures control { IsControl self.old.ring.made_with.geometry result }
+        ensures history { GrewBy Consumer (Look result) self.old.history self.new.history }
+        ensures current { result ≡ control_of self.old.ring.made_with.geometry (world self.new.history) }
     {
         self.port.look(ring)
+    }
+
+    /// Where a look finds the two ends at one place, all that is reserved is taken. It does nothing.
+    pub(crate) fn ends_tell_all(&self)
+        ensures { EndsTellAll self.now.ring.made_with.geometry (world self.now.history) }
+    {
+        world_law();
+        indexes_tell_the_queue();
+        self.port.trail_stands_in_a_run();
     }
 
     pub(crate) fn test(&mut self, ring: &Ring, limit: u32) -> u32
         requires ring { self.old.ring ≡ ring.now }
         requires some { 1 ≤ limit }
         requires most { limit ≤ 64 }
-        ensures trail { self.new ≡ record self.old { trail = Test limit result ∷ self.old.trail } }
+        ensures trail { record self.new { history = [] } ≡ record self.old { trail = Test limit result ∷ self.old.trail; history = [] } }
         ensures limit { result ≤ limit }
         ensures within { result ≤ size self.old.ring.made_with.geometry }
     {
@@ -104,7 +118,7 @@ impl ConsumerPort {
         requires ring { self.old.ring ≡ ring.now }
         requires ready { offset < found_ready self.old.trail }
         requires fits { offset ≤ size self.old.ring.made_with.geometry }
-        ensures { self.new ≡ record self.old { trail = Read offset half result ∷ self.old.trail } }
+        ensures { record self.new { history = [] } ≡ record self.old { trail = Read offset half result ∷ self.old.trail; history = [] } }
     {
         self.port
             .read(ring, self.head.forward(offset), offset, half)
@@ -117,7 +131,7 @@ impl ConsumerPort {
         requires some { 1 ≤ count }
         requires most { count ≤ 64 }
         requires fits { count ≤ size self.old.ring.made_with.geometry }
-        ensures trail { self.new ≡ record self.old { trail = reads_from 0 commands.new self.old.trail } }
+        ensures trail { record self.new { history = [] } ≡ record self.old { trail = reads_from 0 commands.new self.old.trail; history = [] } }
         ensures count { length commands.new ≡ count }
         ensures read { HasReadRun self.new.trail commands.new }
     {
@@ -135,7 +149,7 @@ impl ConsumerPort {
         requires count { count ≤ length commands.now }
         requires few { count ≤ size self.ring.made_with.geometry }
         requires may { MayAdvance self.trail (take count commands.now) }
-        ensures { result ≡ record self { trail = completed_trail (take count commands.now) self.trail } }
+        ensures { record result { history = [] } ≡ record self { trail = completed_trail (take count commands.now) self.trail; history = [] } }
     {
         let ConsumerPort {
             mut port,

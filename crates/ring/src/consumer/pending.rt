@@ -2,7 +2,7 @@
 ghost use Rattle.std.specs.Prelude.{◌≡◌, ◌∷◌, ◌++◌, []};
 ghost use Rattle.ringcore.specs.world.World.{outcome_of};
 ghost use Rattle.ring.specs.consumer.Pendings.{HasSeen, run_of};
-ghost use Rattle.ring.specs.consumer.Completing.{completed, taken_of};
+ghost use Rattle.ring.specs.consumer.Completing.{completed, unknowing, taken_of};
 
 use crate::consumer::{Consumer, PendingRun};
 use crate::device::Device;
@@ -50,7 +50,7 @@ impl<D: Device> Pending<D> {
         requires ring { self.consumer.ring ≡ ring.now }
         requires outcome { _outcome ≡ outcome_of self.raw }
         requires settled { D.settled _device.now (taken_of self.consumer.trail ++ record { raw = self.raw; outcome = _outcome } ∷ []) }
-        ensures consumer { result ≡ completed 1 (run_of self) }
+        ensures consumer { record result { history = [] } ≡ completed 1 (unknowing (run_of self)) }
         ensures ring { result.ring ≡ self.consumer.ring }
         ensures taken { taken_of result.trail ≡ taken_of self.consumer.trail ++ record { raw = self.raw; outcome = _outcome } ∷ [] }
     {

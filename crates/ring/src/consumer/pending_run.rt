@@ -1,10 +1,10 @@
 //! A run of commands that is read and not taken.
-ghost use Rattle.std.specs.Prelude.{◌≡◌, ◌≤◌, ◌∷◌, ◌++◌, ◌+◌, ◌^◌, ℕ, List, length, map, slice_get, take};
+ghost use Rattle.std.specs.Prelude.{◌≡◌, ◌≤◌, ◌∷◌, ◌++◌, ◌+◌, ◌^◌, ℕ, List, length, map, slice_get, take, []};
 ghost use Rattle.cmdcodec.specs.declared.raw.Raw.{Raw as RawOf};
 ghost use Rattle.ringcore.specs.declared.world.event.Outcome.TheVariants.{Replaced};
 ghost use Rattle.ringcore.specs.world.World.{outcome_of};
 ghost use Rattle.ring.specs.consumer.Pendings.{HasSeen};
-ghost use Rattle.ring.specs.consumer.Completing.{completed, taken_of, with_outcome, HasOutcome};
+ghost use Rattle.ring.specs.consumer.Completing.{completed, unknowing, taken_of, with_outcome, HasOutcome};
 
 use crate::consumer::{Commands, Consumer, ConsumerPort};
 use crate::device::Device;
@@ -83,7 +83,7 @@ impl<D: Device> PendingRun<D> {
         requires outcome { HasOutcome _outcome (take count self.raws) }
         requires one { _outcome ≡ Replaced → count ≡ 1 }
         requires settled { D.settled _device.now (taken_of self.consumer.trail ++ map (with_outcome _outcome) (take count self.raws)) }
-        ensures consumer { result ≡ completed count self }
+        ensures consumer { record result { history = [] } ≡ completed count (unknowing self) }
         ensures ring { result.ring ≡ self.consumer.ring }
         ensures taken { taken_of result.trail ≡ taken_of self.consumer.trail ++ map (with_outcome _outcome) (take count self.raws) }
     {

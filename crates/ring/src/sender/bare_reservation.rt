@@ -1,5 +1,5 @@
 //! A reservation of a batch without a closing CMD_SYNC.
-ghost use Rattle.std.specs.Prelude.{◌≡◌, ◌+◌, ◌<◌};
+ghost use Rattle.std.specs.Prelude.{◌≡◌, ◌+◌, ◌<◌, []};
 ghost use Rattle.ringcore.specs.world.Trails.{reserved_length, IsSettled};
 ghost use Rattle.ring.specs.sender.Reservations.{IsWrittenUpTo, IsFlippedUpTo};
 ghost use Rattle.ring.specs.sender.Publishing.{wrote_one, flipped_one, published, sender_of, ReservesNone};
@@ -30,7 +30,7 @@ impl<'b> BareReservation<'b> {
     pub fn write_next(&mut self, ring: &Ring)
         requires ring { self.old.ring ≡ ring.now }
         requires left { self.old.written < reserved_length self.old.trail }
-        ensures { self.new ≡ wrote_one self.old }
+        ensures { record self.new { history = [] } ≡ wrote_one (record self.old { history = [] }) }
     {
         self.open.write_next(ring);
     }
@@ -39,7 +39,7 @@ impl<'b> BareReservation<'b> {
     pub fn flip_next(&mut self, ring: &Ring)
         requires ring { self.old.ring ≡ ring.now }
         requires left { self.old.flipped < self.old.written }
-        ensures { self.new ≡ flipped_one self.old }
+        ensures { record self.new { history = [] } ≡ flipped_one (record self.old { history = [] }) }
     {
         self.open.flip_next(ring);
     }
@@ -63,7 +63,7 @@ impl<'b> BareReservation<'b> {
     /// Writes and flips what is left, in order: the consumer may take the whole batch.
     pub fn publish(self, ring: &Ring) -> Sender
         requires { self.ring ≡ ring.now }
-        ensures sender { result ≡ sender_of (published self.entry) }
+        ensures sender { record result { history = [] } ≡ sender_of (published (record self.entry { history = [] })) }
         ensures settled { IsSettled result.trail }
         ensures ring { result.ring ≡ self.entry.ring }
         ensures id { result.number ≡ self.entry.sender }

@@ -1,5 +1,5 @@
 //! The slots of one sender that are to be written and handed over.
-ghost use Rattle.std.specs.Prelude.{◌≡◌, ◌+◌, ◌-◌, ◌<◌, ◌≤◌, true, Some, slice_get};
+ghost use Rattle.std.specs.Prelude.{◌≡◌, ◌+◌, ◌-◌, ◌<◌, ◌≤◌, true, Some, slice_get, []};
 ghost use Rattle.qindex.specs.Positions.{size};
 ghost use Rattle.ringcore.specs.world.Trails.{reserved_length, IsSettled};
 ghost use Rattle.ringcore.specs.memory.StepLaws.{reserved_commands};
@@ -35,7 +35,7 @@ impl<'b> Model for OpenReservation<'b> {
 
     ghost Value = { ReservationValue };
 
-    ghost view = { λ r. record { ring = r.port.ring; sender = r.tally.sender; body = r.batch.now; closes = r.closes; trail = r.port.trail; written = r.written; flipped = r.flipped } };
+    ghost view = { λ r. record { ring = r.port.ring; sender = r.tally.sender; body = r.batch.now; closes = r.closes; trail = r.port.trail; history = r.port.history; written = r.written; flipped = r.flipped } };
 
     ghost invariant = { λ r. IsOpen r.port r.tally r.batch.now r.closes r.start r.written r.flipped };
 }
@@ -45,7 +45,7 @@ impl<'b> OpenReservation<'b> {
     pub(crate) fn write_next(&mut self, ring: &Ring)
         requires ring { self.old.ring ≡ ring.now }
         requires left { self.old.written < reserved_length self.old.trail }
-        ensures { self.new ≡ wrote_one self.old }
+        ensures { record self.new { history = [] } ≡ wrote_one (record self.old { history = [] }) }
     {
         let raw = self.next_command();
         let slot = self.start.forward(self.written);
@@ -71,7 +71,7 @@ impl<'b> OpenReservation<'b> {
     pub(crate) fn flip_next(&mut self, ring: &Ring)
         requires ring { self.old.ring ≡ ring.now }
         requires left { self.old.flipped < self.old.written }
-        ensures { self.new ≡ flipped_one self.old }
+        ensures { record self.new { history = [] } ≡ flipped_one (record self.old { history = [] }) }
     {
         let slot = self.start.forward(self.flipped);
         self.port
@@ -83,7 +83,7 @@ impl<'b> OpenReservation<'b> {
     fn flip_run(&mut self, ring: &Ring)
         requires ring { self.old.ring ≡ ring.now }
         requires left { self.old.flipped < self.old.written }
-        ensures { self.new ≡ flipped_run self.old }
+        ensures { record self.new { history = [] } ≡ flipped_run (record self.old { history = [] }) }
     {
         let slot = self.start.forward(self.flipped);
         let count = shared_word(slot).min(self.written - self.flipped);
@@ -95,7 +95,7 @@ impl<'b> OpenReservation<'b> {
     /// Writes what is left.
     fn write_left(self, ring: &Ring) -> OpenReservation<'b>
         requires { self.ring ≡ ring.now }
-        ensures { result ≡ wrote_many (reserved_length self.entry.trail - self.entry.written) self.entry }
+        ensures { record result { history = [] } ≡ wrote_many (reserved_length self.entry.trail - self.entry.written) (record self.entry { history = [] }) }
     {
         let mut reservation = self;
         for done in 0..reservation.unwritten() {
@@ -107,7 +107,7 @@ impl<'b> OpenReservation<'b> {
     /// Flips what is written and not flipped, as far as it stands in one flag word.
     fn flip_left(&mut self, ring: &Ring)
         requires { self.old.ring ≡ ring.now }
-        ensures { self.new ≡ flipped_left self.old }
+        ensures { record self.new { history = [] } ≡ flipped_left (record self.old { history = [] }) }
     {
         if self.flipped < self.written {
             self.flip_run(ring);
@@ -117,7 +117,7 @@ impl<'b> OpenReservation<'b> {
     /// Writes and flips what is left, in order, and gives the sender back.
     pub(crate) fn publish(self, ring: &Ring) -> Sender
         requires { self.ring ≡ ring.now }
-        ensures sender { result ≡ sender_of (published self.entry) }
+        ensures sender { record result { history = [] } ≡ sender_of (published (record self.entry { history = [] })) }
         ensures settled { IsSettled result.trail }
         ensures ring { result.ring ≡ self.entry.ring }
         ensures id { result.number ≡ self.entry.sender }

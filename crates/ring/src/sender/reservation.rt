@@ -1,5 +1,5 @@
 //! A reservation of a batch that closes with a CMD_SYNC.
-ghost use Rattle.std.specs.Prelude.{◌≡◌, ◌+◌, ◌<◌, Some};
+ghost use Rattle.std.specs.Prelude.{◌≡◌, ◌+◌, ◌<◌, Some, []};
 ghost use Rattle.ringcore.specs.world.Trails.{reserved_length, IsSettled};
 ghost use Rattle.ring.specs.sender.Reservations.{IsWrittenUpTo, IsFlippedUpTo, IsReceiptOf};
 ghost use Rattle.ring.specs.sender.Publishing.{wrote_one, flipped_one, published, sender_of, ReservesNone};
@@ -31,7 +31,7 @@ impl<'b> Reservation<'b> {
     pub fn write_next(&mut self, ring: &Ring)
         requires ring { self.old.ring ≡ ring.now }
         requires left { self.old.written < reserved_length self.old.trail }
-        ensures { self.new ≡ wrote_one self.old }
+        ensures { record self.new { history = [] } ≡ wrote_one (record self.old { history = [] }) }
     {
         self.open.write_next(ring);
     }
@@ -40,7 +40,7 @@ impl<'b> Reservation<'b> {
     pub fn flip_next(&mut self, ring: &Ring)
         requires ring { self.old.ring ≡ ring.now }
         requires left { self.old.flipped < self.old.written }
-        ensures { self.new ≡ flipped_one self.old }
+        ensures { record self.new { history = [] } ≡ flipped_one (record self.old { history = [] }) }
     {
         self.open.flip_next(ring);
     }
@@ -64,7 +64,7 @@ impl<'b> Reservation<'b> {
     /// Writes and flips what is left, in order: the consumer may take the whole batch. The receipt names its CMD_SYNC.
     pub fn publish(self, ring: &Ring) -> (Sender, Receipt)
         requires { self.ring ≡ ring.now }
-        ensures sender { result.0 ≡ sender_of (published self.entry) }
+        ensures sender { record result.0 { history = [] } ≡ sender_of (published (record self.entry { history = [] })) }
         ensures settled { IsSettled result.0.trail }
         ensures ring { result.0.ring ≡ self.entry.ring }
         ensures id { result.0.number ≡ self.entry.sender }

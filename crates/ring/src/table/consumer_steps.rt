@@ -1,5 +1,5 @@
 //! The atomic steps of the consumer.
-ghost use Rattle.std.specs.Prelude.{◌≡◌, ◌∷◌, ◌+◌, ◌<◌, ◌≤◌, ◌^◌, ℕ, suc, length, take};
+ghost use Rattle.std.specs.Prelude.{◌≡◌, ◌∷◌, ◌+◌, ◌<◌, ◌≤◌, ◌^◌, ℕ, suc, length, take, []};
 ghost use Rattle.cmdcodec.specs.Opcodes.{is_sync};
 ghost use Rattle.qindex.specs.Positions.{size, index_of};
 ghost use Rattle.ringcore.specs.declared.world.event.Who.TheVariants.{Consumer};
@@ -65,7 +65,7 @@ impl Port {
         requires head { head ≡ index_of self.old.ring.made_with.geometry (taken_by self.old.trail) }
         requires some { 1 ≤ limit }
         requires most { limit ≤ 64 }
-        ensures trail { self.new ≡ record self.old { trail = Test limit result ∷ self.old.trail } }
+        ensures trail { record self.new { history = [] } ≡ record self.old { trail = Test limit result ∷ self.old.trail; history = [] } }
         ensures limit { result ≤ limit }
         ensures within { result ≤ size head.geometry }
     {
@@ -79,7 +79,7 @@ impl Port {
         requires some { 1 ≤ limit }
         requires most { limit ≤ 64 }
         requires intent { I.intent ≡ tests limit }
-        ensures trail { self.new ≡ record self.old { trail = Test limit result ∷ self.old.trail } }
+        ensures trail { record self.new { history = [] } ≡ record self.old { trail = Test limit result ∷ self.old.trail; history = [] } }
         ensures limit { result ≤ limit }
         ensures within { result ≤ size head.geometry }
     {
@@ -96,7 +96,7 @@ impl Port {
         requires who { self.old.who ≡ Consumer }
         requires slot { slot ≡ index_of self.old.ring.made_with.geometry (taken_by self.old.trail + offset) }
         requires ready { offset < found_ready self.old.trail }
-        ensures { self.new ≡ record self.old { trail = Read offset half result ∷ self.old.trail } }
+        ensures { record self.new { history = [] } ≡ record self.old { trail = Read offset half result ∷ self.old.trail; history = [] } }
     {
         self.read_for::<Brand>(ring, slot, offset, half)
     }
@@ -107,7 +107,7 @@ impl Port {
         requires slot { slot ≡ index_of self.old.ring.made_with.geometry (taken_by self.old.trail + offset) }
         requires ready { offset < found_ready self.old.trail }
         requires intent { I.intent ≡ reads offset half }
-        ensures { self.new ≡ record self.old { trail = Read offset half result ∷ self.old.trail } }
+        ensures { record self.new { history = [] } ≡ record self.old { trail = Read offset half result ∷ self.old.trail; history = [] } }
     {
         laws::read();
         laws::consumer_trail();
@@ -123,7 +123,7 @@ impl Port {
         requires may { MayAdvance self.old.trail (take count commands.now) }
         requires count { count ≤ length commands.now }
         requires few { count ≤ size head.geometry }
-        ensures { self.new ≡ record self.old { trail = Advance (take count commands.now) ∷ self.old.trail } }
+        ensures { record self.new { history = [] } ≡ record self.old { trail = Advance (take count commands.now) ∷ self.old.trail; history = [] } }
     {
         self.advance_for::<Brand>(ring, head, commands, count)
     }
@@ -142,7 +142,7 @@ impl Port {
         requires count { count ≤ length commands.now }
         requires few { count ≤ size head.geometry }
         requires intent { I.intent ≡ advances (take count commands.now) }
-        ensures { self.new ≡ record self.old { trail = Advance (take count commands.now) ∷ self.old.trail } }
+        ensures { record self.new { history = [] } ≡ record self.old { trail = Advance (take count commands.now) ∷ self.old.trail; history = [] } }
     {
         laws::advance();
         laws::consumer_trail();
@@ -159,7 +159,7 @@ impl Port {
         requires known { sender < ring.now.made_with.senders }
         requires next { number ≡ suc (acknowledged_by sender self.old.trail) }
         requires taken { number ≤ syncs_taken sender self.old.trail }
-        ensures { self.new ≡ record self.old { trail = Acknowledge sender number ∷ self.old.trail } }
+        ensures { record self.new { history = [] } ≡ record self.old { trail = Acknowledge sender number ∷ self.old.trail; history = [] } }
     {
         self.acknowledge_for::<Brand>(ring, sender, number)
     }
@@ -171,7 +171,7 @@ impl Port {
         requires next { number ≡ suc (acknowledged_by sender self.old.trail) }
         requires taken { number ≤ syncs_taken sender self.old.trail }
         requires intent { I.intent ≡ acknowledges sender number }
-        ensures { self.new ≡ record self.old { trail = Acknowledge sender number ∷ self.old.trail } }
+        ensures { record self.new { history = [] } ≡ record self.old { trail = Acknowledge sender number ∷ self.old.trail; history = [] } }
     {
         laws::acknowledge();
         laws::consumer_trail();
@@ -190,7 +190,7 @@ impl Port {
         requires who { self.old.who ≡ Consumer }
         requires count { count ≤ length commands.now }
         requires advanced { HasAdvanced self.old.trail (take count commands.now) }
-        ensures trail { self.new ≡ record self.old { trail = all_acknowledged (take count commands.now) self.old.trail } }
+        ensures trail { record self.new { history = [] } ≡ record self.old { trail = all_acknowledged (take count commands.now) self.old.trail; history = [] } }
         ensures current { (s : ℕ) → acknowledged_by s self.new.trail ≡ syncs_taken s self.new.trail }
     {
         self.syncs_in_order();

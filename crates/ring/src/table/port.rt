@@ -1,14 +1,15 @@
 //! A seat that stands for one participant alone, and the atomic steps that it may take.
-ghost use Rattle.std.specs.Prelude.{◌≡◌, ◌∷◌, ◌<◌, ◌≤◌, ◌^◌, ℕ, Some, slice_get};
+ghost use Rattle.std.specs.Prelude.{◌≡◌, ◌∷◌, ◌<◌, ◌≤◌, ◌^◌, ℕ, Some, slice_get, []};
 ghost use Rattle.qindex.specs.Positions.{size, index_of};
 ghost use Rattle.qindex.specs.ControlWord.{IsControl};
 ghost use Rattle.ringcore.specs.declared.world.event.Who.TheVariants.{Sender};
 ghost use Rattle.ringcore.specs.declared.world.event.Event.TheVariants.{Look, Write, Flip, Close, Ask};
-ghost use Rattle.ringcore.specs.world.World.{half_of};
+ghost use Rattle.ringcore.specs.world.World.{half_of, world, control as control_of};
 ghost use Rattle.ringcore.specs.world.Allowed.{MayTry, MayWrite, ShareAWord, length_with};
 ghost use Rattle.ringcore.specs.memory.StepLaws.{reserved_commands};
 ghost use Rattle.ring.specs.table.Intents.{reserves, writes, flips};
 ghost use Rattle.ring.specs.table.Rule.{StandsInARun};
+ghost use Rattle.ring.specs.table.Histories.{IsHistory, GrewBy};
 ghost use Rattle.ring.specs.table.Ports.{PortValue, SitsFor, IsWonOrLost, IsSlotAt, MayFlipAt};
 
 use crate::ring::Ring;
@@ -43,14 +44,15 @@ impl Model for Port {
 impl Port {
     /// Its trail stands in some run of the ring.
     pub(crate) fn trail_stands_in_a_run(&self)
-        ensures { StandsInARun self.now.ring.made_with self.now.who self.now.trail }
+        ensures trail { StandsInARun self.now.ring.made_with self.now.who self.now.trail }
+        ensures history { IsHistory self.now.ring.made_with self.now.who self.now.trail self.now.history }
     {
         let _ = &self.seat;
     }
 
     /// The seat by itself.
     pub(crate) fn into_seat(self) -> Seat<(), Participants>
-        ensures { SitsFor result.table_id result.me self.ring self.who self.trail }
+        ensures { SitsFor result.table_id result.me self.ring self.who self.trail self.history }
     {
         let Port { seat } = self;
         seat
@@ -59,8 +61,10 @@ impl Port {
     /// A load of the control word.
     pub(crate) fn look(&mut self, ring: &Ring) -> Control
         requires { self.old.ring ≡ ring.now }
-        ensures trail { self.new ≡ record self.old { trail = Look result ∷ self.old.trail } }
+        ensures trail { record self.new { history = [] } ≡ record self.old { trail = Look result ∷ self.old.trail; history = [] } }
         ensures control { IsControl self.old.ring.made_with.geometry result }
+        ensures history { GrewBy self.old.who (Look result) self.old.history self.new.history }
+        ensures current { result ≡ control_of self.old.ring.made_with.geometry (world self.new.history) }
     {
         laws::look();
         let words = &ring.table.shared;
@@ -72,7 +76,7 @@ impl Port {
     pub(crate) fn close(&mut self, ring: &Ring, sender: u32)
         requires ring { self.old.ring ≡ ring.now }
         requires who { self.old.who ≡ Sender sender }
-        ensures { self.new ≡ record self.old { trail = Close ∷ self.old.trail } }
+        ensures { record self.new { history = [] } ≡ record self.old { trail = Close ∷ self.old.trail; history = [] } }
     {
         laws::close();
         let words = &ring.table.shared;
@@ -150,7 +154,7 @@ impl Port {
         requires raw { slice_get (reserved_commands sender self.old.trail) offset ≡ Some raw }
         requires geometry { slot.geometry ≡ self.old.ring.made_with.geometry }
         requires slot { IsSlotAt self.old slot offset }
-        ensures { self.new ≡ record self.old { trail = Write offset half ∷ self.old.trail } }
+        ensures { record self.new { history = [] } ≡ record self.old { trail = Write offset half ∷ self.old.trail; history = [] } }
     {
         self.write_for::<Brand>(ring, sender, slot, offset, half, raw)
     }
@@ -171,7 +175,7 @@ impl Port {
         requires geometry { slot.geometry ≡ self.old.ring.made_with.geometry }
         requires slot { IsSlotAt self.old slot offset }
         requires intent { I.intent ≡ writes offset half }
-        ensures { self.new ≡ record self.old { trail = Write offset half ∷ self.old.trail } }
+        ensures { record self.new { history = [] } ≡ record self.old { trail = Write offset half ∷ self.old.trail; history = [] } }
     {
         laws::write();
         laws::start();
@@ -190,7 +194,7 @@ impl Port {
         requires within { count ≤ size slot.geometry }
         requires share { ShareAWord 64 slot.geometry slot.number count }
         requires share_at_position { (geometry position : ℕ) → slot ≡ index_of geometry position → ShareAWord 64 geometry position count }
-        ensures { self.new ≡ record self.old { trail = Flip offset count ∷ self.old.trail } }
+        ensures { record self.new { history = [] } ≡ record self.old { trail = Flip offset count ∷ self.old.trail; history = [] } }
     {
         self.flip_for::<Brand>(ring, sender, slot, offset, count)
     }
@@ -212,7 +216,7 @@ impl Port {
         requires share { ShareAWord 64 slot.geometry slot.number count }
         requires share_at_position { (geometry position : ℕ) → slot ≡ index_of geometry position → ShareAWord 64 geometry position count }
         requires intent { I.intent ≡ flips offset count }
-        ensures { self.new ≡ record self.old { trail = Flip offset count ∷ self.old.trail } }
+        ensures { record self.new { history = [] } ≡ record self.old { trail = Flip offset count ∷ self.old.trail; history = [] } }
     {
         laws::flip();
         laws::start();
@@ -224,7 +228,8 @@ impl Port {
     pub(crate) fn ask(&mut self, ring: &Ring, sender: u32) -> u32
         requires ring { self.old.ring ≡ ring.now }
         requires who { self.old.who ≡ Sender sender }
-        ensures { self.new ≡ record self.old { trail = Ask result ∷ self.old.trail } }
+        ensures trail { record self.new { history = [] } ≡ record self.old { trail = Ask result ∷ self.old.trail; history = [] } }
+        ensures history { GrewBy self.old.who (Ask result) self.old.history self.new.history }
     {
         self.load_cell(ring, sender) as u32
     }
@@ -232,7 +237,8 @@ impl Port {
     fn load_cell(&mut self, ring: &Ring, sender: u32) -> u64
         requires ring { self.old.ring ≡ ring.now }
         requires who { self.old.who ≡ Sender sender }
-        ensures trail { self.new ≡ record self.old { trail = Ask result ∷ self.old.trail } }
+        ensures trail { record self.new { history = [] } ≡ record self.old { trail = Ask result ∷ self.old.trail; history = [] } }
+        ensures history { GrewBy self.old.who (Ask result) self.old.history self.new.history }
         ensures few { result < 2 ^ 32 }
     {
         laws::ask();

@@ -1,4 +1,6 @@
 //! What a seat knows, and the rule of the table.
+ghost use Rattle.ring.specs.table.OneRun.{IsOneRun};
+
 use atomic_table::TableRule;
 use qindex::Geometry;
 use ringcore::{Event, Who};
@@ -30,6 +32,8 @@ pub struct Participant {
     pub(crate) ring: Parameters,
     pub(crate) who: Who,
     pub(crate) trail: LinkedList<Event>,
+    /// The run up to its newest step, as it was then.
+    pub(crate) history: LinkedList<(Who, Event)>,
 }
 
 /// All for whom a seat stands.
@@ -45,3 +49,9 @@ impl TableRule<(), Participants, Parameters> for RingRule {
 
     ghost first = { λ ring. first_participants ring };
 }
+
+/// The run that the rule speaks of is one, and grows at its end alone: by the event of the seat that steps. It does
+/// nothing.
+pub fn run_is_one()
+    ensures { IsOneRun }
+{}

@@ -42,5 +42,5 @@ loop-number-preserved c =
       len = search rules;
       room = search rules;
       items = c.push_reserved.ensures.items ∙ pushed (record { table = c.args.words.now.table_id; made_with = key }) c.loop-number.number _ _ i.items
-          ((λ i. let s : SenderValue = record { ring = (one i).ring; number = (c.new.ensures i).sender; trail = (one i).trail } in s) ∙ ap (λ (t : TableId). new_sender (record { table = t; made_with = key }) c.loop-number.number) ours);
+          ((λ i. let s : SenderValue = record { ring = (one i).ring; number = (c.new.ensures i).sender; trail = (one i).trail; history = (one i).history } in s) ∙ ap (λ (t : TableId). new_sender (record { table = t; made_with = key }) c.loop-number.number) ours);
     }

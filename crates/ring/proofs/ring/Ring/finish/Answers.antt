@@ -36,13 +36,13 @@ ended g c =
     let key_is : c.self.inside.table.shared.key ≡ c.args.self.made_with = c.self.invariant.key_is ∙ ap (λ (r : RingValue). r.made_with) c.self.view_is in
     subst (λ (r : Ring). Final (Seen (RuleHolds r) c.loop-sender.seat.id c.loop-sender.seat.me.0) (slots_items c.close_with-closed.result.words) (slots_items c.close_with-closed.result.slots)) key_is c.close_with-closed.ensures.values.2
 
-all_joined : (g : Over) (c : goal.After-unpack g) → c.loop-sender.seat.me.0 ≡ all_in c.args.self.made_with c.args.consumer.trail c.args.senders.items
+all_joined : (g : Over) (c : goal.After-unpack g) → c.loop-sender.seat.me.0 ≡ all_in c.args.self.made_with c.args.consumer.trail c.args.consumer.history c.args.senders.items
 all_joined g c =
     let i = c.loop-sender.invariant in
     let none : c.loop-sender.senders.items ≡ [] = empty c.loop-sender.senders.items (search rules) in
     let all : c.args.senders.items ≡ i.gathered.0 = i.gathered.1 ∙ ap (λ (l : List SenderValue). l ++ i.gathered.0) none in
     let ours : c.args.consumer.ring ≡ c.args.self = c.requires.consumer in
-    ap (λ (m : Holding). m.0) i.gathered.2 ∙ (λ k. all_in (ours k).made_with c.args.consumer.trail (sym all k))
+    ap (λ (m : Holding). m.0) i.gathered.2 ∙ (λ k. all_in (ours k).made_with c.args.consumer.trail c.args.consumer.history (sym all k))
 
 same_geometry : (g : Over) (c : goal.After-unpack g) → c.made_with.inside.geometry ≡ c.args.self.made_with.geometry
 same_geometry g c = ap (λ (r : Ring). r.geometry) (c.made_with.view_is ∙ ap (λ (r : RingValue). r.made_with) c.self.view_is)

@@ -6,7 +6,7 @@ use Rattle.ring.proofs.ring.Ring.finish.Given as goal
 abbrev pub invariant-loop-sender : goal.invariant-loop-sender
 invariant-loop-sender g l = record {
   table : l.seat.table_id ≡ l.initial.seat.table_id;
-  gathered : (done : List SenderValue) × (l.fn.senders.items ≡ l.senders.items ++ done) × (l.seat.me ≡ (all_in l.fn.consumer.ring.made_with l.fn.consumer.trail done, []));
+  gathered : (done : List SenderValue) × (l.fn.senders.items ≡ l.senders.items ++ done) × (l.seat.me ≡ (all_in l.fn.consumer.ring.made_with l.fn.consumer.trail l.fn.consumer.history done, []));
 }
 
 abbrev pub decreases-loop-sender : goal.decreases-loop-sender

@@ -20,4 +20,4 @@ invariant_of-consumer g c =
     let limits : IsWithinLimits key = record { senders = c.requires.senders; batches = c.ranges.max_batches.fits } in
     let key_is : c.in_ok-table.table.shared.key ≡ key = search rules in
     let is : c.in_ok-all.seat.me ≡ (participants_from c.in_ok-table.table.shared.key c.args.senders 0, []) = search rules in
-    fresh c.begin.ensures key Consumer _ limits c.requires.geometry refl tt (is ∙ ap (λ (r : Ring). let m : Holding = (participant r Consumer [] ∷ [], []) in m) key_is)
+    fresh c.begin.ensures key Consumer _ limits c.requires.geometry refl tt (is ∙ ap (λ (r : Ring). let m : Holding = (participant r Consumer [] [] ∷ [], []) in m) key_is)

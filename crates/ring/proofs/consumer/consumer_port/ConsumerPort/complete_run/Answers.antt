@@ -1,4 +1,4 @@
-use Rattle.std.proofs.Common.{◌≡◌, ◌+◌, ℕ, List, take, refl, sym, ap, ◌∙◌, subst, length-take-le}
+use Rattle.std.proofs.Common.{[], ◌≡◌, ◌+◌, ℕ, List, take, refl, sym, ap, ◌∙◌, subst, length-take-le}
 use Rattle.cmdcodec.specs.declared.raw.Raw.{Raw}
 use Rattle.ring.specs.table.Ports.{PortValue}
 use Rattle.ring.specs.consumer.Consumers.{IsConsumer}
@@ -10,7 +10,7 @@ pub invariant_of-result : goal.invariant_of-result
 invariant_of-result c =
     let raws : List Raw = take c.args.count c.args.commands.now in
     let old : PortValue = c.self.inside.port in
-    let new_is : c.acknowledge_run.new.self ≡ record old { trail = completed_trail raws old.trail } =
+    let new_is : record c.acknowledge_run.new.self { history = [] } ≡ record old { trail = completed_trail raws old.trail; history = [] } =
     c.acknowledge_run.ensures.trail ∙ ap (λ (p : PortValue). let q : PortValue = record p { trail = all_acknowledged raws p.trail } in q) c.advance.ensures in
     let further = c.forward.ensures.position _ _ c.self.invariant.head_is in
     subst (λ (n : ℕ). IsConsumer c.acknowledge_run.new.self c.forward.result (c.self.inside.taken + n)) (sym c.from.ensures)

@@ -1,4 +1,4 @@
-use Rattle.std.proofs.Common.{◌≡◌, ℕ, length, Some}
+use Rattle.std.proofs.Common.{[], ◌≡◌, ℕ, length, Some}
 use Rattle.std.specs.Prelude.{slice_get}
 use Rattle.cmdcodec.specs.declared.raw.Raw.{Raw}
 use Rattle.ringcore.specs.declared.world.event.Half.{Half}
@@ -10,7 +10,7 @@ use Rattle.ring.proofs.consumer.consumer_port.ConsumerPort.read_run.Given as goa
 abbrev pub invariant-loop-offset : goal.invariant-loop-offset
 invariant-loop-offset l = record {
   many : length l.commands ≡ l.offset;
-  port : l.self ≡ record l.fn.self { trail = reads_from 0 l.commands l.fn.self.trail };
+  port : record l.self { history = [] } ≡ record l.fn.self { trail = reads_from 0 l.commands l.fn.self.trail; history = [] };
   ready : found_ready l.self.trail ≡ found_ready l.fn.self.trail;
   read : (k : ℕ) (raw : Raw) (half : Half) → slice_get l.commands k ≡ Some raw → half_read k half l.self.trail ≡ Some (half_of half raw);
 }

@@ -1,4 +1,4 @@
-use Rattle.std.proofs.Common.{◌≡◌, ◌+◌, ◌-◌, ap, sym, subst, arith, ◌∙◌}
+use Rattle.std.proofs.Common.{[], ◌≡◌, ◌+◌, ◌-◌, ap, sym, subst, arith, ◌∙◌}
 use Rattle.qindex.specs.Positions.{size}
 use Rattle.ringcore.specs.world.Trails.{Trail, reserved_length}
 use Rattle.ring.specs.sender.Senders.{SenderValue}
@@ -9,16 +9,16 @@ use Rattle.ring.proofs.sender.open_reservation.OpenReservation.publish.Goals as 
 use Rattle.ring.specs.sender.Publishing.{flipped_left, ReservesNone}
 
 pub flip_left-requires : goal.flip_left-requires
-flip_left-requires c = ap (λ (r : ReservationValue). r.ring) c.write_left-reservation.ensures ∙ (wrote_is (reserved_length c.args.self.trail - c.args.self.written) c.args.self).ring_is ∙ c.requires
+flip_left-requires c = ap (λ (r : ReservationValue). r.ring) c.write_left-reservation.ensures ∙ (wrote_is (reserved_length c.args.self.trail - c.args.self.written) (record c.args.self { history = [] })).ring_is ∙ c.requires
 
 pub flip_left-requires-2 : goal.flip_left-requires-2
 flip_left-requires-2 c =
-    ap (λ (r : ReservationValue). r.ring) c.flip_left.ensures ∙ (left_is c.write_left-reservation.result).ring_is
-    ∙ ap (λ (r : ReservationValue). r.ring) c.write_left-reservation.ensures ∙ (wrote_is (reserved_length c.args.self.trail - c.args.self.written) c.args.self).ring_is ∙ c.requires
+    ap (λ (r : ReservationValue). r.ring) c.flip_left.ensures ∙ (left_is (record c.write_left-reservation.result { history = [] })).ring_is
+    ∙ ap (λ (r : ReservationValue). r.ring) c.write_left-reservation.ensures ∙ (wrote_is (reserved_length c.args.self.trail - c.args.self.written) (record c.args.self { history = [] })).ring_is ∙ c.requires
 
 pub into_sender-requires : goal.into_sender-requires
 into_sender-requires c =
-    let s : ReservationValue = c.args.self in let r : ReservationValue = c.write_left-reservation.result in
+    let s : ReservationValue = record c.args.self { history = [] } in let r : ReservationValue = record c.write_left-reservation.result { history = [] } in
     let f = wrote_is (reserved_length s.trail - s.written) s in
     let e = c.write_left-reservation.ensures in
     let len = c.len.ensures.value in let few = c.len.ensures.few in let fits = c.len.ensures.fits in let within = c.len.ensures.within in let behind = c.len.ensures.behind in
@@ -33,13 +33,13 @@ pub returns-clause-ring : goal.returns-clause-ring
 returns-clause-ring c =
     ap (λ (s : SenderValue). s.ring) c.into_sender.ensures.sender
     ∙ ap (λ (r : ReservationValue). r.ring) (c.flip_left-2.ensures ∙ ap flipped_left (c.flip_left.ensures ∙ ap flipped_left c.write_left-reservation.ensures))
-    ∙ published_ring c.args.self
+    ∙ published_ring (record c.args.self { history = [] })
 
 pub returns-clause-id : goal.returns-clause-id
 returns-clause-id c =
     ap (λ (s : SenderValue). s.number) c.into_sender.ensures.sender
     ∙ ap (λ (r : ReservationValue). r.sender) (c.flip_left-2.ensures ∙ ap flipped_left (c.flip_left.ensures ∙ ap flipped_left c.write_left-reservation.ensures))
-    ∙ published_sender c.args.self
+    ∙ published_sender (record c.args.self { history = [] })
 
 pub returns-clause-batches : goal.returns-clause-batches
 returns-clause-batches c =
@@ -47,4 +47,4 @@ returns-clause-batches c =
     (sym
     (ap (λ (s : SenderValue). s.trail) c.into_sender.ensures.sender
     ∙ ap (λ (r : ReservationValue). r.trail) (c.flip_left-2.ensures ∙ ap flipped_left (c.flip_left.ensures ∙ ap flipped_left c.write_left-reservation.ensures))))
-    (published_none c.args.self)
+    (published_none (record c.args.self { history = [] }))

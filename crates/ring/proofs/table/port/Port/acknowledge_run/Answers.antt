@@ -1,4 +1,4 @@
-use Rattle.std.proofs.Common.{arith, ◌≡◌, ◌<◌, ◌≤◌, ℕ, suc, ◌∷◌, sym, ap, subst, ◌∙◌}
+use Rattle.std.proofs.Common.{[], arith, ◌≡◌, ◌<◌, ◌≤◌, ℕ, suc, ◌∷◌, sym, ap, subst, ◌∙◌}
 use Rattle.ringcore.specs.declared.world.event.Event.TheVariants.{Acknowledge}
 use Rattle.ringcore.specs.world.Trails.{acknowledged_by}
 use Rattle.ringcore.specs.world.Laws.{syncs_taken}
@@ -10,21 +10,21 @@ use Rattle.ring.proofs.table.port.Port.acknowledge_run.Goals as goal
 
 pub closing_sender-requires : goal.closing_sender-requires
 closing_sender-requires c =
-    is_closing _ _ _ c.requires.advanced c.counts_law.ensures.sum c.consumer_trail.ensures.syncs c.counts_law.ensures.words _ c.syncs_in_order.ensures.limits.senders (c.syncs_in_order.ensures.order c.requires.who)
+    is_closing c.args.self.now _ _ c.requires.advanced c.counts_law.ensures.sum c.consumer_trail.ensures.syncs c.counts_law.ensures.words _ c.syncs_in_order.ensures.limits.senders (c.syncs_in_order.ensures.order c.requires.who)
     c.loop-place.self c.loop-place.place c.unwrap-raw.result c.loop-place-test.true (sym c.get.ensures ∙ c.unwrap-raw.ensures) c.loop-place.invariant.trail c.loop-place.invariant.acks
     (sym c.is_sync.ensures ∙ c.if-is_sync.true)
 
 pub acknowledge-requires-clause-known : goal.acknowledge-requires-clause-known
 acknowledge-requires-clause-known c =
     subst (λ (t : ℕ × RingValue). t.0 < t.1.made_with.senders) (λ k. (sym c.closing_sender.ensures k, c.requires.ring k))
-    (is_known _ _ _ c.requires.advanced c.counts_law.ensures.sum c.consumer_trail.ensures.syncs c.counts_law.ensures.words _ c.syncs_in_order.ensures.limits.senders (c.syncs_in_order.ensures.order c.requires.who)
+    (is_known c.args.self.now _ _ c.requires.advanced c.counts_law.ensures.sum c.consumer_trail.ensures.syncs c.counts_law.ensures.words _ c.syncs_in_order.ensures.limits.senders (c.syncs_in_order.ensures.order c.requires.who)
     c.loop-place.self c.loop-place.place c.unwrap-raw.result c.loop-place-test.true (sym c.get.ensures ∙ c.unwrap-raw.ensures) c.loop-place.invariant.trail c.loop-place.invariant.acks
     (sym c.is_sync.ensures ∙ c.if-is_sync.true))
 
 pub acknowledge-requires-clause-next : goal.acknowledge-requires-clause-next
 acknowledge-requires-clause-next c =
     c.closing_number.ensures
-    ∙ is_next _ _ _ c.requires.advanced c.counts_law.ensures.sum c.consumer_trail.ensures.syncs c.counts_law.ensures.words _ c.syncs_in_order.ensures.limits.senders (c.syncs_in_order.ensures.order c.requires.who)
+    ∙ is_next c.args.self.now _ _ c.requires.advanced c.counts_law.ensures.sum c.consumer_trail.ensures.syncs c.counts_law.ensures.words _ c.syncs_in_order.ensures.limits.senders (c.syncs_in_order.ensures.order c.requires.who)
     c.loop-place.self c.loop-place.place c.unwrap-raw.result c.loop-place-test.true (sym c.get.ensures ∙ c.unwrap-raw.ensures) c.loop-place.invariant.trail c.loop-place.invariant.acks
     (sym c.is_sync.ensures ∙ c.if-is_sync.true)
     ∙ ap (λ (s : ℕ). suc (acknowledged_by s c.loop-place.self.trail)) (sym c.closing_sender.ensures)
@@ -32,7 +32,7 @@ acknowledge-requires-clause-next c =
 pub acknowledge-requires-clause-taken : goal.acknowledge-requires-clause-taken
 acknowledge-requires-clause-taken c =
     subst (λ (t : ℕ × ℕ). t.0 ≤ syncs_taken t.1 c.loop-place.self.trail) (λ k. (sym c.closing_number.ensures k, sym c.closing_sender.ensures k))
-    (is_taken _ _ _ c.requires.advanced c.counts_law.ensures.sum c.consumer_trail.ensures.syncs c.counts_law.ensures.words _ c.syncs_in_order.ensures.limits.senders (c.syncs_in_order.ensures.order c.requires.who)
+    (is_taken c.args.self.now _ _ c.requires.advanced c.counts_law.ensures.sum c.consumer_trail.ensures.syncs c.counts_law.ensures.words _ c.syncs_in_order.ensures.limits.senders (c.syncs_in_order.ensures.order c.requires.who)
     c.loop-place.self c.loop-place.place c.unwrap-raw.result c.loop-place-test.true (sym c.get.ensures ∙ c.unwrap-raw.ensures) c.loop-place.invariant.trail c.loop-place.invariant.acks
     (sym c.is_sync.ensures ∙ c.if-is_sync.true))
 
@@ -42,12 +42,13 @@ loop-place-preserved c =
     let at = sym c.get.ensures ∙ c.unwrap-raw.ensures in
     elim c.if-is_sync.branch [
       | then-is_sync w ↦
-          let its = then_after _ _ _ c.requires.advanced c.counts_law.ensures.sum c.consumer_trail.ensures.syncs c.counts_law.ensures.words _ c.syncs_in_order.ensures.limits.senders order
+          let its = then_after c.args.self.now _ _ c.requires.advanced c.counts_law.ensures.sum c.consumer_trail.ensures.syncs c.counts_law.ensures.words _ c.syncs_in_order.ensures.limits.senders order
           c.loop-place.self c.loop-place.place c.unwrap-raw.result c.loop-place-test.true at c.loop-place.invariant.trail c.loop-place.invariant.acks (sym c.is_sync.ensures ∙ w.if-is_sync.true) c.if-is_sync.self
-          (w.self-is ∙ w.acknowledge.ensures ∙ (λ k. let q : PortValue = record c.loop-place.self { trail = Acknowledge (w.closing_sender.ensures k) (w.closing_number.ensures k) ∷ c.loop-place.self.trail } in q)) in
+          (ap (λ (p : PortValue). let q : PortValue = record p { history = [] } in q) w.self-is ∙ w.acknowledge.ensures
+          ∙ (λ k. let q : PortValue = record c.loop-place.self { trail = Acknowledge (w.closing_sender.ensures k) (w.closing_number.ensures k) ∷ c.loop-place.self.trail; history = [] } in q)) in
           record { trail = its.0; acks = its.1 }
       | else-is_sync w ↦
-          let its = else_after _ _ _ c.requires.advanced c.counts_law.ensures.sum c.consumer_trail.ensures.syncs c.counts_law.ensures.words _ c.syncs_in_order.ensures.limits.senders order
+          let its = else_after c.args.self.now _ _ c.requires.advanced c.counts_law.ensures.sum c.consumer_trail.ensures.syncs c.counts_law.ensures.words _ c.syncs_in_order.ensures.limits.senders order
           c.loop-place.self c.loop-place.place c.unwrap-raw.result c.loop-place-test.true at c.loop-place.invariant.trail c.loop-place.invariant.acks (sym c.is_sync.ensures ∙ w.if-is_sync.false) c.if-is_sync.self w.self-is in
           record { trail = its.0; acks = its.1 }
     ]
@@ -55,4 +56,4 @@ loop-place-preserved c =
 pub returns-clause-current : goal.returns-clause-current
 returns-clause-current c =
     let end : c.loop-place.place ≡ c.args.count = (let a = c.loop-place-test.false in let b = c.loop-place.auto.place-end in omega (arith, a, b)) in
-    all_are _ _ _ c.requires.advanced _ _ end c.loop-place.invariant.trail c.loop-place.invariant.acks
+    all_are c.args.self.now _ _ c.requires.advanced c.loop-place.self _ end c.loop-place.invariant.trail c.loop-place.invariant.acks

@@ -1,4 +1,4 @@
-use Rattle.std.proofs.Common.{◌≡◌, ◌+◌, ℕ, take}
+use Rattle.std.proofs.Common.{◌≡◌, [], ◌+◌, ℕ, take}
 use Rattle.ringcore.specs.world.Trails.{acknowledged_by}
 use Rattle.ringcore.specs.world.Laws.{syncs_taken, syncs_in}
 use Rattle.ring.specs.consumer.Completing.{all_acknowledged, without_newest}
@@ -6,6 +6,6 @@ use Rattle.ring.proofs.table.port.Port.acknowledge_run.Given as goal
 
 abbrev pub invariant-loop-place : goal.invariant-loop-place
 invariant-loop-place l = record {
-  trail : l.self ≡ record l.fn.self { trail = all_acknowledged (take l.place l.commands) l.fn.self.trail };
+  trail : record l.self { history = [] } ≡ record l.fn.self { trail = all_acknowledged (take l.place l.commands) l.fn.self.trail; history = [] };
   acks : (s : ℕ) → acknowledged_by s l.self.trail ≡ syncs_taken s (without_newest l.fn.self.trail) + syncs_in s (take l.place l.commands);
 }

@@ -8,4 +8,4 @@ pub returns-clause-order : goal.returns-clause-order
 returns-clause-order c = syncs_are_in_order c.consumer_trail.ensures.order _ _ _ c.self.view_is c.self.invariant
 
 pub returns-clause-limits : goal.returns-clause-limits
-returns-clause-limits c = subst (λ (q : PortValue). IsWithinLimits q.ring.made_with) c.self.view_is c.self.invariant.stands.stands.limits
+returns-clause-limits c = subst (λ (q : PortValue). IsWithinLimits q.ring.made_with) c.self.view_is c.self.invariant.stands.limits

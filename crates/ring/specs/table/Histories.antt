@@ -1,0 +1,29 @@
+-- What a participant knows of the run: as it was up to its newest step.
+use Rattle.std.specs.Prelude.{◌≡◌, ℕ, ◌≤◌, List, ◌∷◌}
+use Rattle.ringcore.specs.declared.world.event.Who.{Who}
+use Rattle.ringcore.specs.declared.world.event.Event.{Event}
+use Rattle.ringcore.specs.world.Trails.{Trail, Run}
+use Rattle.ringcore.specs.world.World.{World, head, tail, control}
+use Rattle.ringcore.specs.world.Allowed.{Ring}
+use Rattle.ringcore.specs.world.Laws.{IsApplied}
+use Rattle.ring.specs.table.Rule.{WentOn, Stands}
+
+-- The trail is that of this run, after which the words stood by the rule.
+pub record IsHistory (ring : Ring) (who : Who) (trail : Trail) (run : Run) : Type 0 where
+  pub words : List ℕ
+  pub stands : Stands ring who trail run words
+
+-- The run grew by this event, which is the last, and since the older run the only one of this participant.
+pub record GrewBy (who : Who) (e : Event) (older run : Run) : Type 0 where
+  pub before : Run
+  pub went_on : WentOn who older before
+  pub run_is : run ≡ (who, e) ∷ before
+
+-- In this run all of a sender's numbers up to this one are done: each such closing sync, and all that was reserved
+-- ahead of it, was taken and applied.
+abbrev pub AreApplied : Run → ℕ → ℕ → Type 0
+AreApplied run s told = (number : ℕ) → 1 ≤ number → number ≤ told → IsApplied run s number
+
+-- Where prod and cons stand at one place, all that is reserved is taken.
+abbrev pub EndsTellAll : ℕ → World → Type 0
+EndsTellAll geometry w = (control geometry w).prod.number ≡ (control geometry w).cons.number → head w ≡ tail w

@@ -1,0 +1,21 @@
+-- The run that the rule speaks of is one, and grows at its end alone.
+use Rattle.std.specs.Prelude.{◌≡◌, ◌≢◌, ℕ, [], ◌∷◌}
+use mathlib.Core.Option.{some}
+use lib.ListN.{get_elem?}
+use Rattle.ringcore.specs.declared.world.event.Who.{Who}
+use Rattle.ringcore.specs.declared.world.event.Event.{Event}
+use Rattle.ringcore.specs.world.Trails.{Trail, Run}
+use Rattle.ringcore.specs.world.Allowed.{Ring}
+use Rattle.ring.specs.table.Rule.{TableState, participant, RuleHolds}
+
+-- Whatever step a seat of one participant takes by which its trail grows by an event, and which leaves the other views:
+-- the event comes to the end of the run, and else the run stays as it was. So it is allowed, and finds what it says, in
+-- the world as it was at the step.
+abbrev pub IsOneRun : Type 0
+IsOneRun =
+    (ring : Ring) (s t : TableState) (before : RuleHolds ring s) (now : RuleHolds ring t)
+    (id : ℕ) (z : Ring) (who : Who) (trail : Trail) (e : Event) (older newer : Run)
+    → get_elem? s.views id ≡ some (participant z who trail older ∷ [])
+    → get_elem? t.views id ≡ some (participant z who (e ∷ trail) newer ∷ [])
+    → ((j : ℕ) → j ≢ id → get_elem? t.views j ≡ get_elem? s.views j)
+    → now.run ≡ (who, e) ∷ before.run
