@@ -7,7 +7,7 @@ use Rattle.cmdcodec.specs.Legality.{first_ill}
 use Rattle.ringcore.specs.declared.world.event.Event.TheVariants.{Advance, Ask}
 use Rattle.ringcore.specs.declared.world.event.Outcome.TheVariants.{Applied}
 use Rattle.ringcore.specs.world.Trails.{Run, Trail, raws_by}
-use Rattle.ringcore.specs.declared.world.event.Who.TheVariants.{Sender}
+use Rattle.ringcore.specs.declared.world.event.Who.TheVariants.{Consumer, Sender}
 use Rattle.ringcore.specs.world.World.{Taken, taken_as, outcome_of, world}
 use Rattle.ringcore.specs.world.Delivery.{advanced, Begins}
 use Rattle.ringcore.specs.world.Laws.{EveryRun}
@@ -16,11 +16,13 @@ use Rattle.caches.specs.Held.{Entries}
 use Rattle.ring.specs.Rings.{RingValue}
 use Rattle.ring.specs.sender.Senders.{SenderValue}
 use Rattle.ring.specs.consumer.Completing.{taken_of}
-use Rattle.ring.specs.Finishing.{SummaryValue, IsEnd, WasTold}
+use Rattle.ringcore.specs.world.Allowed.{Ring}
+use Rattle.ring.specs.table.Histories.{IsHistory}
+use Rattle.ring.specs.Finishing.{SummaryValue, IsEnd, WasTold, WasToldAll}
 use Rattle.engine.specs.Settled.{HasCovered, IsSettled}
 use Rattle.engine.specs.Counting.{CountsValue, taken, AreCountsOf}
 use Rattle.engine.specs.Engines.{EngineValue}
-use Rattle.engine.specs.Ends.{NoneIsOlder, reserved_ahead, WasToldTruly, IsEngineEnd}
+use Rattle.engine.specs.Ends.{NoneIsOlder, reserved_ahead, WasToldTruly, WasToldAllTruly, IsEngineEnd}
 
 -- What was taken earlier is a beginning of what is taken now.
 begins_later : (later earlier : Run) → Begins (advanced earlier) (advanced (later ++ earlier))
@@ -90,3 +92,16 @@ ends ring senders engine end counts entries advances outcomes is settled many co
 
     outcomes_now : (world is.run).taken ≡ map taken_as (advanced is.run)
     outcomes_now = outcomes ring.made_with is.run is.run_of.run_is ∙ ap (map taken_as) (sym (advances ring.made_with is.run is.run_of.run_is))
+
+-- While the ring runs: of a run that has the steps of the consumer.
+module _ (advances : EveryRun TellsWhatIsAdvanced) (outcomes : EveryRun TellsTheOutcomes) (ring : Ring) (run : Run) (trail : Trail) (entries : Entries)
+    (is : IsHistory ring Consumer trail run) (settled : IsSettled entries (taken_of trail)) where
+  taken_is : (world run).taken ≡ taken_of trail
+  taken_is = outcomes ring run is.stands.after.run_is ∙ ap taken_of is.stands.trail_is
+
+  pub settled_in_run : IsSettled entries (world run).taken
+  settled_in_run = subst (IsSettled entries) (sym taken_is) settled
+
+  pub told_all_truly : (s : ℕ) (mine : Trail) → WasToldAll run s mine → WasToldAllTruly run entries s mine
+  told_all_truly s mine was newer older number at =
+      told_truly run entries settled_in_run (outcomes ring run is.stands.after.run_is ∙ ap (map taken_as) (sym (advances ring run is.stands.after.run_is))) s number older (was newer older number at)

@@ -29,6 +29,10 @@ reads_keep offset (raw ∷ raws) t = reads_keep (suc offset) raws _
 knowing : (e : ConsumerValue) (unit : UnitValue) → AreTogether (record e { history = [] }) unit → AreTogether e unit
 knowing e unit t = record { many = t.many; counted = t.counted; settled = t.settled; seen = λ raw is half. t.seen raw is half }
 
+pub still_known : (d e : ConsumerValue) (unit : UnitValue) → AreTogether d unit → record e { history = [] } ≡ record d { history = [] } → AreTogether e unit
+still_known d e unit t is =
+    knowing e unit (subst (λ (x : ConsumerValue). AreTogether x unit) (sym is) (record { many = t.many; counted = t.counted; settled = t.settled; seen = λ raw is half. t.seen raw is half }))
+
 module _ (d : ConsumerValue) (unit : UnitValue) (t : AreTogether d unit) where
   -- ---- nothing was taken
   pub still_looked : (control : Control) (e : ConsumerValue) → record e { history = [] } ≡ with_trail (record d { history = [] }) (Look control ∷ d.trail) → AreTogether e unit

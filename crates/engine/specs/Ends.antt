@@ -38,6 +38,10 @@ pub record WasToldTruly (run : Run) (entries : Entries) (s told : ℕ) (older : 
   pub was_told : WasTold run s told older
   pub none_older : (number : ℕ) (some : 1 ≤ number) (most : number ≤ told) → NoneIsOlder entries (reserved_ahead (was_told.applied number some most))
 
+-- So it is for whatever a sender was told, by its trail.
+abbrev pub WasToldAllTruly : Run → Entries → ℕ → Trail → Type 0
+WasToldAllTruly run entries s trail = (newer older : Trail) (number : ℕ) → trail ≡ newer ++ Ask number ∷ older → WasToldTruly run entries s number older
+
 -- There is one run that has all steps. The entries are settled for what is taken in it, the counts are those of what is
 -- taken in it, and whatever a sender was told in it was so.
 pub record IsEngineEnd (ring : RingValue) (senders : List SenderValue) (engine : EngineValue) (end : SummaryValue) (counts : CountsValue) (entries : Entries) : Type 0 where

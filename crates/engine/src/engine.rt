@@ -1,8 +1,12 @@
 //! The engine: a unit with the consumer of a ring.
 ghost use Rattle.std.specs.Prelude.{◌≡◌, ◌≢◌, ◌≤◌, ◌^◌, ◌↔◌, [], length, All, IfOk, IfSome, IsTrue, OnOk, OnErr, Ok, Err, None, Some};
 ghost use Rattle.std.specs.FinMap as finite;
+ghost use Rattle.ringcore.specs.declared.world.event.Who.TheVariants.{Consumer as ConsumerOf, Sender as SenderOf};
+ghost use Rattle.ringcore.specs.world.World.{world};
 ghost use Rattle.caches.specs.Blocks.{IsBlock};
 ghost use Rattle.caches.specs.Held.{held};
+ghost use Rattle.ring.specs.table.Rule.{WentOn};
+ghost use Rattle.ring.specs.table.Histories.{IsHistory};
 ghost use Rattle.ring.specs.Finishing.{AreAll};
 ghost use Rattle.ring.specs.consumer.Completing.{taken_of};
 ghost use Rattle.engine.specs.Settled.{IsSettled};
@@ -10,7 +14,7 @@ ghost use Rattle.engine.specs.Stops.{IsStopped, told, err_of, word_of, command_q
 ghost use Rattle.engine.specs.Counting.{taken, AreCountsOf};
 ghost use Rattle.engine.specs.Units.{new_unit, filled, with_entries, OnlyRemoves};
 ghost use Rattle.engine.specs.Engines.{HasStepped, HasRun, HasLooked};
-ghost use Rattle.engine.specs.Ends.{IsEngineEnd};
+ghost use Rattle.engine.specs.Ends.{WasToldAllTruly, IsEngineEnd};
 
 mod run_stepping;
 mod stepping;
@@ -115,6 +119,30 @@ impl Engine {
             gerror,
             gerrorn,
         }
+    }
+
+    /// A witness, while the ring runs, that a sender was told truly: whatever number it was told, no entry is held that
+    /// was filled before a command that was reserved ahead of that CMD_SYNC, and that this command covers. Both know from
+    /// now on the run as it is at this moment, which has the steps of both. Else both stay as they are.
+    pub fn told(&mut self, ring: &Ring, sender: &mut Sender)
+        requires ring { self.old.consumer.ring ≡ ring.now }
+        requires sender { sender.old.ring ≡ ring.now }
+        ensures told { WasToldAllTruly self.new.consumer.history self.new.unit.caches.entries sender.old.number sender.old.trail }
+        ensures settled { IsSettled self.new.unit.caches.entries (world self.new.consumer.history).taken }
+        ensures unit { self.new.unit ≡ self.old.unit }
+        ensures consumer { record self.new.consumer { history = [] } ≡ record self.old.consumer { history = [] } }
+        ensures sender { record sender.new { history = [] } ≡ record sender.old { history = [] } }
+        ensures one { sender.new.history ≡ self.new.consumer.history }
+        ensures of_consumer { IsHistory self.old.consumer.ring.made_with ConsumerOf self.old.consumer.trail self.new.consumer.history }
+        ensures of_sender { IsHistory sender.old.ring.made_with (SenderOf sender.old.number) sender.old.trail self.new.consumer.history }
+        ensures known_to_consumer { WentOn ConsumerOf self.old.consumer.history self.new.consumer.history }
+        ensures known_to_sender { WentOn (SenderOf sender.old.number) sender.old.history self.new.consumer.history }
+    {
+        laws::consumer_trail();
+        self.is_settled();
+        let mut consumer = self.consumer.take().unwrap();
+        consumer.meet(ring, sender);
+        self.consumer = Some(consumer);
     }
 
     /// The consumer, and the caches, which are settled for all that it took.

@@ -12,4 +12,6 @@ mod thread_tests;
 #[cfg(test)]
 mod told;
 #[cfg(test)]
+mod truly_tests;
+#[cfg(test)]
 mod unit_tests;

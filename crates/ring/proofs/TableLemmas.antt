@@ -7,3 +7,4 @@ pub mod Starts
 pub mod Asks
 pub mod OneRun
 pub mod Histories
+pub mod Meetings

@@ -56,6 +56,10 @@ pub record WasTold (run : Run) (s told : ℕ) (older : Trail) : Type 0 where
   pub trail_is : trail_of (Sender s) earlier ≡ older
   pub applied : (number : ℕ) → 1 ≤ number → number ≤ told → IsApplied earlier s number
 
+-- So it is for whatever a sender was told, by its trail.
+abbrev pub WasToldAll : Run → ℕ → Trail → Type 0
+WasToldAll run s trail = (newer older : Trail) (number : ℕ) → trail ≡ newer ++ Ask number ∷ older → WasTold run s number older
+
 -- There is one run that has all trails. It is ordered delivery, of batches that are a merge of the senders'; the
 -- commands that are taken are a beginning of the merge, and the whole merge where as many were taken as reserved. So it is
 -- where the consumer saw the ring closed and empty.

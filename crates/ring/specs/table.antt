@@ -4,3 +4,4 @@ pub mod StepEvents
 pub mod Ports
 pub mod OneRun
 pub mod Histories
+pub mod Meetings

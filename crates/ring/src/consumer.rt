@@ -4,12 +4,13 @@ ghost use Rattle.cmdcodec.specs.declared.raw.Raw.{Raw as RawOf};
 ghost use Rattle.qindex.specs.Positions.{size};
 ghost use Rattle.qindex.specs.ControlWord.{IsControl};
 ghost use Rattle.ringcore.specs.declared.world.event.Event.TheVariants.{Look};
-ghost use Rattle.ringcore.specs.declared.world.event.Who.TheVariants.{Consumer as ConsumerOf};
+ghost use Rattle.ringcore.specs.declared.world.event.Who.TheVariants.{Consumer as ConsumerOf, Sender as SenderOf};
 ghost use Rattle.ringcore.specs.world.Trails.{taken_by, found_ready};
-ghost use Rattle.ring.specs.table.Rule.{StandsInARun};
+ghost use Rattle.ring.specs.table.Rule.{StandsInARun, WentOn};
 ghost use Rattle.ring.specs.table.Histories.{IsHistory, GrewBy};
 ghost use Rattle.ringcore.specs.world.World.{world, control as control_of};
 ghost use Rattle.ring.specs.table.Ports.{SitsFor};
+ghost use Rattle.ring.specs.Finishing.{WasToldAll};
 ghost use Rattle.ring.specs.consumer.Pendings.{HasSeen, HasReadRun, reads_from};
 ghost use Rattle.ring.specs.consumer.Taking.{HasTaken, HasTakenRun, IsReadyWith, BeginsWith, IsOfRing, RunIsOfRing};
 
@@ -21,6 +22,7 @@ mod taken;
 
 use crate::device::Device;
 use crate::ring::Ring;
+use crate::sender::Sender;
 use crate::table::Participants;
 use atomic_table::Seat;
 pub use commands::Commands;
@@ -28,6 +30,7 @@ pub use consumer_port::ConsumerPort;
 pub use pending::Pending;
 pub use pending_run::PendingRun;
 use qindex::Control;
+use ringcore::world_law;
 use std::marker::{Model, PhantomData};
 pub use taken::{Taken, TakenRun};
 
@@ -77,6 +80,26 @@ impl<D: Device> Consumer<D> {
         ensures current { result ≡ control_of self.old.ring.made_with.geometry (world self.new.history) }
     {
         self.port.look(ring)
+    }
+
+    /// A witness, while the ring runs, that its steps and those of a sender are steps of one run, which both know from
+    /// now on. Whatever number the sender was told, it was told in that run. Else both stay as they are.
+    pub fn meet(&mut self, ring: &Ring, sender: &mut Sender)
+        requires ring { self.old.ring ≡ ring.now }
+        requires sender { sender.old.ring ≡ ring.now }
+        ensures consumer { record self.new { history = [] } ≡ record self.old { history = [] } }
+        ensures sender { record sender.new { history = [] } ≡ record sender.old { history = [] } }
+        ensures one { sender.new.history ≡ self.new.history }
+        ensures of_consumer { IsHistory self.old.ring.made_with ConsumerOf self.old.trail self.new.history }
+        ensures of_sender { IsHistory self.old.ring.made_with (SenderOf sender.old.number) sender.old.trail self.new.history }
+        ensures known_to_consumer { WentOn ConsumerOf self.old.history self.new.history }
+        ensures known_to_sender { WentOn (SenderOf sender.old.number) sender.old.history self.new.history }
+        ensures told { WasToldAll self.new.history sender.old.number sender.old.trail }
+    {
+        world_law();
+        self.port.meet(ring, &mut sender.port);
+        self.port.trail_stands_in_a_run();
+        sender.port.trail_stands_in_a_run();
     }
 
     /// How many commands it has taken: at most `2^46`.

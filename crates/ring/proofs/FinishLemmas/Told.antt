@@ -1,12 +1,14 @@
 -- An event of a seat's trail stands in the run, and of an ask that stands there the law tells what was completed before.
-use Rattle.std.proofs.Common.{◌≡◌, ℕ, Bool, true, false, cond, eqb-true, [], ◌∷◌, ◌++◌, refl, sym, ap}
+use Rattle.std.proofs.Common.{◌≡◌, ℕ, Bool, true, false, cond, eqb-true, [], ◌∷◌, ◌++◌, refl, sym, ap, ◌∙◌}
 use Rattle.ringcore.specs.declared.world.event.Who.{Who}
 use Rattle.ringcore.specs.declared.world.event.Who.TheVariants.{Consumer, Sender}
 use Rattle.ringcore.specs.declared.world.event.Event.{Event}
 use Rattle.ringcore.specs.declared.world.event.Event.TheVariants.{Ask}
 use Rattle.ringcore.specs.world.Trails.{Run, Trail, same, trail_of}
-use Rattle.ringcore.specs.world.Laws.{ToldOfAllUpTo}
-use Rattle.ring.specs.Finishing.{WasTold}
+use Rattle.ringcore.specs.world.Allowed.{Ring}
+use Rattle.ringcore.specs.world.Laws.{EveryRun, ToldOfAllUpTo}
+use Rattle.ring.specs.table.Histories.{IsHistory}
+use Rattle.ring.specs.Finishing.{WasTold, WasToldAll}
 
 -- where an event of a trail stands in the run
 record StandsAt (who : Who) (e : Event) (run : Run) (older : Trail) : Type 0 where
@@ -52,3 +54,6 @@ was_told run s law newer older told is =
       trail_is = at.trail_is;
       applied = λ number some up_to. law at.later at.earlier s told number at.run_is some up_to;
     }
+
+pub was_told_all : EveryRun ToldOfAllUpTo → (ring : Ring) (s : ℕ) (trail : Trail) (run : Run) → IsHistory ring (Sender s) trail run → WasToldAll run s trail
+was_told_all law ring s trail run is newer older number at = was_told run s (law ring run is.stands.after.run_is) newer older number (is.stands.trail_is ∙ at)

@@ -1,13 +1,13 @@
 //! The consumer's own port: its steps, with the index of the head.
-ghost use Rattle.std.specs.Prelude.{◌≡◌, ◌∷◌, ◌≤◌, ◌<◌, ◌+◌, ◌^◌, ℕ, length, take, []};
+ghost use Rattle.std.specs.Prelude.{◌≡◌, ◌∷◌, ◌≤◌, ◌<◌, ◌+◌, ◌^◌, ℕ, false, length, take, []};
 ghost use Rattle.qindex.specs.Positions.{size};
 ghost use Rattle.qindex.specs.ControlWord.{IsControl};
 ghost use Rattle.ringcore.specs.declared.world.event.Event.TheVariants.{Look, Test, Read};
 ghost use Rattle.ringcore.specs.declared.world.event.Who.TheVariants.{Consumer};
-ghost use Rattle.ringcore.specs.world.Trails.{taken_by, found_ready};
+ghost use Rattle.ringcore.specs.world.Trails.{same, taken_by, found_ready};
 ghost use Rattle.ringcore.specs.world.Allowed.{MayAdvance};
 ghost use Rattle.ringcore.specs.world.ConsumerLaws.{IsSteady};
-ghost use Rattle.ring.specs.table.Rule.{StandsInARun};
+ghost use Rattle.ring.specs.table.Rule.{StandsInARun, WentOn};
 ghost use Rattle.ring.specs.table.Histories.{IsHistory, GrewBy, EndsTellAll};
 ghost use Rattle.ringcore.specs.world.World.{world, control as control_of};
 ghost use Rattle.ring.specs.table.Ports.{SitsFor};
@@ -92,6 +92,20 @@ impl ConsumerPort {
         ensures current { result ≡ control_of self.old.ring.made_with.geometry (world self.new.history) }
     {
         self.port.look(ring)
+    }
+
+    /// It and a sender's port come to know one run.
+    pub(crate) fn meet(&mut self, ring: &Ring, sender: &mut Port)
+        requires ring { self.old.ring ≡ ring.now }
+        requires sender { sender.old.ring ≡ ring.now }
+        requires apart { same Consumer sender.old.who ≡ false }
+        ensures mine { record self.new { history = [] } ≡ record self.old { history = [] } }
+        ensures theirs { record sender.new { history = [] } ≡ record sender.old { history = [] } }
+        ensures one { sender.new.history ≡ self.new.history }
+        ensures i_knew { WentOn Consumer self.old.history self.new.history }
+        ensures they_knew { WentOn sender.old.who sender.old.history self.new.history }
+    {
+        self.port.meet(ring, sender);
     }
 
     /// Where a look finds the two ends at one place, all that is reserved is taken. It does nothing.

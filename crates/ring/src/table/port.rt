@@ -1,5 +1,5 @@
 //! A seat that stands for one participant alone, and the atomic steps that it may take.
-ghost use Rattle.std.specs.Prelude.{◌≡◌, ◌∷◌, ◌<◌, ◌≤◌, ◌^◌, ℕ, Some, slice_get, []};
+ghost use Rattle.std.specs.Prelude.{◌≡◌, ◌∷◌, ◌<◌, ◌≤◌, ◌^◌, ℕ, false, Some, slice_get, []};
 ghost use Rattle.qindex.specs.Positions.{size, index_of};
 ghost use Rattle.qindex.specs.ControlWord.{IsControl};
 ghost use Rattle.ringcore.specs.declared.world.event.Who.TheVariants.{Sender};
@@ -8,13 +8,14 @@ ghost use Rattle.ringcore.specs.world.World.{half_of, world, control as control_
 ghost use Rattle.ringcore.specs.world.Allowed.{MayTry, MayWrite, ShareAWord, length_with};
 ghost use Rattle.ringcore.specs.memory.StepLaws.{reserved_commands};
 ghost use Rattle.ring.specs.table.Intents.{reserves, writes, flips};
-ghost use Rattle.ring.specs.table.Rule.{StandsInARun};
+ghost use Rattle.ringcore.specs.world.Trails.{same};
+ghost use Rattle.ring.specs.table.Rule.{StandsInARun, WentOn};
 ghost use Rattle.ring.specs.table.Histories.{IsHistory, GrewBy};
 ghost use Rattle.ring.specs.table.Ports.{PortValue, SitsFor, IsWonOrLost, IsSlotAt, MayFlipAt};
 
 use crate::ring::Ring;
 use crate::table::rule::Participants;
-use crate::table::steps::{Asks, Closes, HasIntent, Looks, StepFor};
+use crate::table::steps::{Asks, Closes, Deals, Gathers, HasIntent, Looks, Meets, StepFor};
 use atomic_table::Seat;
 use batch::Batch;
 use cmdcodec::Raw;
@@ -56,6 +57,24 @@ impl Port {
     {
         let Port { seat } = self;
         seat
+    }
+
+    /// Joins both seats for a load, and cuts them again: both know the run as it is then. It adds no event.
+    pub(crate) fn meet(&mut self, ring: &Ring, other: &mut Port)
+        requires ring { self.old.ring ≡ ring.now }
+        requires other { other.old.ring ≡ ring.now }
+        requires apart { same self.old.who other.old.who ≡ false }
+        ensures mine { record self.new { history = [] } ≡ record self.old { history = [] } }
+        ensures theirs { record other.new { history = [] } ≡ record other.old { history = [] } }
+        ensures one { other.new.history ≡ self.new.history }
+        ensures i_knew { WentOn self.old.who self.old.history self.new.history }
+        ensures they_knew { WentOn other.old.who other.old.history self.new.history }
+    {
+        let words = &ring.table.shared;
+        let one = words.split_seat::<Deals>(&mut other.seat);
+        words.join_seat::<Gathers>(&mut self.seat, one);
+        words.load::<Meets>(&mut self.seat, control_word());
+        other.seat = words.split_seat::<Deals>(&mut self.seat);
     }
 
     /// A load of the control word.

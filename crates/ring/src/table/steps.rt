@@ -45,6 +45,15 @@ impl<I: HasIntent> Play<(), Participants> for StepFor<I> {
     ghost then = { adds_for I.intent };
 }
 
+/// A load by which all for whom a seat stands know the run as it is then. It adds no event.
+pub struct Meets;
+
+impl Play<(), Participants> for Meets {
+    ghost use Rattle.ring.specs.table.Meetings.{has_met};
+
+    ghost then = { has_met };
+}
+
 /// The first for whom a seat stands gets a seat of its own.
 pub struct Deals;
 

@@ -1,0 +1,152 @@
+-- Two seats are joined for a load, and cut again.
+use Rattle.std.proofs.Common.{◌≡◌, ◌≢◌, ℕ, false, List, [], ◌∷◌, refl, sym, ap, ◌∙◌, subst, ⊎_elim, inl, inr}
+use mathlib.Core.Option.{some, none}
+use lib.ListN.{get_elem?}
+use Rattle.atomic_table.specs.Table.{step, keeps, Allows, Splits}
+use Rattle.atomic_table.specs.Seated.{TableId}
+use Rattle.atomic_table.proofs.Lists.{at_set}
+use Rattle.ringcore.specs.declared.world.event.Who.{Who}
+use Rattle.ringcore.specs.world.Trails.{Run, same}
+use Rattle.ringcore.specs.world.Allowed.{Ring}
+use Rattle.ringcore.specs.memory.Shadow.{AreAfter}
+use Rattle.ring.specs.declared.table.rule.Participant.{Participant}
+use Rattle.ring.specs.table.Rule.{Holding, participant, WentOn, HasTrails, SitAt, Any, RuleHolds, Stands, ring_of, who_of, trail_of_first, history_of_first, IsAlone}
+use Rattle.ring.specs.table.StepEvents.{without_first, first_alone, both_of}
+use Rattle.ring.specs.table.Meetings.{all_knowing, HasAll, HaveMet, has_met}
+use Rattle.ring.specs.table.Ports.{port_of, PortValue}
+use Rattle.ring.proofs.TableLemmas.Seats.{went_on_none, among_step}
+use Rattle.ring.proofs.TableLemmas.Steps.{deals_at, set_back}
+
+-- ---- all for whom a seat stands know the run as it is
+
+knowing_sit : (seat : Who → ℕ) (i : ℕ) (run : Run) (hs : List Participant) → SitAt seat i hs → SitAt seat i (all_knowing run hs)
+knowing_sit seat i run [] sit = tt
+knowing_sit seat i run (h ∷ hs) sit = (sit.0, knowing_sit seat i run hs sit.1)
+
+knowing_trails : (ring : Ring) (run : Run) (hs : List Participant) → HasTrails ring run hs → HasTrails ring run (all_knowing run hs)
+knowing_trails ring run [] has = tt
+knowing_trails ring run (h ∷ hs) has =
+    (record { ring_is = has.0.ring_is; known = has.0.known; trail = has.0.trail; went_on = went_on_none h.who run }, knowing_trails ring run hs has.1)
+
+knowing_newest : (run : Run) (hs : List Participant) → Any (λ p. p.history ≡ run) hs → Any (λ p. p.history ≡ run) (all_knowing run hs)
+knowing_newest run [] one = absurd one
+knowing_newest run (h ∷ hs) one = inl refl
+
+knowing_who : (who : Who) (run : Run) (hs : List Participant) → Any (λ p. p.who ≡ who) hs → Any (λ p. p.who ≡ who) (all_knowing run hs)
+knowing_who who run [] one = absurd one
+knowing_who who run (h ∷ hs) (inl is) = inl is
+knowing_who who run (h ∷ hs) (inr more) = inr (knowing_who who run hs more)
+
+pub meets_at : (ring : Ring) (slots id i : ℕ) (g : Participant) (hs : List Participant) → Allows (RuleHolds ring) slots id (g ∷ hs, []) i (λ x. x) (has_met (step slots i 0 0 none) (g ∷ hs, []))
+meets_at ring slots id i g hs s k _ at _ =
+    let mine = k.seated id (g ∷ hs) at in
+    let w : List Participant = all_knowing k.run (g ∷ hs) in
+    let here : HasAll ring (g ∷ hs) k.run s.words = record { limits = k.limits; after = k.after; only = k.only; has = mine.1 } in (
+      w,
+      keeps,
+      tt,
+      record {
+        limits = k.limits;
+        run = k.run;
+        after = subst (AreAfter ring k.run) (sym (set_back s.words i)) k.after;
+        only = k.only;
+        seat = k.seat;
+        seated = λ j v got. ⊎_elim
+            (λ (own : (j ≡ id) × (w ≡ v)). subst (λ (t : ℕ × List Participant). SitAt k.seat t.0 t.1 × HasTrails ring k.run t.1) (λ q. (sym own.0 q, own.1 q))
+            (knowing_sit k.seat id k.run (g ∷ hs) mine.0, knowing_trails ring k.run (g ∷ hs) mine.1))
+            (λ (else : (j ≢ id) × (get_elem? s.views j ≡ some v)). k.seated j v else.1)
+            (at_set s.views id j w v got);
+        newest = among_step (λ p. p.history ≡ k.run) s.views id (g ∷ hs) w at (knowing_newest k.run (g ∷ hs)) k.newest;
+        everyone = λ u one. among_step (λ p. p.who ≡ u) s.views id (g ∷ hs) w at (knowing_who u k.run (g ∷ hs)) (k.everyone u one);
+      },
+      (k.run, s.words, subst (λ (r : Ring). HasAll r (g ∷ hs) k.run s.words) (sym mine.1.0.ring_is) here, refl),
+    )
+
+-- ---- two seats, each of which stands for one alone
+
+-- One seat stands for nobody for a while.
+pub leaves_now : (me : Holding) → IsAlone me (who_of me.0) → (key : Ring) (id : ℕ) → Splits (RuleHolds key) id me.0 (without_first me.0) (first_alone me.0)
+leaves_now me alone key id =
+    subst (λ (m : Holding). Splits (RuleHolds key) id m.0 (without_first m.0) (first_alone m.0)) (sym alone.me_is)
+    (deals_at key id (participant (ring_of me.0) (who_of me.0) (trail_of_first me.0) (history_of_first me.0)) [] tt)
+
+module _ (mine theirs : Holding) (my_own : IsAlone mine (who_of mine.0)) (their_own : IsAlone theirs (who_of theirs.0)) where
+  abbrev me : Participant
+  me = participant (ring_of mine.0) (who_of mine.0) (trail_of_first mine.0) (history_of_first mine.0)
+
+  abbrev them : Participant
+  them = participant (ring_of theirs.0) (who_of theirs.0) (trail_of_first theirs.0) (history_of_first theirs.0)
+
+  abbrev pub both : Holding
+  both = (them ∷ me ∷ [], [])
+
+  pub joined_is : (one joined : Holding) → one ≡ (first_alone theirs.0, []) → joined ≡ (both_of mine.0 one.0, mine.1) → joined ≡ both
+  joined_is one joined one_is is =
+      let their_is : one ≡ (them ∷ [], []) = one_is ∙ ap (λ (m : Holding). let h : Holding = (first_alone m.0, []) in h) their_own.me_is in
+      is ∙ (λ k. let h : Holding = (both_of (my_own.me_is k).0 (their_is k).0, (my_own.me_is k).1) in h)
+
+  pub meets_now : (key : Ring) (slots id i : ℕ) (joined : Holding) → joined ≡ both → Allows (RuleHolds key) slots id joined i (λ x. x) (has_met (step slots i 0 0 none) joined)
+  meets_now key slots id i joined is =
+      subst (λ (m : Holding). Allows (RuleHolds key) slots id m i (λ x. x) (has_met (step slots i 0 0 none) m)) (sym is) (meets_at key slots id i them (me ∷ []))
+
+  module _ (joined met : Holding) (is : joined ≡ both) (did : HaveMet joined met) where
+    known : HaveMet both met
+    known = subst (λ (m : Holding). HaveMet m met) is did
+
+    -- the run that both know from then on
+    pub run : Run
+    run = known.0
+
+    pub words : List ℕ
+    words = known.1
+
+    all : HasAll them.ring (them ∷ me ∷ []) run words
+    unfolding run words
+    all = known.2
+
+    met_is : met ≡ (all_knowing run (them ∷ me ∷ []), [])
+    unfolding run
+    met_is = known.3
+
+    -- the other has its seat back
+    pub parts_now : (key : Ring) (id : ℕ) → same me.who them.who ≡ false → Splits (RuleHolds key) id met.0 (without_first met.0) (first_alone met.0)
+    parts_now key id apart =
+        subst (λ (m : Holding). Splits (RuleHolds key) id m.0 (without_first m.0) (first_alone m.0)) (sym met_is)
+        (deals_at key id (record them { history = run }) (record me { history = run } ∷ []) (apart, tt))
+
+    their_stand : Stands them.ring them.who them.trail run words
+    their_stand = record { limits = all.limits; after = all.after; only = all.only; known = all.has.0.known; trail_is = all.has.0.trail }
+
+    my_stand : Stands me.ring me.who me.trail run words
+    my_stand = subst (λ (r : Ring). Stands r me.who me.trail run words) (sym all.has.1.0.ring_is)
+        record { limits = all.limits; after = all.after; only = all.only; known = all.has.1.0.known; trail_is = all.has.1.0.trail }
+
+    module _ (left back : Holding) (left_is : left ≡ (without_first met.0, met.1)) (back_is : back ≡ (first_alone met.0, [])) where
+      i_am : left ≡ (participant me.ring me.who me.trail run ∷ [], [])
+      i_am = left_is ∙ ap (λ (m : Holding). let h : Holding = (without_first m.0, m.1) in h) met_is
+
+      they_are : back ≡ (participant them.ring them.who them.trail run ∷ [], [])
+      they_are = back_is ∙ ap (λ (m : Holding). let h : Holding = (first_alone m.0, []) in h) met_is
+
+      pub my_seat : IsAlone left (who_of left.0)
+      my_seat = subst (λ (m : Holding). IsAlone m (who_of m.0)) (sym i_am) record { me_is = refl; words = words; stands = my_stand }
+
+      pub their_seat : IsAlone back (who_of back.0)
+      their_seat = subst (λ (m : Holding). IsAlone m (who_of m.0)) (sym they_are) record { me_is = refl; words = words; stands = their_stand }
+
+      pub one_run : history_of_first back.0 ≡ history_of_first left.0
+      one_run = ap (λ (m : Holding). history_of_first m.0) they_are ∙ sym (ap (λ (m : Holding). history_of_first m.0) i_am)
+
+      module _ (table new_table : TableId) (same_table : new_table ≡ table) (p : PortValue) where
+        pub i_stay : port_of table mine ≡ p → record (port_of new_table left) { history = [] } ≡ record p { history = [] }
+        i_stay is = (λ k. let q : PortValue = record (port_of (same_table k) (i_am k)) { history = [] } in q) ∙ ap (λ (q : PortValue). let r : PortValue = record q { history = [] } in r) is
+
+        pub they_stay : port_of table theirs ≡ p → record (port_of new_table back) { history = [] } ≡ record p { history = [] }
+        they_stay is = (λ k. let q : PortValue = record (port_of (same_table k) (they_are k)) { history = [] } in q) ∙ ap (λ (q : PortValue). let r : PortValue = record q { history = [] } in r) is
+
+      module _ (table : TableId) (p : PortValue) where
+        pub i_knew : port_of table mine ≡ p → WentOn p.who p.history (history_of_first left.0)
+        i_knew is = subst (λ (q : PortValue × Run). WentOn q.0.who q.0.history q.1) (λ k. (is k, history_of_first (sym i_am k).0)) all.has.1.0.went_on
+
+        pub they_knew : port_of table theirs ≡ p → WentOn p.who p.history (history_of_first left.0)
+        they_knew is = subst (λ (q : PortValue × Run). WentOn q.0.who q.0.history q.1) (λ k. (is k, history_of_first (sym i_am k).0)) all.has.0.went_on

@@ -1,0 +1,68 @@
+use Rattle.std.proofs.Common.{rules, ◌≡◌, refl, ap, ◌∙◌}
+use Rattle.ringcore.specs.world.Trails.{same}
+use Rattle.ring.specs.table.Rule.{Holding}
+use Rattle.ring.proofs.TableLemmas.StepKinds.{control_inside}
+use Rattle.ring.proofs.TableLemmas.Steps.{gathers_at}
+use Rattle.ring.proofs.TableLemmas.Meetings.{both, leaves_now, joined_is, meets_now, parts_now, my_seat, their_seat, one_run, i_stay, they_stay, i_knew, they_knew}
+use Rattle.ring.proofs.table.port.Port.meet.Goals as goal
+
+pub split_seat-one-requires : goal.split_seat-one-requires
+split_seat-one-requires c = (
+  search rules,
+  control_inside _ _ _ 0 c.ring.invariant.words refl,
+  leaves_now _ c.other.invariant _ _,
+)
+
+pub join_seat-requires : goal.join_seat-requires
+join_seat-requires c = (
+  search rules,
+  search rules,
+  ap (λ (m : Holding). m.1) c.split_seat-one.ensures.4,
+  control_inside _ _ _ 0 c.ring.invariant.words refl,
+  gathers_at _ _ _ _ _,
+)
+
+is_both : (c : goal.After-control_word) → c.join_seat.new.seat.me ≡ both _ _ c.self.invariant c.other.invariant
+is_both c = joined_is _ _ c.self.invariant c.other.invariant c.split_seat-one.result.me c.join_seat.new.seat.me c.split_seat-one.ensures.4 c.join_seat.ensures.2
+
+pub load-requires : goal.load-requires
+load-requires c = (
+  search rules,
+  control_inside _ _ _ _ c.ring.invariant.words c.control_word.ensures,
+  meets_now _ _ c.self.invariant c.other.invariant _ _ _ _ _ (is_both c),
+)
+
+pub split_seat-requires : goal.split_seat-requires
+split_seat-requires c = (
+  search rules,
+  control_inside _ _ _ 0 c.ring.invariant.words refl,
+  parts_now _ _ c.self.invariant c.other.invariant _ _ (is_both c.before.before) c.load.ensures.2 _ _ ((λ k. same (c.self.view_is k).who (c.other.view_is k).who) ∙ c.requires.apart),
+)
+
+joined : (c : goal.After-drop-other-inside) → c.join_seat.new.seat.me ≡ both _ _ c.self.invariant c.other.invariant
+joined c = joined_is _ _ c.self.invariant c.other.invariant c.split_seat-one.result.me c.join_seat.new.seat.me c.split_seat-one.ensures.4 c.join_seat.ensures.2
+
+pub invariant_of-self : goal.invariant_of-self
+invariant_of-self c = my_seat _ _ c.self.invariant c.other.invariant _ _ (joined c) c.load.ensures.2 _ _ c.split_seat.ensures.2 c.split_seat.ensures.4
+
+pub invariant_of-other : goal.invariant_of-other
+invariant_of-other c = their_seat _ _ c.self.invariant c.other.invariant _ _ (joined c) c.load.ensures.2 _ _ c.split_seat.ensures.2 c.split_seat.ensures.4
+
+pub returns-clause-mine : goal.returns-clause-mine
+returns-clause-mine c =
+    let same_table : c.split_seat.new.seat.table_id ≡ c.self.inside.seat.table_id = search rules in
+    i_stay _ _ c.self.invariant c.other.invariant _ _ (joined c) c.load.ensures.2 _ _ c.split_seat.ensures.2 c.split_seat.ensures.4 _ _ same_table _ c.self.view_is
+
+pub returns-clause-theirs : goal.returns-clause-theirs
+returns-clause-theirs c =
+    let same_table : c.split_seat.result.table_id ≡ c.other.inside.seat.table_id = search rules in
+    they_stay _ _ c.self.invariant c.other.invariant _ _ (joined c) c.load.ensures.2 _ _ c.split_seat.ensures.2 c.split_seat.ensures.4 _ _ same_table _ c.other.view_is
+
+pub returns-clause-one : goal.returns-clause-one
+returns-clause-one c = one_run _ _ c.self.invariant c.other.invariant _ _ (joined c) c.load.ensures.2 _ _ c.split_seat.ensures.2 c.split_seat.ensures.4
+
+pub returns-clause-i_knew : goal.returns-clause-i_knew
+returns-clause-i_knew c = i_knew _ _ c.self.invariant c.other.invariant _ _ (joined c) c.load.ensures.2 _ _ c.split_seat.ensures.2 c.split_seat.ensures.4 _ _ c.self.view_is
+
+pub returns-clause-they_knew : goal.returns-clause-they_knew
+returns-clause-they_knew c = they_knew _ _ c.self.invariant c.other.invariant _ _ (joined c) c.load.ensures.2 _ _ c.split_seat.ensures.2 c.split_seat.ensures.4 _ _ c.other.view_is

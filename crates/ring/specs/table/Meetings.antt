@@ -1,0 +1,30 @@
+-- Seats that are joined for a load: all for whom they stand know the run as it is then.
+use Rattle.std.specs.Prelude.{◌≡◌, ℕ, List, [], ◌∷◌}
+use Rattle.atomic_table.specs.Table.{Step}
+use Rattle.ringcore.specs.world.Trails.{Run}
+use Rattle.ringcore.specs.world.Allowed.{Ring}
+use Rattle.ringcore.specs.world.Laws.{OnlyOf}
+use Rattle.ringcore.specs.memory.Shadow.{AreAfter}
+use Rattle.ring.specs.declared.table.rule.Participant.{Participant}
+use Rattle.ring.specs.table.Rule.{Holding, IsWithinLimits, HasTrails, ring_of}
+
+-- each of them knows this run
+abbrev pub all_knowing : Run → List Participant → List Participant
+all_knowing run [] = []
+all_knowing run (p ∷ ps) = record p { history = run } ∷ all_knowing run ps
+
+-- The words stand as after this run. It has the trails of all of these, and what each of them knew is an older part of
+-- it, behind which that one took no step.
+pub record HasAll (ring : Ring) (all : List Participant) (run : Run) (words : List ℕ) : Type 0 where
+  pub limits : IsWithinLimits ring
+  pub after : AreAfter ring run words
+  pub only : OnlyOf ring.senders run
+  pub has : HasTrails ring run all
+
+-- All of a seat came to know such a run.
+abbrev pub HaveMet : Holding → Holding → Type 0
+HaveMet me now = (run : Run) × (words : List ℕ) × HasAll (ring_of me.0) me.0 run words × (now ≡ (all_knowing run me.0, me.1))
+
+-- what the load tells
+abbrev pub has_met : Step (Unit {0}) → Holding → ℕ → Holding → Type 0
+has_met step me word now = HaveMet me now
