@@ -16,7 +16,7 @@ use Rattle.ringcore.specs.declared.world.event.Outcome.{Outcome}
 use Rattle.caches.specs.Held.{Entries}
 use Rattle.engine.specs.Settled.{IsSettled}
 use Rattle.engine.specs.Counting.{CountsValue, taken, AreCountsOf}
-use Rattle.engine.specs.Units.{UnitValue, StaysSettled, IsApplied, IsStoppedAt, IsReplaced}
+use Rattle.engine.specs.Units.{UnitValue, IsSettledUnit, StaysSettled, IsApplied, IsStoppedAt, IsReplaced}
 use Rattle.engine.specs.Engines.{AreTogether, IsEngine, consumer_in}
 use Rattle.engine.proofs.Counted.{StaysCounted}
 
@@ -26,30 +26,30 @@ reads_keep offset [] t = λ _. taken_of t
 reads_keep offset (raw ∷ raws) t = reads_keep (suc offset) raws _
 
 -- whatever the consumer knows of the run, the two are together by its trail
-knowing : (e : ConsumerValue) (unit : UnitValue) → AreTogether (record e { history = [] }) unit → AreTogether e unit
+knowing : (e : ConsumerValue UnitValue) (unit : UnitValue) → AreTogether (record e { history = [] }) unit → AreTogether e unit
 knowing e unit t = record { many = t.many; counted = t.counted; settled = t.settled; seen = λ raw is half. t.seen raw is half }
 
-pub still_known : (d e : ConsumerValue) (unit : UnitValue) → AreTogether d unit → record e { history = [] } ≡ record d { history = [] } → AreTogether e unit
+pub still_known : (d e : ConsumerValue UnitValue) (unit : UnitValue) → AreTogether d unit → record e { history = [] } ≡ record d { history = [] } → AreTogether e unit
 still_known d e unit t is =
-    knowing e unit (subst (λ (x : ConsumerValue). AreTogether x unit) (sym is) (record { many = t.many; counted = t.counted; settled = t.settled; seen = λ raw is half. t.seen raw is half }))
+    knowing e unit (subst (λ (x : ConsumerValue UnitValue). AreTogether x unit) (sym is) (record { many = t.many; counted = t.counted; settled = t.settled; seen = λ raw is half. t.seen raw is half }))
 
-module _ (d : ConsumerValue) (unit : UnitValue) (t : AreTogether d unit) where
+module _ (d : ConsumerValue UnitValue) (unit : UnitValue) (t : AreTogether d unit) where
   -- ---- nothing was taken
-  pub still_looked : (control : Control) (e : ConsumerValue) → record e { history = [] } ≡ with_trail (record d { history = [] }) (Look control ∷ d.trail) → AreTogether e unit
+  pub still_looked : (control : Control) (e : ConsumerValue UnitValue) → record e { history = [] } ≡ with_trail (record d { history = [] }) (Look control ∷ d.trail) → AreTogether e unit
   still_looked control e is =
-      knowing e unit (subst (λ (x : ConsumerValue). AreTogether x unit) (sym is) (record { many = t.many; counted = t.counted; settled = t.settled; seen = λ raw is half. t.seen raw is half }))
+      knowing e unit (subst (λ (x : ConsumerValue UnitValue). AreTogether x unit) (sym is) (record { many = t.many; counted = t.counted; settled = t.settled; seen = λ raw is half. t.seen raw is half }))
 
-  pub still_none : (closed : Bool) (e : ConsumerValue) → TookNone closed d e → AreTogether e unit
+  pub still_none : (closed : Bool) (e : ConsumerValue UnitValue) → TookNone closed d e → AreTogether e unit
   still_none closed e took = still_looked took.seen e took.trail_is
 
-  pub still_unwritten : (most : ℕ) (e : ConsumerValue) → TookUnwritten most d e → AreTogether e unit
+  pub still_unwritten : (most : ℕ) (e : ConsumerValue UnitValue) → TookUnwritten most d e → AreTogether e unit
   still_unwritten most e took =
-      knowing e unit (subst (λ (x : ConsumerValue). AreTogether x unit) (sym took.trail_is) (record { many = t.many; counted = t.counted; settled = t.settled; seen = λ raw is half. t.seen raw is half }))
+      knowing e unit (subst (λ (x : ConsumerValue UnitValue). AreTogether x unit) (sym took.trail_is) (record { many = t.many; counted = t.counted; settled = t.settled; seen = λ raw is half. t.seen raw is half }))
 
-  module _ (most : ℕ) (p : PendingValue) (took : TookRun most d p) where
+  module _ (most : ℕ) (p : PendingValue UnitValue) (took : TookRun most d p) where
     -- what was taken before the reads was taken after them
     pub taken_before : taken_of p.consumer.trail ≡ taken_of d.trail
-    taken_before = ap (λ (x : ConsumerValue). taken_of x.trail) took.trail_is ∙ reads_keep 0 p.raws _
+    taken_before = ap (λ (x : ConsumerValue UnitValue). taken_of x.trail) took.trail_is ∙ reads_keep 0 p.raws _
 
     pub taken_settled : (new : UnitValue) (more : List Taken) → StaysSettled unit new more → IsSettled new.caches.entries (taken_of p.consumer.trail ++ more)
     taken_settled new more keeps =
@@ -60,8 +60,20 @@ module _ (d : ConsumerValue) (unit : UnitValue) (t : AreTogether d unit) where
     one_settled new outcome raw other same keeps =
         subst (λ (r : Raw). IsSettled new.caches.entries (taken_of p.consumer.trail ++ with_outcome outcome r ∷ [])) same (taken_settled new (with_outcome outcome raw ∷ []) keeps)
 
+    -- what is asked of the unit when it is lent: it counted what was taken before with these, and is settled for it
+    pub taken_unit : (new : UnitValue) (more : List Taken) → StaysSettled unit new more → StaysCounted unit new more → IsSettledUnit new (taken_of p.consumer.trail ++ more)
+    taken_unit new more settles counts = record {
+      entries = taken_settled new more settles;
+      counted = counts (taken_of p.consumer.trail) (subst (λ (l : List Taken). AreCountsOf l unit.counts) (sym taken_before) t.counted);
+    }
+
+    pub one_unit : (new : UnitValue) (outcome : Outcome) (raw other : Raw) → raw ≡ other → StaysSettled unit new (with_outcome outcome raw ∷ [])
+        → StaysCounted unit new (with_outcome outcome raw ∷ []) → IsSettledUnit new (taken_of p.consumer.trail ++ with_outcome outcome other ∷ [])
+    one_unit new outcome raw other same settles counts =
+        subst (λ (r : Raw). IsSettledUnit new (taken_of p.consumer.trail ++ with_outcome outcome r ∷ [])) same (taken_unit new (with_outcome outcome raw ∷ []) settles counts)
+
     -- ---- some commands were taken
-    pub taken_together : (e : ConsumerValue) (new : UnitValue) (more : List Taken) → taken_of e.trail ≡ taken_of p.consumer.trail ++ more
+    pub taken_together : (e : ConsumerValue UnitValue) (new : UnitValue) (more : List Taken) → taken_of e.trail ≡ taken_of p.consumer.trail ++ more
         → IsSettled new.caches.entries (taken_of p.consumer.trail ++ more) → taken new.counts ≡ taken unit.counts + length more → StaysCounted unit new more → new.stop.next ≡ None
         → AreTogether e new
     taken_together e new more longer settled counted keeps none = record {
@@ -81,7 +93,7 @@ module _ (d : ConsumerValue) (unit : UnitValue) (t : AreTogether d unit) where
         none_some raw is = absurd (cc)
 
     -- ---- it stopped
-    pub stopped_together : (e : ConsumerValue) (new : UnitValue) (raw at_head : Raw) (ill : Ill) → raw ≡ at_head → e ≡ p.consumer → HasSeen e.trail at_head
+    pub stopped_together : (e : ConsumerValue UnitValue) (new : UnitValue) (raw at_head : Raw) (ill : Ill) → raw ≡ at_head → e ≡ p.consumer → HasSeen e.trail at_head
         → IsStoppedAt raw ill unit new → AreTogether e new
     stopped_together e new raw at_head ill same e_is seen stop = record {
       many = ap (λ (u : UnitValue). taken u.counts) stop.new_is ∙ t.many ∙ sym (ap (λ (l : List Taken). length l) same_taken);
@@ -91,7 +103,7 @@ module _ (d : ConsumerValue) (unit : UnitValue) (t : AreTogether d unit) where
     }
       where
         same_taken : taken_of e.trail ≡ taken_of d.trail
-        same_taken = ap (λ (x : ConsumerValue). taken_of x.trail) e_is ∙ taken_before
+        same_taken = ap (λ (x : ConsumerValue UnitValue). taken_of x.trail) e_is ∙ taken_before
 
         same_counts : new.counts ≡ unit.counts
         same_counts = ap (λ (u : UnitValue). u.counts) stop.new_is
@@ -109,12 +121,12 @@ pub replaced_more : (raw : Raw) (ill : Ill) (old new : UnitValue) → IsReplaced
 replaced_more raw ill old new is =
     ap (λ (u : UnitValue). taken u.counts) is.new_is ∙ (let e : old.counts.applied + (old.counts.replaced + 1) ≡ taken old.counts + 1 = omega arith in e)
 
-pub engine_has : (o : Option ConsumerValue) (d : ConsumerValue) (unit : UnitValue) → o ≡ Some d → IsEngine o unit → AreTogether d unit
-engine_has o d unit is whole = subst (λ (x : Option ConsumerValue). IsEngine x unit) is whole
+pub engine_has : (o : Option (ConsumerValue UnitValue)) (d : ConsumerValue UnitValue) (unit : UnitValue) → o ≡ Some d → IsEngine o unit → AreTogether d unit
+engine_has o d unit is whole = subst (λ (x : Option (ConsumerValue UnitValue)). IsEngine x unit) is whole
 
 -- ---- the unit changed, and nothing was taken
 
-pub still_counted : (o : Option ConsumerValue) (old new : UnitValue) → IsEngine o old → new.counts ≡ old.counts → new.stop.next ≡ old.stop.next → StaysSettled old new [] → IsEngine o new
+pub still_counted : (o : Option (ConsumerValue UnitValue)) (old new : UnitValue) → IsEngine o old → new.counts ≡ old.counts → new.stop.next ≡ old.stop.next → StaysSettled old new [] → IsEngine o new
 still_counted None old new together counts next keeps = together
 still_counted (Some d) old new together counts next keeps = record {
   many = ap taken counts ∙ together.many;
@@ -123,6 +135,6 @@ still_counted (Some d) old new together counts next keeps = record {
   seen = λ raw is. together.seen raw (sym next ∙ is);
 }
 
-pub engine_settled : (o : Option ConsumerValue) (unit : UnitValue) → IsEngine o unit → IsSettled unit.caches.entries (taken_of (consumer_in o).trail)
+pub engine_settled : (o : Option (ConsumerValue UnitValue)) (unit : UnitValue) → IsEngine o unit → IsSettled unit.caches.entries (taken_of (consumer_in o).trail)
 engine_settled None unit together = absurd together
 engine_settled (Some d) unit together = together.settled

@@ -22,12 +22,12 @@ use Rattle.engine.specs.Units.{UnitValue, IsApplied, IsStoppedAt, IsReplaced, Ar
 
 -- the engine: its consumer and its unit
 pub record EngineValue : Type 0 where
-  pub consumer : ConsumerValue
+  pub consumer : ConsumerValue UnitValue
   pub unit : UnitValue
 
 -- The unit has taken what the consumer has, counted it, and is settled for it; the words at which it stopped are those
 -- that the consumer read at the head.
-pub record AreTogether (consumer : ConsumerValue) (unit : UnitValue) : Type 0 where
+pub record AreTogether (consumer : ConsumerValue UnitValue) (unit : UnitValue) : Type 0 where
   pub many : taken unit.counts ≡ length (taken_of consumer.trail)
   pub counted : AreCountsOf (taken_of consumer.trail) unit.counts
   pub settled : IsSettled unit.caches.entries (taken_of consumer.trail)
@@ -35,36 +35,37 @@ pub record AreTogether (consumer : ConsumerValue) (unit : UnitValue) : Type 0 wh
 
 -- ---- an engine lends its consumer to each step, and has it back behind it
 
-abbrev pub nobody : ConsumerValue
+abbrev pub nobody : ConsumerValue UnitValue
 nobody = record {
   ring = record { table = record { words = 0; slots = 0; views_name = 0; atom = 0; block = 0; offset = 0; slot_names = [] }; made_with = made_with 0 0 0 };
   trail = [];
   history = [];
+  lent = None;
 }
 
-abbrev pub consumer_in : Option ConsumerValue → ConsumerValue
+abbrev pub consumer_in : Option (ConsumerValue UnitValue) → ConsumerValue UnitValue
 consumer_in None = nobody
 consumer_in (Some consumer) = consumer
 
-abbrev pub IsEngine : Option ConsumerValue → UnitValue → Type 0
+abbrev pub IsEngine : Option (ConsumerValue UnitValue) → UnitValue → Type 0
 IsEngine None unit = ⊥
 IsEngine (Some consumer) unit = AreTogether consumer unit
 
 -- ---- what a step of at most so many commands took from the ring
 
 -- This command stands at the head, ahead of some more.
-pub record IsFirst (most : ℕ) (consumer : ConsumerValue) (p : PendingValue) (raw : Raw) : Type 0 where
+pub record IsFirst (most : ℕ) (consumer : ConsumerValue UnitValue) (p : PendingValue UnitValue) (raw : Raw) : Type 0 where
   pub read : TookRun most consumer p
   pub rest : List Raw
   pub raws_are : p.raws ≡ raw ∷ rest
 
 abbrev pub HasStoppedAt : ℕ → Ill → EngineValue → EngineValue → Type 0
 HasStoppedAt most ill old new =
-    (p : PendingValue) × (raw : Raw) × IsFirst most old.consumer p raw × IsStoppedAt raw ill old.unit new.unit × (new.consumer ≡ p.consumer)
+    (p : PendingValue UnitValue) × (raw : Raw) × IsFirst most old.consumer p raw × IsStoppedAt raw ill old.unit new.unit × (new.consumer ≡ p.consumer)
 
 abbrev pub HasReplaced : ℕ → Ill → EngineValue → EngineValue → Type 0
 HasReplaced most ill old new =
-    (p : PendingValue) × (raw : Raw) × IsFirst most old.consumer p raw × IsReplaced raw ill old.unit new.unit × (record new.consumer { history = [] } ≡ completed 1 (unknowing p))
+    (p : PendingValue UnitValue) × (raw : Raw) × IsFirst most old.consumer p raw × IsReplaced raw ill old.unit new.unit × (record new.consumer { history = [] } ≡ completed 1 new.unit (unknowing p))
 
 -- ---- one command
 
@@ -74,7 +75,7 @@ HasStepped old new Empty = TookNone false old.consumer new.consumer × (new.unit
 HasStepped old new Drained = TookNone true old.consumer new.consumer × (new.unit ≡ old.unit)
 HasStepped old new Unwritten = TookUnwritten 1 old.consumer new.consumer × (new.unit ≡ old.unit)
 HasStepped old new (Applied command removed) =
-    (p : PendingValue) × (raw : Raw) × IsFirst 1 old.consumer p raw × IsApplied raw command removed old.unit new.unit × (record new.consumer { history = [] } ≡ completed 1 (unknowing p))
+    (p : PendingValue UnitValue) × (raw : Raw) × IsFirst 1 old.consumer p raw × IsApplied raw command removed old.unit new.unit × (record new.consumer { history = [] } ≡ completed 1 new.unit (unknowing p))
 HasStepped old new (Stopped ill) = HasStoppedAt 1 ill old new
 HasStepped old new (Replaced ill) = HasReplaced 1 ill old new
 HasStepped old new StillStopped = IsStopped old.unit.stop.mode × (new ≡ old)
@@ -84,13 +85,13 @@ HasStepped old new Exhausted = (2 ^ 46 ≤ taken old.unit.counts) × (new ≡ ol
 
 -- The first so many of the commands that were read are legal, the one behind them isn't, if one is, and they were applied.
 pub record HasAppliedRun (most count removed : ℕ) (old new : EngineValue) : Type 0 where
-  pub pending : PendingValue
+  pub pending : PendingValue UnitValue
   pub read : TookRun most old.consumer pending
   pub some : 1 ≤ count
   pub within : count ≤ length pending.raws
   pub applied : AreApplied (take count pending.raws) removed old.unit new.unit
   pub longest : (raw : Raw) → slice_get pending.raws count ≡ Some raw → (ill : Ill) × (first_ill raw ≡ Some ill)
-  pub completed_are : record new.consumer { history = [] } ≡ completed count (unknowing pending)
+  pub completed_are : record new.consumer { history = [] } ≡ completed count new.unit (unknowing pending)
 
 -- What a step of at most so many commands did, by its answer.
 abbrev pub HasRun : ℕ → EngineValue → EngineValue → RunAnswer → Type 0

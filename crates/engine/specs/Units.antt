@@ -17,13 +17,18 @@ use Rattle.engine.specs.declared.verdict.Verdict.{Verdict}
 use Rattle.engine.specs.declared.verdict.Verdict.TheVariants.{Applied, Stopped, Replaced}
 use Rattle.engine.specs.Settled.{IsSettled}
 use Rattle.engine.specs.Stops.{StopValue, unstopped, stopped_at, gone_on}
-use Rattle.engine.specs.Counting.{CountsValue, taken, none_counted, counted_applied, counted_replaced}
+use Rattle.engine.specs.Counting.{CountsValue, taken, none_counted, counted_applied, counted_replaced, AreCountsOf}
 
 -- the unit: its caches, how its stop stands, and what it counted
 pub record UnitValue : Type 0 where
   pub caches : Stored
   pub stop : StopValue
   pub counts : CountsValue
+
+-- The unit has taken just these: it counted them, and its entries are settled for them.
+pub record IsSettledUnit (unit : UnitValue) (list : List Taken) : Type 0 where
+  pub entries : IsSettled unit.caches.entries list
+  pub counted : AreCountsOf list unit.counts
 
 -- a unit that has taken nothing
 abbrev pub new_unit : Stored → UnitValue

@@ -7,7 +7,7 @@ ghost use Rattle.caches.specs.Held.{held};
 ghost use Rattle.engine.specs.Settled.{IsSettled};
 ghost use Rattle.engine.specs.Stops.{IsStopped, MayComeNext, told, err_of, word_of, command_queue_bit};
 ghost use Rattle.engine.specs.Counting.{taken};
-ghost use Rattle.engine.specs.Units.{HasJudged, StaysSettled, IsLegal, IsApplied, took, new_unit, filled, with_entries};
+ghost use Rattle.engine.specs.Units.{HasJudged, StaysSettled, IsSettledUnit, IsLegal, IsApplied, took, new_unit, filled, with_entries};
 
 use crate::counts::Counts;
 use crate::remedy::{AckFault, Remedy};
@@ -38,11 +38,12 @@ impl Model for Unit {
     ghost view = { λ u. record { caches = u.caches; stop = u.stop; counts = u.counts } };
 }
 
-/// It is settled for the commands taken where its entries are: none is older than a command that covers it.
+/// It is settled for the commands taken where it counted just them, and its entries are: none is older than a command
+/// that covers it. So one that has taken nothing is settled for no other list than the empty one.
 impl Device for Unit {
-    ghost use Rattle.engine.specs.Settled.{IsSettled};
+    ghost use Rattle.engine.specs.Units.{IsSettledUnit};
 
-    ghost settled = { λ u taken. IsSettled u.caches.entries taken };
+    ghost settled = { λ u taken. IsSettledUnit u taken };
 }
 
 impl Unit {
@@ -154,10 +155,11 @@ impl Unit {
 }
 
 impl Unit {
-    /// A witness of what a ring asks of a unit that is its device: that its entries are settled for all that was taken.
+    /// A witness of what a ring asks of a unit that is its device: that it counted all that was taken, and that its
+    /// entries are settled for it.
     /// It does nothing.
     pub fn is_settled_as_a_device(&self)
-        ensures { (list : List Taken) → ⟦<Unit as Device>⟧.settled self.now list ↔ IsSettled self.now.caches.entries list }
+        ensures { (list : List Taken) → ⟦<Unit as Device>⟧.settled self.now list ↔ IsSettledUnit self.now list }
     {
         let _ = &self.caches;
     }

@@ -2,3 +2,4 @@ pub mod TableLemmas
 pub mod SenderLemmas
 pub mod ConsumerLemmas
 pub mod FinishLemmas
+pub mod Crossing

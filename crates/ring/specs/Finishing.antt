@@ -34,7 +34,7 @@ all_in ring trail history all = map sender_in all ++ participant ring Consumer t
 
 -- One run has the trails of all seats, and no other steps. What each of them knew at its newest step is an older part of
 -- it, behind which it took no step.
-pub record IsRunOf (ring : RingValue) (senders : List SenderValue) (consumer : ConsumerValue) (run : Run) : Type 0 where
+pub record IsRunOf {D : Type 0} (ring : RingValue) (senders : List SenderValue) (consumer : ConsumerValue D) (run : Run) : Type 0 where
   pub run_is : IsRun ring.made_with run
   pub only : OnlyOf ring.made_with.senders run
   pub of_senders : (k : ℕ) (s : SenderValue) → slice_get senders k ≡ Some s → trail_of (Sender k) run ≡ s.trail
@@ -63,7 +63,7 @@ WasToldAll run s trail = (newer older : Trail) (number : ℕ) → trail ≡ newe
 -- There is one run that has all trails. It is ordered delivery, of batches that are a merge of the senders'; the
 -- commands that are taken are a beginning of the merge, and the whole merge where as many were taken as reserved. So it is
 -- where the consumer saw the ring closed and empty.
-pub record IsEnd (ring : RingValue) (senders : List SenderValue) (consumer : ConsumerValue) (end : SummaryValue) : Type 0 where
+pub record IsEnd {D : Type 0} (ring : RingValue) (senders : List SenderValue) (consumer : ConsumerValue D) (end : SummaryValue) : Type 0 where
   pub run : Run
   pub run_of : IsRunOf ring senders consumer run
   pub delivery : IsOrderedDelivery run

@@ -33,11 +33,11 @@ abbrev pub made_with : ℕ → ℕ → ℕ → Ring
 made_with log2 senders max_batches = record { geometry = log2; senders = senders; max_batches = max_batches; flags = 64 }
 
 -- A ring of these numbers, with its senders and its consumer, before the first step.
-pub record IsUnused (log2 senders max_batches : ℕ) (ring : RingValue) (all : List SenderValue) (consumer : ConsumerValue) : Type 0 where
+pub record IsUnused {D : Type 0} (log2 senders max_batches : ℕ) (ring : RingValue) (all : List SenderValue) (consumer : ConsumerValue D) : Type 0 where
   pub made_is : ring.made_with ≡ made_with log2 senders max_batches
   pub senders_are : all ≡ new_senders ring senders
-  pub consumer_is : consumer ≡ record { ring = ring; trail = []; history = [] }
+  pub consumer_is : consumer ≡ record { ring = ring; trail = []; history = []; lent = None }
 
-pub record IsNewRing (log2 senders max_batches : ℕ) (ring : RingValue) (all : List SenderValue) (consumer : ConsumerValue) : Type 0 where
+pub record IsNewRing {D : Type 0} (log2 senders max_batches : ℕ) (ring : RingValue) (all : List SenderValue) (consumer : ConsumerValue D) : Type 0 where
   pub numbers : number_fault log2 senders max_batches ≡ None
   pub unused : IsUnused log2 senders max_batches ring all consumer

@@ -1,3 +1,4 @@
+pub mod Lending
 pub mod Consumers
 pub mod Pendings
 pub mod Taking

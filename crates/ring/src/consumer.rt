@@ -16,6 +16,7 @@ ghost use Rattle.ring.specs.consumer.Taking.{HasTaken, HasTakenRun, IsReadyWith,
 
 mod commands;
 mod consumer_port;
+mod lent;
 mod pending;
 mod pending_run;
 mod taken;
@@ -27,11 +28,12 @@ use crate::table::Participants;
 use atomic_table::Seat;
 pub use commands::Commands;
 pub use consumer_port::ConsumerPort;
+pub use lent::Lent;
 pub use pending::Pending;
 pub use pending_run::PendingRun;
 use qindex::Control;
 use ringcore::world_law;
-use std::marker::{Model, PhantomData};
+use std::marker::Model;
 pub use taken::{Taken, TakenRun};
 
 /// The one who takes a ring's commands, in the order of their reservation, for a device of this type.
@@ -40,15 +42,16 @@ pub struct Consumer<D: Device> {
     pub(crate) port: ConsumerPort,
     /// Room for the commands of a run.
     pub(crate) commands: Commands,
-    pub(crate) device: PhantomData<D>,
+    /// The device that was lent last.
+    pub(crate) lent: Lent<D>,
 }
 
 impl<D: Device> Model for Consumer<D> {
-    ghost use Rattle.ring.specs.consumer.Consumers.{ConsumerValue};
+    ghost use Rattle.ring.specs.consumer.Consumers.{ConsumerValue, consumer_of};
 
-    ghost Value = { ConsumerValue };
+    ghost Value = { ConsumerValue D };
 
-    ghost view = { λ d. d.port };
+    ghost view = { λ d. consumer_of d.port d.lent };
 }
 
 impl<D: Device> Consumer<D> {
@@ -66,7 +69,7 @@ impl<D: Device> Consumer<D> {
         let Consumer {
             port,
             commands: _,
-            device: _,
+            lent: _,
         } = self;
         port.into_seat()
     }
@@ -154,14 +157,14 @@ impl<D: Device> Consumer<D> {
         let Consumer {
             mut port,
             mut commands,
-            device,
+            lent,
         } = consumer;
         port.read_run(ring, found, &mut commands);
         port.steady();
         TakenRun::Ready(PendingRun {
             port,
             commands,
-            device,
+            lent,
         })
     }
 }

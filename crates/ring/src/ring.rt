@@ -6,7 +6,7 @@ ghost use Rattle.ring.specs.table.Rule.{IsWithinLimits, first_participants, part
 ghost use Rattle.ring.specs.Finishing.{AreAll, IsEnd};
 ghost use Rattle.ring.specs.NewRings.{IsNewRing, IsUnused, new_senders, IsNotMade, number_fault};
 
-use crate::consumer::{Commands, Consumer, ConsumerPort};
+use crate::consumer::{Commands, Consumer, ConsumerPort, Lent};
 use crate::device::Device;
 use crate::fault::RingFault;
 use crate::sender::{Sender, Tally};
@@ -16,7 +16,7 @@ use atomic_table::{Seat, Shared, Table};
 use qindex::{Control, Geometry, Index, control_words_say_their_control, indexes_tell_the_queue};
 use ringcore::{batches_law, control_word, laws, words, world_law};
 use std::alloc::{AllocError, Global};
-use std::marker::{Model, PhantomData};
+use std::marker::Model;
 
 /// The words of a ring, which all threads share.
 #[derive(Drop)]
@@ -93,7 +93,7 @@ impl Ring {
                 taken: 0,
             },
             commands,
-            device: PhantomData,
+            lent: Lent::nothing(),
         };
         Ok((Ring { table, made_with }, all, consumer))
     }

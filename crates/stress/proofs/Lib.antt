@@ -1,3 +1,4 @@
+pub mod Crossing
 pub mod Bodies
 pub mod Turns
 pub mod Own

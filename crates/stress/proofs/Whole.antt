@@ -71,7 +71,7 @@ at_each [] i less = absurd (omega (arith, less))
 at_each (x ∷ xs) zero less = (x, refl)
 at_each (x ∷ xs) (suc i) less = at_each xs i (omega (arith, less))
 
-pub merge_of : (plan : PlanValue) (ring : RingValue) (senders : List SenderValue) (consumer : ConsumerValue) (end : SummaryValue)
+pub merge_of : {D : Type 0} (plan : PlanValue) (ring : RingValue) (senders : List SenderValue) (consumer : ConsumerValue D) (end : SummaryValue)
     → AreAll ring senders → ring.made_with.senders ≡ plan.senders → HaveSent plan senders → (is : IsEnd ring senders consumer end)
     → IsMergeOf plan (batches is.run)
 merge_of plan ring senders consumer end all many_are sent is = record {

@@ -77,7 +77,7 @@ first_is (y ∷ l) x e = some-injective y x e
 
 -- ---- once the table is closed
 
-module _ (ring : RingValue) (senders : List SenderValue) (consumer : ConsumerValue) (id : ℕ) (v : List Participant) (ws : List ℕ) (ss : List (Unit {0}))
+module _ {D : Type 0} (ring : RingValue) (senders : List SenderValue) (consumer : ConsumerValue D) (id : ℕ) (v : List Participant) (ws : List ℕ) (ss : List (Unit {0}))
     (closed : Final (Seen (RuleHolds ring.made_with) id v) ws ss) (v_is : v ≡ all_in ring.made_with consumer.trail consumer.history senders) (all : AreAll ring senders) where
   abbrev key : Ring
   key = ring.made_with

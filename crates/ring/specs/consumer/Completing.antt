@@ -32,12 +32,12 @@ abbrev pub completed_trail : List Raw → Trail → Trail
 completed_trail raws t = all_acknowledged raws (Advance raws ∷ t)
 
 -- a run that is pending, without what its consumer knows of the ring's run
-abbrev pub unknowing : PendingValue → PendingValue
+abbrev pub unknowing : {D : Type 0} → PendingValue D → PendingValue D
 unknowing p = record p { consumer = record p.consumer { history = [] } }
 
--- The first so many are taken.
-abbrev pub completed : ℕ → PendingValue → ConsumerValue
-completed count p = record p.consumer { trail = completed_trail (take count p.raws) p.consumer.trail }
+-- The first so many are taken, while this device is lent.
+abbrev pub completed : {D : Type 0} → ℕ → D → PendingValue D → ConsumerValue D
+completed count device p = record p.consumer { trail = completed_trail (take count p.raws) p.consumer.trail; lent = Some device }
 
 -- ---- in between
 

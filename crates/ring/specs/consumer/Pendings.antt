@@ -7,7 +7,7 @@ use Rattle.ringcore.specs.declared.world.event.Half.TheVariants.{Lo, Hi}
 use Rattle.ringcore.specs.declared.world.event.Event.TheVariants.{Read}
 use Rattle.ringcore.specs.world.Trails.{Trail, found_ready, half_read, head_read}
 use Rattle.ringcore.specs.world.World.{half_of}
-use Rattle.ring.specs.consumer.Consumers.{ConsumerValue}
+use Rattle.ring.specs.consumer.Consumers.{ConsumerPortValue, ConsumerValue}
 
 -- This command was read at the head, and not taken.
 abbrev pub HasSeen : Trail → Raw → Type 0
@@ -26,21 +26,21 @@ pub record HasReadRun (t : Trail) (raws : List Raw) : Type 0 where
   pub seen : (raw : Raw) (rest : List Raw) → raws ≡ raw ∷ rest → HasSeen t raw
 
 -- a run that is pending: its consumer, and its commands
-pub record PendingValue : Type 0 where
-  pub consumer : ConsumerValue
+pub record PendingValue (D : Type 0) : Type 0 where
+  pub consumer : ConsumerValue D
   pub raws : List Raw
 
-pub record IsPending (consumer : ConsumerValue) (raws : List Raw) : Type 0 where
+pub record IsPending (consumer : ConsumerPortValue) (raws : List Raw) : Type 0 where
   pub read : HasReadRun consumer.trail raws
   pub few : length raws ≤ 64
   pub fits : length raws ≤ size consumer.ring.made_with.geometry
 
 -- a command that is pending
-pub record OneValue : Type 0 where
-  pub consumer : ConsumerValue
+pub record OneValue (D : Type 0) : Type 0 where
+  pub consumer : ConsumerValue D
   pub raw : Raw
 
-abbrev pub run_of : OneValue → PendingValue
+abbrev pub run_of : {D : Type 0} → OneValue D → PendingValue D
 run_of p = record { consumer = p.consumer; raws = p.raw ∷ [] }
 
 abbrev pub first_of : List Raw → Raw

@@ -13,11 +13,11 @@ use Rattle.ring.specs.Rings.{RingValue}
 use Rattle.ring.specs.consumer.Consumers.{ConsumerValue}
 use Rattle.ring.specs.consumer.Pendings.{PendingValue, run_of, reads_from}
 
-abbrev pub with_trail : ConsumerValue → Trail → ConsumerValue
+abbrev pub with_trail : {D : Type 0} → ConsumerValue D → Trail → ConsumerValue D
 with_trail d t = record d { trail = t }
 
 -- a look that found nothing reserved: in the run as it is known then, all that is reserved is taken
-pub record TookNone (closed : Bool) (d e : ConsumerValue) : Type 0 where
+pub record TookNone {D : Type 0} (closed : Bool) (d e : ConsumerValue D) : Type 0 where
   pub seen : Control
   pub nothing : seen.prod.number ≡ seen.cons.number
   pub closed_is : seen.closed ≡ closed
@@ -26,20 +26,20 @@ pub record TookNone (closed : Bool) (d e : ConsumerValue) : Type 0 where
   pub trail_is : record e { history = [] } ≡ with_trail (record d { history = [] }) (Look seen ∷ d.trail)
 
 -- a look that found something reserved, and a test that found the head not written
-pub record TookUnwritten (most : ℕ) (d e : ConsumerValue) : Type 0 where
+pub record TookUnwritten {D : Type 0} (most : ℕ) (d e : ConsumerValue D) : Type 0 where
   pub seen : Control
   pub something : seen.prod.number ≢ seen.cons.number
   pub trail_is : record e { history = [] } ≡ with_trail (record d { history = [] }) (Test most 0 ∷ Look seen ∷ d.trail)
 
 -- a look that found something reserved, a test that found some ready, and reads of just these
-pub record TookRun (most : ℕ) (d : ConsumerValue) (p : PendingValue) : Type 0 where
+pub record TookRun {D : Type 0} (most : ℕ) (d : ConsumerValue D) (p : PendingValue D) : Type 0 where
   pub seen : Control
   pub something : seen.prod.number ≢ seen.cons.number
   pub some : 1 ≤ length p.raws
   pub few : length p.raws ≤ most
   pub trail_is : record p.consumer { history = [] } ≡ with_trail (record d { history = [] }) (reads_from 0 p.raws (Test most (length p.raws) ∷ Look seen ∷ d.trail))
 
-abbrev pub HasTakenRun : {D : Type 0} → ℕ → ConsumerValue → TakenRun D → Type 0
+abbrev pub HasTakenRun : {D : Type 0} → ℕ → ConsumerValue D → TakenRun D → Type 0
 HasTakenRun most d (Empty e) = TookNone false d e
 HasTakenRun most d (Drained e) = TookNone true d e
 HasTakenRun most d (Unwritten e) = TookUnwritten most d e
@@ -51,7 +51,7 @@ BeginsWith raw (Ready p) = (rest : List Raw) × (p.raws ≡ raw ∷ rest)
 BeginsWith raw other = ⊥
 
 -- as of a run of at most one command
-abbrev pub HasTaken : {D : Type 0} → ConsumerValue → Taken D → Type 0
+abbrev pub HasTaken : {D : Type 0} → ConsumerValue D → Taken D → Type 0
 HasTaken d (one.Empty e) = TookNone false d e
 HasTaken d (one.Drained e) = TookNone true d e
 HasTaken d (one.Unwritten e) = TookUnwritten 1 d e

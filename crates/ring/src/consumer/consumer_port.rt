@@ -34,9 +34,9 @@ pub struct ConsumerPort {
 }
 
 impl Model for ConsumerPort {
-    ghost use Rattle.ring.specs.consumer.Consumers.{ConsumerValue, IsConsumer};
+    ghost use Rattle.ring.specs.consumer.Consumers.{ConsumerPortValue, IsConsumer};
 
-    ghost Value = { ConsumerValue };
+    ghost Value = { ConsumerPortValue };
 
     ghost view = { λ p. record { ring = p.port.ring; trail = p.port.trail; history = p.port.history } };
 

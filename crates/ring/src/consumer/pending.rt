@@ -20,7 +20,7 @@ impl<D: Device> Model for Pending<D> {
     ghost use Rattle.std.specs.Prelude.{◌≡◌, ◌∷◌, []};
     ghost use Rattle.ring.specs.consumer.Pendings.{OneValue, first_of};
 
-    ghost Value = { OneValue };
+    ghost Value = { OneValue D };
 
     ghost view = { λ p. record { consumer = p.run.consumer; raw = first_of p.run.raws } };
 
@@ -50,7 +50,7 @@ impl<D: Device> Pending<D> {
         requires ring { self.consumer.ring ≡ ring.now }
         requires outcome { _outcome ≡ outcome_of self.raw }
         requires settled { D.settled _device.now (taken_of self.consumer.trail ++ record { raw = self.raw; outcome = _outcome } ∷ []) }
-        ensures consumer { record result { history = [] } ≡ completed 1 (unknowing (run_of self)) }
+        ensures consumer { record result { history = [] } ≡ completed 1 _device.now (unknowing (run_of self)) }
         ensures ring { result.ring ≡ self.consumer.ring }
         ensures taken { taken_of result.trail ≡ taken_of self.consumer.trail ++ record { raw = self.raw; outcome = _outcome } ∷ [] }
     {

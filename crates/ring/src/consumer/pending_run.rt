@@ -6,26 +6,27 @@ ghost use Rattle.ringcore.specs.world.World.{outcome_of};
 ghost use Rattle.ring.specs.consumer.Pendings.{HasSeen};
 ghost use Rattle.ring.specs.consumer.Completing.{completed, unknowing, taken_of, with_outcome, HasOutcome};
 
-use crate::consumer::{Commands, Consumer, ConsumerPort};
+use crate::consumer::{Commands, Consumer, ConsumerPort, Lent};
 use crate::device::Device;
 use crate::ring::Ring;
 use cmdcodec::Raw;
 use ringcore::{Outcome, laws};
-use std::marker::{Model, PhantomData};
+use std::marker::Model;
 
 /// Commands from the head on, as they were read. It must be spent by `complete_run` or `put_back`.
 pub struct PendingRun<D: Device> {
     pub(crate) port: ConsumerPort,
     pub(crate) commands: Commands,
-    pub(crate) device: PhantomData<D>,
+    pub(crate) lent: Lent<D>,
 }
 
 impl<D: Device> Model for PendingRun<D> {
+    ghost use Rattle.ring.specs.consumer.Consumers.{consumer_of};
     ghost use Rattle.ring.specs.consumer.Pendings.{PendingValue, IsPending};
 
-    ghost Value = { PendingValue };
+    ghost Value = { PendingValue D };
 
-    ghost view = { λ p. record { consumer = p.port; raws = p.commands } };
+    ghost view = { λ p. record { consumer = consumer_of p.port p.lent; raws = p.commands } };
 
     ghost invariant = { λ p. IsPending p.port p.commands };
 }
@@ -59,12 +60,12 @@ impl<D: Device> PendingRun<D> {
         let PendingRun {
             port,
             commands,
-            device,
+            lent,
         } = self;
         Consumer {
             port,
             commands,
-            device,
+            lent,
         }
     }
 
@@ -83,19 +84,19 @@ impl<D: Device> PendingRun<D> {
         requires outcome { HasOutcome _outcome (take count self.raws) }
         requires one { _outcome ≡ Replaced → count ≡ 1 }
         requires settled { D.settled _device.now (taken_of self.consumer.trail ++ map (with_outcome _outcome) (take count self.raws)) }
-        ensures consumer { record result { history = [] } ≡ completed count (unknowing self) }
+        ensures consumer { record result { history = [] } ≡ completed count _device.now (unknowing self) }
         ensures ring { result.ring ≡ self.consumer.ring }
         ensures taken { taken_of result.trail ≡ taken_of self.consumer.trail ++ map (with_outcome _outcome) (take count self.raws) }
     {
         let PendingRun {
             port,
             commands,
-            device,
+            lent: _,
         } = self;
         Consumer {
             port: port.complete_run(ring, &commands, count),
             commands,
-            device,
+            lent: Lent::of(_device),
         }
     }
 }

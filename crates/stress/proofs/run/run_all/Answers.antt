@@ -2,6 +2,7 @@ use Rattle.std.proofs.Common.{◌∙◌, ℕ, List, sym, ap, subst, arith}
 use Rattle.std.specs.List.{All}
 use Rattle.ring.specs.sender.Senders.{SenderValue}
 use Rattle.ring.specs.consumer.Consumers.{ConsumerValue}
+use Rattle.engine.specs.Units.{UnitValue}
 use Rattle.stress.specs.FirstEntries.{IsFilled}
 use Rattle.stress.specs.Workers.{IsNew, assignments_of}
 use Rattle.stress.proofs.Rows.{workers_in, all_new}
@@ -24,5 +25,5 @@ finish-requires-clause-engine g c = record {
   goes_on = c.run_at_once-engine.ensures.engine;
   ring_is =
       c.run_at_once-engine.ensures.engine.ring
-      ∙ (ap (λ (d : ConsumerValue). d.ring) c.in_ok-engine.ensures.consumer ∙ ap (λ (d : ConsumerValue). d.ring) c.in-Ok.ensures.made.unused.consumer_is);
+      ∙ (ap (λ (d : ConsumerValue UnitValue). d.ring) c.in_ok-engine.ensures.consumer ∙ ap (λ (d : ConsumerValue UnitValue). d.ring) c.in-Ok.ensures.made.unused.consumer_is);
 }

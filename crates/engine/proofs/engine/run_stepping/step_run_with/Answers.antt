@@ -5,11 +5,10 @@ use Rattle.cmdcodec.specs.declared.raw.Raw.{Raw}
 use Rattle.ringcore.specs.declared.world.event.Outcome.TheVariants.{Applied, Replaced}
 use Rattle.ringcore.specs.world.World.{Taken}
 use Rattle.ring.specs.consumer.Completing.{taken_of, with_outcome}
-use Rattle.engine.specs.Settled.{IsSettled}
 use Rattle.engine.specs.Stops.{StopValue}
-use Rattle.engine.specs.Units.{UnitValue, AreApplied}
+use Rattle.engine.specs.Units.{UnitValue, IsSettledUnit, AreApplied}
 use Rattle.engine.proofs.Counted.{StaysCounted, run_counted, replaced_counted, run_removes, stopped_removes, replaced_removes}
-use Rattle.engine.proofs.Stepping.{still_none, still_unwritten, taken_before, taken_settled, taken_together, stopped_together, applied_more, replaced_more}
+use Rattle.engine.proofs.Stepping.{still_none, still_unwritten, taken_before, taken_settled, taken_unit, taken_together, stopped_together, applied_more, replaced_more}
 use Rattle.engine.proofs.Running.{all_applied, all_legal, all_settled, all_counted, none_kept, first_is, first_and_rest, take_first, first_replaced, get_behind_first, length_behind_first}
 use Rattle.engine.proofs.engine.run_stepping.step_run_with.Goals as goal
 
@@ -37,7 +36,7 @@ complete_run-requires-clause-outcome c = all_legal _ _ _ _ (applied c)
 
 pub complete_run-requires-clause-settled : goal.complete_run-requires-clause-settled
 complete_run-requires-clause-settled c =
-    taken_settled _ _ c.requires.together _ _ c.in-Ready.ensures.taken c.apply_rest-more.new.unit _ (all_settled _ _ _ _ (applied c))
+    taken_unit _ _ c.requires.together _ _ c.in-Ready.ensures.taken c.apply_rest-more.new.unit _ (all_settled _ _ _ _ (applied c)) (run_counted _ _ _ _ (applied c))
 
 pub returns-in-Applied-clause-stepped : goal.returns-in-Applied-clause-stepped
 returns-in-Applied-clause-stepped c = record {
@@ -67,11 +66,11 @@ returns-in-Applied-clause-together c =
 pub complete_run-requires-in-Replaced-clause-outcome : goal.complete_run-requires-in-Replaced-clause-outcome
 complete_run-requires-in-Replaced-clause-outcome c = first_replaced c.in-Ready.run'.raws c.unwrap.result _ (sym c.get.ensures ∙ c.unwrap.ensures) c.in-Replaced.ensures.judged.first
 
-replaced : (c : goal.In-Replaced) → IsSettled c.judge.new.self.caches.entries (taken_of c.in-Ready.run'.consumer.trail ++ map (with_outcome Replaced) (take 1 c.in-Ready.run'.raws))
+replaced : (c : goal.In-Replaced) → IsSettledUnit c.judge.new.self (taken_of c.in-Ready.run'.consumer.trail ++ map (with_outcome Replaced) (take 1 c.in-Ready.run'.raws))
 replaced c =
-    subst (λ (raws : List Raw). IsSettled c.judge.new.self.caches.entries (taken_of c.in-Ready.run'.consumer.trail ++ map (with_outcome Replaced) raws))
+    subst (λ (raws : List Raw). IsSettledUnit c.judge.new.self (taken_of c.in-Ready.run'.consumer.trail ++ map (with_outcome Replaced) raws))
     (sym (take_first c.in-Ready.run'.raws c.unwrap.result (sym c.get.ensures ∙ c.unwrap.ensures)))
-    (taken_settled _ _ c.requires.together _ _ c.in-Ready.ensures.taken c.judge.new.self _ c.in-Replaced.ensures.settled)
+    (taken_unit _ _ c.requires.together _ _ c.in-Ready.ensures.taken c.judge.new.self _ c.in-Replaced.ensures.settled (replaced_counted _ _ _ _ c.in-Replaced.ensures.judged))
 
 pub complete_run-requires-in-Replaced-clause-settled : goal.complete_run-requires-in-Replaced-clause-settled
 complete_run-requires-in-Replaced-clause-settled c = replaced c
@@ -80,7 +79,7 @@ pub returns-in-Replaced-clause-together : goal.returns-in-Replaced-clause-togeth
 returns-in-Replaced-clause-together c =
     let raws : List Raw = take 1 c.in-Ready.run'.raws in
     taken_together _ _ c.requires.together _ _ c.in-Ready.ensures.taken c.complete_run-in-Replaced.result c.judge.new.self (map (with_outcome Replaced) raws) c.complete_run-in-Replaced.ensures.taken
-    (replaced c.before)
+    (replaced c.before).entries
     (let counted = replaced_more _ _ _ _ c.in-Replaced.ensures.judged in
     let same = length-map raws (with_outcome Replaced) in
     let one = ap (λ (l : List Raw). length l) (take_first c.in-Ready.run'.raws c.unwrap.result (sym c.get.ensures ∙ c.unwrap.ensures)) in

@@ -2,17 +2,21 @@ use Rattle.std.proofs.Common.{true, false, ap, ◌∙◌}
 use Rattle.engine.specs.Stops.{StopValue}
 use Rattle.engine.specs.Units.{UnitValue}
 use Rattle.engine.proofs.Counted.{applied_counted, replaced_counted, same_words, applied_removes, stopped_removes, replaced_removes}
-use Rattle.engine.proofs.Stepping.{still_none, still_unwritten, one_settled, taken_together, stopped_together, applied_more, replaced_more}
+use Rattle.engine.proofs.Stepping.{still_none, still_unwritten, one_settled, one_unit, taken_together, stopped_together, applied_more, replaced_more}
 use Rattle.engine.proofs.engine.stepping.step_with.Goals as goal
 
 pub judge-requires-clause-next : goal.judge-requires-clause-next
 judge-requires-clause-next c awaited is = c.raw.ensures ∙ c.in-Ready.ensures.again awaited (c.requires.together.seen awaited is)
 
 pub complete-requires-clause-settled : goal.complete-requires-clause-settled
-complete-requires-clause-settled c = one_settled _ _ c.requires.together 1 _ c.in-Ready.ensures.taken c.judge.new.self _ _ _ c.raw.ensures c.in-Applied.ensures.settled
+complete-requires-clause-settled c =
+    one_unit _ _ c.requires.together 1 _ c.in-Ready.ensures.taken c.judge.new.self _ _ _ c.raw.ensures c.in-Applied.ensures.settled
+    (applied_counted _ _ _ _ _ c.in-Applied.ensures.judged)
 
 pub complete-requires-in-Replaced-clause-settled : goal.complete-requires-in-Replaced-clause-settled
-complete-requires-in-Replaced-clause-settled c = one_settled _ _ c.requires.together 1 _ c.in-Ready.ensures.taken c.judge.new.self _ _ _ c.raw.ensures c.in-Replaced.ensures.settled
+complete-requires-in-Replaced-clause-settled c =
+    one_unit _ _ c.requires.together 1 _ c.in-Ready.ensures.taken c.judge.new.self _ _ _ c.raw.ensures c.in-Replaced.ensures.settled
+    (replaced_counted _ _ _ _ c.in-Replaced.ensures.judged)
 
 pub returns-in-Empty-clause-together : goal.returns-in-Empty-clause-together
 returns-in-Empty-clause-together c = still_none _ _ c.requires.together false _ c.in-Empty.ensures.taken

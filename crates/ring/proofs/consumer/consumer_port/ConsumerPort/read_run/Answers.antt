@@ -4,7 +4,7 @@ use Rattle.cmdcodec.specs.declared.raw.Raw.{Raw}
 use Rattle.ringcore.specs.declared.world.event.Half.{Half}
 use Rattle.ringcore.specs.world.Trails.{Trail, found_ready, half_read}
 use Rattle.ringcore.specs.world.World.{half_of}
-use Rattle.ring.specs.consumer.Consumers.{ConsumerValue}
+use Rattle.ring.specs.consumer.Consumers.{ConsumerPortValue}
 use Rattle.ring.specs.consumer.Pendings.{HasSeen}
 use Rattle.ring.proofs.ConsumerLemmas.Reads.{read_more, run_more, trail_more, seen_first}
 use Rattle.ring.proofs.consumer.consumer_port.ConsumerPort.read_run.Goals as goal
@@ -39,5 +39,5 @@ returns-clause-read c =
       some = omega (arith, m, some, all);
       ready = omega (arith, m, end, found, ready);
       read = i.read;
-      seen = λ raw rest is. subst (λ (t : Trail). HasSeen t raw) (sym (ap (λ (x : ConsumerValue). x.trail) i.port)) (seen_first _ _ raw rest is);
+      seen = λ raw rest is. subst (λ (t : Trail). HasSeen t raw) (sym (ap (λ (x : ConsumerPortValue). x.trail) i.port)) (seen_first _ _ raw rest is);
     }

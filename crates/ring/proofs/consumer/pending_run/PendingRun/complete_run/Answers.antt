@@ -1,11 +1,12 @@
 use Rattle.std.proofs.Common.{ap, ◌∙◌, take}
-use Rattle.ring.specs.consumer.Consumers.{ConsumerValue}
-use Rattle.ring.specs.consumer.Completing.{taken_of, completed, unknowing}
+use Rattle.ring.specs.consumer.Consumers.{ConsumerPortValue}
+use Rattle.ring.specs.consumer.Completing.{taken_of, completed_trail}
 use Rattle.ring.specs.consumer.Pendings.{PendingValue}
 use Rattle.ring.proofs.ConsumerLemmas.Completing.{taken_after}
 use Rattle.ring.proofs.consumer.pending_run.PendingRun.complete_run.Goals as goal
 
 pub returns-clause-taken : goal.returns-clause-taken
 returns-clause-taken g c =
-    ap (λ (d : ConsumerValue). taken_of d.trail) (c.complete_run.ensures ∙ ap (λ (p : PendingValue). completed c.args.count (unknowing p)) c.self.view_is)
+    ap (λ (d : ConsumerPortValue). taken_of d.trail) c.complete_run.ensures
+    ∙ ap (λ (p : PendingValue _). taken_of (completed_trail (take c.args.count p.raws) p.consumer.trail)) c.self.view_is
     ∙ taken_after c.args.self.consumer.trail (take c.args.count c.args.self.raws) c.args._outcome c.requires.outcome
