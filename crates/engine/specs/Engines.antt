@@ -4,7 +4,10 @@ use Rattle.cmdcodec.specs.declared.raw.Raw.{Raw}
 use Rattle.cmdcodec.specs.declared.ill.Ill.{Ill}
 use Rattle.cmdcodec.specs.Legality.{first_ill}
 use Rattle.qindex.specs.declared.control.Control.{Control}
+use Rattle.ringcore.specs.declared.world.event.Who.TheVariants.{Consumer}
 use Rattle.ringcore.specs.declared.world.event.Event.TheVariants.{Look}
+use Rattle.ringcore.specs.world.World.{world, control as control_of}
+use Rattle.ring.specs.table.Histories.{GrewBy}
 use Rattle.ring.specs.NewRings.{made_with}
 use Rattle.ring.specs.consumer.Consumers.{ConsumerValue}
 use Rattle.ring.specs.consumer.Pendings.{PendingValue, HasSeen}
@@ -106,10 +109,12 @@ HasRun most old new run.Exhausted = (2 ^ 46 ≤ taken old.unit.counts) × (new �
 
 -- ---- registers
 
--- It looked, and the registers say what it found, and how the stop stands.
+-- It looked, and the registers say what it found, as it stood in the run that is known then, and how the stop stands.
 pub record HasLooked (old new : EngineValue) (found : Registers) : Type 0 where
   pub control : Control
   pub consumer_is : record new.consumer { history = [] } ≡ with_trail (record old.consumer { history = [] }) (Look control ∷ old.consumer.trail)
+  pub grew : GrewBy Consumer (Look control) old.consumer.history new.consumer.history
+  pub control_is : control ≡ control_of old.consumer.ring.made_with.geometry (world new.consumer.history)
   pub unit_is : new.unit ≡ old.unit
   pub prod : found.prod ≡ control.prod.number
   pub cons : found.cons ≡ control.cons.number + err_of old.unit.stop.mode * 2 ^ 24

@@ -6,7 +6,7 @@ ghost use Rattle.ringcore.specs.world.World.{world};
 ghost use Rattle.caches.specs.Blocks.{IsBlock};
 ghost use Rattle.caches.specs.Held.{held};
 ghost use Rattle.ring.specs.table.Rule.{WentOn};
-ghost use Rattle.ring.specs.table.Histories.{IsHistory};
+ghost use Rattle.ring.specs.table.Histories.{IsHistory, Grew};
 ghost use Rattle.ring.specs.Finishing.{AreAll};
 ghost use Rattle.ring.specs.consumer.Completing.{taken_of};
 ghost use Rattle.engine.specs.Settled.{IsSettled};
@@ -72,6 +72,7 @@ impl Engine {
     pub fn step(&mut self, ring: &Ring) -> StepAnswer
         requires { self.old.consumer.ring ≡ ring.now }
         ensures stepped { HasStepped self.old self.new result }
+        ensures history { Grew ConsumerOf self.old.consumer.trail self.new.consumer.trail self.old.consumer.history self.new.consumer.history }
         ensures still { (result ≡ StepAnswer.StillStopped) ↔ IsStopped self.old.unit.stop.mode }
         ensures exhausted { (result ≡ StepAnswer.Exhausted) ↔ (¬ IsStopped self.old.unit.stop.mode × (taken self.old.unit.counts ≡ 2 ^ 46)) }
         ensures settled { IsSettled self.new.unit.caches.entries (taken_of self.new.consumer.trail) }
@@ -91,6 +92,7 @@ impl Engine {
         requires some { 1 ≤ most }
         requires most { most ≤ 64 }
         ensures stepped { HasRun most self.old self.new result }
+        ensures history { Grew ConsumerOf self.old.consumer.trail self.new.consumer.trail self.old.consumer.history self.new.consumer.history }
         ensures still { (result ≡ RunAnswer.StillStopped) ↔ IsStopped self.old.unit.stop.mode }
         ensures exhausted { (result ≡ RunAnswer.Exhausted) ↔ (¬ IsStopped self.old.unit.stop.mode × (taken self.old.unit.counts ≡ 2 ^ 46)) }
         ensures settled { IsSettled self.new.unit.caches.entries (taken_of self.new.consumer.trail) }

@@ -7,4 +7,5 @@ pub mod Starts
 pub mod Asks
 pub mod OneRun
 pub mod Histories
+pub mod Grown
 pub mod Meetings

@@ -16,4 +16,4 @@ pub use ring::Ring;
 pub use ringcore::Outcome;
 pub use sender::{BareReservation, Cause, Receipt, Refused, Reservation, Sender};
 pub use summary::Summary;
-pub use table::run_is_one;
+pub use table::{growth_adds_up, run_is_one};

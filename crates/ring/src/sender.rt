@@ -8,11 +8,11 @@ ghost use Rattle.ringcore.specs.declared.world.event.Who.TheVariants.{Sender as 
 ghost use Rattle.ringcore.specs.world.Trails.{looked, batches_made};
 ghost use Rattle.ringcore.specs.world.Allowed.{length_with};
 ghost use Rattle.ring.specs.table.Rule.{StandsInARun};
-ghost use Rattle.ring.specs.table.Histories.{IsHistory, GrewBy, AreApplied};
+ghost use Rattle.ring.specs.table.Histories.{IsHistory, GrewBy, Grew, AreApplied};
 ghost use Rattle.ringcore.specs.world.World.{world, control as control_of};
 ghost use Rattle.ring.specs.table.Ports.{SitsFor};
 ghost use Rattle.ring.specs.sender.Senders.{HasAsked};
-ghost use Rattle.ring.specs.sender.Reserving.{HasRoom, IsReserved, IsRefused, IsWon, IsLost, Fits, HasBatchLeft};
+ghost use Rattle.ring.specs.sender.Reserving.{HasRoom, IsReserved, IsRefused, IsWon, IsLost, Fits, HasBatchLeft, TellsRoom};
 
 mod bare_reservation;
 mod batch_length;
@@ -31,7 +31,7 @@ use atomic_table::Seat;
 pub use bare_reservation::BareReservation;
 use batch::Batch;
 pub use cause::{Cause, Refused};
-use qindex::Control;
+use qindex::{Control, indexes_tell_the_queue};
 pub use receipt::Receipt;
 pub use reservation::Reservation;
 use ringcore::laws::newest_event;
@@ -93,7 +93,8 @@ impl Sender {
     /// Closes the ring: from now on nothing is reserved, by any sender (own).
     pub fn close(&mut self, ring: &Ring)
         requires { self.old.ring ≡ ring.now }
-        ensures { record self.new { history = [] } ≡ record self.old { trail = Close ∷ self.old.trail; history = [] } }
+        ensures trail { record self.new { history = [] } ≡ record self.old { trail = Close ∷ self.old.trail; history = [] } }
+        ensures history { GrewBy (SenderOf self.old.number) Close self.old.history self.new.history }
     {
         self.port.close(ring, self.tally.sender);
     }
@@ -118,6 +119,7 @@ impl Sender {
         requires ring { self.old.ring ≡ ring.now }
         requires receipt { receipt.now.sender ≡ self.old.number }
         ensures asked { HasAsked receipt.now.number self.old self.new result }
+        ensures history { Grew (SenderOf self.old.number) self.old.trail self.new.trail self.old.history self.new.history }
         ensures told { result ≡ true → AreApplied self.new.history self.old.number receipt.now.number }
         ensures ring { self.new.ring ≡ self.old.ring }
         ensures id { self.new.number ≡ self.old.number }
@@ -133,6 +135,7 @@ impl Sender {
         requires { self.ring ≡ ring.now }
         ensures reserved { IfOk result (λ r. IsReserved batch.now true self r) }
         ensures refused { IfErr result (λ e. IsRefused batch.now true self e.cause e.sender) }
+        ensures history { MatchResult result (λ r. Grew (SenderOf self.number) self.trail r.trail self.history r.history) (λ e. Grew (SenderOf self.number) self.trail e.sender.trail self.history e.sender.history) }
         ensures ring { MatchResult result (λ r. r.ring ≡ self.ring) (λ e. e.sender.ring ≡ self.ring) }
         ensures id { MatchResult result (λ r. r.sender ≡ self.number) (λ e. e.sender.number ≡ self.number) }
     {
@@ -151,6 +154,7 @@ impl Sender {
         requires { self.ring ≡ ring.now }
         ensures reserved { IfOk result (λ r. IsReserved batch.now false self r) }
         ensures refused { IfErr result (λ e. IsRefused batch.now false self e.cause e.sender) }
+        ensures history { MatchResult result (λ r. Grew (SenderOf self.number) self.trail r.trail self.history r.history) (λ e. Grew (SenderOf self.number) self.trail e.sender.trail self.history e.sender.history) }
         ensures ring { MatchResult result (λ r. r.ring ≡ self.ring) (λ e. e.sender.ring ≡ self.ring) }
         ensures id { MatchResult result (λ r. r.sender ≡ self.number) (λ e. e.sender.number ≡ self.number) }
     {
@@ -158,6 +162,15 @@ impl Sender {
             Ok(open) => Ok(BareReservation { open }),
             Err(refused) => Err(refused),
         }
+    }
+
+    /// Where a look finds too little room, there is too little. It does nothing.
+    fn tells_room(&self)
+        ensures { TellsRoom self.now.ring.made_with.geometry (world self.now.history) }
+    {
+        world_law();
+        indexes_tell_the_queue();
+        self.port.trail_stands_in_a_run();
     }
 
     /// Looks, and tries to reserve where the batch fits.
@@ -170,6 +183,7 @@ impl Sender {
         requires { self.ring ≡ ring.now }
         ensures reserved { IfOk result (λ r. IsReserved batch.now closes self r) }
         ensures refused { IfErr result (λ e. IsRefused batch.now closes self e.cause e.sender) }
+        ensures history { MatchResult result (λ r. Grew (SenderOf self.number) self.trail r.trail self.history r.history) (λ e. Grew (SenderOf self.number) self.trail e.sender.trail self.history e.sender.history) }
         ensures ring { MatchResult result (λ r. r.ring ≡ self.ring) (λ e. e.sender.ring ≡ self.ring) }
         ensures id { MatchResult result (λ r. r.sender ≡ self.number) (λ e. e.sender.number ≡ self.number) }
     {
@@ -183,6 +197,7 @@ impl Sender {
             return Err(Cause::Exhausted.refused(sender));
         }
         let seen = sender.look(ring);
+        sender.tells_room();
         if seen.closed {
             return Err(Cause::Closed.refused(sender));
         }
@@ -209,7 +224,7 @@ impl Sender {
         requires left { HasBatchLeft self }
         requires fits { Fits batch.now closes self }
         requires control { IsControl self.ring.made_with.geometry seen }
-        ensures won { IfOk result (λ r. IsWon batch.now closes self r) }
+        ensures won { IfOk result (λ r. IsWon batch.now closes seen self r) }
         ensures lost { IfErr result (λ e. (e.cause ≡ Cause.Contended) × IsLost batch.now closes seen self e.sender) }
         ensures ring { MatchResult result (λ r. r.ring ≡ self.ring) (λ e. e.sender.ring ≡ self.ring) }
         ensures id { MatchResult result (λ r. r.sender ≡ self.number) (λ e. e.sender.number ≡ self.number) }

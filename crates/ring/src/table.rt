@@ -5,5 +5,5 @@ mod rule;
 mod steps;
 
 pub use port::Port;
-pub use rule::{Parameters, Participant, Participants, RingRule, run_is_one};
+pub use rule::{Parameters, Participant, Participants, RingRule, growth_adds_up, run_is_one};
 pub use steps::{Asks, Closes, Deals, Gathers, HasIntent, Looks, Meets, StepFor};

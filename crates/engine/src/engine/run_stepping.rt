@@ -4,6 +4,8 @@ ghost use Rattle.cmdcodec.specs.declared.raw.Raw.{Raw as RawOf};
 ghost use Rattle.cmdcodec.specs.declared.ill.Ill.{Ill as IllOf};
 ghost use Rattle.cmdcodec.specs.Legality.{first_ill};
 ghost use Rattle.engine.specs.declared.stop.Mode.TheVariants.{Running};
+ghost use Rattle.ringcore.specs.declared.world.event.Who.TheVariants.{Consumer as ConsumerOf};
+ghost use Rattle.ring.specs.table.Histories.{Grew};
 ghost use Rattle.ring.specs.consumer.Completing.{taken_of};
 ghost use Rattle.engine.specs.Stops.{IsStopped};
 ghost use Rattle.engine.specs.Counting.{taken};
@@ -14,7 +16,7 @@ use crate::answer::RunAnswer;
 use crate::unit::Unit;
 use crate::verdict::Verdict;
 use cmdcodec::decode;
-use ring::{Consumer, Outcome, PendingRun, Ring, TakenRun};
+use ring::{Consumer, Outcome, PendingRun, Ring, TakenRun, growth_adds_up};
 
 /// A step of a unit with its consumer: at most so many commands.
 pub(crate) fn step_run_with(
@@ -28,6 +30,7 @@ pub(crate) fn step_run_with(
     requires some { 1 ≤ most }
     requires most { most ≤ 64 }
     ensures stepped { HasRun most (record { consumer = consumer; unit = unit.old }) (record { consumer = result.0; unit = unit.new }) result.1 }
+    ensures history { Grew ConsumerOf consumer.trail result.0.trail consumer.history result.0.history }
     ensures still { (result.1 ≡ RunAnswer.StillStopped) ↔ IsStopped unit.old.stop.mode }
     ensures exhausted { (result.1 ≡ RunAnswer.Exhausted) ↔ (¬ IsStopped unit.old.stop.mode × (taken unit.old.counts ≡ 2 ^ 46)) }
     ensures together { AreTogether result.0 unit.new }
@@ -40,6 +43,7 @@ pub(crate) fn step_run_with(
     if unit.counts().taken() == 1 << 46 {
         return (consumer, RunAnswer::Exhausted);
     }
+    growth_adds_up();
     match consumer.take_run(ring, most) {
         TakenRun::Empty(consumer) => (consumer, RunAnswer::Empty),
         TakenRun::Drained(consumer) => (consumer, RunAnswer::Drained),

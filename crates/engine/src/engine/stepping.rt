@@ -1,5 +1,7 @@
 //! A step of one command.
 ghost use Rattle.std.specs.Prelude.{◌≡◌, ◌↔◌, ◌^◌};
+ghost use Rattle.ringcore.specs.declared.world.event.Who.TheVariants.{Consumer as ConsumerOf};
+ghost use Rattle.ring.specs.table.Histories.{Grew};
 ghost use Rattle.engine.specs.Stops.{IsStopped};
 ghost use Rattle.engine.specs.Counting.{taken};
 ghost use Rattle.engine.specs.Units.{OnlyRemoves};
@@ -8,7 +10,7 @@ ghost use Rattle.engine.specs.Engines.{AreTogether, HasStepped};
 use crate::answer::StepAnswer;
 use crate::unit::Unit;
 use crate::verdict::Verdict;
-use ring::{Consumer, Outcome, Ring, Taken};
+use ring::{Consumer, Outcome, Ring, Taken, growth_adds_up};
 
 /// A step of a unit with its consumer: at most one command.
 pub(crate) fn step_with(
@@ -19,6 +21,7 @@ pub(crate) fn step_with(
     requires ring { consumer.ring ≡ ring.now }
     requires together { AreTogether consumer unit.old }
     ensures stepped { HasStepped (record { consumer = consumer; unit = unit.old }) (record { consumer = result.0; unit = unit.new }) result.1 }
+    ensures history { Grew ConsumerOf consumer.trail result.0.trail consumer.history result.0.history }
     ensures still { (result.1 ≡ StepAnswer.StillStopped) ↔ IsStopped unit.old.stop.mode }
     ensures exhausted { (result.1 ≡ StepAnswer.Exhausted) ↔ (¬ IsStopped unit.old.stop.mode × (taken unit.old.counts ≡ 2 ^ 46)) }
     ensures together { AreTogether result.0 unit.new }
@@ -31,6 +34,7 @@ pub(crate) fn step_with(
     if unit.counts().taken() == 1 << 46 {
         return (consumer, StepAnswer::Exhausted);
     }
+    growth_adds_up();
     match consumer.take(ring) {
         Taken::Empty(consumer) => (consumer, StepAnswer::Empty),
         Taken::Drained(consumer) => (consumer, StepAnswer::Drained),

@@ -1,19 +1,27 @@
 -- What a sender knows before it tries, and once it has won.
-use Rattle.std.proofs.Common.{◌≡◌, ℕ, ◌<◌, ◌≤◌, Bool, true, false, List, [], Some, refl, sym, ap, subst, arith}
-use Rattle.std.specs.Prelude.{nat_lt}
+use Rattle.std.proofs.Common.{◌≡◌, ℕ, ◌+◌, ◌<◌, ◌≤◌, Bool, true, false, List, [], ◌∷◌, Some, Result, Ok, Err, refl, sym, ap, subst, ◌∙◌, arith}
+use Rattle.std.specs.Prelude.{nat_lt, IfOk, IfErr, MatchResult}
 use Rattle.std.proofs.lemmas.Bool.Decides.{nat_tests}
 use Rattle.cmdcodec.specs.declared.raw.Raw.{Raw}
 use Rattle.cmdcodec.specs.Bodies.{IsBody}
 use Rattle.qindex.specs.declared.control.Control.{Control}
 use Rattle.qindex.specs.Positions.{size}
-use Rattle.ringcore.specs.world.Trails.{IsSettled, looked, batches_made, prod_of}
-use Rattle.ringcore.specs.world.World.{commands}
+use Rattle.qindex.specs.Indexes.{distance}
+use Rattle.ringcore.specs.declared.world.event.Who.TheVariants.{Sender}
+use Rattle.ringcore.specs.declared.world.event.Event.{Event}
+use Rattle.ringcore.specs.declared.world.event.Event.TheVariants.{Look}
+use Rattle.ringcore.specs.world.Trails.{Trail, Run, IsSettled, looked, batches_made, prod_of}
+use Rattle.ringcore.specs.world.World.{commands, world, control}
 use Rattle.ringcore.specs.world.Allowed.{MayTry, length_with}
 use Rattle.ring.specs.declared.sender.tally.Tally.{Tally}
 use Rattle.ring.specs.table.Ports.{PortValue, has_won}
 use Rattle.ring.specs.sender.Senders.{SenderValue, IsTallied, one_more}
-use Rattle.ring.specs.sender.Reservations.{IsOpen}
-use Rattle.ring.specs.sender.Reserving.{HasRoom, HasBatchLeft}
+use Rattle.ring.specs.declared.sender.cause.Refused.{Refused}
+use Rattle.ring.specs.declared.sender.cause.Cause.TheVariants.{Contended}
+use Rattle.ring.specs.table.Histories.{GrewBy, Grew}
+use Rattle.ring.specs.sender.Reservations.{IsOpen, ReservationValue}
+use Rattle.ring.specs.sender.Reserving.{ring_size, HasRoom, HasBatchLeft, HasNoRoom, TellsRoom, HasLookedAt, IsWon, IsLost}
+use Rattle.ring.proofs.TableLemmas.Grown.{grew_step, grew_more, sender_step}
 use Rattle.ring.proofs.SenderLemmas.InOrder.{knowing}
 
 pub may_try : (port : PortValue) (number : ℕ) (s : SenderValue) (body : List Raw) (closes : Bool) (many : ℕ) (seen : Control)
@@ -77,3 +85,29 @@ module _ (port : PortValue) (tally : Tally) (body : List Raw) (seen : Control) (
 
   pub opens : (closes : Bool) (new : PortValue) → record new { history = [] } ≡ has_won body closes (record port { history = [] }) → length_with closes body ≤ size port.ring.made_with.geometry → Opens closes new
   opens closes new new_is fits = knowing new (one_more closes tally) body closes seen.prod 0 0 (subst (Opens closes) (sym new_is) (opens_won closes fits))
+
+-- ---- what a try adds to the run that the sender knows
+
+module _ (body : List Raw) (closes : Bool) (seen : Control) (s t : SenderValue) (looked : HasLookedAt seen s t) where
+  pub looked_grew : Grew (Sender s.number) s.trail t.trail s.history t.history
+  looked_grew = sender_step s t (Look seen) looked.trail_is looked.grew
+
+  same_number : t.number ≡ s.number
+  same_number = ap (λ (u : SenderValue). u.number) looked.trail_is
+
+  further : (e : Event) (trail : Trail) (run : Run) → trail ≡ e ∷ t.trail → GrewBy (Sender t.number) e t.history run → Grew (Sender s.number) s.trail trail s.history run
+  further e trail run is grew =
+      grew_more _ _ _ _ _ _ _ looked_grew
+      (subst (λ (n : ℕ). Grew (Sender n) t.trail trail t.history run) same_number (grew_step (Sender t.number) e t.trail trail t.history run is grew))
+
+  pub exchanged_grew : (result : Result ReservationValue Refused) → IfOk result (λ r. IsWon body closes seen t r) → IfErr result (λ e. (e.cause ≡ Contended) × IsLost body closes seen t e.sender)
+      → MatchResult result (λ r. Grew (Sender s.number) s.trail r.trail s.history r.history) (λ e. Grew (Sender s.number) s.trail e.sender.trail s.history e.sender.history)
+  exchanged_grew (Ok r) won lost = further _ r.trail r.history (ap (λ (x : ReservationValue). x.trail) won.trail_is) won.grew
+  exchanged_grew (Err e) won lost = further _ e.sender.trail e.sender.history (ap (λ (x : SenderValue). x.trail) lost.1.trail_is) lost.1.grew
+
+  -- a look at too little room
+  pub full_then : TellsRoom t.ring.made_with.geometry (world t.history) → ring_size s < distance seen.prod seen.cons + length_with closes body → HasNoRoom (ring_size s) (length_with closes body) (world t.history)
+  full_then tells full =
+      let same : s.ring.made_with.geometry ≡ t.ring.made_with.geometry = sym (ap (λ (u : SenderValue). u.ring.made_with.geometry) looked.trail_is) in
+      let seen_is : seen ≡ control t.ring.made_with.geometry (world t.history) = looked.seen_is ∙ ap (λ (g : ℕ). control g (world t.history)) same in
+      tells (ring_size s) (length_with closes body) (subst (λ (c : Control). ring_size s < distance c.prod c.cons + length_with closes body) seen_is full)

@@ -10,7 +10,7 @@ use Rattle.ringcore.specs.world.Allowed.{Ring}
 use Rattle.ring.specs.declared.table.rule.Participant.{Participant}
 use Rattle.ring.specs.table.Rule.{participant, WentOn, HasTrails, Any}
 use Rattle.ring.specs.table.OneRun.{IsOneRun}
-use Rattle.ring.proofs.TableLemmas.Trails.{same_refl, trail_here, trail_else}
+use Rattle.ring.proofs.TableLemmas.Trails.{same_refl, trail_here, trail_else, trail_append}
 use Rattle.ring.proofs.FinishLemmas.Told.{same_is}
 
 alike : (u v : Who) → (u ≡ v) ⊎ (u ≢ v)
@@ -21,14 +21,6 @@ alike u v = by_same (same u v) refl
     by_same false e = inr (λ is. true≢false (sym (same_refl u) ∙ ap (same u) is ∙ e))
 
 -- ---- lists
-
-trail_append : (u : Who) (a b : Run) → trail_of u (a ++ b) ≡ trail_of u a ++ trail_of u b
-trail_append u [] b = refl
-trail_append u (x ∷ xs) b = by_seat (same u x.0) (trail_append u xs b)
-  where
-    by_seat : (v : Bool) → trail_of u (xs ++ b) ≡ trail_of u xs ++ trail_of u b → cond v (x.1 ∷ trail_of u (xs ++ b)) (trail_of u (xs ++ b)) ≡ cond v (x.1 ∷ trail_of u xs) (trail_of u xs) ++ trail_of u b
-    by_seat true e = ap (λ (t : Trail). x.1 ∷ t) e
-    by_seat false e = e
 
 none_before : (a b : Trail) → a ++ b ≡ b → a ≡ []
 none_before [] b e = refl

@@ -15,8 +15,8 @@ use Rattle.ringcore.specs.declared.world.event.Half.{Half}
 use Rattle.ringcore.specs.declared.world.event.Event.{Event}
 use Rattle.ringcore.specs.declared.world.event.Event.TheVariants.{Won, Lost, Test}
 use Rattle.ringcore.specs.world.Trails.{Trail, Run, trail_of, looked, start_index, found_ready, taken_by, acknowledged_by}
-use Rattle.ringcore.specs.world.World.{world, half_of}
-use Rattle.ringcore.specs.world.Allowed.{ShareAWord, Allowed, MayTry, MayLose, MayWrite, MayFlip, length_with, Ring, IsRunLength, MayAdvance}
+use Rattle.ringcore.specs.world.World.{world, half_of, control}
+use Rattle.ringcore.specs.world.Allowed.{ShareAWord, Allowed, MayTry, MayWin, MayLose, MayWrite, MayFlip, length_with, Ring, IsRunLength, MayAdvance}
 use Rattle.ringcore.specs.memory.Layout.{control_word, flag_word, data_word, cell, words_of}
 use Rattle.ringcore.specs.memory.Flags.{IsFlipMask, ready_in}
 use Rattle.ringcore.specs.world.Laws.{IsOne, EveryRun, SyncsAreCounted, syncs_taken}
@@ -25,6 +25,7 @@ use Rattle.ringcore.specs.machine.StepAnswers.{next_number}
 use Rattle.ring.specs.table.Rule.{Holding, participant, RuleHolds, ring_of, who_of, trail_of_first, history_of_first, IsAlone}
 use Rattle.ring.specs.table.Intents.{Intent, closes, reserves, writes, flips, asks, tests, reads, advances, acknowledges}
 use Rattle.ring.specs.table.StepEvents.{IsEventOf, Added, IsNewest, adds_for}
+use Rattle.ring.specs.table.Histories.{GrewBy}
 use Rattle.ring.proofs.TableLemmas.StepKinds.{closes_as, reserves_as, writes_as, flips_as, asks_as, flag_inside, data_inside, cell_inside, tests_as, reads_as, advances_as, acknowledges_as}
 use Rattle.ring.specs.Rings.{RingValue}
 use Rattle.ring.specs.table.Ports.{port_of, PortValue, IsWonOrLost, IsSlotAt, MayFlipAt}
@@ -139,10 +140,28 @@ module _ (table new_table : TableId) (me new : Holding) (s : ℕ) (body : List R
   abbrev Told : Bool → Type 0
   Told v = IsWonOrLost body closing seen (port_of table me) (port_of new_table new) v
 
+  -- the exchange stands last in the run that is known then
+  grown : (e : Event) → took.0 ≡ e → GrewBy (who_of me.0) e (history_of_first me.0) (port_of new_table new).history
+  grown e e_is = record {
+    before = took.1;
+    went_on = took.4.went_on;
+    run_is = ap (λ (m : Holding). history_of_first m.0) took.3 ∙ ap (λ (d : Event). let l : Run = (who_of me.0, d) ∷ took.1 in l) e_is;
+  }
+
   told_by : (v : Bool) → (x == old) ≡ v → Told v
+  unfolding grown
   told_by true hit =
       let e_is : took.0 ≡ Won body (next_number t closing) = took.2 ∙ ap (λ (b : Bool). cond b (Won body (next_number t closing)) (Lost body closing (control_in (ring_of me.0).geometry x))) hit in
-      stepped_is table new_table me new took.0 ((who_of me.0, took.0) ∷ took.1) same took.3 ∙ ap (λ (e : Event). let q : PortValue = record (port_of table me) { trail = e ∷ t; history = [] } in q) e_is
+      let run : Run = took.1 in
+      let last : IsNewest (ring_of me.0) (who_of me.0) t (history_of_first me.0) run took.0 = took.4 in
+      let may : MayWin (ring_of me.0) (world run) (trail_of (Sender s) run) body (next_number t closing) =
+      subst (λ (q : Who × Event). Allowed (ring_of me.0) (world run) (trail_of q.0 run) q.0 q.1) (λ k. (who_is k, e_is k)) last.after.after.run_is.1 in
+      let behind : trail_of (Sender s) run ≡ t = ap (λ (u : Who). trail_of u run) (sym who_is) ∙ last.before.trail_is in
+      record {
+        trail_is = stepped_is table new_table me new took.0 ((who_of me.0, took.0) ∷ took.1) same took.3 ∙ ap (λ (e : Event). let q : PortValue = record (port_of table me) { trail = e ∷ t; history = [] } in q) e_is;
+        grew = grown (Won body (next_number t closing)) e_is;
+        stood = (let e : Some seen ≡ Some (control (ring_of me.0).geometry (world run)) = sym looked_is ∙ sym (ap looked behind) ∙ may.looked_at in cc);
+      }
   told_by false miss =
       let found : Control = control_in (ring_of me.0).geometry x in
       let e_is : took.0 ≡ Lost body closing found = took.2 ∙ ap (λ (b : Bool). cond b (Won body (next_number t closing)) (Lost body closing found)) miss in
@@ -152,7 +171,14 @@ module _ (table new_table : TableId) (me new : Holding) (s : ℕ) (body : List R
       subst (λ (q : Who × Event). Allowed (ring_of me.0) (world run) (trail_of q.0 run) q.0 q.1) (λ k. (who_is k, e_is k)) last.after.after.run_is.1 in
       let behind : trail_of (Sender s) run ≡ t = ap (λ (u : Who). trail_of u run) (sym who_is) ∙ last.before.trail_is in
       let before_is : may.before ≡ seen = (let e : Some may.before ≡ Some seen = sym may.tries.looked_at ∙ ap looked behind ∙ looked_is in cc) in
-      (found, (λ is. may.other (is ∙ sym before_is)), stepped_is table new_table me new took.0 ((who_of me.0, took.0) ∷ took.1) same took.3 ∙ ap (λ (e : Event). let q : PortValue = record (port_of table me) { trail = e ∷ t; history = [] } in q) e_is)
+      let history_is : (port_of new_table new).history ≡ (Sender s, Lost body closing found) ∷ run = ap (λ (m : Holding). history_of_first m.0) took.3 ∙ (λ k. let l : Run = (who_is k, e_is k) ∷ run in l) in
+      record {
+        found = found;
+        other = λ is. may.other (is ∙ sym before_is);
+        trail_is = stepped_is table new_table me new took.0 ((who_of me.0, took.0) ∷ took.1) same took.3 ∙ ap (λ (e : Event). let q : PortValue = record (port_of table me) { trail = e ∷ t; history = [] } in q) e_is;
+        grew = grown (Lost body closing found) e_is;
+        found_is = may.found_is ∙ sym (ap (λ (r : Run). control (ring_of me.0).geometry (world r)) history_is);
+      }
 
   pub exchange_told : Told (x == old)
   exchange_told = told_by (x == old) refl

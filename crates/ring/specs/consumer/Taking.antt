@@ -2,6 +2,7 @@
 use Rattle.std.specs.Prelude.{◌≡◌, ◌≢◌, ◌≤◌, ℕ, Bool, true, false, List, [], ◌∷◌, length}
 use Rattle.cmdcodec.specs.declared.raw.Raw.{Raw}
 use Rattle.qindex.specs.declared.control.Control.{Control}
+use Rattle.ringcore.specs.declared.world.event.Who.TheVariants.{Consumer}
 use Rattle.ringcore.specs.declared.world.event.Event.TheVariants.{Look, Test}
 use Rattle.ringcore.specs.world.Trails.{Trail}
 use Rattle.ringcore.specs.world.World.{head, tail, world, control}
@@ -10,6 +11,7 @@ use Rattle.ring.specs.declared.consumer.taken.Taken.TheVariants as one
 use Rattle.ring.specs.declared.consumer.taken.TakenRun.{TakenRun}
 use Rattle.ring.specs.declared.consumer.taken.TakenRun.TheVariants.{Empty, Drained, Unwritten, Ready}
 use Rattle.ring.specs.Rings.{RingValue}
+use Rattle.ring.specs.table.Histories.{Grew}
 use Rattle.ring.specs.consumer.Consumers.{ConsumerValue}
 use Rattle.ring.specs.consumer.Pendings.{PendingValue, run_of, reads_from}
 
@@ -24,12 +26,16 @@ pub record TookNone {D : Type 0} (closed : Bool) (d e : ConsumerValue D) : Type 
   pub seen_is : seen ≡ control d.ring.made_with.geometry (world e.history)
   pub all_taken : head (world e.history) ≡ tail (world e.history)
   pub trail_is : record e { history = [] } ≡ with_trail (record d { history = [] }) (Look seen ∷ d.trail)
+  pub grew : Grew Consumer d.trail e.trail d.history e.history
 
--- a look that found something reserved, and a test that found the head not written
+-- a look that found something reserved, and a test that found the head not written: in the run as it is known then, the
+-- flag of the head isn't turned
 pub record TookUnwritten {D : Type 0} (most : ℕ) (d e : ConsumerValue D) : Type 0 where
   pub seen : Control
   pub something : seen.prod.number ≢ seen.cons.number
+  pub unturned : (world e.history).flipped (head (world e.history)) ≡ false
   pub trail_is : record e { history = [] } ≡ with_trail (record d { history = [] }) (Test most 0 ∷ Look seen ∷ d.trail)
+  pub grew : Grew Consumer d.trail e.trail d.history e.history
 
 -- a look that found something reserved, a test that found some ready, and reads of just these
 pub record TookRun {D : Type 0} (most : ℕ) (d : ConsumerValue D) (p : PendingValue D) : Type 0 where
@@ -38,6 +44,7 @@ pub record TookRun {D : Type 0} (most : ℕ) (d : ConsumerValue D) (p : PendingV
   pub some : 1 ≤ length p.raws
   pub few : length p.raws ≤ most
   pub trail_is : record p.consumer { history = [] } ≡ with_trail (record d { history = [] }) (reads_from 0 p.raws (Test most (length p.raws) ∷ Look seen ∷ d.trail))
+  pub grew : Grew Consumer d.trail p.consumer.trail d.history p.consumer.history
 
 abbrev pub HasTakenRun : {D : Type 0} → ℕ → ConsumerValue D → TakenRun D → Type 0
 HasTakenRun most d (Empty e) = TookNone false d e

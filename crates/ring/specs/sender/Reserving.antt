@@ -5,9 +5,12 @@ use Rattle.qindex.specs.declared.control.Control.{Control}
 use Rattle.qindex.specs.Positions.{size}
 use Rattle.qindex.specs.Indexes.{distance}
 use Rattle.ringcore.specs.declared.world.event.Event.TheVariants.{Look, Won, Lost}
-use Rattle.ringcore.specs.world.Trails.{Trail, batches_made}
+use Rattle.ringcore.specs.declared.world.event.Who.TheVariants.{Sender}
+use Rattle.ringcore.specs.world.Trails.{Trail, Run, batches_made}
+use Rattle.ringcore.specs.world.World.{World, head, tail, world, control}
 use Rattle.ringcore.specs.world.Allowed.{length_with}
 use Rattle.ringcore.specs.machine.StepAnswers.{next_number}
+use Rattle.ring.specs.table.Histories.{GrewBy}
 use Rattle.ring.specs.declared.sender.cause.Cause.{Cause}
 use Rattle.ring.specs.declared.sender.cause.Cause.TheVariants.{TooLong, Exhausted, Closed, Full, Contended}
 use Rattle.ring.specs.sender.Senders.{SenderValue}
@@ -35,6 +38,19 @@ pub record HasRoom (body : List Raw) (closes : Bool) (s : SenderValue) (seen : C
   pub unclosed : seen.closed ≡ false
   pub room : distance seen.prod seen.cons + length_with closes body ≤ ring_size s
 
+-- what a look finds in a run of the sender's ring
+abbrev pub control_in : SenderValue → Run → Control
+control_in s run = control s.ring.made_with.geometry (world run)
+
+-- In this world a batch of so many commands has no room behind those that are reserved and not taken.
+abbrev pub HasNoRoom : ℕ → ℕ → World → Type 0
+HasNoRoom slots many w = head w + slots < tail w + many
+
+-- Where a look finds too little room, there is too little.
+abbrev pub TellsRoom : ℕ → World → Type 0
+TellsRoom geometry w =
+    (slots many : ℕ) → slots < distance (control geometry w).prod (control geometry w).cons + many → HasNoRoom slots many w
+
 -- ---- what was seen and reserved
 
 abbrev pub has_looked : SenderValue → Control → SenderValue
@@ -53,14 +69,25 @@ opened body closes s = record {
   flipped = 0;
 }
 
-abbrev pub IsWon : List Raw → Bool → SenderValue → ReservationValue → Type 0
-IsWon body closes s r = record r { history = [] } ≡ opened body closes (record s { history = [] })
+-- The exchange stands last in the run, and what was looked at stood ahead of it.
+pub record IsWon (body : List Raw) (closes : Bool) (seen : Control) (s : SenderValue) (r : ReservationValue) : Type 0 where
+  pub trail_is : record r { history = [] } ≡ opened body closes (record s { history = [] })
+  pub grew : GrewBy (Sender s.number) (Won body (next_number s.trail closes)) s.history r.history
+  pub stood : seen ≡ control_in s grew.before
 
--- The exchange found something else than what was looked at.
+-- It stands last, and found something else than what was looked at.
 pub record IsLost (body : List Raw) (closes : Bool) (seen : Control) (s t : SenderValue) : Type 0 where
   pub found : Control
   pub other : found ≢ seen
   pub trail_is : record t { history = [] } ≡ with_trail (record s { history = [] }) (Lost body closes found ∷ s.trail)
+  pub grew : GrewBy (Sender s.number) (Lost body closes found) s.history t.history
+  pub found_is : found ≡ control_in s t.history
+
+-- It looked, and this stood in the run that it knew from then on.
+pub record HasLookedAt (seen : Control) (s t : SenderValue) : Type 0 where
+  pub trail_is : record t { history = [] } ≡ has_looked (record s { history = [] }) seen
+  pub grew : GrewBy (Sender s.number) (Look seen) s.history t.history
+  pub seen_is : seen ≡ control_in s t.history
 
 -- ---- the answers
 
@@ -70,7 +97,9 @@ pub record IsReserved (body : List Raw) (closes : Bool) (s : SenderValue) (r : R
   pub left : HasBatchLeft s
   pub seen : Control
   pub room : HasRoom body closes s seen
-  pub won : IsWon body closes (has_looked s seen) r
+  pub after : SenderValue
+  pub looked : HasLookedAt seen s after
+  pub won : IsWon body closes seen after r
 
 -- The batch has more commands than the ring has slots: no step.
 pub record IsTooLong (body : List Raw) (closes : Bool) (s t : SenderValue) : Type 0 where
@@ -83,22 +112,24 @@ pub record IsExhausted (body : List Raw) (closes : Bool) (s t : SenderValue) : T
   pub all : batches_made s.trail ≡ s.ring.made_with.max_batches
   pub stays : t ≡ s
 
--- a look, and it found the ring closed
+-- a look, and it found the ring closed, as it is in the run that is known then
 pub record IsClosed (body : List Raw) (closes : Bool) (s t : SenderValue) : Type 0 where
   pub fits : Fits body closes s
   pub left : HasBatchLeft s
   pub seen : Control
   pub closed : seen.closed ≡ true
-  pub looked : record t { history = [] } ≡ has_looked (record s { history = [] }) seen
+  pub looked : HasLookedAt seen s t
+  pub closed_then : (world t.history).closed ≡ true
 
--- a look, and it found the ring open and too little room
+-- a look, and it found the ring open and too little room, as it is in the run that is known then
 pub record IsFull (body : List Raw) (closes : Bool) (s t : SenderValue) : Type 0 where
   pub fits : Fits body closes s
   pub left : HasBatchLeft s
   pub seen : Control
   pub unclosed : seen.closed ≡ false
   pub full : ring_size s < distance seen.prod seen.cons + length_with closes body
-  pub looked : record t { history = [] } ≡ has_looked (record s { history = [] }) seen
+  pub looked : HasLookedAt seen s t
+  pub full_then : HasNoRoom (ring_size s) (length_with closes body) (world t.history)
 
 -- a look that found the ring open and the room, and an exchange that found something else
 pub record IsContended (body : List Raw) (closes : Bool) (s t : SenderValue) : Type 0 where
@@ -106,7 +137,9 @@ pub record IsContended (body : List Raw) (closes : Bool) (s t : SenderValue) : T
   pub left : HasBatchLeft s
   pub seen : Control
   pub room : HasRoom body closes s seen
-  pub lost : IsLost body closes seen (has_looked s seen) t
+  pub after : SenderValue
+  pub looked : HasLookedAt seen s after
+  pub lost : IsLost body closes seen after t
 
 abbrev pub IsRefused : List Raw → Bool → SenderValue → Cause → SenderValue → Type 0
 IsRefused body closes s TooLong t = IsTooLong body closes s t

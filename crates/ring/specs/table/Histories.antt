@@ -1,8 +1,8 @@
 -- What a participant knows of the run: as it was up to its newest step.
-use Rattle.std.specs.Prelude.{◌≡◌, ℕ, ◌≤◌, List, ◌∷◌}
+use Rattle.std.specs.Prelude.{◌≡◌, ℕ, ◌≤◌, List, [], ◌∷◌, ◌++◌, ⊤}
 use Rattle.ringcore.specs.declared.world.event.Who.{Who}
 use Rattle.ringcore.specs.declared.world.event.Event.{Event}
-use Rattle.ringcore.specs.world.Trails.{Trail, Run}
+use Rattle.ringcore.specs.world.Trails.{Trail, Run, trail_of}
 use Rattle.ringcore.specs.world.World.{World, head, tail, control}
 use Rattle.ringcore.specs.world.Allowed.{Ring}
 use Rattle.ringcore.specs.world.Laws.{IsApplied}
@@ -18,6 +18,25 @@ pub record GrewBy (who : Who) (e : Event) (older run : Run) : Type 0 where
   pub before : Run
   pub went_on : WentOn who older before
   pub run_is : run ≡ (who, e) ∷ before
+
+-- Its step stands last in this part of a run, where the part has any.
+abbrev pub EndsWith : Who → Run → Type 0
+EndsWith who [] = ⊤
+EndsWith who (x ∷ xs) = x.0 ≡ who
+
+-- The run went on from an older one. The participant's trail grew by just its own events behind that, and the newest of
+-- them stands last: where it took no step, the run is the older one.
+pub record Grew (who : Who) (old_trail trail : Trail) (older run : Run) : Type 0 where
+  pub newer : Run
+  pub run_is : run ≡ newer ++ older
+  pub trail_is : trail ≡ trail_of who newer ++ old_trail
+  pub last : EndsWith who newer
+
+-- What grew and grew again grew by both.
+abbrev pub GrowthAddsUp : Type 0
+GrowthAddsUp =
+    (who : Who) (first second third : Trail) (early later last : Run)
+    → Grew who first second early later → Grew who second third later last → Grew who first third early last
 
 -- In this run all of a sender's numbers up to this one are done: each such closing sync, and all that was reserved
 -- ahead of it, was taken and applied.

@@ -8,10 +8,12 @@ use Rattle.ringcore.specs.declared.world.event.Who.{Who}
 use Rattle.ringcore.specs.declared.world.event.Half.{Half}
 use Rattle.ringcore.specs.declared.world.event.Event.TheVariants.{Won, Lost}
 use Rattle.ringcore.specs.world.Trails.{Trail, Run, reserved_length, has_written, has_flipped, start_index}
+use Rattle.ringcore.specs.world.World.{world, control}
 use Rattle.ringcore.specs.world.Allowed.{IsRunLength}
 use Rattle.ringcore.specs.machine.StepAnswers.{next_number}
 use Rattle.ring.specs.Rings.{RingValue}
 use Rattle.ring.specs.table.Rule.{Holding, participant, ring_of, who_of, trail_of_first, history_of_first}
+use Rattle.ring.specs.table.Histories.{GrewBy}
 
 -- a participant: its ring, who it is, its trail, and the run up to its newest step
 pub record PortValue : Type 0 where
@@ -32,12 +34,22 @@ SitsFor table me ring who trail history = (table ≡ ring.table) × (me ≡ (par
 abbrev pub has_won : List Raw → Bool → PortValue → PortValue
 has_won body closing p = record p { trail = Won body (next_number p.trail closing) ∷ p.trail }
 
--- What was found is something else than what was looked at.
-abbrev pub HasLost : List Raw → Bool → Control → PortValue → PortValue → Type 0
-HasLost body closing seen old new = (found : Control) × (found ≢ seen) × (record new { history = [] } ≡ record old { trail = Lost body closing found ∷ old.trail; history = [] })
+-- The exchange stands last in the run, and what was looked at stood ahead of it.
+pub record HasWon (body : List Raw) (closing : Bool) (seen : Control) (old new : PortValue) : Type 0 where
+  pub trail_is : record new { history = [] } ≡ has_won body closing (record old { history = [] })
+  pub grew : GrewBy old.who (Won body (next_number old.trail closing)) old.history new.history
+  pub stood : seen ≡ control old.ring.made_with.geometry (world grew.before)
+
+-- It stands last, and what it found is something else than what was looked at.
+pub record HasLost (body : List Raw) (closing : Bool) (seen : Control) (old new : PortValue) : Type 0 where
+  pub found : Control
+  pub other : found ≢ seen
+  pub trail_is : record new { history = [] } ≡ record old { trail = Lost body closing found ∷ old.trail; history = [] }
+  pub grew : GrewBy old.who (Lost body closing found) old.history new.history
+  pub found_is : found ≡ control old.ring.made_with.geometry (world new.history)
 
 abbrev pub IsWonOrLost : List Raw → Bool → Control → PortValue → PortValue → Bool → Type 0
-IsWonOrLost body closing seen old new true = record new { history = [] } ≡ has_won body closing (record old { history = [] })
+IsWonOrLost body closing seen old new true = HasWon body closing seen old new
 IsWonOrLost body closing seen old new false = HasLost body closing seen old new
 
 -- ---- write and flip

@@ -8,8 +8,8 @@ ghost use Rattle.ringcore.specs.world.Trails.{same, taken_by, found_ready};
 ghost use Rattle.ringcore.specs.world.Allowed.{MayAdvance};
 ghost use Rattle.ringcore.specs.world.ConsumerLaws.{IsSteady};
 ghost use Rattle.ring.specs.table.Rule.{StandsInARun, WentOn};
-ghost use Rattle.ring.specs.table.Histories.{IsHistory, GrewBy, EndsTellAll};
-ghost use Rattle.ringcore.specs.world.World.{world, control as control_of};
+ghost use Rattle.ring.specs.table.Histories.{IsHistory, GrewBy, Grew, EndsTellAll};
+ghost use Rattle.ringcore.specs.world.World.{world, head, control as control_of};
 ghost use Rattle.ring.specs.table.Ports.{SitsFor};
 ghost use Rattle.ring.specs.consumer.Pendings.{HasReadRun, reads_from};
 ghost use Rattle.ring.specs.consumer.Completing.{completed_trail};
@@ -122,17 +122,22 @@ impl ConsumerPort {
         requires some { 1 ≤ limit }
         requires most { limit ≤ 64 }
         ensures trail { record self.new { history = [] } ≡ record self.old { trail = Test limit result ∷ self.old.trail; history = [] } }
+        ensures history { GrewBy Consumer (Test limit result) self.old.history self.new.history }
+        ensures unturned { result ≡ 0 → (world self.new.history).flipped (head (world self.new.history)) ≡ false }
         ensures limit { result ≤ limit }
         ensures within { result ≤ size self.old.ring.made_with.geometry }
     {
-        self.port.test(ring, self.head, limit)
+        let found = self.port.test(ring, self.head, limit);
+        self.port.trail_stands_in_a_run();
+        found
     }
 
     fn read(&mut self, ring: &Ring, offset: u32, half: Half) -> u64
         requires ring { self.old.ring ≡ ring.now }
         requires ready { offset < found_ready self.old.trail }
         requires fits { offset ≤ size self.old.ring.made_with.geometry }
-        ensures { record self.new { history = [] } ≡ record self.old { trail = Read offset half result ∷ self.old.trail; history = [] } }
+        ensures trail { record self.new { history = [] } ≡ record self.old { trail = Read offset half result ∷ self.old.trail; history = [] } }
+        ensures history { GrewBy Consumer (Read offset half result) self.old.history self.new.history }
     {
         self.port
             .read(ring, self.head.forward(offset), offset, half)
@@ -148,6 +153,7 @@ impl ConsumerPort {
         ensures trail { record self.new { history = [] } ≡ record self.old { trail = reads_from 0 commands.new self.old.trail; history = [] } }
         ensures count { length commands.new ≡ count }
         ensures read { HasReadRun self.new.trail commands.new }
+        ensures history { Grew Consumer self.old.trail self.new.trail self.old.history self.new.history }
     {
         commands.clear();
         for offset in 0..count {
@@ -163,7 +169,8 @@ impl ConsumerPort {
         requires count { count ≤ length commands.now }
         requires few { count ≤ size self.ring.made_with.geometry }
         requires may { MayAdvance self.trail (take count commands.now) }
-        ensures { record result { history = [] } ≡ record self { trail = completed_trail (take count commands.now) self.trail; history = [] } }
+        ensures trail { record result { history = [] } ≡ record self { trail = completed_trail (take count commands.now) self.trail; history = [] } }
+        ensures history { Grew Consumer self.trail result.trail self.history result.history }
     {
         let ConsumerPort {
             mut port,

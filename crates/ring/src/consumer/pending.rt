@@ -1,6 +1,8 @@
 //! A command that is read and not taken.
 ghost use Rattle.std.specs.Prelude.{◌≡◌, ◌∷◌, ◌++◌, []};
+ghost use Rattle.ringcore.specs.declared.world.event.Who.TheVariants.{Consumer as ConsumerOf};
 ghost use Rattle.ringcore.specs.world.World.{outcome_of};
+ghost use Rattle.ring.specs.table.Histories.{Grew};
 ghost use Rattle.ring.specs.consumer.Pendings.{HasSeen, run_of};
 ghost use Rattle.ring.specs.consumer.Completing.{completed, unknowing, taken_of};
 
@@ -51,6 +53,7 @@ impl<D: Device> Pending<D> {
         requires outcome { _outcome ≡ outcome_of self.raw }
         requires settled { D.settled _device.now (taken_of self.consumer.trail ++ record { raw = self.raw; outcome = _outcome } ∷ []) }
         ensures consumer { record result { history = [] } ≡ completed 1 _device.now (unknowing (run_of self)) }
+        ensures history { Grew ConsumerOf self.consumer.trail result.trail self.consumer.history result.history }
         ensures ring { result.ring ≡ self.consumer.ring }
         ensures taken { taken_of result.trail ≡ taken_of self.consumer.trail ++ record { raw = self.raw; outcome = _outcome } ∷ [] }
     {

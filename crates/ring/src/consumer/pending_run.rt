@@ -2,7 +2,9 @@
 ghost use Rattle.std.specs.Prelude.{◌≡◌, ◌≤◌, ◌∷◌, ◌++◌, ◌+◌, ◌^◌, ℕ, List, length, map, slice_get, take, []};
 ghost use Rattle.cmdcodec.specs.declared.raw.Raw.{Raw as RawOf};
 ghost use Rattle.ringcore.specs.declared.world.event.Outcome.TheVariants.{Replaced};
+ghost use Rattle.ringcore.specs.declared.world.event.Who.TheVariants.{Consumer as ConsumerOf};
 ghost use Rattle.ringcore.specs.world.World.{outcome_of};
+ghost use Rattle.ring.specs.table.Histories.{Grew};
 ghost use Rattle.ring.specs.consumer.Pendings.{HasSeen};
 ghost use Rattle.ring.specs.consumer.Completing.{completed, unknowing, taken_of, with_outcome, HasOutcome};
 
@@ -85,6 +87,7 @@ impl<D: Device> PendingRun<D> {
         requires one { _outcome ≡ Replaced → count ≡ 1 }
         requires settled { D.settled _device.now (taken_of self.consumer.trail ++ map (with_outcome _outcome) (take count self.raws)) }
         ensures consumer { record result { history = [] } ≡ completed count _device.now (unknowing self) }
+        ensures history { Grew ConsumerOf self.consumer.trail result.trail self.consumer.history result.history }
         ensures ring { result.ring ≡ self.consumer.ring }
         ensures taken { taken_of result.trail ≡ taken_of self.consumer.trail ++ map (with_outcome _outcome) (take count self.raws) }
     {

@@ -1,6 +1,8 @@
 //! A reservation of a batch without a closing CMD_SYNC.
 ghost use Rattle.std.specs.Prelude.{◌≡◌, ◌+◌, ◌<◌, []};
+ghost use Rattle.ringcore.specs.declared.world.event.Who.TheVariants.{Sender as SenderOf};
 ghost use Rattle.ringcore.specs.world.Trails.{reserved_length, IsSettled};
+ghost use Rattle.ring.specs.table.Histories.{Grew};
 ghost use Rattle.ring.specs.sender.Reservations.{IsWrittenUpTo, IsFlippedUpTo};
 ghost use Rattle.ring.specs.sender.Publishing.{wrote_one, flipped_one, published, sender_of, ReservesNone};
 
@@ -30,7 +32,8 @@ impl<'b> BareReservation<'b> {
     pub fn write_next(&mut self, ring: &Ring)
         requires ring { self.old.ring ≡ ring.now }
         requires left { self.old.written < reserved_length self.old.trail }
-        ensures { record self.new { history = [] } ≡ wrote_one (record self.old { history = [] }) }
+        ensures new { record self.new { history = [] } ≡ wrote_one (record self.old { history = [] }) }
+        ensures history { Grew (SenderOf self.old.sender) self.old.trail self.new.trail self.old.history self.new.history }
     {
         self.open.write_next(ring);
     }
@@ -39,7 +42,8 @@ impl<'b> BareReservation<'b> {
     pub fn flip_next(&mut self, ring: &Ring)
         requires ring { self.old.ring ≡ ring.now }
         requires left { self.old.flipped < self.old.written }
-        ensures { record self.new { history = [] } ≡ flipped_one (record self.old { history = [] }) }
+        ensures new { record self.new { history = [] } ≡ flipped_one (record self.old { history = [] }) }
+        ensures history { Grew (SenderOf self.old.sender) self.old.trail self.new.trail self.old.history self.new.history }
     {
         self.open.flip_next(ring);
     }
@@ -56,6 +60,7 @@ impl<'b> BareReservation<'b> {
     pub fn unflipped(&self) -> u32
         ensures value { result + self.now.flipped ≡ self.now.written }
         ensures flipped { IsFlippedUpTo self.now.flipped self.now.trail }
+        ensures written { IsWrittenUpTo self.now.written self.now.trail }
     {
         self.open.unflipped()
     }
@@ -65,6 +70,7 @@ impl<'b> BareReservation<'b> {
         requires { self.ring ≡ ring.now }
         ensures sender { record result { history = [] } ≡ sender_of (published (record self.entry { history = [] })) }
         ensures settled { IsSettled result.trail }
+        ensures history { Grew (SenderOf self.entry.sender) self.entry.trail result.trail self.entry.history result.history }
         ensures ring { result.ring ≡ self.entry.ring }
         ensures id { result.number ≡ self.entry.sender }
         ensures batches { ReservesNone self.entry.trail result.trail }

@@ -1,8 +1,10 @@
 //! The slots of one sender that are to be written and handed over.
 ghost use Rattle.std.specs.Prelude.{◌≡◌, ◌+◌, ◌-◌, ◌<◌, ◌≤◌, true, Some, slice_get, []};
 ghost use Rattle.qindex.specs.Positions.{size};
+ghost use Rattle.ringcore.specs.declared.world.event.Who.TheVariants.{Sender as SenderOf};
 ghost use Rattle.ringcore.specs.world.Trails.{reserved_length, IsSettled};
 ghost use Rattle.ringcore.specs.memory.StepLaws.{reserved_commands};
+ghost use Rattle.ring.specs.table.Histories.{Grew};
 ghost use Rattle.ring.specs.sender.Reservations.{IsWrittenUpTo, IsFlippedUpTo, reserved_number};
 ghost use Rattle.ring.specs.sender.Publishing.{wrote_one, wrote_many, flipped_one, flipped_run, flipped_left, published, sender_of, ReservesNone};
 
@@ -45,7 +47,8 @@ impl<'b> OpenReservation<'b> {
     pub(crate) fn write_next(&mut self, ring: &Ring)
         requires ring { self.old.ring ≡ ring.now }
         requires left { self.old.written < reserved_length self.old.trail }
-        ensures { record self.new { history = [] } ≡ wrote_one (record self.old { history = [] }) }
+        ensures new { record self.new { history = [] } ≡ wrote_one (record self.old { history = [] }) }
+        ensures history { Grew (SenderOf self.old.sender) self.old.trail self.new.trail self.old.history self.new.history }
     {
         let raw = self.next_command();
         let slot = self.start.forward(self.written);
@@ -71,7 +74,8 @@ impl<'b> OpenReservation<'b> {
     pub(crate) fn flip_next(&mut self, ring: &Ring)
         requires ring { self.old.ring ≡ ring.now }
         requires left { self.old.flipped < self.old.written }
-        ensures { record self.new { history = [] } ≡ flipped_one (record self.old { history = [] }) }
+        ensures new { record self.new { history = [] } ≡ flipped_one (record self.old { history = [] }) }
+        ensures history { Grew (SenderOf self.old.sender) self.old.trail self.new.trail self.old.history self.new.history }
     {
         let slot = self.start.forward(self.flipped);
         self.port
@@ -83,7 +87,8 @@ impl<'b> OpenReservation<'b> {
     fn flip_run(&mut self, ring: &Ring)
         requires ring { self.old.ring ≡ ring.now }
         requires left { self.old.flipped < self.old.written }
-        ensures { record self.new { history = [] } ≡ flipped_run (record self.old { history = [] }) }
+        ensures new { record self.new { history = [] } ≡ flipped_run (record self.old { history = [] }) }
+        ensures history { Grew (SenderOf self.old.sender) self.old.trail self.new.trail self.old.history self.new.history }
     {
         let slot = self.start.forward(self.flipped);
         let count = shared_word(slot).min(self.written - self.flipped);
@@ -95,7 +100,8 @@ impl<'b> OpenReservation<'b> {
     /// Writes what is left.
     fn write_left(self, ring: &Ring) -> OpenReservation<'b>
         requires { self.ring ≡ ring.now }
-        ensures { record result { history = [] } ≡ wrote_many (reserved_length self.entry.trail - self.entry.written) (record self.entry { history = [] }) }
+        ensures new { record result { history = [] } ≡ wrote_many (reserved_length self.entry.trail - self.entry.written) (record self.entry { history = [] }) }
+        ensures history { Grew (SenderOf self.entry.sender) self.entry.trail result.trail self.entry.history result.history }
     {
         let mut reservation = self;
         for done in 0..reservation.unwritten() {
@@ -107,7 +113,8 @@ impl<'b> OpenReservation<'b> {
     /// Flips what is written and not flipped, as far as it stands in one flag word.
     fn flip_left(&mut self, ring: &Ring)
         requires { self.old.ring ≡ ring.now }
-        ensures { record self.new { history = [] } ≡ flipped_left (record self.old { history = [] }) }
+        ensures new { record self.new { history = [] } ≡ flipped_left (record self.old { history = [] }) }
+        ensures history { Grew (SenderOf self.old.sender) self.old.trail self.new.trail self.old.history self.new.history }
     {
         if self.flipped < self.written {
             self.flip_run(ring);
@@ -119,6 +126,7 @@ impl<'b> OpenReservation<'b> {
         requires { self.ring ≡ ring.now }
         ensures sender { record result { history = [] } ≡ sender_of (published (record self.entry { history = [] })) }
         ensures settled { IsSettled result.trail }
+        ensures history { Grew (SenderOf self.entry.sender) self.entry.trail result.trail self.entry.history result.history }
         ensures ring { result.ring ≡ self.entry.ring }
         ensures id { result.number ≡ self.entry.sender }
         ensures batches { ReservesNone self.entry.trail result.trail }
@@ -171,6 +179,7 @@ impl<'b> OpenReservation<'b> {
     pub(crate) fn unflipped(&self) -> u32
         ensures value { result + self.now.flipped ≡ self.now.written }
         ensures flipped { IsFlippedUpTo self.now.flipped self.now.trail }
+        ensures written { IsWrittenUpTo self.now.written self.now.trail }
     {
         self.written - self.flipped
     }

@@ -1,6 +1,8 @@
 //! A reservation of a batch that closes with a CMD_SYNC.
 ghost use Rattle.std.specs.Prelude.{◌≡◌, ◌+◌, ◌<◌, Some, []};
+ghost use Rattle.ringcore.specs.declared.world.event.Who.TheVariants.{Sender as SenderOf};
 ghost use Rattle.ringcore.specs.world.Trails.{reserved_length, IsSettled};
+ghost use Rattle.ring.specs.table.Histories.{Grew};
 ghost use Rattle.ring.specs.sender.Reservations.{IsWrittenUpTo, IsFlippedUpTo, IsReceiptOf};
 ghost use Rattle.ring.specs.sender.Publishing.{wrote_one, flipped_one, published, sender_of, ReservesNone};
 
@@ -31,7 +33,8 @@ impl<'b> Reservation<'b> {
     pub fn write_next(&mut self, ring: &Ring)
         requires ring { self.old.ring ≡ ring.now }
         requires left { self.old.written < reserved_length self.old.trail }
-        ensures { record self.new { history = [] } ≡ wrote_one (record self.old { history = [] }) }
+        ensures new { record self.new { history = [] } ≡ wrote_one (record self.old { history = [] }) }
+        ensures history { Grew (SenderOf self.old.sender) self.old.trail self.new.trail self.old.history self.new.history }
     {
         self.open.write_next(ring);
     }
@@ -40,7 +43,8 @@ impl<'b> Reservation<'b> {
     pub fn flip_next(&mut self, ring: &Ring)
         requires ring { self.old.ring ≡ ring.now }
         requires left { self.old.flipped < self.old.written }
-        ensures { record self.new { history = [] } ≡ flipped_one (record self.old { history = [] }) }
+        ensures new { record self.new { history = [] } ≡ flipped_one (record self.old { history = [] }) }
+        ensures history { Grew (SenderOf self.old.sender) self.old.trail self.new.trail self.old.history self.new.history }
     {
         self.open.flip_next(ring);
     }
@@ -57,6 +61,7 @@ impl<'b> Reservation<'b> {
     pub fn unflipped(&self) -> u32
         ensures value { result + self.now.flipped ≡ self.now.written }
         ensures flipped { IsFlippedUpTo self.now.flipped self.now.trail }
+        ensures written { IsWrittenUpTo self.now.written self.now.trail }
     {
         self.open.unflipped()
     }
@@ -66,6 +71,7 @@ impl<'b> Reservation<'b> {
         requires { self.ring ≡ ring.now }
         ensures sender { record result.0 { history = [] } ≡ sender_of (published (record self.entry { history = [] })) }
         ensures settled { IsSettled result.0.trail }
+        ensures history { Grew (SenderOf self.entry.sender) self.entry.trail result.0.trail self.entry.history result.0.history }
         ensures ring { result.0.ring ≡ self.entry.ring }
         ensures id { result.0.number ≡ self.entry.sender }
         ensures batches { ReservesNone self.entry.trail result.0.trail }

@@ -1,5 +1,8 @@
 //! A whole batch by one call.
 ghost use Rattle.std.specs.Prelude.{◌≡◌, ◌≤◌, true, false, IfOk, IfErr, MatchResult};
+ghost use Rattle.ringcore.specs.declared.world.event.Who.TheVariants.{Sender as SenderOf};
+ghost use Rattle.ringcore.specs.world.Trails.{IsSettled};
+ghost use Rattle.ring.specs.table.Histories.{Grew};
 ghost use Rattle.ring.specs.sender.Sending.{IsReservedWithin, IsSent, IsSentBare, IsGivenUp};
 
 use crate::ring::Ring;
@@ -17,6 +20,8 @@ impl Sender {
         requires tries { 1 ≤ tries }
         ensures sent { IfOk result (λ r. IsSent batch.now tries self r.0 r.1) }
         ensures refused { IfErr result (λ e. IsGivenUp batch.now true tries self e.cause e.sender) }
+        ensures settled { IfOk result (λ r. IsSettled r.0.trail) }
+        ensures history { MatchResult result (λ r. Grew (SenderOf self.number) self.trail r.0.trail self.history r.0.history) (λ e. Grew (SenderOf self.number) self.trail e.sender.trail self.history e.sender.history) }
         ensures own { IfOk result (λ r. r.1.sender ≡ self.number) }
         ensures ring { MatchResult result (λ r. r.0.ring ≡ self.ring) (λ e. e.sender.ring ≡ self.ring) }
         ensures id { MatchResult result (λ r. r.0.number ≡ self.number) (λ e. e.sender.number ≡ self.number) }
@@ -33,6 +38,8 @@ impl Sender {
         requires tries { 1 ≤ tries }
         ensures sent { IfOk result (λ t. IsSentBare batch.now tries self t) }
         ensures refused { IfErr result (λ e. IsGivenUp batch.now false tries self e.cause e.sender) }
+        ensures settled { IfOk result (λ t. IsSettled t.trail) }
+        ensures history { MatchResult result (λ t. Grew (SenderOf self.number) self.trail t.trail self.history t.history) (λ e. Grew (SenderOf self.number) self.trail e.sender.trail self.history e.sender.history) }
         ensures ring { MatchResult result (λ t. t.ring ≡ self.ring) (λ e. e.sender.ring ≡ self.ring) }
         ensures id { MatchResult result (λ t. t.number ≡ self.number) (λ e. e.sender.number ≡ self.number) }
     {
@@ -54,6 +61,7 @@ impl Sender {
         requires tries { 1 ≤ tries }
         ensures reserved { IfOk result (λ r. IsReservedWithin batch.now closes tries self r) }
         ensures refused { IfErr result (λ e. IsGivenUp batch.now closes tries self e.cause e.sender) }
+        ensures history { MatchResult result (λ r. Grew (SenderOf self.number) self.trail r.trail self.history r.history) (λ e. Grew (SenderOf self.number) self.trail e.sender.trail self.history e.sender.history) }
         ensures ring { MatchResult result (λ r. r.ring ≡ self.ring) (λ e. e.sender.ring ≡ self.ring) }
         ensures id { MatchResult result (λ r. r.sender ≡ self.number) (λ e. e.sender.number ≡ self.number) }
     {

@@ -11,6 +11,7 @@ ghost use Rattle.ringcore.specs.world.ConsumerLaws.{IsSteady};
 ghost use Rattle.ringcore.specs.memory.Flags.{ready_in};
 ghost use Rattle.ring.specs.table.Intents.{tests, reads, advances, acknowledges};
 ghost use Rattle.ring.specs.table.Rule.{IsWithinLimits};
+ghost use Rattle.ring.specs.table.Histories.{GrewBy, Grew};
 ghost use Rattle.ring.specs.consumer.Completing.{all_acknowledged, HasAdvanced, sync_sender, sync_number, IsClosingSync};
 
 use crate::consumer::Commands;
@@ -66,6 +67,7 @@ impl Port {
         requires some { 1 ≤ limit }
         requires most { limit ≤ 64 }
         ensures trail { record self.new { history = [] } ≡ record self.old { trail = Test limit result ∷ self.old.trail; history = [] } }
+        ensures history { GrewBy Consumer (Test limit result) self.old.history self.new.history }
         ensures limit { result ≤ limit }
         ensures within { result ≤ size head.geometry }
     {
@@ -80,6 +82,7 @@ impl Port {
         requires most { limit ≤ 64 }
         requires intent { I.intent ≡ tests limit }
         ensures trail { record self.new { history = [] } ≡ record self.old { trail = Test limit result ∷ self.old.trail; history = [] } }
+        ensures history { GrewBy Consumer (Test limit result) self.old.history self.new.history }
         ensures limit { result ≤ limit }
         ensures within { result ≤ size head.geometry }
     {
@@ -96,7 +99,8 @@ impl Port {
         requires who { self.old.who ≡ Consumer }
         requires slot { slot ≡ index_of self.old.ring.made_with.geometry (taken_by self.old.trail + offset) }
         requires ready { offset < found_ready self.old.trail }
-        ensures { record self.new { history = [] } ≡ record self.old { trail = Read offset half result ∷ self.old.trail; history = [] } }
+        ensures trail { record self.new { history = [] } ≡ record self.old { trail = Read offset half result ∷ self.old.trail; history = [] } }
+        ensures history { GrewBy Consumer (Read offset half result) self.old.history self.new.history }
     {
         self.read_for::<Brand>(ring, slot, offset, half)
     }
@@ -107,7 +111,8 @@ impl Port {
         requires slot { slot ≡ index_of self.old.ring.made_with.geometry (taken_by self.old.trail + offset) }
         requires ready { offset < found_ready self.old.trail }
         requires intent { I.intent ≡ reads offset half }
-        ensures { record self.new { history = [] } ≡ record self.old { trail = Read offset half result ∷ self.old.trail; history = [] } }
+        ensures trail { record self.new { history = [] } ≡ record self.old { trail = Read offset half result ∷ self.old.trail; history = [] } }
+        ensures history { GrewBy Consumer (Read offset half result) self.old.history self.new.history }
     {
         laws::read();
         laws::consumer_trail();
@@ -123,7 +128,8 @@ impl Port {
         requires may { MayAdvance self.old.trail (take count commands.now) }
         requires count { count ≤ length commands.now }
         requires few { count ≤ size head.geometry }
-        ensures { record self.new { history = [] } ≡ record self.old { trail = Advance (take count commands.now) ∷ self.old.trail; history = [] } }
+        ensures trail { record self.new { history = [] } ≡ record self.old { trail = Advance (take count commands.now) ∷ self.old.trail; history = [] } }
+        ensures history { GrewBy Consumer (Advance (take count commands.now)) self.old.history self.new.history }
     {
         self.advance_for::<Brand>(ring, head, commands, count)
     }
@@ -142,7 +148,8 @@ impl Port {
         requires count { count ≤ length commands.now }
         requires few { count ≤ size head.geometry }
         requires intent { I.intent ≡ advances (take count commands.now) }
-        ensures { record self.new { history = [] } ≡ record self.old { trail = Advance (take count commands.now) ∷ self.old.trail; history = [] } }
+        ensures trail { record self.new { history = [] } ≡ record self.old { trail = Advance (take count commands.now) ∷ self.old.trail; history = [] } }
+        ensures history { GrewBy Consumer (Advance (take count commands.now)) self.old.history self.new.history }
     {
         laws::advance();
         laws::consumer_trail();
@@ -159,7 +166,8 @@ impl Port {
         requires known { sender < ring.now.made_with.senders }
         requires next { number ≡ suc (acknowledged_by sender self.old.trail) }
         requires taken { number ≤ syncs_taken sender self.old.trail }
-        ensures { record self.new { history = [] } ≡ record self.old { trail = Acknowledge sender number ∷ self.old.trail; history = [] } }
+        ensures trail { record self.new { history = [] } ≡ record self.old { trail = Acknowledge sender number ∷ self.old.trail; history = [] } }
+        ensures history { GrewBy Consumer (Acknowledge sender number) self.old.history self.new.history }
     {
         self.acknowledge_for::<Brand>(ring, sender, number)
     }
@@ -171,7 +179,8 @@ impl Port {
         requires next { number ≡ suc (acknowledged_by sender self.old.trail) }
         requires taken { number ≤ syncs_taken sender self.old.trail }
         requires intent { I.intent ≡ acknowledges sender number }
-        ensures { record self.new { history = [] } ≡ record self.old { trail = Acknowledge sender number ∷ self.old.trail; history = [] } }
+        ensures trail { record self.new { history = [] } ≡ record self.old { trail = Acknowledge sender number ∷ self.old.trail; history = [] } }
+        ensures history { GrewBy Consumer (Acknowledge sender number) self.old.history self.new.history }
     {
         laws::acknowledge();
         laws::consumer_trail();
@@ -192,6 +201,7 @@ impl Port {
         requires advanced { HasAdvanced self.old.trail (take count commands.now) }
         ensures trail { record self.new { history = [] } ≡ record self.old { trail = all_acknowledged (take count commands.now) self.old.trail; history = [] } }
         ensures current { (s : ℕ) → acknowledged_by s self.new.trail ≡ syncs_taken s self.new.trail }
+        ensures history { Grew Consumer self.old.trail self.new.trail self.old.history self.new.history }
     {
         self.syncs_in_order();
         counts_law();

@@ -95,7 +95,8 @@ impl Port {
     pub(crate) fn close(&mut self, ring: &Ring, sender: u32)
         requires ring { self.old.ring ≡ ring.now }
         requires who { self.old.who ≡ Sender sender }
-        ensures { record self.new { history = [] } ≡ record self.old { trail = Close ∷ self.old.trail; history = [] } }
+        ensures trail { record self.new { history = [] } ≡ record self.old { trail = Close ∷ self.old.trail; history = [] } }
+        ensures history { GrewBy self.old.who Close self.old.history self.new.history }
     {
         laws::close();
         let words = &ring.table.shared;
@@ -173,7 +174,8 @@ impl Port {
         requires raw { slice_get (reserved_commands sender self.old.trail) offset ≡ Some raw }
         requires geometry { slot.geometry ≡ self.old.ring.made_with.geometry }
         requires slot { IsSlotAt self.old slot offset }
-        ensures { record self.new { history = [] } ≡ record self.old { trail = Write offset half ∷ self.old.trail; history = [] } }
+        ensures trail { record self.new { history = [] } ≡ record self.old { trail = Write offset half ∷ self.old.trail; history = [] } }
+        ensures history { GrewBy self.old.who (Write offset half) self.old.history self.new.history }
     {
         self.write_for::<Brand>(ring, sender, slot, offset, half, raw)
     }
@@ -194,7 +196,8 @@ impl Port {
         requires geometry { slot.geometry ≡ self.old.ring.made_with.geometry }
         requires slot { IsSlotAt self.old slot offset }
         requires intent { I.intent ≡ writes offset half }
-        ensures { record self.new { history = [] } ≡ record self.old { trail = Write offset half ∷ self.old.trail; history = [] } }
+        ensures trail { record self.new { history = [] } ≡ record self.old { trail = Write offset half ∷ self.old.trail; history = [] } }
+        ensures history { GrewBy self.old.who (Write offset half) self.old.history self.new.history }
     {
         laws::write();
         laws::start();
@@ -213,7 +216,8 @@ impl Port {
         requires within { count ≤ size slot.geometry }
         requires share { ShareAWord 64 slot.geometry slot.number count }
         requires share_at_position { (geometry position : ℕ) → slot ≡ index_of geometry position → ShareAWord 64 geometry position count }
-        ensures { record self.new { history = [] } ≡ record self.old { trail = Flip offset count ∷ self.old.trail; history = [] } }
+        ensures trail { record self.new { history = [] } ≡ record self.old { trail = Flip offset count ∷ self.old.trail; history = [] } }
+        ensures history { GrewBy self.old.who (Flip offset count) self.old.history self.new.history }
     {
         self.flip_for::<Brand>(ring, sender, slot, offset, count)
     }
@@ -235,7 +239,8 @@ impl Port {
         requires share { ShareAWord 64 slot.geometry slot.number count }
         requires share_at_position { (geometry position : ℕ) → slot ≡ index_of geometry position → ShareAWord 64 geometry position count }
         requires intent { I.intent ≡ flips offset count }
-        ensures { record self.new { history = [] } ≡ record self.old { trail = Flip offset count ∷ self.old.trail; history = [] } }
+        ensures trail { record self.new { history = [] } ≡ record self.old { trail = Flip offset count ∷ self.old.trail; history = [] } }
+        ensures history { GrewBy self.old.who (Flip offset count) self.old.history self.new.history }
     {
         laws::flip();
         laws::start();

@@ -1,4 +1,5 @@
 //! What a seat knows, and the rule of the table.
+ghost use Rattle.ring.specs.table.Histories.{GrowthAddsUp};
 ghost use Rattle.ring.specs.table.OneRun.{IsOneRun};
 
 use atomic_table::TableRule;
@@ -54,4 +55,10 @@ impl TableRule<(), Participants, Parameters> for RingRule {
 /// nothing.
 pub fn run_is_one()
     ensures { IsOneRun }
+{}
+
+/// What a participant knows of the run grows call by call: over some calls it grew by the steps of all of them. It does
+/// nothing.
+pub fn growth_adds_up()
+    ensures { GrowthAddsUp }
 {}

@@ -1,10 +1,15 @@
-use Rattle.std.proofs.Common.{◌≡◌, sym, subst}
+use Rattle.std.proofs.Common.{rules, ◌≡◌, ◌∷◌, sym, subst}
 use Rattle.ring.specs.sender.Senders.{SenderValue}
-use Rattle.ring.specs.sender.Reserving.{HasBatchLeft, Fits}
+use Rattle.ring.specs.sender.Reserving.{HasBatchLeft, Fits, IsWon}
+use Rattle.ring.specs.table.Rule.{WentOn}
+use Rattle.ringcore.specs.declared.world.event.Who.{Who}
+use Rattle.ringcore.specs.declared.world.event.Who.TheVariants.{Sender}
+use Rattle.ringcore.specs.declared.world.event.Event.TheVariants.{Won}
+use Rattle.ringcore.specs.machine.StepAnswers.{next_number}
 use Rattle.std.specs.Prelude.{Some, Bool, true}
 use Rattle.ring.specs.declared.sender.tally.Tally.{Tally}
-use Rattle.ring.specs.table.Ports.{IsWonOrLost}
-use Rattle.ring.specs.sender.Reservations.{IsOpen}
+use Rattle.ring.specs.table.Ports.{PortValue, HasWon, IsWonOrLost}
+use Rattle.ring.specs.sender.Reservations.{IsOpen, ReservationValue}
 use Rattle.ringcore.specs.world.Trails.{looked}
 use Rattle.ring.proofs.SenderLemmas.Tries.{may_try, opens}
 use Rattle.ring.proofs.sender.Sender.exchange.Goals as goal
@@ -21,4 +26,30 @@ invariant_of-result c =
     let geometry = subst (λ (s : SenderValue). c.args.seen.prod.geometry ≡ s.ring.made_with.geometry) (sym c.self.view_is) c.requires.control.prod_geometry in
     let won : IsWonOrLost c.args.batch.now c.args.closes c.args.seen c.self.inside.port c.exchange.new.self true =
     subst (λ (b : Bool). IsWonOrLost c.args.batch.now c.args.closes c.args.seen c.self.inside.port c.exchange.new.self b) c.if-exchange.true c.exchange.ensures in
-    subst (λ (t : Tally). IsOpen c.exchange.new.self t c.args.batch.now c.args.closes c.args.seen.prod 0 0) (sym c.with_batch.ensures) (opens c.self.inside.port c.self.inside.tally c.args.batch.now c.args.seen c.self.invariant.tallied c.requires.body found left geometry c.args.closes _ won fits)
+    subst (λ (t : Tally). IsOpen c.exchange.new.self t c.args.batch.now c.args.closes c.args.seen.prod 0 0) (sym c.with_batch.ensures) (opens c.self.inside.port c.self.inside.tally c.args.batch.now c.args.seen c.self.invariant.tallied c.requires.body found left geometry c.args.closes _ won.trail_is fits)
+
+pub returns-then-exchange-clause-won : goal.returns-then-exchange-clause-won
+returns-then-exchange-clause-won c =
+    let port : PortValue = c.self.inside.port in let new : PortValue = c.exchange.new.self in
+    let won : HasWon c.args.batch.now c.args.closes c.args.seen port new =
+    subst (λ (b : Bool). IsWonOrLost c.args.batch.now c.args.closes c.args.seen port new b) c.if-exchange.true c.exchange.ensures in
+    let who_is : port.who ≡ Sender c.self.inside.tally.sender = c.self.invariant.tallied.who_is in
+    let opened : ReservationValue = record {
+      ring = new.ring;
+      sender = c.with_batch.result.sender;
+      body = c.args.batch.now;
+      closes = c.args.closes;
+      trail = new.trail;
+      history = new.history;
+      written = 0;
+      flipped = 0;
+    } in
+    subst (λ (s : SenderValue). IsWon c.args.batch.now c.args.closes c.args.seen s opened) c.self.view_is record {
+      trail_is = search rules;
+      grew = record {
+        before = won.grew.before;
+        went_on = subst (λ (w : Who). WentOn w port.history won.grew.before) who_is won.grew.went_on;
+        run_is = subst (λ (w : Who). new.history ≡ (w, Won c.args.batch.now (next_number port.trail c.args.closes)) ∷ won.grew.before) who_is won.grew.run_is;
+      };
+      stood = won.stood;
+    }

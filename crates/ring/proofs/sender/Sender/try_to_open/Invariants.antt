@@ -1,4 +1,6 @@
 use Rattle.std.proofs.Common.{◌≡◌, ◌<◌}
+use Rattle.ringcore.specs.declared.world.event.Who.TheVariants.{Sender}
+use Rattle.ring.specs.table.Histories.{Grew}
 use Rattle.ring.specs.sender.Sending.{HasTried}
 use Rattle.ring.proofs.sender.Sender.try_to_open.Given as goal
 
@@ -8,4 +10,5 @@ invariant-loop-tried l = record {
   number : l.sender.number ≡ l.fn.self.number;
   left : l.tried < l.tries;
   tried : HasTried l.batch l.closes l.tried l.fn.self l.sender;
+  history : Grew (Sender l.fn.self.number) l.fn.self.trail l.sender.trail l.fn.self.history l.sender.history;
 }

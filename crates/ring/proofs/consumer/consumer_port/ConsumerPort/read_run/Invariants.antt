@@ -4,6 +4,8 @@ use Rattle.cmdcodec.specs.declared.raw.Raw.{Raw}
 use Rattle.ringcore.specs.declared.world.event.Half.{Half}
 use Rattle.ringcore.specs.world.Trails.{found_ready, half_read}
 use Rattle.ringcore.specs.world.World.{half_of}
+use Rattle.ringcore.specs.declared.world.event.Who.TheVariants.{Consumer}
+use Rattle.ring.specs.table.Histories.{Grew}
 use Rattle.ring.specs.consumer.Pendings.{reads_from}
 use Rattle.ring.proofs.consumer.consumer_port.ConsumerPort.read_run.Given as goal
 
@@ -11,6 +13,7 @@ abbrev pub invariant-loop-offset : goal.invariant-loop-offset
 invariant-loop-offset l = record {
   many : length l.commands ≡ l.offset;
   port : record l.self { history = [] } ≡ record l.fn.self { trail = reads_from 0 l.commands l.fn.self.trail; history = [] };
+  history : Grew Consumer l.fn.self.trail l.self.trail l.fn.self.history l.self.history;
   ready : found_ready l.self.trail ≡ found_ready l.fn.self.trail;
   read : (k : ℕ) (raw : Raw) (half : Half) → slice_get l.commands k ≡ Some raw → half_read k half l.self.trail ≡ Some (half_of half raw);
 }

@@ -1,6 +1,9 @@
-use Rattle.std.proofs.Common.{[], ◌≡◌, ◌+◌, ◌-◌, ap, sym, subst, arith, ◌∙◌}
+use Rattle.std.proofs.Common.{[], ◌≡◌, ◌+◌, ◌-◌, ℕ, ap, sym, subst, arith, ◌∙◌}
 use Rattle.qindex.specs.Positions.{size}
+use Rattle.ringcore.specs.declared.world.event.Who.TheVariants.{Sender}
 use Rattle.ringcore.specs.world.Trails.{Trail, reserved_length}
+use Rattle.ring.specs.table.Histories.{Grew}
+use Rattle.ring.proofs.TableLemmas.Grown.{grew_more}
 use Rattle.ring.specs.sender.Senders.{SenderValue}
 use Rattle.ring.specs.sender.Reservations.{ReservationValue}
 use Rattle.ring.proofs.SenderLemmas.ReservesNone.{published_none}
@@ -9,36 +12,36 @@ use Rattle.ring.proofs.sender.open_reservation.OpenReservation.publish.Goals as 
 use Rattle.ring.specs.sender.Publishing.{flipped_left, ReservesNone}
 
 pub flip_left-requires : goal.flip_left-requires
-flip_left-requires c = ap (λ (r : ReservationValue). r.ring) c.write_left-reservation.ensures ∙ (wrote_is (reserved_length c.args.self.trail - c.args.self.written) (record c.args.self { history = [] })).ring_is ∙ c.requires
+flip_left-requires c = ap (λ (r : ReservationValue). r.ring) c.write_left-reservation.ensures.new ∙ (wrote_is (reserved_length c.args.self.trail - c.args.self.written) (record c.args.self { history = [] })).ring_is ∙ c.requires
 
 pub flip_left-requires-2 : goal.flip_left-requires-2
 flip_left-requires-2 c =
-    ap (λ (r : ReservationValue). r.ring) c.flip_left.ensures ∙ (left_is (record c.write_left-reservation.result { history = [] })).ring_is
-    ∙ ap (λ (r : ReservationValue). r.ring) c.write_left-reservation.ensures ∙ (wrote_is (reserved_length c.args.self.trail - c.args.self.written) (record c.args.self { history = [] })).ring_is ∙ c.requires
+    ap (λ (r : ReservationValue). r.ring) c.flip_left.ensures.new ∙ (left_is (record c.write_left-reservation.result { history = [] })).ring_is
+    ∙ ap (λ (r : ReservationValue). r.ring) c.write_left-reservation.ensures.new ∙ (wrote_is (reserved_length c.args.self.trail - c.args.self.written) (record c.args.self { history = [] })).ring_is ∙ c.requires
 
 pub into_sender-requires : goal.into_sender-requires
 into_sender-requires c =
     let s : ReservationValue = record c.args.self { history = [] } in let r : ReservationValue = record c.write_left-reservation.result { history = [] } in
     let f = wrote_is (reserved_length s.trail - s.written) s in
-    let e = c.write_left-reservation.ensures in
+    let e = c.write_left-reservation.ensures.new in
     let len = c.len.ensures.value in let few = c.len.ensures.few in let fits = c.len.ensures.fits in let within = c.len.ensures.within in let behind = c.len.ensures.behind in
     let w : r.written ≡ s.written + (reserved_length s.trail - s.written) = ap (λ (x : ReservationValue). x.written) e ∙ f.written_is in
     let l : reserved_length r.trail ≡ reserved_length s.trail = ap (λ (x : ReservationValue). reserved_length x.trail) e ∙ f.length_is in
     let p : r.flipped ≡ s.flipped = ap (λ (x : ReservationValue). x.flipped) e ∙ f.flipped_is in
     let g : size r.ring.made_with.geometry ≡ size s.ring.made_with.geometry = ap (λ (x : ReservationValue). size x.ring.made_with.geometry) e ∙ ap (λ x. size x.made_with.geometry) f.ring_is in
-    subst (λ (x : ReservationValue). x.flipped ≡ reserved_length x.trail) (sym (c.flip_left-2.ensures ∙ ap flipped_left c.flip_left.ensures))
+    subst (λ (x : ReservationValue). x.flipped ≡ reserved_length x.trail) (sym (c.flip_left-2.ensures.new ∙ ap flipped_left c.flip_left.ensures.new))
     (all_flipped r (omega arith) (omega arith) (omega arith) (omega arith))
 
 pub returns-clause-ring : goal.returns-clause-ring
 returns-clause-ring c =
     ap (λ (s : SenderValue). s.ring) c.into_sender.ensures.sender
-    ∙ ap (λ (r : ReservationValue). r.ring) (c.flip_left-2.ensures ∙ ap flipped_left (c.flip_left.ensures ∙ ap flipped_left c.write_left-reservation.ensures))
+    ∙ ap (λ (r : ReservationValue). r.ring) (c.flip_left-2.ensures.new ∙ ap flipped_left (c.flip_left.ensures.new ∙ ap flipped_left c.write_left-reservation.ensures.new))
     ∙ published_ring (record c.args.self { history = [] })
 
 pub returns-clause-id : goal.returns-clause-id
 returns-clause-id c =
     ap (λ (s : SenderValue). s.number) c.into_sender.ensures.sender
-    ∙ ap (λ (r : ReservationValue). r.sender) (c.flip_left-2.ensures ∙ ap flipped_left (c.flip_left.ensures ∙ ap flipped_left c.write_left-reservation.ensures))
+    ∙ ap (λ (r : ReservationValue). r.sender) (c.flip_left-2.ensures.new ∙ ap flipped_left (c.flip_left.ensures.new ∙ ap flipped_left c.write_left-reservation.ensures.new))
     ∙ published_sender (record c.args.self { history = [] })
 
 pub returns-clause-batches : goal.returns-clause-batches
@@ -46,5 +49,16 @@ returns-clause-batches c =
     subst (λ (t : Trail). ReservesNone c.args.self.trail t)
     (sym
     (ap (λ (s : SenderValue). s.trail) c.into_sender.ensures.sender
-    ∙ ap (λ (r : ReservationValue). r.trail) (c.flip_left-2.ensures ∙ ap flipped_left (c.flip_left.ensures ∙ ap flipped_left c.write_left-reservation.ensures))))
+    ∙ ap (λ (r : ReservationValue). r.trail) (c.flip_left-2.ensures.new ∙ ap flipped_left (c.flip_left.ensures.new ∙ ap flipped_left c.write_left-reservation.ensures.new))))
     (published_none (record c.args.self { history = [] }))
+
+pub returns-clause-history : goal.returns-clause-history
+returns-clause-history c =
+    let first : ReservationValue = c.write_left-reservation.result in let second : ReservationValue = c.flip_left.new.self in let third : ReservationValue = c.flip_left-2.new.self in
+    let once : first.sender ≡ c.args.self.sender =
+    ap (λ (r : ReservationValue). r.sender) c.write_left-reservation.ensures.new ∙ (wrote_is (reserved_length c.args.self.trail - c.args.self.written) (record c.args.self { history = [] })).sender_is in
+    let twice : second.sender ≡ c.args.self.sender = ap (λ (r : ReservationValue). r.sender) c.flip_left.ensures.new ∙ (left_is (record first { history = [] })).sender_is ∙ once in
+    let flipped = subst (λ (s : ℕ). Grew (Sender s) first.trail second.trail first.history second.history) once c.flip_left.ensures.history in
+    let all = subst (λ (s : ℕ). Grew (Sender s) second.trail third.trail second.history third.history) twice c.flip_left-2.ensures.history in
+    subst (λ (t : SenderValue). Grew (Sender c.args.self.sender) c.args.self.trail t.trail c.args.self.history t.history) (sym c.into_sender.ensures.sender)
+    (grew_more _ _ _ _ _ _ _ c.write_left-reservation.ensures.history (grew_more _ _ _ _ _ _ _ flipped all))

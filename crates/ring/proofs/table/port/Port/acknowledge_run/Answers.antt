@@ -1,9 +1,12 @@
 use Rattle.std.proofs.Common.{[], arith, ◌≡◌, ◌<◌, ◌≤◌, ℕ, suc, ◌∷◌, sym, ap, subst, ◌∙◌}
+use Rattle.ringcore.specs.declared.world.event.Who.TheVariants.{Consumer}
 use Rattle.ringcore.specs.declared.world.event.Event.TheVariants.{Acknowledge}
 use Rattle.ringcore.specs.world.Trails.{acknowledged_by}
 use Rattle.ringcore.specs.world.Laws.{syncs_taken}
 use Rattle.ring.specs.Rings.{RingValue}
 use Rattle.ring.specs.table.Ports.{PortValue}
+use Rattle.ring.specs.table.Histories.{Grew}
+use Rattle.ring.proofs.TableLemmas.Grown.{grew_step, grew_more}
 use Rattle.ring.proofs.ConsumerLemmas.Acknowledging.{all_are, is_closing, is_known, is_next, is_taken, then_after, else_after}
 use Rattle.ring.proofs.table.port.Port.acknowledge_run.Goals.{then-is_sync, else-is_sync}
 use Rattle.ring.proofs.table.port.Port.acknowledge_run.Goals as goal
@@ -44,13 +47,17 @@ loop-place-preserved c =
       | then-is_sync w ↦
           let its = then_after c.args.self.now _ _ c.requires.advanced c.counts_law.ensures.sum c.consumer_trail.ensures.syncs c.counts_law.ensures.words _ c.syncs_in_order.ensures.limits.senders order
           c.loop-place.self c.loop-place.place c.unwrap-raw.result c.loop-place-test.true at c.loop-place.invariant.trail c.loop-place.invariant.acks (sym c.is_sync.ensures ∙ w.if-is_sync.true) c.if-is_sync.self
-          (ap (λ (p : PortValue). let q : PortValue = record p { history = [] } in q) w.self-is ∙ w.acknowledge.ensures
+          (ap (λ (p : PortValue). let q : PortValue = record p { history = [] } in q) w.self-is ∙ w.acknowledge.ensures.trail
           ∙ (λ k. let q : PortValue = record c.loop-place.self { trail = Acknowledge (w.closing_sender.ensures k) (w.closing_number.ensures k) ∷ c.loop-place.self.trail; history = [] } in q)) in
-          record { trail = its.0; acks = its.1 }
+          let mid : PortValue = c.loop-place.self in
+          let one = grew_step Consumer _ _ _ _ _ (ap (λ (p : PortValue). p.trail) w.acknowledge.ensures.trail) w.acknowledge.ensures.history in
+          let grown = subst (λ (p : PortValue). Grew Consumer mid.trail p.trail mid.history p.history) (sym w.self-is) one in
+          record { trail = its.0; acks = its.1; history = grew_more _ _ _ _ _ _ _ c.loop-place.invariant.history grown }
       | else-is_sync w ↦
           let its = else_after c.args.self.now _ _ c.requires.advanced c.counts_law.ensures.sum c.consumer_trail.ensures.syncs c.counts_law.ensures.words _ c.syncs_in_order.ensures.limits.senders order
           c.loop-place.self c.loop-place.place c.unwrap-raw.result c.loop-place-test.true at c.loop-place.invariant.trail c.loop-place.invariant.acks (sym c.is_sync.ensures ∙ w.if-is_sync.false) c.if-is_sync.self w.self-is in
-          record { trail = its.0; acks = its.1 }
+          let old : PortValue = c.args.self.now in
+          record { trail = its.0; acks = its.1; history = subst (λ (p : PortValue). Grew Consumer old.trail p.trail old.history p.history) (sym w.self-is) c.loop-place.invariant.history }
     ]
 
 pub returns-clause-current : goal.returns-clause-current

@@ -1,0 +1,86 @@
+-- What a participant knows of the run grows step by step, and what its newest step found stands in it.
+use Rattle.std.proofs.Common.{◌≡◌, ℕ, ◌+◌, ◌-◌, ◌/◌, ◌<◌, ◌≤◌, Bool, false, [], ◌∷◌, ◌++◌, suc, refl, sym, ap, ◌∙◌, subst, append_assoc, arith}
+use Rattle.qindex.specs.Positions.{place}
+use Rattle.qindex.specs.Indexes.{distance}
+use Rattle.qindex.specs.Laws.{IndexesTellTheQueue}
+use Rattle.ringcore.specs.declared.world.event.Who.{Who}
+use Rattle.ringcore.specs.declared.world.event.Who.TheVariants.{Consumer, Sender}
+use Rattle.ringcore.specs.declared.world.event.Event.{Event}
+use Rattle.ringcore.specs.declared.world.event.Event.TheVariants.{Test}
+use Rattle.ringcore.specs.world.Trails.{Trail, Run, trail_of}
+use Rattle.ringcore.specs.world.World.{World, head, tail, world, control}
+use Rattle.ringcore.specs.world.Allowed.{Ring, IsRun, FindsReady, ShareAWord}
+use Rattle.ringcore.specs.world.Laws.{EveryRun, NeverMoreThanFull}
+use Rattle.ring.specs.table.Histories.{IsHistory, GrewBy, EndsWith, Grew}
+use Rattle.ring.specs.table.Ports.{PortValue}
+use Rattle.ring.specs.sender.Senders.{SenderValue}
+use Rattle.ring.specs.sender.Reserving.{TellsRoom}
+use Rattle.ring.specs.consumer.Consumers.{ConsumerPortValue}
+use Rattle.ring.proofs.TableLemmas.Trails.{trail_here, trail_append}
+
+-- ---- no step, one, and some after others
+
+pub grew_none : (who : Who) (t : Trail) (run : Run) → Grew who t t run run
+grew_none who t run = record { newer = []; run_is = refl; trail_is = refl; last = tt }
+
+pub grew_step : (who : Who) (e : Event) (t u : Trail) (older run : Run) → u ≡ e ∷ t → GrewBy who e older run → Grew who t u older run
+grew_step who e t u older run u_is grew = record {
+  newer = (who, e) ∷ grew.went_on.newer;
+  run_is = grew.run_is ∙ ap (λ (r : Run). (who, e) ∷ r) grew.went_on.run_is;
+  trail_is = u_is ∙ sym (ap (λ (v : Trail). v ++ t) (trail_here who e grew.went_on.newer ∙ ap (λ (v : Trail). e ∷ v) grew.went_on.of_others));
+  last = refl;
+}
+
+ends_with : (who : Who) (xs ys : Run) → EndsWith who xs → EndsWith who ys → EndsWith who (xs ++ ys)
+ends_with who [] ys own other = other
+ends_with who (x ∷ xs) ys own other = own
+
+pub grew_more : (who : Who) (a b c : Trail) (h i j : Run) → Grew who a b h i → Grew who b c i j → Grew who a c h j
+grew_more who a b c h i j one two = record {
+  newer = two.newer ++ one.newer;
+  run_is = two.run_is ∙ ap (λ (r : Run). two.newer ++ r) one.run_is ∙ sym (append_assoc two.newer one.newer h);
+  trail_is =
+      two.trail_is ∙ ap (λ (v : Trail). trail_of who two.newer ++ v) one.trail_is ∙ sym (append_assoc (trail_of who two.newer) (trail_of who one.newer) a)
+      ∙ ap (λ (v : Trail). v ++ a) (sym (trail_append who two.newer one.newer));
+  last = ends_with who two.newer one.newer two.last one.last;
+}
+
+-- ---- what a test found
+
+none_turned : (ring : Ring) (w : World) (limit found : ℕ) → 1 ≤ limit → found ≡ 0 → FindsReady ring w limit found → w.flipped (head w) ≡ false
+none_turned ring w limit found some none finds =
+    let here : head w + found ≡ head w = omega (arith, none) in
+    subst (λ (n : ℕ). w.flipped n ≡ false) here
+    (finds.no_more (omega (arith, some, none)) (λ offset low. ap (λ (n : ℕ). place ring.geometry n / ring.flags) (let e : head w + offset ≡ head w = omega (arith, low, none) in e)))
+
+pub unturned_now : (ring : Ring) (trail : Trail) (limit found : ℕ) (older run : Run) → 1 ≤ limit → IsHistory ring Consumer trail run → GrewBy Consumer (Test limit found) older run
+    → found ≡ 0 → (world run).flipped (head (world run)) ≡ false
+unturned_now ring trail limit found older run some is grew none =
+    let ok : IsRun ring ((Consumer, Test limit found) ∷ grew.before) = subst (IsRun ring) grew.run_is is.stands.after.run_is in
+    subst (λ (r : Run). (world r).flipped (head (world r)) ≡ false) (sym grew.run_is) (none_turned ring (world grew.before) limit found some none ok.1)
+
+-- ---- what a look found
+
+-- where a look finds too little room, there is too little
+pub tells_room : NeverMoreThanFull → IndexesTellTheQueue → (ring : Ring) (who : Who) (trail : Trail) (run : Run) → IsHistory ring who trail run → TellsRoom ring.geometry (world run)
+tells_room within tells ring who trail run is slots many full =
+    let w = world run in
+    let i = within ring run is.stands.after.run_is in
+    let queue = tells ring.geometry (tail w) (head w) is.stands.after.geometry_is i.behind i.within in
+    let apart : distance (control ring.geometry w).prod (control ring.geometry w).cons ≡ tail w - head w = queue.distance in
+    let behind = i.behind in omega (arith, apart, behind, full)
+
+-- ---- as contracts see a step
+
+pub port_step : (p q : PortValue) (who : Who) (e : Event) → p.who ≡ who → record q { history = [] } ≡ record p { trail = e ∷ p.trail; history = [] } → GrewBy p.who e p.history q.history
+    → Grew who p.trail q.trail p.history q.history
+port_step p q who e who_is is grew =
+    grew_step who e p.trail q.trail p.history q.history (ap (λ (x : PortValue). x.trail) is) (subst (λ (w : Who). GrewBy w e p.history q.history) who_is grew)
+
+pub sender_step : (s t : SenderValue) (e : Event) → record t { history = [] } ≡ record s { trail = e ∷ s.trail; history = [] } → GrewBy (Sender s.number) e s.history t.history
+    → Grew (Sender s.number) s.trail t.trail s.history t.history
+sender_step s t e is grew = grew_step (Sender s.number) e s.trail t.trail s.history t.history (ap (λ (x : SenderValue). x.trail) is) grew
+
+pub consumer_step : (c d : ConsumerPortValue) (e : Event) → record d { history = [] } ≡ record c { trail = e ∷ c.trail; history = [] } → GrewBy Consumer e c.history d.history
+    → Grew Consumer c.trail d.trail c.history d.history
+consumer_step c d e is grew = grew_step Consumer e c.trail d.trail c.history d.history (ap (λ (x : ConsumerPortValue). x.trail) is) grew
