@@ -1,3 +1,4 @@
+pub mod Operations
 pub mod Rule
 pub mod Intents
 pub mod StepEvents

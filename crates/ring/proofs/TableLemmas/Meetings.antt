@@ -11,6 +11,7 @@ use Rattle.ringcore.specs.world.Allowed.{Ring}
 use Rattle.ringcore.specs.memory.Shadow.{AreAfter}
 use Rattle.ring.specs.declared.table.rule.Participant.{Participant}
 use Rattle.ring.specs.table.Rule.{Holding, participant, WentOn, HasTrails, SitAt, Any, RuleHolds, Stands, ring_of, who_of, trail_of_first, history_of_first, IsAlone}
+use Rattle.ring.specs.table.Operations.{AreMadeBy}
 use Rattle.ring.specs.table.StepEvents.{without_first, first_alone, both_of}
 use Rattle.ring.specs.table.Meetings.{all_knowing, HasAll, HaveMet, has_met}
 use Rattle.ring.specs.table.Ports.{port_of, PortValue}
@@ -49,6 +50,7 @@ meets_at ring slots id i g hs s k _ at _ =
         limits = k.limits;
         run = k.run;
         after = subst (AreAfter ring k.run) (sym (set_back s.words i)) k.after;
+        made = subst (AreMadeBy ring k.run) (sym (set_back s.words i)) k.made;
         only = k.only;
         seat = k.seat;
         seated = λ j v got. ⊎_elim

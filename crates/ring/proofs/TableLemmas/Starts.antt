@@ -64,6 +64,7 @@ starts opens ring m limits geometry flags is = record {
   limits = limits;
   run = [];
   after = zeros_after opens ring m geometry flags is;
+  made = get_zero m;
   only = tt;
   seat = λ w. 0;
   seated = one;

@@ -26,6 +26,7 @@ use mathlib.Core.Option.{none}
 use Rattle.atomic_table.specs.Table.{step, Allows}
 use Rattle.ring.specs.table.Rule.{Holding, RuleHolds, Stands, ring_of, trail_of_first, IsAlone}
 use Rattle.ring.specs.table.Intents.{Intent, looks, closes, tests, reserves, writes, flips, reads, advances, acknowledges, asks}
+use Rattle.ring.specs.table.Operations.{IsOperation}
 use Rattle.ring.specs.table.StepEvents.{IsEventOf, adds_for}
 use Rattle.ring.proofs.TableLemmas.Steps.{MayStep, steps_as, set_back}
 use Rattle.ringcore.specs.world.ConsumerLaws.{TellsTheHead, TellsTheNumbers}
@@ -42,15 +43,29 @@ next_is trail false = tt
 still : (ring : Ring) (run : Run) (words : List ℕ) (i : ℕ) → AreAfter ring run words → AreAfter ring run (slice_set words i (slice_index words i))
 still ring run words i is = subst (AreAfter ring run) (sym (set_back words i)) is
 
+look_leaves : (ring : Ring) (run : Run) (who : Who) (c : Control) (old new : List ℕ) → new ≡ old → IsOperation ring run who (Look c) old new
+look_leaves ring run Consumer c old new is = is
+look_leaves ring run (Sender s) c old new is = is
+
 pub looks_may : Always HasAControlWord → Always LooksByALoad → (ring : Ring) (who : Who) (trail : Trail) (i : ℕ) → i ≡ control_word → MayStep ring who trail i (λ x. x) (IsEventOf ring trail looks 0)
 looks_may says finds ring who trail i is = subst (λ (j : ℕ). MayStep ring who trail j (λ x. x) (IsEventOf ring trail looks 0)) (sym is) (λ run words now.
     let x : ℕ = slice_index words control_word in
-    (Look (control_in ring.geometry x), (refl, says ring run words now.after), still ring ((who, Look (control_in ring.geometry x)) ∷ run) words control_word (finds ring run words now.after who)))
+    (
+      Look (control_in ring.geometry x),
+      (refl, says ring run words now.after),
+      still ring ((who, Look (control_in ring.geometry x)) ∷ run) words control_word (finds ring run words now.after who),
+      look_leaves ring run who (control_in ring.geometry x) words _ (set_back words control_word),
+    ))
 
 pub closes_may : Always ClosesByAnOr → (ring : Ring) (s : ℕ) (trail : Trail) (i mask : ℕ) → i ≡ control_word → mask ≡ close_mask
     → MayStep ring (Sender s) trail i (λ x. bit_or x mask) (IsEventOf ring trail closes mask)
 closes_may law ring s trail i mask at is run words now =
-    (Close, refl, subst (λ (t : ℕ × ℕ). AreAfter ring ((Sender s, Close) ∷ run) (slice_set words t.0 (bit_or (slice_index words t.0) t.1))) (λ q. (sym at q, sym is q)) (law ring run words now.after s))
+    (
+      Close,
+      refl,
+      subst (λ (t : ℕ × ℕ). AreAfter ring ((Sender s, Close) ∷ run) (slice_set words t.0 (bit_or (slice_index words t.0) t.1))) (λ q. (sym at q, sym is q)) (law ring run words now.after s),
+      (λ q. slice_set words (at q) (bit_or (slice_index words (at q)) (is q))),
+    )
 
 -- the two ways of an exchange, by what it found
 module _ (wins : Always WinsByAnExchange) (loses : Always LosesByAnExchange) (ring : Ring) (s : ℕ) (trail : Trail) (body : List Raw) (closing : Bool) (before : Control) (old new : ℕ)
@@ -63,7 +78,9 @@ module _ (wins : Always WinsByAnExchange) (loses : Always LosesByAnExchange) (ri
   number = next_number trail closing
 
   abbrev Exchanged : Bool → Type 0
-  Exchanged v = (e : Event) × (e ≡ cond v (Won body number) (Lost body closing (control_in ring.geometry x))) × AreAfter ring ((Sender s, e) ∷ run) (slice_set words control_word (either v new x))
+  Exchanged v =
+      (e : Event) × (e ≡ cond v (Won body number) (Lost body closing (control_in ring.geometry x))) × AreAfter ring ((Sender s, e) ∷ run) (slice_set words control_word (either v new x))
+      × IsOperation ring run (Sender s) e words (slice_set words control_word (either v new x))
 
   tries : MayTry ring (trail_of (Sender s) run) body (length_with closing body) before
   tries = subst (λ (t : Trail). MayTry ring t body (length_with closing body) before) (sym now.trail_is) may
@@ -79,12 +96,18 @@ module _ (wins : Always WinsByAnExchange) (loses : Always LosesByAnExchange) (ri
             (subst (λ (k : ℕ). MayTry ring (trail_of (Sender s) run) body k before) many tries)
             (subst (λ (t : Trail). IsNextNumber t number) (sym now.trail_is) (next_is trail closing))
             (eqb-true x old hit ∙ old_is)),
+        record {
+          before = before;
+          found = eqb-true x old hit ∙ old_is;
+          stored = ap (slice_set words control_word) (new_is ∙ ap (λ (k : ℕ). packed (with_reserved before k)) many);
+        },
       )
   by_hit false miss = (
     Lost body closing (control_in ring.geometry x),
     refl,
     still ring ((Sender s, Lost body closing (control_in ring.geometry x)) ∷ run) words control_word
         (loses ring run words now.after s body closing before tries (λ same. true≢false (sym (eq-eqb x old (same ∙ sym old_is)) ∙ miss))),
+    set_back words control_word,
   )
 
 pub reserves_may : Always WinsByAnExchange → Always LosesByAnExchange → (ring : Ring) (s : ℕ) (trail : Trail) (body : List Raw) (closing : Bool) (before : Control) (old new : ℕ)
@@ -105,6 +128,11 @@ writes_may law starts ring s trail offset half raw i x may there x_is at run wor
       refl,
       subst (λ (t : ℕ × ℕ). AreAfter ring ((Sender s, Write offset half) ∷ run) (slice_set words t.0 t.1)) (λ q. (sym i_is q, sym x_is q))
           (law ring run words now.after s offset half raw (subst (λ (t : Trail). MayWrite t offset) (sym now.trail_is) may) (subst (λ (t : Trail). slice_get (reserved_commands s t) offset ≡ Some raw) (sym now.trail_is) there)),
+      record {
+        raw = raw;
+        command = subst (λ (t : Trail). slice_get (reserved_commands s t) offset ≡ Some raw) (sym now.trail_is) there;
+        stored = λ q. slice_set words (i_is q) (x_is q);
+      },
     )
 
 -- an exclusive or of a flag word
@@ -120,6 +148,7 @@ flips_may law starts ring s trail offset count i mask may at mask_is run words n
       refl,
       subst (λ (j : ℕ). AreAfter ring ((Sender s, Flip offset count) ∷ run) (slice_set words j (bit_xor (slice_index words j) mask))) (sym (at p here))
           (law ring run words now.after s offset count mask (subst (λ (t : Trail). MayFlip ring t p offset count) (sym now.trail_is) (may p here now.after.flags_are)) (mask_is p here)),
+      record { mask = mask; mask_is = mask_is p here; stored = λ q. slice_set words (at p here q) (bit_xor (slice_index words (at p here q)) mask) },
     )
 
 -- ---- the consumer's
@@ -135,6 +164,7 @@ tests_may law tells ring trail limit i many at run words now =
       refl,
       still ring ((Consumer, Test limit found) ∷ run) words i
           (subst (λ (t : ℕ × ℕ). AreAfter ring ((Consumer, Test limit (ready_in g (slice_index words t.1) t.0 limit)) ∷ run) words) (λ k. (h k, here k)) (law ring run words now.after limit many)),
+      set_back words i,
     )
 
 -- a store of nothing, at the slot that an offset from the head has
@@ -149,6 +179,7 @@ reads_may law tells ring trail offset half i low at run words now =
       still ring ((Consumer, Read offset half x) ∷ run) words i
           (subst (λ (j : ℕ). AreAfter ring ((Consumer, Read offset half (slice_index words j)) ∷ run) words) here
           (law ring run words now.after offset half (subst (λ (t : Trail). offset < found_ready t) (sym now.trail_is) low))),
+      set_back words i,
     )
 
 pub advances_may : Always AdvancesByAnExclusiveOr → EveryRun TellsTheHead → (ring : Ring) (trail : Trail) (raws : List Raw) (i mask : ℕ) → i ≡ control_word → MayAdvance trail raws
@@ -162,6 +193,7 @@ advances_may law tells ring trail raws i mask at may mask_is run words now =
       refl,
       subst (λ (t : ℕ × ℕ). AreAfter ring ((Consumer, Advance raws) ∷ run) (slice_set words t.0 (bit_xor (slice_index words t.0) t.1))) (λ q. (sym at q, same q))
           (law ring run words now.after raws (subst (λ (t : Trail). MayAdvance t raws) (sym now.trail_is) may)),
+      (λ q. slice_set words (at q) (bit_xor (slice_index words (at q)) (sym same q))),
     )
 
 pub acknowledges_may : Always AcknowledgesByAStore → EveryRun TellsTheNumbers → EveryRun SyncsAreCounted → (ring : Ring) (trail : Trail) (s number i x : ℕ) → i ≡ cell ring.geometry s → x ≡ number
@@ -174,12 +206,18 @@ acknowledges_may law tells counted ring trail s number i x at x_is next low run 
       refl,
       subst (λ (t : ℕ × ℕ). AreAfter ring ((Consumer, Acknowledge s number) ∷ run) (slice_set words t.0 t.1)) (λ q. (sym at q, sym x_is q))
           (law ring run words now.after s number (record { next = next ∙ ap suc (sym a); taken = taken })),
+      (λ q. slice_set words (at q) (x_is q)),
     )
 
 pub asks_may : Always AsksByALoad → (ring : Ring) (s : ℕ) (trail : Trail) (i : ℕ) → i ≡ cell ring.geometry s → MayStep ring (Sender s) trail i (λ x. x) (IsEventOf ring trail asks 0)
 asks_may law ring s trail i at run words now =
     let x : ℕ = slice_index words i in
-    (Ask x, refl, still ring ((Sender s, Ask x) ∷ run) words i (subst (λ (j : ℕ). AreAfter ring ((Sender s, Ask (slice_index words j)) ∷ run) words) (sym at) (law ring run words now.after s now.known)))
+    (
+      Ask x,
+      refl,
+      still ring ((Sender s, Ask x) ∷ run) words i (subst (λ (j : ℕ). AreAfter ring ((Sender s, Ask (slice_index words j)) ∷ run) words) (sym at) (law ring run words now.after s now.known)),
+      set_back words i,
+    )
 
 -- ---- the same as a step of a seat asks for it
 

@@ -13,6 +13,7 @@ use Rattle.ringcore.specs.world.Allowed.{Ring}
 use Rattle.ringcore.specs.memory.Shadow.{AreAfter}
 use Rattle.ring.specs.declared.table.rule.Participant.{Participant}
 use Rattle.ring.specs.table.Rule.{Holding, participant, HasTrails, SitAt, RuleHolds, Stands, ring_of, who_of, trail_of_first, history_of_first, IsAlone}
+use Rattle.ring.specs.table.Operations.{IsOperation}
 use Rattle.ring.specs.table.StepEvents.{Added}
 use Rattle.ring.proofs.TableLemmas.Trails.{same_refl, trail_here}
 use Rattle.ring.proofs.TableLemmas.Seats.{trails_else, Without, moved_to, sit_without, sit_else, taken_in, sit_taken, sit_stays, sit_append, trails_append, at_snoc_index, went_on_none, set_there, among_step, among_dealt, among_joined}
@@ -23,6 +24,7 @@ abbrev pub MayStep : Ring → Who → Trail → ℕ → (ℕ → ℕ) → (ℕ �
 MayStep ring who trail i f says =
     (run : Run) (words : List ℕ) → Stands ring who trail run words
     → (e : Event) × says (slice_index words i) e × AreAfter ring ((who, e) ∷ run) (slice_set words i (f (slice_index words i)))
+    × IsOperation ring run who e words (slice_set words i (f (slice_index words i)))
 
 module _ (ring : Ring) (slots id : ℕ) (z : Ring) (who : Who) (trail : Trail) (history : Run) (i : ℕ) (f : ℕ → ℕ) (says : ℕ → Event → Type 0) (may : MayStep z who trail i f says) where
   abbrev me : Holding
@@ -52,6 +54,7 @@ module _ (ring : Ring) (slots id : ℕ) (z : Ring) (who : Who) (trail : Trail) (
           limits = k.limits;
           run = longer;
           after = after;
+          made = (s.words, k.made, subst (λ (r : Ring). IsOperation r k.run who e s.words words) zn did.3);
           only = only;
           seat = k.seat;
           seated = λ j v got. ⊎_elim
@@ -84,6 +87,7 @@ deals_at ring id g hs apart s k at =
       limits = k.limits;
       run = k.run;
       after = k.after;
+      made = k.made;
       only = k.only;
       seat = seat;
       seated = λ j v there. ⊎_elim
@@ -110,6 +114,7 @@ gathers_at ring id other v w s k at two there =
       limits = k.limits;
       run = k.run;
       after = k.after;
+      made = k.made;
       only = k.only;
       seat = seat;
       seated = λ j u e. ⊎_elim

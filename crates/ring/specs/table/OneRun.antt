@@ -7,6 +7,7 @@ use Rattle.ringcore.specs.declared.world.event.Event.{Event}
 use Rattle.ringcore.specs.world.Trails.{Trail, Run}
 use Rattle.ringcore.specs.world.Allowed.{Ring}
 use Rattle.ring.specs.table.Rule.{TableState, participant, RuleHolds}
+use Rattle.ring.specs.table.Operations.{AreMadeBy}
 
 -- Whatever step a seat of one participant takes by which its trail grows by an event, and which leaves the other views:
 -- the event comes to the end of the run, and else the run stays as it was. So it is allowed, and finds what it says, in
@@ -19,3 +20,8 @@ IsOneRun =
     → get_elem? t.views id ≡ some (participant z who (e ∷ trail) newer ∷ [])
     → ((j : ℕ) → j ≢ id → get_elem? t.views j ≡ get_elem? s.views j)
     → now.run ≡ (who, e) ∷ before.run
+
+-- Whatever step is taken, with an event or without: the words are what the operations of the run's events made of zeros.
+-- So nothing is ever stored but by an event.
+abbrev pub WordsAreTheRuns : Type 0
+WordsAreTheRuns = (ring : Ring) (s : TableState) (holds : RuleHolds ring s) → AreMadeBy ring holds.run s.words

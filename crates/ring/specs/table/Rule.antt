@@ -11,6 +11,7 @@ use Rattle.ringcore.specs.world.Allowed.{Ring}
 use Rattle.ringcore.specs.world.Laws.{IsOne, OnlyOf}
 use Rattle.ringcore.specs.memory.Shadow.{AreAfter}
 use Rattle.ring.specs.declared.table.rule.Participant.{Participant}
+use Rattle.ring.specs.table.Operations.{AreMadeBy}
 
 -- what the table is at a moment; it has no slots
 abbrev pub TableState : Type 0
@@ -62,14 +63,15 @@ pub record Among (P : Participant → Type 0) (views : List (List Participant)) 
   pub at : get_elem? views place ≡ some there
   pub one : Any P there
 
--- The rule: there is a run after which the words stand as they do, and whose events of each participant that sits at
--- a seat are that participant's trail. It is the run as the one with the newest event knew it then, and what each
+-- The rule: there is a run whose operations, and no others, made the words what they are, and whose events of each
+-- participant that sits at a seat are that participant's trail. It is the run as the one with the newest event knew it then, and what each
 -- other knew at its own newest event is an older part of it, behind which it took no step: so the run grows at its end
 -- alone, and what is in it stays.
 pub record RuleHolds (ring : Ring) (s : TableState) : Type 0 where
   pub limits : IsWithinLimits ring
   pub run : Run
   pub after : AreAfter ring run s.words
+  pub made : AreMadeBy ring run s.words
   pub only : OnlyOf ring.senders run
   pub seat : Who → ℕ
   pub seated : (i : ℕ) (v : List Participant) → get_elem? s.views i ≡ some v → SitAt seat i v × HasTrails ring run v

@@ -1,6 +1,6 @@
 //! What a seat knows, and the rule of the table.
 ghost use Rattle.ring.specs.table.Histories.{GrowthAddsUp};
-ghost use Rattle.ring.specs.table.OneRun.{IsOneRun};
+ghost use Rattle.ring.specs.table.OneRun.{IsOneRun, WordsAreTheRuns};
 
 use atomic_table::TableRule;
 use qindex::Geometry;
@@ -51,10 +51,11 @@ impl TableRule<(), Participants, Parameters> for RingRule {
     ghost first = { λ ring. first_participants ring };
 }
 
-/// The run that the rule speaks of is one, and grows at its end alone: by the event of the seat that steps. It does
-/// nothing.
+/// The run that the rule speaks of is one, and grows at its end alone: by the event of the seat that steps. All words
+/// are what the operations of its events made of them. It does nothing.
 pub fn run_is_one()
-    ensures { IsOneRun }
+    ensures one { IsOneRun }
+    ensures words { WordsAreTheRuns }
 {}
 
 /// What a participant knows of the run grows call by call: over some calls it grew by the steps of all of them. It does

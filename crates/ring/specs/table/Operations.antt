@@ -1,0 +1,52 @@
+-- The one operation on one word that each kind of event is. No other changes a word of a ring.
+use Rattle.std.specs.Prelude.{◌≡◌, ℕ, ◌+◌, List, [], ◌∷◌, length, Some, slice_get, slice_index, slice_set, bit_or}
+use Rattle.cmdcodec.specs.declared.raw.Raw.{Raw}
+use Rattle.qindex.specs.declared.control.Control.{Control}
+use Rattle.qindex.specs.Positions.{index_of}
+use Rattle.qindex.specs.ControlWord.{packed, advance_mask, close_mask}
+use Rattle.ringcore.specs.declared.world.event.Who.{Who}
+use Rattle.ringcore.specs.declared.world.event.Who.TheVariants.{Consumer, Sender}
+use Rattle.ringcore.specs.declared.world.event.Half.{Half}
+use Rattle.ringcore.specs.declared.world.event.Event.{Event}
+use Rattle.ringcore.specs.declared.world.event.Event.TheVariants.{Won, Write, Flip, Advance, Close, Acknowledge}
+use Rattle.ringcore.specs.world.Trails.{Run, trail_of, batch_length}
+use Rattle.ringcore.specs.world.World.{head, world, half_of}
+use Rattle.ringcore.specs.world.Allowed.{Ring}
+use Rattle.ringcore.specs.memory.Layout.{control_word, flag_word, data_word, cell}
+use Rattle.ringcore.specs.memory.Flags.{IsFlipMask}
+use Rattle.ringcore.specs.memory.StepLaws.{with_reserved, reserved_commands, turned}
+
+-- An exchange of the control word that finds one control, and stores it with prod so many commands further.
+pub record IsExchange (many : ℕ) (old new : List ℕ) : Type 0 where
+  pub before : Control
+  pub found : slice_index old control_word ≡ packed before
+  pub stored : new ≡ slice_set old control_word (packed (with_reserved before many))
+
+-- A store of a half of the command at this place of the sender's reservation.
+pub record IsStore (ring : Ring) (run : Run) (old new : List ℕ) (s offset : ℕ) (half : Half) : Type 0 where
+  pub raw : Raw
+  pub command : slice_get (reserved_commands s (trail_of (Sender s) run)) offset ≡ Some raw
+  pub stored : new ≡ slice_set old (data_word ring.geometry ((world run).start s + offset) half) (half_of half raw)
+
+-- An exclusive or of the flag word with the flags of so many slots.
+pub record IsTurn (ring : Ring) (run : Run) (old new : List ℕ) (s offset count : ℕ) : Type 0 where
+  pub mask : ℕ
+  pub mask_is : IsFlipMask ring.geometry ((world run).start s + offset) count mask
+  pub stored : new ≡ turned old (flag_word ring.geometry ((world run).start s + offset)) mask
+
+-- What the operation of an event behind this run makes of the words. An event that isn't named is a load, or an exchange
+-- that is lost: it leaves them.
+abbrev pub IsOperation : Ring → Run → Who → Event → List ℕ → List ℕ → Type 0
+IsOperation ring run (Sender s) (Won body number) old new = IsExchange (batch_length body number) old new
+IsOperation ring run (Sender s) (Write offset half) old new = IsStore ring run old new s offset half
+IsOperation ring run (Sender s) (Flip offset count) old new = IsTurn ring run old new s offset count
+IsOperation ring run (Sender s) Close old new = new ≡ slice_set old control_word (bit_or (slice_index old control_word) close_mask)
+IsOperation ring run Consumer (Advance raws) old new =
+    new ≡ turned old control_word (advance_mask (index_of ring.geometry (head (world run))) (index_of ring.geometry (head (world run) + length raws)))
+IsOperation ring run Consumer (Acknowledge s number) old new = new ≡ slice_set old (cell ring.geometry s) number
+IsOperation ring run who e old new = new ≡ old
+
+-- The words are what the operations of these events made of zeros, one for each event and no other.
+abbrev pub AreMadeBy : Ring → Run → List ℕ → Type 0
+AreMadeBy ring [] words = (i : ℕ) → slice_index words i ≡ 0
+AreMadeBy ring (x ∷ xs) words = (before : List ℕ) × AreMadeBy ring xs before × IsOperation ring xs x.0 x.1 before words
