@@ -6,6 +6,7 @@ pub mod PortSteps
 pub mod Starts
 pub mod Asks
 pub mod OneRun
+pub mod OneWords
 pub mod Histories
 pub mod Grown
 pub mod Meetings

@@ -1,5 +1,5 @@
 -- The run that the rule speaks of is one, and grows at its end alone.
-use Rattle.std.specs.Prelude.{◌≡◌, ◌≢◌, ℕ, [], ◌∷◌}
+use Rattle.std.specs.Prelude.{◌≡◌, ◌≢◌, ℕ, List, [], ◌∷◌, length}
 use mathlib.Core.Option.{some}
 use lib.ListN.{get_elem?}
 use Rattle.ringcore.specs.declared.world.event.Who.{Who}
@@ -22,6 +22,11 @@ IsOneRun =
     → now.run ≡ (who, e) ∷ before.run
 
 -- Whatever step is taken, with an event or without: the words are what the operations of the run's events made of zeros.
--- So nothing is ever stored but by an event.
 abbrev pub WordsAreTheRuns : Type 0
 WordsAreTheRuns = (ring : Ring) (s : TableState) (holds : RuleHolds ring s) → AreMadeBy ring holds.run s.words
+
+-- And that is one list: a store that no event stands for would make it another.
+abbrev pub WordsAreOne : Type 0
+WordsAreOne =
+    (ring : Ring) (run : Run) (words others : List ℕ) → length words ≡ length others
+    → AreMadeBy ring run words → AreMadeBy ring run others → words ≡ others

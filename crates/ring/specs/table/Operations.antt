@@ -1,7 +1,6 @@
 -- The one operation on one word that each kind of event is. No other changes a word of a ring.
-use Rattle.std.specs.Prelude.{◌≡◌, ℕ, ◌+◌, List, [], ◌∷◌, length, Some, slice_get, slice_index, slice_set, bit_or}
+use Rattle.std.specs.Prelude.{◌≡◌, ℕ, ◌+◌, List, [], ◌∷◌, length, Option, Some, slice_get, slice_index, slice_set, bit_or}
 use Rattle.cmdcodec.specs.declared.raw.Raw.{Raw}
-use Rattle.qindex.specs.declared.control.Control.{Control}
 use Rattle.qindex.specs.Positions.{index_of}
 use Rattle.qindex.specs.ControlWord.{packed, advance_mask, close_mask}
 use Rattle.ringcore.specs.declared.world.event.Who.{Who}
@@ -9,18 +8,17 @@ use Rattle.ringcore.specs.declared.world.event.Who.TheVariants.{Consumer, Sender
 use Rattle.ringcore.specs.declared.world.event.Half.{Half}
 use Rattle.ringcore.specs.declared.world.event.Event.{Event}
 use Rattle.ringcore.specs.declared.world.event.Event.TheVariants.{Won, Write, Flip, Advance, Close, Acknowledge}
-use Rattle.ringcore.specs.world.Trails.{Run, trail_of, batch_length}
-use Rattle.ringcore.specs.world.World.{head, world, half_of}
+use Rattle.ringcore.specs.world.Trails.{Run, trail_of}
+use Rattle.ringcore.specs.world.World.{head, world, control, half_of}
 use Rattle.ringcore.specs.world.Allowed.{Ring}
 use Rattle.ringcore.specs.memory.Layout.{control_word, flag_word, data_word, cell}
 use Rattle.ringcore.specs.memory.Flags.{IsFlipMask}
-use Rattle.ringcore.specs.memory.StepLaws.{with_reserved, reserved_commands, turned}
+use Rattle.ringcore.specs.memory.StepLaws.{reserved_commands, turned}
 
--- An exchange of the control word that finds one control, and stores it with prod so many commands further.
-pub record IsExchange (many : ℕ) (old new : List ℕ) : Type 0 where
-  pub before : Control
-  pub found : slice_index old control_word ≡ packed before
-  pub stored : new ≡ slice_set old control_word (packed (with_reserved before many))
+-- An exchange of the control word, from what a look finds to what one finds once the batch is reserved.
+pub record IsExchange (ring : Ring) (run : Run) (old new : List ℕ) (s : ℕ) (body : List Raw) (number : Option ℕ) : Type 0 where
+  pub found : slice_index old control_word ≡ packed (control ring.geometry (world run))
+  pub stored : new ≡ slice_set old control_word (packed (control ring.geometry (world ((Sender s, Won body number) ∷ run))))
 
 -- A store of a half of the command at this place of the sender's reservation.
 pub record IsStore (ring : Ring) (run : Run) (old new : List ℕ) (s offset : ℕ) (half : Half) : Type 0 where
@@ -37,7 +35,7 @@ pub record IsTurn (ring : Ring) (run : Run) (old new : List ℕ) (s offset count
 -- What the operation of an event behind this run makes of the words. An event that isn't named is a load, or an exchange
 -- that is lost: it leaves them.
 abbrev pub IsOperation : Ring → Run → Who → Event → List ℕ → List ℕ → Type 0
-IsOperation ring run (Sender s) (Won body number) old new = IsExchange (batch_length body number) old new
+IsOperation ring run (Sender s) (Won body number) old new = IsExchange ring run old new s body number
 IsOperation ring run (Sender s) (Write offset half) old new = IsStore ring run old new s offset half
 IsOperation ring run (Sender s) (Flip offset count) old new = IsTurn ring run old new s offset count
 IsOperation ring run (Sender s) Close old new = new ≡ slice_set old control_word (bit_or (slice_index old control_word) close_mask)

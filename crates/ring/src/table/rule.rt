@@ -1,6 +1,6 @@
 //! What a seat knows, and the rule of the table.
 ghost use Rattle.ring.specs.table.Histories.{GrowthAddsUp};
-ghost use Rattle.ring.specs.table.OneRun.{IsOneRun, WordsAreTheRuns};
+ghost use Rattle.ring.specs.table.OneRun.{IsOneRun, WordsAreTheRuns, WordsAreOne};
 
 use atomic_table::TableRule;
 use qindex::Geometry;
@@ -52,10 +52,12 @@ impl TableRule<(), Participants, Parameters> for RingRule {
 }
 
 /// The run that the rule speaks of is one, and grows at its end alone: by the event of the seat that steps. All words
-/// are what the operations of its events made of them. It does nothing.
+/// are what the operations of its events made of zeros, which is one list: no step stores anything but by its event. It
+/// does nothing.
 pub fn run_is_one()
     ensures one { IsOneRun }
     ensures words { WordsAreTheRuns }
+    ensures one_list { WordsAreOne }
 {}
 
 /// What a participant knows of the run grows call by call: over some calls it grew by the steps of all of them. It does

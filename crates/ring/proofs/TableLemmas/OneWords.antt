@@ -1,0 +1,93 @@
+-- The words that the operations of a run make of zeros are one list.
+use Rattle.std.proofs.Common.{◌≡◌, ℕ, zero, suc, ◌+◌, ◌*◌, ◌/◌, ◌%◌, ◌^◌, ◌<◌, List, [], ◌∷◌, length, Some, refl, sym, ap, ◌∙◌, arith}
+use mathlib.Core.Logic.{dite}
+use native.Mathlib.Decide.{ℕ_discrete}
+use Rattle.std.specs.Prelude.{slice_index, slice_set, bit_or}
+use Rattle.std.specs.Int.{bit_at}
+use Rattle.std.proofs.lemmas.Nat.Bits.{bit_at-lt, bit_at_lowest, bit_at-suc}
+use Rattle.cmdcodec.specs.declared.raw.Raw.{Raw}
+use Rattle.qindex.specs.Positions.{index_of}
+use Rattle.qindex.specs.ControlWord.{packed, advance_mask, close_mask}
+use Rattle.ringcore.specs.declared.world.event.Who.{Who}
+use Rattle.ringcore.specs.declared.world.event.Who.TheVariants.{Consumer, Sender}
+use Rattle.ringcore.specs.declared.world.event.Event.{Event}
+use Rattle.ringcore.specs.declared.world.event.Event.TheVariants.{Won, Write, Flip, Advance, Close, Acknowledge}
+use Rattle.ringcore.specs.world.Trails.{Run}
+use Rattle.ringcore.specs.world.World.{head, world, control, half_of}
+use Rattle.ringcore.specs.world.Allowed.{Ring}
+use Rattle.ringcore.specs.memory.Layout.{control_word, flag_word, data_word, cell}
+use Rattle.ringcore.specs.memory.Flags.{IsFlipMask}
+use Rattle.ringcore.specs.memory.StepLaws.{turned}
+use Rattle.ring.specs.table.Operations.{IsOperation, AreMadeBy}
+use Rattle.ring.specs.table.OneRun.{WordsAreOne}
+
+-- ---- a mask is told by its bits
+
+same_bits : (k a b : ℕ) → a < 2 ^ k → b < 2 ^ k → ((i : ℕ) → bit_at a i ≡ bit_at b i) → a ≡ b
+same_bits zero a b low lower bits = omega arith
+same_bits (suc k) a b low lower bits =
+    let half : a / 2 ≡ b / 2 = same_bits k (a / 2) (b / 2) (omega arith) (omega arith) (λ i. sym (bit_at-suc a i) ∙ bits (suc i) ∙ bit_at-suc b i) in
+    let last : a % 2 ≡ b % 2 = sym (bit_at_lowest a) ∙ bits 0 ∙ bit_at_lowest b in omega (arith, half, last)
+
+one_mask : (g p count a b : ℕ) → IsFlipMask g p count a → IsFlipMask g p count b → a ≡ b
+one_mask g p count a b one other = same_bits 64 a b one.fits other.fits (λ i.
+    let low = bit_at-lt a i in let lower = bit_at-lt b i in
+    let there : bit_at a i ≡ 1 → bit_at b i ≡ 1 = (λ is. (other.bits i).1 ((one.bits i).0 is)) in
+    let back : bit_at b i ≡ 1 → bit_at a i ≡ 1 = (λ is. (one.bits i).1 ((other.bits i).0 is)) in
+    dite (ℕ_discrete (bit_at a i) 1)
+    (λ set. set ∙ sym (there set))
+    (λ unset. dite (ℕ_discrete (bit_at b i) 1) (λ set. absurd (unset (back set))) (λ neither. omega (arith, low, lower, unset, neither))))
+
+-- ---- lists
+
+length_stored : (ns : List ℕ) (i x : ℕ) → length (slice_set ns i x) ≡ length ns
+length_stored [] i x = refl
+length_stored (n ∷ ns) zero x = refl
+length_stored (n ∷ ns) (suc i) x = ap suc (length_stored ns i x)
+
+all_zeros : (a b : List ℕ) → length a ≡ length b → ((i : ℕ) → slice_index a i ≡ 0) → ((i : ℕ) → slice_index b i ≡ 0) → a ≡ b
+all_zeros [] [] same none other = refl
+all_zeros [] (y ∷ ys) same none other = absurd (omega (arith, same))
+all_zeros (x ∷ xs) [] same none other = absurd (omega (arith, same))
+all_zeros (x ∷ xs) (y ∷ ys) same none other =
+    let rest : xs ≡ ys = all_zeros xs ys (omega (arith, same)) (λ i. none (suc i)) (λ i. other (suc i)) in
+    let first : x ≡ y = none 0 ∙ sym (other 0) in
+    (λ k. first k ∷ rest k)
+
+some_one : (x y : Raw) → Some x ≡ Some y → x ≡ y
+some_one x y e = cc
+
+-- ---- one operation
+
+keeps_length : (ring : Ring) (run : Run) (who : Who) (e : Event) (old new : List ℕ) → IsOperation ring run who e old new → length new ≡ length old
+keeps_length ring run (Sender s) (Won body number) old new is = ap (λ (l : List ℕ). length l) is.stored ∙ length_stored old _ _
+keeps_length ring run (Sender s) (Write offset half) old new is = ap (λ (l : List ℕ). length l) is.stored ∙ length_stored old _ _
+keeps_length ring run (Sender s) (Flip offset count) old new is = ap (λ (l : List ℕ). length l) is.stored ∙ length_stored old _ _
+keeps_length ring run (Sender s) Close old new is = ap (λ (l : List ℕ). length l) is ∙ length_stored old _ _
+keeps_length ring run Consumer (Advance raws) old new is = ap (λ (l : List ℕ). length l) is ∙ length_stored old _ _
+keeps_length ring run Consumer (Acknowledge s number) old new is = ap (λ (l : List ℕ). length l) is ∙ length_stored old _ _
+keeps_length ring run who e old new is = ap (λ (l : List ℕ). length l) is
+
+one_operation : (ring : Ring) (run : Run) (who : Who) (e : Event) (old older new newer : List ℕ) → old ≡ older → IsOperation ring run who e old new → IsOperation ring run who e older newer → new ≡ newer
+one_operation ring run (Sender s) (Won body number) old older new newer same one other =
+    one.stored ∙ ap (λ (l : List ℕ). slice_set l control_word (packed (control ring.geometry (world ((Sender s, Won body number) ∷ run))))) same ∙ sym other.stored
+one_operation ring run (Sender s) (Write offset half) old older new newer same one other =
+    let raw_is : one.raw ≡ other.raw = some_one _ _ (sym one.command ∙ other.command) in
+    one.stored ∙ (λ k. slice_set (same k) (data_word ring.geometry ((world run).start s + offset) half) (half_of half (raw_is k))) ∙ sym other.stored
+one_operation ring run (Sender s) (Flip offset count) old older new newer same one other =
+    let mask_is : one.mask ≡ other.mask = one_mask _ _ _ _ _ one.mask_is other.mask_is in
+    one.stored ∙ (λ k. turned (same k) (flag_word ring.geometry ((world run).start s + offset)) (mask_is k)) ∙ sym other.stored
+one_operation ring run (Sender s) Close old older new newer same one other =
+    one ∙ ap (λ (l : List ℕ). slice_set l control_word (bit_or (slice_index l control_word) close_mask)) same ∙ sym other
+one_operation ring run Consumer (Advance raws) old older new newer same one other =
+    one ∙ ap (λ (l : List ℕ). turned l control_word (advance_mask (index_of ring.geometry (head (world run))) (index_of ring.geometry (head (world run) + length raws)))) same ∙ sym other
+one_operation ring run Consumer (Acknowledge s number) old older new newer same one other = one ∙ ap (λ (l : List ℕ). slice_set l (cell ring.geometry s) number) same ∙ sym other
+one_operation ring run who e old older new newer same one other = one ∙ same ∙ sym other
+
+-- ---- all of them
+
+pub words_are_one : WordsAreOne
+words_are_one ring [] words others many made again = all_zeros words others many made again
+words_are_one ring (x ∷ xs) words others many made again =
+    let before : length made.0 ≡ length again.0 = sym (keeps_length ring xs x.0 x.1 made.0 words made.2) ∙ many ∙ keeps_length ring xs x.0 x.1 again.0 others again.2 in
+    one_operation ring xs x.0 x.1 made.0 again.0 words others (words_are_one ring xs made.0 again.0 before made.1 again.1) made.2 again.2
