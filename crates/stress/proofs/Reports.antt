@@ -1,11 +1,13 @@
 -- The report of a run.
-use Rattle.std.proofs.Common.{◌≡◌, ℕ, List, map, refl, sym, ap, ◌∙◌, subst, arith}
+use Rattle.std.proofs.Common.{◌≡◌, ℕ, List, map, ap, ◌∙◌, subst, arith}
 use Rattle.std.specs.FinMap as finite
 use Rattle.ringcore.specs.world.World.{Taken, taken_as, world}
+use Rattle.ringcore.specs.world.Allowed.{Ring}
 use Rattle.ringcore.specs.world.Delivery.{batches, joined}
 use Rattle.ringcore.specs.world.ConsumerLaws.{SawDrained}
 use Rattle.caches.specs.Held.{Entries}
 use Rattle.ring.specs.Rings.{RingValue}
+use Rattle.ring.specs.NewRings.{made_with}
 use Rattle.ring.specs.sender.Senders.{SenderValue}
 use Rattle.ring.specs.Finishing.{AreAll, SummaryValue}
 use Rattle.engine.specs.Counting.{CountsValue, AreCountsOf}
@@ -13,59 +15,75 @@ use Rattle.engine.specs.Settled.{IsSettled}
 use Rattle.engine.specs.Engines.{EngineValue}
 use Rattle.engine.specs.Ends.{IsEngineEnd}
 use Rattle.stress.specs.Plans.{PlanValue, IsPlan}
-use Rattle.stress.specs.FirstEntries.{HoldsFirst, IsFilled}
-use Rattle.stress.specs.EngineTurns.{GoesOn}
+use Rattle.stress.specs.Workers.{HaveSent}
+use Rattle.stress.specs.FirstEntries.{HoldsFirst}
+use Rattle.stress.specs.EngineTurns.{IsStarted}
 use Rattle.stress.specs.Reports.{ReportValue, IsAsPlanned, HaveAsked, IsOfARun}
 use Rattle.stress.specs.Totals.{all_commands}
 use Rattle.stress.proofs.Totals.{IsMergeOf}
 use Rattle.stress.proofs.Emptied.{none_left}
-use Rattle.stress.proofs.Whole.{HaveSent, merge_of, many_commands, many_applied, many_replaced, many_syncs}
+use Rattle.stress.proofs.Whole.{merge_of, many_commands, many_applied, many_replaced, many_syncs}
 
-module _ (plan : PlanValue) (plan_is : IsPlan plan) (ring : RingValue) (senders : List SenderValue) (all : AreAll ring senders) (many : ring.made_with.senders ≡ plan.senders)
-    (sent : HaveSent plan senders) (before engine : EngineValue) (filled : IsFilled plan.senders before.unit) (goes : GoesOn before engine)
-    (saw : SawDrained engine.consumer.trail) (summary : SummaryValue) (counts : CountsValue) (held : Entries) (end : IsEngineEnd ring senders engine summary counts held)
-    (counts_are : counts ≡ engine.unit.counts) (held_are : held ≡ engine.unit.caches.entries) (done : List ℕ) (asked : HaveAsked plan.batches senders done) where
+module _ (plan : PlanValue) (ring : RingValue) (senders : List SenderValue) (engine : EngineValue) (summary : SummaryValue) (counts : CountsValue) (held : Entries) (done : List ℕ) where
   abbrev pub told : ReportValue
   told = record { plan = plan; summary = summary; counts = counts; entries = finite.len held; done = done }
 
-  merge : IsMergeOf plan (batches end.end_is.run)
-  merge = merge_of plan ring senders engine.consumer summary all many sent end.end_is
-
-  -- the ring was found closed and empty, so all that was reserved is taken
-  taken_is : (world end.end_is.run).taken ≡ map taken_as (joined (batches end.end_is.run))
-  taken_is = end.end_is.taken_list ∙ ap (map taken_as) (end.end_is.whole (end.end_is.drained saw).1)
-
-  counted : AreCountsOf (map taken_as (joined (batches end.end_is.run))) counts
-  counted = subst (λ (l : List Taken). AreCountsOf l counts) taken_is end.counted
-
-  first : HoldsFirst plan.senders held
-  first tag entry at = filled.first tag entry (goes.removes.held tag entry (sym (ap (λ (m : Entries). finite.get m tag) held_are) ∙ at))
-
-  none_held : finite.len held ≡ 0
-  none_held = none_left plan (batches end.end_is.run) held plan_is merge first (subst (IsSettled held) taken_is end.settled)
-
-  commands_are : summary.reserved ≡ all_commands plan
-  commands_are = end.end_is.reserved ∙ many_commands plan (batches end.end_is.run) merge
-
-  pub as_planned : IsAsPlanned plan told
-  as_planned = record {
-    plan_is = refl;
-    commands = commands_are;
-    taken = (end.end_is.drained saw).1 ∙ commands_are;
-    syncs = counted.syncs ∙ many_syncs plan (batches end.end_is.run) merge;
-    applied = counted.applied ∙ many_applied plan (batches end.end_is.run) merge;
-    replaced = counted.replaced ∙ many_replaced plan (batches end.end_is.run) merge;
-    removed =
-        let now : counts.removed ≡ engine.unit.counts.removed = ap (λ (c : CountsValue). c.removed) counts_are in
-        let none : finite.len engine.unit.caches.entries ≡ 0 = ap (λ (m : Entries). finite.len m) (sym held_are) ∙ none_held in
-        let at_first : before.unit.counts.removed ≡ 0 = ap (λ (c : CountsValue). c.removed) filled.counts_are in
-        let entries = filled.many in
-        let kept = goes.removes.counted in
-        omega (arith, now, none, at_first, entries, kept);
-    entries = none_held;
-    closed = (end.end_is.drained saw).0;
-    done = asked.many ∙ all.many ∙ many;
+  abbrev pub of_a_run : ring.made_with ≡ made_with plan.log2 plan.senders plan.batches → AreAll ring senders → HaveSent plan senders → IsStarted plan.senders ring engine
+      → IsEngineEnd ring senders engine summary counts held → counts ≡ engine.unit.counts → held ≡ engine.unit.caches.entries → HaveAsked plan.batches senders done
+      → IsOfARun plan told
+  of_a_run made all sent started end counts_are held_are asked = record {
+    ring = ring;
+    senders = senders;
+    engine = engine;
+    made_is = made;
+    all = all;
+    sent = sent;
+    started = started;
+    end = subst (IsEngineEnd ring senders engine summary counts) held_are end;
+    counts_are = counts_are;
+    entries_are = ap (λ (m : Entries). finite.len m) held_are;
+    asked = asked;
   }
 
-  pub of_a_run : IsOfARun plan told
-  of_a_run = record { ring = ring; senders = senders; engine = engine; held = held; end = end; entries_are = refl; asked = asked }
+-- Where the ring was found closed and empty, the numbers of a run are its plan's.
+module _ (plan : PlanValue) (plan_is : IsPlan plan) (r : ReportValue) (of_plan : r.plan ≡ plan) (is : IsOfARun plan r) (saw : SawDrained is.engine.consumer.trail) where
+  many : is.ring.made_with.senders ≡ plan.senders
+  many = ap (λ (made : Ring). made.senders) is.made_is
+
+  merge : IsMergeOf plan (batches is.end.end_is.run)
+  merge = merge_of plan is.ring is.senders is.engine.consumer r.summary is.all many is.sent is.end.end_is
+
+  -- all that was reserved is taken
+  taken_is : (world is.end.end_is.run).taken ≡ map taken_as (joined (batches is.end.end_is.run))
+  taken_is = is.end.end_is.taken_list ∙ ap (map taken_as) (is.end.end_is.whole (is.end.end_is.drained saw).1)
+
+  counted : AreCountsOf (map taken_as (joined (batches is.end.end_is.run))) r.counts
+  counted = subst (λ (l : List Taken). AreCountsOf l r.counts) taken_is is.end.counted
+
+  first : HoldsFirst plan.senders is.engine.unit.caches.entries
+  first tag entry at = is.started.filled.first tag entry (is.started.goes_on.removes.held tag entry at)
+
+  none_held : finite.len is.engine.unit.caches.entries ≡ 0
+  none_held = none_left plan (batches is.end.end_is.run) is.engine.unit.caches.entries plan_is merge first (subst (IsSettled is.engine.unit.caches.entries) taken_is is.end.settled)
+
+  commands_are : r.summary.reserved ≡ all_commands plan
+  commands_are = is.end.end_is.reserved ∙ many_commands plan (batches is.end.end_is.run) merge
+
+  pub as_planned : IsAsPlanned plan r
+  as_planned = record {
+    plan_is = of_plan;
+    commands = commands_are;
+    taken = (is.end.end_is.drained saw).1 ∙ commands_are;
+    syncs = counted.syncs ∙ many_syncs plan (batches is.end.end_is.run) merge;
+    applied = counted.applied ∙ many_applied plan (batches is.end.end_is.run) merge;
+    replaced = counted.replaced ∙ many_replaced plan (batches is.end.end_is.run) merge;
+    removed =
+        let now : r.counts.removed ≡ is.engine.unit.counts.removed = ap (λ (c : CountsValue). c.removed) is.counts_are in
+        let at_first : is.started.before.unit.counts.removed ≡ 0 = ap (λ (c : CountsValue). c.removed) is.started.filled.counts_are in
+        let entries = is.started.filled.many in
+        let kept = is.started.goes_on.removes.counted in
+        omega (arith, now, none_held, at_first, entries, kept);
+    entries = is.entries_are ∙ none_held;
+    closed = (is.end.end_is.drained saw).0;
+    done = is.asked.many ∙ is.all.many ∙ many;
+  }

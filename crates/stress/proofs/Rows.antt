@@ -10,9 +10,8 @@ use Rattle.ring.specs.NewRings.{new_sender, new_senders}
 use Rattle.ring.specs.sender.Senders.{SenderValue}
 use Rattle.ring.specs.Finishing.{AreAll}
 use Rattle.stress.specs.Plans.{PlanValue, planned}
-use Rattle.stress.specs.Workers.{WorkerValue, Assignment, assignment, assignments, assignment_of, assignments_of, IsNew, HasSent}
+use Rattle.stress.specs.Workers.{WorkerValue, Assignment, assignment, assignments, assignment_of, assignments_of, IsNew, HasSent, HaveSent}
 use Rattle.stress.proofs.Asked.{at_last}
-use Rattle.stress.proofs.Whole.{HaveSent}
 
 some_one : {A : Type 0} (a b : A) → Some a ≡ Some b → a ≡ b
 some_one a b is = cc

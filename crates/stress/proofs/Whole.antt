@@ -7,13 +7,13 @@ use Rattle.cmdcodec.specs.Legality.{first_ill}
 use Rattle.cmdcodec.specs.Words.{encoding}
 use Rattle.ringcore.specs.world.World.{taken_as, outcome_of, sync_raw}
 use Rattle.ringcore.specs.world.Delivery.{Batch, batches, joined}
-use Rattle.ringcore.specs.world.Laws.{own_batches}
 use Rattle.ring.specs.Rings.{RingValue}
 use Rattle.ring.specs.sender.Senders.{SenderValue}
 use Rattle.ring.specs.consumer.Consumers.{ConsumerValue}
 use Rattle.ring.specs.Finishing.{AreAll, SummaryValue, IsEnd}
 use Rattle.engine.specs.Counting.{how_many, is_applied}
-use Rattle.stress.specs.Plans.{PlanValue, command, planned}
+use Rattle.stress.specs.Plans.{PlanValue, command}
+use Rattle.stress.specs.Workers.{HaveSent}
 use Rattle.stress.specs.Totals.{all_bodies, all_syncs, all_commands}
 use Rattle.stress.proofs.Bodies.{opcode_is}
 use Rattle.stress.proofs.Weights.{weigh, many_so, length_weighs}
@@ -61,10 +61,6 @@ module _ (plan : PlanValue) (all : List Batch) (is : IsMergeOf plan all) where
       ∙ (let b : ℕ = all_bodies plan in let y : ℕ = all_syncs plan in let e : b * 0 + y * 1 ≡ y = omega arith in e)
 
 -- ---- the end of a run
-
--- each sender sent the whole of its plan
-abbrev pub HaveSent : PlanValue → List SenderValue → Type 0
-HaveSent plan senders = (k : ℕ) (s : SenderValue) → slice_get senders k ≡ Some s → own_batches k s.trail ≡ planned plan k plan.batches
 
 at_each : {A : Type 0} (xs : List A) (i : ℕ) → i < length xs → (x : A) × (slice_get xs i ≡ Some x)
 at_each [] i less = absurd (omega (arith, less))

@@ -3,14 +3,16 @@ use Rattle.std.specs.Prelude.{◌≡◌, ℕ, ◌≤◌, true, List, ◌∷◌, 
 use Rattle.std.specs.FinMap as finite
 use Rattle.ringcore.specs.declared.world.event.Event.TheVariants.{Ask}
 use Rattle.ringcore.specs.world.Trails.{Trail}
-use Rattle.caches.specs.Held.{Entries}
 use Rattle.ring.specs.Rings.{RingValue}
 use Rattle.ring.specs.sender.Senders.{SenderValue}
-use Rattle.ring.specs.Finishing.{SummaryValue}
+use Rattle.ring.specs.NewRings.{made_with}
+use Rattle.ring.specs.Finishing.{SummaryValue, AreAll}
 use Rattle.engine.specs.Counting.{CountsValue}
 use Rattle.engine.specs.Engines.{EngineValue}
 use Rattle.engine.specs.Ends.{IsEngineEnd}
 use Rattle.stress.specs.Plans.{PlanValue}
+use Rattle.stress.specs.Workers.{HaveSent}
+use Rattle.stress.specs.EngineTurns.{IsStarted}
 use Rattle.stress.specs.Totals.{all_commands, all_syncs}
 
 -- its plan, the ring's summary and the engine's counts at the end, how many entries are held then, and what each
@@ -41,12 +43,17 @@ pub record HaveAsked (most : ℕ) (senders : List SenderValue) (done : List ℕ)
       → (found ≤ most) × (older : Trail) × (s.trail ≡ Ask found ∷ older)
   pub many : length done ≡ length senders
 
--- There was a ring with an engine, whose end it tells.
+-- There was a ring of the plan's numbers with all of its senders, each of which sent the plan's batches, and with an engine
+-- that held just the plan's first entries at its start. Their end is what it tells.
 pub record IsOfARun (plan : PlanValue) (r : ReportValue) : Type 0 where
   pub ring : RingValue
   pub senders : List SenderValue
   pub engine : EngineValue
-  pub held : Entries
-  pub end : IsEngineEnd ring senders engine r.summary r.counts held
-  pub entries_are : r.entries ≡ finite.len held
+  pub made_is : ring.made_with ≡ made_with plan.log2 plan.senders plan.batches
+  pub all : AreAll ring senders
+  pub sent : HaveSent plan senders
+  pub started : IsStarted plan.senders ring engine
+  pub end : IsEngineEnd ring senders engine r.summary r.counts engine.unit.caches.entries
+  pub counts_are : r.counts ≡ engine.unit.counts
+  pub entries_are : r.entries ≡ finite.len engine.unit.caches.entries
   pub asked : HaveAsked plan.batches senders r.done

@@ -1,5 +1,5 @@
 -- What a worker has sent.
-use Rattle.std.specs.Prelude.{◌≡◌, ℕ, suc, ◌<◌, ◌≤◌, Bool, true, false, cond, List, [], ◌∷◌, ◌++◌, map, Some, None}
+use Rattle.std.specs.Prelude.{◌≡◌, ℕ, suc, ◌<◌, ◌≤◌, Bool, true, false, cond, List, [], ◌∷◌, ◌++◌, map, Some, None, slice_get}
 use Rattle.cmdcodec.specs.declared.raw.Raw.{Raw}
 use Rattle.ringcore.specs.world.Trails.{numbers_given}
 use Rattle.ringcore.specs.world.Laws.{own_batches}
@@ -54,6 +54,10 @@ IsNew plan s = (s.number < plan.senders) × (s.trail ≡ [])
 -- The whole of its plan is sent.
 abbrev pub HasSent : PlanValue → SenderValue → Type 0
 HasSent plan s = own_batches s.number s.trail ≡ planned plan s.number plan.batches
+
+-- Sender k of these has reserved the batches that are planned for it, in their order, and no others.
+abbrev pub HaveSent : PlanValue → List SenderValue → Type 0
+HaveSent plan senders = (k : ℕ) (s : SenderValue) → slice_get senders k ≡ Some s → own_batches k s.trail ≡ planned plan k plan.batches
 
 -- ---- a try to send
 

@@ -42,7 +42,6 @@ fn run_senders<R: Threads + Sync, G: Gate + Sync>(
 }
 
 /// Runs the engine and each sender's worker, each on a thread of its own.
-#[tactic(auto, using(crate::proofs::Crossing::engine_send))]
 pub(crate) fn run_at_once<R: Threads + Sync, G: Gate + Sync>(
     rt: &R,
     ring: &Ring,
