@@ -4,3 +4,4 @@ pub mod Counted
 pub mod Stepping
 pub mod Running
 pub mod Ending
+pub mod Crossing

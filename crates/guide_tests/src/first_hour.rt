@@ -70,6 +70,9 @@ fn a_driver_unmaps_pages(rt: HostRuntime) -> Result<(), RingFault> {
     assert!(rt; sender.is_done(&ring, &receipt));
     assert!(rt; engine.lookup(&tag).is_none());
 
+    // Both go on. Of all that this sender was ever told the witness says that it is true of the caches as they are now.
+    engine.told(&ring, &mut sender);
+
     // At the end all parts come together.
     let end = finish(ring, engine, senders, sender).expect(&rt, "memory");
     assert_eq!(rt; (end.summary.reserved(), end.summary.taken()), (2, 2));

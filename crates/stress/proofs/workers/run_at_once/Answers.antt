@@ -1,5 +1,6 @@
 use denote.Param.Send.{param_send, arg_send}
-use Rattle.stress.proofs.Crossing.{engine_send, runner_send}
+use Rattle.engine.proofs.Crossing.{engine_send}
+use Rattle.stress.proofs.Crossing.{runner_send}
 use Rattle.stress.proofs.workers.run_at_once.Goals as goal
 
 pub join-requires-send-A : goal.join-requires-send-A
