@@ -74,7 +74,8 @@ impl Report {
         self.entries
     }
 
-    /// What each sender's completion cell said at the end, in the order of the senders.
+    /// What each sender's completion cell said at the end, in the order of the senders: of its batches with a CMD_SYNC
+    /// so many had completed, from the first on. It needn't be all of them.
     pub fn done(&self) -> &[u32]
         ensures { result.now ≡ self.now.done }
     {
