@@ -1,5 +1,5 @@
 -- What a participant knows of the run grows step by step, and what its newest step found stands in it.
-use Rattle.std.proofs.Common.{◌≡◌, ℕ, ◌+◌, ◌-◌, ◌/◌, ◌<◌, ◌≤◌, Bool, false, [], ◌∷◌, ◌++◌, suc, refl, sym, ap, ◌∙◌, subst, append_assoc, arith}
+use Rattle.std.proofs.Common.{◌≡◌, ℕ, ◌+◌, ◌-◌, ◌/◌, ◌<◌, ◌≤◌, Bool, false, [], ◌∷◌, ◌++◌, length, suc, refl, sym, ap, ◌∙◌, subst, append_assoc, arith}
 use Rattle.qindex.specs.Positions.{place}
 use Rattle.qindex.specs.Indexes.{distance}
 use Rattle.qindex.specs.Laws.{IndexesTellTheQueue}
@@ -11,12 +11,12 @@ use Rattle.ringcore.specs.world.Trails.{Trail, Run, trail_of}
 use Rattle.ringcore.specs.world.World.{World, head, tail, world, control}
 use Rattle.ringcore.specs.world.Allowed.{Ring, IsRun, FindsReady, ShareAWord}
 use Rattle.ringcore.specs.world.Laws.{EveryRun, NeverMoreThanFull}
-use Rattle.ring.specs.table.Histories.{IsHistory, GrewBy, EndsWith, Grew}
+use Rattle.ring.specs.table.Histories.{IsHistory, GrewBy, EndsWith, Grew, OneStepIsLast, NoStepIsNone}
 use Rattle.ring.specs.table.Ports.{PortValue}
 use Rattle.ring.specs.sender.Senders.{SenderValue}
 use Rattle.ring.specs.sender.Reserving.{TellsRoom}
 use Rattle.ring.specs.consumer.Consumers.{ConsumerPortValue}
-use Rattle.ring.proofs.TableLemmas.Trails.{trail_here, trail_append}
+use Rattle.ring.proofs.TableLemmas.Trails.{trail_here, trail_append, none_before}
 
 -- ---- no step, one, and some after others
 
@@ -44,6 +44,34 @@ grew_more who a b c h i j one two = record {
       ∙ ap (λ (v : Trail). v ++ a) (sym (trail_append who two.newer one.newer));
   last = ends_with who two.newer one.newer two.last one.last;
 }
+
+-- what a part of a run holds that ends with a step of this participant
+own_first : (who : Who) (x : Who × Event) (xs : Run) → x.0 ≡ who → trail_of who (x ∷ xs) ≡ x.1 ∷ trail_of who xs
+own_first who x xs own = ap (λ (w : Who). trail_of who ((w, x.1) ∷ xs)) own ∙ trail_here who x.1 xs
+
+pub none_is_none : NoStepIsNone
+none_is_none who trail older run grew = by_newer grew.newer grew.run_is grew.trail_is grew.last
+  where
+    by_newer : (n : Run) → run ≡ n ++ older → trail ≡ trail_of who n ++ trail → EndsWith who n → run ≡ older
+    by_newer [] is same last = is
+    by_newer (x ∷ xs) is same last =
+        let none : trail_of who (x ∷ xs) ≡ [] = none_before (trail_of who (x ∷ xs)) trail (sym same) in
+        let one : ◌≡◌ {A = Trail} (x.1 ∷ trail_of who xs) [] = sym (own_first who x xs last) ∙ none in absurd (cc)
+
+pub one_is_last : OneStepIsLast
+one_is_last who e trail older run grew = by_newer grew.newer grew.run_is grew.trail_is grew.last
+  where
+    by_newer : (n : Run) → run ≡ n ++ older → e ∷ trail ≡ trail_of who n ++ trail → EndsWith who n → GrewBy who e older run
+    by_newer [] is same last = absurd (let n : length (e ∷ trail) ≡ length trail = ap (λ (t : Trail). length t) same in omega (arith, n))
+    by_newer (x ∷ xs) is same last =
+        let both : e ∷ trail ≡ x.1 ∷ (trail_of who xs ++ trail) = same ∙ ap (λ (t : Trail). t ++ trail) (own_first who x xs last) in
+        let event : x.1 ≡ e = cc in
+        let rest : trail_of who xs ++ trail ≡ trail = cc in
+        record {
+          before = xs ++ older;
+          went_on = record { newer = xs; run_is = refl; of_others = none_before (trail_of who xs) trail rest };
+          run_is = is ∙ (λ k. let l : Run = (last k, event k) ∷ (xs ++ older) in l);
+        }
 
 -- ---- what a test found
 

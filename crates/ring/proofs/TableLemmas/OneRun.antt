@@ -10,7 +10,7 @@ use Rattle.ringcore.specs.world.Allowed.{Ring}
 use Rattle.ring.specs.declared.table.rule.Participant.{Participant}
 use Rattle.ring.specs.table.Rule.{participant, WentOn, HasTrails, Any}
 use Rattle.ring.specs.table.OneRun.{IsOneRun}
-use Rattle.ring.proofs.TableLemmas.Trails.{same_refl, trail_here, trail_else, trail_append}
+use Rattle.ring.proofs.TableLemmas.Trails.{same_refl, trail_here, trail_else, trail_append, none_before}
 use Rattle.ring.proofs.FinishLemmas.Told.{same_is}
 
 alike : (u v : Who) → (u ≡ v) ⊎ (u ≢ v)
@@ -21,10 +21,6 @@ alike u v = by_same (same u v) refl
     by_same false e = inr (λ is. true≢false (sym (same_refl u) ∙ ap (same u) is ∙ e))
 
 -- ---- lists
-
-none_before : (a b : Trail) → a ++ b ≡ b → a ≡ []
-none_before [] b e = refl
-none_before (x ∷ xs) b e = absurd (let n : length (x ∷ xs ++ b) ≡ length b = ap (λ (t : Trail). length t) e in let m = length-append xs b in omega (arith, n, m))
 
 -- nothing comes back behind itself and more
 not_longer : (a b : Trail) (e : Event) → b ≡ a ++ e ∷ b → ⊥

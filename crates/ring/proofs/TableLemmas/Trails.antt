@@ -1,5 +1,5 @@
 -- A seat's trail, as the run grows.
-use Rattle.std.proofs.Common.{◌≡◌, ◌≢◌, Bool, true, false, cond, [], ◌∷◌, ◌++◌, refl, ap, eq-eqb, ne_eqb}
+use Rattle.std.proofs.Common.{◌≡◌, ◌≢◌, Bool, true, false, cond, [], ◌∷◌, ◌++◌, length, length-append, refl, ap, eq-eqb, ne_eqb, arith}
 use Rattle.ringcore.specs.declared.world.event.Who.{Who}
 use Rattle.ringcore.specs.declared.world.event.Who.TheVariants.{Consumer, Sender}
 use Rattle.ringcore.specs.declared.world.event.Event.{Event}
@@ -28,3 +28,7 @@ trail_append u (x ∷ xs) b = by_seat (same u x.0) (trail_append u xs b)
     by_seat : (v : Bool) → trail_of u (xs ++ b) ≡ trail_of u xs ++ trail_of u b → cond v (x.1 ∷ trail_of u (xs ++ b)) (trail_of u (xs ++ b)) ≡ cond v (x.1 ∷ trail_of u xs) (trail_of u xs) ++ trail_of u b
     by_seat true e = ap (λ (t : Trail). x.1 ∷ t) e
     by_seat false e = e
+
+pub none_before : (a b : Trail) → a ++ b ≡ b → a ≡ []
+none_before [] b e = refl
+none_before (x ∷ xs) b e = absurd (let n : length (x ∷ xs ++ b) ≡ length b = ap (λ (t : Trail). length t) e in let m = length-append xs b in omega (arith, n, m))

@@ -38,6 +38,15 @@ GrowthAddsUp =
     (who : Who) (first second third : Trail) (early later last : Run)
     → Grew who first second early later → Grew who second third later last → Grew who first third early last
 
+-- What grew by one event has that event last, and since the older run no other of this participant.
+abbrev pub OneStepIsLast : Type 0
+OneStepIsLast =
+    (who : Who) (e : Event) (trail : Trail) (older run : Run) → Grew who trail (e ∷ trail) older run → GrewBy who e older run
+
+-- And what grew by none stayed.
+abbrev pub NoStepIsNone : Type 0
+NoStepIsNone = (who : Who) (trail : Trail) (older run : Run) → Grew who trail trail older run → run ≡ older
+
 -- In this run all of a sender's numbers up to this one are done: each such closing sync, and all that was reserved
 -- ahead of it, was taken and applied.
 abbrev pub AreApplied : Run → ℕ → ℕ → Type 0

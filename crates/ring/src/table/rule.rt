@@ -1,5 +1,5 @@
 //! What a seat knows, and the rule of the table.
-ghost use Rattle.ring.specs.table.Histories.{GrowthAddsUp};
+ghost use Rattle.ring.specs.table.Histories.{GrowthAddsUp, OneStepIsLast, NoStepIsNone};
 ghost use Rattle.ring.specs.table.OneRun.{IsOneRun, WordsAreTheRuns, WordsAreOne};
 
 use atomic_table::TableRule;
@@ -60,8 +60,10 @@ pub fn run_is_one()
     ensures one_list { WordsAreOne }
 {}
 
-/// What a participant knows of the run grows call by call: over some calls it grew by the steps of all of them. It does
-/// nothing.
+/// What a participant knows of the run grows call by call: over some calls it grew by the steps of all of them, over one
+/// step by that step, which stands last, and over none it stays. It does nothing.
 pub fn growth_adds_up()
-    ensures { GrowthAddsUp }
+    ensures sum { GrowthAddsUp }
+    ensures one { OneStepIsLast }
+    ensures none { NoStepIsNone }
 {}
