@@ -1,5 +1,5 @@
 -- What a participant knows of the run grows step by step, and what its newest step found stands in it.
-use Rattle.std.proofs.Common.{◌≡◌, ℕ, ◌+◌, ◌-◌, ◌/◌, ◌<◌, ◌≤◌, Bool, false, [], ◌∷◌, ◌++◌, length, suc, refl, sym, ap, ◌∙◌, subst, append_assoc, arith}
+use Rattle.std.proofs.Common.{◌≡◌, ℕ, ◌+◌, ◌-◌, ◌/◌, ◌≤◌, false, [], ◌∷◌, ◌++◌, length, refl, sym, ap, ◌∙◌, subst, append_assoc, arith}
 use Rattle.qindex.specs.Positions.{place}
 use Rattle.qindex.specs.Indexes.{distance}
 use Rattle.qindex.specs.Laws.{IndexesTellTheQueue}
@@ -9,8 +9,8 @@ use Rattle.ringcore.specs.declared.world.event.Event.{Event}
 use Rattle.ringcore.specs.declared.world.event.Event.TheVariants.{Test}
 use Rattle.ringcore.specs.world.Trails.{Trail, Run, trail_of}
 use Rattle.ringcore.specs.world.World.{World, head, tail, world, control}
-use Rattle.ringcore.specs.world.Allowed.{Ring, IsRun, FindsReady, ShareAWord}
-use Rattle.ringcore.specs.world.Laws.{EveryRun, NeverMoreThanFull}
+use Rattle.ringcore.specs.world.Allowed.{Ring, IsRun, FindsReady}
+use Rattle.ringcore.specs.world.Laws.{NeverMoreThanFull}
 use Rattle.ring.specs.table.Histories.{IsHistory, GrewBy, EndsWith, Grew, OneStepIsLast, NoStepIsNone}
 use Rattle.ring.specs.table.Ports.{PortValue}
 use Rattle.ring.specs.sender.Senders.{SenderValue}

@@ -1,5 +1,5 @@
 -- The words that the operations of a run make of zeros are one list.
-use Rattle.std.proofs.Common.{◌≡◌, ℕ, zero, suc, ◌+◌, ◌*◌, ◌/◌, ◌%◌, ◌^◌, ◌<◌, List, [], ◌∷◌, length, Some, refl, sym, ap, ◌∙◌, arith}
+use Rattle.std.proofs.Common.{◌≡◌, ℕ, zero, suc, ◌+◌, ◌/◌, ◌%◌, ◌^◌, ◌<◌, List, [], ◌∷◌, length, Some, refl, sym, ap, ◌∙◌, arith}
 use mathlib.Core.Logic.{dite}
 use native.Mathlib.Decide.{ℕ_discrete}
 use Rattle.std.specs.Prelude.{slice_index, slice_set, bit_or}
@@ -18,7 +18,7 @@ use Rattle.ringcore.specs.world.Allowed.{Ring}
 use Rattle.ringcore.specs.memory.Layout.{control_word, flag_word, data_word, cell}
 use Rattle.ringcore.specs.memory.Flags.{IsFlipMask}
 use Rattle.ringcore.specs.memory.StepLaws.{turned}
-use Rattle.ring.specs.table.Operations.{IsOperation, AreMadeBy}
+use Rattle.ring.specs.table.Operations.{IsOperation}
 use Rattle.ring.specs.table.OneRun.{WordsAreOne}
 
 -- ---- a mask is told by its bits

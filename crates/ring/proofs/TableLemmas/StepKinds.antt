@@ -49,8 +49,7 @@ look_leaves ring run (Sender s) c old new is = is
 
 pub looks_may : Always HasAControlWord → Always LooksByALoad → (ring : Ring) (who : Who) (trail : Trail) (i : ℕ) → i ≡ control_word → MayStep ring who trail i (λ x. x) (IsEventOf ring trail looks 0)
 looks_may says finds ring who trail i is = subst (λ (j : ℕ). MayStep ring who trail j (λ x. x) (IsEventOf ring trail looks 0)) (sym is) (λ run words now.
-    let x : ℕ = slice_index words control_word in
-    (
+    let x : ℕ = slice_index words control_word in (
       Look (control_in ring.geometry x),
       (refl, says ring run words now.after),
       still ring ((who, Look (control_in ring.geometry x)) ∷ run) words control_word (finds ring run words now.after who),
@@ -59,13 +58,12 @@ looks_may says finds ring who trail i is = subst (λ (j : ℕ). MayStep ring who
 
 pub closes_may : Always ClosesByAnOr → (ring : Ring) (s : ℕ) (trail : Trail) (i mask : ℕ) → i ≡ control_word → mask ≡ close_mask
     → MayStep ring (Sender s) trail i (λ x. bit_or x mask) (IsEventOf ring trail closes mask)
-closes_may law ring s trail i mask at is run words now =
-    (
-      Close,
-      refl,
-      subst (λ (t : ℕ × ℕ). AreAfter ring ((Sender s, Close) ∷ run) (slice_set words t.0 (bit_or (slice_index words t.0) t.1))) (λ q. (sym at q, sym is q)) (law ring run words now.after s),
-      (λ q. slice_set words (at q) (bit_or (slice_index words (at q)) (is q))),
-    )
+closes_may law ring s trail i mask at is run words now = (
+  Close,
+  refl,
+  subst (λ (t : ℕ × ℕ). AreAfter ring ((Sender s, Close) ∷ run) (slice_set words t.0 (bit_or (slice_index words t.0) t.1))) (λ q. (sym at q, sym is q)) (law ring run words now.after s),
+  (λ q. slice_set words (at q) (bit_or (slice_index words (at q)) (is q))),
+)
 
 -- the two ways of an exchange, by what it found
 module _ (wins : Always WinsByAnExchange) (loses : Always LosesByAnExchange) (ring : Ring) (s : ℕ) (trail : Trail) (body : List Raw) (closing : Bool) (before : Control) (old new : ℕ)
@@ -95,11 +93,11 @@ module _ (wins : Always WinsByAnExchange) (loses : Always LosesByAnExchange) (ri
       let many : length_with closing body ≡ batch_length body number = many_is trail closing body in
       let won : AreAfter ring ((Sender s, Won body number) ∷ run) (slice_set words control_word new) =
       subst (λ (y : ℕ). AreAfter ring ((Sender s, Won body number) ∷ run) (slice_set words control_word y))
-          (sym (new_is ∙ ap (λ (k : ℕ). packed (with_reserved before k)) many))
-          (wins ring run words now.after s body number before
-          (subst (λ (k : ℕ). MayTry ring (trail_of (Sender s) run) body k before) many tries)
-          (subst (λ (t : Trail). IsNextNumber t number) (sym now.trail_is) (next_is trail closing))
-          (eqb-true x old hit ∙ old_is)) in
+      (sym (new_is ∙ ap (λ (k : ℕ). packed (with_reserved before k)) many))
+      (wins ring run words now.after s body number before
+      (subst (λ (k : ℕ). MayTry ring (trail_of (Sender s) run) body k before) many tries)
+      (subst (λ (t : Trail). IsNextNumber t number) (sym now.trail_is) (next_is trail closing))
+      (eqb-true x old hit ∙ old_is)) in
       let some : 1 ≤ length words = (let all = now.after.shadow.many in let slots : ℕ = size ring.geometry in omega (arith, all)) in (
         Won body number,
         refl,
@@ -215,8 +213,7 @@ acknowledges_may law tells counted ring trail s number i x at x_is next low run 
 
 pub asks_may : Always AsksByALoad → (ring : Ring) (s : ℕ) (trail : Trail) (i : ℕ) → i ≡ cell ring.geometry s → MayStep ring (Sender s) trail i (λ x. x) (IsEventOf ring trail asks 0)
 asks_may law ring s trail i at run words now =
-    let x : ℕ = slice_index words i in
-    (
+    let x : ℕ = slice_index words i in (
       Ask x,
       refl,
       still ring ((Sender s, Ask x) ∷ run) words i (subst (λ (j : ℕ). AreAfter ring ((Sender s, Ask (slice_index words j)) ∷ run) words) (sym at) (law ring run words now.after s now.known)),
