@@ -71,8 +71,19 @@ read_all mine raws all i raw half at =
 abbrev pub x : Raw
 x = record { lo = 0x500000003; hi = 1 }
 
+-- CFGI_STE of stream 6, Leaf 1
+abbrev pub y : Raw
+y = record { lo = 0x600000003; hi = 1 }
+
 pub body_of_one : IsBody (x ∷ [])
 body_of_one = record {
+  some = leb-true 1 1 refl;
+  few = leb-true 1 63 refl;
+  no_sync = refl;
+}
+
+pub body_of_y : IsBody (y ∷ [])
+body_of_y = record {
   some = leb-true 1 1 refl;
   few = leb-true 1 63 refl;
   no_sync = refl;
