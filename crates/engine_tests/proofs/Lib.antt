@@ -1,1 +1,2 @@
 pub mod Truly
+pub mod WorkedOldEntries
