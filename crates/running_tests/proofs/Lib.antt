@@ -1,2 +1,3 @@
 pub mod Legal
 pub mod WorkedRefusals
+pub mod WorkedTellings
