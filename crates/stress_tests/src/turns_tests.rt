@@ -90,7 +90,8 @@ impl Told {
 #[derive(Drop)]
 struct FullRing {
     told: Told,
-    turns: u32,
+    /// How often a batch is sent or given up before both have no turn left.
+    ends: u32,
 }
 
 impl Gate for FullRing {
@@ -106,7 +107,7 @@ impl Gate for FullRing {
         if turn == 1 {
             // Who has sent its batch begins another, if it has a turn left, and gives that up.
             let told = &self.told;
-            told.expect(comes_to_be(&told.ended, self.turns.saturating_add(1)));
+            told.expect(comes_to_be(&told.ended, self.ends));
             told.expect(told.sent.load(Ordering::SeqCst) == 1);
         }
     }
@@ -116,10 +117,11 @@ impl Gate for FullRing {
 fn told_at_a_full_ring<R: Threads + AllocGlobal + Sync>(
     rt: &R,
     turns: u32,
+    ends: u32,
 ) -> Option<(u32, u32, u32)> {
     let gate = FullRing {
         told: Told::new(),
-        turns,
+        ends,
     };
     let plan = Plan::new(1, 2, 3, turns)?;
     let Ok(report) = run_all(rt, &plan, &gate) else {
@@ -134,14 +136,14 @@ fn told_at_a_full_ring<R: Threads + AllocGlobal + Sync>(
 /// Both begin their first batch. The one who sends it has no turn left, and begins no other; the other gives it up.
 #[test]
 fn one_turn_each(rt: HostRuntime) {
-    assert_eq!(rt; told_at_a_full_ring(&rt, 1), Some((2, 1, 1)));
+    assert_eq!(rt; told_at_a_full_ring(&rt, 1, 2), Some((2, 1, 1)));
 }
 
 /// Who sends its first batch begins its second, and each gives up the one that it has begun, once.
 #[test]
 fn turns_that_run_out(rt: HostRuntime) {
-    assert_eq!(rt; told_at_a_full_ring(&rt, 2), Some((3, 1, 2)));
-    assert_eq!(rt; told_at_a_full_ring(&rt, 1000), Some((3, 1, 2)));
+    assert_eq!(rt; told_at_a_full_ring(&rt, 2, 3), Some((3, 1, 2)));
+    assert_eq!(rt; told_at_a_full_ring(&rt, 1000, 3), Some((3, 1, 2)));
 }
 
 /// How many turns the engine has here.
