@@ -53,7 +53,7 @@ at_changed true w old e is = inl (refl, is)
 at_changed false w old e is = inr is
 
 -- one more of them
-module _ (n value : ℕ) (unit : UnitValue) (was : IsFilled n unit) where
+module _ (n value : ℕ) (same : value ≡ n) (unit : UnitValue) (was : IsFilled n unit) where
   abbrev entry : Entry
   entry = record { tag = tag_of n; value = value; born = taken unit.counts }
 
@@ -61,10 +61,10 @@ module _ (n value : ℕ) (unit : UnitValue) (was : IsFilled n unit) where
   born_is = ap taken was.counts_are
 
   its_own : IsFirstEntry (n + 1) (tag_of n) entry
-  its_own = record { sender = n; known = omega arith; tag_is = refl; born_is = born_is }
+  its_own = record { sender = n; known = omega arith; tag_is = refl; value_is = same; born_is = born_is }
 
   longer : (tag : Tag) (e : Entry) → IsFirstEntry n tag e → IsFirstEntry (n + 1) tag e
-  longer tag e f = record { sender = f.sender; known = (let k = f.known in omega (arith, k)); tag_is = f.tag_is; born_is = f.born_is }
+  longer tag e f = record { sender = f.sender; known = (let k = f.known in omega (arith, k)); tag_is = f.tag_is; value_is = f.value_is; born_is = f.born_is }
 
   holds : HoldsFirst (n + 1) (filled (tag_of n) value unit)
   holds tag e at =

@@ -28,7 +28,7 @@ module _ (plan : PlanValue) (ring : RingValue) (senders : List SenderValue) (eng
   abbrev pub told : ReportValue
   told = record { plan = plan; summary = summary; counts = counts; entries = finite.len held; done = done }
 
-  abbrev pub of_a_run : ring.made_with ≡ made_with plan.log2 plan.senders plan.batches → AreAll ring senders → HaveSent plan senders → IsStarted plan.senders ring engine
+  abbrev pub of_a_run : ring.made_with ≡ made_with plan.log2 plan.senders plan.batches → AreAll ring senders → HaveSent plan senders → IsStarted plan.senders plan.turns ring engine
       → IsEngineEnd ring senders engine summary counts held → counts ≡ engine.unit.counts → held ≡ engine.unit.caches.entries → HaveAsked plan.batches senders done
       → IsOfARun plan told
   of_a_run made all sent started end counts_are held_are asked = record {

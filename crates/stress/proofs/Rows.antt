@@ -62,6 +62,9 @@ module _ (plan : PlanValue) where
   pub workers_in : (ring : RingValue) (n : ℕ) (ws : List WorkerValue) → assignments ws ≡ assignments_of plan (new_senders ring n) → All (λ w. w.sender.ring ≡ ring) ws
   workers_in ring n ws e k d less = (workers_on ring n ws e k d less).1
 
+  pub many_workers : (ring : RingValue) (n : ℕ) (ws : List WorkerValue) → assignments ws ≡ assignments_of plan (new_senders ring n) → length ws ≡ n
+  many_workers ring n ws e = sym (length-map ws assignment) ∙ (ap length e ∙ (length-map (new_senders ring n) (assignment_of plan) ∙ many_new ring n))
+
   pub all_new : (ring : RingValue) (n : ℕ) → n ≤ plan.senders → All (IsNew plan) (new_senders ring n)
   all_new ring zero less = λ k d none. absurd (omega (arith, none))
   all_new ring (suc n) less = All-push (IsNew plan) (new_senders ring n) (new_sender ring n) (all_new ring n (omega (arith, less))) (less, refl)

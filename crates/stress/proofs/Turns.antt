@@ -1,15 +1,35 @@
 -- An engine that goes on, and on.
-use Rattle.std.proofs.Common.{◌≡◌, ℕ, refl, ◌∙◌}
+use Rattle.std.proofs.Common.{◌≡◌, ℕ, zero, suc, ◌+◌, ◌≤◌, refl, sym, ◌∙◌, subst, arith}
 use Rattle.ring.specs.Rings.{RingValue}
+use Rattle.std.specs.Prelude.{Result, Ok, Err, OnErr}
+use Rattle.engine.specs.declared.answer.RunAnswer.{RunAnswer}
 use Rattle.engine.specs.Units.{OnlyRemoves}
-use Rattle.engine.specs.Engines.{EngineValue}
-use Rattle.stress.specs.EngineTurns.{GoesOn, IsStarted}
+use Rattle.engine.specs.Engines.{EngineValue, HasRun}
+use Rattle.stress.specs.declared.engine_turns.Found.{Found}
+use Rattle.stress.specs.declared.engine_turns.Found.TheVariants.{Empty, Drained}
+use Rattle.stress.specs.EngineTurns.{most_commands, IsTurn, HasTurned, IsAny, GoesOn, IsStarted, HasDrained, HasGivenUp, undrained, refused, open_still, most_tries}
 
-pub still : (engine : EngineValue) → GoesOn engine engine
-still engine = record { ring = refl; removes = record { held = λ tag entry at. at; counted = refl } }
+-- ---- turns
 
-pub on_and_on : (a b c : EngineValue) → GoesOn a b → GoesOn b c → GoesOn a c
-on_and_on a b c first next = record {
+pub one_more_turn : (answers : RunAnswer → Type 0) (n : ℕ) (a b c : EngineValue) → HasTurned answers n a b → IsTurn answers b c → HasTurned answers (n + 1) a c
+one_more_turn answers n a b c so_far turn = subst (λ (k : ℕ). HasTurned answers k a c) (let e : suc n ≡ n + 1 = omega arith in e) (b, so_far, turn)
+
+both : (answers : RunAnswer → Type 0) (m n : ℕ) (a b c : EngineValue) → HasTurned answers m a b → HasTurned answers n b c → HasTurned answers (m + n) a c
+both answers m zero a b c first next =
+    subst (λ (k : ℕ). HasTurned answers k a c) (let e : m ≡ m + zero = omega arith in e) (subst (λ (x : EngineValue). HasTurned answers m a x) (sym next) first)
+both answers m (suc n) a b c first next =
+    subst (λ (k : ℕ). HasTurned answers k a c) (let e : suc (m + n) ≡ m + suc n = omega arith in e) (next.0, both answers m n a b next.0 first next.1, next.2)
+
+-- ---- what goes on
+
+pub still : (engine : EngineValue) → GoesOn 0 engine engine
+still engine = record { turns = 0; enough = omega arith; turned = refl; ring = refl; removes = record { held = λ tag entry at. at; counted = refl } }
+
+pub on_and_on : (m n : ℕ) (a b c : EngineValue) → GoesOn m a b → GoesOn n b c → GoesOn (m + n) a c
+on_and_on m n a b c first next = record {
+  turns = first.turns + next.turns;
+  enough = let e = first.enough in let f = next.enough in omega (arith, e, f);
+  turned = both IsAny first.turns next.turns a b c first.turned next.turned;
   ring = next.ring ∙ first.ring;
   removes = record {
     held = λ tag entry at. first.removes.held tag entry (next.removes.held tag entry at);
@@ -17,13 +37,46 @@ on_and_on a b c first next = record {
   };
 }
 
-pub one_step : (a b c : EngineValue) → GoesOn a b → c.consumer.ring ≡ b.consumer.ring → OnlyRemoves b.unit c.unit → GoesOn a c
-one_step a b c first ring removes = on_and_on a b c first (record { ring = ring; removes = removes })
+pub at_least : (n m : ℕ) (a b : EngineValue) → m ≤ n → GoesOn n a b → GoesOn m a b
+at_least n m a b less on = record {
+  turns = on.turns;
+  enough = let e = on.enough in omega (arith, e, less);
+  turned = on.turned;
+  ring = on.ring;
+  removes = on.removes;
+}
 
-pub still_started : (senders : ℕ) (ring : RingValue) (old new : EngineValue) → IsStarted senders ring old → GoesOn old new → IsStarted senders ring new
-still_started senders ring old new started more = record {
+-- one more turn
+pub one_step : (n : ℕ) (a b c : EngineValue) (answer : RunAnswer) → GoesOn n a b → HasRun most_commands b c answer → c.consumer.ring ≡ b.consumer.ring → OnlyRemoves b.unit c.unit
+    → GoesOn (n + 1) a c
+one_step n a b c answer first ran ring removes = on_and_on n 1 a b c first (record {
+  turns = 1;
+  enough = omega arith;
+  turned = (b, refl, record { answer = answer; ran = ran; is = tt });
+  ring = ring;
+  removes = removes;
+})
+
+pub still_started : (senders n m : ℕ) (ring : RingValue) (old new : EngineValue) → IsStarted senders n ring old → GoesOn m old new → IsStarted senders n ring new
+still_started senders n m ring old new started more = record {
   before = started.before;
   filled = started.filled;
-  goes_on = on_and_on started.before old new started.goes_on more;
+  goes_on = at_least (n + m) n started.before new (omega arith) (on_and_on n m started.before old new started.goes_on more);
   ring_is = more.ring ∙ started.ring_is;
 }
+
+-- ---- what is given up
+
+pub later_given_up : (slots n : ℕ) (a b c : EngineValue) → GoesOn n a b → HasGivenUp slots b c → HasGivenUp slots a c
+later_given_up slots n a b c first (undrained before on busy) = undrained before (at_least (n + 0) 0 a before (omega arith) (on_and_on n 0 a b before first on)) busy
+later_given_up slots n a b c first (refused on) = refused (at_least (n + most_tries) most_tries a c (omega arith) (on_and_on n most_tries a b c first on))
+later_given_up slots n a b c first (open_still before on found) = open_still before (at_least (n + 0) 0 a before (omega arith) (on_and_on n 0 a b before first on)) found
+
+-- What isn't closed is open.
+pub left_open : (slots : ℕ) (how : Found) (a b : EngineValue) → (how ≡ Drained → ⊥) → HasDrained slots how a b → HasDrained slots Empty a b
+left_open slots Empty a b never is = is
+left_open slots Drained a b never is = absurd (never refl)
+
+pub when_err : {A E : Type 0} (r : Result A E) (P : Type 0) → P → OnErr r P
+when_err (Ok v) P p = tt
+when_err (Err e) P p = p

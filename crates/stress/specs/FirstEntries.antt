@@ -17,6 +17,7 @@ pub record IsFirstEntry (senders : ℕ) (tag : Tag) (entry : Entry) : Type 0 whe
   pub sender : ℕ
   pub known : sender < senders
   pub tag_is : tag ≡ tag_of sender
+  pub value_is : entry.value ≡ sender
   pub born_is : entry.born ≡ 0
 
 -- No other entries are held.

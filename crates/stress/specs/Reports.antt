@@ -3,6 +3,7 @@ use Rattle.std.specs.Prelude.{◌≡◌, ℕ, ◌≤◌, true, List, ◌∷◌, 
 use Rattle.std.specs.FinMap as finite
 use Rattle.ringcore.specs.declared.world.event.Event.TheVariants.{Ask}
 use Rattle.ringcore.specs.world.Trails.{Trail}
+use Rattle.qindex.specs.Positions.{size}
 use Rattle.ring.specs.Rings.{RingValue}
 use Rattle.ring.specs.sender.Senders.{SenderValue}
 use Rattle.ring.specs.NewRings.{made_with}
@@ -12,7 +13,7 @@ use Rattle.engine.specs.Engines.{EngineValue}
 use Rattle.engine.specs.Ends.{IsEngineEnd}
 use Rattle.stress.specs.Plans.{PlanValue}
 use Rattle.stress.specs.Workers.{HaveSent}
-use Rattle.stress.specs.EngineTurns.{IsStarted}
+use Rattle.stress.specs.EngineTurns.{IsStarted, HasGivenUp}
 use Rattle.stress.specs.Totals.{all_commands, all_syncs}
 
 -- its plan, the ring's summary and the engine's counts at the end, how many entries are held then, and what each
@@ -44,7 +45,7 @@ pub record HaveAsked (most : ℕ) (senders : List SenderValue) (done : List ℕ)
   pub many : length done ≡ length senders
 
 -- There was a ring of the plan's numbers with all of its senders, each of which sent the plan's batches, and with an engine
--- that held just the plan's first entries at its start. Their end is what it tells.
+-- that held just the plan's first entries at its start and took all its turns. Their end is what it tells.
 pub record IsOfARun (plan : PlanValue) (r : ReportValue) : Type 0 where
   pub ring : RingValue
   pub senders : List SenderValue
@@ -52,8 +53,18 @@ pub record IsOfARun (plan : PlanValue) (r : ReportValue) : Type 0 where
   pub made_is : ring.made_with ≡ made_with plan.log2 plan.senders plan.batches
   pub all : AreAll ring senders
   pub sent : HaveSent plan senders
-  pub started : IsStarted plan.senders ring engine
+  pub started : IsStarted plan.senders plan.turns ring engine
   pub end : IsEngineEnd ring senders engine r.summary r.counts engine.unit.caches.entries
   pub counts_are : r.counts ≡ engine.unit.counts
   pub entries_are : r.entries ≡ finite.len engine.unit.caches.entries
   pub asked : HaveAsked plan.batches senders r.done
+
+-- There was a ring of the plan's numbers, with an engine that held just the plan's first entries at its start and took all
+-- its turns. Behind them it was given up.
+pub record IsUnfinished (plan : PlanValue) : Type 0 where
+  pub ring : RingValue
+  pub engine : EngineValue
+  pub end : EngineValue
+  pub made_is : ring.made_with ≡ made_with plan.log2 plan.senders plan.batches
+  pub started : IsStarted plan.senders plan.turns ring engine
+  pub given_up : HasGivenUp (size plan.log2) engine end

@@ -1,8 +1,9 @@
 //! What is left to do once all workers have ended, on one thread.
-ghost use Rattle.std.specs.Prelude.{◌≡◌, ◌+◌, ◌<◌, ◌≤◌, ◌++◌, ◌∷◌, [], OnOk, IfOk, vec_len};
+ghost use Rattle.std.specs.Prelude.{◌≡◌, ◌+◌, ◌<◌, ◌≤◌, [], OnOk, OnErr, IfOk, Err, vec_len, vec_capacity};
 ghost use Rattle.std.specs.List.{All};
 ghost use Rattle.stress.specs.Plans.{IsPlan};
-ghost use Rattle.stress.specs.EngineTurns.{GoesOn};
+ghost use Rattle.qindex.specs.Positions.{size};
+ghost use Rattle.stress.specs.EngineTurns.{GoesOn, HasGivenUp};
 ghost use Rattle.stress.specs.Workers.{IsNew, assignment, assignments, assignment_of, assignments_of, HasSent};
 ghost use Rattle.stress.specs.Reports.{HaveAsked};
 
@@ -48,7 +49,9 @@ fn send_next(ring: &Ring, worker: Worker, engine: &mut Engine) -> Result<Worker,
     requires left { worker.sent < worker.plan.batches }
     ensures assignment { IfOk result (λ next. assignment next ≡ assignment worker) }
     ensures sent { IfOk result (λ next. next.sent ≡ worker.sent + 1) }
-    ensures engine { OnOk result (GoesOn engine.old engine.new) }
+    ensures engine { OnOk result (GoesOn 1 engine.old engine.new) }
+    ensures err { OnErr result (result ≡ Err StressFault.Unfinished) }
+    ensures given_up { OnErr result (HasGivenUp (size worker.plan.log2) engine.old engine.new) }
 {
     let mut worker = worker;
     let slots = worker.plan.slots();
@@ -75,7 +78,9 @@ fn send_left(
     requires engine { engine.old.consumer.ring ≡ ring.now }
     ensures assignment { IfOk result (λ sender. assignment_of plan sender ≡ assignment worker) }
     ensures sent { IfOk result (λ sender. HasSent plan sender) }
-    ensures engine { OnOk result (GoesOn engine.old engine.new) }
+    ensures engine { OnOk result (GoesOn 0 engine.old engine.new) }
+    ensures err { OnErr result (result ≡ Err StressFault.Unfinished) }
+    ensures given_up { OnErr result (HasGivenUp (size plan.log2) engine.old engine.new) }
 {
     let mut worker = worker;
     for _ in 0..worker.left() {
@@ -84,38 +89,34 @@ fn send_left(
     Ok(worker.into_sender())
 }
 
-/// Sends what is left of all plans, in the order of the senders.
+/// Sends what is left of all plans, and gives the senders back in their order, in the room that was made for them.
+///
+/// Errors: S2.
 pub(crate) fn send_all(
-    alloc: Global,
     plan: Plan,
     ring: &Ring,
     mut workers: Vec<Worker>,
+    room: Vec<Sender>,
     engine: &mut Engine,
 ) -> Result<Vec<Sender>, StressFault>
+    requires room { vec_len workers ≤ vec_capacity room }
+    requires empty { room.items ≡ [] }
     requires workers { All (λ w. (w.plan ≡ plan) × (w.sender.ring ≡ ring.now)) workers.items }
     requires engine { engine.old.consumer.ring ≡ ring.now }
     ensures sent { IfOk result (λ v. All (HasSent plan) v.items) }
     ensures senders { IfOk result (λ v. assignments_of plan v.items ≡ assignments workers.items) }
-    ensures engine { OnOk result (GoesOn engine.old engine.new) }
+    ensures many { IfOk result (λ v. vec_len v ≡ vec_len workers) }
+    ensures capacity { IfOk result (λ v. vec_capacity v ≡ vec_capacity room) }
+    ensures engine { OnOk result (GoesOn 0 engine.old engine.new) }
+    ensures err { OnErr result (result ≡ Err StressFault.Unfinished) }
+    ensures given_up { OnErr result (HasGivenUp (size plan.log2) engine.old engine.new) }
 {
     let Some(worker) = workers.pop() else {
-        return Ok(Vec::new(alloc));
+        return Ok(room);
     };
-    let senders = send_all(alloc, plan, ring, workers, engine)?;
+    let mut senders = send_all(plan, ring, workers, room, engine)?;
     let sender = send_left(plan, ring, worker, engine)?;
-    with(plan, senders, sender)
-}
-
-/// One more that has sent its plan.
-fn with(plan: Plan, mut senders: Vec<Sender>, sender: Sender) -> Result<Vec<Sender>, StressFault>
-    requires all { All (HasSent plan) senders.items }
-    requires one { HasSent plan sender }
-    ensures items { IfOk result (λ v. v.items ≡ senders.items ++ sender ∷ []) }
-    ensures all { IfOk result (λ v. All (HasSent plan) v.items) }
-{
-    if senders.push(sender).is_err() {
-        return Err(StressFault::NoMemory);
-    }
+    senders.push_reserved(sender);
     Ok(senders)
 }
 
@@ -125,6 +126,7 @@ pub(crate) fn close_first(plan: Plan, ring: &Ring, mut senders: Vec<Sender>) -> 
     requires sent { All (HasSent plan) senders.items }
     ensures assignments { assignments_of plan result.items ≡ assignments_of plan senders.items }
     ensures sent { All (HasSent plan) result.items }
+    ensures many { vec_len result ≡ vec_len senders }
 {
     if !senders.is_empty() {
         senders[0].close(ring);
@@ -132,27 +134,29 @@ pub(crate) fn close_first(plan: Plan, ring: &Ring, mut senders: Vec<Sender>) -> 
     senders
 }
 
-/// What each sender's completion cell says, in the order of the senders.
+/// What each sender's completion cell says, in the order of the senders, in the room that was made for it.
 pub(crate) fn ask_all(
-    alloc: Global,
     plan: Plan,
     ring: &Ring,
     mut senders: Vec<Sender>,
-) -> Result<(Vec<Sender>, Vec<u32>), StressFault>
+    room: Vec<u32>,
+) -> (Vec<Sender>, Vec<u32>)
+    requires room { vec_len senders ≤ vec_capacity room }
+    requires empty { room.items ≡ [] }
     requires ring { All (λ s. s.ring ≡ ring.now) senders.items }
     requires sent { All (HasSent plan) senders.items }
-    ensures assignments { IfOk result (λ r. assignments_of plan r.0.items ≡ assignments_of plan senders.items) }
-    ensures sent { IfOk result (λ r. All (HasSent plan) r.0.items) }
-    ensures asked { IfOk result (λ r. HaveAsked ring.now.made_with.max_batches r.0.items r.1.items) }
+    ensures assignments { assignments_of plan result.0.items ≡ assignments_of plan senders.items }
+    ensures sent { All (HasSent plan) result.0.items }
+    ensures asked { HaveAsked ring.now.made_with.max_batches result.0.items result.1.items }
+    ensures many { (vec_len result.0 ≡ vec_len senders) × (vec_len result.1 ≡ vec_len senders) }
+    ensures capacity { (vec_capacity result.0 ≡ vec_capacity senders) × (vec_capacity result.1 ≡ vec_capacity room) }
 {
     let Some(mut sender) = senders.pop() else {
-        return Ok((senders, Vec::new(alloc)));
+        return (senders, room);
     };
-    let (senders, mut done) = ask_all(alloc, plan, ring, senders)?;
+    let (mut senders, mut done) = ask_all(plan, ring, senders, room);
     let found = sender.done_up_to(ring);
-    if done.push(found).is_err() {
-        return Err(StressFault::NoMemory);
-    }
-    let senders = with(plan, senders, sender)?;
-    Ok((senders, done))
+    done.push_reserved(found);
+    senders.push_reserved(sender);
+    (senders, done)
 }

@@ -1,7 +1,7 @@
 //! The engine's part in a run.
-ghost use Rattle.std.specs.Prelude.{◌≡◌, Ok};
+ghost use Rattle.std.specs.Prelude.{◌≡◌, Ok, Err, OnErr, IfOk};
 ghost use Rattle.ringcore.specs.world.ConsumerLaws.{SawDrained};
-ghost use Rattle.stress.specs.EngineTurns.{GoesOn};
+ghost use Rattle.stress.specs.EngineTurns.{GoesOn, HasTurned, IsAny, HasDrained, IsUndrained};
 
 use crate::fault::StressFault;
 use crate::gate::Gate;
@@ -22,7 +22,8 @@ pub(crate) enum Found {
 /// As many turns as this.
 pub(crate) fn run_engine<G: Gate>(ring: &Ring, gate: &G, turns: u32, mut engine: Engine) -> Engine
     requires { engine.consumer.ring ≡ ring.now }
-    ensures { GoesOn engine result }
+    ensures goes_on { GoesOn turns engine result }
+    ensures turns { HasTurned IsAny turns engine result }
 {
     for turn in 0..turns {
         gate.turn(turn + 1);
@@ -36,7 +37,10 @@ pub(crate) fn run_engine<G: Gate>(ring: &Ring, gate: &G, turns: u32, mut engine:
 /// Errors: S2 where there is something even then.
 pub(crate) fn drain(ring: &Ring, slots: u32, engine: &mut Engine) -> Result<Found, StressFault>
     requires { engine.old.consumer.ring ≡ ring.now }
-    ensures goes_on { GoesOn engine.old engine.new }
+    ensures goes_on { GoesOn 1 engine.old engine.new }
+    ensures found { IfOk result (λ found. HasDrained slots found engine.old engine.new) }
+    ensures err { OnErr result (result ≡ Err StressFault.Unfinished) }
+    ensures undrained { OnErr result (IsUndrained slots engine.old engine.new) }
     ensures drained { result ≡ Ok Found.Drained → SawDrained engine.new.consumer.trail }
 {
     for _ in 0..=slots {

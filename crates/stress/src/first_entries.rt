@@ -1,5 +1,5 @@
 //! The entries that the caches hold ahead of all batches.
-ghost use Rattle.std.specs.Prelude.{◌≡◌, ◌<◌, ◌≤◌, [], OnOk, IfOk};
+ghost use Rattle.std.specs.Prelude.{◌≡◌, ◌<◌, ◌≤◌, [], OnErr, IfOk, Err};
 ghost use Rattle.std.specs.FinMap as finite;
 ghost use Rattle.engine.specs.Counting.{none_counted};
 ghost use Rattle.stress.specs.FirstEntries.{tag_of, IsFilled};
@@ -39,6 +39,7 @@ pub(crate) fn filled_engine(
     requires few { senders ≤ 64 }
     ensures filled { IfOk result (λ engine. IsFilled senders engine.unit) }
     ensures consumer { IfOk result (λ engine. engine.consumer ≡ consumer) }
+    ensures err { OnErr result (result ≡ Err StressFault.NoMemory) }
 {
     let Ok(caches) = Caches::new(alloc, CAPACITY) else {
         return Err(StressFault::NoMemory);

@@ -9,6 +9,7 @@ mod first_entries;
 mod gate;
 mod plan;
 mod report;
+mod room;
 mod run;
 mod telling;
 mod worker;

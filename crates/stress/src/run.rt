@@ -1,12 +1,12 @@
 //! A whole run.
-ghost use Rattle.std.specs.Prelude.{◌≡◌, IfOk};
+ghost use Rattle.std.specs.Prelude.{◌≡◌, ◌≤◌, [], OnErr, IfOk, Err, vec_capacity};
 ghost use Rattle.std.specs.List.{All};
 ghost use Rattle.ring.specs.NewRings.{made_with, new_senders};
 ghost use Rattle.stress.specs.Plans.{IsPlan};
 ghost use Rattle.stress.specs.Workers.{assignments, assignments_of};
 ghost use Rattle.stress.specs.FirstEntries.{IsFilled};
 ghost use Rattle.stress.specs.EngineTurns.{IsStarted};
-ghost use Rattle.stress.specs.Reports.{IsAsPlanned, IsOfARun};
+ghost use Rattle.stress.specs.Reports.{IsAsPlanned, IsOfARun, IsUnfinished};
 
 use crate::ending::{ask_all, close_first, employ, send_all};
 use crate::engine_turns::{Found, drain};
@@ -15,6 +15,7 @@ use crate::first_entries::filled_engine;
 use crate::gate::Gate;
 use crate::plan::Plan;
 use crate::report::Report;
+use crate::room::Room;
 use crate::worker::Worker;
 use crate::workers::run_at_once;
 use engine::Engine;
@@ -24,11 +25,11 @@ use std::thread::Threads;
 
 /// Runs a plan. First each sender and the engine have a thread of their own, all at the same time, and as many turns as
 /// the plan says; then what is left is sent and taken on one thread, the first sender closes the ring, each sender asks
-/// which of its batches completed, and the ring is finished. Whatever the schedule was, the totals are the plan's. No
-/// memory is taken between the start of the workers and their end.
+/// which of its batches completed, and the ring is finished. Whatever the schedule was, the totals are the plan's. From
+/// the start of the workers on no memory is taken.
 ///
-/// Errors: S1 when out of memory, S2 where a batch was refused eight times behind the workers' end, or a drain didn't
-/// come to its end.
+/// Errors: S1 when out of memory, before any worker starts; S2 where a batch was refused eight times behind the workers'
+/// end, or a drain didn't come to its end.
 pub fn run_all<R: Threads + AllocGlobal + Sync, G: Gate + Sync>(
     rt: &R,
     plan: &Plan,
@@ -36,6 +37,7 @@ pub fn run_all<R: Threads + AllocGlobal + Sync, G: Gate + Sync>(
 ) -> Result<Report, StressFault>
     ensures planned { IfOk result (λ r. IsAsPlanned plan.now r) }
     ensures run { IfOk result (λ r. IsOfARun plan.now r) }
+    ensures unfinished { result ≡ Err StressFault.Unfinished → IsUnfinished plan.now }
 {
     let alloc: Global = rt.alloc();
     let Ok((ring, senders, consumer)) = Ring::new(
@@ -47,35 +49,42 @@ pub fn run_all<R: Threads + AllocGlobal + Sync, G: Gate + Sync>(
         return Err(StressFault::NoMemory);
     };
     let engine = filled_engine(alloc, consumer, plan.senders())?;
+    let room = Room::new(alloc, plan.senders())?;
     let Ok(workers) = employ(alloc, *plan, senders) else {
         return Err(StressFault::NoMemory);
     };
     let (engine, workers) = run_at_once(rt, &ring, gate, plan.turns(), engine, workers);
-    finish(alloc, *plan, ring, workers, engine)
+    finish(*plan, ring, workers, engine, room)
 }
 
 /// What is done once all workers have ended.
+///
+/// Errors: S2.
 fn finish(
-    alloc: Global,
     plan: Plan,
     ring: Ring,
     workers: Vec<Worker>,
     engine: Engine,
+    room: Room,
 ) -> Result<Report, StressFault>
     requires plan { IsPlan plan }
     requires ring { ring.made_with ≡ made_with plan.log2 plan.senders plan.batches }
     requires workers { assignments workers.items ≡ assignments_of plan (new_senders ring plan.senders) }
-    requires engine { IsStarted plan.senders ring engine }
+    requires engine { IsStarted plan.senders plan.turns ring engine }
+    requires senders { (room.senders.items ≡ []) × (plan.senders ≤ vec_capacity room.senders) }
+    requires done { (room.done.items ≡ []) × (plan.senders ≤ vec_capacity room.done) }
     ensures planned { IfOk result (λ r. IsAsPlanned plan r) }
     ensures run { IfOk result (λ r. IsOfARun plan r) }
+    ensures err { OnErr result (result ≡ Err StressFault.Unfinished) }
+    ensures unfinished { OnErr result (IsUnfinished plan) }
 {
     let mut engine = engine;
-    let senders = send_all(alloc, plan, &ring, workers, &mut engine)?;
+    let senders = send_all(plan, &ring, workers, room.senders, &mut engine)?;
     let senders = close_first(plan, &ring, senders);
     let Found::Drained = drain(&ring, plan.slots(), &mut engine)? else {
         return Err(StressFault::Unfinished);
     };
-    let (senders, done) = ask_all(alloc, plan, &ring, senders)?;
+    let (senders, done) = ask_all(plan, &ring, senders, room.done);
     let finished = engine.finish(ring, senders);
     Ok(Report::new(plan, finished, done))
 }

@@ -52,14 +52,14 @@ pub(crate) fn run_at_once<R: Threads + Sync, G: Gate + Sync>(
 ) -> (Engine, Vec<Worker>)
     requires engine { engine.consumer.ring ≡ ring.now }
     requires workers { All (λ w. w.sender.ring ≡ ring.now) workers.items }
-    ensures engine { GoesOn engine result.0 }
+    ensures engine { GoesOn turns engine result.0 }
     ensures workers { assignments result.1.items ≡ assignments workers.items }
 {
     join(
         rt,
         move || -> Engine
             requires { IsSync G.row × (engine.consumer.ring ≡ ring.now) }
-            ensures { GoesOn engine result }
+            ensures { GoesOn turns engine result }
         { run_engine(ring, gate, turns, engine) },
         move || -> Vec<Worker>
             requires { IsSync R.row × IsSync G.row × All (λ w. w.sender.ring ≡ ring.now) workers.items }

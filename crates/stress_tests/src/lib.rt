@@ -10,3 +10,5 @@ mod gate_tests;
 mod plan_tests;
 #[cfg(test)]
 mod report_tests;
+#[cfg(test)]
+mod turns_tests;

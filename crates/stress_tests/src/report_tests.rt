@@ -1,7 +1,9 @@
 //! Whole runs, and the lines of their reports.
+use ring::Receipt;
+use std::sync::atomic::{AtomicBool, Ordering};
 use std::test::Fail;
 use std::thread::Threads;
-use stress::{NoGate, Plan, StressFault, run_all};
+use stress::{Gate, NoGate, Plan, StressFault, run_all};
 
 #[test]
 fn four_senders(rt: HostRuntime) {
@@ -121,15 +123,39 @@ fn eight_senders_and_many_batches(rt: HostRuntime) {
     assert_eq!(rt; report.done(), &[20_000u32; 8][..]);
 }
 
-/// The smallest run, and the lines of its report: whole, refused as memory ran out, or wrong.
+/// Notes that a worker or the engine has begun.
+#[derive(Drop)]
+struct Beginning {
+    has_begun: AtomicBool,
+}
+
+impl Gate for Beginning {
+    fn before(&self, _sender: u32, _batch: u32) {
+        self.has_begun.store(true, Ordering::SeqCst);
+    }
+
+    fn after(&self, _sender: u32, _batch: u32, _receipt: Option<&Receipt>) {}
+
+    fn turn(&self, _turn: u32) {
+        self.has_begun.store(true, Ordering::SeqCst);
+    }
+}
+
+/// The smallest run, and the lines of its report: whole, refused as memory ran out, or wrong. A run is refused before it
+/// has begun, or not at all.
 fn outcome<R: Threads + AllocGlobal + Sync>(rt: &R) -> &'static str {
     let Some(plan) = Plan::new(1, 1, 1, 1) else {
         return "wrong";
     };
-    let report = match run_all(rt, &plan, &NoGate) {
+    let gate = Beginning {
+        has_begun: AtomicBool::new(false),
+    };
+    let run = run_all(rt, &plan, &gate);
+    let has_begun = gate.has_begun.load(Ordering::SeqCst);
+    let report = match run {
         Ok(report) => report,
-        Err(StressFault::NoMemory) => return "refused",
-        Err(StressFault::Unfinished) => return "wrong",
+        Err(StressFault::NoMemory) if !has_begun => return "refused",
+        Err(_) => return "wrong",
     };
     match report.text(rt.alloc()) {
         Ok(text)

@@ -1,22 +1,22 @@
-use Rattle.std.proofs.Common.{◌∙◌, Result, Ok, Err, arith}
-use Rattle.std.specs.Result.{OnOk}
-use Rattle.engine.specs.Engines.{EngineValue}
-use Rattle.stress.specs.EngineTurns.{GoesOn}
+use Rattle.std.proofs.Common.{List, sym, subst}
+use Rattle.std.proofs.lemmas.List.Elements.{All-push}
+use Rattle.std.specs.List.{All}
+use Rattle.qindex.specs.Positions.{size}
+use Rattle.ring.specs.sender.Senders.{SenderValue}
+use Rattle.stress.specs.Workers.{HasSent}
+use Rattle.stress.specs.EngineTurns.{HasGivenUp}
+use Rattle.stress.proofs.Turns.{on_and_on, later_given_up, when_err}
 use Rattle.stress.proofs.ending.+send_all.Goals as goal
 
-then_goes_on : (first between last : EngineValue) → GoesOn first between → GoesOn between last → GoesOn first last
-then_goes_on first between last early late = record {
-  ring = late.ring ∙ early.ring;
-  removes = record {
-    held = λ tag entry at. early.removes.held tag entry (late.removes.held tag entry at);
-    counted = let e = early.removes.counted in let l = late.removes.counted in omega (arith, e, l);
-  };
-}
+pub returns-in_err-sender-clause-given_up : goal.returns-in_err-sender-clause-given_up
+returns-in_err-sender-clause-given_up t c =
+    when_err c.from_residual-in_err-sender.result (HasGivenUp (size c.args.plan.log2) c.args.engine.now c.send_left.new.engine)
+    (later_given_up (size c.args.plan.log2) 0 c.args.engine.now c.send_all.new.engine c.send_left.new.engine c.in_ok-senders.ensures.engine c.in_err-sender.ensures.given_up)
 
-whatever : {A E : Type 0} (r : Result A E) (P : Type 0) → P → OnOk r P
-whatever (Ok v) P p = p
-whatever (Err e) P p = tt
+pub returns-clause-sent : goal.returns-clause-sent
+returns-clause-sent t c =
+    subst (λ (l : List SenderValue). All (HasSent c.args.plan) l) (sym c.push_reserved.ensures.items)
+    (All-push (HasSent c.args.plan) c.in_ok-senders.senders.items c.in_ok-sender.sender c.in_ok-senders.ensures.sent c.in_ok-sender.ensures.sent)
 
 pub returns-clause-engine : goal.returns-clause-engine
-returns-clause-engine t c =
-    whatever c.with.result _ (then_goes_on c.args.engine.now c.send_all.new.engine c.send_left.new.engine c.in_ok-senders.ensures.engine c.in_ok-sender.ensures.engine)
+returns-clause-engine t c = on_and_on 0 0 c.args.engine.now c.send_all.new.engine c.send_left.new.engine c.in_ok-senders.ensures.engine c.in_ok-sender.ensures.engine

@@ -29,4 +29,4 @@ loop-sender-preserved c =
     let value = c.from.result in
     let unit_is : c.fill.new.self.unit ≡ with_entries unit (filled (tag_of number) value unit) =
     ap (λ (e : EngineValue). e.unit) new_is ∙ ap (λ (t : Tag). with_entries unit (filled t value unit)) c.first_tag.ensures in
-    (one_more_filled number value unit c.loop-sender.invariant.0 c.fill.new.self.unit unit_is, c.fill.ensures.consumer ∙ c.loop-sender.invariant.1)
+    (one_more_filled number value c.from.ensures unit c.loop-sender.invariant.0 c.fill.new.self.unit unit_is, c.fill.ensures.consumer ∙ c.loop-sender.invariant.1)

@@ -4,6 +4,7 @@ use Rattle.ring.specs.sender.Senders.{SenderValue}
 use Rattle.ring.specs.consumer.Consumers.{ConsumerValue}
 use Rattle.engine.specs.Units.{UnitValue}
 use Rattle.stress.specs.FirstEntries.{IsFilled}
+use Rattle.stress.specs.EngineTurns.{GoesOn}
 use Rattle.stress.specs.Workers.{IsNew, assignments_of}
 use Rattle.stress.proofs.Rows.{workers_in, all_new}
 use Rattle.stress.proofs.run.run_all.Goals as goal
@@ -22,7 +23,7 @@ pub finish-requires-clause-engine : goal.finish-requires-clause-engine
 finish-requires-clause-engine g c = record {
   before = c.in_ok-engine.engine;
   filled = subst (λ (n : ℕ). IsFilled n c.in_ok-engine.engine.unit) c.senders-2.ensures.value c.in_ok-engine.ensures.filled;
-  goes_on = c.run_at_once-engine.ensures.engine;
+  goes_on = subst (λ (n : ℕ). GoesOn n c.in_ok-engine.engine c.run_at_once-engine.result.0) c.turns.ensures.value c.run_at_once-engine.ensures.engine;
   ring_is =
       c.run_at_once-engine.ensures.engine.ring
       ∙ (ap (λ (d : ConsumerValue UnitValue). d.ring) c.in_ok-engine.ensures.consumer ∙ ap (λ (d : ConsumerValue UnitValue). d.ring) c.in-Ok.ensures.made.unused.consumer_is);
