@@ -92,9 +92,14 @@ Asks name rows (Stress numbers) = (name ≡ codes "stress") × AreNumbers rows n
 abbrev pub AskFor : List Text → Subcommand → Type 0
 AskFor words subcommand = (name : Text) × (rows : List Row) × (subcommand_of smmuq words ≡ Some (name, rows)) × Asks name rows subcommand
 
+-- why words ask for no subcommand, and what is told of that
+pub record MisunderstoodValue : Type 0 where
+  pub kind : ErrorKind
+  pub text : Text
+
 -- Memory ran out, or the kind is one of these; and nothing is `Ok` unless there is none.
-abbrev pub FailsOnlyBy : {T : Type 0} → Kinds → Result T ErrorKind → Type 0
-FailsOnlyBy kinds r = MatchResult r (λ _. kinds ≡ []) (λ kind. (kind ≡ OutOfMemory) ⊎ IsAmong kind kinds)
+abbrev pub FailsOnlyBy : {T : Type 0} → Kinds → Result T MisunderstoodValue → Type 0
+FailsOnlyBy kinds r = MatchResult r (λ _. kinds ≡ []) (λ why. (why.kind ≡ OutOfMemory) ⊎ IsAmong why.kind kinds)
 
 -- ---- what is read of any matches, also of those that no words give
 

@@ -152,6 +152,6 @@ pub fn understand<'a>(alloc: Global, words: &'a [&'a str]) -> Result<Subcommand<
 {
     match parse(alloc, words) {
         Ok(subcommand) => Ok(subcommand),
-        Err(error) => Err(Misunderstood { error }),
+        Err(error) => Err(Misunderstood::new(alloc, &error)),
     }
 }

@@ -17,10 +17,12 @@ pub record PiecesValue (R : Type 0) : Type 0 where
   pub inner : R
   pub given : ℕ
 
--- a writer: the bytes that it was given and kept, how many calls were made, which of them fails, and how
+-- a writer: the bytes that it was given and kept, how many writes were called for, how many flushes, which of the writes
+-- fails, and how
 pub record SinkValue : Type 0 where
   pub kept : List ℕ
   pub calls : ℕ
+  pub flushes : ℕ
   pub bad : ℕ
   pub kind : ErrorKind
 

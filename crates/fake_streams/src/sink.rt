@@ -18,8 +18,10 @@ pub struct Sink {
     most: usize,
     bad: usize,
     kind: ErrorKind,
-    /// How many calls were made.
+    /// How many calls of `write` were made.
     pub calls: usize,
+    /// How many calls of `flush` were made.
+    pub flushes: usize,
 }
 
 impl Model for Sink {
@@ -28,15 +30,15 @@ impl Model for Sink {
 
     ghost Value = { SinkValue };
 
-    ghost view = { λ s. record { kept = take s.len s.kept; calls = s.calls; bad = s.bad; kind = s.kind } };
+    ghost view = { λ s. record { kept = take s.len s.kept; calls = s.calls; flushes = s.flushes; bad = s.bad; kind = s.kind } };
 
     ghost invariant = { λ s. s.len ≤ 4096 };
 }
 
 impl Write for Sink {
-    ghost use Rattle.std.specs.Prelude.{Some};
+    ghost use Rattle.std.specs.Prelude.{IsOk, Some};
     ghost use Rattle.std.specs.Io.{WritesAtMost};
-    ghost use Rattle.std.specs.Io.KnownBytes.{WriteAppends};
+    ghost use Rattle.std.specs.Io.KnownBytes.{Keeps, WriteAppends};
     ghost use Rattle.fake_streams.specs.Streams.{FailsWhere, one_more};
 
     ghost contents = { λ s. Some s.kept };
@@ -47,6 +49,7 @@ impl Write for Sink {
         ensures calls { self.new.calls ≡ one_more self.old.calls }
         ensures stays { self.new.bad ≡ self.old.bad }
         ensures kind { self.new.kind ≡ self.old.kind }
+        ensures flushes { self.new.flushes ≡ self.old.flushes }
         ensures fails { FailsWhere self.new.calls self.old.bad self.old.kind result }
     {
         self.calls = self.calls.saturating_add(1);
@@ -63,7 +66,12 @@ impl Write for Sink {
         Ok(count)
     }
 
-    fn flush(&mut self) -> io::Result<()> {
+    fn flush(&mut self) -> io::Result<()>
+        ensures bytes { Keeps (Some self.old.kept) (Some self.new.kept) }
+        ensures counted { self.new ≡ record self.old { flushes = one_more self.old.flushes } }
+        ensures served { IsOk result }
+    {
+        self.flushes = self.flushes.saturating_add(1);
         Ok(())
     }
 }
@@ -71,7 +79,7 @@ impl Write for Sink {
 impl Sink {
     /// A writer that is empty, and fails in this way.
     pub fn new(most: usize, bad: usize, kind: ErrorKind) -> Sink
-        ensures { result ≡ record { kept = []; calls = 0; bad = bad; kind = kind } }
+        ensures { result ≡ record { kept = []; calls = 0; flushes = 0; bad = bad; kind = kind } }
     {
         Sink {
             kept: [0; MOST_KEPT],
@@ -80,6 +88,7 @@ impl Sink {
             bad,
             kind,
             calls: 0,
+            flushes: 0,
         }
     }
 

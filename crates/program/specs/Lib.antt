@@ -1,1 +1,4 @@
 pub mod Program
+pub mod Stressing
+pub mod Telling
+pub mod Watching

@@ -4,7 +4,11 @@
 mod running;
 mod serving;
 mod stressing;
+mod telling;
+mod watched;
 
-pub use running::{program, tell_of_memory};
+pub use running::program;
 pub use script::Status;
 pub use serving::{decode_text, replay, schedule};
+pub use telling::{tell_of_memory, tell_without_words};
+pub use watched::Watched;

@@ -1,9 +1,11 @@
 //! The subcommand that runs many senders and an engine at the same time.
+ghost use Rattle.std.specs.Prelude.{IfOk};
 ghost use Rattle.stress.specs.Reports.{IsAsPlanned, IsOfARun};
 ghost use Rattle.stress.specs.Plans.{IsPlan};
-ghost use Rattle.program.specs.Program.{Stresses, ExitsAsStress, plan_of};
+ghost use Rattle.program.specs.Stressing.{ExitsAsStress, IsOfPlan, Stresses, plan_of};
 
-use crate::running::{print, print_line, tell_of_memory};
+use crate::telling::{print, print_line, tell_of_memory};
+use crate::watched::Watched;
 use command_line::StressNumbers;
 use script::Status;
 use std::alloc::Global;
@@ -11,32 +13,26 @@ use std::io::Write;
 use std::thread::Threads;
 use stress::{NoGate, Plan, Report, StressFault, run_all};
 
-/// Writes the lines of a report.
-fn tell_report<O: Write>(alloc: Global, plan: &Plan, report: &Report, output: &mut O) -> Status
-    requires planned { IsAsPlanned plan.now report.now }
-    requires run { IsOfARun plan.now report.now }
-    ensures { Stresses result plan.now (O.contents output.old) (O.contents output.new) }
+/// Tells what a run came to: the lines of its report, or why there is none.
+fn tell_run<O: Write>(
+    alloc: Global,
+    ran: &Result<Report, StressFault>,
+    output: &mut Watched<O>,
+) -> Status
+    ensures { Stresses result ran.now output.old output.new }
 {
-    let Ok(text) = report.text(alloc) else {
-        return tell_of_memory(output);
+    let told = match ran {
+        Ok(report) => report.text(alloc),
+        Err(fault) => Err(*fault),
     };
-    match print(text.as_str(), output) {
-        Ok(()) => Status::Good,
+    let (printed, status) = match told {
+        Ok(text) => (print(text.as_str(), output), Status::Good),
+        Err(StressFault::NoMemory) => return tell_of_memory(output),
+        Err(StressFault::Unfinished) => (print_line("unfinished", output), Status::Refused),
+    };
+    match printed {
+        Ok(()) => status,
         Err(_) => Status::WriteFailed,
-    }
-}
-
-/// Runs a plan, and writes its report, or why there is none.
-fn stress<A: Threads + AllocGlobal + Sync, O: Write>(rt: &A, plan: &Plan, output: &mut O) -> Status
-    ensures { Stresses result plan.now (O.contents output.old) (O.contents output.new) }
-{
-    match run_all(rt, plan, &NoGate) {
-        Ok(report) => tell_report(rt.alloc(), plan, &report, output),
-        Err(StressFault::NoMemory) => tell_of_memory(output),
-        Err(StressFault::Unfinished) => match print_line("unfinished", output) {
-            Ok(()) => Status::Refused,
-            Err(_) => Status::WriteFailed,
-        },
     }
 }
 
@@ -44,10 +40,10 @@ fn stress<A: Threads + AllocGlobal + Sync, O: Write>(rt: &A, plan: &Plan, output
 pub(crate) fn stress_to_exit<A: Threads + AllocGlobal + Sync, O: Write>(
     rt: &A,
     numbers: StressNumbers,
-    output: &mut O,
+    output: &mut Watched<O>,
 ) -> u8
     requires { IsPlan (plan_of numbers) }
-    ensures { ExitsAsStress result (plan_of numbers) (O.contents output.old) (O.contents output.new) }
+    ensures { ExitsAsStress result (plan_of numbers) output.old output.new }
 {
     let StressNumbers {
         log2,
@@ -57,5 +53,6 @@ pub(crate) fn stress_to_exit<A: Threads + AllocGlobal + Sync, O: Write>(
         bare,
     } = numbers;
     let plan = Plan::with_bare(log2, senders, batches, turns, bare).unwrap();
-    stress(rt, &plan, output).exit_status()
+    let ran = run_all(rt, &plan, &NoGate);
+    tell_run(rt.alloc(), &ran, output).exit_status()
 }

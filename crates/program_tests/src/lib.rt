@@ -8,6 +8,10 @@ mod command_line_tests;
 #[cfg(test)]
 mod decoding_tests;
 #[cfg(test)]
+mod replaying_tests;
+#[cfg(test)]
 mod running;
 #[cfg(test)]
 mod stressing_tests;
+#[cfg(test)]
+mod telling_tests;

@@ -1,17 +1,17 @@
 //! Runs of the program on fake streams.
 use fake_streams::{Sink, Source};
-use program::program;
+use program::{Watched, program};
 use std::io::{ErrorKind, Read, Write};
 use std::thread::Threads;
 
-const PIPE: ErrorKind = ErrorKind::BrokenPipe;
+pub const PIPE: ErrorKind = ErrorKind::BrokenPipe;
 
 /// What the program wrote, and what it ended with.
 #[derive(Drop)]
 pub struct Ran {
     pub status: u8,
-    pub output: Sink,
-    pub faults: Sink,
+    pub output: Watched<Sink>,
+    pub faults: Watched<Sink>,
 }
 
 impl Ran {
@@ -19,8 +19,16 @@ impl Ran {
     pub fn told(&self) -> (u8, &str, bool) {
         (
             self.status,
-            self.output.text(),
-            self.faults.text().is_empty(),
+            self.output.inner().text(),
+            self.faults.inner().text().is_empty(),
+        )
+    }
+
+    /// Whether standard output, and what is told of faults, were flushed.
+    pub fn flushed(&self) -> (bool, bool) {
+        (
+            self.output.inner().flushes > 0,
+            self.faults.inner().flushes > 0,
         )
     }
 }
@@ -30,8 +38,8 @@ fn status_of<'a, A: Threads + AllocGlobal + Sync, I: Read, O: Write, F: Write>(
     rt: &A,
     words: &'a [&'a str],
     input: &mut I,
-    output: &mut O,
-    faults: &mut F,
+    output: &mut Watched<O>,
+    faults: &mut Watched<F>,
 ) -> u8 {
     program(rt, words, input, output, faults)
 }
@@ -44,8 +52,8 @@ pub fn run<'a, A: Threads + AllocGlobal + Sync>(
     (bad_read, bad_write): (usize, usize),
 ) -> Ran {
     let mut input = Source::new(script.as_bytes(), 100, bad_read, PIPE);
-    let mut output = Sink::new(100, bad_write, PIPE);
-    let mut faults = Sink::new(100, 0, PIPE);
+    let mut output = Watched::new(Sink::new(100, bad_write, PIPE));
+    let mut faults = Watched::new(Sink::new(100, 0, PIPE));
     let status = status_of(rt, words, &mut input, &mut output, &mut faults);
     Ran {
         status,

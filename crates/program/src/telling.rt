@@ -1,0 +1,87 @@
+//! What is told of memory, of help and of faults of the command line.
+ghost use Rattle.std.specs.Prelude.{◌≡◌, ◌++◌, ◌⊎◌, MatchResult, OnErr, OnOk, codes};
+ghost use Rattle.std.specs.IoError.{error_kind};
+ghost use Rattle.script.specs.Writing.{no_memory_line};
+ghost use Rattle.program.specs.Watching.{HasFailed, Tells, TellsWith};
+ghost use Rattle.program.specs.Telling.{ExitsAsTold, ExitsWithoutWords};
+
+use crate::watched::Watched;
+use command_line::Misunderstood;
+use script::Status;
+use std::io;
+use std::io::{ErrorKind, Write};
+
+/// The exit status of a command line that isn't understood.
+const NOT_UNDERSTOOD: u8 = 2;
+
+pub(crate) fn print<W: Write>(text: &str, output: &mut Watched<W>) -> io::Result<()>
+    ensures ok { OnOk result (Tells output.old output.new text.now) }
+    ensures err { OnErr result (HasFailed output.new) }
+{
+    output.write_all(text.as_bytes())?;
+    output.flush()
+}
+
+pub(crate) fn print_line<W: Write>(line: &str, output: &mut Watched<W>) -> io::Result<()>
+    ensures ok { OnOk result (Tells output.old output.new (line.now ++ codes "\n")) }
+    ensures err { OnErr result (HasFailed output.new) }
+{
+    output.write_all(line.as_bytes())?;
+    print("\n", output)
+}
+
+/// Tells that memory ran out.
+pub fn tell_of_memory<W: Write>(output: &mut Watched<W>) -> Status
+    ensures told { result ≡ Status.NoMemory → Tells output.old output.new no_memory_line }
+    ensures fails { result ≡ Status.WriteFailed → HasFailed output.new }
+    ensures failed { (result ≡ Status.NoMemory) ⊎ (result ≡ Status.WriteFailed) }
+{
+    match print_line("no memory", output) {
+        Ok(()) => Status::NoMemory,
+        Err(_) => Status::WriteFailed,
+    }
+}
+
+/// Tells a text with an exit status.
+fn tell_line<W: Write>(line: &str, status: u8, output: &mut Watched<W>) -> u8
+    ensures { TellsWith status (line.now ++ codes "\n") result output.old output.new }
+{
+    match print_line(line, output) {
+        Ok(()) => status,
+        Err(_) => Status::WriteFailed.exit_status(),
+    }
+}
+
+/// Tells what is wrong with the words of the command line, or the help that they ask for, and answers the exit status.
+pub(crate) fn tell<O: Write, F: Write>(
+    why: &Misunderstood,
+    output: &mut Watched<O>,
+    faults: &mut Watched<F>,
+) -> u8
+    ensures { ExitsAsTold why.now result output.old output.new faults.old faults.new }
+{
+    if why.is_out_of_memory() {
+        return tell_of_memory(output).exit_status();
+    }
+    if why.is_fault() {
+        tell_line(why.text(), NOT_UNDERSTOOD, faults)
+    } else {
+        tell_line(why.text(), Status::Good.exit_status(), output)
+    }
+}
+
+/// Tells why the system hands out no words of the command line: memory ran out, or a word isn't UTF-8. Answers the exit
+/// status.
+pub fn tell_without_words<O: Write, F: Write>(
+    why: &io::Error,
+    output: &mut Watched<O>,
+    faults: &mut Watched<F>,
+) -> u8
+    ensures { ExitsWithoutWords (error_kind why.now) result output.old output.new faults.old faults.new }
+{
+    if why.kind() == ErrorKind::OutOfMemory {
+        return tell_of_memory(output).exit_status();
+    }
+    let line = "error: a word of the command line isn't UTF-8";
+    tell_line(line, NOT_UNDERSTOOD, faults)
+}

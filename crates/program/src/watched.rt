@@ -1,0 +1,90 @@
+//! A writer that notes what its calls came to.
+ghost use Rattle.std.specs.Prelude.{◌≡◌, false, true};
+ghost use Rattle.program.specs.Watching.{Notes};
+
+use std::io;
+use std::io::Write;
+use std::marker::Model;
+
+/// Hands what it is given on to another writer. It notes whether a call of that failed, and whether it was flushed since
+/// it was last written to.
+#[derive(Drop)]
+pub struct Watched<W: Write> {
+    inner: W,
+    has_failed: bool,
+    is_flushed: bool,
+}
+
+impl<W: Write> Model for Watched<W> {
+    ghost use Rattle.program.specs.Watching.{Seen};
+
+    ghost Value = { Seen };
+
+    ghost view = { λ w. record { bytes = W.contents w.inner; has_failed = w.has_failed; is_flushed = w.is_flushed } };
+}
+
+impl<W: Write> Write for Watched<W> {
+    ghost use Rattle.std.specs.Prelude.{OnOk};
+    ghost use Rattle.std.specs.Io.{WritesAtMost};
+    ghost use Rattle.std.specs.Io.KnownBytes.{Appends, Keeps, WriteAppends};
+
+    ghost contents = { λ w. w.bytes };
+
+    fn write(&mut self, buf: &[u8]) -> io::Result<usize>
+        ensures bound { WritesAtMost result buf.now }
+        ensures bytes { WriteAppends self.old.bytes self.new.bytes result buf.now }
+        ensures notes { Notes false self.old self.new result }
+    {
+        let written = self.inner.write(buf);
+        self.note(written, false)
+    }
+
+    fn flush(&mut self) -> io::Result<()>
+        ensures bytes { Keeps self.old.bytes self.new.bytes }
+        ensures notes { Notes true self.old self.new result }
+    {
+        let flushed = self.inner.flush();
+        self.note(flushed, true)
+    }
+
+    fn write_all(&mut self, buf: &[u8]) -> io::Result<()>
+        ensures bytes { OnOk result (Appends self.old.bytes self.new.bytes buf.now) }
+        ensures notes { Notes false self.old self.new result }
+    {
+        let written = self.inner.write_all(buf);
+        self.note(written, false)
+    }
+}
+
+impl<W: Write> Watched<W> {
+    /// Watches a writer from now on.
+    pub fn new(inner: W) -> Watched<W>
+        ensures { result ≡ record { bytes = W.contents inner; has_failed = false; is_flushed = true } }
+    {
+        Watched {
+            inner,
+            has_failed: false,
+            is_flushed: true,
+        }
+    }
+
+    /// The writer.
+    pub fn inner(&self) -> &W
+        ensures { W.contents result.now ≡ self.now.bytes }
+    {
+        &self.inner
+    }
+
+    /// Notes what a call came to.
+    fn note<T>(&mut self, came: io::Result<T>, is_flush: bool) -> io::Result<T>
+        ensures same { result ≡ came }
+        ensures bytes { self.new.bytes ≡ self.old.bytes }
+        ensures notes { Notes is_flush self.old self.new result }
+    {
+        match &came {
+            Ok(_) => self.is_flushed = is_flush,
+            Err(_) => self.has_failed = true,
+        }
+        came
+    }
+}

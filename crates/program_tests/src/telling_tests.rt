@@ -1,0 +1,77 @@
+//! What is told where nothing is asked for, and that what is told is flushed.
+use crate::running::{PIPE, run};
+use fake_streams::Sink;
+use program::{Watched, tell_of_memory, tell_without_words};
+use std::io;
+use std::io::{ErrorKind, Write};
+use std::process::Abort;
+use std::thread::Threads;
+
+#[test]
+fn a_word_that_is_not_utf8(rt: HostRuntime) {
+    let mut output = Watched::new(Sink::new(100, 0, PIPE));
+    let mut faults = Watched::new(Sink::new(100, 0, PIPE));
+    let why = io::Error::from(ErrorKind::InvalidData);
+    let status = tell_without_words(&why, &mut output, &mut faults);
+    assert_eq!(rt; status, 2);
+    assert_eq!(rt; output.inner().text(), "");
+    let text = "error: a word of the command line isn't UTF-8\n";
+    assert_eq!(rt; faults.inner().text(), text);
+}
+
+#[test]
+fn no_memory_for_the_words(rt: HostRuntime) {
+    let mut output = Watched::new(Sink::new(100, 0, PIPE));
+    let mut faults = Watched::new(Sink::new(100, 0, PIPE));
+    let why = io::Error::from(ErrorKind::OutOfMemory);
+    let status = tell_without_words(&why, &mut output, &mut faults);
+    assert_eq!(rt; status, 3);
+    assert_eq!(rt; output.inner().text(), "no memory\n");
+    assert_eq!(rt; faults.inner().text(), "");
+}
+
+#[test]
+fn no_memory_that_cannot_be_told(rt: HostRuntime) {
+    let mut output = Watched::new(Sink::new(100, 1, PIPE));
+    assert_eq!(rt; tell_of_memory(&mut output).exit_status(), 4);
+}
+
+/// Runs the program on the words of a line, and wants standard output, and what is told of faults, flushed or not.
+fn expect_flushed<R: Threads + AllocGlobal + Abort + Sync>(
+    rt: &R,
+    line: &str,
+    wanted: (bool, bool),
+) {
+    let words: Vec<&str> = line
+        .split(' ')
+        .collect(rt.alloc())
+        .expect(rt, "there is memory");
+    let ran = run(rt, words.as_slice(), "", (1, 0));
+    assert_eq!(rt; ran.flushed(), wanted, "{line}");
+}
+
+#[test]
+fn what_is_told_is_flushed(rt: HostRuntime) {
+    let line = "stress --log2 1 --senders 1 --batches 1 --turns 1";
+    expect_flushed(&rt, line, (true, false));
+    expect_flushed(
+        &rt,
+        "decode 03000000050000000100000000000000",
+        (true, false),
+    );
+    expect_flushed(&rt, "decode 0g", (true, false));
+    expect_flushed(&rt, "--help", (true, false));
+    expect_flushed(&rt, "explode", (false, true));
+}
+
+/// Hands a watched writer a text in one call of each kind, and wants it in its own writer.
+#[test]
+fn a_watched_writer_hands_on_what_it_is_given(rt: HostRuntime) {
+    let mut output = Watched::new(Sink::new(100, 0, PIPE));
+    assert_eq!(rt; output.write(b"one ").unwrap_or(0), 4);
+    assert!(rt; output.write_all(b"two").is_ok());
+    assert_eq!(rt; output.inner().text(), "one two");
+    assert_eq!(rt; output.inner().flushes, 0);
+    assert!(rt; output.flush().is_ok());
+    assert_eq!(rt; output.inner().flushes, 1);
+}
