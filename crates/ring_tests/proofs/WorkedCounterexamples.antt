@@ -142,9 +142,9 @@ reserved_is_not_completed it = let none : None ≡ Some (sync_raw 1 1) = it.sync
 
 only_one : (ahead behind : List Batch) (a b : Batch) → a ∷ [] ≡ ahead ++ b ∷ behind → (ahead ≡ []) × (a ≡ b)
 only_one [] behind a b is = (refl, head_is)
-    where
-      head_is : a ≡ b
-      head_is = search
+  where
+    head_is : a ≡ b
+    head_is = search
 only_one (c ∷ []) behind a b is = absurd (cc)
 only_one (c ∷ d ∷ ahead) behind a b is = absurd (cc)
 

@@ -69,7 +69,7 @@ unclosed_is_not_closed ring it = let same : false ≡ true = it.closed_then in a
 pub just_fitting_is_not_full : (ring : RingValue) → ¬ IsFull (x ∷ []) true (fresh ring) (has_seen ring open_and_empty)
 just_fitting_is_not_full ring it =
     let full : 2 < distance open_and_empty.prod open_and_empty.cons + 2 =
-      subst (λ (c : Control). 2 < distance c.prod c.cons + 2) (sym (the_seen ring it.seen open_and_empty it.looked)) it.full in
+    subst (λ (c : Control). 2 < distance c.prod c.cons + 2) (sym (the_seen ring it.seen open_and_empty it.looked)) it.full in
     absurd (omega (arith, full))
 
 -- So they are in the run that it knows, whatever it says that it saw.
