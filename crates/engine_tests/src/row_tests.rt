@@ -149,7 +149,8 @@ fn entries_before_and_after_commands(rt: HostRuntime) {
     row(
         &rt,
         4,
-        "fill 5 100 = none
+        "entries = 0
+fill 5 100 = none
 fill 5 101 = value=100 born=0
 fill 6 102 = none
 entries = 2
@@ -161,6 +162,7 @@ fill 5 103 = none
 run = stopped ILL1: unknown opcode
 fill 7 104 = none
 lookup 7 = value=104 born=1
+entries = 3
 ack 1 replace = acknowledged
 run = replaced ILL1: unknown opcode
 lookup 5 = value=103 born=1

@@ -1,7 +1,7 @@
 //! A unit without a ring.
 use crate::commands::{ILLEGAL, LEGAL};
 use caches::{CacheFault, Caches, Entry, Tag};
-use cmdcodec::{Ill, Sid};
+use cmdcodec::{Ill, Sid, Ssid};
 use engine::{Remedy, Unit, Verdict};
 
 #[test]
@@ -52,5 +52,34 @@ fn a_unit_alone(rt: HostRuntime) -> Result<(), CacheFault> {
         (1, 1, 0, 0, 1)
     );
     assert_eq!(rt; unit.into_caches().len(), 0);
+    Ok(())
+}
+
+/// An entry that was filled before any command.
+fn first_entry(tag: Tag, value: u64) -> Entry {
+    Entry {
+        tag,
+        value,
+        born: 0,
+    }
+}
+
+#[test]
+fn entries_of_an_empty_unit_and_while_stopped(rt: HostRuntime) -> Result<(), CacheFault> {
+    let sid = Sid::new(5).expect(&rt, "a stream");
+    let ssid = Ssid::new(3).expect(&rt, "a substream");
+    let (stream, context) = (Tag::Ste { sid }, Tag::Cd { sid, ssid });
+    let mut unit = Unit::new(Caches::new(rt.alloc(), 2)?);
+    assert!(rt; unit.entries()?.is_empty());
+    unit.fill(context, 8)?;
+    assert_eq!(rt; unit.judge(ILLEGAL), Verdict::Stopped(Ill::UnknownOpcode));
+    let held = [first_entry(context, 8)];
+    assert_eq!(rt; unit.entries()?.as_slice(), held);
+    unit.fill(stream, 7)?;
+    let held = [first_entry(stream, 7), first_entry(context, 8)];
+    assert_eq!(rt; unit.entries()?.as_slice(), held);
+    assert_eq!(rt; unit.acknowledge(1, Remedy::Replace), Ok(()));
+    assert_eq!(rt; unit.judge(ILLEGAL), Verdict::Replaced(Ill::UnknownOpcode));
+    assert_eq!(rt; unit.entries()?.as_slice(), held);
     Ok(())
 }

@@ -6,7 +6,7 @@ use Rattle.script.specs.declared.status.Status.{Status}
 use Rattle.script.specs.declared.status.Status.TheVariants.{Good, Refused, NoMemory, ReadFailed, WriteFailed, Endless}
 use Rattle.script.specs.Statuses.{exit_status}
 use Rattle.stress.specs.Plans.{PlanValue}
-use Rattle.stress.specs.Reports.{ReportValue, IsAsPlanned, IsOfARun}
+use Rattle.stress.specs.Reports.{ReportValue, IsAsPlanned, IsOfARun, IsUnfinished}
 use Rattle.stress.specs.ReportText.{report_text}
 use Rattle.stress.specs.declared.fault.StressFault.{StressFault}
 use Rattle.stress.specs.declared.fault.StressFault.TheVariants as faults
@@ -33,10 +33,11 @@ Stresses WriteFailed ran before after = HasFailed after
 Stresses ReadFailed ran before after = ⊥
 Stresses Endless ran before after = ⊥
 
--- It ended with the exit status of a run of this plan.
+-- It ended with the exit status of a run of this plan. One that is told as unfinished was made, and given up for a cause.
 pub record ExitsAsStress (exit : ℕ) (plan : PlanValue) (before after : Seen) : Type 0 where
   pub ran : Result ReportValue StressFault
   pub of_plan : IsOfPlan plan ran
+  pub unfinished : ran ≡ Err faults.Unfinished → IsUnfinished plan
   pub status : Status
   pub exit_is : exit ≡ exit_status status
   pub told : Stresses status ran before after

@@ -1,5 +1,6 @@
 pub mod BodyLemmas
 pub mod FirstLemmas
+pub mod MemoryLemmas
 pub mod SendLemmas
 pub mod ServedLemmas
 pub mod StepsLemmas

@@ -2,6 +2,7 @@
 #![tactic(auto)]
 
 mod interpreter;
+mod laws;
 mod lines;
 mod parsing;
 mod request;
@@ -9,4 +10,5 @@ mod sender_fault;
 mod serving;
 mod telling;
 
+pub use laws::memory_is_told_of;
 pub use serving::{replay, serve};

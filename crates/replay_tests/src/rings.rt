@@ -20,6 +20,20 @@ line 1: N1",
     );
     expect_transcript(
         &rt,
+        "a ring of 257 senders",
+        Status::Refused,
+        "> ring 3 257 1 1
+line 1: N2",
+    );
+    expect_transcript(
+        &rt,
+        "no batches, which is told ahead of caches with room for nothing",
+        Status::Refused,
+        "> ring 3 1 0 0
+line 1: N3",
+    );
+    expect_transcript(
+        &rt,
         "caches with room for nothing",
         Status::Refused,
         "> ring 3 1 1 0
@@ -48,6 +62,54 @@ line 1: bad line",
 ring size 8
 > ring 0 0 0 0
 line 3: second ring",
+    );
+}
+
+#[test]
+fn the_largest_ring(rt: HostRuntime) {
+    expect_transcript(
+        &rt,
+        "2^19 slots, and the last of 256 senders",
+        Status::Refused,
+        "> ring 19 256 4294967295 65536
+ring size 524288
+> fill ste 5 70
+filled
+> look 255
+control 0 0 open
+> send 255 03000000050000000100000000000000
+sent 255 number 1
+> send 0 03000000050000000100000000000000
+sent 0 number 1
+> send 256 03000000050000000100000000000000
+line 7: no sender",
+    );
+    expect_transcript(
+        &rt,
+        "2^19 slots, and what the last of 256 senders is told",
+        Status::Good,
+        "> ring 19 256 4294967295 65536
+ring size 524288
+> fill ste 5 70
+filled
+> send 255 03000000050000000100000000000000
+sent 255 number 1
+> done 255
+done 255 up to 0
+> step 3
+applied CFGI_STE sid=5 leaf=1 removed=1
+applied CMD_SYNC cs=1 msh=0 attr=0 data=1 addr=0x400003fc removed=0
+empty
+> done 255
+done 255 up to 1
+> done 254
+done 254 up to 0
+> dump
+prod 0x00000002
+cons 0x00000002
+gerror 0 gerrorn 0
+taken 2 applied 2 replaced 0 syncs 1 removed 1
+end",
     );
 }
 

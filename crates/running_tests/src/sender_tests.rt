@@ -1,9 +1,12 @@
 //! What no clause says of the senders: the names of faults and causes, and that calls succeed.
+ghost use Rattle.std.specs.Prelude.{◌≡◌};
+
 use crate::batches::batch_of;
 use crate::calls::{Seats, expect_answers, play, ring_of_one, ring_of_two};
 use crate::device::NoEntries;
 use crate::sender_calls::send;
-use ring::{Cause, Ring, RingFault};
+use batch::Batch;
+use ring::{Cause, Ring, RingFault, Sender};
 use std::alloc::{AllocError, Global};
 use std::process::Abort;
 
@@ -116,6 +119,48 @@ fn a_ring_of_two_slots(rt: HostRuntime) {
     let (_second, full) = send(&ring, second, &batch_of(&rt, 1));
     assert_eq!(rt; full, Err(Cause::Full));
     play(&rt, &ring, seats, "bare 3 = Q4");
+}
+
+/// Sends a batch so many times, and says of the last one how it went.
+fn send_times(ring: &Ring, sender: Sender, batch: &Batch, times: u32) -> (Sender, Result<u32, Cause>)
+    requires { sender.ring ≡ ring.now }
+    ensures ring { result.0.ring ≡ ring.now }
+{
+    let mut sender = sender;
+    let mut last = Err(Cause::Exhausted);
+    for _ in 0..times {
+        let (again, told) = send(ring, sender, batch);
+        sender = again;
+        last = told;
+    }
+    (sender, last)
+}
+
+// 2^19 slots are full of 2^13 batches of 63 commands and a CMD_SYNC.
+#[test]
+fn the_last_of_256_senders_fills_the_largest_ring(rt: HostRuntime) {
+    let (ring, mut senders, consumer) = Ring::new::<NoEntries>(
+        rt.alloc(),
+        19,
+        256,
+        4_294_967_295,
+    ).expect(&rt, "a ring");
+    assert_eq!(rt; senders.len(), 256);
+    let sender = senders.pop().expect(&rt, "256 senders");
+    assert_eq!(rt; sender.id(), 255);
+    let (sender, last) = send_times(&ring, sender, &batch_of(&rt, 63), 8192);
+    assert_eq!(rt; last, Ok(8192));
+    play(
+        &rt,
+        &ring,
+        Seats { sender, consumer },
+        "look = 524288 0 open\n\
+         bare 1 = Q2\n\
+         consumer take 64 64 = 64 64\n\
+         done = 1\n\
+         bare 1 = sent\n\
+         look = 524289 64 open",
+    );
 }
 
 #[test]
