@@ -37,8 +37,8 @@ fill_told : (tag : Tag) (value : ℕ) (state : State) → (fill_effect true tag 
 unfolding filled
 fill_told tag value state =
     elim (fault_or_memory (not (is_block tag)) (is_some (finite.get (entries state) tag)) (finite.len (entries state) == state.capacity)) [
-      inl same ↦ inl (ap (λ fault. tells fill_text (filled_unless fault tag value state)) same)
-    | inr wanting ↦ inr (record {
+      | inl same ↦ inl (ap (λ fault. tells fill_text (filled_unless fault tag value state)) same)
+      | inr wanting ↦ inr (record {
         text = ap (λ fault. (tells fill_text (filled_unless fault tag value state)).text) wanting;
         goes_on = refl;
       })
@@ -77,7 +77,7 @@ line_told : (number : ℕ) (wanting : Bool) (line : List ℕ) (state : Option St
 unfolding line_effect
 line_told number wanting line state =
     either_told (nat_lt 4096 (length line)) (faults number (codes "long line") state) (asked_effect replays number wanting (replays.request_of line) state)
-        (asked_effect replays number false (replays.request_of line) state) (asked_told number wanting (replays.request_of line) state)
+    (asked_effect replays number false (replays.request_of line) state) (asked_told number wanting (replays.request_of line) state)
 
 -- ---- one line after another
 
@@ -87,11 +87,15 @@ behind : (text : List ℕ) (goes_on : Bool) (rest plain : Answer) → (rest ≡ 
     ⊎ TellsOfMemory (cond goes_on (with_text text rest) (record { text = text; is_good = false })).text
 behind text false rest plain told = inl refl
 behind text true rest plain (inl same) = inl (ap (with_text text) same)
-behind text true rest plain (inr tells) = inr (record {
-  front = text ++ tells.front;
-  back = tells.back;
-  is = ap (λ more. text ++ more) tells.is ∙ sym (append_assoc text tells.front (codes "refused C3\n" ++ tells.back));
-})
+behind text true rest plain (inr told) =
+    let line = codes "refused C3\n" in
+    inr (record {
+      front = text ++ told.front;
+      back = told.back;
+      is = ap (λ more. text ++ more) told.is
+          ∙ sym (append_assoc text (told.front ++ line) told.back)
+          ∙ ap (λ more. more ++ told.back) (sym (append_assoc text told.front line));
+    })
 
 -- a line that is answered alike, and those after it
 told_behind : (effect : Effect State) (rest plain : Option State → Answer) → (rest effect.state ≡ plain effect.state) ⊎ TellsOfMemory (rest effect.state).text
@@ -117,8 +121,8 @@ plain_unless_told number choice state (line ∷ lines) =
     let rest : Option State → Answer = λ left. answer_from replays (number + 1) (later_choice choice) left lines in
     let had : Option State → Answer = λ left. answer_from replays (number + 1) [] left lines in
     elim (line_told number (first_choice choice) line state) [
-      inl same ↦
-        subst (λ (e : Effect State). (after_effect e rest ≡ after_effect plain had) ⊎ TellsOfMemory (after_effect e rest).text) (sym same)
-            (told_behind plain rest had (plain_unless_told (number + 1) (later_choice choice) plain.state lines))
-    | inr refused ↦ inr (told_here effect rest refused)
+      | inl same ↦
+          subst (λ (e : Effect State). (after_effect e rest ≡ after_effect plain had) ⊎ TellsOfMemory (after_effect e rest).text) (sym same)
+          (told_behind plain rest had (plain_unless_told (number + 1) (later_choice choice) plain.state lines))
+      | inr refused ↦ inr (told_here effect rest refused)
     ]

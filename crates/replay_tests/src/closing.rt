@@ -44,4 +44,23 @@ gerror 0 gerrorn 0
 taken 2 applied 2 replaced 0 syncs 1 removed 0
 end",
     );
+    expect_transcript(
+        &rt,
+        "a closed ring, whose commands are taken all the same",
+        Status::Good,
+        "> ring 3 2 4 4
+ring size 8
+> send 0 03000000050000000100000000000000
+sent 0 number 1
+> close 1
+closed
+> send 0 03000000050000000100000000000000
+refused Q1
+> look 0
+control 2 0 closed
+> step 9
+applied CFGI_STE sid=5 leaf=1 removed=0
+applied CMD_SYNC cs=1 msh=0 attr=0 data=1 addr=0x40000000 removed=0
+drained",
+    );
 }

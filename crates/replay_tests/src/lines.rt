@@ -16,6 +16,24 @@ line 2: bad line",
     );
     expect_transcript(
         &rt,
+        "a first word that means nothing",
+        Status::Refused,
+        "> ring 3 1 1 1
+ring size 8
+> stare 0
+line 2: bad line",
+    );
+    expect_transcript(
+        &rt,
+        "a tag of no kind",
+        Status::Refused,
+        "> ring 3 1 1 1
+ring size 8
+> fill s3 5 1 9
+line 2: bad line",
+    );
+    expect_transcript(
+        &rt,
         "a million steps end at the first that finds nothing",
         Status::Good,
         "> ring 3 1 4 1
@@ -57,6 +75,30 @@ line 1: bad line",
         "> ring 0X3 1 1 1
 line 1: bad line",
     );
+}
+
+#[test]
+fn words_that_make_a_line_bad(rt: HostRuntime) -> Result<(), Fail> {
+    let lines = "send 0 03
+detach 0
+detach 0 1 2
+fill ste 5
+fill s1 1 - 0x10 0 7
+fill s2 65536 0x10 0 7
+fill atc 5 g 0x10 0 7
+fill cd 5 0x100000 7
+lookup s1 1 g 0x10000000000000 0
+evict el2 g 0x10 256
+ack 1
+ack 1 again
+step 1000001
+close";
+    for line in lines.lines() {
+        let script = format!(in rt.alloc(); "ring 3 1 1 1\n{line}\n")?;
+        let answers = "ring size 8\nline 2: bad line\n";
+        expect_answer(&rt, line, script.as_bytes(), answers, Status::Refused);
+    }
+    Ok(())
 }
 
 #[test]

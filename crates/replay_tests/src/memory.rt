@@ -2,6 +2,7 @@
 //! to fail. A test passes either way, and prints how it went.
 mod blocks_of_streams;
 mod global_entries;
+mod replaced_entry;
 mod smallest_ring;
 
 use crate::transcripts::status_of;

@@ -1,6 +1,8 @@
 //! Reservations that are held open, and batches without a CMD_SYNC.
-use crate::transcripts::expect_transcript;
+use crate::transcripts::{expect_answer, expect_transcript};
 use script::Status;
+use std::process::Abort;
+use std::test::Fail;
 
 #[test]
 fn reservations_held_open(rt: HostRuntime) {
@@ -180,4 +182,79 @@ opened 0 number 1 first 1
 > publish 0
 published 0 number 1",
     );
+}
+
+#[test]
+fn a_bare_batch_behind_an_open_reservation(rt: HostRuntime) {
+    expect_transcript(
+        &rt,
+        "a batch that is handed over after another one, which waits for it",
+        Status::Good,
+        "> ring 3 2 4 4
+ring size 8
+> open 0 03000000050000000100000000000000
+opened 0 number 1 first 0
+> bare 1 03000000060000000100000000000000
+sent 1 bare
+> step 9
+unwritten
+> look 1
+control 3 0 open
+> publish 0
+published 0 number 1
+> step 9
+applied CFGI_STE sid=5 leaf=1 removed=0
+applied CMD_SYNC cs=1 msh=0 attr=0 data=1 addr=0x40000000 removed=0
+applied CFGI_STE sid=6 leaf=1 removed=0
+empty
+> openbare 1 03000000060000000100000000000000
+opened 1 bare first 3
+> publish 1
+published 1 bare
+> done 0
+done 0 up to 1
+> done 1
+done 1 up to 0",
+    );
+}
+
+/// Wants a run to end at each of some lines, in turn behind the same lines, with this answer to it.
+fn expect_ended<R: AllocGlobal + Abort>(
+    rt: &R,
+    front: (&str, &str),
+    lines: &str,
+    ending: &str,
+) -> Result<(), Fail> {
+    let (script, answers) = front;
+    for line in lines.lines() {
+        let script = format!(in rt.alloc(); "{script}\n{line}\n")?;
+        let answers = format!(in rt.alloc(); "{answers}\n{ending}\n")?;
+        expect_answer(
+            rt,
+            line,
+            script.as_bytes(),
+            answers.as_str(),
+            Status::Refused,
+        );
+    }
+    Ok(())
+}
+
+#[test]
+fn lines_that_end_the_run(rt: HostRuntime) -> Result<(), Fail> {
+    expect_ended(
+        &rt,
+        (
+            "ring 3 1 1 1\nopenbare 0 03000000050000000100000000000000",
+            "ring size 8\nopened 0 bare first 0",
+        ),
+        "done 0\nlook 0\nclose 0\nsend 0\ndetach 0 1",
+        "line 3: sender open",
+    )?;
+    expect_ended(
+        &rt,
+        ("ring 3 1 1 1", "ring size 8"),
+        "done 1\nlook 1\nclose 1\npublish 1\ninval 1 0 0 0 0",
+        "line 2: no sender",
+    )
 }

@@ -82,7 +82,7 @@ sent 255 number 1
 > send 0 03000000050000000100000000000000
 sent 0 number 1
 > send 256 03000000050000000100000000000000
-line 7: no sender",
+line 6: no sender",
     );
     expect_transcript(
         &rt,

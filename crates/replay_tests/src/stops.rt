@@ -77,6 +77,58 @@ end",
     );
     expect_transcript(
         &rt,
+        "the first command is tried again and then replaced, and no CMD_SYNC follows it",
+        Status::Good,
+        "> ring 3 1 4 4
+ring size 8
+> ack 1 retry
+refused G1
+> bare 0 ff000000000000000000000000000000 03000000050000000100000000000000
+sent 0 bare
+> step 9
+stopped ILL1
+> dump
+prod 0x00000002
+cons 0x01000000
+gerror 1 gerrorn 0
+taken 0 applied 0 replaced 0 syncs 0 removed 0
+end
+> step 9
+still stopped
+> ack 0 retry
+refused G2
+> ack 1 retry
+acknowledged
+> step 9
+stopped ILL1
+> ack 0 replace
+acknowledged
+> step 9
+replaced ILL1
+applied CFGI_STE sid=5 leaf=1 removed=0
+empty
+> dump
+prod 0x00000002
+cons 0x00000002
+gerror 0 gerrorn 0
+taken 2 applied 1 replaced 1 syncs 0 removed 0
+end",
+    );
+    expect_transcript(
+        &rt,
+        "commands of two illegal kinds, which stay where they are",
+        Status::Good,
+        "> ring 3 1 4 1
+ring size 8
+> bare 0 ff000000000000000000000000000000 03040000050000000100000000000000
+sent 0 bare
+> send 0 46300000000000000000000000000000
+refused B2
+> step
+stopped ILL1",
+    );
+    expect_transcript(
+        &rt,
         "a stop that is acknowledged shows until the step, and a second stop",
         Status::Good,
         "> ring 3 1 4 4

@@ -140,3 +140,72 @@ sent 0 number 1
 applied CFGI_STE_RANGE sid=0 range=31 removed=2",
     );
 }
+
+#[test]
+fn commands_for_two_streams_and_for_all_of_one(rt: HostRuntime) {
+    expect_transcript(
+        &rt,
+        "a range covers the two streams that differ in their lowest bit",
+        Status::Good,
+        "> ring 4 1 4 8
+ring size 16
+> fill ste 4 1
+filled
+> fill ste 5 2
+filled
+> fill ste 6 3
+filled
+> send 0 04000000050000000000000000000000
+sent 0 number 1
+> step 9
+applied CFGI_STE_RANGE sid=5 range=0 removed=2
+applied CMD_SYNC cs=1 msh=0 attr=0 data=1 addr=0x40000000 removed=0
+empty
+> dump
+prod 0x00000002
+cons 0x00000002
+gerror 0 gerrorn 0
+taken 2 applied 2 replaced 0 syncs 1 removed 2
+entry ste sid=6 value=3 born=0
+end",
+    );
+    expect_transcript(
+        &rt,
+        "a page of one address space, and all that is cached for a stream",
+        Status::Good,
+        "> ring 3 1 4 9
+ring size 8
+> fill s1 1 2 0x10 0 1
+filled
+> fill s1 1 3 0x10 0 2
+filled
+> fill ste 5 3
+filled
+> fill ste 6 4
+filled
+> inval 0 1 2 0x10 1
+sent 0 number 1
+> step 2
+applied TLBI_NH_VA vmid=1 asid=2 leaf=1 addr=0x10000 removed=1
+applied CMD_SYNC cs=1 msh=0 attr=0 data=1 addr=0x40000000 removed=0
+> detach 0 5
+sent 0 number 2
+> step 4
+applied CFGI_STE sid=5 leaf=1 removed=1
+applied CFGI_CD_ALL sid=5 removed=0
+applied ATC_INV sid=5 ssv=0 ssid=0 global=0 size=52 addr=0x0 removed=0
+applied CMD_SYNC cs=1 msh=0 attr=0 data=2 addr=0x40000000 removed=0
+> done 0
+done 0 up to 2
+> lookup ste 5
+absent
+> lookup ste 6
+found value=4 born=0
+> lookup s1 1 3 0x10 0
+found value=2 born=0
+> inval 0 1 2 0x10 0
+refused B3
+> inval 0 1 2 0xfffffffffffff 2
+refused B4",
+    );
+}

@@ -328,3 +328,20 @@ fn what_a_write_took_stays(rt: HostRuntime) -> Result<(), Fail> {
     }
     Ok(())
 }
+
+// A byte comes with each read, and two go with each write.
+#[test]
+fn an_interrupted_call_is_made_again(rt: HostRuntime) -> Result<(), Fail> {
+    let (script, answers) = halves(rt.alloc(), TRANSCRIPT)?;
+    let script = first_part(script.as_str());
+    // The last line of the part lacks its end.
+    let told = answered(TRANSCRIPT, script.len().saturating_add(1));
+    for bad in 1..100 {
+        let mut input = Source::new(script.as_bytes(), 1, bad, ErrorKind::Interrupted);
+        let mut output = Sink::new(2, bad, ErrorKind::Interrupted);
+        let ended = status_of(rt.alloc(), &mut input, &mut output);
+        assert_eq!(rt; ended, Status::Good, "{bad}");
+        assert_eq!(rt; Some(output.text()), answers.get(..told), "{bad}");
+    }
+    Ok(())
+}

@@ -122,7 +122,12 @@ fn a_ring_of_two_slots(rt: HostRuntime) {
 }
 
 /// Sends a batch so many times, and says of the last one how it went.
-fn send_times(ring: &Ring, sender: Sender, batch: &Batch, times: u32) -> (Sender, Result<u32, Cause>)
+fn send_times(
+    ring: &Ring,
+    sender: Sender,
+    batch: &Batch,
+    times: u32,
+) -> (Sender, Result<u32, Cause>)
     requires { sender.ring ≡ ring.now }
     ensures ring { result.0.ring ≡ ring.now }
 {

@@ -1,5 +1,5 @@
 //! A line of ten million bytes without an end: no more of it is read than tells that it is too long.
-use crate::served::{Kind, status_of};
+use crate::served::status_of;
 use fake_streams::{Pieces, Sink};
 use script::Status;
 use std::io;
@@ -7,12 +7,12 @@ use std::io::{ErrorKind, Read};
 use std::process::Abort;
 
 /// Serves these lines and then ten million spaces, and wants this text.
-fn expect_long_line<R: AllocGlobal + Abort>(rt: &R, kind: Kind, front: &str, text: &str) {
+fn expect_long_line<R: AllocGlobal + Abort>(rt: &R, front: &str, text: &str) {
     for most in [1, 1_000, 10_000] {
         let spaces = io::repeat(b' ').take(10_000_000);
         let mut input = Pieces::new(front.as_bytes().chain(spaces), most);
         let mut output = Sink::new(100, 0, ErrorKind::BrokenPipe);
-        let ended = status_of(kind, rt.alloc(), &mut input, &mut output);
+        let ended = status_of(rt.alloc(), &mut input, &mut output);
         assert_eq!(rt; ended, Status::Refused, "{front}");
         assert_eq!(rt; output.text(), text, "{front}");
         // The last read brought the byte that makes the line too long.
@@ -24,13 +24,11 @@ fn expect_long_line<R: AllocGlobal + Abort>(rt: &R, kind: Kind, front: &str, tex
 
 #[test]
 fn a_line_of_ten_million_bytes_comes_first(rt: HostRuntime) {
-    expect_long_line(&rt, Kind::Replay, "", "line 1: long line\n");
-    expect_long_line(&rt, Kind::Schedule, "", "line 1: long line\n");
+    expect_long_line(&rt, "", "line 1: long line\n");
 }
 
 #[test]
 fn a_line_of_ten_million_bytes_follows_a_good_one(rt: HostRuntime) {
     let text = "ring size 8\nline 2: long line\n";
-    expect_long_line(&rt, Kind::Replay, "ring 3 1 4 4\n", text);
-    expect_long_line(&rt, Kind::Schedule, "ring 3 1\n", text);
+    expect_long_line(&rt, "ring 3 1\n", text);
 }

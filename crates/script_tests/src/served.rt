@@ -1,6 +1,5 @@
-//! Scripts of either kind, and what is wanted of them.
+//! Schedules, and what is wanted of them.
 use fake_streams::{Sink, Source};
-use replay::replay;
 use schedule::schedule;
 use script::Status;
 use std::alloc::{AllocError, Global};
@@ -9,31 +8,15 @@ use std::process::Abort;
 
 const PIPE: ErrorKind = ErrorKind::BrokenPipe;
 
-/// What serves a script.
-#[derive(Clone, Copy)]
-pub enum Kind {
-    Replay,
-    Schedule,
-}
-
-// The theorem of either isn't passed on, since it would be dear in each test.
+// The theorem isn't passed on, since it would be dear in each test.
 /// Serves a script.
-pub fn status_of<R: Read, W: Write>(
-    kind: Kind,
-    alloc: Global,
-    input: &mut R,
-    output: &mut W,
-) -> Status {
-    match kind {
-        Kind::Replay => replay(alloc, input, output),
-        Kind::Schedule => schedule(alloc, input, output),
-    }
+pub fn status_of<R: Read, W: Write>(alloc: Global, input: &mut R, output: &mut W) -> Status {
+    schedule(alloc, input, output)
 }
 
 /// Serves a script, and wants this text and this status of it.
 pub fn expect_answer<R: AllocGlobal + Abort>(
     rt: &R,
-    kind: Kind,
     name: &str,
     script: &[u8],
     text: &str,
@@ -41,25 +24,19 @@ pub fn expect_answer<R: AllocGlobal + Abort>(
 ) {
     let mut input = script;
     let mut output = Vec::new(rt.alloc());
-    let ended = status_of(kind, rt.alloc(), &mut input, &mut output);
+    let ended = status_of(rt.alloc(), &mut input, &mut output);
     let answer = str::from_utf8(output.as_slice()).unwrap_or("no text");
     assert_eq!(rt; answer, text, "{name}");
     assert_eq!(rt; ended, status, "{name}");
 }
 
 /// Serves a script in pieces of several lengths, and wants this text and this status each time.
-pub fn expect_in_pieces<R: AllocGlobal + Abort>(
-    rt: &R,
-    kind: Kind,
-    script: &str,
-    text: &str,
-    status: Status,
-) {
+pub fn expect_in_pieces<R: AllocGlobal + Abort>(rt: &R, script: &str, text: &str, status: Status) {
     for read in [1, 7, 100_000] {
         for written in [1, 7, 100_000] {
             let mut input = Source::new(script.as_bytes(), read, 0, PIPE);
             let mut output = Sink::new(written, 0, PIPE);
-            let ended = status_of(kind, rt.alloc(), &mut input, &mut output);
+            let ended = status_of(rt.alloc(), &mut input, &mut output);
             assert_eq!(rt; ended, status, "{read} and {written}");
             assert_eq!(rt; output.text(), text, "{read} and {written}");
         }
@@ -67,11 +44,11 @@ pub fn expect_in_pieces<R: AllocGlobal + Abort>(
 }
 
 /// Has each write fail in turn, a byte at a time, and wants just the text before it.
-pub fn expect_failed_writes<R: AllocGlobal + Abort>(rt: &R, kind: Kind, script: &str, text: &str) {
+pub fn expect_failed_writes<R: AllocGlobal + Abort>(rt: &R, script: &str, text: &str) {
     for bad in 1..=text.len() {
         let mut input = Source::new(script.as_bytes(), 100, 0, PIPE);
         let mut output = Sink::new(1, bad, PIPE);
-        let ended = status_of(kind, rt.alloc(), &mut input, &mut output);
+        let ended = status_of(rt.alloc(), &mut input, &mut output);
         assert_eq!(rt; ended, Status::WriteFailed, "{bad}");
         assert_eq!(rt; Some(output.text()), text.get(..bad - 1), "{bad}");
         assert_eq!(rt; output.calls, bad);
@@ -106,14 +83,14 @@ fn script_of(alloc: Global, table: &str, last: &str) -> Result<String, AllocErro
 }
 
 /// Has each read fail in turn, a byte at a time, and wants just the answers to the lines whose ends were read.
-pub fn expect_failed_reads<R: AllocGlobal + Abort>(rt: &R, kind: Kind, table: &str, last: &str) {
+pub fn expect_failed_reads<R: AllocGlobal + Abort>(rt: &R, table: &str, last: &str) {
     let script = script_of(rt.alloc(), table, last).expect(rt, "there is memory");
     // The call after the last byte finds the end.
     for bad in 1..=script.len() + 1 {
         let text = answers_before(rt.alloc(), table, bad).expect(rt, "there is memory");
         let mut input = Source::new(script.as_bytes(), 1, bad, PIPE);
         let mut output = Sink::new(100, 0, PIPE);
-        let ended = status_of(kind, rt.alloc(), &mut input, &mut output);
+        let ended = status_of(rt.alloc(), &mut input, &mut output);
         assert_eq!(rt; ended, Status::ReadFailed, "{bad}");
         assert_eq!(rt; output.text(), text.as_str(), "{bad}");
     }

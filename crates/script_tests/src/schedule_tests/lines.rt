@@ -1,5 +1,6 @@
 //! What a line has to be, and what may stand before a ring is made and after.
-use super::playing::{expect_answer, expect_lines};
+use super::playing::expect_lines;
+use crate::served::expect_answer;
 use script::Status;
 use std::test::Fail;
 

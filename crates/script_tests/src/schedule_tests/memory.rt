@@ -1,5 +1,5 @@
 //! Allocations that fail.
-use crate::served::{Kind, status_of};
+use crate::served::status_of;
 use fake_streams::{Sink, answers_in, ends_without_memory};
 use script::Status;
 use std::io::ErrorKind;
@@ -23,7 +23,7 @@ const ANSWERS: [&str; 4] = [
 fn every_allocation_of_a_schedule(rt: HostRuntime) {
     let mut input = SCRIPT.as_bytes();
     let mut output = Sink::new(512, 0, ErrorKind::BrokenPipe);
-    let ended = status_of(Kind::Schedule, rt.alloc(), &mut input, &mut output);
+    let ended = status_of(rt.alloc(), &mut input, &mut output);
     let text = output.text();
     let outcome = match ended {
         Status::Good if answers_in(&ANSWERS, text) == Some(ANSWERS.len()) => "whole",

@@ -1,22 +1,10 @@
-//! A schedule, and the answer that is wanted of it.
-use crate::served;
-use crate::served::Kind;
+//! Schedules whose lines slashes end, and the answers that are wanted of them.
+use crate::served::expect_answer;
 use script::Status;
 use std::process::Abort;
 
 /// The command that X stands for: an invalidation of stream 5.
 const X: &str = "03000000050000000100000000000000";
-
-/// Plays a script, and wants this text and this status of it.
-pub fn expect_answer<R: AllocGlobal + Abort>(
-    rt: &R,
-    name: &str,
-    script: &[u8],
-    text: &str,
-    status: Status,
-) {
-    served::expect_answer(rt, Kind::Schedule, name, script, text, status);
-}
 
 /// The lines that a text has between its slashes, X standing for a command.
 fn spelled<R: AllocGlobal + Abort>(rt: &R, text: &str) -> String {
@@ -31,7 +19,7 @@ fn spelled<R: AllocGlobal + Abort>(rt: &R, text: &str) -> String {
     lines
 }
 
-/// The same of a script and a text whose lines slashes end.
+/// Plays a script, and wants a text and this status of it. Slashes end the lines of both.
 pub fn expect_lines<R: AllocGlobal + Abort>(rt: &R, script: &str, text: &str, status: Status) {
     let lines = spelled(rt, script);
     let wanted = spelled(rt, text);

@@ -1,5 +1,5 @@
 //! Readers and writers that move a byte at a time, or fail.
-use crate::served::{Kind, expect_failed_reads, expect_failed_writes, expect_in_pieces};
+use crate::served::{expect_failed_reads, expect_failed_writes, expect_in_pieces};
 use script::Status;
 
 const SCRIPT: &str = "ring 1 2\n\
@@ -24,14 +24,13 @@ const TEXT: &str = "ring size 2\n\
 
 #[test]
 fn answers_do_not_depend_on_the_pieces(rt: HostRuntime) {
-    expect_in_pieces(&rt, Kind::Schedule, SCRIPT, TEXT, Status::Refused);
+    expect_in_pieces(&rt, SCRIPT, TEXT, Status::Refused);
 }
 
 #[test]
 fn a_failed_read_leaves_the_answers_of_the_lines_read(rt: HostRuntime) {
     expect_failed_reads(
         &rt,
-        Kind::Schedule,
         "ring 1 2 = ring size 2\n\
          # nothing\n\
          look 0 = control 0 0 open\n\
@@ -42,5 +41,5 @@ fn a_failed_read_leaves_the_answers_of_the_lines_read(rt: HostRuntime) {
 
 #[test]
 fn nothing_is_written_after_a_failed_write(rt: HostRuntime) {
-    expect_failed_writes(&rt, Kind::Schedule, SCRIPT, TEXT);
+    expect_failed_writes(&rt, SCRIPT, TEXT);
 }
