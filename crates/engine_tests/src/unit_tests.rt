@@ -74,12 +74,12 @@ fn entries_of_an_empty_unit_and_while_stopped(rt: HostRuntime) -> Result<(), Cac
     unit.fill(context, 8)?;
     assert_eq!(rt; unit.judge(ILLEGAL), Verdict::Stopped(Ill::UnknownOpcode));
     let held = [first_entry(context, 8)];
-    assert_eq!(rt; unit.entries()?.as_slice(), held);
+    assert_eq!(rt; unit.entries()?.as_slice(), held.as_slice());
     unit.fill(stream, 7)?;
     let held = [first_entry(stream, 7), first_entry(context, 8)];
-    assert_eq!(rt; unit.entries()?.as_slice(), held);
+    assert_eq!(rt; unit.entries()?.as_slice(), held.as_slice());
     assert_eq!(rt; unit.acknowledge(1, Remedy::Replace), Ok(()));
     assert_eq!(rt; unit.judge(ILLEGAL), Verdict::Replaced(Ill::UnknownOpcode));
-    assert_eq!(rt; unit.entries()?.as_slice(), held);
+    assert_eq!(rt; unit.entries()?.as_slice(), held.as_slice());
     Ok(())
 }

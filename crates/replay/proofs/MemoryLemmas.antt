@@ -1,16 +1,15 @@
 -- Lines at which memory is wanting answer as they do where it is had, or tell of it.
-use Rattle.std.proofs.Common.{◌≡◌, ℕ, ◌+◌, Bool, true, false, ◌==◌, not, cond, List, [], ◌∷◌, ◌++◌, ◌⊎◌, length, refl, ap, sym, ◌∙◌, Option, Some, None, inl, inr, Err, codes, append_assoc, subst}
+use Rattle.std.proofs.Common.{◌≡◌, ℕ, ◌+◌, Bool, true, false, ◌==◌, not, cond, List, [], ◌∷◌, ◌++◌, ◌⊎◌, length, refl, ap, sym, ◌∙◌, Option, Some, None, inl, inr, codes, append_assoc, subst}
 use Rattle.std.specs.Prelude.{nat_lt, is_some}
 use Rattle.std.specs.FinMap as finite
 use Rattle.caches.specs.declared.tag.Tag.{Tag}
-use Rattle.caches.specs.declared.fault.CacheFault.{CacheFault}
 use Rattle.caches.specs.declared.fault.CacheFault.TheVariants.{Full, BadBlock, NoMemory}
 use Rattle.script.specs.Answers.{Answer, with_text}
 use Rattle.script.specs.Effects.{Effect, faults}
 use Rattle.script.specs.Kinds.{request_effect, asked_effect, line_effect, after_effect, first_choice, later_choice, answer_from}
 use Rattle.simulator.specs.Blocks.{is_block}
 use Rattle.simulator.specs.State.{State, entries}
-use Rattle.simulator.specs.Fills.{fill_fault, filled_unless, filled}
+use Rattle.simulator.specs.Fills.{filled_unless, filled}
 use Rattle.replay.specs.declared.request.Request.{Request}
 use Rattle.replay.specs.declared.request.Request.TheVariants as asks
 use Rattle.replay.specs.effects.CacheEffects.{fill_text, fill_effect}
