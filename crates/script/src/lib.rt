@@ -5,10 +5,12 @@ mod ending;
 mod error;
 mod fields;
 mod interpreter;
+mod kind;
 mod pending;
 mod run;
 mod sending;
 mod serving;
+mod session;
 mod status;
 mod telling;
 mod words;
@@ -19,7 +21,9 @@ pub use fields::{
     is_comment, is_end, is_text, next_below, next_below_or, next_u8, next_u32, next_u64, raw,
 };
 pub use interpreter::{Interpreter, LONGEST_LINE};
+pub use kind::ScriptKind;
 pub use serving::serve;
+pub use session::{parse, serve_script};
 pub use status::{Status, status_of};
 pub use telling::{say_fault, say_ring};
 pub use words::{next_word, number};

@@ -1,5 +1,5 @@
 use Rattle.schedule.proofs.ServedLemmas.{ring_made}
-use Rattle.schedule.proofs.interpreter.first_ring.Goals as goal
+use Rattle.schedule.proofs.kind.first_ring.Goals as goal
 
 pub returns-in_ok-say_ring-in-Ok : goal.returns-in_ok-say_ring-in-Ok
 returns-in_ok-say_ring-in-Ok c =
