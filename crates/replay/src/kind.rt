@@ -1,6 +1,6 @@
 //! Replays, a kind of script.
-ghost use Rattle.std.specs.Prelude.{◌≡◌, IfOk, None, string_bytes};
-ghost use Rattle.script.specs.Standing.{ActsAt};
+ghost use Rattle.std.specs.Prelude.{IfOk};
+ghost use Rattle.script.specs.Standing.{Begins};
 ghost use Rattle.simulator.specs.Shapes.{shape_fault};
 ghost use Rattle.simulator.specs.Standing.{Stands};
 ghost use Rattle.replay.specs.ReplayText.{ring_or_fault};
@@ -8,30 +8,24 @@ ghost use Rattle.replay.specs.ReplayText.{ring_or_fault};
 use crate::lines::serve_made;
 use crate::parsing::parse_named;
 use crate::request::Request;
-use script::{ScriptKind, say_fault, say_ring};
+use script::{First, ScriptKind};
 use simulator::{Shape, ShapeFault, Simulator};
 use std::alloc::{AllocError, Global};
-use std::fmt::Write;
 
-/// Makes a ring and its unit, where the numbers are in range. Says whether the run goes on.
-fn first_ring(
-    alloc: Global,
-    number: u64,
-    shape: &Shape,
-    reply: &mut String,
-) -> Result<(Option<Simulator>, bool), AllocError>
-    ensures { IfOk result (λ first. ActsAt Stands (λ wanting state. ring_or_fault number shape.now (shape_fault shape.now)) None first.0 (string_bytes reply.old) (string_bytes reply.new) first.1) }
+/// Makes a ring and its unit, where the numbers are in range.
+fn first_ring(alloc: Global, shape: &Shape) -> Result<First<Simulator>, AllocError>
+    ensures { IfOk result (λ first. Begins Stands first (λ number. ring_or_fault number shape.now (shape_fault shape.now))) }
 {
     match Simulator::new(alloc, shape) {
-        Ok(simulator) => {
-            say_ring(shape.log2, reply)?;
-            Ok((Some(simulator), true))
-        }
+        Ok(simulator) => Ok(First::Made {
+            log2: shape.log2,
+            kept: simulator,
+        }),
+        Err(ShapeFault::Size) => Ok(First::Fault("N1")),
+        Err(ShapeFault::Senders) => Ok(First::Fault("N2")),
+        Err(ShapeFault::Batches) => Ok(First::Fault("N3")),
+        Err(ShapeFault::Capacity) => Ok(First::Fault("C4")),
         Err(ShapeFault::Memory(error)) => Err(error),
-        Err(fault) => {
-            write!(reply, "line {number}: {fault}\n")?;
-            Ok((None, false))
-        }
     }
 }
 
@@ -64,19 +58,22 @@ impl ScriptKind for Replay {
         parse_named(alloc, name, rest)
     }
 
-    fn serve_first(
-        alloc: Global,
-        number: u64,
-        request: &Request,
-        reply: &mut String,
-    ) -> Result<(Option<Simulator>, bool), AllocError> {
+    #[tactic(auto, unfolding(crate::specs::ReplayText::first_served))]
+    fn first(alloc: Global, request: &Request) -> Result<First<Simulator>, AllocError> {
         match request {
-            Request::Nothing => Ok((None, true)),
-            Request::Ring(shape) => first_ring(alloc, number, shape, reply),
-            _ => {
-                say_fault(number, "no ring", reply)?;
-                Ok((None, false))
-            }
+            Request::Nothing => Ok(First::Nothing),
+            Request::Ring(shape) => first_ring(alloc, shape),
+            Request::Fill { .. }
+            | Request::Evict { .. }
+            | Request::Lookup { .. }
+            | Request::Send(_)
+            | Request::Publish { .. }
+            | Request::Step { .. }
+            | Request::Acknowledge { .. }
+            | Request::Done { .. }
+            | Request::Look { .. }
+            | Request::Close { .. }
+            | Request::Dump => Ok(First::Fault("no ring")),
         }
     }
 

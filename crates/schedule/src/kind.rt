@@ -1,7 +1,7 @@
 //! Schedules, a kind of script.
-ghost use Rattle.std.specs.Prelude.{◌≡◌, IfOk, None, string_bytes};
+ghost use Rattle.std.specs.Prelude.{◌≡◌, IfOk, string_bytes};
 ghost use Rattle.ringcore.specs.machine.Core.{number_fault};
-ghost use Rattle.script.specs.Standing.{Acts, ActsAt};
+ghost use Rattle.script.specs.Standing.{Acts, Begins};
 ghost use Rattle.schedule.specs.ScheduleText.{ring_or_fault, asked_effect, served};
 ghost use Rattle.schedule.specs.Standing.{Stands};
 ghost use Rattle.schedule.specs.Steps.{step_of};
@@ -11,33 +11,18 @@ use crate::parsing::parse_named;
 use crate::request::Request;
 use crate::telling::{say_answer, say_step_fault};
 use ringcore::{Core, CoreFault, Seen, StepFault};
-use script::{ScriptKind, say_fault, say_ring};
+use script::{First, ScriptKind, say_fault};
 use std::alloc::{AllocError, Global};
 
-/// Makes a ring, where its numbers are in range. Says whether the run goes on.
-fn first_ring(
-    alloc: Global,
-    number: u64,
-    log2: u32,
-    senders: u32,
-    reply: &mut String,
-) -> Result<(Option<Core>, bool), AllocError>
-    ensures { IfOk result (λ first. ActsAt Stands (λ wanting state. ring_or_fault number log2 senders (number_fault log2 senders)) None first.0 (string_bytes reply.old) (string_bytes reply.new) first.1) }
+/// Makes a ring, where its numbers are in range.
+fn first_ring(alloc: Global, log2: u32, senders: u32) -> Result<First<Core>, AllocError>
+    ensures { IfOk result (λ first. Begins Stands first (λ number. ring_or_fault number log2 senders (number_fault log2 senders))) }
 {
     match Core::new(alloc, log2, senders) {
-        Ok(core) => {
-            say_ring(log2, reply)?;
-            Ok((Some(core), true))
-        }
-        Err(CoreFault::Size) => {
-            say_fault(number, "N1", reply)?;
-            Ok((None, false))
-        }
-        Err(CoreFault::Senders) => {
-            say_fault(number, "N2", reply)?;
-            Ok((None, false))
-        }
-        Err(CoreFault::Memory(e)) => Err(e),
+        Ok(core) => Ok(First::Made { log2, kept: core }),
+        Err(CoreFault::Size) => Ok(First::Fault("N1")),
+        Err(CoreFault::Senders) => Ok(First::Fault("N2")),
+        Err(CoreFault::Memory(error)) => Err(error),
     }
 }
 
@@ -120,19 +105,21 @@ impl ScriptKind for Schedule {
         parse_named(alloc, name, rest)
     }
 
-    fn serve_first(
-        alloc: Global,
-        number: u64,
-        request: &Request,
-        reply: &mut String,
-    ) -> Result<(Option<Core>, bool), AllocError> {
+    #[tactic(auto, unfolding(crate::specs::ScheduleText::first_served))]
+    fn first(alloc: Global, request: &Request) -> Result<First<Core>, AllocError> {
         match request {
-            Request::Nothing => Ok((None, true)),
-            Request::Ring { log2, senders } => first_ring(alloc, number, *log2, *senders, reply),
-            _ => {
-                say_fault(number, "no ring", reply)?;
-                Ok((None, false))
-            }
+            Request::Nothing => Ok(First::Nothing),
+            Request::Ring { log2, senders } => first_ring(alloc, *log2, *senders),
+            Request::Look { .. }
+            | Request::Reserve { .. }
+            | Request::Write { .. }
+            | Request::Flip { .. }
+            | Request::Test { .. }
+            | Request::Read { .. }
+            | Request::Advance { .. }
+            | Request::Close { .. }
+            | Request::Acknowledge { .. }
+            | Request::Ask { .. } => Ok(First::Fault("no ring")),
         }
     }
 

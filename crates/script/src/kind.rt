@@ -1,9 +1,10 @@
 //! Kinds of script, whose lines make a ring before anything else.
-ghost use Rattle.std.specs.Prelude.{◌≡◌, IfOk, None, string_bytes};
+ghost use Rattle.std.specs.Prelude.{◌≡◌, IfOk, string_bytes};
 ghost use Rattle.script.specs.Kinds.{Kind};
-ghost use Rattle.script.specs.Standing.{Acts, ActsAt};
+ghost use Rattle.script.specs.Standing.{Acts, Begins};
 ghost use Rattle.script.specs.Words.{words_of};
 
+use crate::first::First;
 use std::alloc::{AllocError, Global};
 
 /// A kind of script: what its lines ask for, and what is kept between two of them once a ring is made.
@@ -35,14 +36,9 @@ pub trait ScriptKind {
     ) -> Result<Option<Self::Request>, AllocError>
         ensures { IfOk result (λ request. request ≡ kind.named name.now (words_of rest.now)) };
 
-    /// Serves a request where no ring is made yet. Says what it made, and whether the run goes on.
-    fn serve_first(
-        alloc: Global,
-        number: u64,
-        request: &Self::Request,
-        reply: &mut String,
-    ) -> Result<(Option<Self::Kept>, bool), AllocError>
-        ensures { IfOk result (λ first. ActsAt stands (λ wanting state. kind.first_served number request.now) None first.0 (string_bytes reply.old) (string_bytes reply.new) first.1) };
+    /// What a request comes to where no ring is made yet.
+    fn first(alloc: Global, request: &Self::Request) -> Result<First<Self::Kept>, AllocError>
+        ensures { IfOk result (λ first. Begins stands first (λ number. kind.first_served number request.now)) };
 
     /// Serves a request once the ring is made, and says whether the run goes on.
     fn serve_made(

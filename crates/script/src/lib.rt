@@ -4,6 +4,7 @@
 mod ending;
 mod error;
 mod fields;
+mod first;
 mod interpreter;
 mod kind;
 mod pending;
@@ -20,6 +21,7 @@ pub use error::ServeError;
 pub use fields::{
     is_comment, is_end, is_text, next_below, next_below_or, next_u8, next_u32, next_u64, raw,
 };
+pub use first::First;
 pub use interpreter::{Interpreter, LONGEST_LINE};
 pub use kind::ScriptKind;
 pub use serving::serve;

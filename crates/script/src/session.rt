@@ -9,10 +9,11 @@ ghost use Rattle.script.specs.Words.{words_of};
 use crate::ending::Ending;
 use crate::error::ServeError;
 use crate::fields::{is_comment, is_text};
+use crate::first::First;
 use crate::interpreter::Interpreter;
 use crate::kind::ScriptKind;
 use crate::serving::serve;
-use crate::telling::say_fault;
+use crate::telling::{say_fault, say_ring};
 use crate::words::next_word;
 use std::alloc::{AllocError, Global};
 use std::io::{Read, Write};
@@ -60,6 +61,30 @@ impl<K: ScriptKind> Session<K> {
         Session { alloc, kept: None }
     }
 
+    // Serves a request where no ring is made yet.
+    fn serve_first(
+        &mut self,
+        number: u64,
+        request: &K::Request,
+        reply: &mut String,
+    ) -> Result<bool, AllocError>
+        requires { self.old.kept ≡ None }
+        ensures { IfOk result (λ goes_on. ActsAt K.stands (λ wanting state. K.kind.first_served number request.now) None self.new.kept (string_bytes reply.old) (string_bytes reply.new) goes_on) }
+    {
+        match K::first(self.alloc, request)? {
+            First::Nothing => Ok(true),
+            First::Made { log2, kept } => {
+                say_ring(log2, reply)?;
+                self.kept = Some(kept);
+                Ok(true)
+            }
+            First::Fault(name) => {
+                say_fault(number, name, reply)?;
+                Ok(false)
+            }
+        }
+    }
+
     fn serve_request(
         &mut self,
         number: u64,
@@ -70,11 +95,7 @@ impl<K: ScriptKind> Session<K> {
     {
         match &mut self.kept {
             Some(kept) => K::serve_made(kept, number, request, reply),
-            None => {
-                let (kept, goes_on) = K::serve_first(self.alloc, number, request, reply)?;
-                self.kept = kept;
-                Ok(goes_on)
-            }
+            None => self.serve_first(number, request, reply),
         }
     }
 

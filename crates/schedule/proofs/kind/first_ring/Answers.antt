@@ -1,6 +1,10 @@
-use Rattle.schedule.proofs.ServedLemmas.{ring_made}
+use Rattle.std.proofs.Common.{◌≤◌, ap, rules}
+use Rattle.schedule.specs.ScheduleText.{made, ring_or_fault}
 use Rattle.schedule.proofs.kind.first_ring.Goals as goal
 
-pub returns-in_ok-say_ring-in-Ok : goal.returns-in_ok-say_ring-in-Ok
-returns-in_ok-say_ring-in-Ok c =
-    ring_made c.args.number c.args.log2 c.args.senders c.in-Ok.core _ _ c.in-Ok.ensures.made c.in_ok-say_ring-in-Ok.ensures
+pub returns-in-Ok : goal.returns-in-Ok
+returns-in-Ok c =
+    let new = c.in-Ok.ensures.made in
+    let numbers = new.numbers in
+    let small : c.args.log2 ≤ 19 = search rules in
+    (small, made c.args.log2 c.args.senders, record { ring = new.ring; run = new.stands }, λ number. ap (ring_or_fault number c.args.log2 c.args.senders) numbers)

@@ -9,8 +9,8 @@ returns-in-Some g c =
     acts_after g.K.ScriptKind.kind g.K.ScriptKind.stands c.args.number c.args.request.now c.args.self.now.kept c.in-Some.kept c.serve_made.new.kept
     (string_bytes c.args.reply.now) (string_bytes c.serve_made.new.reply) goes_on c.in-Some.is acts) c.serve_made.ensures
 
-pub returns-in_ok-kept-in-None : goal.returns-in_ok-kept-in-None
-returns-in_ok-kept-in-None g c =
-    let first = c.in_ok-kept-in-None in
-    acts_first g.K.ScriptKind.kind g.K.ScriptKind.stands c.args.number c.args.request.now c.args.self.now.kept first.kept
-    (string_bytes c.args.reply.now) (string_bytes c.serve_first.new.reply) first.goes_on c.in-None.is first.ensures
+pub returns-in-None : goal.returns-in-None
+returns-in-None g c =
+    IfOk-weaker c.serve_first.result _ _ (λ goes_on acts.
+    acts_first g.K.ScriptKind.kind g.K.ScriptKind.stands c.args.number c.args.request.now c.args.self.now.kept c.serve_first.new.self.kept
+    (string_bytes c.args.reply.now) (string_bytes c.serve_first.new.reply) goes_on c.in-None.is acts) c.serve_first.ensures
