@@ -6,7 +6,7 @@ use Rattle.caches.specs.declared.tag.Tag.{Tag}
 use Rattle.caches.specs.declared.fault.CacheFault.TheVariants.{Full, BadBlock, NoMemory}
 use Rattle.script.specs.Answers.{Answer, with_text}
 use Rattle.script.specs.Effects.{Effect, faults}
-use Rattle.script.specs.Kinds.{request_effect, asked_effect, line_effect, after_effect, first_choice, later_choice, answer_from}
+use Rattle.script.specs.Kinds.{request_of, request_effect, asked_effect, line_effect, after_effect, first_choice, later_choice, answer_from}
 use Rattle.simulator.specs.Blocks.{is_block}
 use Rattle.simulator.specs.State.{State, entries}
 use Rattle.simulator.specs.Fills.{filled_unless, filled}
@@ -75,8 +75,8 @@ line_told : (number : ℕ) (wanting : Bool) (line : List ℕ) (state : Option St
     → (line_effect replays number wanting line state ≡ line_effect replays number false line state) ⊎ IsRefused (line_effect replays number wanting line state)
 unfolding line_effect
 line_told number wanting line state =
-    either_told (nat_lt 4096 (length line)) (faults number (codes "long line") state) (asked_effect replays number wanting (replays.request_of line) state)
-    (asked_effect replays number false (replays.request_of line) state) (asked_told number wanting (replays.request_of line) state)
+    either_told (nat_lt 4096 (length line)) (faults number (codes "long line") state) (asked_effect replays number wanting (request_of replays line) state)
+    (asked_effect replays number false (request_of replays line) state) (asked_told number wanting (request_of replays line) state)
 
 -- ---- one line after another
 

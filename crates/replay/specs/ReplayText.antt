@@ -11,7 +11,7 @@ use Rattle.simulator.specs.Shapes.{fault_label, shape_fault}
 use Rattle.simulator.specs.State.{State, made}
 use Rattle.replay.specs.declared.request.Request.{Request}
 use Rattle.replay.specs.declared.request.Request.TheVariants as asks
-use Rattle.replay.specs.requests.Whole.{request_of}
+use Rattle.replay.specs.requests.Whole.{named}
 use Rattle.replay.specs.effects.CacheEffects.{fill_effect, evict_effect, lookup_effect}
 use Rattle.replay.specs.effects.SendEffects.{send_effect}
 use Rattle.replay.specs.effects.SenderEffects.{look_effect, close_effect, done_effect, publish_effect}
@@ -45,8 +45,8 @@ first_served number (asks.Ring shape) = ring_or_fault number shape (shape_fault 
 first_served number request = faults number (codes "no ring") None
 
 -- Memory may be wanting for a fill of a new tag that there is room for.
-abbrev pub replays : Kind
-replays = record { State = State; Request = Request; request_of = request_of; first_served = first_served; served = served }
+abbrev pub replays : Kind State Request
+replays = record { nothing = asks.Nothing; named = named; first_served = first_served; served = served }
 
 -- The answer to a script. Where memory is never wanting the choice is [].
 abbrev pub answer_to : List Bool → List ℕ → Answer

@@ -1,7 +1,7 @@
 //! Replays: scripts that make a ring, fill the caches, send commands and take them.
 #![tactic(auto)]
 
-mod interpreter;
+mod kind;
 mod laws;
 mod lines;
 mod parsing;

@@ -1,7 +1,7 @@
 //! From a line to what it asks for.
 ghost use Rattle.std.specs.Prelude.{◌≡◌, IfOk};
 ghost use Rattle.script.specs.Words.{words_of};
-ghost use Rattle.replay.specs.requests.Whole.{unit_line, sender_line, plain_line, named, request_from, request_of};
+ghost use Rattle.replay.specs.requests.Whole.{unit_line, sender_line, plain_line, named};
 
 mod cache_lines;
 mod numbers;
@@ -13,7 +13,6 @@ mod unit_lines;
 use crate::request::Request;
 use cache_lines::{parse_evict, parse_fill, parse_lookup};
 use ring_line::parse_ring;
-use script::{is_comment, is_text, next_word};
 use send_lines::{parse_commands, parse_detach, parse_inval, parse_publish};
 use std::alloc::{AllocError, Global};
 use unit_lines::{parse_ack, parse_close, parse_done, parse_dump, parse_look, parse_step};
@@ -71,8 +70,9 @@ fn parse_plain_line(name: &[u8], rest: &[u8]) -> Option<Request>
     }
 }
 
+/// What a line asks for by its first word and the text after it. None is a bad line.
 #[tactic(auto, unfolding(crate::specs::requests::Whole::named))]
-fn parse_named(alloc: Global, name: &[u8], rest: &[u8]) -> Result<Option<Request>, AllocError>
+pub(crate) fn parse_named(alloc: Global, name: &[u8], rest: &[u8]) -> Result<Option<Request>, AllocError>
     ensures { IfOk result (λ request. request ≡ named name.now (words_of rest.now)) }
 {
     if name == b"send".as_slice() {
@@ -85,30 +85,5 @@ fn parse_named(alloc: Global, name: &[u8], rest: &[u8]) -> Result<Option<Request
         parse_commands(alloc, false, false, rest)
     } else {
         Ok(parse_plain_line(name, rest))
-    }
-}
-
-fn parse_words(alloc: Global, line: &[u8]) -> Result<Option<Request>, AllocError>
-    ensures { IfOk result (λ request. request ≡ request_from (words_of line.now)) }
-{
-    let Some((name, rest)) = next_word(line) else {
-        return Ok(Some(Request::Nothing));
-    };
-    if is_comment(name) {
-        Ok(Some(Request::Nothing))
-    } else {
-        parse_named(alloc, name, rest)
-    }
-}
-
-/// What a line asks for. None is a bad line.
-#[tactic(auto, unfolding(crate::specs::requests::Whole::request_of))]
-pub(crate) fn parse(alloc: Global, line: &[u8]) -> Result<Option<Request>, AllocError>
-    ensures { IfOk result (λ request. request ≡ request_of line.now) }
-{
-    if is_text(line) {
-        parse_words(alloc, line)
-    } else {
-        Ok(None)
     }
 }

@@ -4,8 +4,8 @@ ghost use Rattle.script.specs.Serves.{Serves};
 ghost use Rattle.replay.specs.ReplayText.{replays};
 ghost use Rattle.replay.specs.Replaying.{Replays};
 
-use crate::interpreter::Replay;
-use script::{Ending, ServeError, Status, status_of};
+use crate::kind::Replay;
+use script::{Ending, ServeError, Status, serve_script, status_of};
 use std::alloc::Global;
 use std::io::{Read, Write};
 
@@ -20,8 +20,7 @@ pub fn serve<R: Read, W: Write>(
 ) -> Result<Ending, ServeError>
     ensures { Serves (MayAnswer replays) result (R.remaining input.old) (R.remaining input.new) (W.contents output.old) (W.contents output.new) }
 {
-    let mut replay = Replay::new(alloc);
-    script::serve(alloc, &mut replay, input, output)
+    serve_script::<Replay, R, W>(alloc, input, output)
 }
 
 /// Reads a script and writes its answers, the line `no memory` among them, and says how it went.

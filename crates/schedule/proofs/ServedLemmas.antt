@@ -1,23 +1,21 @@
 -- From what a request's own part does to what the request does.
 use Rattle.std.proofs.Common.{◌≡◌, ℕ, Bool, true, false, List, ◌∷◌, ◌++◌, ap, refl, sym, ◌∙◌, Option, Some, None, Ok, Err, IfSome, subst, codes}
 use Rattle.script.specs.Outcome.{fault_line}
-use Rattle.script.specs.Texts.{ring_text}
 use Rattle.script.specs.Effects.{answers, faults}
-use Rattle.script.specs.Standing.{Acts, ActsAt}
-use Rattle.script.proofs.EffectLemmas.{produces_at, fault_told, nothing_first, fault_first, answer_first}
-use Rattle.ringcore.specs.declared.machine.core_fault.CoreFault.{CoreFault}
+use Rattle.script.specs.Standing.{Acts}
+use Rattle.script.proofs.EffectLemmas.{produces_at, fault_told}
 use Rattle.ringcore.specs.declared.machine.step.Step.{Step}
 use Rattle.ringcore.specs.declared.machine.step.Seen.{Seen}
 use Rattle.ringcore.specs.declared.machine.step_fault.StepFault.{StepFault}
 use Rattle.ringcore.specs.world.Allowed.{Ring}
 use Rattle.ringcore.specs.machine.Faults.{fault_of}
-use Rattle.ringcore.specs.machine.FaultNames.{label_of, core_label}
+use Rattle.ringcore.specs.machine.FaultNames.{label_of}
 use Rattle.ringcore.specs.machine.StepAnswers.{event_of}
-use Rattle.ringcore.specs.machine.Core.{CoreValue, StandsAfter, ring_of, IsNew, number_fault, IsRefused, IsTaken, answer_to as seen_by}
+use Rattle.ringcore.specs.machine.Core.{CoreValue, StandsAfter, ring_of, IsRefused, IsTaken, answer_to as seen_by}
 use Rattle.schedule.specs.declared.request.Request.{Request}
 use Rattle.schedule.specs.declared.request.Request.TheVariants as asks
 use Rattle.schedule.specs.Texts.{answer_line}
-use Rattle.schedule.specs.ScheduleText.{State, made, ring_or_fault, taken, step_or_fault, step_effect, asked_effect, served, first_served}
+use Rattle.schedule.specs.ScheduleText.{State, taken, step_or_fault, step_effect, asked_effect, served}
 use Rattle.schedule.specs.Steps.{step_of}
 use Rattle.schedule.specs.Taking.{IsAnswered}
 use Rattle.schedule.specs.Standing.{Stands}
@@ -91,48 +89,3 @@ pub served_ring : (number : ℕ) (request : Request) (log2 senders : ℕ) (core 
 unfolding served
 served_ring number request log2 senders core before after e text =
     fault_told Stands (λ wanting. served number request) core core number (codes "second ring") before after (λ state s. ap (λ r. served number r state) e) text
-
--- ---- before
-
-pub first_nothing : (number : ℕ) (request : Request) (core : Option CoreValue) (text : List ℕ) → core ≡ None → request ≡ asks.Nothing
-    → ActsAt Stands (λ wanting state. first_served number request) None core text text true
-unfolding first_served
-first_nothing number request core text none e = nothing_first Stands (first_served number request) core text none (ap (first_served number) e)
-
--- a request that wants a ring
-first_other : (number : ℕ) (request : Request) → (request ≡ asks.Nothing → ⊥) → ((log2 senders : ℕ) → request ≡ asks.Ring log2 senders → ⊥)
-    → first_served number request ≡ faults number (codes "no ring") None
-unfolding first_served
-first_other number asks.Nothing not_nothing not_ring = absurd (not_nothing refl)
-first_other number (asks.Ring log2 senders) not_nothing not_ring = absurd (not_ring log2 senders refl)
-first_other number (asks.Look who) not_nothing not_ring = refl
-first_other number (asks.Reserve sender body closes) not_nothing not_ring = refl
-first_other number (asks.Write sender slot half) not_nothing not_ring = refl
-first_other number (asks.Flip sender slot count is_counted) not_nothing not_ring = refl
-first_other number (asks.Test slot count is_counted) not_nothing not_ring = refl
-first_other number (asks.Read slot half) not_nothing not_ring = refl
-first_other number (asks.Advance count is_counted) not_nothing not_ring = refl
-first_other number (asks.Close sender) not_nothing not_ring = refl
-first_other number (asks.Acknowledge sender sync) not_nothing not_ring = refl
-first_other number (asks.Ask sender) not_nothing not_ring = refl
-
-pub first_fault : (number : ℕ) (request : Request) (core : Option CoreValue) (before after : List ℕ) → (request ≡ asks.Nothing → ⊥)
-    → ((log2 senders : ℕ) → request ≡ asks.Ring log2 senders → ⊥) → after ≡ before ++ fault_line number (codes "no ring")
-    → ActsAt Stands (λ wanting state. first_served number request) None core before after false
-first_fault number request core before after not_nothing not_ring text =
-    fault_first Stands (first_served number request) core number (codes "no ring") before after (first_other number request not_nothing not_ring) text
-
-pub first_ring_is : (number : ℕ) (request : Request) (log2 senders : ℕ) → request ≡ asks.Ring log2 senders → first_served number request ≡ ring_or_fault number log2 senders (number_fault log2 senders)
-unfolding first_served
-first_ring_is number request log2 senders e = ap (first_served number) e
-
-pub ring_refused : (number log2 senders : ℕ) (fault : CoreFault) (new : Option CoreValue) (before after : List ℕ) → number_fault log2 senders ≡ Some fault
-    → after ≡ before ++ fault_line number (core_label fault) → ActsAt Stands (λ wanting state. ring_or_fault number log2 senders (number_fault log2 senders)) None new before after false
-ring_refused number log2 senders fault new before after e text =
-    fault_first Stands (ring_or_fault number log2 senders (number_fault log2 senders)) new number (core_label fault) before after (ap (ring_or_fault number log2 senders) e) text
-
-pub ring_made : (number log2 senders : ℕ) (new : CoreValue) (before after : List ℕ) → IsNew new log2 senders → after ≡ before ++ ring_text log2
-    → ActsAt Stands (λ wanting state. ring_or_fault number log2 senders (number_fault log2 senders)) None (Some new) before after true
-ring_made number log2 senders new before after fresh text =
-    answer_first Stands (ring_or_fault number log2 senders (number_fault log2 senders)) new (made log2 senders) (ring_text log2) before after
-    (ap (ring_or_fault number log2 senders) fresh.numbers) (record { ring = fresh.ring; run = fresh.stands }) text

@@ -1,11 +1,9 @@
 -- What the lines of a schedule ask for.
 use Rattle.std.specs.Prelude.{ℕ, ◌^◌, nat_le, List, [], ◌∷◌, ◌&&◌, Bool, true, false, Option, Some, None, take, option_map, codes, if◌then◌else◌}
-use Rattle.std.specs.List.{list_all}
 use Rattle.std.specs.Str.{bytes_eq}
 use Rattle.arrayvec.specs.ArrayVec.{ArrayVec}
 use Rattle.cmdcodec.specs.declared.raw.Raw.{Raw}
-use Rattle.script.specs.Words.{words_of}
-use Rattle.script.specs.Fields.{◌>>=◌, guard, next_below, is_end, hex_of, is_comment, is_printable}
+use Rattle.script.specs.Fields.{◌>>=◌, guard, next_below, is_end, hex_of}
 use Rattle.schedule.specs.declared.request.Request.{Request}
 use Rattle.schedule.specs.declared.request.Request.TheVariants as asks
 
@@ -148,11 +146,3 @@ named name words =
     if bytes_eq name (codes "reserve") then reserve_of true words
     else if bytes_eq name (codes "bare") then reserve_of false words
     else plain_line name words
-
-abbrev pub request_from : List (List ℕ) → Option Request
-request_from [] = Some asks.Nothing
-request_from (name ∷ words) = if is_comment name then Some asks.Nothing else named name words
-
--- what a line asks for; None is a bad line
-unfoldable pub request_of : List ℕ → Option Request
-request_of line = if list_all is_printable line then request_from (words_of line) else None

@@ -16,7 +16,7 @@ use Rattle.ringcore.specs.machine.StepAnswers.{event_of}
 use Rattle.ringcore.specs.machine.Core.{ring_with, number_fault, answer_to as seen_by}
 use Rattle.schedule.specs.declared.request.Request.{Request}
 use Rattle.schedule.specs.declared.request.Request.TheVariants as asks
-use Rattle.schedule.specs.Lines.{request_of}
+use Rattle.schedule.specs.Lines.{named}
 use Rattle.schedule.specs.Steps.{step_of}
 use Rattle.schedule.specs.Texts.{answer_line}
 
@@ -69,14 +69,12 @@ first_served number (asks.Ring log2 senders) = ring_or_fault number log2 senders
 first_served number request = faults number (codes "no ring") None
 
 -- A schedule's requests don't look at whether memory runs out, so that a script has one answer.
-abbrev pub schedules : Kind
-schedules = record {
-  State = State;
-  Request = Request;
-  request_of = request_of;
-  first_served = first_served;
-  served = λ number wanting. served number;
-}
+abbrev pub schedules : Kind State Request
+schedules = record { nothing = asks.Nothing; named = named; first_served = first_served; served = λ number wanting. served number; }
+
+-- what a line asks for; None is a bad line
+abbrev pub request_of : List ℕ → Option Request
+request_of line = kinds.request_of schedules line
 
 -- the answer to a script
 abbrev pub answer_to : List ℕ → Answer

@@ -2,7 +2,7 @@
 #![tactic(auto)]
 
 mod body;
-mod interpreter;
+mod kind;
 mod parsing;
 mod request;
 mod serving;

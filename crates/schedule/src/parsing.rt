@@ -1,12 +1,14 @@
 //! From a line to what it asks for.
 ghost use Rattle.std.specs.Prelude.{◌≡◌, ◌≤◌, [], ◌∷◌, ◌++◌, length, take, option_map, IfOk};
 ghost use Rattle.script.specs.Words.{words_of};
-ghost use Rattle.schedule.specs.Lines.{one_number, two_numbers, three_numbers, given_count, count_of, body_of, ring_of, look_of_sender, look_of, reserve_of, write_of, flip_of, test_of, read_of, advance_of, close_of, ack_of, ask_of, consumer_line, sender_line, plain_line, named, request_from, request_of};
+ghost use Rattle.schedule.specs.Lines.{one_number, two_numbers, three_numbers, given_count, count_of, body_of, ring_of, look_of_sender, look_of, reserve_of, write_of, flip_of, test_of, read_of, advance_of, close_of, ack_of, ask_of, consumer_line, sender_line, plain_line, named};
+ghost use Rattle.schedule.specs.ScheduleText.{request_of};
 
 use crate::body::Body;
+use crate::kind::Schedule;
 use crate::request::Request;
 use cmdcodec::{Raw, RawList};
-use script::{is_comment, is_end, is_text, next_u32, next_word, raw};
+use script::{is_end, next_u32, next_word, raw};
 use std::alloc::{AllocError, Global};
 
 /// The most flags that one step goes over.
@@ -258,8 +260,9 @@ fn parse_plain_line(name: &[u8], rest: &[u8]) -> Option<Request>
     }
 }
 
+/// What a line asks for by its first word and the text after it. None is a bad line.
 #[tactic(auto, unfolding(crate::specs::Lines::named))]
-fn parse_named(alloc: Global, name: &[u8], rest: &[u8]) -> Result<Option<Request>, AllocError>
+pub(crate) fn parse_named(alloc: Global, name: &[u8], rest: &[u8]) -> Result<Option<Request>, AllocError>
     ensures { IfOk result (λ request. request ≡ named name.now (words_of rest.now)) }
 {
     if name == b"reserve".as_slice() {
@@ -271,29 +274,11 @@ fn parse_named(alloc: Global, name: &[u8], rest: &[u8]) -> Result<Option<Request
     }
 }
 
-fn parse_words(alloc: Global, line: &[u8]) -> Result<Option<Request>, AllocError>
-    ensures { IfOk result (λ request. request ≡ request_from (words_of line.now)) }
-{
-    let Some((name, rest)) = next_word(line) else {
-        return Ok(Some(Request::Nothing));
-    };
-    if is_comment(name) {
-        Ok(Some(Request::Nothing))
-    } else {
-        parse_named(alloc, name, rest)
-    }
-}
-
 /// What a line asks for. None is a bad line.
 ///
 /// Errors: out of memory for the commands of a line that reserves.
-#[tactic(auto, unfolding(crate::specs::Lines::request_of))]
 pub fn parse(alloc: Global, line: &[u8]) -> Result<Option<Request>, AllocError>
     ensures { IfOk result (λ request. request ≡ request_of line.now) }
 {
-    if is_text(line) {
-        parse_words(alloc, line)
-    } else {
-        Ok(None)
-    }
+    script::parse::<Schedule>(alloc, line)
 }

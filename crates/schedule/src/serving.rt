@@ -4,8 +4,8 @@ ghost use Rattle.script.specs.Serves.{Serves};
 ghost use Rattle.schedule.specs.ScheduleText.{schedules};
 ghost use Rattle.schedule.specs.Scheduling.{Schedules};
 
-use crate::interpreter::Schedule;
-use script::{Ending, ServeError, Status, status_of};
+use crate::kind::Schedule;
+use script::{Ending, ServeError, Status, serve_script, status_of};
 use std::alloc::Global;
 use std::io::{Read, Write};
 
@@ -20,8 +20,7 @@ pub fn serve<R: Read, W: Write>(
 ) -> Result<Ending, ServeError>
     ensures { Serves (Answers schedules) result (R.remaining input.old) (R.remaining input.new) (W.contents output.old) (W.contents output.new) }
 {
-    let mut schedule = Schedule::new(alloc);
-    script::serve(alloc, &mut schedule, input, output)
+    serve_script::<Schedule, R, W>(alloc, input, output)
 }
 
 /// Reads a script, plays it as a schedule of a ring's steps, and writes its answers, the line `no memory`

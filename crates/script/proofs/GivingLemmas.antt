@@ -4,7 +4,7 @@ use Rattle.std.specs.Prelude.{nat_lt}
 use Rattle.script.specs.Outcome.{Continues, Ends}
 use Rattle.script.specs.Answers.{Answer, with_text, EndsAs}
 use Rattle.script.specs.Effects.{Effect, faults}
-use Rattle.script.specs.Kinds.{Kind, HasNoChoice, request_effect, asked_effect, line_effect, after_effect, first_choice, later_choice, answer_from}
+use Rattle.script.specs.Kinds.{Kind, HasNoChoice, request_of, request_effect, asked_effect, line_effect, after_effect, first_choice, later_choice, answer_from}
 use Rattle.script.specs.Standing.{StandsAt, ActsAt}
 use Rattle.script.specs.Giving.{MayAnswer, MayGive, Answers}
 use Rattle.script.proofs.AnswerLemmas.{ends_front}
@@ -23,21 +23,21 @@ is_over effect rest text t off =
 
 -- ---- where no request looks at the choice
 
-asked_alike : (kind : Kind) → HasNoChoice kind → (number : ℕ) (wanting : Bool) (asked : Option kind.Request) (state : Option kind.State)
+asked_alike : {State Request : Type 0} → (kind : Kind State Request) → HasNoChoice kind → (number : ℕ) (wanting : Bool) (asked : Option Request) (state : Option State)
     → asked_effect kind number wanting asked state ≡ asked_effect kind number false asked state
 unfolding request_effect
 asked_alike kind alike number wanting None state = refl
 asked_alike kind alike number wanting (Some request) None = refl
 asked_alike kind alike number wanting (Some request) (Some state) = alike number wanting request state
 
-line_alike : (kind : Kind) → HasNoChoice kind → (number : ℕ) (wanting : Bool) (line : List ℕ) (state : Option kind.State)
+line_alike : {State Request : Type 0} → (kind : Kind State Request) → HasNoChoice kind → (number : ℕ) (wanting : Bool) (line : List ℕ) (state : Option State)
     → line_effect kind number wanting line state ≡ line_effect kind number false line state
 unfolding line_effect
 line_alike kind alike number wanting line state =
-    ap (λ effect. cond (nat_lt 4096 (length line)) (faults number (codes "long line") state) effect) (asked_alike kind alike number wanting (kind.request_of line) state)
+    ap (λ effect. cond (nat_lt 4096 (length line)) (faults number (codes "long line") state) effect) (asked_alike kind alike number wanting (request_of kind line) state)
 
 -- every choice comes to the same answer
-pub one_answer : (kind : Kind) → HasNoChoice kind → (number : ℕ) (choice : List Bool) (state : Option kind.State) (lines : List (List ℕ))
+one_answer : {State Request : Type 0} → (kind : Kind State Request) → HasNoChoice kind → (number : ℕ) (choice : List Bool) (state : Option State) (lines : List (List ℕ))
     → answer_from kind number choice state lines ≡ answer_from kind number [] state lines
 unfolding answer_from
 one_answer kind alike number choice state [] = refl
@@ -48,7 +48,7 @@ one_answer kind alike number choice state (line ∷ lines) =
 
 -- ---- what is given
 
-module _ {Kept : Type 0} (kind : Kind) (Stands : Kept → kind.State → Type 0) where
+module _ {Kept State Request : Type 0} (kind : Kind State Request) (Stands : Kept → State → Type 0) where
   pub continues : (old new : Option Kept) (number : ℕ) (line before after : List ℕ) → ActsAt Stands (λ wanting state. line_effect kind number wanting line state) old new before after true
       → Continues (MayGive kind Stands old) (MayGive kind Stands new) number line before after
   unfolding answer_from
@@ -81,8 +81,7 @@ module _ {Kept : Type 0} (kind : Kind) (Stands : Kept → kind.State → Type 0)
   pub may_come : (kept : Option Kept) → kept ≡ None → Implies (MayGive kind Stands kept) (MayAnswer kind)
   may_come kept none number lines outcome may = may None (subst (λ m. StandsAt Stands m None) (sym none) tt)
 
-  -- And what it comes to, where no request looks at the choice.
-  pub comes : HasNoChoice kind → (kept : Option Kept) → kept ≡ None → Implies (MayGive kind Stands kept) (Answers kind)
-  comes alike kept none number lines outcome may =
-      let some = may_come kept none number lines outcome may in
-      subst (λ (a : Answer). EndsAs a outcome.text outcome.ending) (one_answer kind alike number some.0 None lines) some.1
+-- And what it comes to, where no request looks at the choice.
+pub answers_come : {State Request : Type 0} → (kind : Kind State Request) → HasNoChoice kind → Implies (MayAnswer kind) (Answers kind)
+answers_come kind alike number lines outcome may =
+    subst (λ (a : Answer). EndsAs a outcome.text outcome.ending) (one_answer kind alike number may.0 None lines) may.1

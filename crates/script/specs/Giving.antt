@@ -6,17 +6,17 @@ use Rattle.script.specs.Kinds.{Kind, answer_from}
 use Rattle.script.specs.Standing.{StandsAt}
 
 -- what lines may come to from a state, under some choice of those at which memory runs out
-abbrev pub MayCome : (kind : Kind) → Option kind.State → ℕ → List (List ℕ) → Outcome → Type 0
+abbrev pub MayCome : {State Request : Type 0} → Kind State Request → Option State → ℕ → List (List ℕ) → Outcome → Type 0
 MayCome kind state number lines outcome = (choice : List Bool) × EndsAs (answer_from kind number choice state lines) outcome.text outcome.ending
 
 -- what the lines of a script may come to
-abbrev pub MayAnswer : Kind → ℕ → List (List ℕ) → Outcome → Type 0
+abbrev pub MayAnswer : {State Request : Type 0} → Kind State Request → ℕ → List (List ℕ) → Outcome → Type 0
 MayAnswer kind number lines outcome = MayCome kind None number lines outcome
 
 -- what the lines of a script come to where memory is never wanting, as where the kind has no choice
-abbrev pub Answers : Kind → ℕ → List (List ℕ) → Outcome → Type 0
+abbrev pub Answers : {State Request : Type 0} → Kind State Request → ℕ → List (List ℕ) → Outcome → Type 0
 Answers kind number lines outcome = EndsAs (answer_from kind number [] None lines) outcome.text outcome.ending
 
 -- what lines may come to from each state that what is kept stands for
-abbrev pub MayGive : {Kept : Type 0} (kind : Kind) → (Kept → kind.State → Type 0) → Option Kept → ℕ → List (List ℕ) → Outcome → Type 0
-MayGive kind Stands kept number lines outcome = (state : Option kind.State) → StandsAt Stands kept state → MayCome kind state number lines outcome
+abbrev pub MayGive : {Kept State Request : Type 0} → Kind State Request → (Kept → State → Type 0) → Option Kept → ℕ → List (List ℕ) → Outcome → Type 0
+MayGive {Kept} {State} kind Stands kept number lines outcome = (state : Option State) → StandsAt Stands kept state → MayCome kind state number lines outcome

@@ -7,7 +7,7 @@ use Rattle.script.specs.declared.ending.Ending.TheVariants.{Finished, Refused}
 use Rattle.script.specs.Outcome.{Outcome, fault}
 use Rattle.script.specs.Answers.{Answer, EndsAs}
 use Rattle.script.specs.Effects.{faults}
-use Rattle.script.specs.Kinds.{Kind, asked_effect, line_effect, after_effect, answer_from}
+use Rattle.script.specs.Kinds.{Kind, request_of, asked_effect, line_effect, after_effect, answer_from}
 use Rattle.script.specs.Giving.{MayGive}
 
 -- a beginning of what an answer ends as
@@ -16,7 +16,7 @@ ends_cut answer text front rest (Some Finished) e split = (rest, ap (λ (a : Ans
 ends_cut answer text front rest (Some Refused) e split = (rest, ap (λ (a : Answer). a.text) e ∙ split)
 ends_cut answer text front rest None e split = (rest ++ e.0, e.1 ∙ ap (λ t. t ++ e.0) split ∙ append_assoc front rest e.0)
 
-module _ {Kept : Type 0} (kind : Kind) (Stands : Kept → kind.State → Type 0) (kept : Option Kept) (n : ℕ) where
+module _ {Kept State Request : Type 0} (kind : Kind State Request) (Stands : Kept → State → Type 0) (kept : Option Kept) (n : ℕ) where
   pub nothing_left : MayGive kind Stands kept n [] (record { text = []; ending = Some Finished })
   unfolding answer_from
   nothing_left state stands = ([], refl)
@@ -25,7 +25,7 @@ module _ {Kept : Type 0} (kind : Kind) (Stands : Kept → kind.State → Type 0)
   unfolding answer_from line_effect
   long_line line lines long state stands = (
     [],
-    ap (λ t. after_effect (cond t (faults n (codes "long line") state) (asked_effect kind n false (kind.request_of line) state)) (λ left. answer_from kind (n + 1) [] left lines))
+    ap (λ t. after_effect (cond t (faults n (codes "long line") state) (asked_effect kind n false (request_of kind line) state)) (λ left. answer_from kind (n + 1) [] left lines))
         (lt-ltb 4096 (length line) long),
   )
 

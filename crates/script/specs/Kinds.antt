@@ -1,33 +1,44 @@
 -- A kind of script: what its lines do one after another, and the text that such a script is answered with.
 use Rattle.std.specs.Prelude.{◌≡◌, ℕ, ◌+◌, nat_lt, List, [], ◌∷◌, Bool, true, false, Option, Some, None, length, codes, if◌then◌else◌}
+use Rattle.std.specs.List.{list_all}
+use Rattle.script.specs.Words.{words_of}
+use Rattle.script.specs.Fields.{is_comment, is_printable}
 use Rattle.script.specs.Lines.{lines_of}
 use Rattle.script.specs.Answers.{Answer, with_text}
 use Rattle.script.specs.Effects.{Effect, faults}
 
--- How things stand once the ring is made, what a line may ask for (None is a bad line), and what a request
--- does in the line of a number: before the ring is made, and after, memory being wanting or not.
-pub record Kind : Type 1 where
-  pub State : Type 0
-  pub Request : Type 0
-  pub request_of : List ℕ → Option Request
+-- How things stand once the ring is made, and what a line may ask for: what one asks for that says nothing, what
+-- one asks for by its first word and the others (None is a bad line), and what a request does in the line of a
+-- number: before the ring is made, and after, memory being wanting or not.
+pub record Kind (State Request : Type 0) : Type 0 where
+  pub nothing : Request
+  pub named : List ℕ → List (List ℕ) → Option Request
   pub first_served : ℕ → Request → Effect State
   pub served : ℕ → Bool → Request → State → Effect State
 
 -- ---- a line
 
-unfoldable pub request_effect : (kind : Kind) → ℕ → Bool → kind.Request → Option kind.State → Effect kind.State
+abbrev pub request_from : {State Request : Type 0} → Kind State Request → List (List ℕ) → Option Request
+request_from kind [] = Some kind.nothing
+request_from kind (name ∷ words) = if is_comment name then Some kind.nothing else kind.named name words
+
+-- what a line asks for; None is a bad line
+unfoldable pub request_of : {State Request : Type 0} → Kind State Request → List ℕ → Option Request
+request_of kind line = if list_all is_printable line then request_from kind (words_of line) else None
+
+unfoldable pub request_effect : {State Request : Type 0} → Kind State Request → ℕ → Bool → Request → Option State → Effect State
 request_effect kind number wanting request None = kind.first_served number request
 request_effect kind number wanting request (Some state) = kind.served number wanting request state
 
-abbrev pub asked_effect : (kind : Kind) → ℕ → Bool → Option kind.Request → Option kind.State → Effect kind.State
+abbrev pub asked_effect : {State Request : Type 0} → Kind State Request → ℕ → Bool → Option Request → Option State → Effect State
 asked_effect kind number wanting None state = faults number (codes "bad line") state
 asked_effect kind number wanting (Some request) state = request_effect kind number wanting request state
 
 -- what the line of this number does
-unfoldable pub line_effect : (kind : Kind) → ℕ → Bool → List ℕ → Option kind.State → Effect kind.State
+unfoldable pub line_effect : {State Request : Type 0} → Kind State Request → ℕ → Bool → List ℕ → Option State → Effect State
 line_effect kind number wanting line state =
     if nat_lt 4096 (length line) then faults number (codes "long line") state
-    else asked_effect kind number wanting (kind.request_of line) state
+    else asked_effect kind number wanting (request_of kind line) state
 
 -- ---- one line after another
 
@@ -45,15 +56,15 @@ later_choice [] = []
 later_choice (wanting ∷ choice) = choice
 
 -- The answer to lines, the first of which has this number. `choice` says at which lines memory runs out.
-unfoldable pub answer_from : (kind : Kind) → ℕ → List Bool → Option kind.State → List (List ℕ) → Answer
+unfoldable pub answer_from : {State Request : Type 0} → Kind State Request → ℕ → List Bool → Option State → List (List ℕ) → Answer
 answer_from kind number choice state [] = record { text = []; is_good = true }
 answer_from kind number choice state (line ∷ lines) =
     after_effect (line_effect kind number (first_choice choice) line state) (λ left. answer_from kind (number + 1) (later_choice choice) left lines)
 
 -- The answer to a script. Where memory is never wanting the choice is [].
-abbrev pub answer_to : Kind → List Bool → List ℕ → Answer
+abbrev pub answer_to : {State Request : Type 0} → Kind State Request → List Bool → List ℕ → Answer
 answer_to kind choice script = answer_from kind 1 choice None (lines_of script)
 
 -- No request of the kind looks at whether memory runs out. A script of such a kind has one answer.
-abbrev pub HasNoChoice : Kind → Type 0
-HasNoChoice kind = (number : ℕ) (wanting : Bool) (request : kind.Request) (state : kind.State) → kind.served number wanting request state ≡ kind.served number false request state
+abbrev pub HasNoChoice : {State Request : Type 0} → Kind State Request → Type 0
+HasNoChoice {State} {Request} kind = (number : ℕ) (wanting : Bool) (request : Request) (state : State) → kind.served number wanting request state ≡ kind.served number false request state

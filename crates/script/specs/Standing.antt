@@ -1,7 +1,10 @@
 -- What the parts of a program do to what it keeps between two lines. `Stands` says when what is kept once
 -- the ring is made stands for a state of the definition.
-use Rattle.std.specs.Prelude.{◌≡◌, ℕ, List, ◌++◌, Bool, true, Option, Some, None}
-use Rattle.script.specs.Effects.{Effect}
+use Rattle.std.specs.Prelude.{◌≡◌, ℕ, ◌≤◌, List, [], ◌++◌, Bool, true, Option, Some, None}
+use Rattle.script.specs.declared.first.First.{First}
+use Rattle.script.specs.declared.first.First.TheVariants.{Nothing, Made, Fault}
+use Rattle.script.specs.Effects.{Effect, answers, faults}
+use Rattle.script.specs.Texts.{ring_text}
 
 -- The same, before the ring is made too.
 abbrev pub StandsAt : {Kept State : Type 0} → (Kept → State → Type 0) → Option Kept → Option State → Type 0
@@ -28,3 +31,9 @@ pub record ActsAt {Kept State : Type 0} (Stands : Kept → State → Type 0) (ef
   pub answer : List ℕ
   pub text : after ≡ before ++ answer
   pub produces : (state : Option State) → StandsAt Stands old state → Produces Stands (λ wanting. effect wanting state) new answer goes_on
+
+-- What a request comes to where no ring is made yet is what the effect does, in a line of whatever number.
+abbrev pub Begins : {Kept State : Type 0} → (Kept → State → Type 0) → First Kept → (ℕ → Effect State) → Type 0
+Begins Stands Nothing effect = (number : ℕ) → effect number ≡ record { text = []; state = None; goes_on = true }
+Begins {Kept} {State} Stands (Made log2 kept) effect = (log2 ≤ 19) × (state : State) × Stands kept state × ((number : ℕ) → effect number ≡ answers (ring_text log2) state)
+Begins Stands (Fault name) effect = (number : ℕ) → effect number ≡ faults number name.now None

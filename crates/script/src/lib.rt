@@ -4,11 +4,14 @@
 mod ending;
 mod error;
 mod fields;
+mod first;
 mod interpreter;
+mod kind;
 mod pending;
 mod run;
 mod sending;
 mod serving;
+mod session;
 mod status;
 mod telling;
 mod words;
@@ -18,8 +21,11 @@ pub use error::ServeError;
 pub use fields::{
     is_comment, is_end, is_text, next_below, next_below_or, next_u8, next_u32, next_u64, raw,
 };
+pub use first::First;
 pub use interpreter::{Interpreter, LONGEST_LINE};
+pub use kind::ScriptKind;
 pub use serving::serve;
+pub use session::{parse, serve_script};
 pub use status::{Status, status_of};
 pub use telling::{say_fault, say_ring};
 pub use words::{next_word, number};

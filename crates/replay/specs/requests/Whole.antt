@@ -1,11 +1,7 @@
--- What any line of a replay asks for.
-use Rattle.std.specs.Prelude.{ℕ, List, [], ◌∷◌, true, false, Option, Some, None, codes, if◌then◌else◌}
-use Rattle.std.specs.List.{list_all}
+-- What any line of a replay asks for that says something.
+use Rattle.std.specs.Prelude.{ℕ, List, true, false, Option, None, codes, if◌then◌else◌}
 use Rattle.std.specs.Str.{bytes_eq}
-use Rattle.script.specs.Words.{words_of}
-use Rattle.script.specs.Fields.{is_comment, is_printable}
 use Rattle.replay.specs.declared.request.Request.{Request}
-use Rattle.replay.specs.declared.request.Request.TheVariants.{Nothing}
 use Rattle.replay.specs.requests.RingLine.{ring_of}
 use Rattle.replay.specs.requests.CacheLines.{fill_of, evict_of, lookup_of}
 use Rattle.replay.specs.requests.SendLines.{commands_of, inval_of, detach_of, publish_of}
@@ -47,11 +43,3 @@ named name words =
     else if bytes_eq name (codes "open") then commands_of true false words
     else if bytes_eq name (codes "openbare") then commands_of false false words
     else plain_line name words
-
-abbrev pub request_from : List (List ℕ) → Option Request
-request_from [] = Some Nothing
-request_from (name ∷ words) = if is_comment name then Some Nothing else named name words
-
--- what a line asks for; None is a bad line
-unfoldable pub request_of : List ℕ → Option Request
-request_of line = if list_all is_printable line then request_from (words_of line) else None

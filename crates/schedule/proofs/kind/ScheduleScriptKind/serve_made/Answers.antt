@@ -5,7 +5,7 @@ use Rattle.schedule.specs.Steps.{step_of}
 use Rattle.script.proofs.EffectLemmas.{acts_same}
 use Rattle.schedule.specs.Standing.{Stands}
 use Rattle.schedule.proofs.ServedLemmas.{served_asked, served_ring}
-use Rattle.schedule.proofs.interpreter.serve_made.Goals as goal
+use Rattle.schedule.proofs.kind.ScheduleScriptKind.serve_made.Goals as goal
 
 pub returns-in_ok-say_fault-in-Ring : goal.returns-in_ok-say_fault-in-Ring
 returns-in_ok-say_fault-in-Ring c =

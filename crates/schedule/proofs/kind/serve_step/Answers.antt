@@ -2,7 +2,7 @@ use Rattle.std.proofs.Common.{Some, subst}
 use Rattle.schedule.specs.Steps.{step_of}
 use Rattle.schedule.specs.Taking.{IsAnswered}
 use Rattle.schedule.proofs.ServedLemmas.{asked_taken, asked_refused}
-use Rattle.schedule.proofs.interpreter.serve_step.Goals as goal
+use Rattle.schedule.proofs.kind.serve_step.Goals as goal
 
 pub returns-in_ok-say_answer-in-Some-Ok : goal.returns-in_ok-say_answer-in-Some-Ok
 returns-in_ok-say_answer-in-Some-Ok c =

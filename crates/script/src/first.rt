@@ -1,0 +1,10 @@
+/// What a request comes to where no ring is made yet.
+#[derive(Drop)]
+pub enum First<Kept> {
+    /// Nothing.
+    Nothing,
+    /// A ring of `2^log2` slots, at most 2^19, and what is kept of it.
+    Made { log2: u32, kept: Kept },
+    /// A fault of this name, which ends the run.
+    Fault(&'static str),
+}
