@@ -1,8 +1,7 @@
 -- The commands of a line, one after another.
 use Rattle.std.proofs.Common.{◌≡◌, ℕ, List, [], ◌∷◌, ◌++◌, Option, Some, None, refl, ap, sym, ◌∙◌, append_assoc, append-nil}
 use Rattle.cmdcodec.specs.declared.raw.Raw.{Raw}
-use Rattle.script.specs.Fields.{◌>>=◌, hex_of}
-use Rattle.replay.specs.requests.SendLines.{raws_of}
+use Rattle.script.specs.Fields.{◌>>=◌, hex_of, raws_of}
 
 -- commands ahead of what the rest says
 abbrev pub with_raws : List Raw → Option (List Raw) → Option (List Raw)

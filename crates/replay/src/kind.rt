@@ -50,11 +50,7 @@ impl ScriptKind for Replay {
         Request::Nothing
     }
 
-    fn parse_named(
-        alloc: Global,
-        name: &[u8],
-        rest: &[u8],
-    ) -> Result<Option<Request>, AllocError> {
+    fn parse_named(alloc: Global, name: &[u8], rest: &[u8]) -> Result<Option<Request>, AllocError> {
         parse_named(alloc, name, rest)
     }
 

@@ -3,8 +3,8 @@ use Rattle.std.proofs.Common.{◌≡◌, ℕ, zero, suc, ◌≤◌, List, [], �
 use Rattle.std.proofs.lemmas.List.{take_all}
 use Rattle.arrayvec.specs.ArrayVec.{ArrayVec}
 use Rattle.cmdcodec.specs.declared.raw.Raw.{Raw}
-use Rattle.script.specs.Fields.{◌>>=◌, hex_of}
-use Rattle.schedule.specs.Lines.{raws_of, body_of}
+use Rattle.script.specs.Fields.{◌>>=◌, hex_of, raws_of}
+use Rattle.schedule.specs.Lines.{body_of}
 
 -- the first 64 of some commands and of what the rest says
 abbrev pub behind : List Raw → Option (List Raw) → Option (ArrayVec Raw)

@@ -1,7 +1,7 @@
--- From what a request's own part does to what the request does.
-use Rattle.std.proofs.Common.{◌≡◌, ℕ, Bool, true, false, List, ◌∷◌, ◌++◌, ap, refl, sym, ◌∙◌, Option, Some, None, Ok, Err, IfSome, subst, codes}
+-- From what a step does to what the request that asks for it does.
+use Rattle.std.proofs.Common.{◌≡◌, ℕ, Bool, true, false, List, ◌∷◌, ◌++◌, ap, sym, ◌∙◌, Option, Some, None, Ok, Err, IfSome, subst}
 use Rattle.script.specs.Outcome.{fault_line}
-use Rattle.script.specs.Effects.{answers, faults}
+use Rattle.script.specs.Effects.{answers}
 use Rattle.script.specs.Standing.{Acts}
 use Rattle.script.proofs.EffectLemmas.{produces_at, fault_told}
 use Rattle.ringcore.specs.declared.machine.step.Step.{Step}
@@ -12,15 +12,10 @@ use Rattle.ringcore.specs.machine.Faults.{fault_of}
 use Rattle.ringcore.specs.machine.FaultNames.{label_of}
 use Rattle.ringcore.specs.machine.StepAnswers.{event_of}
 use Rattle.ringcore.specs.machine.Core.{CoreValue, StandsAfter, ring_of, IsRefused, IsTaken, answer_to as seen_by}
-use Rattle.schedule.specs.declared.request.Request.{Request}
-use Rattle.schedule.specs.declared.request.Request.TheVariants as asks
 use Rattle.schedule.specs.Texts.{answer_line}
-use Rattle.schedule.specs.ScheduleText.{State, taken, step_or_fault, step_effect, asked_effect, served}
-use Rattle.schedule.specs.Steps.{step_of}
+use Rattle.schedule.specs.ScheduleText.{State, taken, step_or_fault, step_effect, asked_effect}
 use Rattle.schedule.specs.Taking.{IsAnswered}
 use Rattle.schedule.specs.Standing.{Stands}
-
--- ---- a step
 
 -- the fault of a step, by the state that the machine stands for
 fault_is : (core : CoreValue) (state : State) (step : Step) (fault : Option StepFault) → Stands core state → fault_of (ring_of core) state.run step ≡ fault → fault_of state.ring state.run step ≡ fault
@@ -64,28 +59,3 @@ pub asked_taken : (number : ℕ) (asked : Option (Step × Bool)) (seen : Seen) (
     → IfSome asked (λ a. after ≡ before ++ answer_line a.0 a.1 seen) → Acts Stands (λ wanting. asked_effect number asked) old new before after true
 asked_taken number None seen old new before after answered text = absurd answered
 asked_taken number (Some asked) seen old new before after answered text = step_taken number asked.0 asked.1 seen old new before after answered.0 answered.1 text
-
--- ---- once the ring is made
-
--- a request for no second ring
-pub served_asked : (number : ℕ) (request : Request) → ((log2 senders : ℕ) → request ≡ asks.Ring log2 senders → ⊥) → (state : State)
-    → served number request state ≡ asked_effect number (step_of request) state
-unfolding served
-served_asked number asks.Nothing not_ring state = refl
-served_asked number (asks.Ring log2 senders) not_ring state = absurd (not_ring log2 senders refl)
-served_asked number (asks.Look who) not_ring state = refl
-served_asked number (asks.Reserve sender body closes) not_ring state = refl
-served_asked number (asks.Write sender slot half) not_ring state = refl
-served_asked number (asks.Flip sender slot count is_counted) not_ring state = refl
-served_asked number (asks.Test slot count is_counted) not_ring state = refl
-served_asked number (asks.Read slot half) not_ring state = refl
-served_asked number (asks.Advance count is_counted) not_ring state = refl
-served_asked number (asks.Close sender) not_ring state = refl
-served_asked number (asks.Acknowledge sender sync) not_ring state = refl
-served_asked number (asks.Ask sender) not_ring state = refl
-
-pub served_ring : (number : ℕ) (request : Request) (log2 senders : ℕ) (core : CoreValue) (before after : List ℕ) → request ≡ asks.Ring log2 senders → after ≡ before ++ fault_line number (codes "second ring")
-    → Acts Stands (λ wanting. served number request) core core before after false
-unfolding served
-served_ring number request log2 senders core before after e text =
-    fault_told Stands (λ wanting. served number request) core core number (codes "second ring") before after (λ state s. ap (λ r. served number r state) e) text

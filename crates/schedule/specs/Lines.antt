@@ -3,17 +3,11 @@ use Rattle.std.specs.Prelude.{ℕ, ◌^◌, nat_le, List, [], ◌∷◌, ◌&&�
 use Rattle.std.specs.Str.{bytes_eq}
 use Rattle.arrayvec.specs.ArrayVec.{ArrayVec}
 use Rattle.cmdcodec.specs.declared.raw.Raw.{Raw}
-use Rattle.script.specs.Fields.{◌>>=◌, guard, next_below, is_end, hex_of}
+use Rattle.script.specs.Fields.{◌>>=◌, guard, next_below, is_end, one_number, raws_of}
 use Rattle.schedule.specs.declared.request.Request.{Request}
 use Rattle.schedule.specs.declared.request.Request.TheVariants as asks
 
 -- ---- numbers
-
--- one number, and no more words
-unfoldable pub one_number : List (List ℕ) → Option ℕ
-one_number words = do
-  first ← next_below (2 ^ 32) words
-  guard (is_end first.1) first.0
 
 -- two numbers, and no more words
 unfoldable pub two_numbers : List (List ℕ) → Option (ℕ × ℕ)
@@ -40,14 +34,6 @@ unfoldable pub count_of : List (List ℕ) → Option (ℕ × Bool)
 count_of words = if is_end words then Some (1, false) else option_map (λ count. (count, true)) (given_count words)
 
 -- ---- commands
-
--- each word is a command
-unfoldable pub raws_of : List (List ℕ) → Option (List Raw)
-raws_of [] = Some []
-raws_of (word ∷ words) = do
-  raw ← hex_of word
-  raws ← raws_of words
-  Some (raw ∷ raws)
 
 -- The first 64 are handed in, which are too many all the same.
 abbrev pub body_of : List (List ℕ) → Option (ArrayVec Raw)

@@ -123,6 +123,7 @@ impl ScriptKind for Schedule {
         }
     }
 
+    #[tactic(auto, unfolding(crate::specs::ScheduleText::served))]
     fn serve_made(
         core: &mut Core,
         number: u64,
@@ -134,7 +135,17 @@ impl ScriptKind for Schedule {
                 say_fault(number, "second ring", reply)?;
                 Ok(false)
             }
-            _ => serve_step(core, number, request, reply),
+            Request::Nothing
+            | Request::Look { .. }
+            | Request::Reserve { .. }
+            | Request::Write { .. }
+            | Request::Flip { .. }
+            | Request::Test { .. }
+            | Request::Read { .. }
+            | Request::Advance { .. }
+            | Request::Close { .. }
+            | Request::Acknowledge { .. }
+            | Request::Ask { .. } => serve_step(core, number, request, reply),
         }
     }
 }

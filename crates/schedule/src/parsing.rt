@@ -1,26 +1,18 @@
 //! From a line to what it asks for.
 ghost use Rattle.std.specs.Prelude.{◌≡◌, ◌≤◌, [], ◌∷◌, ◌++◌, length, take, option_map, IfOk};
 ghost use Rattle.script.specs.Words.{words_of};
-ghost use Rattle.schedule.specs.Lines.{one_number, two_numbers, three_numbers, given_count, count_of, body_of, ring_of, look_of_sender, look_of, reserve_of, write_of, flip_of, test_of, read_of, advance_of, close_of, ack_of, ask_of, consumer_line, sender_line, plain_line, named};
+ghost use Rattle.schedule.specs.Lines.{two_numbers, three_numbers, given_count, count_of, body_of, ring_of, look_of_sender, look_of, reserve_of, write_of, flip_of, test_of, read_of, advance_of, close_of, ack_of, ask_of, consumer_line, sender_line, plain_line, named};
 ghost use Rattle.schedule.specs.ScheduleText.{request_of};
 
 use crate::body::Body;
 use crate::kind::Schedule;
 use crate::request::Request;
 use cmdcodec::{Raw, RawList};
-use script::{is_end, next_u32, next_word, raw};
+use script::{is_end, next_u32, next_word, one_number, raw};
 use std::alloc::{AllocError, Global};
 
 /// The most flags that one step goes over.
 const MOST_FLAGS: u32 = 64;
-
-#[tactic(auto, unfolding(crate::specs::Lines::one_number))]
-fn one_number(text: &[u8]) -> Option<u32>
-    ensures { result ≡ one_number (words_of text.now) }
-{
-    let (first, rest) = next_u32(text)?;
-    if is_end(rest) { Some(first) } else { None }
-}
 
 #[tactic(auto, unfolding(crate::specs::Lines::two_numbers))]
 fn two_numbers(text: &[u8]) -> Option<(u32, u32)>

@@ -1,7 +1,7 @@
 -- What is done by an effect that is known, or by the same effect under another name.
 use Rattle.std.proofs.Common.{◌≡◌, ℕ, Bool, true, false, List, [], ◌++◌, ap, sym, ◌∙◌, Option, Some, None, subst, append-nil}
 use Rattle.script.specs.Outcome.{fault_line}
-use Rattle.script.specs.Effects.{Effect, answers, faults}
+use Rattle.script.specs.Effects.{Effect, faults}
 use Rattle.script.specs.Standing.{StandsAt, Produces, Acts, ActsAt}
 
 module _ {Kept State : Type 0} (Stands : Kept → State → Type 0) where
@@ -25,15 +25,6 @@ module _ {Kept State : Type 0} (Stands : Kept → State → Type 0) where
     after = λ on. subst (λ (x : Effect State). StandsAt Stands new x.state) (sym (same p.wanting)) (p.after on);
   }
 
-  pub acts_same : (effect known : Bool → State → Effect State) (old new : Kept) (before after : List ℕ) (goes_on : Bool) → ((wanting : Bool) (state : State) → effect wanting state ≡ known wanting state)
-      → Acts Stands known old new before after goes_on → Acts Stands effect old new before after goes_on
-  acts_same effect known old new before after goes_on same acts = record {
-    answer = acts.answer;
-    text = acts.text;
-    produces = λ state s.
-        produces_same (λ wanting. effect wanting state) (λ wanting. known wanting state) (Some new) acts.answer goes_on (λ wanting. same wanting state) (acts.produces state s);
-  }
-
   pub acts_same_at : (effect known : Bool → Option State → Effect State) (old new : Option Kept) (before after : List ℕ) (goes_on : Bool)
       → ((wanting : Bool) (state : Option State) → effect wanting state ≡ known wanting state) → ActsAt Stands known old new before after goes_on
       → ActsAt Stands effect old new before after goes_on
@@ -45,13 +36,6 @@ module _ {Kept State : Type 0} (Stands : Kept → State → Type 0) where
   }
 
   -- ---- once the ring is made
-
-  pub nothing_done : (effect : Bool → State → Effect State) (kept : Kept) (text : List ℕ) → ((state : State) → effect false state ≡ answers [] state) → Acts Stands effect kept kept text text true
-  nothing_done effect kept text e = record {
-    answer = [];
-    text = sym (append-nil text);
-    produces = λ state s. produces_at (λ wanting. effect wanting state) (Some kept) false (answers [] state) (e state) (λ on. s);
-  }
 
   pub fault_told : (effect : Bool → State → Effect State) (old new : Kept) (number : ℕ) (name before after : List ℕ)
       → ((state : State) → Stands old state → effect false state ≡ faults number name (Some state)) → after ≡ before ++ fault_line number name
@@ -70,20 +54,4 @@ module _ {Kept State : Type 0} (Stands : Kept → State → Type 0) where
     answer = [];
     text = sym (append-nil text);
     produces = λ state s. produces_at (λ wanting. effect) kept false (record { text = []; state = None; goes_on = true }) e (λ on. subst (λ m. StandsAt Stands m None) (sym none) tt);
-  }
-
-  pub fault_first : (effect : Effect State) (new : Option Kept) (number : ℕ) (name before after : List ℕ) → effect ≡ faults number name None → after ≡ before ++ fault_line number name
-      → ActsAt Stands (λ wanting state. effect) None new before after false
-  fault_first effect new number name before after e text = record {
-    answer = fault_line number name;
-    text = text;
-    produces = λ state s. produces_at (λ wanting. effect) new false (faults number name None) e (λ on. absurd cc);
-  }
-
-  pub answer_first : (effect : Effect State) (new : Kept) (first : State) (answer before after : List ℕ) → effect ≡ answers answer first → Stands new first → after ≡ before ++ answer
-      → ActsAt Stands (λ wanting state. effect) None (Some new) before after true
-  answer_first effect new first answer before after e stands text = record {
-    answer = answer;
-    text = text;
-    produces = λ state s. produces_at (λ wanting. effect) (Some new) false (answers answer first) e (λ on. stands);
   }

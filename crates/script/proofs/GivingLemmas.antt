@@ -49,32 +49,32 @@ one_answer kind alike number choice state (line ∷ lines) =
 -- ---- what is given
 
 module _ {Kept State Request : Type 0} (kind : Kind State Request) (Stands : Kept → State → Type 0) where
-  pub continues : (old new : Option Kept) (number : ℕ) (line before after : List ℕ) → ActsAt Stands (λ wanting state. line_effect kind number wanting line state) old new before after true
-      → Continues (MayGive kind Stands old) (MayGive kind Stands new) number line before after
+  pub continues : (old new : Option Kept) (number : ℕ) (line before after : List ℕ) (on : Bool) → ActsAt Stands (λ wanting state. line_effect kind number wanting line state) old new before after on
+      → on ≡ true → Continues (MayGive kind Stands old) (MayGive kind Stands new) number line before after
   unfolding answer_from
-  continues old new number line before after acts = record {
+  continues old new number line before after on acts is_on = record {
     answer = acts.answer;
     text = acts.text;
     rest = λ lines outcome may state stands.
         let done = acts.produces state stands in
         let effect = line_effect kind number done.wanting line state in
-        let later = may effect.state (done.after refl) in (
+        let later = may effect.state (done.after is_on) in (
           done.wanting ∷ later.0,
           subst (λ (a : Answer). EndsAs a (acts.answer ++ outcome.text) outcome.ending)
-              (sym (goes_on effect (λ left. answer_from kind (number + 1) later.0 left lines) acts.answer done.text done.ending))
+              (sym (goes_on effect (λ left. answer_from kind (number + 1) later.0 left lines) acts.answer done.text (done.ending ∙ is_on)))
               (ends_front acts.answer (answer_from kind (number + 1) later.0 effect.state lines) outcome.text outcome.ending later.1),
         );
   }
 
-  pub ends : (old new : Option Kept) (number : ℕ) (line before after : List ℕ) → ActsAt Stands (λ wanting state. line_effect kind number wanting line state) old new before after false
-      → Ends (MayGive kind Stands old) number line before after
+  pub ends : (old new : Option Kept) (number : ℕ) (line before after : List ℕ) (on : Bool) → ActsAt Stands (λ wanting state. line_effect kind number wanting line state) old new before after on
+      → on ≡ false → Ends (MayGive kind Stands old) number line before after
   unfolding answer_from
-  ends old new number line before after acts = record {
+  ends old new number line before after on acts is_off = record {
     answer = acts.answer;
     text = acts.text;
     rest = λ lines state stands.
         let done = acts.produces state stands in
-        (done.wanting ∷ [], is_over (line_effect kind number done.wanting line state) (λ left. answer_from kind (number + 1) [] left lines) acts.answer done.text done.ending);
+        (done.wanting ∷ [], is_over (line_effect kind number done.wanting line state) (λ left. answer_from kind (number + 1) [] left lines) acts.answer done.text (done.ending ∙ is_off));
   }
 
   -- What is given where no ring is made is what a script may come to.

@@ -1,5 +1,5 @@
 -- What the words of a line say, one after another.
-use Rattle.std.specs.Prelude.{ℕ, nat_lt, nat_le, List, [], ◌∷◌, ◌==◌, ◌&&◌, Bool, true, false, Option, Some, None, Result, Ok, Err, if◌then◌else◌}
+use Rattle.std.specs.Prelude.{ℕ, ◌^◌, nat_lt, nat_le, List, [], ◌∷◌, ◌==◌, ◌&&◌, Bool, true, false, Option, Some, None, Result, Ok, Err, if◌then◌else◌}
 use Rattle.std.specs.Str.{bytes_eq}
 use Rattle.hex.specs.Hex.{decode_sized}
 use Rattle.hex.specs.declared.error.FromHexError.{FromHexError}
@@ -34,6 +34,12 @@ abbrev pub is_end : List (List ℕ) → Bool
 is_end [] = true
 is_end (word ∷ words) = false
 
+-- one number of 32 bits, and no more words
+unfoldable pub one_number : List (List ℕ) → Option ℕ
+one_number words = do
+  number ← next_below (2 ^ 32) words
+  guard (is_end number.1) number.0
+
 abbrev pub raw_of_decoded : Result (List ℕ) FromHexError → Option Raw
 raw_of_decoded (Ok bytes) = Some (raw_of bytes)
 raw_of_decoded (Err e) = None
@@ -41,6 +47,14 @@ raw_of_decoded (Err e) = None
 -- HEX: 32 hexadecimal digits of either case, the bytes of a command
 abbrev pub hex_of : List ℕ → Option Raw
 hex_of word = raw_of_decoded (decode_sized word 16)
+
+-- Each word is a command, legal or not.
+unfoldable pub raws_of : List (List ℕ) → Option (List Raw)
+raws_of [] = Some []
+raws_of (word ∷ words) = do
+  raw ← hex_of word
+  raws ← raws_of words
+  Some (raw ∷ raws)
 
 -- A word that begins with # makes its line a comment.
 abbrev pub is_comment : List ℕ → Bool

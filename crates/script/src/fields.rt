@@ -2,7 +2,7 @@
 ghost use Rattle.std.specs.Prelude.{◌≡◌, ◌^◌, option_map};
 ghost use Rattle.std.specs.List.{list_all};
 ghost use Rattle.script.specs.Words.{words_of};
-ghost use Rattle.script.specs.Fields.{next_below, next_below_or, is_end, hex_of, is_comment, is_printable};
+ghost use Rattle.script.specs.Fields.{next_below, next_below_or, is_end, one_number, hex_of, is_comment, is_printable};
 
 use crate::words::{next_word, number};
 use cmdcodec::{Raw, from_bytes};
@@ -73,6 +73,15 @@ pub fn is_end(text: &[u8]) -> bool
     ensures { result ≡ is_end (words_of text.now) }
 {
     next_word(text).is_none()
+}
+
+/// The number below 2^32 that a text says, and nothing more. None of any other text.
+#[tactic(auto, unfolding(crate::specs::Fields::one_number))]
+pub fn one_number(text: &[u8]) -> Option<u32>
+    ensures { result ≡ one_number (words_of text.now) }
+{
+    let (number, rest) = next_u32(text)?;
+    if is_end(rest) { Some(number) } else { None }
 }
 
 /// The command whose bytes a word of 32 hexadecimal digits says, whatever it is. None of any other word.

@@ -19,7 +19,8 @@ mod words;
 pub use ending::Ending;
 pub use error::ServeError;
 pub use fields::{
-    is_comment, is_end, is_text, next_below, next_below_or, next_u8, next_u32, next_u64, raw,
+    is_comment, is_end, is_text, next_below, next_below_or, next_u8, next_u32, next_u64,
+    one_number, raw,
 };
 pub use first::First;
 pub use interpreter::{Interpreter, LONGEST_LINE};

@@ -18,10 +18,7 @@ use crate::words::next_word;
 use std::alloc::{AllocError, Global};
 use std::io::{Read, Write};
 
-fn parse_words<K: ScriptKind>(
-    alloc: Global,
-    line: &[u8],
-) -> Result<Option<K::Request>, AllocError>
+fn parse_words<K: ScriptKind>(alloc: Global, line: &[u8]) -> Result<Option<K::Request>, AllocError>
     ensures { IfOk result (λ request. request ≡ request_from K.kind (words_of line.now)) }
 {
     let Some((name, rest)) = next_word(line) else {

@@ -1,14 +1,8 @@
 -- The numbers of a line, one after another.
 use Rattle.std.specs.Prelude.{ℕ, ◌^◌, List, Option, Some, None, codes}
-use Rattle.script.specs.Fields.{◌>>=◌, guard, next_below, next_below_or, is_end}
+use Rattle.script.specs.Fields.{◌>>=◌, next_below_or}
 use Rattle.caches.specs.declared.tag.Scope.{Scope}
 use Rattle.caches.specs.declared.tag.Scope.TheVariants.{Global, Of}
-
--- one number of 32 bits, and no more words
-unfoldable pub one_number : List (List ℕ) → Option ℕ
-one_number words = do
-  number ← next_below (2 ^ 32) words
-  guard (is_end number.1) number.0
 
 abbrev pub scope_with : Option ℕ → Scope
 scope_with None = Global

@@ -1,20 +1,10 @@
 -- What the lines that send ask for.
-use Rattle.std.specs.Prelude.{ℕ, ◌^◌, List, [], ◌∷◌, Bool, true, Option, Some, option_map}
-use Rattle.cmdcodec.specs.declared.raw.Raw.{Raw}
-use Rattle.script.specs.Fields.{◌>>=◌, guard, next_below, is_end, hex_of}
+use Rattle.std.specs.Prelude.{ℕ, ◌^◌, List, Bool, true, Option, Some, option_map}
+use Rattle.script.specs.Fields.{◌>>=◌, guard, next_below, is_end, one_number, raws_of}
 use Rattle.replay.specs.declared.request.Content.{Content}
 use Rattle.replay.specs.declared.request.Content.TheVariants.{Commands, Range, Detach}
 use Rattle.replay.specs.declared.request.Request.{Request}
 use Rattle.replay.specs.declared.request.Request.TheVariants.{Send, Publish}
-use Rattle.replay.specs.requests.Numbers.{one_number}
-
--- Each word is a command, legal or not.
-unfoldable pub raws_of : List (List ℕ) → Option (List Raw)
-raws_of [] = Some []
-raws_of (word ∷ words) = do
-  raw ← hex_of word
-  raws ← raws_of words
-  Some (raw ∷ raws)
 
 -- a batch that a sender hands over at once, its closing CMD_SYNC with it
 abbrev pub whole_batch : ℕ → Content → Request

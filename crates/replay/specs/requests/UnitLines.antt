@@ -1,12 +1,11 @@
 -- What the lines of the unit ask for, and those that look.
 use Rattle.std.specs.Prelude.{ℕ, ◌^◌, nat_le, List, [], ◌∷◌, ◌&&◌, Option, Some, None, option_map, codes, if◌then◌else◌}
 use Rattle.std.specs.Str.{bytes_eq}
-use Rattle.script.specs.Fields.{◌>>=◌, guard, next_below, is_end}
+use Rattle.script.specs.Fields.{◌>>=◌, guard, next_below, is_end, one_number}
 use Rattle.engine.specs.declared.remedy.Remedy.{Remedy}
 use Rattle.engine.specs.declared.remedy.Remedy.TheVariants.{Retry, Replace}
 use Rattle.replay.specs.declared.request.Request.{Request}
 use Rattle.replay.specs.declared.request.Request.TheVariants.{Step, Acknowledge, Done, Look, Close, Dump}
-use Rattle.replay.specs.requests.Numbers.{one_number}
 
 -- COUNT, 1 to 1,000,000, and no more words
 unfoldable pub counted_steps : List (List ℕ) → Option Request

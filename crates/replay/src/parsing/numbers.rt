@@ -2,19 +2,11 @@
 ghost use Rattle.std.specs.Prelude.{◌≡◌, ◌^◌, option_map};
 ghost use Rattle.script.specs.Words.{words_of};
 ghost use Rattle.script.specs.Fields.{next_below};
-ghost use Rattle.replay.specs.requests.Numbers.{one_number, scope_of, substream_of};
+ghost use Rattle.replay.specs.requests.Numbers.{scope_of, substream_of};
 
 use caches::Scope;
 use cmdcodec::{Asid, Page, Sid, Ssid, Vmid};
-use script::{is_end, next_u32, next_word, number};
-
-#[tactic(auto, unfolding(crate::specs::requests::Numbers::one_number))]
-pub(super) fn one_number(text: &[u8]) -> Option<u32>
-    ensures { result ≡ one_number (words_of text.now) }
-{
-    let (number, rest) = next_u32(text)?;
-    if is_end(rest) { Some(number) } else { None }
-}
+use script::{next_word, number};
 
 #[tactic(auto, unfolding(script::specs::Fields::next_below))]
 pub(super) fn next_sid(text: &[u8]) -> Option<(Sid, &[u8])>

@@ -1,11 +1,12 @@
 //! The lines that send.
 ghost use Rattle.std.specs.Prelude.{◌≡◌, IfOk};
 ghost use Rattle.script.specs.Words.{words_of};
-ghost use Rattle.replay.specs.requests.SendLines.{raws_of, whole_batch, commands_of, inval_of, detach_of, publish_of};
+ghost use Rattle.script.specs.Fields.{raws_of};
+ghost use Rattle.replay.specs.requests.SendLines.{whole_batch, commands_of, inval_of, detach_of, publish_of};
 
-use super::numbers::{next_asid, next_page, next_sid, next_vmid, one_number};
+use super::numbers::{next_asid, next_page, next_sid, next_vmid};
 use crate::request::{Body, Content, Request, Sending};
-use script::{is_end, next_u32, next_u64, next_word, raw};
+use script::{is_end, next_u32, next_u64, next_word, one_number, raw};
 use std::alloc::{AllocError, Global};
 
 /// The commands that the words of a text say, if each word is one.

@@ -3,10 +3,9 @@ ghost use Rattle.std.specs.Prelude.{◌≡◌};
 ghost use Rattle.script.specs.Words.{words_of};
 ghost use Rattle.replay.specs.requests.UnitLines.{counted_steps, steps_of, remedy_of, ack_of, done_of, look_of, close_of, dump_of};
 
-use super::numbers::one_number;
 use crate::request::Request;
 use engine::Remedy;
-use script::{is_end, next_u32, next_u64, next_word};
+use script::{is_end, next_u32, next_u64, next_word, one_number};
 
 /// The most steps that one line may ask for.
 const MOST_STEPS: u64 = 1_000_000;

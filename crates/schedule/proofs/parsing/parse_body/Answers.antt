@@ -1,6 +1,6 @@
 use Rattle.std.proofs.Common.{ap, sym, ◌∙◌}
 use Rattle.script.specs.Words.{words_of}
-use Rattle.schedule.specs.Lines.{raws_of}
+use Rattle.script.specs.Fields.{raws_of}
 use Rattle.schedule.proofs.BodyLemmas.{behind, raws_of-more, raws_of-bad, raws_of-end}
 use Rattle.schedule.proofs.parsing.parse_body.Goals as goal
 

@@ -1,6 +1,7 @@
 use Rattle.std.proofs.Common.{◌≡◌, ◌≤◌, length}
 use Rattle.script.specs.Words.{words_of}
-use Rattle.schedule.specs.Lines.{raws_of, body_of}
+use Rattle.script.specs.Fields.{raws_of}
+use Rattle.schedule.specs.Lines.{body_of}
 use Rattle.schedule.proofs.BodyLemmas.{behind}
 use Rattle.schedule.proofs.parsing.parse_body.Given as goal
 

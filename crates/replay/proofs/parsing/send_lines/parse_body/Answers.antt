@@ -1,6 +1,6 @@
 use Rattle.std.proofs.Common.{Some, ap, sym, ◌∙◌}
 use Rattle.script.specs.Words.{words_of}
-use Rattle.replay.specs.requests.SendLines.{raws_of}
+use Rattle.script.specs.Fields.{raws_of}
 use Rattle.replay.proofs.BodyLemmas.{with_raws, raws_of-more, raws_of-bad, raws_of-end}
 use Rattle.replay.proofs.parsing.send_lines.parse_body.Goals as goal
 

@@ -1,6 +1,6 @@
 use Rattle.std.proofs.Common.{◌≡◌, length}
 use Rattle.script.specs.Words.{words_of}
-use Rattle.replay.specs.requests.SendLines.{raws_of}
+use Rattle.script.specs.Fields.{raws_of}
 use Rattle.replay.proofs.BodyLemmas.{with_raws}
 use Rattle.replay.proofs.parsing.send_lines.parse_body.Given as goal
 
