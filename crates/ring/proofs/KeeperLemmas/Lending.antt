@@ -1,35 +1,19 @@
 -- A keeper lends a seat.
-use Rattle.std.proofs.Common.{◌≡◌, ◌≢◌, ◌⊎◌, ℕ, zero, suc, ◌+◌, ◌-◌, ◌<◌, ◌≤◌, Bool, true, false, cond, List, [], ◌∷◌, ◌++◌, map, length, length-append, take, refl, sym, ap, ◌∙◌, subst, ⊎_elim, inl, inr, arith}
+use Rattle.std.proofs.Common.{◌≡◌, ◌≢◌, ℕ, List, [], refl, sym, ap, ◌∙◌, subst}
 use Rattle.std.specs.Prelude.{Option, Some, None}
-use mathlib.Core.Option.{none}
-use mathlib.Core.Logic.{dite}
-use native.Mathlib.Decide.{ℕ_discrete}
-use Rattle.atomic_table.specs.Table.{Step, step, Allows, Splits}
+use Rattle.atomic_table.specs.Table.{Splits}
 use Rattle.atomic_table.specs.Seated.{TableId}
 use Rattle.ringcore.specs.declared.world.event.Who.{Who}
-use Rattle.ringcore.specs.declared.world.event.Who.TheVariants.{Consumer, Sender}
-use Rattle.ringcore.specs.world.Trails.{Trail, Run, same, trail_of, IsSettled}
+use Rattle.ringcore.specs.world.Trails.{Run, same}
 use Rattle.ringcore.specs.world.Allowed.{Ring}
-use Rattle.ringcore.specs.world.Laws.{IsOne, OnlyOf}
+use Rattle.ringcore.specs.world.Laws.{IsOne}
 use Rattle.ring.specs.declared.table.rule.Participant.{Participant}
-use Rattle.qindex.specs.Positions.{IndexValue, index_of}
-use Rattle.ring.specs.Rings.{RingValue}
-use Rattle.ring.specs.consumer.Consumers.{IsConsumer}
-use Rattle.cmdcodec.specs.declared.raw.Raw.{Raw}
-use Rattle.ring.specs.sender.Senders.{IsTallied, IsSender}
-use Rattle.ring.specs.sender.Reservations.{IsOpen}
-use Rattle.ring.specs.declared.sender.tally.Tally.{Tally}
-use Rattle.ring.specs.table.Rule.{Holding, participant, RuleHolds, WentOn, IsIn, HasTrails, Any, participants_from, first_participants, IsAlone, who_of, ring_of, history_of_first}
-use Rattle.ring.specs.table.Meetings.{all_knowing, HasAll, AllSit, HaveMet, has_met}
-use Rattle.ring.specs.table.Keeping.{RunStands, one_of_run, AllKnow, without, own_part, run_by, grown_run}
-use Rattle.ring.specs.table.Ports.{PortValue, port_of}
-use Rattle.ring.specs.Keepers.{KeeperValue, keeper_of, sits, missing_from, missing, AllBut, IsKeeper, own_port, has_lent, has_back, Adds, IsNews, KeepsOthers}
-use Rattle.ring.proofs.TableLemmas.Trails.{same_refl, same_not, trail_here, trail_else, trail_append, none_before}
-use Rattle.ring.proofs.TableLemmas.OneRun.{alike, only_left}
-use Rattle.ring.proofs.TableLemmas.Starts.{all_in_first}
-use Rattle.ring.proofs.TableLemmas.Meetings.{knowing_who, meets_at}
-use Rattle.ring.proofs.TableLemmas.Keeping.{its_trail, know_less, lends_at}
-use Rattle.ring.proofs.KeeperLemmas.Seated.{sits_any, sits_not, any_less, none_missing, one_missing, IsOther, someone, first_ring, first_history, same_history, know_told}
+use Rattle.ring.specs.table.Rule.{Holding, RuleHolds, Any, IsAlone, who_of, ring_of, history_of_first}
+use Rattle.ring.specs.table.Keeping.{AllKnow, without, own_part}
+use Rattle.ring.specs.table.Ports.{port_of}
+use Rattle.ring.specs.Keepers.{KeeperValue, keeper_of, missing_from, missing, AllBut, IsKeeper, own_port, has_lent}
+use Rattle.ring.proofs.TableLemmas.Keeping.{know_less, lends_at}
+use Rattle.ring.proofs.KeeperLemmas.Seated.{sits_any, sits_not, any_less, one_missing, IsOther, someone, first_ring, first_history}
 
 module _ (table : TableId) (p : KeeperValue) (v : List Participant) (is : keeper_of table v ≡ p) (knows : AllBut (missing v) (ring_of v) (history_of_first v) v) (whole : p.lent ≡ None) (who : Who) (known : IsOne p.ring.made_with.senders who) where
   abbrev z : Ring

@@ -1,36 +1,26 @@
 -- A seat comes back to its keeper.
-use Rattle.std.proofs.Common.{◌≡◌, ◌≢◌, ◌⊎◌, ℕ, zero, suc, ◌+◌, ◌-◌, ◌<◌, ◌≤◌, Bool, true, false, cond, List, [], ◌∷◌, ◌++◌, map, length, length-append, take, refl, sym, ap, ◌∙◌, subst, ⊎_elim, inl, inr, arith}
+use Rattle.std.proofs.Common.{◌≡◌, ◌≢◌, ◌⊎◌, ℕ, List, [], ◌∷◌, ◌++◌, refl, sym, ap, ◌∙◌, subst, ⊎_elim, inl, inr, arith}
 use Rattle.std.specs.Prelude.{Option, Some, None}
 use mathlib.Core.Option.{none}
-use mathlib.Core.Logic.{dite}
-use native.Mathlib.Decide.{ℕ_discrete}
-use Rattle.atomic_table.specs.Table.{Step, step, Allows, Splits}
+use Rattle.atomic_table.specs.Table.{step, Allows}
 use Rattle.atomic_table.specs.Seated.{TableId}
 use Rattle.ringcore.specs.declared.world.event.Who.{Who}
-use Rattle.ringcore.specs.declared.world.event.Who.TheVariants.{Consumer, Sender}
-use Rattle.ringcore.specs.world.Trails.{Trail, Run, same, trail_of, IsSettled}
+use Rattle.ringcore.specs.world.Trails.{Trail, Run, same, trail_of}
 use Rattle.ringcore.specs.world.Allowed.{Ring}
 use Rattle.ringcore.specs.world.Laws.{IsOne, OnlyOf}
 use Rattle.ring.specs.declared.table.rule.Participant.{Participant}
-use Rattle.qindex.specs.Positions.{IndexValue, index_of}
 use Rattle.ring.specs.Rings.{RingValue}
-use Rattle.ring.specs.consumer.Consumers.{IsConsumer}
-use Rattle.cmdcodec.specs.declared.raw.Raw.{Raw}
-use Rattle.ring.specs.sender.Senders.{IsTallied, IsSender}
-use Rattle.ring.specs.sender.Reservations.{IsOpen}
-use Rattle.ring.specs.declared.sender.tally.Tally.{Tally}
-use Rattle.ring.specs.table.Rule.{Holding, participant, RuleHolds, WentOn, IsIn, HasTrails, Any, participants_from, first_participants, IsAlone, who_of, ring_of, history_of_first}
-use Rattle.ring.specs.table.Meetings.{all_knowing, HasAll, AllSit, HaveMet, has_met}
-use Rattle.ring.specs.table.Keeping.{RunStands, one_of_run, AllKnow, without, own_part, run_by, grown_run}
+use Rattle.ring.specs.table.Rule.{Holding, participant, RuleHolds, WentOn, IsIn, HasTrails, Any, IsAlone, who_of, ring_of, history_of_first}
+use Rattle.ring.specs.table.Meetings.{all_knowing, AllSit, HaveMet, has_met}
+use Rattle.ring.specs.table.Keeping.{RunStands, one_of_run, run_by, grown_run}
 use Rattle.ring.specs.table.Ports.{PortValue, port_of}
-use Rattle.ring.specs.Keepers.{KeeperValue, keeper_of, sits, missing_from, missing, AllBut, IsKeeper, own_port, has_lent, has_back, Adds, IsNews, KeepsOthers}
-use Rattle.ring.proofs.TableLemmas.Trails.{same_refl, same_not, trail_here, trail_else, trail_append, none_before}
+use Rattle.ring.specs.Keepers.{KeeperValue, keeper_of, missing, AllBut, IsKeeper, has_back, Adds, IsNews, KeepsOthers}
+use Rattle.ring.proofs.TableLemmas.Trails.{trail_append, none_before}
 use Rattle.ring.proofs.TableLemmas.OneRun.{alike, only_left}
-use Rattle.ring.proofs.TableLemmas.Starts.{all_in_first}
 use Rattle.ring.proofs.TableLemmas.Meetings.{knowing_who, meets_at}
-use Rattle.ring.proofs.TableLemmas.Keeping.{its_trail, know_less, lends_at}
-use Rattle.ring.proofs.KeeperLemmas.Seated.{sits_any, sits_not, any_less, none_missing, one_missing, IsOther, someone, first_ring, first_history, same_history, know_told}
-use Rattle.ring.proofs.KeeperLemmas.Growing.{trail_since, grown_run_is, adds_those, trail_stays, all_of_one}
+use Rattle.ring.proofs.TableLemmas.Keeping.{its_trail}
+use Rattle.ring.proofs.KeeperLemmas.Seated.{sits_any, none_missing, IsOther, someone, same_history, know_told}
+use Rattle.ring.proofs.KeeperLemmas.Growing.{grown_run_is, adds_those, all_of_one}
 use Rattle.ring.proofs.KeeperLemmas.Idle.{keeps_others}
 
 -- what is known where all sit at one seat again, and have heard of the run

@@ -91,11 +91,7 @@ impl Keeper {
     }
 
     /// Takes the seat of a reservation's sender back, and knows the whole run again. The batch is no longer borrowed.
-    pub fn take_reservation(
-        &mut self,
-        ring: &Ring,
-        reservation: Reservation<'_>,
-    ) -> IdleReservation
+    pub fn take_reservation(&mut self, ring: &Ring, reservation: Reservation<'_>) -> IdleReservation
         requires ring { self.old.ring ≡ ring.now }
         requires own { reservation.ring ≡ ring.now }
         requires lent { self.old.lent ≡ Some (SenderOf reservation.sender) }
