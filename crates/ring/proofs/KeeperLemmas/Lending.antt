@@ -8,10 +8,9 @@ use Rattle.ringcore.specs.world.Trails.{Run, same}
 use Rattle.ringcore.specs.world.Allowed.{Ring}
 use Rattle.ringcore.specs.world.Laws.{IsOne}
 use Rattle.ring.specs.declared.table.rule.Participant.{Participant}
-use Rattle.ring.specs.table.Rule.{Holding, RuleHolds, Any, IsAlone, who_of, ring_of, history_of_first}
+use Rattle.ring.specs.table.Rule.{Holding, RuleHolds, Any, ring_of, history_of_first}
 use Rattle.ring.specs.table.Keeping.{AllKnow, without, own_part}
-use Rattle.ring.specs.table.Ports.{port_of}
-use Rattle.ring.specs.Keepers.{KeeperValue, keeper_of, missing_from, missing, AllBut, IsKeeper, own_port, has_lent}
+use Rattle.ring.specs.Keepers.{KeeperValue, keeper_of, missing_from, missing, AllBut, IsKeeper, has_lent}
 use Rattle.ring.proofs.TableLemmas.Keeping.{know_less, lends_at}
 use Rattle.ring.proofs.KeeperLemmas.Seated.{sits_any, sits_not, any_less, one_missing, IsOther, someone, first_ring, first_history}
 
@@ -33,16 +32,6 @@ module _ (table : TableId) (p : KeeperValue) (v : List Participant) (is : keeper
 
   pub lends_as : (key : Ring) (id : ℕ) → Splits (RuleHolds key) id v (without who v) (own_part who v)
   lends_as key id = lends_at key z id who run v knows.each (sits_there who one_of)
-
-  pub own_alone : (me : Holding) → me ≡ (own_part who v, []) → IsAlone me (who_of me.0)
-  own_alone me e = subst (λ (m : Holding). IsAlone m (who_of m.0)) (sym e) record {
-    me_is = refl;
-    words = knows.stands.words;
-    stands = record { limits = knows.stands.limits; after = knows.stands.after; only = knows.stands.only; known = one_of; trail_is = refl };
-  }
-
-  pub own_is : (new_table : TableId) (me : Holding) → new_table ≡ table → me ≡ (own_part who v, []) → port_of new_table me ≡ own_port who p
-  own_is new_table me same e = (λ k. port_of (same k) (e k)) ∙ ap (own_port who) is
 
   abbrev left : List Participant
   left = without who v
