@@ -1,7 +1,9 @@
 //! One who sits for everybody, and so knows the whole run. He lends one seat at a time.
 ghost use Rattle.std.specs.Prelude.{◌≡◌, ◌<◌, Some, None};
 ghost use Rattle.ringcore.specs.declared.world.event.Who.TheVariants.{Sender as SenderOf, Consumer as ConsumerOf};
+ghost use Rattle.ringcore.specs.world.Trails.{trail_of};
 ghost use Rattle.ringcore.specs.world.Laws.{IsOne};
+ghost use Rattle.ring.specs.table.Histories.{Grew};
 ghost use Rattle.ring.specs.table.Keeping.{RunStands};
 ghost use Rattle.ring.specs.Keepers.{own_port, has_lent, has_back, Adds, IsNews, KeepsOthers};
 
@@ -94,6 +96,7 @@ impl Keeper {
         requires lent { self.old.lent ≡ Some port.who }
         ensures keeper { self.new ≡ has_back port.who port.trail self.old }
         ensures adds { Adds port.who port.trail self.old.run self.new.run }
+        ensures grew { Grew port.who (trail_of port.who self.old.run) port.trail self.old.run self.new.run }
         ensures news { IsNews port.who port.trail port.history self.old.run self.new.run }
         ensures others { KeepsOthers port.who self.old self.new }
     {

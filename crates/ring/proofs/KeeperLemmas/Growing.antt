@@ -3,6 +3,7 @@ use Rattle.std.proofs.Common.{◌≡◌, ◌≢◌, ◌⊎◌, ℕ, ◌-◌, Lis
 use Rattle.ringcore.specs.declared.world.event.Who.{Who}
 use Rattle.ringcore.specs.world.Trails.{Trail, Run, trail_of}
 use Rattle.ringcore.specs.world.Laws.{IsOne, OnlyOf}
+use Rattle.ring.specs.table.Histories.{EndsWith}
 use Rattle.ring.specs.table.Keeping.{run_by, grown_run}
 use Rattle.ring.specs.Keepers.{Adds}
 use Rattle.ring.proofs.TableLemmas.Trails.{trail_here, trail_else}
@@ -12,6 +13,11 @@ use Rattle.ring.proofs.TableLemmas.OneRun.{alike}
 pub trail_since : (who : Who) (added : Trail) (since : Run) → trail_of who (run_by who added ++ since) ≡ added ++ trail_of who since
 trail_since who [] since = refl
 trail_since who (e ∷ es) since = trail_here who e (run_by who es ++ since) ∙ ap (λ (t : Trail). e ∷ t) (trail_since who es since)
+
+-- its events alone end with one of its own
+pub ends_by : (who : Who) (added : Trail) → EndsWith who (run_by who added)
+ends_by who [] = tt
+ends_by who (e ∷ es) = refl
 
 front : {A : Type 0} (xs ys : List A) → take (length xs) (xs ++ ys) ≡ xs
 front [] [] = refl

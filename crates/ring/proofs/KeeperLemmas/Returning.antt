@@ -12,6 +12,7 @@ use Rattle.ring.specs.declared.table.rule.Participant.{Participant}
 use Rattle.ring.specs.Rings.{RingValue}
 use Rattle.ring.specs.table.Rule.{Holding, participant, RuleHolds, WentOn, IsIn, HasTrails, Any, IsAlone, who_of, ring_of, history_of_first}
 use Rattle.ring.specs.table.Meetings.{all_knowing, AllSit, HaveMet, has_met}
+use Rattle.ring.specs.table.Histories.{EndsWith, Grew}
 use Rattle.ring.specs.table.Keeping.{RunStands, one_of_run, run_by, grown_run}
 use Rattle.ring.specs.table.Ports.{PortValue, port_of}
 use Rattle.ring.specs.Keepers.{KeeperValue, keeper_of, missing, AllBut, IsKeeper, has_back, Adds, IsNews, KeepsOthers}
@@ -20,7 +21,7 @@ use Rattle.ring.proofs.TableLemmas.OneRun.{alike, only_left}
 use Rattle.ring.proofs.TableLemmas.Meetings.{knowing_who, meets_at}
 use Rattle.ring.proofs.TableLemmas.Keeping.{its_trail}
 use Rattle.ring.proofs.KeeperLemmas.Seated.{sits_any, none_missing, IsOther, someone, same_history, know_told}
-use Rattle.ring.proofs.KeeperLemmas.Growing.{grown_run_is, adds_those, all_of_one}
+use Rattle.ring.proofs.KeeperLemmas.Growing.{ends_by, grown_run_is, adds_those, all_of_one}
 use Rattle.ring.proofs.KeeperLemmas.Idle.{keeps_others}
 
 -- what is known where all sit at one seat again, and have heard of the run
@@ -31,6 +32,7 @@ pub record IsBack (z : Ring) (old : Run) (who : Who) (trail : Trail) (history : 
   pub run_is : history_of_first last.0 ≡ grown_run who old trail
   pub added : Trail
   pub added_is : history_of_first last.0 ≡ run_by who added ++ old
+  pub grew : Grew who (trail_of who old) trail old (history_of_first last.0)
   pub news : IsNews who trail history old (history_of_first last.0)
 
 module _ (z : Ring) (old : Run) (who : Who) (v : List Participant) (knows : AllBut (Some who) z old v) (trail : Trail) (history : Run) where
@@ -90,6 +92,7 @@ module _ (z : Ring) (old : Run) (who : Who) (v : List Participant) (knows : AllB
       lent_is = none_now;
       run_is = new_is;
       added = added;
+      grew = record { newer = older.newer; run_is = older.run_is; trail_is = trail_is; last = subst (EndsWith who) (sym newer_is) (ends_by who added) };
       added_is = older.run_is ∙ ap (λ (r : Run). r ++ old) newer_is;
       news = record { trail_is = has.0.trail; went_on = has.0.went_on; newest = known_now (newest_is back_sits) };
     }
@@ -136,6 +139,9 @@ module _ (table : TableId) (p : KeeperValue) (v : List Participant) (is : keeper
 
     pub back_adds : Adds q.who q.trail p.run (history_of_first last.0)
     back_adds = adds_those q.who q.trail p.run (history_of_first last.0) (back.run_is ∙ ap (λ (r : Run). grown_run q.who r q.trail) run_same)
+
+    pub back_grew : Grew q.who (trail_of q.who p.run) q.trail p.run (history_of_first last.0)
+    back_grew = subst (λ (r : Run). Grew q.who (trail_of q.who r) q.trail r (history_of_first last.0)) run_same back.grew
 
     pub back_news : IsNews q.who q.trail q.history p.run (history_of_first last.0)
     back_news = subst (λ (r : Run). IsNews q.who q.trail q.history r (history_of_first last.0)) run_same back.news

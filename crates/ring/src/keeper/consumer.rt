@@ -1,6 +1,8 @@
 //! What is left of the consumer while the keeper has its seat.
 ghost use Rattle.std.specs.Prelude.{◌≡◌, Some, None};
 ghost use Rattle.ringcore.specs.declared.world.event.Who.TheVariants.{Consumer as ConsumerOf};
+ghost use Rattle.ringcore.specs.world.Trails.{trail_of};
+ghost use Rattle.ring.specs.table.Histories.{Grew};
 ghost use Rattle.ring.specs.Keepers.{own_consumer, has_lent, has_back, Adds, IsNews, KeepsOthers, IsIdleConsumer};
 
 use crate::consumer::{Commands, Consumer, ConsumerPort, Lent};
@@ -62,6 +64,7 @@ impl Keeper {
         requires lent { self.old.lent ≡ Some ConsumerOf }
         ensures keeper { self.new ≡ has_back ConsumerOf consumer.trail self.old }
         ensures adds { Adds ConsumerOf consumer.trail self.old.run self.new.run }
+        ensures grew { Grew ConsumerOf (trail_of ConsumerOf self.old.run) consumer.trail self.old.run self.new.run }
         ensures news { IsNews ConsumerOf consumer.trail consumer.history self.old.run self.new.run }
         ensures others { KeepsOthers ConsumerOf self.old self.new }
         ensures idle { IsIdleConsumer self.new result.head result.taken }

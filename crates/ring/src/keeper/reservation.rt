@@ -1,6 +1,8 @@
 //! What is left of a reservation while the keeper has its sender's seat.
 ghost use Rattle.std.specs.Prelude.{◌≡◌, ◌<◌, true, false, Some, None};
 ghost use Rattle.ringcore.specs.declared.world.event.Who.TheVariants.{Sender as SenderOf};
+ghost use Rattle.ringcore.specs.world.Trails.{trail_of};
+ghost use Rattle.ring.specs.table.Histories.{Grew};
 ghost use Rattle.ring.specs.Keepers.{own_reservation, has_lent, has_back, Adds, IsNews, KeepsOthers, IsIdleReservation, IsLeftOf};
 
 use crate::keeper::Keeper;
@@ -97,6 +99,7 @@ impl Keeper {
         requires lent { self.old.lent ≡ Some (SenderOf reservation.sender) }
         ensures keeper { self.new ≡ has_back (SenderOf reservation.entry.sender) reservation.entry.trail self.old }
         ensures adds { Adds (SenderOf reservation.entry.sender) reservation.entry.trail self.old.run self.new.run }
+        ensures grew { Grew (SenderOf reservation.entry.sender) (trail_of (SenderOf reservation.entry.sender) self.old.run) reservation.entry.trail self.old.run self.new.run }
         ensures news { IsNews (SenderOf reservation.entry.sender) reservation.entry.trail reservation.entry.history self.old.run self.new.run }
         ensures others { KeepsOthers (SenderOf reservation.entry.sender) self.old self.new }
         ensures left { IsLeftOf reservation.entry result }
@@ -118,6 +121,7 @@ impl Keeper {
         requires lent { self.old.lent ≡ Some (SenderOf reservation.sender) }
         ensures keeper { self.new ≡ has_back (SenderOf reservation.entry.sender) reservation.entry.trail self.old }
         ensures adds { Adds (SenderOf reservation.entry.sender) reservation.entry.trail self.old.run self.new.run }
+        ensures grew { Grew (SenderOf reservation.entry.sender) (trail_of (SenderOf reservation.entry.sender) self.old.run) reservation.entry.trail self.old.run self.new.run }
         ensures news { IsNews (SenderOf reservation.entry.sender) reservation.entry.trail reservation.entry.history self.old.run self.new.run }
         ensures others { KeepsOthers (SenderOf reservation.entry.sender) self.old self.new }
         ensures left { IsLeftOf reservation.entry result }
@@ -166,6 +170,7 @@ impl Keeper {
         requires lent { self.old.lent ≡ Some (SenderOf reservation.sender) }
         ensures keeper { self.new ≡ has_back (SenderOf reservation.entry.sender) reservation.entry.trail self.old }
         ensures adds { Adds (SenderOf reservation.entry.sender) reservation.entry.trail self.old.run self.new.run }
+        ensures grew { Grew (SenderOf reservation.entry.sender) (trail_of (SenderOf reservation.entry.sender) self.old.run) reservation.entry.trail self.old.run self.new.run }
         ensures news { IsNews (SenderOf reservation.entry.sender) reservation.entry.trail reservation.entry.history self.old.run self.new.run }
         ensures others { KeepsOthers (SenderOf reservation.entry.sender) self.old self.new }
         ensures left { IsLeftOf reservation.entry result }

@@ -1,6 +1,8 @@
 //! What is left of a sender while the keeper has its seat.
 ghost use Rattle.std.specs.Prelude.{◌≡◌, ◌<◌, [], Some, None};
 ghost use Rattle.ringcore.specs.declared.world.event.Who.TheVariants.{Sender as SenderOf};
+ghost use Rattle.ringcore.specs.world.Trails.{trail_of};
+ghost use Rattle.ring.specs.table.Histories.{Grew};
 ghost use Rattle.ring.specs.Keepers.{KeeperValue, own_sender, has_lent, has_back, Adds, IsNews, KeepsOthers, IsIdle};
 
 use crate::keeper::Keeper;
@@ -68,6 +70,7 @@ impl Keeper {
         requires lent { self.old.lent ≡ Some (SenderOf sender.number) }
         ensures keeper { self.new ≡ has_back (SenderOf sender.number) sender.trail self.old }
         ensures adds { Adds (SenderOf sender.number) sender.trail self.old.run self.new.run }
+        ensures grew { Grew (SenderOf sender.number) (trail_of (SenderOf sender.number) self.old.run) sender.trail self.old.run self.new.run }
         ensures news { IsNews (SenderOf sender.number) sender.trail sender.history self.old.run self.new.run }
         ensures others { KeepsOthers (SenderOf sender.number) self.old self.new }
         ensures number { result.sender ≡ sender.number }
