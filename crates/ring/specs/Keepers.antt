@@ -50,7 +50,7 @@ pub record AllBut (lent : Option Who) (ring : Ring) (run : Run) (all : List Part
   pub stands : RunStands ring run
 
 pub record IsKeeper (me : Holding) : Type 0 where
-  pub bare : me.1 ≡ []
+  pub no_slots : me.1 ≡ []
   pub knows : AllBut (missing me.0) (ring_of me.0) (history_of_first me.0) me.0
 
 -- ---- a seat is lent, and comes back
@@ -87,8 +87,8 @@ abbrev pub own_sender : ℕ → KeeperValue → SenderValue
 own_sender s k = record { ring = k.ring; number = s; trail = trail_of (Sender s) k.run; history = k.run }
 
 -- A sender between two calls: its tally is that of the run.
-abbrev pub IsIdle : KeeperValue → Tally → Type 0
-IsIdle k tally = IsSender (own_port (Sender tally.sender) k) tally
+abbrev pub IsIdleSender : KeeperValue → Tally → Type 0
+IsIdleSender k tally = IsSender (own_port (Sender tally.sender) k) tally
 
 -- the consumer between two calls: its head, how many were taken, and the device that was lent last
 pub record IdleConsumerValue (D : Type 0) : Type 0 where
@@ -137,7 +137,7 @@ pub record IsLeftOf (r : ReservationValue) (idle : IdleReservationValue) : Type 
 -- Others than this one took no step, and what is left of them stays that.
 pub record KeepsOthers (who : Who) (old new : KeeperValue) : Type 0 where
   pub trails : (other : Who) → other ≢ who → trail_of other new.run ≡ trail_of other old.run
-  pub senders : (tally : Tally) → Sender tally.sender ≢ who → IsIdle old tally → IsIdle new tally
+  pub senders : (tally : Tally) → Sender tally.sender ≢ who → IsIdleSender old tally → IsIdleSender new tally
   pub reservations : (body : List Raw) (idle : IdleReservationValue) → Sender idle.tally.sender ≢ who → IsIdleReservation old body idle → IsIdleReservation new body idle
   pub consumer : (head : IndexValue) (taken : ℕ) → Consumer ≢ who → IsIdleConsumer old head taken → IsIdleConsumer new head taken
 

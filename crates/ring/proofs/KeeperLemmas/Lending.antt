@@ -68,7 +68,7 @@ module _ (table : TableId) (p : KeeperValue) (v : List Participant) (is : keeper
 
   pub left_keeps : (old new : Holding) → old.0 ≡ v → old.1 ≡ [] → new ≡ (without who old.0, old.1) → IsKeeper new
   left_keeps old new old_is bare e = subst IsKeeper (sym (e ∙ (λ k. (without who (old_is k), bare k)))) record {
-    bare = refl;
+    no_slots = refl;
     knows = subst (λ (t : Ring × Run × Option Who). AllBut t.2 t.0 t.1 left) (λ k. (sym left_ring k, sym left_history k, sym left_missing k)) left_base;
   }
 

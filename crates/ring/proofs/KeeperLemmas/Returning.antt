@@ -87,7 +87,7 @@ module _ (z : Ring) (old : Run) (who : Who) (v : List Participant) (knows : AllB
 
     is_back : IsBack z old who trail history (told, [])
     is_back = record {
-      keeper = record { bare = refl; knows = record { some = knows.some; each = know_told z new all has; others = λ u known ne. told_sits u known; stands = stands } };
+      keeper = record { no_slots = refl; knows = record { some = knows.some; each = know_told z new all has; others = λ u known ne. told_sits u known; stands = stands } };
       ring_is = refl;
       lent_is = none_now;
       run_is = new_is;

@@ -26,7 +26,7 @@ starts_kept ring some stands me is =
     let one = all_in_first ring Consumer tt in
     let base : AllBut (missing v) ring [] v = record { some = some; each = all; others = λ u known ne. all_in_first ring u known; stands = stands } in
     subst IsKeeper (sym is) record {
-      bare = refl;
+      no_slots = refl;
       knows = subst (λ (t : Ring × Run). AllBut (missing v) t.0 t.1 v) (λ k. (sym (first_ring ring [] v (λ p. p.who ≡ Consumer) all one) k, sym (first_history ring [] v (λ p. p.who ≡ Consumer) all one) k)) base;
     }
 

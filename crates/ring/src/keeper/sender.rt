@@ -3,7 +3,7 @@ ghost use Rattle.std.specs.Prelude.{◌≡◌, ◌<◌, [], Some, None};
 ghost use Rattle.ringcore.specs.declared.world.event.Who.TheVariants.{Sender as SenderOf};
 ghost use Rattle.ringcore.specs.world.Trails.{trail_of};
 ghost use Rattle.ring.specs.table.Histories.{Grew};
-ghost use Rattle.ring.specs.Keepers.{KeeperValue, own_sender, has_lent, has_back, Adds, IsNews, KeepsOthers, IsIdle};
+ghost use Rattle.ring.specs.Keepers.{KeeperValue, own_sender, has_lent, has_back, Adds, IsNews, KeepsOthers, IsIdleSender};
 
 use crate::keeper::Keeper;
 use crate::ring::Ring;
@@ -30,7 +30,7 @@ impl IdleSender {
     /// The sender of this number, from 0, of a ring in which nothing has happened.
     pub fn new(number: u32) -> IdleSender
         ensures number { result.sender ≡ number }
-        ensures idle { (keeper : KeeperValue) → keeper.run ≡ [] → IsIdle keeper result }
+        ensures idle { (keeper : KeeperValue) → keeper.run ≡ [] → IsIdleSender keeper result }
     {
         IdleSender {
             tally: Tally::new(number),
@@ -52,7 +52,7 @@ impl Keeper {
         requires ring { self.old.ring ≡ ring.now }
         requires whole { self.old.lent ≡ None }
         requires known { idle.sender < self.old.ring.made_with.senders }
-        requires idle { IsIdle self.old idle }
+        requires idle { IsIdleSender self.old idle }
         ensures sender { result ≡ own_sender idle.sender self.old }
         ensures keeper { self.new ≡ has_lent (SenderOf idle.sender) self.old }
     {
@@ -74,7 +74,7 @@ impl Keeper {
         ensures news { IsNews (SenderOf sender.number) sender.trail sender.history self.old.run self.new.run }
         ensures others { KeepsOthers (SenderOf sender.number) self.old self.new }
         ensures number { result.sender ≡ sender.number }
-        ensures idle { IsIdle self.new result }
+        ensures idle { IsIdleSender self.new result }
     {
         let Sender { port, tally } = sender;
         self.take_back(ring, port);

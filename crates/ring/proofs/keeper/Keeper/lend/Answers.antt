@@ -12,7 +12,7 @@ split_seat-seat-requires g c = (
 )
 
 pub invariant_of-self : goal.invariant_of-self
-invariant_of-self g c = left_keeps _ _ _ c.self.view_is c.self.invariant.knows c.requires.whole _ c.requires.known c.self.inside.seat.me _ refl c.self.invariant.bare c.split_seat-seat.ensures.2
+invariant_of-self g c = left_keeps _ _ _ c.self.view_is c.self.invariant.knows c.requires.whole _ c.requires.known c.self.inside.seat.me _ refl c.self.invariant.no_slots c.split_seat-seat.ensures.2
 
 pub returns-clause-keeper : goal.returns-clause-keeper
 returns-clause-keeper g c = left_is _ _ _ c.self.view_is c.self.invariant.knows c.requires.whole _ c.requires.known _ _ c.split_seat-seat.ensures.0 (ap (λ (m : Holding). m.0) c.split_seat-seat.ensures.2)
