@@ -16,7 +16,12 @@ fn kept_ring<R: AllocGlobal + Abort>(rt: &R) -> (Ring, Keeper, IdleConsumer<NoEn
     Keeper::new(rt.alloc(), 3, 2, 8).expect(rt, "numbers of a ring, and memory")
 }
 
-fn expect_fault<R: AllocGlobal + Abort>(rt: &R, log2: u32, senders: u32, batches: u32) -> RingFault {
+fn expect_fault<R: AllocGlobal + Abort>(
+    rt: &R,
+    log2: u32,
+    senders: u32,
+    batches: u32,
+) -> RingFault {
     match Keeper::new::<NoEntries>(rt.alloc(), log2, senders, batches) {
         Ok(_) => panic!(rt; "the ring is made"),
         Err(fault) => fault,
@@ -83,7 +88,9 @@ fn a_bare_reservation_waits_for_its_batch(rt: HostRuntime) {
     };
     let idle = keeper.take_bare_reservation(&ring, reservation);
     assert!(rt; !idle.closes());
-    let sender = keeper.lend_bare_reservation(&ring, idle, &one).publish(&ring);
+    let sender = keeper
+        .lend_bare_reservation(&ring, idle, &one)
+        .publish(&ring);
     keeper.take_sender(&ring, sender);
     let consumer = keeper.lend_consumer(&ring, consumer);
     let (consumer, head) = take_one(&ring, consumer);
