@@ -1,6 +1,5 @@
 //! What no clause says of a keeper: that it is made, and that the calls of those to whom it lends a seat succeed, one
 //! after another.
-ghost use Rattle.std.specs.Prelude.{◌≡◌, None};
 ghost use Rattle.ring.specs.Keepers.{IsKept};
 
 use crate::batches::{CFGI_STE, batch_of};
