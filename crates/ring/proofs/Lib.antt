@@ -2,4 +2,5 @@ pub mod TableLemmas
 pub mod SenderLemmas
 pub mod ConsumerLemmas
 pub mod FinishLemmas
+pub mod KeeperLemmas
 pub mod Crossing

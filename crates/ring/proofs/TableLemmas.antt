@@ -9,4 +9,5 @@ pub mod OneRun
 pub mod OneWords
 pub mod Histories
 pub mod Grown
+pub mod Keeping
 pub mod Meetings

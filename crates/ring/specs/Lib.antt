@@ -5,3 +5,4 @@ pub mod NewRings
 pub mod consumer
 pub mod Finishing
 pub mod FaultNames
+pub mod Keepers

@@ -5,4 +5,5 @@ pub mod StepEvents
 pub mod Ports
 pub mod OneRun
 pub mod Histories
+pub mod Keeping
 pub mod Meetings

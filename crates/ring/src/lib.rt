@@ -4,6 +4,7 @@
 mod consumer;
 mod device;
 mod fault;
+mod keeper;
 mod ring;
 mod sender;
 mod summary;
@@ -12,6 +13,7 @@ mod table;
 pub use consumer::{Consumer, Pending, PendingRun, Taken, TakenRun};
 pub use device::Device;
 pub use fault::RingFault;
+pub use keeper::{IdleConsumer, IdleReservation, IdleSender, Keeper};
 pub use ring::Ring;
 pub use ringcore::Outcome;
 pub use sender::{BareReservation, Cause, Receipt, Refused, Reservation, Sender};

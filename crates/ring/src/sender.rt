@@ -25,12 +25,12 @@ mod tally;
 
 use crate::ring::Ring;
 use crate::sender::batch_length::batch_length;
-use crate::sender::open_reservation::OpenReservation;
 use crate::table::{Participants, Port};
 use atomic_table::Seat;
 pub use bare_reservation::BareReservation;
 use batch::Batch;
 pub use cause::{Cause, Refused};
+pub use open_reservation::OpenReservation;
 use qindex::{Control, indexes_tell_the_queue};
 pub use receipt::Receipt;
 pub use reservation::Reservation;

@@ -6,4 +6,4 @@ mod steps;
 
 pub use port::Port;
 pub use rule::{Parameters, Participant, Participants, RingRule, growth_adds_up, run_is_one};
-pub use steps::{Asks, Closes, Deals, Gathers, HasIntent, Looks, Meets, StepFor};
+pub use steps::{Asks, Closes, Deals, Gathers, HasIntent, HasWho, Lends, Looks, Meets, StepFor};

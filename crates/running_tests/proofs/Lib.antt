@@ -1,3 +1,4 @@
 pub mod Legal
 pub mod WorkedRefusals
 pub mod WorkedTellings
+pub mod Kept

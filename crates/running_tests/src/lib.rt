@@ -13,6 +13,8 @@ mod consumer_tests;
 #[cfg(test)]
 mod device;
 #[cfg(test)]
+mod keeper_tests;
+#[cfg(test)]
 mod run_tests;
 #[cfg(test)]
 mod runs;

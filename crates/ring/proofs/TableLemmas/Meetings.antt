@@ -8,14 +8,15 @@ use Rattle.atomic_table.proofs.Lists.{at_set}
 use Rattle.ringcore.specs.declared.world.event.Who.{Who}
 use Rattle.ringcore.specs.world.Trails.{Run, same}
 use Rattle.ringcore.specs.world.Allowed.{Ring}
+use Rattle.ringcore.specs.world.Laws.{IsOne}
 use Rattle.ringcore.specs.memory.Shadow.{AreAfter}
 use Rattle.ring.specs.declared.table.rule.Participant.{Participant}
-use Rattle.ring.specs.table.Rule.{Holding, participant, WentOn, HasTrails, SitAt, Any, RuleHolds, Stands, ring_of, who_of, trail_of_first, history_of_first, IsAlone}
+use Rattle.ring.specs.table.Rule.{TableState, Holding, participant, WentOn, HasTrails, SitAt, Any, RuleHolds, Stands, ring_of, who_of, trail_of_first, history_of_first, IsAlone}
 use Rattle.ring.specs.table.Operations.{AreMadeBy}
 use Rattle.ring.specs.table.StepEvents.{without_first, first_alone, both_of}
-use Rattle.ring.specs.table.Meetings.{all_knowing, HasAll, HaveMet, has_met}
+use Rattle.ring.specs.table.Meetings.{all_knowing, HasAll, AllSit, HaveMet, has_met}
 use Rattle.ring.specs.table.Ports.{port_of, PortValue}
-use Rattle.ring.proofs.TableLemmas.Seats.{went_on_none, among_step}
+use Rattle.ring.proofs.TableLemmas.Seats.{went_on_none, same_place, among_step}
 use Rattle.ring.proofs.TableLemmas.Steps.{deals_at, set_back}
 
 -- ---- all for whom a seat stands know the run as it is
@@ -33,10 +34,30 @@ knowing_newest : (run : Run) (hs : List Participant) → Any (λ p. p.history �
 knowing_newest run [] one = absurd one
 knowing_newest run (h ∷ hs) one = inl refl
 
-knowing_who : (who : Who) (run : Run) (hs : List Participant) → Any (λ p. p.who ≡ who) hs → Any (λ p. p.who ≡ who) (all_knowing run hs)
+pub knowing_who : (who : Who) (run : Run) (hs : List Participant) → Any (λ p. p.who ≡ who) hs → Any (λ p. p.who ≡ who) (all_knowing run hs)
 knowing_who who run [] one = absurd one
 knowing_who who run (h ∷ hs) (inl is) = inl is
 knowing_who who run (h ∷ hs) (inr more) = inr (knowing_who who run hs more)
+
+pub sits_here : (seat : Who → ℕ) (id : ℕ) (who : Who) (v : List Participant) → SitAt seat id v → Any (λ p. p.who ≡ who) v → seat who ≡ id
+sits_here seat id who [] sit one = absurd one
+sits_here seat id who (p ∷ ps) sit (inl is) = ap seat (sym is) ∙ sit.0
+sits_here seat id who (p ∷ ps) sit (inr more) = sits_here seat id who ps sit.1 more
+
+-- where everyone sits at one seat, whoever sits somewhere sits there
+one_seat : (ring : Ring) (run : Run) (seat : Who → ℕ) (j id : ℕ) (P : Participant → Type 0) (there : List Participant) → SitAt seat j there → HasTrails ring run there → ((u : Who) → IsOne ring.senders u → seat u ≡ id) → Any P there → j ≡ id
+one_seat ring run seat j id P [] sit has all one = absurd one
+one_seat ring run seat j id P (p ∷ ps) sit has all (inl here) = sym sit.0 ∙ all p.who has.0.known
+one_seat ring run seat j id P (p ∷ ps) sit has all (inr more) = one_seat ring run seat j id P ps sit.1 has.1 all more
+
+-- where everyone sits at one seat, one who sits there has known the run
+module _ (ring : Ring) (s : TableState) (k : RuleHolds ring s) (id : ℕ) (v : List Participant) (at : get_elem? s.views id ≡ some v) where
+  newest_here : AllSit ring v → Any (λ p. p.history ≡ k.run) v
+  newest_here all =
+      let n = k.newest in
+      let there = k.seated n.place n.there n.at in
+      let is : n.place ≡ id = one_seat ring k.run k.seat n.place id (λ p. p.history ≡ k.run) n.there there.0 there.1 (λ u known. sits_here k.seat id u v (k.seated id v at).0 (all u known)) n.one in
+      same_place s.views id v n.there at (λ p. p.history ≡ k.run) n.place is n.at n.one
 
 pub meets_at : (ring : Ring) (slots id i : ℕ) (g : Participant) (hs : List Participant) → Allows (RuleHolds ring) slots id (g ∷ hs, []) i (λ x. x) (has_met (step slots i 0 0 none) (g ∷ hs, []))
 meets_at ring slots id i g hs s k _ at _ =
@@ -61,7 +82,13 @@ meets_at ring slots id i g hs s k _ at _ =
         newest = among_step (λ p. p.history ≡ k.run) s.views id (g ∷ hs) w at (knowing_newest k.run (g ∷ hs)) k.newest;
         everyone = λ u one. among_step (λ p. p.who ≡ u) s.views id (g ∷ hs) w at (knowing_who u k.run (g ∷ hs)) (k.everyone u one);
       },
-      (k.run, s.words, subst (λ (r : Ring). HasAll r (g ∷ hs) k.run s.words) (sym mine.1.0.ring_is) here, refl),
+      (
+        k.run,
+        s.words,
+        subst (λ (r : Ring). HasAll r (g ∷ hs) k.run s.words) (sym mine.1.0.ring_is) here,
+        refl,
+        λ (all : AllSit g.ring (g ∷ hs)). newest_here ring s k id (g ∷ hs) at (subst (λ (r : Ring). AllSit r (g ∷ hs)) mine.1.0.ring_is all),
+      ),
     )
 
 -- ---- two seats, each of which stands for one alone

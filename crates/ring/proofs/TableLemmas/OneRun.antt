@@ -13,7 +13,7 @@ use Rattle.ring.specs.table.OneRun.{IsOneRun}
 use Rattle.ring.proofs.TableLemmas.Trails.{same_refl, trail_here, trail_else, trail_append, none_before}
 use Rattle.ring.proofs.FinishLemmas.Told.{same_is}
 
-alike : (u v : Who) → (u ≡ v) ⊎ (u ≢ v)
+pub alike : (u v : Who) → (u ≡ v) ⊎ (u ≢ v)
 alike u v = by_same (same u v) refl
   where
     by_same : (b : Bool) → same u v ≡ b → (u ≡ v) ⊎ (u ≢ v)
@@ -26,7 +26,7 @@ alike u v = by_same (same u v) refl
 not_longer : (a b : Trail) (e : Event) → b ≡ a ++ e ∷ b → ⊥
 not_longer a b e is = let n : length b ≡ length (a ++ e ∷ b) = ap (λ (t : Trail). length t) is in let m = length-append a (e ∷ b) in omega (arith, n, m)
 
-only_left : (senders : ℕ) (a b : Run) → OnlyOf senders (a ++ b) → OnlyOf senders a
+pub only_left : (senders : ℕ) (a b : Run) → OnlyOf senders (a ++ b) → OnlyOf senders a
 only_left senders [] b all = tt
 only_left senders (x ∷ xs) b all = (all.0, only_left senders xs b all.1)
 

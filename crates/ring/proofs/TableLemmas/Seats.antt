@@ -94,7 +94,7 @@ any_right : (P : Participant → Type 0) (hs gs : List Participant) → Any P gs
 any_right P [] gs one = one
 any_right P (h ∷ hs) gs one = inr (any_right P hs gs one)
 
-same_place : (views : List (List Participant)) (i : ℕ) (v w : List Participant) → get_elem? views i ≡ some v → (P : Participant → Type 0) (j : ℕ) → j ≡ i → get_elem? views j ≡ some w → Any P w → Any P v
+pub same_place : (views : List (List Participant)) (i : ℕ) (v w : List Participant) → get_elem? views i ≡ some v → (P : Participant → Type 0) (j : ℕ) → j ≡ i → get_elem? views j ≡ some w → Any P w → Any P v
 same_place views i v w at P j is there one = subst (Any P) (some-injective w v (sym there ∙ ap (get_elem? views) is ∙ at)) one
 
 -- a seat has other views, of which it is so where it was

@@ -51,7 +51,7 @@ sender_in ring k (suc more) s low less = dite (ℕ_discrete k s)
     (λ is. inl (ap Sender is))
     (λ ne. inr (sender_in ring (suc k) more s (omega (arith, ne)) (omega arith)))
 
-all_in_first : (ring : Ring) (who : Who) → IsOne ring.senders who → Any (λ p. p.who ≡ who) (first_participants ring)
+pub all_in_first : (ring : Ring) (who : Who) → IsOne ring.senders who → Any (λ p. p.who ≡ who) (first_participants ring)
 all_in_first ring Consumer one = consumer_in (λ p. p.who ≡ Consumer) ring 0 ring.senders refl
 all_in_first ring (Sender s) one = sender_in ring 0 ring.senders s (omega arith) (omega (arith, one))
 

@@ -1,12 +1,13 @@
 -- Seats that are joined for a load: all for whom they stand know the run as it is then.
 use Rattle.std.specs.Prelude.{◌≡◌, ℕ, List, [], ◌∷◌}
 use Rattle.atomic_table.specs.Table.{Step}
+use Rattle.ringcore.specs.declared.world.event.Who.{Who}
 use Rattle.ringcore.specs.world.Trails.{Run}
 use Rattle.ringcore.specs.world.Allowed.{Ring}
-use Rattle.ringcore.specs.world.Laws.{OnlyOf}
+use Rattle.ringcore.specs.world.Laws.{IsOne, OnlyOf}
 use Rattle.ringcore.specs.memory.Shadow.{AreAfter}
 use Rattle.ring.specs.declared.table.rule.Participant.{Participant}
-use Rattle.ring.specs.table.Rule.{Holding, IsWithinLimits, HasTrails, ring_of}
+use Rattle.ring.specs.table.Rule.{Holding, IsWithinLimits, HasTrails, Any, ring_of}
 
 -- each of them knows this run
 abbrev pub all_knowing : Run → List Participant → List Participant
@@ -21,9 +22,15 @@ pub record HasAll (ring : Ring) (all : List Participant) (run : Run) (words : Li
   pub only : OnlyOf ring.senders run
   pub has : HasTrails ring run all
 
--- All of a seat came to know such a run.
+-- Everyone of the ring is among these.
+abbrev pub AllSit : Ring → List Participant → Type 0
+AllSit ring all = (who : Who) → IsOne ring.senders who → Any (λ p. p.who ≡ who) all
+
+-- All of a seat came to know such a run. Where everyone of the ring sits there, one of them had known it before.
 abbrev pub HaveMet : Holding → Holding → Type 0
-HaveMet me now = (run : Run) × (words : List ℕ) × HasAll (ring_of me.0) me.0 run words × (now ≡ (all_knowing run me.0, me.1))
+HaveMet me now =
+    (run : Run) × (words : List ℕ) × HasAll (ring_of me.0) me.0 run words × (now ≡ (all_knowing run me.0, me.1))
+    × (AllSit (ring_of me.0) me.0 → Any (λ p. p.history ≡ run) me.0)
 
 -- what the load tells
 abbrev pub has_met : Step (Unit {0}) → Holding → ℕ → Holding → Type 0

@@ -76,3 +76,29 @@ impl Join<Participants> for Gathers {
 
     ghost spent = { [] };
 }
+
+/// For whom a seat is lent. A call at `Brand` picks it from its arguments.
+pub trait HasWho {
+    ghost use Rattle.ringcore.specs.declared.world.event.Who.{Who};
+
+    ghost who: { Who };
+}
+
+impl HasWho for Brand {
+    ghost use Rattle.ringcore.specs.declared.world.event.Who.TheVariants.{Consumer};
+
+    ghost who = { Consumer };
+}
+
+/// One of those who know the same run gets a seat of its own.
+pub struct Lends<W: HasWho> {
+    who: PhantomData<W>,
+}
+
+impl<W: HasWho> Split<Participants> for Lends<W> {
+    ghost use Rattle.ring.specs.table.Keeping.{without, own_part};
+
+    ghost left = { without W.who };
+
+    ghost right = { own_part W.who };
+}

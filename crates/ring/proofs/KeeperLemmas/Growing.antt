@@ -1,0 +1,58 @@
+-- What a run has more that only one has grown.
+use Rattle.std.proofs.Common.{◌≡◌, ◌≢◌, ◌⊎◌, ℕ, ◌-◌, List, [], ◌∷◌, ◌++◌, length, length-append, take, refl, sym, ap, ◌∙◌, inl, inr, arith}
+use Rattle.ringcore.specs.declared.world.event.Who.{Who}
+use Rattle.ringcore.specs.world.Trails.{Trail, Run, trail_of}
+use Rattle.ringcore.specs.world.Laws.{IsOne, OnlyOf}
+use Rattle.ring.specs.table.Histories.{EndsWith}
+use Rattle.ring.specs.table.Keeping.{run_by, grown_run}
+use Rattle.ring.specs.Keepers.{Adds}
+use Rattle.ring.proofs.TableLemmas.Trails.{trail_here, trail_else}
+use Rattle.ring.proofs.TableLemmas.OneRun.{alike}
+
+-- of a run that only one has grown
+pub trail_since : (who : Who) (added : Trail) (since : Run) → trail_of who (run_by who added ++ since) ≡ added ++ trail_of who since
+trail_since who [] since = refl
+trail_since who (e ∷ es) since = trail_here who e (run_by who es ++ since) ∙ ap (λ (t : Trail). e ∷ t) (trail_since who es since)
+
+-- its events alone end with one of its own
+pub ends_by : (who : Who) (added : Trail) → EndsWith who (run_by who added)
+ends_by who [] = tt
+ends_by who (e ∷ es) = refl
+
+front : {A : Type 0} (xs ys : List A) → take (length xs) (xs ++ ys) ≡ xs
+front [] [] = refl
+front [] (y ∷ ys) = refl
+front (x ∷ xs) ys = ap (λ (l : List _). x ∷ l) (front xs ys)
+
+newest : (added old : Trail) → take (length (added ++ old) - length old) (added ++ old) ≡ added
+newest added old =
+    let n : length (added ++ old) - length old ≡ length added = (let l = length-append added old in omega (arith, l)) in
+    ap (λ (k : ℕ). take k (added ++ old)) n ∙ front added old
+
+pub grown_run_is : (who : Who) (since : Run) (trail added : Trail) → trail ≡ added ++ trail_of who since → grown_run who since trail ≡ run_by who added ++ since
+grown_run_is who since trail added is =
+    ap (λ (t : Trail). grown_run who since t) is ∙ ap (λ (t : Trail). run_by who t ++ since) (newest added (trail_of who since))
+
+pub adds_those : (who : Who) (trail : Trail) (old new : Run) → new ≡ grown_run who old trail → Adds who trail old new
+adds_those who trail old new new_is added is =
+    let run_is = new_is ∙ grown_run_is who old trail added is in
+    record { run_is = run_is; trail_is = ap (trail_of who) run_is ∙ trail_since who added old }
+
+pub trail_stays : (who u : Who) (added : Trail) (since : Run) → u ≢ who → trail_of u (run_by who added ++ since) ≡ trail_of u since
+trail_stays who u [] since ne = refl
+trail_stays who u (e ∷ es) since ne = trail_else u who e (run_by who es ++ since) ne ∙ trail_stays who u es since ne
+
+-- a run of one alone is his events
+pub all_of_one : (n : ℕ) (who : Who) (run : Run) → OnlyOf n run → ((u : Who) → IsOne n u → u ≢ who → trail_of u run ≡ []) → run ≡ run_by who (trail_of who run)
+all_of_one n who [] only nothing = refl
+all_of_one n who (x ∷ xs) only nothing = by_first (alike x.0 who) (all_of_one n who xs only.1)
+  where
+    not_none : (x.0 ≢ who) → ⊥
+    not_none ne = (let is : ◌≡◌ {A = Trail} (x.1 ∷ trail_of x.0 xs) [] = sym (trail_here x.0 x.1 xs) ∙ nothing x.0 only.0 ne in cc)
+
+    by_first : (x.0 ≡ who) ⊎ (x.0 ≢ who) → (((u : Who) → IsOne n u → u ≢ who → trail_of u xs ≡ []) → xs ≡ run_by who (trail_of who xs)) → x ∷ xs ≡ run_by who (trail_of who (x ∷ xs))
+    by_first (inr ne) rest = absurd (not_none ne)
+    by_first (inl is) rest =
+        let behind = rest (λ u one ne. sym (trail_else u x.0 x.1 xs (λ e. ne (e ∙ is))) ∙ nothing u one ne) in
+        let trail : trail_of who (x ∷ xs) ≡ x.1 ∷ trail_of who xs = ap (λ (w : Who). trail_of who ((w, x.1) ∷ xs)) is ∙ trail_here who x.1 xs in
+        (λ k. let l : Run = (is k, x.1) ∷ behind k in l) ∙ ap (run_by who) (sym trail)

@@ -1,0 +1,100 @@
+-- Who sits at a keeper's seat, who is missing there, and what those who sit there know.
+use Rattle.std.proofs.Common.{◌≡◌, ◌≢◌, ℕ, zero, suc, ◌+◌, ◌<◌, ◌≤◌, Bool, true, false, cond, List, [], ◌∷◌, refl, sym, ap, ◌∙◌, inl, inr, arith}
+use Rattle.std.specs.Prelude.{Option, Some, None}
+use mathlib.Core.Logic.{dite}
+use native.Mathlib.Decide.{ℕ_discrete}
+use Rattle.ringcore.specs.declared.world.event.Who.{Who}
+use Rattle.ringcore.specs.declared.world.event.Who.TheVariants.{Consumer, Sender}
+use Rattle.ringcore.specs.world.Trails.{Run, same}
+use Rattle.ringcore.specs.world.Allowed.{Ring}
+use Rattle.ringcore.specs.world.Laws.{IsOne}
+use Rattle.ring.specs.declared.table.rule.Participant.{Participant}
+use Rattle.ring.specs.table.Rule.{HasTrails, Any, ring_of, history_of_first}
+use Rattle.ring.specs.table.Meetings.{all_knowing}
+use Rattle.ring.specs.table.Keeping.{AllKnow, without}
+use Rattle.ring.specs.Keepers.{sits, missing_from}
+use Rattle.ring.proofs.TableLemmas.Trails.{same_refl, same_not}
+
+-- ---- who is missing
+
+pub sits_any : (who : Who) (v : List Participant) → Any (λ p. p.who ≡ who) v → sits who v ≡ true
+sits_any who [] one = absurd one
+sits_any who (p ∷ ps) (inl is) = ap (λ (b : Bool). cond b true (sits who ps)) (ap (λ (u : Who). same u who) is ∙ same_refl who)
+sits_any who (p ∷ ps) (inr more) = by_one (same p.who who) (sits_any who ps more)
+  where
+    by_one : (b : Bool) → sits who ps ≡ true → cond b true (sits who ps) ≡ true
+    by_one true rest = refl
+    by_one false rest = rest
+
+pub sits_not : (who : Who) (v : List Participant) → sits who (without who v) ≡ false
+sits_not who [] = refl
+sits_not who (p ∷ ps) = by_one (same p.who who) refl (sits_not who ps)
+  where
+    by_one : (b : Bool) → same p.who who ≡ b → sits who (without who ps) ≡ false → sits who (cond b (without who ps) (p ∷ without who ps)) ≡ false
+    by_one true is rest = rest
+    by_one false is rest = ap (λ (b : Bool). cond b true (sits who (without who ps))) is ∙ rest
+
+pub any_less : (who u : Who) (v : List Participant) → u ≢ who → Any (λ p. p.who ≡ u) v → Any (λ p. p.who ≡ u) (without who v)
+any_less who u [] ne one = absurd one
+any_less who u (p ∷ ps) ne (inl is) = by_one (same p.who who) (ap (λ (w : Who). same w who) is ∙ same_not u who ne)
+  where
+    by_one : (b : Bool) → b ≡ false → Any (λ p. p.who ≡ u) (cond b (without who ps) (p ∷ without who ps))
+    by_one true e = (let no : true ≡ false = e in absurd (cc))
+    by_one false e = inl is
+any_less who u (p ∷ ps) ne (inr more) = by_one (same p.who who) (any_less who u ps ne more)
+  where
+    by_one : (b : Bool) → Any (λ p. p.who ≡ u) (without who ps) → Any (λ p. p.who ≡ u) (cond b (without who ps) (p ∷ without who ps))
+    by_one true rest = rest
+    by_one false rest = inr rest
+
+pub none_missing : (n k more : ℕ) (v : List Participant) → k + more ≡ n → ((u : Who) → IsOne n u → sits u v ≡ true) → missing_from k more v ≡ None
+none_missing n k zero v is all = ap (λ (b : Bool). let o : Option Who = cond b None (Some Consumer) in o) (all Consumer tt)
+none_missing n k (suc more) v is all =
+    ap (λ (b : Bool). cond b (missing_from (suc k) more v) (Some (Sender k))) (all (Sender k) (omega (arith, is)))
+    ∙ none_missing n (suc k) more v (omega (arith, is)) all
+
+pub one_missing : (n : ℕ) (v : List Participant) (who : Who) → IsOne n who → sits who v ≡ false → ((u : Who) → IsOne n u → u ≢ who → sits u v ≡ true) → missing_from 0 n v ≡ Some who
+one_missing n v Consumer one gone all = by_more 0 n (omega arith)
+  where
+    by_more : (k more : ℕ) → k + more ≡ n → missing_from k more v ≡ Some Consumer
+    by_more k zero is = ap (λ (b : Bool). let o : Option Who = cond b None (Some Consumer) in o) gone
+    by_more k (suc more) is =
+        ap (λ (b : Bool). cond b (missing_from (suc k) more v) (Some (Sender k))) (all (Sender k) (omega (arith, is)) (λ e. cc))
+        ∙ by_more (suc k) more (omega (arith, is))
+one_missing n v (Sender s) one gone all = by_more 0 n (omega arith) (omega arith)
+  where
+    by_more : (k more : ℕ) → k + more ≡ n → k ≤ s → missing_from k more v ≡ Some (Sender s)
+    by_more k zero is low = absurd (omega (arith, is, low, one))
+    by_more k (suc more) is low = dite (ℕ_discrete k s)
+        (λ here. ap (λ (b : Bool). cond b (missing_from (suc k) more v) (Some (Sender k))) (ap (λ (j : ℕ). sits (Sender j) v) here ∙ gone) ∙ ap (λ (j : ℕ). let o : Option Who = Some (Sender j) in o) here)
+        (λ ne. ap (λ (b : Bool). cond b (missing_from (suc k) more v) (Some (Sender k))) (all (Sender k) (omega (arith, is)) (λ e. ne (let m : k ≡ s = cc in m)))
+        ∙ by_more (suc k) more (omega (arith, is)) (omega (arith, ne, low)))
+
+-- there is someone else
+pub record IsOther (n : ℕ) (who : Who) : Type 0 where
+  pub other : Who
+  pub one : IsOne n other
+  pub apart : other ≢ who
+
+pub someone : (n : ℕ) (who : Who) → 1 ≤ n → IsOther n who
+someone n Consumer some = record { other = Sender 0; one = (let h : 0 < n = omega (arith, some) in h); apart = λ e. cc }
+someone n (Sender s) some = record { other = Consumer; one = tt; apart = λ e. cc }
+
+-- ---- what those who sit there know
+
+pub first_ring : (z : Ring) (run : Run) (v : List Participant) (P : Participant → Type 0) → AllKnow z run v → Any P v → ring_of v ≡ z
+first_ring z run [] P all one = absurd one
+first_ring z run (p ∷ ps) P all one = ap (λ (q : Participant). q.ring) all.0
+
+pub first_history : (z : Ring) (run : Run) (v : List Participant) (P : Participant → Type 0) → AllKnow z run v → Any P v → history_of_first v ≡ run
+first_history z run [] P all one = absurd one
+first_history z run (p ∷ ps) P all one = ap (λ (q : Participant). q.history) all.0
+
+pub same_history : (z : Ring) (old new : Run) (v : List Participant) → AllKnow z old v → Any (λ p. p.history ≡ new) v → old ≡ new
+same_history z old new [] all one = absurd one
+same_history z old new (p ∷ ps) all (inl is) = sym (ap (λ (q : Participant). q.history) all.0) ∙ is
+same_history z old new (p ∷ ps) all (inr more) = same_history z old new ps all.1 more
+
+pub know_told : (z : Ring) (run : Run) (v : List Participant) → HasTrails z run v → AllKnow z run (all_knowing run v)
+know_told z run [] has = tt
+know_told z run (p ∷ ps) has = ((λ k. let q : Participant = record { ring = has.0.ring_is k; who = p.who; trail = sym has.0.trail k; history = run } in q), know_told z run ps has.1)

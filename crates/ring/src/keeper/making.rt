@@ -1,0 +1,77 @@
+//! A ring whose seats are all the keeper's from the start.
+ghost use Rattle.std.specs.Prelude.{◌≡◌, ◌≤◌, None, OnOk, IfOk, IfErr};
+ghost use Rattle.qindex.specs.Indexes.{IsGeometry};
+ghost use Rattle.ring.specs.NewRings.{IsNotMade, number_fault};
+ghost use Rattle.ring.specs.Keepers.{IsKept};
+
+use crate::consumer::{Commands, Lent};
+use crate::device::Device;
+use crate::fault::RingFault;
+use crate::keeper::{IdleConsumer, Keeper};
+use crate::ring::Ring;
+use crate::table::Parameters;
+use atomic_table::Table;
+use qindex::{Geometry, Index};
+use ringcore::{laws, words};
+use std::alloc::{AllocError, Global};
+
+impl Keeper {
+    /// A new ring of `2^log2` slots with its keeper and what is left of its consumer; of a sender `IdleSender::new` is
+    /// left. Each sender may reserve `max_batches` batches.
+    ///
+    /// Errors: as of `Ring::new`.
+    pub fn new<D: Device>(
+        alloc: Global,
+        log2: u32,
+        senders: u32,
+        max_batches: u32,
+    ) -> Result<(Ring, Keeper, IdleConsumer<D>), RingFault>
+        ensures numbers { OnOk result (number_fault log2 senders max_batches ≡ None) }
+        ensures made { IfOk result (λ r. IsKept log2 senders max_batches r.0 r.1 r.2) }
+        ensures refused { IfErr result (λ fault. IsNotMade (number_fault log2 senders max_batches) fault) }
+    {
+        let Some(geometry) = Geometry::new(log2) else {
+            return Err(RingFault::Size);
+        };
+        if senders < 1 || senders > 256 {
+            return Err(RingFault::Senders);
+        }
+        if max_batches == 0 {
+            return Err(RingFault::Batches);
+        }
+        match Keeper::open(alloc, geometry, senders, max_batches) {
+            Ok(parts) => Ok(parts),
+            Err(error) => Err(RingFault::Memory(error)),
+        }
+    }
+
+    /// A ring before its first step.
+    fn open<D: Device>(
+        alloc: Global,
+        geometry: Geometry,
+        senders: u32,
+        max_batches: u32,
+    ) -> Result<(Ring, Keeper, IdleConsumer<D>), AllocError>
+        requires geometry { IsGeometry geometry }
+        requires some { 1 ≤ senders }
+        requires senders { senders ≤ 256 }
+        ensures { IfOk result (λ r. IsKept geometry senders max_batches r.0 r.1 r.2) }
+    {
+        laws::begin();
+        let made_with = Parameters {
+            geometry,
+            senders,
+            max_batches,
+        };
+        let commands = Commands::new(alloc)?;
+        let zeros = vec![in alloc; 0; words(geometry, senders)]?;
+        let (table, seat) = Table::of_words(alloc, zeros.as_slice(), &made_with)?;
+        let consumer = IdleConsumer {
+            head: Index::new(geometry, 0).unwrap(),
+            taken: 0,
+            commands,
+            lent: Lent::nothing(),
+        };
+        Ok((Ring { table, made_with }, Keeper { seat }, consumer))
+    }
+}

@@ -1,0 +1,197 @@
+//! What is left of a reservation while the keeper has its sender's seat.
+ghost use Rattle.std.specs.Prelude.{◌≡◌, ◌<◌, true, false, Some, None};
+ghost use Rattle.ringcore.specs.declared.world.event.Who.TheVariants.{Sender as SenderOf};
+ghost use Rattle.ringcore.specs.world.Trails.{trail_of};
+ghost use Rattle.ring.specs.table.Histories.{Grew};
+ghost use Rattle.ring.specs.Keepers.{own_reservation, has_lent, has_back, Adds, IsNews, KeepsOthers, IsIdleReservation, IsLeftOf};
+
+use crate::keeper::Keeper;
+use crate::ring::Ring;
+use crate::sender::{BareReservation, OpenReservation, Reservation, Tally};
+use batch::Batch;
+use qindex::Index;
+use std::marker::Model;
+
+/// A reservation whose sender's seat the keeper has, without its batch: whoever lends it again has kept the batch.
+#[derive(Clone, Copy)]
+pub struct IdleReservation {
+    /// With this batch.
+    tally: Tally,
+    closes: bool,
+    /// The index of the first slot.
+    start: Index,
+    written: u32,
+    flipped: u32,
+}
+
+impl Model for IdleReservation {
+    ghost use Rattle.ring.specs.Keepers.{IdleReservationValue};
+
+    ghost Value = { IdleReservationValue };
+
+    ghost view = { λ i. record { tally = i.tally; closes = i.closes; start = i.start; written = i.written; flipped = i.flipped } };
+
+    ghost inverse = { λ r. record { tally = r.tally; closes = r.closes; start = r.start; written = r.written; flipped = r.flipped } };
+}
+
+impl IdleReservation {
+    /// Its sender's number, from 0.
+    pub fn id(&self) -> u32
+        ensures { result ≡ self.now.tally.sender }
+    {
+        self.tally.sender
+    }
+
+    /// Whether it closes with a CMD_SYNC: if so it is lent by `lend_reservation`, else by `lend_bare_reservation`.
+    pub fn closes(&self) -> bool
+        ensures { result ≡ self.now.closes }
+    {
+        self.closes
+    }
+}
+
+impl Keeper {
+    /// Lends a reservation its sender's seat, with a batch that holds what the reservation was made with: so it is a
+    /// reservation as any other.
+    pub fn lend_reservation<'b>(
+        &mut self,
+        ring: &Ring,
+        idle: IdleReservation,
+        batch: &'b Batch,
+    ) -> Reservation<'b>
+        requires ring { self.old.ring ≡ ring.now }
+        requires whole { self.old.lent ≡ None }
+        requires known { idle.tally.sender < self.old.ring.made_with.senders }
+        requires closes { idle.closes ≡ true }
+        requires idle { IsIdleReservation self.old batch.now idle }
+        ensures reservation { result ≡ own_reservation batch.now idle self.old }
+        ensures keeper { self.new ≡ has_lent (SenderOf idle.tally.sender) self.old }
+    {
+        Reservation {
+            open: self.lend_open(ring, idle, batch),
+        }
+    }
+
+    /// The same of a reservation without a closing CMD_SYNC (own).
+    pub fn lend_bare_reservation<'b>(
+        &mut self,
+        ring: &Ring,
+        idle: IdleReservation,
+        batch: &'b Batch,
+    ) -> BareReservation<'b>
+        requires ring { self.old.ring ≡ ring.now }
+        requires whole { self.old.lent ≡ None }
+        requires known { idle.tally.sender < self.old.ring.made_with.senders }
+        requires closes { idle.closes ≡ false }
+        requires idle { IsIdleReservation self.old batch.now idle }
+        ensures reservation { result ≡ own_reservation batch.now idle self.old }
+        ensures keeper { self.new ≡ has_lent (SenderOf idle.tally.sender) self.old }
+    {
+        BareReservation {
+            open: self.lend_open(ring, idle, batch),
+        }
+    }
+
+    /// Takes the seat of a reservation's sender back, and knows the whole run again. The batch is no longer borrowed.
+    pub fn take_reservation(&mut self, ring: &Ring, reservation: Reservation<'_>) -> IdleReservation
+        requires ring { self.old.ring ≡ ring.now }
+        requires own { reservation.ring ≡ ring.now }
+        requires lent { self.old.lent ≡ Some (SenderOf reservation.sender) }
+        ensures keeper { self.new ≡ has_back (SenderOf reservation.entry.sender) reservation.entry.trail self.old }
+        ensures adds { Adds (SenderOf reservation.entry.sender) reservation.entry.trail self.old.run self.new.run }
+        ensures grew { Grew (SenderOf reservation.entry.sender) (trail_of (SenderOf reservation.entry.sender) self.old.run) reservation.entry.trail self.old.run self.new.run }
+        ensures news { IsNews (SenderOf reservation.entry.sender) reservation.entry.trail reservation.entry.history self.old.run self.new.run }
+        ensures others { KeepsOthers (SenderOf reservation.entry.sender) self.old self.new }
+        ensures left { IsLeftOf reservation.entry result }
+        ensures closes { result.closes ≡ true }
+        ensures idle { IsIdleReservation self.new reservation.entry.body result }
+    {
+        let Reservation { open } = reservation;
+        self.take_open(ring, open)
+    }
+
+    /// The same of a reservation without a closing CMD_SYNC (own).
+    pub fn take_bare_reservation(
+        &mut self,
+        ring: &Ring,
+        reservation: BareReservation<'_>,
+    ) -> IdleReservation
+        requires ring { self.old.ring ≡ ring.now }
+        requires own { reservation.ring ≡ ring.now }
+        requires lent { self.old.lent ≡ Some (SenderOf reservation.sender) }
+        ensures keeper { self.new ≡ has_back (SenderOf reservation.entry.sender) reservation.entry.trail self.old }
+        ensures adds { Adds (SenderOf reservation.entry.sender) reservation.entry.trail self.old.run self.new.run }
+        ensures grew { Grew (SenderOf reservation.entry.sender) (trail_of (SenderOf reservation.entry.sender) self.old.run) reservation.entry.trail self.old.run self.new.run }
+        ensures news { IsNews (SenderOf reservation.entry.sender) reservation.entry.trail reservation.entry.history self.old.run self.new.run }
+        ensures others { KeepsOthers (SenderOf reservation.entry.sender) self.old self.new }
+        ensures left { IsLeftOf reservation.entry result }
+        ensures closes { result.closes ≡ false }
+        ensures idle { IsIdleReservation self.new reservation.entry.body result }
+    {
+        let BareReservation { open } = reservation;
+        self.take_open(ring, open)
+    }
+
+    fn lend_open<'b>(
+        &mut self,
+        ring: &Ring,
+        idle: IdleReservation,
+        batch: &'b Batch,
+    ) -> OpenReservation<'b>
+        requires ring { self.old.ring ≡ ring.now }
+        requires whole { self.old.lent ≡ None }
+        requires known { idle.tally.sender < self.old.ring.made_with.senders }
+        requires idle { IsIdleReservation self.old batch.now idle }
+        ensures reservation { result ≡ own_reservation batch.now idle self.old }
+        ensures keeper { self.new ≡ has_lent (SenderOf idle.tally.sender) self.old }
+    {
+        let IdleReservation {
+            tally,
+            closes,
+            start,
+            written,
+            flipped,
+        } = idle;
+        let port = self.lend_to_sender(ring, tally.sender);
+        OpenReservation {
+            port,
+            tally,
+            batch,
+            closes,
+            start,
+            written,
+            flipped,
+        }
+    }
+
+    fn take_open(&mut self, ring: &Ring, reservation: OpenReservation<'_>) -> IdleReservation
+        requires ring { self.old.ring ≡ ring.now }
+        requires own { reservation.ring ≡ ring.now }
+        requires lent { self.old.lent ≡ Some (SenderOf reservation.sender) }
+        ensures keeper { self.new ≡ has_back (SenderOf reservation.entry.sender) reservation.entry.trail self.old }
+        ensures adds { Adds (SenderOf reservation.entry.sender) reservation.entry.trail self.old.run self.new.run }
+        ensures grew { Grew (SenderOf reservation.entry.sender) (trail_of (SenderOf reservation.entry.sender) self.old.run) reservation.entry.trail self.old.run self.new.run }
+        ensures news { IsNews (SenderOf reservation.entry.sender) reservation.entry.trail reservation.entry.history self.old.run self.new.run }
+        ensures others { KeepsOthers (SenderOf reservation.entry.sender) self.old self.new }
+        ensures left { IsLeftOf reservation.entry result }
+        ensures idle { IsIdleReservation self.new reservation.entry.body result }
+    {
+        let OpenReservation {
+            port,
+            tally,
+            batch: _,
+            closes,
+            start,
+            written,
+            flipped,
+        } = reservation;
+        self.take_back(ring, port);
+        IdleReservation {
+            tally,
+            closes,
+            start,
+            written,
+            flipped,
+        }
+    }
+}

@@ -1,0 +1,98 @@
+//! What no clause says of a keeper: that it is made, and that the calls of those to whom it lends a seat succeed, one
+//! after another.
+ghost use Rattle.ring.specs.Keepers.{IsKept};
+
+use crate::batches::{CFGI_STE, batch_of};
+use crate::device::NoEntries;
+use crate::steps::{Head, take_one};
+use ring::{IdleConsumer, IdleSender, Keeper, Ring, RingFault};
+use std::process::Abort;
+
+/// A ring of eight slots and two senders whose seats are all a keeper's.
+fn kept_ring<R: AllocGlobal + Abort>(rt: &R) -> (Ring, Keeper, IdleConsumer<NoEntries>)
+    ensures { IsKept 3 2 8 result.0 result.1 result.2 }
+{
+    Keeper::new(rt.alloc(), 3, 2, 8).expect(rt, "numbers of a ring, and memory")
+}
+
+fn expect_fault<R: AllocGlobal + Abort>(
+    rt: &R,
+    log2: u32,
+    senders: u32,
+    batches: u32,
+) -> RingFault {
+    match Keeper::new::<NoEntries>(rt.alloc(), log2, senders, batches) {
+        Ok(_) => panic!(rt; "the ring is made"),
+        Err(fault) => fault,
+    }
+}
+
+#[test]
+fn faults_of_a_new_keeper(rt: HostRuntime) {
+    assert!(rt; matches!(expect_fault(&rt, 0, 0, 0), RingFault::Size));
+    assert!(rt; matches!(expect_fault(&rt, 3, 0, 0), RingFault::Senders));
+    assert!(rt; matches!(expect_fault(&rt, 3, 1, 0), RingFault::Batches));
+}
+
+#[test]
+fn a_batch_and_its_sync_in_one_hand(rt: HostRuntime) {
+    let (ring, mut keeper, consumer) = kept_ring(&rt);
+    let sender = keeper.lend_sender(&ring, IdleSender::new(1));
+    let one = batch_of(&rt, 1);
+    let Ok((sender, receipt)) = sender.send(&ring, &one, 1) else {
+        panic!(rt; "the batch is refused");
+    };
+    let idle = keeper.take_sender(&ring, sender);
+    let consumer = keeper.lend_consumer(&ring, consumer);
+    let (consumer, head) = take_one(&ring, consumer);
+    assert_eq!(rt; head, Head::Command(CFGI_STE));
+    let (consumer, _) = take_one(&ring, consumer);
+    assert_eq!(rt; consumer.taken(), 2);
+    keeper.take_consumer(&ring, consumer);
+    let mut sender = keeper.lend_sender(&ring, idle);
+    assert!(rt; sender.is_done(&ring, &receipt));
+}
+
+#[test]
+fn a_reservation_waits_for_its_batch(rt: HostRuntime) {
+    let (ring, mut keeper, consumer) = kept_ring(&rt);
+    let sender = keeper.lend_sender(&ring, IdleSender::new(0));
+    let one = batch_of(&rt, 1);
+    let Ok(reservation) = sender.reserve(&ring, &one) else {
+        panic!(rt; "the batch is refused");
+    };
+    let idle = keeper.take_reservation(&ring, reservation);
+    assert!(rt; idle.closes());
+    let consumer = keeper.lend_consumer(&ring, consumer);
+    let (consumer, head) = take_one(&ring, consumer);
+    assert_eq!(rt; head, Head::Unwritten);
+    let consumer = keeper.take_consumer(&ring, consumer);
+    let reservation = keeper.lend_reservation(&ring, idle, &one);
+    let (sender, receipt) = reservation.publish(&ring);
+    assert_eq!(rt; (receipt.sender(), receipt.number()), (0, 1));
+    keeper.take_sender(&ring, sender);
+    let consumer = keeper.lend_consumer(&ring, consumer);
+    let (consumer, head) = take_one(&ring, consumer);
+    assert_eq!(rt; head, Head::Command(CFGI_STE));
+    keeper.take_consumer(&ring, consumer);
+}
+
+#[test]
+fn a_bare_reservation_waits_for_its_batch(rt: HostRuntime) {
+    let (ring, mut keeper, consumer) = kept_ring(&rt);
+    let sender = keeper.lend_sender(&ring, IdleSender::new(0));
+    let one = batch_of(&rt, 1);
+    let Ok(reservation) = sender.reserve_bare(&ring, &one) else {
+        panic!(rt; "the batch is refused");
+    };
+    let idle = keeper.take_bare_reservation(&ring, reservation);
+    assert!(rt; !idle.closes());
+    let sender = keeper
+        .lend_bare_reservation(&ring, idle, &one)
+        .publish(&ring);
+    keeper.take_sender(&ring, sender);
+    let consumer = keeper.lend_consumer(&ring, consumer);
+    let (consumer, head) = take_one(&ring, consumer);
+    assert_eq!(rt; head, Head::Command(CFGI_STE));
+    keeper.take_consumer(&ring, consumer);
+}
