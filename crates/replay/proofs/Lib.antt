@@ -1,4 +1,3 @@
 pub mod BodyLemmas
 pub mod SendLemmas
-pub mod ServedLemmas
 pub mod StepsLemmas
