@@ -70,7 +70,7 @@ first_served number request = faults number (codes "no ring") None
 
 -- A schedule's requests don't look at whether memory runs out, so that a script has one answer.
 abbrev pub schedules : Kind State Request
-schedules = record { nothing = asks.Nothing; named = named; first_served = first_served; served = λ number wanting. served number; }
+schedules = record { nothing = asks.Nothing; named = named; first_served = first_served; served = λ number wanting. served number }
 
 -- what a line asks for; None is a bad line
 abbrev pub request_of : List ℕ → Option Request

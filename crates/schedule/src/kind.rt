@@ -97,11 +97,7 @@ impl ScriptKind for Schedule {
         Request::Nothing
     }
 
-    fn parse_named(
-        alloc: Global,
-        name: &[u8],
-        rest: &[u8],
-    ) -> Result<Option<Request>, AllocError> {
+    fn parse_named(alloc: Global, name: &[u8], rest: &[u8]) -> Result<Option<Request>, AllocError> {
         parse_named(alloc, name, rest)
     }
 

@@ -254,7 +254,11 @@ fn parse_plain_line(name: &[u8], rest: &[u8]) -> Option<Request>
 
 /// What a line asks for by its first word and the text after it. None is a bad line.
 #[tactic(auto, unfolding(crate::specs::Lines::named))]
-pub(crate) fn parse_named(alloc: Global, name: &[u8], rest: &[u8]) -> Result<Option<Request>, AllocError>
+pub(crate) fn parse_named(
+    alloc: Global,
+    name: &[u8],
+    rest: &[u8],
+) -> Result<Option<Request>, AllocError>
     ensures { IfOk result (λ request. request ≡ named name.now (words_of rest.now)) }
 {
     if name == b"reserve".as_slice() {
