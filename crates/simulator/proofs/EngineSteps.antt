@@ -1,5 +1,5 @@
 -- What a step of the engine comes to, in a state.
-use Rattle.std.proofs.Common.{◌≡◌, ◌≢◌, ◌≤◌, ◌^◌, refl, ap, ap₂, sym, ◌∙◌, subst, eq-eqb, arith, ℕ, ◌-◌, Bool, true, false, cond, List, [], ◌∷◌, ◌++◌, length, Option, Some, None, Result, Ok, Err}
+use Rattle.std.proofs.Common.{◌≡◌, ◌≢◌, ◌≤◌, ◌^◌, refl, ap, ap₂, sym, ◌∙◌, subst, eq-eqb, arith, ℕ, ◌-◌, Bool, true, false, cond, List, [], ◌∷◌, ◌++◌, length, Result, Ok, Err}
 use Rattle.std.specs.Prelude.{◌↔◌, take}
 use Rattle.std.specs.FinMap as finite
 use Rattle.std.proofs.lemmas.Bool.{ne_eqb}
@@ -15,21 +15,20 @@ use Rattle.ringcore.specs.declared.world.event.Half.TheVariants.{Lo, Hi}
 use Rattle.ringcore.specs.declared.world.event.Event.TheVariants.{Look, Test, Read, Advance, Acknowledge}
 use Rattle.ringcore.specs.world.Trails.{Trail, Run, trail_of}
 use Rattle.ringcore.specs.world.World.{Taken, World, world}
-use Rattle.ringcore.specs.world.Allowed.{Ring}
 use Rattle.ringcore.specs.world.Laws.{NeverMoreThanFull}
 use Rattle.caches.specs.Held.{Take, without_covered}
 use Rattle.ring.specs.Rings.{RingValue}
 use Rattle.ring.specs.table.Keeping.{run_by, RunStands}
-use Rattle.ring.specs.Keepers.{KeeperValue, Adds, has_lent, own_consumer, KeepsOthers}
+use Rattle.ring.specs.Keepers.{KeeperValue, Adds, has_lent, KeepsOthers}
 use Rattle.ring.specs.consumer.Consumers.{ConsumerValue}
 use Rattle.ring.specs.consumer.Pendings.{PendingValue, reads_from}
-use Rattle.ring.specs.consumer.Taking.{TookNone, TookUnwritten, TookRun}
-use Rattle.ring.specs.consumer.Completing.{completed as completed_by_ring, completed_trail, unknowing, acknowledged, sync_sender, sync_number}
+use Rattle.ring.specs.consumer.Taking.{TookNone, TookUnwritten}
+use Rattle.ring.specs.consumer.Completing.{completed as completed_by_ring, completed_trail, unknowing, sync_sender, sync_number}
 use Rattle.engine.specs.declared.answer.StepAnswer.{StepAnswer}
 use Rattle.engine.specs.declared.answer.StepAnswer.TheVariants.{Empty, Drained, Unwritten, Applied, Stopped, Replaced, StillStopped, Exhausted}
 use Rattle.engine.specs.declared.stop.Mode.{Mode}
 use Rattle.engine.specs.Stops.{StopValue, IsStopped, stopped_at, gone_on}
-use Rattle.engine.specs.Counting.{CountsValue, taken, counted_applied, counted_replaced}
+use Rattle.engine.specs.Counting.{taken, counted_applied, counted_replaced}
 use Rattle.engine.specs.Units.{UnitValue, IsApplied, IsStoppedAt, IsReplaced}
 use Rattle.engine.specs.Engines.{EngineValue, IsFirst, AreTogether, HasStepped}
 use Rattle.simulator.specs.declared.queue.taking.Head.{Head}
@@ -37,7 +36,7 @@ use Rattle.simulator.specs.declared.queue.taking.Head.TheVariants as head
 use Rattle.simulator.specs.queue.Heads.{head_of, head_taken, completed}
 use Rattle.simulator.specs.State.{State, Answered, entries, taken_so_far, removed_from, counts_of, counted}
 use Rattle.simulator.specs.Seats.{with_run}
-use Rattle.simulator.specs.Steps.{found, going, illegal, judged, stepped, unchanged}
+use Rattle.simulator.specs.Steps.{found, illegal, judged, stepped, unchanged}
 use Rattle.simulator.specs.EngineStanding.{EngineStands, EngineSteps}
 use Rattle.simulator.proofs.Counts.{all_counted}
 use Rattle.simulator.proofs.OneMore.{completed_taken, counts_after_applied, counts_after_replaced, removed_is}
@@ -275,9 +274,9 @@ module _ (tells : IndexesTellTheQueue) (within : NeverMoreThanFull) (decoded : W
         (refl, stands_found old new unit moved same_ring state s (run_after old unit state h [] new.run s is) unit_is)
 
   pub engine_steps : (answer : StepAnswer) → HasStepped (record { consumer = d; unit = unit }) (record { consumer = e; unit = moved }) answer → StillAs answer → ExhaustedAs answer → EngineSteps old unit new moved answer
-  engine_steps Empty did still exhausted = takes_nothing Empty still exhausted (λ is. absurd cc) (λ is. absurd cc) head.Empty (none_is false did.0) did.1 (λ state. refl)
-  engine_steps Drained did still exhausted = takes_nothing Drained still exhausted (λ is. absurd cc) (λ is. absurd cc) head.Drained (none_is true did.0) did.1 (λ state. refl)
-  engine_steps Unwritten did still exhausted = takes_nothing Unwritten still exhausted (λ is. absurd cc) (λ is. absurd cc) head.Unwritten (unwritten_is did.0) did.1 (λ state. refl)
+  engine_steps Empty did still exhausted state s = takes_nothing Empty still exhausted (λ is. absurd cc) (λ is. absurd cc) head.Empty (none_is false did.0) did.1 (λ other. refl) state s
+  engine_steps Drained did still exhausted state s = takes_nothing Drained still exhausted (λ is. absurd cc) (λ is. absurd cc) head.Drained (none_is true did.0) did.1 (λ other. refl) state s
+  engine_steps Unwritten did still exhausted state s = takes_nothing Unwritten still exhausted (λ is. absurd cc) (λ is. absurd cc) head.Unwritten (unwritten_is did.0) did.1 (λ other. refl) state s
   engine_steps (Applied command removed) (p, raw, first, did, completed_are) still exhausted state s =
       let is = completed_then p raw first completed_are in
       comes_to old new unit moved same_ring (Applied command removed) state _ (reads_head (Applied command removed) still exhausted (λ x. absurd cc) (λ x. absurd cc) (head.Ready raw) (completing raw) state s is)
