@@ -29,7 +29,7 @@ use ring::{Consumer, Ring, Sender};
 use ringcore::laws;
 use run_stepping::step_run_with;
 use std::marker::Model;
-use stepping::step_with;
+pub use stepping::step_with;
 
 /// What an SMMU does with the commands of its queue: it takes them, applies them to its caches, and only then completes
 /// them. It is always settled for all that it took.

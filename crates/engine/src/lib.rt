@@ -14,7 +14,7 @@ mod verdict;
 
 pub use answer::{Registers, RunAnswer, StepAnswer};
 pub use counts::Counts;
-pub use engine::Engine;
+pub use engine::{Engine, step_with};
 pub use finished::Finished;
 pub use remedy::{AckFault, Remedy};
 pub use unit::Unit;

@@ -1,6 +1,10 @@
 pub mod Standings
 pub mod Opening
 pub mod Counts
+pub mod OneMore
+pub mod Ways
+pub mod HeadLemmas
+pub mod EngineSteps
 pub mod Filling
 pub mod Acknowledging
 pub mod Judging

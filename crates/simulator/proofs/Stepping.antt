@@ -24,62 +24,22 @@ use Rattle.simulator.specs.Steps.{is_stopped, found, going, stepped_in, stepped,
 use Rattle.simulator.specs.Standing.{Stands, IsFound}
 use Rattle.simulator.proofs.Counts.{all_counted}
 use Rattle.simulator.proofs.Standings.{Keeps, unmoved, after_run}
-
--- ---- which way it goes
-
-in_mode_stopped : (m : Mode) (state : State) → IsStopped m → stepped_in m state ≡ unchanged StillStopped state
-in_mode_stopped mode.Running state is = absurd is
-in_mode_stopped (mode.Stopped ill) state is = refl
-in_mode_stopped mode.Replacing state is = absurd is
-
-in_mode_going : (m : Mode) (state : State) → ¬ IsStopped m → (stepped_in m state ≡ going state) × (is_stopped m ≡ false)
-in_mode_going mode.Running state no_stop = (refl, refl)
-in_mode_going (mode.Stopped ill) state no_stop = absurd (no_stop tt)
-in_mode_going mode.Replacing state no_stop = (refl, refl)
-
-pub stays_stopped : (state : State) → IsStopped state.stop.mode → stepped state ≡ unchanged StillStopped state
-unfolding stepped
-stays_stopped state is = in_mode_stopped state.stop.mode state is
-
-stepped_going : (state : State) → ¬ IsStopped state.stop.mode → stepped state ≡ going state
-unfolding stepped
-stepped_going state no_stop = (in_mode_going state.stop.mode state no_stop).0
+use Rattle.simulator.proofs.Ways.{in_mode_going, stepped_going, at_head, found_world, ready_is}
 
 -- how many are taken, as the unit counted them
 many_taken : (queue : QueueValue) (unit : UnitValue) (state : State) → Stands (record { queue = queue; unit = unit }) state → taken unit.counts ≡ taken_so_far state
 many_taken queue unit state s = ap taken s.counts ∙ all_counted (world state.run).taken state.history
 
-at_head : State → Answered StepAnswer
-at_head state = found (head_of (world state.run)) (with_run state (head_taken state.ring.geometry state.run))
-
 pub is_exhausted : (queue : QueueValue) (unit : UnitValue) (state : State) → ¬ IsStopped unit.stop.mode → taken unit.counts ≡ 2 ^ 46 → Stands (record { queue = queue; unit = unit }) state
     → stepped state ≡ unchanged Exhausted state
-unfolding at_head
 is_exhausted queue unit state no_stop all s =
     stepped_going state (λ is. no_stop (subst (λ (stop : StopValue). IsStopped stop.mode) (sym s.stop) is))
     ∙ ap (λ b. cond b (unchanged Exhausted state) (at_head state)) (eq-eqb (taken_so_far state) (2 ^ 46) (sym (many_taken queue unit state s) ∙ all))
 
 -- ---- the head
 
-found_world : (h : Head) (run : Run) → world (found_by h run) ≡ world run
-found_world Empty run = refl
-found_world Drained run = refl
-found_world Unwritten run = refl
-found_world (Ready raw) run = refl
-
 taken_keeps : (geometry : ℕ) (run : Run) → Keeps run (head_taken geometry run)
 taken_keeps geometry run = unmoved run (head_taken geometry run) (found_world (head_of (world run)) (looked_by Consumer geometry run))
-
--- A head that is ready is the command that stands there.
-ready_is : (w : World) (raw : Raw) → head_of w ≡ Ready raw → raw_at_head w ≡ Some raw
-ready_is w raw e = by_tests (tail w == head w) w.closed (w.flipped (head w)) (raw_at_head w) e
-  where
-    by_tests : (empty closed flipped : Bool) (at : Option Raw) → cond empty (cond closed Drained Empty) (cond flipped (ready_with at) Unwritten) ≡ Ready raw → at ≡ Some raw
-    by_tests true true flipped at e = absurd cc
-    by_tests true false flipped at e = absurd cc
-    by_tests false closed false at e = absurd cc
-    by_tests false closed true None e = absurd cc
-    by_tests false closed true (Some other) e = cc
 
 -- the state once the head was found
 abbrev pub found_state : QueueValue → State → State
@@ -92,7 +52,6 @@ pub record IsHead (queue next : QueueValue) (unit : UnitValue) (state : State) (
 
 pub finds : (queue next : QueueValue) (unit : UnitValue) (told : Head) → ¬ IsStopped unit.stop.mode → (taken unit.counts ≡ 2 ^ 46 → ⊥) → GoesOn queue next (head_taken (ring_in queue).geometry)
     → AfterEach queue (λ run. told ≡ head_of (world run)) → (h : Head) → told ≡ h → (state : State) → Stands (record { queue = queue; unit = unit }) state → IsHead queue next unit state h
-unfolding at_head
 finds queue next unit told no_stop more goes says h is state s = record {
   step =
       stepped_going state (λ at. no_stop (subst (λ (stop : StopValue). IsStopped stop.mode) (sym s.stop) at))

@@ -6,3 +6,4 @@ pub mod Fills
 pub mod Seats
 pub mod Steps
 pub mod Standing
+pub mod EngineStanding

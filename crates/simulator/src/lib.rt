@@ -1,6 +1,7 @@
 //! A simulator of the command queue and its unit with one owner: each call is a whole line's worth of steps.
 #![tactic(auto)]
 
+mod engine_step;
 mod queue;
 mod shape;
 mod simulator;

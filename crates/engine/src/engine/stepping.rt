@@ -12,8 +12,8 @@ use crate::unit::Unit;
 use crate::verdict::Verdict;
 use ring::{Consumer, Outcome, Ring, Taken, growth_adds_up};
 
-/// A step of a unit with its consumer: at most one command.
-pub(crate) fn step_with(
+/// A step of a unit with its consumer: at most one command. `Engine::step` is this, by an owner of both.
+pub fn step_with(
     consumer: Consumer<Unit>,
     unit: &mut Unit,
     ring: &Ring,

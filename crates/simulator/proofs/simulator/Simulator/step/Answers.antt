@@ -8,7 +8,8 @@ use Rattle.engine.specs.Counting.{taken}
 use Rattle.simulator.specs.declared.queue.taking.Head.TheVariants as head
 use Rattle.simulator.specs.State.{State, Answered}
 use Rattle.simulator.specs.Standing.{SimulatorValue, Stands}
-use Rattle.simulator.proofs.Stepping.{stays_stopped, is_exhausted, finds, is_found, found_state, nothing_taken}
+use Rattle.simulator.proofs.Ways.{stays_stopped}
+use Rattle.simulator.proofs.Stepping.{is_exhausted, finds, is_found, found_state, nothing_taken}
 use Rattle.simulator.proofs.simulator.Simulator.step.Goals as goal
 
 -- the same simulator by its fields

@@ -1,0 +1,30 @@
+use Rattle.std.proofs.Common.{◌≡◌, ap, sym, ◌∙◌, subst}
+use Rattle.ringcore.specs.declared.world.event.Who.TheVariants.{Consumer}
+use Rattle.ring.specs.Rings.{RingValue}
+use Rattle.ring.specs.Keepers.{KeeperValue, Adds, own_consumer}
+use Rattle.ring.specs.table.Keeping.{RunStands}
+use Rattle.ring.specs.consumer.Consumers.{ConsumerValue}
+use Rattle.engine.specs.Units.{UnitValue}
+use Rattle.simulator.proofs.EngineSteps.{others_stay, still_together, engine_steps}
+use Rattle.simulator.proofs.engine_step.engine_step.Goals as goal
+
+-- the ring stays
+same_ring : (c : goal.After-run_stands) → c.take_consumer-idle.new.self.ring ≡ c.args.keeper.now.ring
+same_ring c = ap (λ (k : KeeperValue). k.ring) c.take_consumer-idle.ensures.keeper ∙ ap (λ (k : KeeperValue). k.ring) c.lend_consumer-consumer.ensures.keeper
+
+pub returns-clause-stepped : goal.returns-clause-stepped
+returns-clause-stepped c =
+    engine_steps c.indexes_tell_the_queue.ensures.queue c.world_law.ensures.within c.legal_words_spell_one_command.ensures.decoded c.legal_words_spell_one_command.ensures.faults
+    c.args.keeper.now c.take_consumer-idle.new.self c.args.unit.now c.step_with-consumer.new.unit c.lend_consumer-consumer.result c.step_with-consumer.result.0
+    (ap (λ (d : ConsumerValue UnitValue). d.trail) c.lend_consumer-consumer.ensures.consumer)
+    (subst (λ (k : KeeperValue). Adds Consumer c.step_with-consumer.result.0.trail k.run c.take_consumer-idle.new.self.run) c.lend_consumer-consumer.ensures.keeper c.take_consumer-idle.ensures.adds)
+    (subst (λ (r : RingValue). RunStands r.made_with c.take_consumer-idle.new.self.run) (same_ring c) c.run_stands.ensures)
+    (same_ring c) c.step_with-consumer.result.1 c.step_with-consumer.ensures.stepped c.step_with-consumer.ensures.still c.step_with-consumer.ensures.exhausted
+
+pub returns-clause-together : goal.returns-clause-together
+returns-clause-together c =
+    still_together c.step_with-consumer.result.0 (own_consumer c.take_consumer-idle.result.lent c.take_consumer-idle.new.self) c.step_with-consumer.new.unit
+    (sym c.take_consumer-idle.ensures.news.trail_is) c.step_with-consumer.ensures.together
+
+pub returns-clause-others : goal.returns-clause-others
+returns-clause-others c = others_stay c.args.keeper.now c.lend_consumer-consumer.new.self c.take_consumer-idle.new.self c.lend_consumer-consumer.ensures.keeper c.take_consumer-idle.ensures.others
