@@ -13,7 +13,7 @@ ghost use Rattle.engine.specs.Settled.{IsSettled};
 ghost use Rattle.engine.specs.Stops.{IsStopped, told, err_of, word_of, command_queue_bit};
 ghost use Rattle.engine.specs.Counting.{taken, AreCountsOf};
 ghost use Rattle.engine.specs.Units.{new_unit, filled, with_entries, OnlyRemoves};
-ghost use Rattle.engine.specs.Engines.{AreTogether, HasStepped, HasRun, HasLooked};
+ghost use Rattle.engine.specs.Engines.{HasStepped, HasRun, HasLooked};
 ghost use Rattle.engine.specs.Ends.{WasToldAllTruly, IsEngineEnd};
 
 mod run_stepping;
@@ -155,28 +155,6 @@ impl Engine {
     {
         let Engine { consumer, unit } = self;
         (consumer.unwrap(), unit.into_caches())
-    }
-
-    /// The consumer and the unit, each by itself, as where a keeper is to have the consumer's seat back. `resume` puts
-    /// them together again.
-    pub fn suspend(self) -> (Consumer<Unit>, Unit)
-        ensures consumer { result.0 ≡ self.consumer }
-        ensures unit { result.1 ≡ self.unit }
-        ensures together { AreTogether result.0 result.1 }
-    {
-        let Engine { consumer, unit } = self;
-        (consumer.unwrap(), unit)
-    }
-
-    /// An engine of a consumer and the unit that has taken what it took.
-    pub fn resume(consumer: Consumer<Unit>, unit: Unit) -> Engine
-        requires { AreTogether consumer unit }
-        ensures { result ≡ record { consumer = consumer; unit = unit } }
-    {
-        Engine {
-            consumer: Some(consumer),
-            unit,
-        }
     }
 
     /// Joins the engine and all senders of its ring, which are handed in in the order of their numbers. There is one run

@@ -252,7 +252,7 @@ module _ (tells : IndexesTellTheQueue) (within : NeverMoreThanFull) (decoded : W
     completed_then : record e { history = [] } ≡ completed_by_ring 1 moved (unknowing p) → Finds (head.Ready raw) (completing raw)
     completed_then same = found_ready tells within old new e.trail adds stands raw first.read.seen first.read.something (completing raw)
         (ap (λ (c : ConsumerValue UnitValue). c.trail) same ∙ ap (λ (raws : List Raw). completed_trail (take 1 raws) p.consumer.trail) raws_are
-            ∙ completed_by_trail raw p.consumer.trail ∙ ap (λ (t : Trail). completing raw ++ t) pending_trail)
+        ∙ completed_by_trail raw p.consumer.trail ∙ ap (λ (t : Trail). completing raw ++ t) pending_trail)
 
   abbrev StillAs : StepAnswer → Type 0
   StillAs answer = (answer ≡ StillStopped) ↔ IsStopped unit.stop.mode
@@ -281,7 +281,7 @@ module _ (tells : IndexesTellTheQueue) (within : NeverMoreThanFull) (decoded : W
       let is = completed_then p raw first completed_are in
       comes_to old new unit moved same_ring (Applied command removed) state _ (reads_head (Applied command removed) still exhausted (λ x. absurd cc) (λ x. absurd cc) (head.Ready raw) (completing raw) state s is)
       (applied_is old new unit moved same_ring state s raw command removed did (decoded raw command did.legal.spelled)
-          (run_after old unit state (head.Ready raw) (completing raw) new.run s is ∙ completed_by_run raw (found_state state).run))
+      (run_after old unit state (head.Ready raw) (completing raw) new.run s is ∙ completed_by_run raw (found_state state).run))
   engine_steps (Stopped ill) (p, raw, first, did, consumer_is) still exhausted state s =
       let is = left_there p raw first consumer_is in
       comes_to old new unit moved same_ring (Stopped ill) state _ (reads_head (Stopped ill) still exhausted (λ x. absurd cc) (λ x. absurd cc) (head.Ready raw) [] state s is)
@@ -290,7 +290,7 @@ module _ (tells : IndexesTellTheQueue) (within : NeverMoreThanFull) (decoded : W
       let is = completed_then p raw first completed_are in
       comes_to old new unit moved same_ring (Replaced ill) state _ (reads_head (Replaced ill) still exhausted (λ x. absurd cc) (λ x. absurd cc) (head.Ready raw) (completing raw) state s is)
       (replaced_is old new unit moved same_ring state s raw ill did (faults raw ill did.first)
-          (run_after old unit state (head.Ready raw) (completing raw) new.run s is ∙ completed_by_run raw (found_state state).run))
+      (run_after old unit state (head.Ready raw) (completing raw) new.run s is ∙ completed_by_run raw (found_state state).run))
   engine_steps StillStopped did still exhausted state s =
       let at : IsStopped state.stop.mode = subst (λ (stop : StopValue). IsStopped stop.mode) s.stop did.0 in
       comes_to old new unit moved same_ring StillStopped state (unchanged StillStopped state) (stays_stopped state at)
@@ -299,5 +299,5 @@ module _ (tells : IndexesTellTheQueue) (within : NeverMoreThanFull) (decoded : W
       let at = exhausted.0 refl in
       comes_to old new unit moved same_ring Exhausted state (unchanged Exhausted state)
       (stepped_going state (λ stop. at.0 (subst (λ (v : StopValue). IsStopped v.mode) (sym s.stop) stop))
-          ∙ ap (λ b. cond b (unchanged Exhausted state) (at_head state)) (eq-eqb (taken_so_far state) (2 ^ 46) (sym (many_taken unit state s.counts) ∙ at.1)))
+      ∙ ap (λ b. cond b (unchanged Exhausted state) (at_head state)) (eq-eqb (taken_so_far state) (2 ^ 46) (sym (many_taken unit state s.counts) ∙ at.1)))
       (refl, stands_still old new unit moved same_ring state s (ran_nothing (ap (λ (v : EngineValue). v.consumer) did.1)) (ap (λ (v : EngineValue). v.unit) did.1))

@@ -1,4 +1,4 @@
-//! A step of the unit, by the engine's own step.
+//! A step of the unit on the running ring, by the engine's own step.
 ghost use Rattle.std.specs.Prelude.{◌≡◌, None};
 ghost use Rattle.ringcore.specs.declared.world.event.Who.TheVariants.{Consumer as ConsumerOf};
 ghost use Rattle.ring.specs.Keepers.{own_consumer, IsIdleConsumer, KeepsOthers};
@@ -11,8 +11,9 @@ use qindex::indexes_tell_the_queue;
 use ring::{IdleConsumer, Keeper, Ring};
 use ringcore::world_law;
 
-/// The keeper lends the consumer its seat for one step with the unit, which takes one command at most.
-pub(crate) fn engine_step(
+/// The keeper of a running ring lends the consumer its seat for one step with the unit, which takes one command at most.
+/// What comes of it is what `Simulator::step` does, by the same definition.
+pub fn engine_step(
     keeper: &mut Keeper,
     ring: &Ring,
     idle: IdleConsumer<Unit>,

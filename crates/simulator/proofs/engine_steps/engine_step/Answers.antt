@@ -6,7 +6,7 @@ use Rattle.ring.specs.table.Keeping.{RunStands}
 use Rattle.ring.specs.consumer.Consumers.{ConsumerValue}
 use Rattle.engine.specs.Units.{UnitValue}
 use Rattle.simulator.proofs.EngineSteps.{others_stay, still_together, engine_steps}
-use Rattle.simulator.proofs.engine_step.engine_step.Goals as goal
+use Rattle.simulator.proofs.engine_steps.engine_step.Goals as goal
 
 -- the ring stays
 same_ring : (c : goal.After-run_stands) → c.take_consumer-idle.new.self.ring ≡ c.args.keeper.now.ring
