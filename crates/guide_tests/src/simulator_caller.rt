@@ -20,7 +20,7 @@ fn a_batch_of_one_owner(rt: HostRuntime) {
     let mut simulator = Simulator::new(rt.alloc(), &shape).expect(&rt, "memory");
     let batch = Batch::new(CFGI_STE).expect(&rt, "no CMD_SYNC");
     assert!(rt; simulator.has_sender(0) && !simulator.is_open(0));
-    simulator.reserve(0, &batch, true).expect(&rt, "room");
+    simulator.reserve(0, batch, true).expect(&rt, "room");
     assert_eq!(rt; simulator.publish(0), Some(1));
     // The command, and its CMD_SYNC.
     simulator.step();

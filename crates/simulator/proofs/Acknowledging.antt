@@ -8,7 +8,7 @@ use Rattle.engine.specs.declared.remedy.AckFault.{AckFault}
 use Rattle.engine.specs.declared.remedy.AckFault.TheVariants.{NoError, OtherBit}
 use Rattle.engine.specs.Stops.{StopValue, IsStopped, told, command_queue_bit}
 use Rattle.engine.specs.Units.{UnitValue}
-use Rattle.simulator.specs.queue.Standing.{QueueValue}
+use Rattle.simulator.specs.queue.Seated.{QueueValue}
 use Rattle.simulator.specs.State.{State, Answered}
 use Rattle.simulator.specs.Steps.{is_stopped, same_bit, acknowledged}
 use Rattle.simulator.specs.Standing.{Stands}
@@ -66,14 +66,14 @@ stands_after : (queue : QueueValue) (unit new : UnitValue) (state : State) (reme
     → OnErr r (new ≡ unit) → Stands (record { queue = queue; unit = unit }) state → Stands (record { queue = queue; unit = new }) (state_after r remedy state)
 stands_after queue unit new state remedy (Ok t) ok err s =
     subst (λ (u : UnitValue). Stands (record { queue = queue; unit = u }) (state_after (Ok t) remedy state)) (sym ok) (record {
-      ring = s.ring;
-      max_batches = s.max_batches;
       run = s.run;
+      geometry = s.geometry;
+      senders = s.senders;
+      max_batches = s.max_batches;
       capacity = s.capacity;
       entries = s.entries;
       stop = ap (told remedy) s.stop;
       counts = s.counts;
-      awaited = s.awaited;
     })
 stands_after queue unit new state remedy (Err fault) ok err s = subst (λ (u : UnitValue). Stands (record { queue = queue; unit = u }) state) (sym err) s
 

@@ -31,13 +31,12 @@ use Rattle.engine.specs.Stops.{StopValue, IsStopped, stopped_at, gone_on}
 use Rattle.engine.specs.Counting.{taken, counted_applied, counted_replaced}
 use Rattle.engine.specs.Units.{UnitValue, IsApplied, IsStoppedAt, IsReplaced}
 use Rattle.engine.specs.Engines.{EngineValue, IsFirst, AreTogether, HasStepped}
-use Rattle.simulator.specs.declared.queue.taking.Head.{Head}
-use Rattle.simulator.specs.declared.queue.taking.Head.TheVariants as head
-use Rattle.simulator.specs.queue.Heads.{head_of, head_taken, completed}
+use Rattle.simulator.specs.queue.Heads as head
+use Rattle.simulator.specs.queue.Heads.{Head, head_of, head_taken, completed}
 use Rattle.simulator.specs.State.{State, Answered, entries, taken_so_far, removed_from, counts_of, counted}
 use Rattle.simulator.specs.Seats.{with_run}
 use Rattle.simulator.specs.Steps.{found, illegal, judged, stepped, unchanged}
-use Rattle.simulator.specs.EngineStanding.{EngineStands, EngineSteps}
+use Rattle.simulator.specs.Standing.{StandFor, AreStepped}
 use Rattle.simulator.proofs.Counts.{all_counted}
 use Rattle.simulator.proofs.OneMore.{completed_taken, counts_after_applied, counts_after_replaced, removed_is}
 use Rattle.simulator.proofs.Ways.{stays_stopped, stepped_going, at_head, found_world}
@@ -51,12 +50,6 @@ others_stay old lent new lent_is is =
     let kept : KeepsOthers Consumer (has_lent Consumer old) new = subst (λ (k : KeeperValue). KeepsOthers Consumer k new) lent_is is in
     record { trails = kept.trails; senders = kept.senders; reservations = kept.reservations; consumer = kept.consumer }
 
--- They are together by the consumer's trail alone.
-pub still_together : (d e : ConsumerValue UnitValue) (unit : UnitValue) → d.trail ≡ e.trail → AreTogether d unit → AreTogether e unit
-still_together d e unit same is =
-    let there = subst (λ (t : Trail). AreTogether (record e { trail = t }) unit) same (record { many = is.many; counted = is.counted; settled = is.settled; seen = is.seen }) in
-    record { many = there.many; counted = there.counted; settled = there.settled; seen = there.seen }
-
 -- ---- the state in which the head was found
 
 abbrev found_state : State → State
@@ -65,7 +58,7 @@ found_state state = with_run state (head_taken state.ring.geometry state.run)
 many_taken : (unit : UnitValue) (state : State) → unit.counts ≡ counted state.run state.history → taken unit.counts ≡ taken_so_far state
 many_taken unit state counts = ap taken counts ∙ all_counted (world state.run).taken state.history
 
-finds : (keeper : KeeperValue) (unit : UnitValue) (state : State) (h : Head) → ¬ IsStopped unit.stop.mode → (taken unit.counts ≡ 2 ^ 46 → ⊥) → EngineStands keeper unit state
+finds : (keeper : KeeperValue) (unit : UnitValue) (state : State) (h : Head) → ¬ IsStopped unit.stop.mode → (taken unit.counts ≡ 2 ^ 46 → ⊥) → StandFor keeper unit state
     → head_of (world keeper.run) ≡ h → stepped state ≡ found h (found_state state)
 finds keeper unit state h no_stop more s is =
     stepped_going state (λ at. no_stop (subst (λ (stop : StopValue). IsStopped stop.mode) (sym s.stop) at))
@@ -73,7 +66,7 @@ finds keeper unit state h no_stop more s is =
     ∙ ap (λ x. found x (found_state state)) (ap (λ (run : Run). head_of (world run)) (sym s.run) ∙ is)
 
 -- The run of a keeper that found this, and did as much more, by the state.
-run_after : (keeper : KeeperValue) (unit : UnitValue) (state : State) (h : Head) (more : Trail) (new : Run) → EngineStands keeper unit state → HasFound keeper.ring.made_with keeper.run h more new
+run_after : (keeper : KeeperValue) (unit : UnitValue) (state : State) (h : Head) (more : Trail) (new : Run) → StandFor keeper unit state → HasFound keeper.ring.made_with keeper.run h more new
     → new ≡ run_by Consumer more ++ (found_state state).run
 run_after keeper unit state h more new s is = is.run_is ∙ ap₂ (λ (geometry : ℕ) (run : Run). run_by Consumer more ++ head_taken geometry run) s.geometry s.run
 
@@ -85,13 +78,13 @@ taken_same state = ap (λ (w : World). w.taken) (found_world (head_of (world sta
 module _ (old new : KeeperValue) (unit moved : UnitValue) (same_ring : new.ring ≡ old.ring) where
   -- What a step of the state comes to is the answer, and they stand for the state after it.
   abbrev ComesTo : StepAnswer → State → Answered StepAnswer → Type 0
-  ComesTo answer state then = (answer ≡ then.answer) × EngineStands new moved then.state
+  ComesTo answer state then = (answer ≡ then.answer) × StandFor new moved then.state
 
-  comes_to : (answer : StepAnswer) (state : State) (then : Answered StepAnswer) → stepped state ≡ then → ComesTo answer state then → (answer ≡ (stepped state).answer) × EngineStands new moved (stepped state).state
+  comes_to : (answer : StepAnswer) (state : State) (then : Answered StepAnswer) → stepped state ≡ then → ComesTo answer state then → (answer ≡ (stepped state).answer) × StandFor new moved (stepped state).state
   comes_to answer state then same is = subst (ComesTo answer state) (sym same) is
 
   -- the numbers of the ring stay
-  module _ (state : State) (s : EngineStands old unit state) where
+  module _ (state : State) (s : StandFor old unit state) where
     geometry_stays : new.ring.made_with.geometry ≡ state.ring.geometry
     geometry_stays = ap (λ (r : RingValue). r.made_with.geometry) same_ring ∙ s.geometry
 
@@ -102,7 +95,7 @@ module _ (old new : KeeperValue) (unit moved : UnitValue) (same_ring : new.ring 
     batches_stay = ap (λ (r : RingValue). r.made_with.max_batches) same_ring ∙ s.max_batches
 
     -- nothing is taken
-    stands_found : new.run ≡ (found_state state).run → moved ≡ unit → EngineStands new moved (found_state state)
+    stands_found : new.run ≡ (found_state state).run → moved ≡ unit → StandFor new moved (found_state state)
     stands_found run unit_is = record {
       run = run;
       geometry = geometry_stays;
@@ -114,7 +107,7 @@ module _ (old new : KeeperValue) (unit moved : UnitValue) (same_ring : new.ring 
       counts = ap (λ (u : UnitValue). u.counts) unit_is ∙ s.counts ∙ ap (λ (list : List Taken). counts_of list state.history) (sym (taken_same state));
     }
 
-    stands_still : new.run ≡ old.run → moved ≡ unit → EngineStands new moved state
+    stands_still : new.run ≡ old.run → moved ≡ unit → StandFor new moved state
     stands_still run unit_is = record {
       run = run ∙ s.run;
       geometry = geometry_stays;
@@ -137,7 +130,7 @@ module _ (old new : KeeperValue) (unit moved : UnitValue) (same_ring : new.ring 
         ∙ ap (λ left. finite.len (entries state) - finite.len left) (did.entries ∙ ap (without_covered command) s.entries) in
         let same = ap (λ (r : Result Command Ill). judged raw r (found_state state)) (sym decodes) in (
           ap (Applied command) counted_removed ∙ ap (λ (a : Answered StepAnswer). a.answer) same,
-          subst (λ (a : Answered StepAnswer). EngineStands new moved a.state) same (record {
+          subst (λ (a : Answered StepAnswer). StandFor new moved a.state) same (record {
             run = run;
             geometry = geometry_stays;
             senders = senders_stay;
@@ -159,7 +152,7 @@ module _ (old new : KeeperValue) (unit moved : UnitValue) (same_ring : new.ring 
         let counts : unit.counts ≡ counts_of list state.history = s.counts ∙ ap (λ (list : List Taken). counts_of list state.history) (sym (taken_same state)) in
         let same = ap (λ (m : Mode). illegal raw ill m (found_state state)) (sym did.told ∙ ap (λ (stop : StopValue). stop.mode) s.stop) ∙ ap (λ (r : Result Command Ill). judged raw r (found_state state)) (sym decodes) in (
           ap (λ (a : Answered StepAnswer). a.answer) same,
-          subst (λ (a : Answered StepAnswer). EngineStands new moved a.state) same (record {
+          subst (λ (a : Answered StepAnswer). StandFor new moved a.state) same (record {
             run = run;
             geometry = geometry_stays;
             senders = senders_stay;
@@ -178,7 +171,7 @@ module _ (old new : KeeperValue) (unit moved : UnitValue) (same_ring : new.ring 
     stopped_is raw ill did decodes run =
         let same = ap (λ (m : Mode). illegal raw ill m (found_state state)) (sym did.running ∙ ap (λ (stop : StopValue). stop.mode) s.stop) ∙ ap (λ (r : Result Command Ill). judged raw r (found_state state)) (sym decodes) in (
           ap (λ (a : Answered StepAnswer). a.answer) same,
-          subst (λ (a : Answered StepAnswer). EngineStands new moved a.state) same (record {
+          subst (λ (a : Answered StepAnswer). StandFor new moved a.state) same (record {
             run = run;
             geometry = geometry_stays;
             senders = senders_stay;
@@ -265,15 +258,15 @@ module _ (tells : IndexesTellTheQueue) (within : NeverMoreThanFull) (decoded : W
     no_stop : ¬ IsStopped unit.stop.mode
     no_stop is = goes (still.1 is)
 
-    reads_head : (h : Head) (behind : Trail) (state : State) → EngineStands old unit state → Finds h behind → stepped state ≡ found h (found_state state)
+    reads_head : (h : Head) (behind : Trail) (state : State) → StandFor old unit state → Finds h behind → stepped state ≡ found h (found_state state)
     reads_head h behind state s is = finds old unit state h no_stop (λ all. more (exhausted.1 (no_stop, all))) s is.head_is
 
-    takes_nothing : (h : Head) → Finds h [] → moved ≡ unit → ((state : State) → found h state ≡ unchanged answer state) → EngineSteps old unit new moved answer
+    takes_nothing : (h : Head) → Finds h [] → moved ≡ unit → ((state : State) → found h state ≡ unchanged answer state) → AreStepped old unit new moved answer
     takes_nothing h is unit_is says state s =
         comes_to old new unit moved same_ring answer state (unchanged answer (found_state state)) (reads_head h [] state s is ∙ says (found_state state))
         (refl, stands_found old new unit moved same_ring state s (run_after old unit state h [] new.run s is) unit_is)
 
-  pub engine_steps : (answer : StepAnswer) → HasStepped (record { consumer = d; unit = unit }) (record { consumer = e; unit = moved }) answer → StillAs answer → ExhaustedAs answer → EngineSteps old unit new moved answer
+  pub engine_steps : (answer : StepAnswer) → HasStepped (record { consumer = d; unit = unit }) (record { consumer = e; unit = moved }) answer → StillAs answer → ExhaustedAs answer → AreStepped old unit new moved answer
   engine_steps Empty did still exhausted state s = takes_nothing Empty still exhausted (λ is. absurd cc) (λ is. absurd cc) head.Empty (none_is false did.0) did.1 (λ other. refl) state s
   engine_steps Drained did still exhausted state s = takes_nothing Drained still exhausted (λ is. absurd cc) (λ is. absurd cc) head.Drained (none_is true did.0) did.1 (λ other. refl) state s
   engine_steps Unwritten did still exhausted state s = takes_nothing Unwritten still exhausted (λ is. absurd cc) (λ is. absurd cc) head.Unwritten (unwritten_is did.0) did.1 (λ other. refl) state s

@@ -15,7 +15,7 @@ use Rattle.ringcore.specs.world.World.{world}
 use Rattle.caches.specs.Held.{Fill, Evict}
 use Rattle.engine.specs.Counting.{taken}
 use Rattle.engine.specs.Units.{UnitValue, with_entries, filled as filled_in_unit}
-use Rattle.simulator.specs.queue.Standing.{QueueValue}
+use Rattle.simulator.specs.queue.Seated.{QueueValue}
 use Rattle.simulator.specs.State.{State, Answered, entries, taken_so_far}
 use Rattle.simulator.specs.Fills.{with_item, fill_fault, filled_unless, filled}
 use Rattle.simulator.specs.Standing.{Stands}
@@ -116,14 +116,14 @@ pub after_evict : (queue : QueueValue) (unit new : UnitValue) (state : State) (t
     → Stands (record { queue = queue; unit = unit }) state → Stands (record { queue = queue; unit = new }) (with_item (Evict tag) state)
 after_evict queue unit new state tag e s =
     subst (λ (u : UnitValue). Stands (record { queue = queue; unit = u }) (with_item (Evict tag) state)) (sym e) (record {
-      ring = s.ring;
-      max_batches = s.max_batches;
       run = s.run;
+      geometry = s.geometry;
+      senders = s.senders;
+      max_batches = s.max_batches;
       capacity = s.capacity;
       entries = ap (λ held. finite.remove held tag) s.entries;
       stop = s.stop;
       counts = s.counts;
-      awaited = s.awaited;
     })
 
 -- the entry that is put in, by the state
@@ -135,15 +135,15 @@ after_fill : (queue : QueueValue) (unit new : UnitValue) (state : State) (tag : 
 after_fill queue unit new state tag value e s =
     let born = ap taken s.counts ∙ all_counted (world state.run).taken state.history in
     subst (λ (u : UnitValue). Stands (record { queue = queue; unit = u }) (with_item (Fill (born_now state tag value)) state)) (sym e) (record {
-      ring = s.ring;
-      max_batches = s.max_batches;
       run = s.run;
+      geometry = s.geometry;
+      senders = s.senders;
+      max_batches = s.max_batches;
       capacity = s.capacity;
       entries = ap (λ held. finite.insert held tag (record { tag = tag; value = value; born = taken unit.counts })) s.entries
           ∙ ap (λ n. finite.insert (entries state) tag (record { tag = tag; value = value; born = n })) born;
       stop = s.stop;
       counts = s.counts;
-      awaited = s.awaited;
     })
 
 clauses_at : (unit : UnitValue) (state : State) (tag : Tag) (r : Result (Option Entry) CacheFault) → unit.caches.entries ≡ entries state → unit.caches.capacity ≡ state.capacity

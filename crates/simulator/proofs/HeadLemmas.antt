@@ -17,10 +17,8 @@ use Rattle.ringcore.specs.world.Allowed.{Ring, IsRun, FindsReady, MayRead, Share
 use Rattle.ringcore.specs.world.Laws.{NeverMoreThanFull}
 use Rattle.ring.specs.table.Keeping.{run_by, RunStands}
 use Rattle.ring.specs.Keepers.{KeeperValue, Adds}
-use Rattle.simulator.specs.declared.queue.taking.Head.{Head}
-use Rattle.simulator.specs.declared.queue.taking.Head.TheVariants.{Empty, Drained, Unwritten, Ready}
 use Rattle.simulator.specs.queue.Reserving.{looked_by}
-use Rattle.simulator.specs.queue.Heads.{raw_at_head, ready_with, head_of, found_by, head_taken}
+use Rattle.simulator.specs.queue.Heads.{Head, Empty, Drained, Unwritten, Ready, raw_at_head, ready_with, head_of, found_by, head_taken}
 
 -- ---- what stands at the head
 

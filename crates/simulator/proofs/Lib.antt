@@ -5,8 +5,6 @@ pub mod OneMore
 pub mod Ways
 pub mod HeadLemmas
 pub mod EngineSteps
+pub mod Together
 pub mod Filling
 pub mod Acknowledging
-pub mod Judging
-pub mod Stepping
-pub mod QueueLemmas

@@ -1,86 +1,95 @@
--- What a queue's calls keep of a state, and how a simulator stands after them.
-use Rattle.std.proofs.Common.{◌≡◌, refl, ap, sym, ◌∙◌, ℕ, zero, suc, ◌-◌, Bool, List, [], ◌∷◌, ◌++◌, Option, Some, None, option_map, slice_get}
-use Rattle.std.proofs.lemmas.Option.{none-some}
+-- What calls of a sender keep of a state, and how a simulator stands after them.
+use Rattle.std.proofs.Common.{◌≡◌, refl, ap, sym, ◌∙◌, ℕ, zero, suc, ◌-◌, Bool, List, ◌∷◌, Option, Some, None}
 use Rattle.cmdcodec.specs.declared.raw.Raw.{Raw}
 use Rattle.ringcore.specs.declared.world.event.Who.TheVariants.{Sender}
 use Rattle.ringcore.specs.world.Trails.{Run, trail_of, reserved_length}
-use Rattle.ringcore.specs.world.World.{Item, Taken, World, world}
+use Rattle.ringcore.specs.world.World.{Taken, World, world}
 use Rattle.ringcore.specs.world.Allowed.{Ring, length_with}
 use Rattle.ring.specs.declared.sender.cause.Cause.{Cause}
+use Rattle.ring.specs.Rings.{RingValue}
+use Rattle.ring.specs.Keepers.{KeeperValue}
 use Rattle.engine.specs.Units.{UnitValue}
 use Rattle.simulator.specs.queue.Reserving.{cause_ahead, cause_seen, unless_seen, unless_ahead, try_to_reserve}
 use Rattle.simulator.specs.queue.Publishing.{written, flipped, first_flags, published}
-use Rattle.simulator.specs.queue.Heads.{raw_at_head}
-use Rattle.simulator.specs.queue.Standing.{QueueValue, GoesOn}
-use Rattle.simulator.specs.State.{State, counts_of, counted}
+use Rattle.simulator.specs.State.{State, counts_of}
 use Rattle.simulator.specs.Seats.{with_run}
-use Rattle.simulator.specs.Standing.{Stands}
+use Rattle.simulator.specs.Standing.{StandFor}
 
--- Nothing more is taken, and what stands at the head stays there.
-pub record Keeps (old new : Run) : Type 0 where
-  pub taken : (world new).taken ≡ (world old).taken
-  pub head : (raw : Raw) → raw_at_head (world old) ≡ Some raw → raw_at_head (world new) ≡ Some raw
-
-pub kept : (run : Run) → Keeps run run
-kept run = record { taken = refl; head = λ raw e. e }
-
--- an event that changes no world
-pub unmoved : (old new : Run) → world new ≡ world old → Keeps old new
-unmoved old new same = record { taken = ap (λ (w : World). w.taken) same; head = λ raw e. ap raw_at_head same ∙ e }
+-- Nothing more is taken.
+abbrev pub TakesNone : Run → Run → Type 0
+TakesNone old new = (world new).taken ≡ (world old).taken
 
 -- ---- reserve
 
-still_at : (items more : List Item) (i : ℕ) (raw : Raw) → option_map (λ (item : Item). item.raw) (slice_get items i) ≡ Some raw
-    → option_map (λ (item : Item). item.raw) (slice_get (items ++ more) i) ≡ Some raw
-still_at [] more i raw e = absurd (none-some raw e)
-still_at (item ∷ items) more zero raw e = e
-still_at (item ∷ items) more (suc i) raw e = still_at items more i raw e
+seen_takes_none : (ring : Ring) (s : ℕ) (body : List Raw) (closes : Bool) (run : Run) (cause : Option Cause) → TakesNone run (unless_seen ring s body closes run cause).run
+seen_takes_none ring s body closes run (Some cause) = refl
+seen_takes_none ring s body closes run None = refl
 
-seen_keeps : (ring : Ring) (s : ℕ) (body : List Raw) (closes : Bool) (run : Run) (cause : Option Cause) → Keeps run (unless_seen ring s body closes run cause).run
-seen_keeps ring s body closes run (Some cause) = record { taken = refl; head = λ raw e. e }
-seen_keeps ring s body closes run None = record { taken = refl; head = λ raw e. still_at (world run).reserved _ _ raw e }
+ahead_takes_none : (ring : Ring) (s : ℕ) (body : List Raw) (closes : Bool) (run : Run) (cause : Option Cause) → TakesNone run (unless_ahead ring s body closes run cause).run
+ahead_takes_none ring s body closes run (Some cause) = refl
+ahead_takes_none ring s body closes run None = seen_takes_none ring s body closes run (cause_seen ring (world run) (length_with closes body))
 
-ahead_keeps : (ring : Ring) (s : ℕ) (body : List Raw) (closes : Bool) (run : Run) (cause : Option Cause) → Keeps run (unless_ahead ring s body closes run cause).run
-ahead_keeps ring s body closes run (Some cause) = kept run
-ahead_keeps ring s body closes run None = seen_keeps ring s body closes run (cause_seen ring (world run) (length_with closes body))
-
-pub try_keeps : (ring : Ring) (max_batches s : ℕ) (body : List Raw) (closes : Bool) (run : Run) → Keeps run (try_to_reserve ring max_batches s body closes run).run
+pub try_takes_none : (ring : Ring) (max_batches s : ℕ) (body : List Raw) (closes : Bool) (run : Run) → TakesNone run (try_to_reserve ring max_batches s body closes run).run
 unfolding try_to_reserve
-try_keeps ring max_batches s body closes run =
-    ahead_keeps ring s body closes run (cause_ahead ring max_batches (trail_of (Sender s) run) (length_with closes body))
+try_takes_none ring max_batches s body closes run =
+    ahead_takes_none ring s body closes run (cause_ahead ring max_batches (trail_of (Sender s) run) (length_with closes body))
+
+-- Of a ring a try reads the geometry alone.
+abbrev bare : ℕ → Ring
+bare geometry = record { geometry = geometry; senders = 0; max_batches = 0; flags = 64 }
+
+seen_bare : (ring : Ring) (s : ℕ) (body : List Raw) (closes : Bool) (run : Run) (cause : Option Cause)
+    → unless_seen ring s body closes run cause ≡ unless_seen (bare ring.geometry) s body closes run cause
+seen_bare ring s body closes run (Some cause) = refl
+seen_bare ring s body closes run None = refl
+
+ahead_bare : (ring : Ring) (s : ℕ) (body : List Raw) (closes : Bool) (run : Run) (cause : Option Cause)
+    → unless_ahead ring s body closes run cause ≡ unless_ahead (bare ring.geometry) s body closes run cause
+ahead_bare ring s body closes run (Some cause) = refl
+ahead_bare ring s body closes run None = seen_bare ring s body closes run (cause_seen ring (world run) (length_with closes body))
+
+try_bare : (ring : Ring) (max_batches s : ℕ) (body : List Raw) (closes : Bool) (run : Run)
+    → try_to_reserve ring max_batches s body closes run ≡ try_to_reserve (bare ring.geometry) max_batches s body closes run
+unfolding try_to_reserve
+try_bare ring max_batches s body closes run =
+    ahead_bare ring s body closes run (cause_ahead ring max_batches (trail_of (Sender s) run) (length_with closes body))
+
+pub same_try : (ring other : Ring) (max_batches many s : ℕ) (body : List Raw) (closes : Bool) (run now : Run) → ring.geometry ≡ other.geometry → max_batches ≡ many → run ≡ now
+    → try_to_reserve ring max_batches s body closes run ≡ try_to_reserve other many s body closes now
+same_try ring other max_batches many s body closes run now geometry batches runs =
+    try_bare ring max_batches s body closes run
+    ∙ (λ k. try_to_reserve (bare (geometry k)) (batches k) s body closes (runs k))
+    ∙ sym (try_bare other many s body closes now)
 
 -- ---- publish
 
-written_keeps : (s count : ℕ) (run : Run) → Keeps run (written s count run)
-written_keeps s zero run = kept run
-written_keeps s (suc k) run = let before = written_keeps s k run in record { taken = before.taken; head = before.head }
+written_takes_none : (s count : ℕ) (run : Run) → TakesNone run (written s count run)
+written_takes_none s zero run = refl
+written_takes_none s (suc k) run = written_takes_none s k run
 
-flipped_keeps : (s offset count : ℕ) (old run : Run) → Keeps old run → Keeps old (flipped s offset count run)
-flipped_keeps s offset zero old run keeps = keeps
-flipped_keeps s offset (suc k) old run keeps = record { taken = keeps.taken; head = keeps.head }
+flipped_takes_none : (s offset count : ℕ) (old run : Run) → TakesNone old run → TakesNone old (flipped s offset count run)
+flipped_takes_none s offset zero old run none = none
+flipped_takes_none s offset (suc k) old run none = none
 
-pub published_keeps : (geometry s : ℕ) (run : Run) → Keeps run (published geometry s run)
+pub published_takes_none : (geometry s : ℕ) (run : Run) → TakesNone run (published geometry s run)
 unfolding published
-published_keeps geometry s run =
+published_takes_none geometry s run =
     let many = reserved_length (trail_of (Sender s) run) in
     let first = first_flags geometry s run in
-    flipped_keeps s first (many - first) run (flipped s 0 first (written s many run)) (flipped_keeps s 0 first run (written s many run) (written_keeps s many run))
+    flipped_takes_none s first (many - first) run (flipped s 0 first (written s many run)) (flipped_takes_none s 0 first run (written s many run) (written_takes_none s many run))
 
 -- ---- a simulator
 
-counted_same : (old new : Run) (state : State) → (world new).taken ≡ (world old).taken → counted new state.history ≡ counted old state.history
-counted_same old new state same = ap (λ (taken : List Taken). counts_of taken state.history) same
-
--- It stands for the state with the run that the queue made of the state's.
-pub after_run : (queue new : QueueValue) (unit : UnitValue) (state : State) (then : Run → Run) → GoesOn queue new then → Keeps state.run (then state.run)
-    → Stands (record { queue = queue; unit = unit }) state → Stands (record { queue = new; unit = unit }) (with_run state (then state.run))
-after_run queue new unit state then goes keeps s = record {
-  ring = goes.ring ∙ s.ring;
-  max_batches = goes.max_batches ∙ s.max_batches;
-  run = goes.runs state.run s.run;
+-- A sender's call left this run, in which nothing more is taken.
+pub stands_after : (old new : KeeperValue) (unit : UnitValue) (state : State) (run : Run) → new.ring ≡ old.ring → new.run ≡ run → TakesNone state.run run → StandFor old unit state
+    → StandFor new unit (with_run state run)
+stands_after old new unit state run ring is none s = record {
+  run = is;
+  geometry = ap (λ (r : RingValue). r.made_with.geometry) ring ∙ s.geometry;
+  senders = ap (λ (r : RingValue). r.made_with.senders) ring ∙ s.senders;
+  max_batches = ap (λ (r : RingValue). r.made_with.max_batches) ring ∙ s.max_batches;
   capacity = s.capacity;
   entries = s.entries;
   stop = s.stop;
-  counts = s.counts ∙ sym (counted_same state.run (then state.run) state keeps.taken);
-  awaited = λ raw e. keeps.head raw (s.awaited raw e);
+  counts = s.counts ∙ sym (ap (λ (taken : List Taken). counts_of taken state.history) none);
 }

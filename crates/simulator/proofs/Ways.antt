@@ -8,9 +8,7 @@ use Rattle.engine.specs.declared.answer.StepAnswer.TheVariants.{StillStopped}
 use Rattle.engine.specs.declared.stop.Mode.{Mode}
 use Rattle.engine.specs.declared.stop.Mode.TheVariants as mode
 use Rattle.engine.specs.Stops.{IsStopped}
-use Rattle.simulator.specs.declared.queue.taking.Head.{Head}
-use Rattle.simulator.specs.declared.queue.taking.Head.TheVariants.{Empty, Drained, Unwritten, Ready}
-use Rattle.simulator.specs.queue.Heads.{raw_at_head, ready_with, head_of, found_by, head_taken}
+use Rattle.simulator.specs.queue.Heads.{Head, Empty, Drained, Unwritten, Ready, raw_at_head, ready_with, head_of, found_by, head_taken}
 use Rattle.simulator.specs.State.{State, Answered}
 use Rattle.simulator.specs.Seats.{with_run}
 use Rattle.simulator.specs.Steps.{is_stopped, found, going, stepped_in, stepped, unchanged}

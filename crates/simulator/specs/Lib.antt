@@ -6,4 +6,3 @@ pub mod Fills
 pub mod Seats
 pub mod Steps
 pub mod Standing
-pub mod EngineStanding

@@ -92,3 +92,6 @@ registers state =
       gerror = word_of state.stop.error;
       gerrorn = word_of state.stop.acknowledged;
     }
+
+abbrev pub registers_told : State → Answered Registers
+registers_told state = record { answer = registers state; state = state }

@@ -14,9 +14,8 @@ use Rattle.engine.specs.declared.remedy.Remedy.{Remedy}
 use Rattle.engine.specs.declared.remedy.AckFault.{AckFault}
 use Rattle.engine.specs.declared.remedy.AckFault.TheVariants.{NoError, OtherBit}
 use Rattle.engine.specs.Stops.{stopped_at, gone_on, told, command_queue_bit}
-use Rattle.simulator.specs.declared.queue.taking.Head.{Head}
-use Rattle.simulator.specs.declared.queue.taking.Head.TheVariants as head
-use Rattle.simulator.specs.queue.Heads.{head_of, head_taken, completed}
+use Rattle.simulator.specs.queue.Heads as head
+use Rattle.simulator.specs.queue.Heads.{Head, head_of, head_taken, completed}
 use Rattle.simulator.specs.State.{State, Answered, entries, taken_so_far, removed_from}
 use Rattle.simulator.specs.Fills.{with_item}
 

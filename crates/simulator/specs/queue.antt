@@ -1,6 +1,4 @@
-pub mod Answers
-pub mod Taking
+pub mod Seated
 pub mod Reserving
 pub mod Publishing
 pub mod Heads
-pub mod Standing

@@ -1,18 +1,14 @@
 //! The queue with its unit.
 ghost use Rattle.std.specs.Prelude.{◌≡◌, ◌<◌, IfOk, IfErr, OnOk, OnErr, Err, true, false, None};
 ghost use Rattle.std.specs.FinMap as finite;
-ghost use Rattle.qindex.specs.ControlWord.{IsControl};
 ghost use Rattle.ringcore.specs.machine.Open.{is_open};
 ghost use Rattle.ringcore.specs.machine.Faults.{has_sender};
 ghost use Rattle.simulator.specs.Shapes.{shape_fault, IsNotMade};
-ghost use Rattle.simulator.specs.queue.Standing.{ring_in};
-ghost use Rattle.simulator.specs.State.{made, mine, entries, counted, registers};
+ghost use Rattle.simulator.specs.State.{made, mine, entries, counted, registers_told};
 ghost use Rattle.simulator.specs.Fills.{filled, evicted};
 ghost use Rattle.simulator.specs.Seats.{looked, closed, asked, reserved, published_by};
 ghost use Rattle.simulator.specs.Steps.{stepped, acknowledged};
-ghost use Rattle.simulator.specs.Standing.{Stands, Does, MayDo, HasOpen, Tells};
-
-mod stepping;
+ghost use Rattle.simulator.specs.Standing.{ring_in, Stands, Does, MayDo, HasOpen, Tells};
 
 use crate::queue::{Queue, Reserved};
 use crate::shape::{Shape, ShapeFault};
@@ -20,15 +16,16 @@ use batch::Batch;
 use caches::{CacheFault, Caches, Entry, Tag};
 use engine::{AckFault, Counts, Registers, Remedy, StepAnswer, Unit};
 use qindex::Control;
-use ring::Cause;
-use ringcore::CoreFault;
+use ring::{Cause, IdleConsumer, RingFault};
 use std::alloc::Global;
 use std::marker::Model;
 
-/// A ring with its senders, and the unit that takes what they send: one owner takes every step.
+/// A running ring with its senders, and the unit that takes what they send: one owner takes every step.
 #[derive(Drop)]
 pub struct Simulator {
     queue: Queue,
+    /// It is lent its seat for each step, and comes back.
+    consumer: Option<IdleConsumer<Unit>>,
     unit: Unit,
 }
 
@@ -43,7 +40,7 @@ impl Model for Simulator {
 
     ghost view = { λ s. record { queue = s.queue; unit = s.unit } };
 
-    ghost invariant = { λ s. IsSimulator (record { queue = s.queue; unit = s.unit }) };
+    ghost invariant = { λ s. IsSimulator s.queue s.consumer s.unit };
 }
 
 impl Simulator {
@@ -60,13 +57,15 @@ impl Simulator {
         }
         let caches = Caches::new(alloc, shape.capacity).unwrap();
         match Queue::new(alloc, shape.log2, shape.senders, shape.max_batches) {
-            Ok(queue) => Ok(Simulator {
+            Ok((queue, consumer)) => Ok(Simulator {
                 queue,
+                consumer: Some(consumer),
                 unit: Unit::new(caches),
             }),
-            Err(CoreFault::Memory(error)) => Err(ShapeFault::Memory(error)),
-            Err(CoreFault::Size) => Err(ShapeFault::Size),
-            Err(CoreFault::Senders) => Err(ShapeFault::Senders),
+            Err(RingFault::Memory(error)) => Err(ShapeFault::Memory(error)),
+            Err(RingFault::Size) => Err(ShapeFault::Size),
+            Err(RingFault::Senders) => Err(ShapeFault::Senders),
+            Err(RingFault::Batches) => Err(ShapeFault::Batches),
         }
     }
 
@@ -82,7 +81,7 @@ impl Simulator {
     pub fn is_open(&self, sender: u32) -> bool
         requires { sender < (ring_in self.now.queue).senders }
         ensures told { Tells self.now (λ state. result ≡ is_open (mine sender state)) }
-        ensures ever { HasOpen self.now sender result }
+        ensures is { HasOpen self.now sender result }
     {
         self.queue.is_open(sender)
     }
@@ -90,17 +89,15 @@ impl Simulator {
     /// A sender tries once to reserve a batch, which closes with a CMD_SYNC or doesn't.
     ///
     /// Errors, in this order: Q4, Q5, Q1, Q2.
-    pub fn reserve(&mut self, sender: u32, batch: &Batch, closes: bool) -> Result<Reserved, Cause>
+    pub fn reserve(&mut self, sender: u32, batch: Batch, closes: bool) -> Result<Reserved, Cause>
         requires sender { sender < (ring_in self.old.queue).senders }
         requires settled { HasOpen self.old sender false }
-        ensures done { Does self.old self.new result (reserved sender batch.now closes) }
+        ensures done { Does self.old self.new result (reserved sender batch closes) }
         ensures opened { OnOk result (HasOpen self.new sender true) }
         ensures ring { ring_in self.new.queue ≡ ring_in self.old.queue }
     {
         batch.len();
-        let answer = self.queue.reserve(sender, batch, closes);
-        self.queue.is_open(sender);
-        answer
+        self.queue.reserve(sender, batch, closes)
     }
 
     /// A sender writes its open reservation and hands it over, and tells the number of its batch, if it has one.
@@ -181,9 +178,20 @@ impl Simulator {
         self.unit.acknowledge(gerrorn, remedy)
     }
 
+    /// Takes one command at most: applies it and completes it, or stops at it, or completes it without effect where
+    /// software said so. It is the engine's own step.
+    pub fn step(&mut self) -> StepAnswer
+        ensures { Does self.old self.new result stepped }
+    {
+        let idle = self.consumer.take().unwrap();
+        let (idle, answer) = self.queue.step(idle, &mut self.unit);
+        self.consumer = Some(idle);
+        answer
+    }
+
     /// The queue's registers.
-    pub fn registers(&self) -> Registers
-        ensures { Tells self.now (λ state. result ≡ registers state) }
+    pub fn registers(&mut self) -> Registers
+        ensures { Does self.old self.new result registers_told }
     {
         let control = self.queue.control();
         let (err, gerror, gerrorn) = self.unit.error();

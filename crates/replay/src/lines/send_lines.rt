@@ -1,8 +1,7 @@
 //! The lines that send.
 ghost use Rattle.std.specs.Prelude.{◌≡◌, ◌<◌, IfOk, OnOk, Ok, string_bytes, true, false};
 ghost use Rattle.script.specs.Standing.{Acts};
-ghost use Rattle.simulator.specs.queue.Standing.{ring_in};
-ghost use Rattle.simulator.specs.Standing.{Stands, HasOpen};
+ghost use Rattle.simulator.specs.Standing.{ring_in, Stands, HasOpen};
 ghost use Rattle.replay.specs.effects.SendEffects.{body_of, body_effect, reserved_effect, send_effect};
 
 use crate::request::{Content, Sending};
@@ -52,12 +51,12 @@ fn hand_over(
 fn send_batch(
     simulator: &mut Simulator,
     sending: &Sending,
-    batch: &Batch,
+    batch: Batch,
     reply: &mut String,
 ) -> Result<(), AllocError>
     requires sender { sending.now.sender < (ring_in simulator.old.queue).senders }
     requires settled { HasOpen simulator.old sending.now.sender false }
-    ensures { OnOk result (Acts Stands (λ wanting. body_effect sending.now (Ok batch.now)) simulator.old simulator.new (string_bytes reply.old) (string_bytes reply.new) true) }
+    ensures { OnOk result (Acts Stands (λ wanting. body_effect sending.now (Ok batch)) simulator.old simulator.new (string_bytes reply.old) (string_bytes reply.new) true) }
 {
     match simulator.reserve(sending.sender, batch, sending.closes) {
         Ok(reserved) => hand_over(simulator, sending, reserved, reply),
@@ -77,9 +76,9 @@ pub(super) fn send(
         say_fault(number, fault.label(), reply)?;
         return Ok(false);
     }
-    match &batch_of(&sending.content) {
+    match batch_of(&sending.content) {
         Ok(batch) => send_batch(simulator, sending, batch, reply)?,
-        Err(fault) => say_batch_refused(*fault, reply)?,
+        Err(fault) => say_batch_refused(fault, reply)?,
     }
     Ok(true)
 }

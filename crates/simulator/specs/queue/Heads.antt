@@ -1,19 +1,21 @@
 -- What stands at the head of the queue, how the consumer finds it, and how it takes it.
-use Rattle.std.specs.Prelude.{◌≡◌, ℕ, ◌==◌, ◌≤◌, Bool, cond, [], ◌∷◌, Option, Some, None, option_map, slice_get, if◌then◌else◌}
+use Rattle.std.specs.Prelude.{ℕ, ◌==◌, cond, [], ◌∷◌, Option, Some, None, option_map, slice_get, if◌then◌else◌}
 use Rattle.cmdcodec.specs.declared.raw.Raw.{Raw}
 use Rattle.cmdcodec.specs.Opcodes.{is_sync}
 use Rattle.ringcore.specs.declared.world.event.Who.TheVariants.{Consumer}
 use Rattle.ringcore.specs.declared.world.event.Half.TheVariants.{Lo, Hi}
 use Rattle.ringcore.specs.declared.world.event.Event.TheVariants.{Test, Read, Advance, Acknowledge}
-use Rattle.qindex.specs.Positions.{place}
-use Rattle.qindex.specs.ControlWord.{bit}
-use Rattle.ringcore.specs.world.Trails.{Run, trail_of, found_ready}
+use Rattle.ringcore.specs.world.Trails.{Run}
 use Rattle.ringcore.specs.world.World.{Item, World, tail, head, world}
-use Rattle.ringcore.specs.world.Allowed.{Ring}
 use Rattle.ring.specs.consumer.Completing.{sync_sender, sync_number}
-use Rattle.simulator.specs.declared.queue.taking.Head.{Head}
-use Rattle.simulator.specs.declared.queue.taking.Head.TheVariants.{Empty, Drained, Unwritten, Ready}
 use Rattle.simulator.specs.queue.Reserving.{looked_by}
+
+-- what stands at the head: nothing, for now or for good; a command that isn't handed over yet; or one that may be taken
+pub data Head : Type 0 where
+  Empty : Head
+  Drained : Head
+  Unwritten : Head
+  Ready : Raw → Head
 
 -- the command that is taken next, if one is reserved
 abbrev pub raw_at_head : World → Option Raw
@@ -44,25 +46,3 @@ abbrev pub completed : Raw → Run → Run
 completed raw run =
     let advanced = (Consumer, Advance (raw ∷ [])) ∷ run in
     cond (is_sync raw) ((Consumer, Acknowledge (sync_sender raw) (sync_number raw)) ∷ advanced) advanced
-
--- ---- its steps, one by one
-
--- The slot is the head's.
-abbrev pub IsHeadSlot : Ring → Run → ℕ → Type 0
-IsHeadSlot ring run slot = slot ≡ place ring.geometry (head (world run))
-
--- whether the command at the head is handed over, and a test of it alone
-abbrev pub head_is_flipped : Run → Bool
-head_is_flipped run = (world run).flipped (head (world run))
-
-abbrev pub tested : Run → Run
-tested run = (Consumer, Test 1 (bit (head_is_flipped run))) ∷ run
-
--- The last test has found this command at the head, whose slot this is.
-pub record IsReadyAt (ring : Ring) (run : Run) (slot : ℕ) (raw : Raw) : Type 0 where
-  pub slot_is : IsHeadSlot ring run slot
-  pub ready : 1 ≤ found_ready (trail_of Consumer run)
-  pub there : raw_at_head (world run) ≡ Some raw
-
-abbrev pub read_both : Raw → Run → Run
-read_both raw run = (Consumer, Read 0 Hi raw.hi) ∷ (Consumer, Read 0 Lo raw.lo) ∷ run

@@ -1,13 +1,10 @@
 -- What is added to a run where an open reservation is written and handed over.
-use Rattle.std.specs.Prelude.{◌≡◌, ℕ, zero, suc, ◌+◌, ◌-◌, ◌<◌, ◌≤◌, false, true, min, ◌∷◌, [], Option, None}
-use Rattle.qindex.specs.Positions.{IndexValue, size, index_of}
+use Rattle.std.specs.Prelude.{ℕ, zero, suc, ◌-◌, min, ◌∷◌, [], Option, None}
 use Rattle.ringcore.specs.declared.world.event.Who.TheVariants.{Sender}
-use Rattle.ringcore.specs.declared.world.event.Half.{Half}
 use Rattle.ringcore.specs.declared.world.event.Half.TheVariants.{Lo, Hi}
 use Rattle.ringcore.specs.declared.world.event.Event.TheVariants.{Won, Write, Flip}
-use Rattle.ringcore.specs.world.Trails.{Trail, Run, trail_of, reserved_length, has_written, has_flipped}
+use Rattle.ringcore.specs.world.Trails.{Trail, Run, trail_of, reserved_length}
 use Rattle.ringcore.specs.world.World.{world}
-use Rattle.ringcore.specs.world.Allowed.{Ring}
 use Rattle.ringcore.specs.memory.Flags.{shared_word}
 
 -- the number of the last batch that was reserved, if it closes with a CMD_SYNC
@@ -36,25 +33,3 @@ published geometry s run =
     let many = reserved_length (trail_of (Sender s) run) in
     let first = first_flags geometry s run in
     flipped s first (many - first) (flipped s 0 first (written s many run))
-
--- ---- its steps, one by one
-
--- The sender has reserved so many commands from the slot of this index on, and has flipped none of them.
-pub record IsOpenAt (ring : Ring) (s : ℕ) (first : IndexValue) (many : ℕ) (run : Run) : Type 0 where
-  pub known : s < ring.senders
-  pub first_is : first ≡ index_of ring.geometry ((world run).start s)
-  pub many_is : many ≡ reserved_length (trail_of (Sender s) run)
-  pub some : 1 ≤ many
-  pub few : many ≤ 64
-  pub fits : many ≤ size ring.geometry
-  pub unflipped : (offset : ℕ) → has_flipped offset (trail_of (Sender s) run) ≡ false
-
--- From this offset on so many of its commands are left to be flipped, all written, the first in the slot of this index.
-pub record IsLeftAt (ring : Ring) (s : ℕ) (at : IndexValue) (offset left : ℕ) (run : Run) : Type 0 where
-  pub known : s < ring.senders
-  pub at_is : at ≡ index_of ring.geometry ((world run).start s + offset)
-  pub some : 1 ≤ left
-  pub few : left ≤ 64
-  pub inside : offset + left ≤ reserved_length (trail_of (Sender s) run)
-  pub unflipped : (i : ℕ) → i < left → has_flipped (offset + i) (trail_of (Sender s) run) ≡ false
-  pub written : (i : ℕ) (half : Half) → i < left → has_written (offset + i) half (trail_of (Sender s) run) ≡ true

@@ -7,7 +7,7 @@ use Rattle.ringcore.specs.declared.world.event.Who.TheVariants.{Sender}
 use Rattle.ringcore.specs.declared.world.event.Event.TheVariants.{Look, Won}
 use Rattle.ringcore.specs.world.Trails.{Trail, Run, trail_of, batches_made}
 use Rattle.ringcore.specs.world.World.{World, tail, head, world, control}
-use Rattle.ringcore.specs.world.Allowed.{Ring, MayWin, length_with}
+use Rattle.ringcore.specs.world.Allowed.{Ring, length_with}
 use Rattle.ringcore.specs.machine.StepAnswers.{next_number}
 use Rattle.ring.specs.declared.sender.cause.Cause.{Cause}
 use Rattle.ring.specs.declared.sender.cause.Cause.TheVariants.{TooLong, Exhausted, Closed, Full}
@@ -48,11 +48,6 @@ won ring s body closes before run =
       answer = Ok (record { first = index_of ring.geometry (tail (world before)); number = number });
       run = (Sender s, Won body number) ∷ run;
     }
-
--- That batch is allowed after this run.
-abbrev pub MayReserve : Ring → ℕ → List Raw → Bool → Run → Type 0
-MayReserve ring s body closes run =
-    let mine = trail_of (Sender s) run in MayWin ring (world run) mine body (next_number mine closes)
 
 abbrev pub unless_seen : Ring → ℕ → List Raw → Bool → Run → Option Cause → Try
 unless_seen ring s body closes run (Some cause) = refused_for cause (looked_by (Sender s) ring.geometry run)

@@ -10,5 +10,5 @@ hand_over-requires-clause-sender c = subst (λ (ring : Ring). c.args.sending.now
 pub returns-in-Ok : goal.returns-in-Ok
 returns-in-Ok c =
     on_ok_weaker c.hand_over.result (λ acts.
-    after_reserved c.args.sending.now c.args.batch.now c.in-Ok.reserved c.args.simulator.now c.reserve.new.self c.hand_over.new.simulator (string_bytes c.args.reply.now) (string_bytes c.hand_over.new.reply)
+    after_reserved c.args.sending.now c.args.batch c.in-Ok.reserved c.args.simulator.now c.reserve.new.self c.hand_over.new.simulator (string_bytes c.args.reply.now) (string_bytes c.hand_over.new.reply)
     c.in-Ok.ensures.done acts) c.hand_over.ensures

@@ -1,18 +1,31 @@
-use Rattle.std.proofs.Common.{sym, subst}
+use Rattle.std.proofs.Common.{◌≡◌, ⊤, ap, sym, subst, Result, Ok, Err}
+use Rattle.std.specs.Result.{OnOk, OnErr}
+use Rattle.engine.specs.declared.remedy.AckFault.{AckFault}
+use Rattle.engine.specs.declared.remedy.Remedy.{Remedy}
+use Rattle.engine.specs.Stops.{told}
+use Rattle.engine.specs.Units.{UnitValue}
 use Rattle.simulator.specs.Steps.{acknowledged}
 use Rattle.simulator.specs.Standing.{SimulatorValue, Stands}
 use Rattle.simulator.proofs.Acknowledging.{AckClauses, acknowledged_is}
+use Rattle.simulator.proofs.Together.{after_unit}
 use Rattle.simulator.proofs.simulator.Simulator.acknowledge.Goals as goal
 
 clauses : (c : goal.After-acknowledge) → AckClauses c.args.gerrorn c.self.inside.unit.stop c.acknowledge.result
 clauses c = record { none = c.acknowledge.ensures.none; other = c.acknowledge.ensures.other }
 
+-- Whatever was answered, the counts stay, and so do the words that come next.
+stays : {A : Type 0} (part : UnitValue → A) → ((u : UnitValue) (remedy : Remedy) → part (record u { stop = told remedy u.stop }) ≡ part u)
+    → (r : Result ⊤ AckFault) (old new : UnitValue) (remedy : Remedy) → OnOk r (new ≡ record old { stop = told remedy old.stop }) → OnErr r (new ≡ old) → part new ≡ part old
+stays part same (Ok t) old new remedy ok err = ap part ok ∙ same old remedy
+stays part same (Err fault) old new remedy ok err = ap part err
+
 pub invariant_of-self : goal.invariant_of-self
 invariant_of-self c =
-    let is = c.self.invariant in (
-      (acknowledged c.args.gerrorn c.args.remedy is.0).state,
-      (acknowledged_is c.self.inside.queue c.self.inside.unit c.acknowledge.new.self is.0 c.args.gerrorn c.args.remedy c.acknowledge.result (clauses c) c.acknowledge.ensures.ok c.acknowledge.ensures.err is.1).1,
-    )
+    let is = c.self.invariant in
+    after_unit c.self.inside.queue c.self.inside.consumer c.self.inside.unit c.acknowledge.new.self (acknowledged c.args.gerrorn c.args.remedy is.state).state
+    (stays (λ u. u.counts) (λ u remedy _. u.counts) c.acknowledge.result _ _ _ c.acknowledge.ensures.ok c.acknowledge.ensures.err)
+    (stays (λ u. u.stop.next) (λ u remedy _. u.stop.next) c.acknowledge.result _ _ _ c.acknowledge.ensures.ok c.acknowledge.ensures.err) c.acknowledge.ensures.settled is
+    (acknowledged_is c.self.inside.queue c.self.inside.unit c.acknowledge.new.self is.state c.args.gerrorn c.args.remedy c.acknowledge.result (clauses c) c.acknowledge.ensures.ok c.acknowledge.ensures.err is.stands).1
 
 pub returns : goal.returns
 returns c state stands =

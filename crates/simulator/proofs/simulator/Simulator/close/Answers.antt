@@ -1,9 +1,23 @@
-use Rattle.std.proofs.Common.{refl}
-use Rattle.simulator.specs.Seats.{with_run}
-use Rattle.simulator.proofs.Standings.{after_run}
+use Rattle.std.proofs.Common.{◌≡◌, refl, ap, sym, ◌∙◌, subst, ◌∷◌}
+use Rattle.ringcore.specs.declared.world.event.Who.TheVariants.{Sender}
+use Rattle.ringcore.specs.declared.world.event.Event.TheVariants.{Close}
+use Rattle.ringcore.specs.world.Trails.{Run}
+use Rattle.simulator.specs.State.{State}
+use Rattle.simulator.specs.Seats.{closed}
+use Rattle.simulator.specs.Standing.{SimulatorValue, StandFor, Stands}
+use Rattle.simulator.proofs.Standings.{stands_after}
+use Rattle.simulator.proofs.Together.{after_call}
 use Rattle.simulator.proofs.simulator.Simulator.close.Goals as goal
 
+after : (c : goal.After-close) (state : State) → StandFor c.self.inside.queue.keeper c.self.inside.unit state → StandFor c.close.new.self.keeper c.self.inside.unit (closed c.args.sender state).state
+after c state s =
+    stands_after c.self.inside.queue.keeper c.close.new.self.keeper c.self.inside.unit state _ c.close.ensures.ring
+    (c.close.ensures.run ∙ ap (λ (run : Run). (Sender c.args.sender, Close) ∷ run) s.run) refl s
+
 pub invariant_of-self : goal.invariant_of-self
-invariant_of-self c =
-    let is = c.self.invariant in
-    (with_run is.0 _, after_run c.self.inside.queue c.close.new.self c.self.inside.unit is.0 _ c.close.ensures (record { taken = refl; head = λ raw e. e }) is.1)
+invariant_of-self c = let is = c.self.invariant in after_call c.self.inside.queue c.close.new.self c.self.inside.consumer c.self.inside.unit _ c.close.ensures.consumer is (after c is.state is.stands)
+
+pub returns : goal.returns
+returns c state stands =
+    let s = subst (λ (m : SimulatorValue). Stands m state) (sym c.self.view_is) stands in
+    (refl, after c state s)

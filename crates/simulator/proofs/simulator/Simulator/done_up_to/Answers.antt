@@ -1,9 +1,27 @@
-use Rattle.std.proofs.Common.{refl}
-use Rattle.simulator.specs.Seats.{with_run}
-use Rattle.simulator.proofs.Standings.{unmoved, after_run}
+use Rattle.std.proofs.Common.{◌≡◌, refl, ap, ap₂, sym, ◌∙◌, subst, ℕ, ◌∷◌}
+use Rattle.ringcore.specs.declared.world.event.Who.TheVariants.{Sender}
+use Rattle.ringcore.specs.declared.world.event.Event.TheVariants.{Ask}
+use Rattle.ringcore.specs.world.Trails.{Run}
+use Rattle.ringcore.specs.world.World.{world}
+use Rattle.simulator.specs.State.{State}
+use Rattle.simulator.specs.Seats.{asked}
+use Rattle.simulator.specs.Standing.{SimulatorValue, StandFor, Stands}
+use Rattle.simulator.proofs.Standings.{stands_after}
+use Rattle.simulator.proofs.Together.{after_call}
 use Rattle.simulator.proofs.simulator.Simulator.done_up_to.Goals as goal
 
+found : (c : goal.After-ask) (state : State) → StandFor c.self.inside.queue.keeper c.self.inside.unit state → c.ask.result ≡ (world state.run).acknowledged c.args.sender
+found c state s = c.ask.ensures.found ∙ ap (λ (run : Run). (world run).acknowledged c.args.sender) s.run
+
+after : (c : goal.After-ask) (state : State) → StandFor c.self.inside.queue.keeper c.self.inside.unit state → StandFor c.ask.new.self.keeper c.self.inside.unit (asked c.args.sender state).state
+after c state s =
+    stands_after c.self.inside.queue.keeper c.ask.new.self.keeper c.self.inside.unit state _ c.ask.ensures.ring
+    (c.ask.ensures.run ∙ ap₂ (λ (number : ℕ) (run : Run). (Sender c.args.sender, Ask number) ∷ run) (found c state s) s.run) refl s
+
 pub invariant_of-self : goal.invariant_of-self
-invariant_of-self c =
-    let is = c.self.invariant in
-    (with_run is.0 _, after_run c.self.inside.queue c.ask.new.self c.self.inside.unit is.0 _ c.ask.ensures.run (unmoved is.0.run _ refl) is.1)
+invariant_of-self c = let is = c.self.invariant in after_call c.self.inside.queue c.ask.new.self c.self.inside.consumer c.self.inside.unit _ c.ask.ensures.consumer is (after c is.state is.stands)
+
+pub returns : goal.returns
+returns c state stands =
+    let s = subst (λ (m : SimulatorValue). Stands m state) (sym c.self.view_is) stands in
+    (found c state s, after c state s)

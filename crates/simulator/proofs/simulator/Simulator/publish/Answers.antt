@@ -1,25 +1,23 @@
-use Rattle.std.proofs.Common.{sym, subst}
-use Rattle.ringcore.specs.world.Allowed.{Ring}
-use Rattle.simulator.specs.queue.Publishing.{published}
-use Rattle.simulator.specs.queue.Standing.{ring_in}
-use Rattle.simulator.specs.Seats.{with_run}
-use Rattle.simulator.specs.Standing.{SimulatorValue, Stands}
-use Rattle.simulator.proofs.Standings.{published_keeps, after_run}
+use Rattle.std.proofs.Common.{◌≡◌, ap, ap₂, sym, ◌∙◌, subst, ℕ}
+use Rattle.ringcore.specs.declared.world.event.Who.TheVariants.{Sender}
+use Rattle.ringcore.specs.world.Trails.{Run, trail_of}
+use Rattle.simulator.specs.queue.Publishing.{last_number, published}
+use Rattle.simulator.specs.State.{State}
+use Rattle.simulator.specs.Seats.{published_by}
+use Rattle.simulator.specs.Standing.{SimulatorValue, StandFor, Stands}
+use Rattle.simulator.proofs.Standings.{published_takes_none, stands_after}
+use Rattle.simulator.proofs.Together.{after_call}
 use Rattle.simulator.proofs.simulator.Simulator.publish.Goals as goal
 
+after : (c : goal.After-publish) (state : State) → StandFor c.self.inside.queue.keeper c.self.inside.unit state → StandFor c.publish.new.self.keeper c.self.inside.unit (published_by c.args.sender state).state
+after c state s =
+    stands_after c.self.inside.queue.keeper c.publish.new.self.keeper c.self.inside.unit state _ c.publish.ensures.ring
+    (c.publish.ensures.run ∙ ap₂ (λ (geometry : ℕ) (run : Run). published geometry c.args.sender run) s.geometry s.run) (published_takes_none state.ring.geometry c.args.sender state.run) s
+
 pub invariant_of-self : goal.invariant_of-self
-invariant_of-self c =
-    let is = c.self.invariant in
-    let geometry = (ring_in c.self.inside.queue).geometry in (
-      with_run is.0 (published geometry c.args.sender is.0.run),
-      after_run c.self.inside.queue c.publish.new.self c.self.inside.unit is.0 (published geometry c.args.sender) c.publish.ensures.run (published_keeps geometry c.args.sender is.0.run) is.1,
-    )
+invariant_of-self c = let is = c.self.invariant in after_call c.self.inside.queue c.publish.new.self c.self.inside.consumer c.self.inside.unit _ c.publish.ensures.consumer is (after c is.state is.stands)
 
 pub returns : goal.returns
 returns c state stands =
     let s = subst (λ (m : SimulatorValue). Stands m state) (sym c.self.view_is) stands in
-    let geometry = (ring_in c.self.inside.queue).geometry in (
-      c.publish.ensures.number state.run s.run,
-      subst (λ (ring : Ring). Stands (record { queue = c.publish.new.self; unit = c.self.inside.unit }) (with_run state (published ring.geometry c.args.sender state.run))) s.ring
-          (after_run c.self.inside.queue c.publish.new.self c.self.inside.unit state (published geometry c.args.sender) c.publish.ensures.run (published_keeps geometry c.args.sender state.run) s),
-    )
+    (c.publish.ensures.number ∙ ap (λ (run : Run). last_number (trail_of (Sender c.args.sender) run)) s.run, after c state s)

@@ -1,35 +1,37 @@
-use Rattle.std.proofs.Common.{◌≡◌, ap, sym, ◌∙◌, subst, refl, true, Result, Ok, Err}
+use Rattle.std.proofs.Common.{◌≡◌, ap, refl, sym, ◌∙◌, subst, true, Result, Ok, Err}
 use Rattle.std.specs.Result.{OnOk}
+use Rattle.ringcore.specs.declared.world.event.Who.TheVariants.{Sender}
+use Rattle.ringcore.specs.world.Trails.{Run, trail_of}
+use Rattle.ringcore.specs.machine.Open.{is_open}
 use Rattle.ring.specs.declared.sender.cause.Cause.{Cause}
 use Rattle.simulator.specs.declared.queue.reserving.Reserved.{Reserved}
 use Rattle.simulator.specs.queue.Reserving.{Try, try_to_reserve}
-use Rattle.simulator.specs.queue.Standing.{ring_in}
-use Rattle.simulator.specs.Seats.{with_run}
-use Rattle.simulator.specs.Standing.{SimulatorValue, Stands, HasOpen}
-use Rattle.simulator.proofs.Standings.{try_keeps, after_run}
+use Rattle.simulator.specs.State.{State}
+use Rattle.simulator.specs.Seats.{reserved}
+use Rattle.simulator.specs.Standing.{SimulatorValue, StandFor, Stands, HasOpen, ring_in}
+use Rattle.simulator.proofs.Standings.{try_takes_none, same_try, stands_after}
 use Rattle.simulator.proofs.Opening.{try_is_open}
+use Rattle.simulator.proofs.Together.{after_call}
 use Rattle.simulator.proofs.simulator.Simulator.reserve.Goals as goal
 
+same : (c : goal.After-reserve) (state : State) → StandFor c.self.inside.queue.keeper c.self.inside.unit state
+    → try_to_reserve (ring_in c.self.inside.queue) (ring_in c.self.inside.queue).max_batches c.args.sender c.args.batch c.args.closes c.self.inside.queue.keeper.run
+    ≡ try_to_reserve state.ring state.max_batches c.args.sender c.args.batch c.args.closes state.run
+same c state s = same_try (ring_in c.self.inside.queue) state.ring _ _ c.args.sender c.args.batch c.args.closes _ _ s.geometry s.max_batches s.run
+
+after : (c : goal.After-reserve) (state : State) → StandFor c.self.inside.queue.keeper c.self.inside.unit state
+    → StandFor c.reserve.new.self.keeper c.self.inside.unit (reserved c.args.sender c.args.batch c.args.closes state).state
+after c state s =
+    stands_after c.self.inside.queue.keeper c.reserve.new.self.keeper c.self.inside.unit state _ c.reserve.ensures.ring
+    (c.reserve.ensures.run ∙ ap (λ (t : Try). t.run) (same c state s)) (try_takes_none state.ring state.max_batches c.args.sender c.args.batch c.args.closes state.run) s
+
 pub invariant_of-self : goal.invariant_of-self
-invariant_of-self c =
-    let is = c.self.invariant in
-    let queue = c.self.inside.queue in (
-      with_run is.0 _,
-      after_run queue c.reserve-answer.new.self c.self.inside.unit is.0 (λ run. (try_to_reserve (ring_in queue) queue.max_batches c.args.sender c.args.batch.now c.args.closes run).run) c.reserve-answer.ensures.run
-          (try_keeps (ring_in queue) queue.max_batches c.args.sender c.args.batch.now c.args.closes is.0.run) is.1,
-    )
+invariant_of-self c = let is = c.self.invariant in after_call c.self.inside.queue c.reserve.new.self c.self.inside.consumer c.self.inside.unit _ c.reserve.ensures.consumer is (after c is.state is.stands)
 
 pub returns-clause-done : goal.returns-clause-done
 returns-clause-done c state stands =
-    let queue = c.self.inside.queue in
     let s = subst (λ (m : SimulatorValue). Stands m state) (sym c.self.view_is) stands in
-    let same = ap (λ ring. try_to_reserve ring queue.max_batches c.args.sender c.args.batch.now c.args.closes state.run) s.ring
-    ∙ ap (λ max. try_to_reserve state.ring max c.args.sender c.args.batch.now c.args.closes state.run) s.max_batches in (
-      c.reserve-answer.ensures.answer state.run s.run ∙ ap (λ (t : Try). t.answer) same,
-      subst (λ (t : Try). Stands (record { queue = c.reserve-answer.new.self; unit = c.self.inside.unit }) (with_run state t.run)) same
-          (after_run queue c.reserve-answer.new.self c.self.inside.unit state (λ run. (try_to_reserve (ring_in queue) queue.max_batches c.args.sender c.args.batch.now c.args.closes run).run) c.reserve-answer.ensures.run
-          (try_keeps (ring_in queue) queue.max_batches c.args.sender c.args.batch.now c.args.closes state.run) s),
-    )
+    (c.reserve.ensures.answer ∙ ap (λ (t : Try). t.answer) (same c state s), after c state s)
 
 on_ok : (r : Result Reserved Cause) (P : Type 0) → ((x : Reserved) → r ≡ Ok x → P) → OnOk r P
 on_ok (Ok x) P f = f x refl
@@ -37,12 +39,7 @@ on_ok (Err cause) P f = tt
 
 pub returns-clause-opened : goal.returns-clause-opened
 returns-clause-opened c =
-    let is = c.self.invariant in
     let queue = c.self.inside.queue in
-    let ring = ring_in queue in
-    on_ok c.reserve-answer.result (HasOpen (record { queue = c.reserve-answer.new.self; unit = c.self.inside.unit }) c.args.sender true) (λ x ok run after.
-    let there = c.reserve-answer.ensures.run.runs is.0.run is.1.run in
-    let answer = sym (c.reserve-answer.ensures.answer is.0.run is.1.run) ∙ ok in
-    sym (c.is_open.ensures run after)
-    ∙ c.is_open.ensures (try_to_reserve ring queue.max_batches c.args.sender c.args.batch.now c.args.closes is.0.run).run there
-    ∙ try_is_open ring queue.max_batches c.args.sender c.args.batch.now c.args.closes is.0.run x c.len.ensures.body.some answer)
+    on_ok c.reserve.result (HasOpen (record { queue = c.reserve.new.self; unit = c.self.inside.unit }) c.args.sender true)
+    (λ x ok. subst (λ (run : Run). is_open (trail_of (Sender c.args.sender) run) ≡ true) (sym c.reserve.ensures.run)
+    (try_is_open (ring_in queue) (ring_in queue).max_batches c.args.sender c.args.batch c.args.closes queue.keeper.run x c.len.ensures.body.some (sym c.reserve.ensures.answer ∙ ok)))
