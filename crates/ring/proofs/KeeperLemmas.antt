@@ -4,3 +4,4 @@ pub mod Idle
 pub mod Starting
 pub mod Lending
 pub mod Returning
+pub mod Asking

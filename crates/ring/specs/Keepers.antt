@@ -5,6 +5,7 @@ use Rattle.cmdcodec.specs.declared.raw.Raw.{Raw}
 use Rattle.qindex.specs.Positions.{IndexValue}
 use Rattle.ringcore.specs.declared.world.event.Who.{Who}
 use Rattle.ringcore.specs.declared.world.event.Who.TheVariants.{Consumer, Sender}
+use Rattle.ringcore.specs.declared.world.event.Event.{Event}
 use Rattle.ringcore.specs.world.Trails.{Trail, Run, same, trail_of}
 use Rattle.ringcore.specs.world.Laws.{IsOne}
 use Rattle.ringcore.specs.world.Allowed.{Ring}
@@ -140,6 +141,18 @@ pub record KeepsOthers (who : Who) (old new : KeeperValue) : Type 0 where
   pub senders : (tally : Tally) → Sender tally.sender ≢ who → IsIdleSender old tally → IsIdleSender new tally
   pub reservations : (body : List Raw) (idle : IdleReservationValue) → Sender idle.tally.sender ≢ who → IsIdleReservation old body idle → IsIdleReservation new body idle
   pub consumer : (head : IndexValue) (taken : ℕ) → Consumer ≢ who → IsIdleConsumer old head taken → IsIdleConsumer new head taken
+
+-- ---- one step of a sender
+
+-- The run has this one's event more, at its end.
+abbrev pub with_step : Who → Event → KeeperValue → KeeperValue
+with_step who e k = record k { run = (who, e) ∷ k.run }
+
+-- What is left of anyone stays that, also of the one who took the step.
+pub record KeepsAll (old new : KeeperValue) : Type 0 where
+  pub senders : (tally : Tally) → IsIdleSender old tally → IsIdleSender new tally
+  pub reservations : (body : List Raw) (idle : IdleReservationValue) → IsIdleReservation old body idle → IsIdleReservation new body idle
+  pub consumer : (head : IndexValue) (taken : ℕ) → IsIdleConsumer old head taken → IsIdleConsumer new head taken
 
 -- ---- a new keeper
 

@@ -7,6 +7,7 @@ ghost use Rattle.ring.specs.table.Histories.{Grew};
 ghost use Rattle.ring.specs.table.Keeping.{RunStands};
 ghost use Rattle.ring.specs.Keepers.{own_port, has_lent, has_back, Adds, IsNews, KeepsOthers};
 
+mod asking;
 mod consumer;
 mod making;
 mod reservation;

@@ -6,4 +6,6 @@ mod steps;
 
 pub use port::Port;
 pub use rule::{Parameters, Participant, Participants, RingRule, growth_adds_up, run_is_one};
-pub use steps::{Asks, Closes, Deals, Gathers, HasIntent, HasWho, Lends, Looks, Meets, StepFor};
+pub use steps::{
+    Asks, Closes, Deals, Finds, Gathers, HasIntent, HasWho, Lends, Looks, Meets, StepFor,
+};

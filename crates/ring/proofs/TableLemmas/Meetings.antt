@@ -14,7 +14,7 @@ use Rattle.ring.specs.declared.table.rule.Participant.{Participant}
 use Rattle.ring.specs.table.Rule.{TableState, Holding, participant, WentOn, HasTrails, SitAt, Any, RuleHolds, Stands, ring_of, who_of, trail_of_first, history_of_first, IsAlone}
 use Rattle.ring.specs.table.Operations.{AreMadeBy}
 use Rattle.ring.specs.table.StepEvents.{without_first, first_alone, both_of}
-use Rattle.ring.specs.table.Meetings.{all_knowing, HasAll, AllSit, HaveMet, has_met}
+use Rattle.ring.specs.table.Meetings.{all_knowing, HasAll, AllSit, HaveMet, has_met, has_found}
 use Rattle.ring.specs.table.Ports.{port_of, PortValue}
 use Rattle.ring.proofs.TableLemmas.Seats.{went_on_none, same_place, among_step}
 use Rattle.ring.proofs.TableLemmas.Steps.{deals_at, set_back}
@@ -59,8 +59,8 @@ module _ (ring : Ring) (s : TableState) (k : RuleHolds ring s) (id : ℕ) (v : L
       let is : n.place ≡ id = one_seat ring k.run k.seat n.place id (λ p. p.history ≡ k.run) n.there there.0 there.1 (λ u known. sits_here k.seat id u v (k.seated id v at).0 (all u known)) n.one in
       same_place s.views id v n.there at (λ p. p.history ≡ k.run) n.place is n.at n.one
 
-pub meets_at : (ring : Ring) (slots id i : ℕ) (g : Participant) (hs : List Participant) → Allows (RuleHolds ring) slots id (g ∷ hs, []) i (λ x. x) (has_met (step slots i 0 0 none) (g ∷ hs, []))
-meets_at ring slots id i g hs s k _ at _ =
+pub finds_at : (ring : Ring) (slots id i : ℕ) (g : Participant) (hs : List Participant) → Allows (RuleHolds ring) slots id (g ∷ hs, []) i (λ x. x) (has_found (step slots i 0 0 none) (g ∷ hs, []))
+finds_at ring slots id i g hs s k _ at _ =
     let mine = k.seated id (g ∷ hs) at in
     let w : List Participant = all_knowing k.run (g ∷ hs) in
     let here : HasAll ring (g ∷ hs) k.run s.words = record { limits = k.limits; after = k.after; only = k.only; has = mine.1 } in (
@@ -83,13 +83,20 @@ meets_at ring slots id i g hs s k _ at _ =
         everyone = λ u one. among_step (λ p. p.who ≡ u) s.views id (g ∷ hs) w at (knowing_who u k.run (g ∷ hs)) (k.everyone u one);
       },
       (
-        k.run,
-        s.words,
-        subst (λ (r : Ring). HasAll r (g ∷ hs) k.run s.words) (sym mine.1.0.ring_is) here,
+        (
+          k.run,
+          s.words,
+          subst (λ (r : Ring). HasAll r (g ∷ hs) k.run s.words) (sym mine.1.0.ring_is) here,
+          refl,
+          λ (all : AllSit g.ring (g ∷ hs)). newest_here ring s k id (g ∷ hs) at (subst (λ (r : Ring). AllSit r (g ∷ hs)) mine.1.0.ring_is all),
+        ),
         refl,
-        λ (all : AllSit g.ring (g ∷ hs)). newest_here ring s k id (g ∷ hs) at (subst (λ (r : Ring). AllSit r (g ∷ hs)) mine.1.0.ring_is all),
       ),
     )
+
+-- and the same, where the word that was found doesn't matter
+pub meets_at : (ring : Ring) (slots id i : ℕ) (g : Participant) (hs : List Participant) → Allows (RuleHolds ring) slots id (g ∷ hs, []) i (λ x. x) (has_met (step slots i 0 0 none) (g ∷ hs, []))
+meets_at ring slots id i g hs s k many at low = let did = finds_at ring slots id i g hs s k many at low in (did.0, did.1, did.2, did.3, did.4.0)
 
 -- ---- two seats, each of which stands for one alone
 

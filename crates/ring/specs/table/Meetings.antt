@@ -1,5 +1,5 @@
 -- Seats that are joined for a load: all for whom they stand know the run as it is then.
-use Rattle.std.specs.Prelude.{◌≡◌, ℕ, List, [], ◌∷◌}
+use Rattle.std.specs.Prelude.{◌≡◌, ℕ, List, [], ◌∷◌, slice_index}
 use Rattle.atomic_table.specs.Table.{Step}
 use Rattle.ringcore.specs.declared.world.event.Who.{Who}
 use Rattle.ringcore.specs.world.Trails.{Run}
@@ -35,3 +35,7 @@ HaveMet me now =
 -- what the load tells
 abbrev pub has_met : Step (Unit {0}) → Holding → ℕ → Holding → Type 0
 has_met step me word now = HaveMet me now
+
+-- and what it tells with the word that it found: that stood at its place
+abbrev pub has_found : Step (Unit {0}) → Holding → ℕ → Holding → Type 0
+has_found step me word now = (met : HaveMet me now) × (word ≡ slice_index met.1 step.word)

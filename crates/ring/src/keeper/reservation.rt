@@ -3,6 +3,7 @@ ghost use Rattle.std.specs.Prelude.{◌≡◌, ◌<◌, true, false, Some, None}
 ghost use Rattle.ringcore.specs.declared.world.event.Who.TheVariants.{Sender as SenderOf};
 ghost use Rattle.ringcore.specs.world.Trails.{trail_of};
 ghost use Rattle.ring.specs.table.Histories.{Grew};
+ghost use Rattle.ring.specs.sender.Reservations.{number_when};
 ghost use Rattle.ring.specs.Keepers.{own_reservation, has_lent, has_back, Adds, IsNews, KeepsOthers, IsIdleReservation, IsLeftOf};
 
 use crate::keeper::Keeper;
@@ -47,6 +48,24 @@ impl IdleReservation {
         ensures { result ≡ self.now.closes }
     {
         self.closes
+    }
+
+    /// The index of its first slot.
+    pub fn first(&self) -> Index
+        ensures { result ≡ self.now.start }
+    {
+        self.start
+    }
+
+    /// The number of its batch, where it closes with a CMD_SYNC.
+    pub fn number(&self) -> Option<u32>
+        ensures { result ≡ number_when self.now.closes self.now.tally.numbers }
+    {
+        if self.closes {
+            Some(self.tally.numbers)
+        } else {
+            None
+        }
     }
 }
 

@@ -54,6 +54,15 @@ impl Play<(), Participants> for Meets {
     ghost then = { has_met };
 }
 
+/// Such a load that also tells the word that it found.
+pub struct Finds;
+
+impl Play<(), Participants> for Finds {
+    ghost use Rattle.ring.specs.table.Meetings.{has_found};
+
+    ghost then = { has_found };
+}
+
 /// The first for whom a seat stands gets a seat of its own.
 pub struct Deals;
 

@@ -1,0 +1,16 @@
+use Rattle.ringcore.specs.declared.world.event.Event.TheVariants.{Look}
+use Rattle.ring.proofs.KeeperLemmas.Asking.{IsStep, is_step, keeps_all, look_leaves_all}
+use Rattle.ring.proofs.keeper.Keeper.look.Goals as goal
+
+did : (c : goal.After-run_stands) → IsStep c.args.sender (Look c.look-found.result) c.args.self.now c.take_back.new.self
+did c = is_step c.args.sender (Look c.look-found.result) c.args.self.now c.lend_to_sender-port.new.self c.take_back.new.self c.lend_to_sender-port.result c.look-found.new.self
+    c.requires.whole c.lend_to_sender-port.ensures.port c.lend_to_sender-port.ensures.keeper c.look-found.ensures.trail c.take_back.ensures.keeper c.run_stands.ensures
+
+pub returns-clause-keeper : goal.returns-clause-keeper
+returns-clause-keeper c = (did c).keeper_is
+
+pub returns-clause-found : goal.returns-clause-found
+returns-clause-found c = (did c).allowed
+
+pub returns-clause-all : goal.returns-clause-all
+returns-clause-all c = keeps_all c.args.sender (Look c.look-found.result) c.args.self.now c.take_back.new.self (look_leaves_all c.look-found.result) (did c)
