@@ -3,7 +3,7 @@ use Rattle.std.proofs.Common.{ℕ, true, List, ap, sym, ◌∙◌, subst, Some, 
 use Rattle.cmdcodec.specs.declared.raw.Raw.{Raw}
 use Rattle.ring.specs.declared.sender.cause.Cause.{Cause}
 use Rattle.script.specs.Standing.{StandsAt, Acts}
-use Rattle.simulator.specs.declared.queue.reserving.Reserved.{Reserved}
+use Rattle.simulator.specs.declared.queue.reserved.Reserved.{Reserved}
 use Rattle.simulator.specs.Seats.{reserved}
 use Rattle.simulator.specs.Standing.{SimulatorValue, Stands, Does}
 use Rattle.replay.specs.declared.request.Sending.{Sending}

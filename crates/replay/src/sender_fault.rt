@@ -1,6 +1,7 @@
 //! Why a line of a sender ends the run.
 ghost use Rattle.std.specs.Prelude.{◌≡◌, ◌<◌, None, true, false};
-ghost use Rattle.simulator.specs.Standing.{ring_in, Tells, HasOpen as IsOpen};
+ghost use Rattle.simulator.specs.queue.Seated.{ring_in};
+ghost use Rattle.simulator.specs.Standing.{Tells, HasOpen as IsOpen};
 ghost use Rattle.replay.specs.effects.SenderFaults.{sender_label, settled_fault, reserved_fault};
 
 use simulator::Simulator;

@@ -30,7 +30,7 @@ use Rattle.engine.specs.declared.stop.Mode.{Mode}
 use Rattle.engine.specs.Stops.{StopValue, IsStopped, stopped_at, gone_on}
 use Rattle.engine.specs.Counting.{taken, counted_applied, counted_replaced}
 use Rattle.engine.specs.Units.{UnitValue, IsApplied, IsStoppedAt, IsReplaced}
-use Rattle.engine.specs.Engines.{EngineValue, IsFirst, AreTogether, HasStepped}
+use Rattle.engine.specs.Engines.{EngineValue, IsFirst, HasStepped}
 use Rattle.simulator.specs.queue.Heads as head
 use Rattle.simulator.specs.queue.Heads.{Head, head_of, head_taken, completed}
 use Rattle.simulator.specs.State.{State, Answered, entries, taken_so_far, removed_from, counts_of, counted}

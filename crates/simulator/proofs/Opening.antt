@@ -9,7 +9,7 @@ use Rattle.ringcore.specs.world.Allowed.{Ring, length_with}
 use Rattle.ringcore.specs.machine.Open.{some_below, is_open}
 use Rattle.ringcore.specs.machine.StepAnswers.{next_number}
 use Rattle.ring.specs.declared.sender.cause.Cause.{Cause}
-use Rattle.simulator.specs.declared.queue.reserving.Reserved.{Reserved}
+use Rattle.simulator.specs.declared.queue.reserved.Reserved.{Reserved}
 use Rattle.simulator.specs.queue.Reserving.{looked_by, cause_ahead, cause_seen, unless_seen, unless_ahead, try_to_reserve}
 
 some_of_all : (n : ℕ) → 1 ≤ n → some_below n (λ offset. true) ≡ true

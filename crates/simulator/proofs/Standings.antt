@@ -1,9 +1,9 @@
 -- What calls of a sender keep of a state, and how a simulator stands after them.
-use Rattle.std.proofs.Common.{◌≡◌, refl, ap, sym, ◌∙◌, ℕ, zero, suc, ◌-◌, Bool, List, ◌∷◌, Option, Some, None}
+use Rattle.std.proofs.Common.{◌≡◌, refl, ap, sym, ◌∙◌, ℕ, zero, suc, ◌-◌, Bool, List, Option, Some, None}
 use Rattle.cmdcodec.specs.declared.raw.Raw.{Raw}
 use Rattle.ringcore.specs.declared.world.event.Who.TheVariants.{Sender}
 use Rattle.ringcore.specs.world.Trails.{Run, trail_of, reserved_length}
-use Rattle.ringcore.specs.world.World.{Taken, World, world}
+use Rattle.ringcore.specs.world.World.{Taken, world}
 use Rattle.ringcore.specs.world.Allowed.{Ring, length_with}
 use Rattle.ring.specs.declared.sender.cause.Cause.{Cause}
 use Rattle.ring.specs.Rings.{RingValue}

@@ -3,9 +3,7 @@ use Rattle.std.proofs.Common.{◌≡◌, refl, ap, sym, ◌∙◌, subst, List, 
 use Rattle.ringcore.specs.declared.world.event.Who.TheVariants.{Consumer}
 use Rattle.ringcore.specs.world.Trails.{Trail, Run, trail_of}
 use Rattle.ringcore.specs.world.World.{Taken}
-use Rattle.cmdcodec.specs.declared.raw.Raw.{Raw}
 use Rattle.caches.specs.Stored.{Stored}
-use Rattle.caches.specs.Held.{held}
 use Rattle.ring.specs.Keepers.{KeeperValue, IdleConsumerValue, own_consumer}
 use Rattle.ring.specs.consumer.Consumers.{ConsumerValue}
 use Rattle.ring.specs.consumer.Completing.{taken_of}
@@ -38,13 +36,13 @@ together_first keeper unit caches run is settled =
 
 there_after : (old new : KeeperValue) (consumer : Option (IdleConsumerValue UnitValue)) → KeepsConsumer old new → IsThere old consumer → IsThere new consumer
 there_after old new None keeps is = is
-there_after old new (Some idle) keeps is = keeps.idle idle.head idle.taken is
+there_after old new (Some idle) keeps is = keeps idle.head idle.taken is
 
 pub after_call : (queue new : QueueValue) (consumer : Option (IdleConsumerValue UnitValue)) (unit : UnitValue) (state : State) → KeepsConsumer queue.keeper new.keeper
-    → IsSimulator queue consumer unit → StandFor new.keeper unit state → IsSimulator new consumer unit
-after_call queue new consumer unit state keeps is stands = record {
+    → trail_of Consumer new.keeper.run ≡ trail_of Consumer queue.keeper.run → IsSimulator queue consumer unit → StandFor new.keeper unit state → IsSimulator new consumer unit
+after_call queue new consumer unit state keeps trail is stands = record {
   there = there_after queue.keeper new.keeper consumer keeps is.there;
-  together = still_together (own_consumer None queue.keeper) (own_consumer None new.keeper) unit (sym keeps.trail) is.together;
+  together = still_together (own_consumer None queue.keeper) (own_consumer None new.keeper) unit (sym trail) is.together;
   state = state;
   stands = stands;
 }

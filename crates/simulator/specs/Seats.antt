@@ -7,7 +7,7 @@ use Rattle.ringcore.specs.declared.world.event.Event.TheVariants.{Close, Ask}
 use Rattle.ringcore.specs.world.Trails.{Run}
 use Rattle.ringcore.specs.world.World.{world, control}
 use Rattle.ring.specs.declared.sender.cause.Cause.{Cause}
-use Rattle.simulator.specs.declared.queue.reserving.Reserved.{Reserved}
+use Rattle.simulator.specs.declared.queue.reserved.Reserved.{Reserved}
 use Rattle.simulator.specs.queue.Reserving.{looked_by, try_to_reserve}
 use Rattle.simulator.specs.queue.Publishing.{last_number, published}
 use Rattle.simulator.specs.State.{State, Answered, mine}

@@ -2,7 +2,6 @@
 use Rattle.std.specs.Prelude.{◌≡◌, ℕ, Bool, Option, Some, None}
 use Rattle.ringcore.specs.declared.world.event.Who.TheVariants.{Sender}
 use Rattle.ringcore.specs.world.Trails.{trail_of}
-use Rattle.ringcore.specs.world.Allowed.{Ring}
 use Rattle.ringcore.specs.machine.Open.{is_open}
 use Rattle.caches.specs.Held.{held}
 use Rattle.ring.specs.Keepers.{KeeperValue, IdleConsumerValue, IsIdleConsumer, own_consumer}
@@ -30,9 +29,6 @@ pub record StandFor (keeper : KeeperValue) (unit : UnitValue) (state : State) : 
 
 abbrev pub Stands : SimulatorValue → State → Type 0
 Stands simulator state = StandFor simulator.queue.keeper simulator.unit state
-
-abbrev pub ring_in : QueueValue → Ring
-ring_in queue = queue.keeper.ring.made_with
 
 -- ---- what always holds
 

@@ -1,4 +1,5 @@
-pub mod Seated
 pub mod Reserving
 pub mod Publishing
 pub mod Heads
+pub mod Seated
+pub mod Trying

@@ -1,143 +1,183 @@
-//! The command queue: a running ring whose seats one owner has.
-ghost use Rattle.std.specs.Prelude.{◌≡◌, ◌<◌, ◌∷◌, [], IfOk, IfErr, None, true, false};
-ghost use Rattle.qindex.specs.ControlWord.{IsControl};
-ghost use Rattle.ringcore.specs.declared.world.event.Who.TheVariants.{Sender};
-ghost use Rattle.ringcore.specs.declared.world.event.Event.TheVariants.{Close, Ask};
+//! The command queue on the ring of threads, in one hand: a keeper lends its senders their seats, one call at a time.
+ghost use Rattle.std.specs.Prelude.{◌≡◌, ◌<◌, [], true, false, None, Some, IfOk, IfErr, OnOk, Result};
+ghost use Rattle.ringcore.specs.declared.world.event.Who.TheVariants.{Consumer, Sender};
 ghost use Rattle.ringcore.specs.world.Trails.{trail_of};
-ghost use Rattle.ringcore.specs.world.World.{world, control};
 ghost use Rattle.ringcore.specs.machine.Open.{is_open};
 ghost use Rattle.ringcore.specs.machine.Faults.{has_sender};
-ghost use Rattle.ring.specs.NewRings.{made_with, number_fault, IsNotMade};
-ghost use Rattle.ring.specs.Keepers.{IsIdleConsumer, own_consumer};
-ghost use Rattle.engine.specs.Engines.{AreTogether};
-ghost use Rattle.simulator.specs.queue.Reserving.{looked_by, try_to_reserve};
-ghost use Rattle.simulator.specs.queue.Publishing.{published, last_number};
-ghost use Rattle.simulator.specs.queue.Seated.{KeepsConsumer};
-ghost use Rattle.simulator.specs.Standing.{ring_in, AreStepped};
+ghost use Rattle.ring.specs.NewRings.{IsNotMade, number_fault, made_with};
+ghost use Rattle.ring.specs.Keepers.{IsIdleConsumer};
+ghost use Rattle.simulator.specs.queue.Seated.{ring_in, AreNew, IsIdle, KeepsConsumer};
+ghost use Rattle.simulator.specs.queue.Trying.{tried_by};
+ghost use Rattle.simulator.specs.queue.Publishing.{last_number, published};
+ghost use Rattle.simulator.specs.declared.queue.Seat.TheVariants.{Idle};
 
-mod reserving;
+mod asking;
+mod publishing;
+mod reserved;
+mod stepping;
+mod trying;
 
+use crate::queue::publishing::hand_over;
+use crate::queue::trying::try_once;
 use batch::Batch;
-use engine::{StepAnswer, Unit};
-use qindex::Control;
-pub use reserving::Reserved;
-use ring::{Cause, IdleConsumer, Keeper, Ring, RingFault};
-use std::alloc::Global;
+use engine::Unit;
+pub use reserved::Reserved;
+use ring::{Cause, IdleConsumer, IdleReservation, IdleSender, Keeper, Ring, RingFault};
+use std::alloc::{AllocError, Global};
 use std::marker::Model;
 
+/// What is left of a sender between two calls.
 #[derive(Drop)]
-pub(crate) struct Queue {
+pub enum Seat {
+    /// It has no reservation.
+    Idle(IdleSender),
+    /// It has one, of which nothing is written.
+    Open { idle: IdleReservation, batch: Batch },
+}
+
+/// A ring with its keeper, and what is left of each sender.
+#[derive(Drop)]
+pub struct Queue {
     ring: Ring,
     keeper: Keeper,
+    seats: Vec<Seat>,
 }
 
 impl Model for Queue {
-    ghost use Rattle.simulator.specs.queue.Seated.{QueueValue};
+    ghost use Rattle.simulator.specs.queue.Seated.{QueueValue, IsQueue};
 
     ghost Value = { QueueValue };
 
-    ghost view = { λ q. record { keeper = q.keeper } };
+    ghost view = { λ q. record { keeper = q.keeper; seats = q.seats.items } };
+
+    ghost invariant = { λ q. IsQueue q.ring (record { keeper = q.keeper; seats = q.seats.items }) };
 }
 
 impl Queue {
-    pub(crate) fn new(
+    /// A queue to which nothing has happened yet, and what is left of its consumer.
+    ///
+    /// Errors: as of `Keeper::new`, and out of memory.
+    pub fn new(
         alloc: Global,
         log2: u32,
         senders: u32,
         max_batches: u32,
     ) -> Result<(Queue, IdleConsumer<Unit>), RingFault>
-        ensures made { IfOk result (λ made. made.0.keeper.ring.made_with ≡ made_with log2 senders max_batches) }
-        ensures run { IfOk result (λ made. made.0.keeper.run ≡ []) }
-        ensures consumer { IfOk result (λ made. IsIdleConsumer made.0.keeper made.1.head made.1.taken) }
+        ensures numbers { OnOk result (number_fault log2 senders max_batches ≡ None) }
+        ensures ring { IfOk result (λ r. ring_in r.0 ≡ made_with log2 senders max_batches) }
+        ensures run { IfOk result (λ r. r.0.keeper.run ≡ []) }
+        ensures consumer { IfOk result (λ r. IsIdleConsumer r.0.keeper r.1.head r.1.taken) }
+        ensures nothing_lent { IfOk result (λ r. r.1.lent ≡ None) }
         ensures refused { IfErr result (λ fault. IsNotMade (number_fault log2 senders max_batches) fault) }
     {
-        Err(RingFault::Size)
+        let (ring, keeper, consumer) = Keeper::new(alloc, log2, senders, max_batches)?;
+        match new_seats(alloc, senders) {
+            Ok(seats) => {
+                let queue = Queue {
+                    ring,
+                    keeper,
+                    seats,
+                };
+                Ok((queue, consumer))
+            }
+            Err(error) => Err(RingFault::Memory(error)),
+        }
     }
 
-    pub(crate) fn has_sender(&self, sender: u32) -> bool
+    /// How many senders there are.
+    pub fn has_sender(&self, sender: u32) -> bool
         ensures { result ≡ has_sender (ring_in self.now) sender }
     {
-        true
+        (sender as usize) < self.seats.len()
     }
 
-    pub(crate) fn is_open(&self, sender: u32) -> bool
+    /// Whether a sender has an open reservation.
+    pub fn is_open(&self, sender: u32) -> bool
         requires { sender < (ring_in self.now).senders }
         ensures { result ≡ is_open (trail_of (Sender sender) self.now.keeper.run) }
     {
-        true
+        match &self.seats[sender as usize] {
+            Seat::Idle(_) => false,
+            Seat::Open { .. } => true,
+        }
     }
 
-    pub(crate) fn control(&mut self) -> Control
-        ensures says { result ≡ control (ring_in self.old).geometry (world self.old.keeper.run) }
-        ensures geometry { IsControl (ring_in self.old).geometry result }
-        ensures keeper { self.new.keeper ≡ self.old.keeper }
-    {
-        self.look(0)
-    }
-
-    pub(crate) fn look(&mut self, sender: u32) -> Control
-        requires { sender < (ring_in self.old).senders }
-        ensures run { self.new.keeper.run ≡ looked_by (Sender sender) (ring_in self.old).geometry self.old.keeper.run }
-        ensures found { result ≡ control (ring_in self.old).geometry (world self.old.keeper.run) }
-        ensures geometry { IsControl (ring_in self.old).geometry result }
-        ensures consumer { KeepsConsumer self.old.keeper self.new.keeper }
-        ensures ring { self.new.keeper.ring ≡ self.old.keeper.ring }
-    {
-        self.look(sender)
-    }
-
-    pub(crate) fn close(&mut self, sender: u32)
-        requires { sender < (ring_in self.old).senders }
-        ensures run { self.new.keeper.run ≡ (Sender sender, Close) ∷ self.old.keeper.run }
-        ensures consumer { KeepsConsumer self.old.keeper self.new.keeper }
-        ensures ring { self.new.keeper.ring ≡ self.old.keeper.ring }
-    {
-    }
-
-    pub(crate) fn ask(&mut self, sender: u32) -> u32
-        requires { sender < (ring_in self.old).senders }
-        ensures run { self.new.keeper.run ≡ (Sender sender, Ask result) ∷ self.old.keeper.run }
-        ensures found { result ≡ (world self.old.keeper.run).acknowledged sender }
-        ensures consumer { KeepsConsumer self.old.keeper self.new.keeper }
-        ensures ring { self.new.keeper.ring ≡ self.old.keeper.ring }
-    {
-        0
-    }
-
-    pub(crate) fn reserve(&mut self, sender: u32, batch: Batch, closes: bool) -> Result<Reserved, Cause>
-        requires sender { sender < (ring_in self.old).senders }
+    /// A sender tries once to reserve a batch, which closes with a CMD_SYNC or doesn't, and keeps the batch.
+    ///
+    /// Errors, in this order: Q4 and Q5 without a step, Q1 and Q2 after a look.
+    pub fn reserve(&mut self, sender: u32, batch: Batch, closes: bool) -> Result<Reserved, Cause>
+        requires known { sender < (ring_in self.old).senders }
         requires settled { is_open (trail_of (Sender sender) self.old.keeper.run) ≡ false }
-        ensures run { self.new.keeper.run ≡ (try_to_reserve (ring_in self.old) (ring_in self.old).max_batches sender batch closes self.old.keeper.run).run }
-        ensures answer { result ≡ (try_to_reserve (ring_in self.old) (ring_in self.old).max_batches sender batch closes self.old.keeper.run).answer }
-        ensures consumer { KeepsConsumer self.old.keeper self.new.keeper }
+        ensures run { self.new.keeper.run ≡ (tried_by self.old.keeper sender batch closes).run }
+        ensures answer { result ≡ (tried_by self.old.keeper sender batch closes).answer }
         ensures ring { self.new.keeper.ring ≡ self.old.keeper.ring }
+        ensures consumer { KeepsConsumer self.old.keeper self.new.keeper }
+        ensures trail { trail_of Consumer self.new.keeper.run ≡ trail_of Consumer self.old.keeper.run }
     {
-        Err(Cause::Full)
+        let Queue {
+            ring,
+            keeper,
+            seats,
+        } = self;
+        let idle = idle_in(&seats[sender as usize]);
+        match try_once(keeper, ring, idle, &batch, closes) {
+            Ok(idle) => {
+                let reserved = Reserved {
+                    first: idle.first(),
+                    number: idle.number(),
+                };
+                seats[sender as usize] = Seat::Open { idle, batch };
+                Ok(reserved)
+            }
+            Err((idle, cause)) => {
+                seats[sender as usize] = Seat::Idle(idle);
+                Err(cause)
+            }
+        }
     }
 
-    pub(crate) fn publish(&mut self, sender: u32) -> Option<u32>
-        requires sender { sender < (ring_in self.old).senders }
+    /// A sender writes its open reservation and hands it over, and tells the number of its batch, if it has one.
+    pub fn publish(&mut self, sender: u32) -> Option<u32>
+        requires known { sender < (ring_in self.old).senders }
         requires opened { is_open (trail_of (Sender sender) self.old.keeper.run) ≡ true }
         ensures run { self.new.keeper.run ≡ published (ring_in self.old).geometry sender self.old.keeper.run }
         ensures number { result ≡ last_number (trail_of (Sender sender) self.old.keeper.run) }
+        ensures ring { self.new.keeper.ring ≡ self.old.keeper.ring }
         ensures consumer { KeepsConsumer self.old.keeper self.new.keeper }
-        ensures ring { self.new.keeper.ring ≡ self.old.keeper.ring }
+        ensures trail { trail_of Consumer self.new.keeper.run ≡ trail_of Consumer self.old.keeper.run }
     {
-        None
+        let Queue {
+            ring,
+            keeper,
+            seats,
+        } = self;
+        let (idle, number) = match &seats[sender as usize] {
+            Seat::Open { idle, batch } => (hand_over(keeper, ring, *idle, batch), idle.number()),
+            Seat::Idle(_) => unreachable!(),
+        };
+        seats[sender as usize] = Seat::Idle(idle);
+        number
     }
+}
 
-    pub(crate) fn step(
-        &mut self,
-        idle: IdleConsumer<Unit>,
-        unit: &mut Unit,
-    ) -> (IdleConsumer<Unit>, StepAnswer)
-        requires idle { IsIdleConsumer self.old.keeper idle.head idle.taken }
-        requires together { AreTogether (own_consumer None self.old.keeper) unit.old }
-        ensures stepped { AreStepped self.old.keeper unit.old self.new.keeper unit.new result.1 }
-        ensures idle { IsIdleConsumer self.new.keeper result.0.head result.0.taken }
-        ensures together { AreTogether (own_consumer None self.new.keeper) unit.new }
-        ensures ring { self.new.keeper.ring ≡ self.old.keeper.ring }
-    {
-        (idle, StepAnswer::Empty)
+/// The sender of a seat that has no reservation.
+fn idle_in(seat: &Seat) -> IdleSender
+    requires { IsIdle seat.now }
+    ensures { seat.now ≡ Idle result }
+{
+    match seat {
+        Seat::Idle(idle) => *idle,
+        Seat::Open { .. } => unreachable!(),
     }
+}
+
+/// What is left of so many senders of a ring in which nothing has happened.
+fn new_seats(alloc: Global, senders: u32) -> Result<Vec<Seat>, AllocError>
+    ensures { IfOk result (λ seats. AreNew senders seats.items) }
+{
+    let mut seats = Vec::new(alloc);
+    for sender in 0..senders {
+        seats.push(Seat::Idle(IdleSender::new(sender)))?;
+    }
+    Ok(seats)
 }

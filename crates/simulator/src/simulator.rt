@@ -8,7 +8,8 @@ ghost use Rattle.simulator.specs.State.{made, mine, entries, counted, registers_
 ghost use Rattle.simulator.specs.Fills.{filled, evicted};
 ghost use Rattle.simulator.specs.Seats.{looked, closed, asked, reserved, published_by};
 ghost use Rattle.simulator.specs.Steps.{stepped, acknowledged};
-ghost use Rattle.simulator.specs.Standing.{ring_in, Stands, Does, MayDo, HasOpen, Tells};
+ghost use Rattle.simulator.specs.queue.Seated.{ring_in};
+ghost use Rattle.simulator.specs.Standing.{Stands, Does, MayDo, HasOpen, Tells};
 
 use crate::queue::{Queue, Reserved};
 use crate::shape::{Shape, ShapeFault};

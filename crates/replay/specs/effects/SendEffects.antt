@@ -10,7 +10,7 @@ use Rattle.batch.specs.Detaching.{detach_commands}
 use Rattle.ring.specs.declared.sender.cause.Cause.{Cause}
 use Rattle.ring.specs.FaultNames.{cause_label}
 use Rattle.script.specs.Effects.{Effect, answers}
-use Rattle.simulator.specs.declared.queue.reserving.Reserved.{Reserved}
+use Rattle.simulator.specs.declared.queue.reserved.Reserved.{Reserved}
 use Rattle.simulator.specs.State.{State, Answered}
 use Rattle.simulator.specs.Seats.{reserved, published_by}
 use Rattle.replay.specs.declared.request.Content.{Content}

@@ -1,7 +1,8 @@
 //! The lines that send.
 ghost use Rattle.std.specs.Prelude.{◌≡◌, ◌<◌, IfOk, OnOk, Ok, string_bytes, true, false};
 ghost use Rattle.script.specs.Standing.{Acts};
-ghost use Rattle.simulator.specs.Standing.{ring_in, Stands, HasOpen};
+ghost use Rattle.simulator.specs.queue.Seated.{ring_in};
+ghost use Rattle.simulator.specs.Standing.{Stands, HasOpen};
 ghost use Rattle.replay.specs.effects.SendEffects.{body_of, body_effect, reserved_effect, send_effect};
 
 use crate::request::{Content, Sending};

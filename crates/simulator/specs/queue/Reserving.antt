@@ -11,7 +11,7 @@ use Rattle.ringcore.specs.world.Allowed.{Ring, length_with}
 use Rattle.ringcore.specs.machine.StepAnswers.{next_number}
 use Rattle.ring.specs.declared.sender.cause.Cause.{Cause}
 use Rattle.ring.specs.declared.sender.cause.Cause.TheVariants.{TooLong, Exhausted, Closed, Full}
-use Rattle.simulator.specs.declared.queue.reserving.Reserved.{Reserved}
+use Rattle.simulator.specs.declared.queue.reserved.Reserved.{Reserved}
 
 -- a seat looks at the control word
 abbrev pub looked_by : Who → ℕ → Run → Run

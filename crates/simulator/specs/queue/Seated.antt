@@ -1,14 +1,70 @@
--- STUB
-use Rattle.std.specs.Prelude.{◌≡◌, ℕ}
+-- The queue by a keeper: what is left of each sender between two calls.
+use Rattle.std.specs.Prelude.{◌≡◌, ℕ, ◌<◌, List, [], length, slice_index_or, None}
+use Rattle.cmdcodec.specs.declared.raw.Raw.{Raw}
 use Rattle.qindex.specs.Positions.{IndexValue}
-use Rattle.ringcore.specs.declared.world.event.Who.TheVariants.{Consumer}
-use Rattle.ringcore.specs.world.Trails.{trail_of}
-use Rattle.ring.specs.Keepers.{KeeperValue, IsIdleConsumer}
+use Rattle.ringcore.specs.world.Allowed.{Ring}
+use Rattle.ringcore.specs.declared.world.event.Who.TheVariants.{Sender}
+use Rattle.ring.specs.declared.sender.tally.Tally.{Tally}
+use Rattle.ring.specs.Rings.{RingValue}
+use Rattle.ring.specs.Keepers.{KeeperValue, IdleReservationValue, KeepsOthers, IsIdleSender, IsIdleReservation, IsIdleConsumer}
+use Rattle.simulator.specs.declared.queue.Seat.{Seat}
+use Rattle.simulator.specs.declared.queue.Seat.TheVariants.{Idle, Open}
 
+-- ---- one seat
+
+-- The sender has no reservation.
+pub record IsIdleSeat (keeper : KeeperValue) (s : ℕ) (tally : Tally) : Type 0 where
+  pub sender_is : tally.sender ≡ s
+  pub idle : IsIdleSender keeper tally
+
+-- The sender's reservation is of a batch of this body, and nothing of it is written.
+pub record IsOpenSeat (keeper : KeeperValue) (s : ℕ) (body : List Raw) (idle : IdleReservationValue) : Type 0 where
+  pub sender_is : idle.tally.sender ≡ s
+  pub open_is : IsIdleReservation keeper body idle
+  pub unwritten : idle.written ≡ 0
+  pub unflipped : idle.flipped ≡ 0
+
+abbrev pub IsSeatOf : KeeperValue → ℕ → Seat → Type 0
+IsSeatOf keeper s (Idle tally) = IsIdleSeat keeper s tally
+IsSeatOf keeper s (Open idle body) = IsOpenSeat keeper s body idle
+
+abbrev pub IsIdle : Seat → Type 0
+IsIdle seat = (tally : Tally) × (seat ≡ Idle tally)
+
+-- ---- all of them
+
+-- a queue as contracts see it
 pub record QueueValue : Type 0 where
   pub keeper : KeeperValue
+  pub seats : List Seat
 
--- The consumer took no step, and what is left of it stays that.
-pub record KeepsConsumer (old new : KeeperValue) : Type 0 where
-  pub trail : trail_of Consumer new.run ≡ trail_of Consumer old.run
-  pub idle : (head : IndexValue) (taken : ℕ) → IsIdleConsumer old head taken → IsIdleConsumer new head taken
+abbrev pub ring_in : QueueValue → Ring
+ring_in queue = queue.keeper.ring.made_with
+
+-- The ring is the keeper's, who has all seats, and one is left of each sender.
+pub record IsQueue (ring : RingValue) (queue : QueueValue) : Type 0 where
+  pub ring_is : queue.keeper.ring ≡ ring
+  pub whole : queue.keeper.lent ≡ None
+  pub many : length queue.seats ≡ (ring_in queue).senders
+  pub each : (s : ℕ) (other : Seat) → s < length queue.seats → IsSeatOf queue.keeper s (slice_index_or queue.seats s other)
+
+-- It is a sender's seat with any keeper, before the first step.
+abbrev pub IsNewSeat : ℕ → Seat → Type 0
+IsNewSeat s seat = (keeper : KeeperValue) → keeper.run ≡ [] → IsSeatOf keeper s seat
+
+-- So many of them, in the order of their senders.
+pub record AreNew (senders : ℕ) (seats : List Seat) : Type 0 where
+  pub many : length seats ≡ senders
+  pub each : (s : ℕ) (other : Seat) → s < length seats → IsNewSeat s (slice_index_or seats s other)
+
+-- ---- around a call
+
+-- A sender's seat was lent and has come back: the ring stays, and what is left of the others.
+pub record IsBack (s : ℕ) (old new : KeeperValue) : Type 0 where
+  pub ring_is : new.ring ≡ old.ring
+  pub whole : new.lent ≡ None
+  pub others : KeepsOthers (Sender s) old new
+
+-- What was left of the consumer still is.
+abbrev pub KeepsConsumer : KeeperValue → KeeperValue → Type 0
+KeepsConsumer old new = (head : IndexValue) (taken : ℕ) → IsIdleConsumer old head taken → IsIdleConsumer new head taken

@@ -1,4 +1,5 @@
-use Rattle.std.proofs.Common.{◌≡◌, ⊤, ap, sym, subst, Result, Ok, Err}
+use Rattle.std.proofs.Common.{◌≡◌, ap, sym, ◌∙◌, subst, Result, Ok, Err}
+use Rattle.std.specs.Prelude.{⊤}
 use Rattle.std.specs.Result.{OnOk, OnErr}
 use Rattle.engine.specs.declared.remedy.AckFault.{AckFault}
 use Rattle.engine.specs.declared.remedy.Remedy.{Remedy}

@@ -1,4 +1,4 @@
-use Rattle.std.proofs.Common.{◌≡◌, refl, ap, sym, ◌∙◌, subst, ◌∷◌}
+use Rattle.std.proofs.Common.{refl, ap, sym, ◌∙◌, subst, ◌∷◌}
 use Rattle.ringcore.specs.declared.world.event.Who.TheVariants.{Sender}
 use Rattle.ringcore.specs.declared.world.event.Event.TheVariants.{Close}
 use Rattle.ringcore.specs.world.Trails.{Run}
@@ -15,7 +15,7 @@ after c state s =
     (c.close.ensures.run ∙ ap (λ (run : Run). (Sender c.args.sender, Close) ∷ run) s.run) refl s
 
 pub invariant_of-self : goal.invariant_of-self
-invariant_of-self c = let is = c.self.invariant in after_call c.self.inside.queue c.close.new.self c.self.inside.consumer c.self.inside.unit _ c.close.ensures.consumer is (after c is.state is.stands)
+invariant_of-self c = let is = c.self.invariant in after_call c.self.inside.queue c.close.new.self c.self.inside.consumer c.self.inside.unit _ c.close.ensures.consumer c.close.ensures.trail is (after c is.state is.stands)
 
 pub returns : goal.returns
 returns c state stands =

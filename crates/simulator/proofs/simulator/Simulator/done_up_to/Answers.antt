@@ -19,7 +19,7 @@ after c state s =
     (c.ask.ensures.run ∙ ap₂ (λ (number : ℕ) (run : Run). (Sender c.args.sender, Ask number) ∷ run) (found c state s) s.run) refl s
 
 pub invariant_of-self : goal.invariant_of-self
-invariant_of-self c = let is = c.self.invariant in after_call c.self.inside.queue c.ask.new.self c.self.inside.consumer c.self.inside.unit _ c.ask.ensures.consumer is (after c is.state is.stands)
+invariant_of-self c = let is = c.self.invariant in after_call c.self.inside.queue c.ask.new.self c.self.inside.consumer c.self.inside.unit _ c.ask.ensures.consumer c.ask.ensures.trail is (after c is.state is.stands)
 
 pub returns : goal.returns
 returns c state stands =

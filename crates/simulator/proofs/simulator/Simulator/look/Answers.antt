@@ -1,4 +1,4 @@
-use Rattle.std.proofs.Common.{◌≡◌, refl, ap₂, sym, ◌∙◌, subst, ℕ}
+use Rattle.std.proofs.Common.{refl, ap₂, sym, ◌∙◌, subst, ℕ}
 use Rattle.ringcore.specs.declared.world.event.Who.TheVariants.{Sender}
 use Rattle.ringcore.specs.world.Trails.{Run}
 use Rattle.ringcore.specs.world.World.{world, control}
@@ -16,7 +16,7 @@ after c state s =
     (c.look.ensures.run ∙ ap₂ (λ (geometry : ℕ) (run : Run). looked_by (Sender c.args.sender) geometry run) s.geometry s.run) refl s
 
 pub invariant_of-self : goal.invariant_of-self
-invariant_of-self c = let is = c.self.invariant in after_call c.self.inside.queue c.look.new.self c.self.inside.consumer c.self.inside.unit _ c.look.ensures.consumer is (after c is.state is.stands)
+invariant_of-self c = let is = c.self.invariant in after_call c.self.inside.queue c.look.new.self c.self.inside.consumer c.self.inside.unit _ c.look.ensures.consumer c.look.ensures.trail is (after c is.state is.stands)
 
 pub returns : goal.returns
 returns c state stands =

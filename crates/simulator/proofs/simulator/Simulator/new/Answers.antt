@@ -1,12 +1,10 @@
 use Rattle.std.proofs.Common.{◌≡◌, [], ap, ◌∙◌, subst}
 use Rattle.std.specs.Result.{IfOk}
-use Rattle.ringcore.specs.world.Trails.{Run}
 use Rattle.ringcore.specs.world.Allowed.{Ring}
-use Rattle.ringcore.specs.world.World.{world}
 use Rattle.caches.specs.Stored.{Stored}
 use Rattle.caches.specs.Held.{held}
 use Rattle.engine.specs.Units.{UnitValue}
-use Rattle.simulator.specs.State.{made, counts_of}
+use Rattle.simulator.specs.State.{made}
 use Rattle.simulator.proofs.Together.{together_first}
 use Rattle.simulator.proofs.simulator.Simulator.new.Goals as goal
 
@@ -19,9 +17,9 @@ invariant_of-result c =
       state = made c.args.shape.now;
       stands = record {
         run = c.in-Ok.ensures.run;
-        geometry = ap (λ (ring : Ring). ring.geometry) c.in-Ok.ensures.made;
-        senders = ap (λ (ring : Ring). ring.senders) c.in-Ok.ensures.made;
-        max_batches = ap (λ (ring : Ring). ring.max_batches) c.in-Ok.ensures.made;
+        geometry = ap (λ (ring : Ring). ring.geometry) c.in-Ok.ensures.ring;
+        senders = ap (λ (ring : Ring). ring.senders) c.in-Ok.ensures.ring;
+        max_batches = ap (λ (ring : Ring). ring.max_batches) c.in-Ok.ensures.ring;
         capacity = ap (λ (u : UnitValue). u.caches.capacity) unit ∙ caches.0;
         entries = ap (λ (u : UnitValue). u.caches.entries) unit ∙ caches.1;
         stop = ap (λ (u : UnitValue). u.stop) unit;

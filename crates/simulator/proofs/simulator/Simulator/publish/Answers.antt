@@ -1,4 +1,4 @@
-use Rattle.std.proofs.Common.{◌≡◌, ap, ap₂, sym, ◌∙◌, subst, ℕ}
+use Rattle.std.proofs.Common.{ap, ap₂, sym, ◌∙◌, subst, ℕ}
 use Rattle.ringcore.specs.declared.world.event.Who.TheVariants.{Sender}
 use Rattle.ringcore.specs.world.Trails.{Run, trail_of}
 use Rattle.simulator.specs.queue.Publishing.{last_number, published}
@@ -15,7 +15,7 @@ after c state s =
     (c.publish.ensures.run ∙ ap₂ (λ (geometry : ℕ) (run : Run). published geometry c.args.sender run) s.geometry s.run) (published_takes_none state.ring.geometry c.args.sender state.run) s
 
 pub invariant_of-self : goal.invariant_of-self
-invariant_of-self c = let is = c.self.invariant in after_call c.self.inside.queue c.publish.new.self c.self.inside.consumer c.self.inside.unit _ c.publish.ensures.consumer is (after c is.state is.stands)
+invariant_of-self c = let is = c.self.invariant in after_call c.self.inside.queue c.publish.new.self c.self.inside.consumer c.self.inside.unit _ c.publish.ensures.consumer c.publish.ensures.trail is (after c is.state is.stands)
 
 pub returns : goal.returns
 returns c state stands =

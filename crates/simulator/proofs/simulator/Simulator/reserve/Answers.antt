@@ -4,11 +4,12 @@ use Rattle.ringcore.specs.declared.world.event.Who.TheVariants.{Sender}
 use Rattle.ringcore.specs.world.Trails.{Run, trail_of}
 use Rattle.ringcore.specs.machine.Open.{is_open}
 use Rattle.ring.specs.declared.sender.cause.Cause.{Cause}
-use Rattle.simulator.specs.declared.queue.reserving.Reserved.{Reserved}
+use Rattle.simulator.specs.declared.queue.reserved.Reserved.{Reserved}
 use Rattle.simulator.specs.queue.Reserving.{Try, try_to_reserve}
+use Rattle.simulator.specs.queue.Seated.{ring_in}
 use Rattle.simulator.specs.State.{State}
 use Rattle.simulator.specs.Seats.{reserved}
-use Rattle.simulator.specs.Standing.{SimulatorValue, StandFor, Stands, HasOpen, ring_in}
+use Rattle.simulator.specs.Standing.{SimulatorValue, StandFor, Stands, HasOpen}
 use Rattle.simulator.proofs.Standings.{try_takes_none, same_try, stands_after}
 use Rattle.simulator.proofs.Opening.{try_is_open}
 use Rattle.simulator.proofs.Together.{after_call}
@@ -26,7 +27,7 @@ after c state s =
     (c.reserve.ensures.run ∙ ap (λ (t : Try). t.run) (same c state s)) (try_takes_none state.ring state.max_batches c.args.sender c.args.batch c.args.closes state.run) s
 
 pub invariant_of-self : goal.invariant_of-self
-invariant_of-self c = let is = c.self.invariant in after_call c.self.inside.queue c.reserve.new.self c.self.inside.consumer c.self.inside.unit _ c.reserve.ensures.consumer is (after c is.state is.stands)
+invariant_of-self c = let is = c.self.invariant in after_call c.self.inside.queue c.reserve.new.self c.self.inside.consumer c.self.inside.unit _ c.reserve.ensures.consumer c.reserve.ensures.trail is (after c is.state is.stands)
 
 pub returns-clause-done : goal.returns-clause-done
 returns-clause-done c state stands =

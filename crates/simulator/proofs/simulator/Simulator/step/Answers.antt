@@ -1,4 +1,4 @@
-use Rattle.std.proofs.Common.{◌≡◌, sym, subst}
+use Rattle.std.proofs.Common.{sym, subst}
 use Rattle.simulator.specs.Steps.{stepped}
 use Rattle.simulator.specs.Standing.{SimulatorValue, Stands}
 use Rattle.simulator.proofs.simulator.Simulator.step.Goals as goal

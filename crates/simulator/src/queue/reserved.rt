@@ -1,4 +1,4 @@
-//! A try to reserve a batch.
+//! What a batch that was reserved tells.
 use qindex::Index;
 
 /// What was reserved.

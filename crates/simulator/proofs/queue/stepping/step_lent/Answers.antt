@@ -1,16 +1,21 @@
-use Rattle.std.proofs.Common.{◌≡◌, ap, sym, ◌∙◌, subst}
+use Rattle.std.proofs.Common.{◌≡◌, ap, sym, ◌∙◌, subst, None}
 use Rattle.ringcore.specs.declared.world.event.Who.TheVariants.{Consumer}
 use Rattle.ring.specs.Rings.{RingValue}
 use Rattle.ring.specs.Keepers.{KeeperValue, Adds, own_consumer}
 use Rattle.ring.specs.table.Keeping.{RunStands}
 use Rattle.ring.specs.consumer.Consumers.{ConsumerValue}
 use Rattle.engine.specs.Units.{UnitValue}
-use Rattle.simulator.proofs.EngineSteps.{others_stay, still_together, engine_steps}
-use Rattle.simulator.proofs.engine_steps.engine_step.Goals as goal
+use Rattle.simulator.proofs.EngineSteps.{others_stay, engine_steps}
+use Rattle.simulator.proofs.Together.{still_together}
+use Rattle.simulator.proofs.queue.stepping.step_lent.Goals as goal
 
 -- the ring stays
 same_ring : (c : goal.After-run_stands) → c.take_consumer-idle.new.self.ring ≡ c.args.keeper.now.ring
 same_ring c = ap (λ (k : KeeperValue). k.ring) c.take_consumer-idle.ensures.keeper ∙ ap (λ (k : KeeperValue). k.ring) c.lend_consumer-consumer.ensures.keeper
+
+pub step_with-consumer-requires-clause-together : goal.step_with-consumer-requires-clause-together
+step_with-consumer-requires-clause-together c =
+    still_together (own_consumer None c.args.keeper.now) c.lend_consumer-consumer.result c.args.unit.now (ap (λ (d : ConsumerValue UnitValue). d.trail) (sym c.lend_consumer-consumer.ensures.consumer)) c.requires.together
 
 pub returns-clause-stepped : goal.returns-clause-stepped
 returns-clause-stepped c =
@@ -23,7 +28,7 @@ returns-clause-stepped c =
 
 pub returns-clause-together : goal.returns-clause-together
 returns-clause-together c =
-    still_together c.step_with-consumer.result.0 (own_consumer c.take_consumer-idle.result.lent c.take_consumer-idle.new.self) c.step_with-consumer.new.unit
+    still_together c.step_with-consumer.result.0 (own_consumer None c.take_consumer-idle.new.self) c.step_with-consumer.new.unit
     (sym c.take_consumer-idle.ensures.news.trail_is) c.step_with-consumer.ensures.together
 
 pub returns-clause-others : goal.returns-clause-others

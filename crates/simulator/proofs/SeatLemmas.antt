@@ -1,0 +1,231 @@
+-- What the keeper knows of a call for which it had lent a sender its seat.
+use Rattle.std.proofs.Common.{◌≡◌, ℕ, refl, ap, sym, ◌∙◌, subst, arith, Bool, true, false, not, zero, suc, ◌+◌, ◌-◌, ◌<◌, ◌≤◌, List, [], ◌∷◌, ◌++◌, length, inl, inr, ap₂}
+use Rattle.std.proofs.lemmas.Bool.{cases_lt, cases_eq, lt-leb}
+use Rattle.std.proofs.lemmas.List.{length-set, get_or-set_same, get_or-set_other, get_or-append_right, length_push}
+use Rattle.std.specs.Prelude.{None, ◌⊎◌, ◌||◌, nat_lt, slice_index_or, slice_set}
+use Rattle.cmdcodec.specs.declared.raw.Raw.{Raw}
+use Rattle.ringcore.specs.declared.world.event.Who.{Who}
+use Rattle.ringcore.specs.declared.world.event.Who.TheVariants.{Sender, Consumer}
+use Rattle.ringcore.specs.declared.world.event.Event.{Event}
+use Rattle.ringcore.specs.world.Trails.{Trail, trail_of, reserved_length, has_flipped, IsSettled}
+use Rattle.ringcore.specs.world.Allowed.{Ring, length_with}
+use Rattle.ringcore.specs.machine.Open.{some_below, is_open}
+use Rattle.ring.specs.Rings.{RingValue}
+use Rattle.ring.specs.NewRings.{made_with}
+use Rattle.ring.specs.declared.sender.tally.Tally.{Tally}
+use Rattle.ring.specs.table.Keeping.{RunStands}
+use Rattle.ring.specs.Keepers.{KeeperValue, IdleReservationValue, Adds, has_lent, has_back, with_step, KeepsAll, KeepsOthers, IsIdleSender}
+use Rattle.simulator.specs.declared.queue.Seat.{Seat}
+use Rattle.simulator.specs.declared.queue.Seat.TheVariants.{Idle, Open}
+use Rattle.simulator.specs.queue.Seated.{QueueValue, ring_in, IsIdleSeat, IsOpenSeat, IsSeatOf, IsNewSeat, AreNew, IsQueue, IsBack}
+
+-- ---- a seat is lent, and comes back
+
+-- The run has the events more that the trail has, and stands.
+pub record IsCall (s : ℕ) (trail : Trail) (old new : KeeperValue) : Type 0 where
+  pub adds : Adds (Sender s) trail old.run new.run
+  pub stands : RunStands old.ring.made_with new.run
+  pub ring_is : new.ring ≡ old.ring
+
+-- whoever came back was the one to whom the seat was lent
+module _ (s t : ℕ) (trail : Trail) (old lent new : KeeperValue) (lent_is : lent ≡ has_lent (Sender s) old) (one : t ≡ s) (back : new ≡ has_back (Sender t) trail lent) where
+  ring_stays : new.ring ≡ old.ring
+  ring_stays = ap (λ (k : KeeperValue). k.ring) back ∙ ap (λ (k : KeeperValue). k.ring) lent_is
+
+  pub is_call : Adds (Sender t) trail lent.run new.run → RunStands new.ring.made_with new.run → IsCall s trail old new
+  is_call adds stands = record {
+    adds = subst (λ (q : ℕ × KeeperValue). Adds (Sender q.0) trail q.1.run new.run) (λ k. (one k, lent_is k)) adds;
+    stands = subst (λ (r : RingValue). RunStands r.made_with new.run) ring_stays stands;
+    ring_is = ring_stays;
+  }
+
+  pub is_back : KeepsOthers (Sender t) lent new → IsBack s old new
+  is_back is =
+      let kept : KeepsOthers (Sender s) (has_lent (Sender s) old) new = subst (λ (q : ℕ × KeeperValue). KeepsOthers (Sender q.0) q.1 new) (λ k. (one k, lent_is k)) is in record {
+        ring_is = ring_stays;
+        whole = ap (λ (k : KeeperValue). k.lent) back;
+        others = record { trails = kept.trails; senders = kept.senders; reservations = kept.reservations; consumer = kept.consumer };
+      }
+
+-- ---- which seats have an open reservation
+
+none_is : (n : ℕ) (f : ℕ → Bool) → ((k : ℕ) → k < n → f k ≡ false) → some_below n f ≡ false
+none_is zero f never = refl
+none_is (suc n) f never = ap₂ (λ (a b : Bool). a || b) (never n (omega arith)) (none_is n f (λ k less. never k (omega (arith, less))))
+
+some_is : (n : ℕ) (f : ℕ → Bool) → 1 ≤ n → ((k : ℕ) → f k ≡ true) → some_below n f ≡ true
+some_is zero f low all = absurd (omega (arith, low))
+some_is (suc n) f low all = ap (λ (a : Bool). a || some_below n f) (all n)
+
+is_some : (body : List Raw) (closes : Bool) → 1 ≤ length body → 1 ≤ length_with closes body
+is_some body true some = omega (arith, some)
+is_some body false some = some
+
+pub idle_is_shut : (keeper : KeeperValue) (s : ℕ) (tally : Tally) → IsIdleSeat keeper s tally → is_open (trail_of (Sender s) keeper.run) ≡ false
+idle_is_shut keeper s tally is = subst (λ (n : ℕ). is_open (trail_of (Sender n) keeper.run) ≡ false) is.sender_is (shut (trail_of (Sender tally.sender) keeper.run) is.idle.settled)
+  where
+    shut : (mine : Trail) → IsSettled mine → is_open mine ≡ false
+    shut mine settled = none_is (reserved_length mine) (λ k. not (has_flipped k mine)) (λ k less. ap not (settled k less))
+
+pub open_is_open : (keeper : KeeperValue) (s : ℕ) (body : List Raw) (idle : IdleReservationValue) → IsOpenSeat keeper s body idle → is_open (trail_of (Sender s) keeper.run) ≡ true
+open_is_open keeper s body idle is =
+    let mine : Trail = trail_of (Sender idle.tally.sender) keeper.run in
+    let some : 1 ≤ reserved_length mine = subst (λ (n : ℕ). 1 ≤ n) (sym is.open_is.many) (is_some body idle.closes is.open_is.body_is.some) in
+    subst (λ (n : ℕ). is_open (trail_of (Sender n) keeper.run) ≡ true) is.sender_is
+    (some_is (reserved_length mine) (λ k. not (has_flipped k mine)) some
+    (λ k. ap not (is.open_is.in_flipped k ∙ ap (λ (n : ℕ). nat_lt k n) is.unflipped ∙ lt-leb (suc k) 0 (omega arith))))
+
+-- ---- the others' seats
+
+abbrev sender_in : Who → ℕ
+sender_in Consumer = 0
+sender_in (Sender s) = s
+
+abbrev sends : Who → Bool
+sends Consumer = false
+sends (Sender s) = true
+
+other_seat : (s t : ℕ) (old new : KeeperValue) (seat : Seat) → IsBack s old new → (t ≡ s → ⊥) → IsSeatOf old t seat → IsSeatOf new t seat
+other_seat s t old new (Idle tally) back other is = record {
+  sender_is = is.sender_is;
+  idle = back.others.senders tally (λ e. other (sym is.sender_is ∙ ap sender_in e)) is.idle;
+}
+other_seat s t old new (Open idle body) back other is = record {
+  sender_is = is.sender_is;
+  open_is = back.others.reservations body idle (λ e. other (sym is.sender_is ∙ ap sender_in e)) is.open_is;
+  unwritten = is.unwritten;
+  unflipped = is.unflipped;
+}
+
+-- One seat is another's now, and the rest stay.
+pub is_queue : (ring : RingValue) (old : QueueValue) (s : ℕ) (new : KeeperValue) (seat : Seat) → IsQueue ring old → s < length old.seats → IsBack s old.keeper new → IsSeatOf new s seat
+    → IsQueue ring (record { keeper = new; seats = slice_set old.seats s seat })
+is_queue ring old s new seat is known back mine = record {
+  ring_is = back.ring_is ∙ is.ring_is;
+  whole = back.whole;
+  many = length-set old.seats s seat ∙ is.many ∙ ap (λ (r : RingValue). r.made_with.senders) (sym back.ring_is);
+  each = λ t other less. by_one t other (subst (λ (n : ℕ). t < n) (length-set old.seats s seat) less) (cases_eq t s);
+}
+  where
+    by_one : (t : ℕ) (other : Seat) → t < length old.seats → (t ≡ s) ⊎ (t ≡ s → ⊥) → IsSeatOf new t (slice_index_or (slice_set old.seats s seat) t other)
+    by_one t other less (inl same) =
+        subst (λ (n : ℕ). IsSeatOf new n (slice_index_or (slice_set old.seats s seat) n other)) (sym same) (subst (IsSeatOf new s) (sym (get_or-set_same old.seats s seat other known)) mine)
+    by_one t other less (inr else) =
+        subst (IsSeatOf new t) (sym (get_or-set_other old.seats s t seat other else)) (other_seat s t old.keeper new (slice_index_or old.seats t other) back else (is.each t other less))
+
+-- All stay where the consumer alone took steps.
+pub is_queue_still : (ring : RingValue) (old : QueueValue) (new : KeeperValue) → IsQueue ring old → new.ring ≡ old.keeper.ring → new.lent ≡ None → KeepsOthers Consumer old.keeper new
+    → IsQueue ring (record { keeper = new; seats = old.seats })
+is_queue_still ring old new is same whole others = record {
+  ring_is = same ∙ is.ring_is;
+  whole = whole;
+  many = is.many ∙ ap (λ (r : RingValue). r.made_with.senders) (sym same);
+  each = λ t other less. still t (slice_index_or old.seats t other) (is.each t other less);
+}
+  where
+    no_sender : (s : ℕ) → Sender s ≡ Consumer → ⊥
+    no_sender s e = let never : true ≡ false = ap sends e in absurd cc
+
+    still : (t : ℕ) (seat : Seat) → IsSeatOf old.keeper t seat → IsSeatOf new t seat
+    still t (Idle tally) mine = record { sender_is = mine.sender_is; idle = others.senders tally (no_sender tally.sender) mine.idle }
+    still t (Open idle body) mine = record {
+      sender_is = mine.sender_is;
+      open_is = others.reservations body idle (no_sender idle.tally.sender) mine.open_is;
+      unwritten = mine.unwritten;
+      unflipped = mine.unflipped;
+    }
+
+-- All stay where one sender took a step, of whom a reservation may be open.
+pub is_queue_stepped : (ring : RingValue) (old : QueueValue) (new : KeeperValue) (s : ℕ) (e : Event) → IsQueue ring old → new ≡ with_step (Sender s) e old.keeper → KeepsAll old.keeper new
+    → IsQueue ring (record { keeper = new; seats = old.seats })
+is_queue_stepped ring old new s e is step all = record {
+  ring_is = ap (λ (k : KeeperValue). k.ring) step ∙ is.ring_is;
+  whole = ap (λ (k : KeeperValue). k.lent) step ∙ is.whole;
+  many = is.many ∙ ap (λ (k : KeeperValue). k.ring.made_with.senders) (sym step);
+  each = λ t other less. still t (slice_index_or old.seats t other) (is.each t other less);
+}
+  where
+    still : (t : ℕ) (seat : Seat) → IsSeatOf old.keeper t seat → IsSeatOf new t seat
+    still t (Idle tally) mine = record { sender_is = mine.sender_is; idle = all.senders tally mine.idle }
+    still t (Open idle body) mine = record {
+      sender_is = mine.sender_is;
+      open_is = all.reservations body idle mine.open_is;
+      unwritten = mine.unwritten;
+      unflipped = mine.unflipped;
+    }
+
+-- ---- new seats
+
+pub new_seat : (s : ℕ) (tally : Tally) → tally.sender ≡ s → ((keeper : KeeperValue) → keeper.run ≡ [] → IsIdleSender keeper tally) → IsNewSeat s (Idle tally)
+new_seat s tally is idle keeper none = record { sender_is = is; idle = idle keeper none }
+
+append_left : (xs : List Seat) (y : Seat) (t : ℕ) (other : Seat) → t < length xs → slice_index_or (xs ++ y ∷ []) t other ≡ slice_index_or xs t other
+append_left [] y t other less = absurd (omega (arith, less))
+append_left (x ∷ xs) y zero other less = refl
+append_left (x ∷ xs) y (suc t) other less = append_left xs y t other (omega (arith, less))
+
+pub one_more_seat : (s : ℕ) (seats : List Seat) (seat : Seat) → AreNew s seats → IsNewSeat s seat → AreNew (s + 1) (seats ++ seat ∷ [])
+one_more_seat s seats seat is one = record {
+  many = length_push seats seat ∙ ap (λ (n : ℕ). n + 1) is.many;
+  each = λ t other less. by_last t other (subst (λ (n : ℕ). t < n) (length_push seats seat) less) (cases_lt t (length seats));
+}
+  where
+    by_last : (t : ℕ) (other : Seat) → t < length seats + 1 → (t < length seats) ⊎ (length seats ≤ t) → IsNewSeat t (slice_index_or (seats ++ seat ∷ []) t other)
+    by_last t other less (inl before) = subst (IsNewSeat t) (sym (append_left seats seat t other before)) (is.each t other before)
+    by_last t other less (inr last) =
+        let many = is.many in
+        let here : t ≡ s = omega (arith, less, last, many) in
+        let zero_left : t - length seats ≡ 0 = omega (arith, less, last) in
+        subst (IsNewSeat t) (sym (get_or-append_right seats (seat ∷ []) (length seats) t other refl last ∙ ap (λ (n : ℕ). slice_index_or (seat ∷ []) n other) zero_left))
+        (subst (λ (n : ℕ). IsNewSeat n seat) (sym here) one)
+
+-- ---- the seat of a sender
+
+-- what was found at its place
+pub record IsFound (ring : RingValue) (queue : QueueValue) (s : ℕ) (found : Seat) : Type 0 where
+  pub is_queue : IsQueue ring queue
+  pub known : s < (ring_in queue).senders
+  pub found_is : found ≡ slice_index_or queue.seats s found
+
+pub found_at : (ring : RingValue) (view queue : QueueValue) (s : ℕ) (found : Seat) → view ≡ queue → IsQueue ring view → s < (ring_in queue).senders → found ≡ slice_index_or view.seats s found
+    → IsFound ring queue s found
+found_at ring view queue s found same is known at = record {
+  is_queue = subst (IsQueue ring) same is;
+  known = known;
+  found_is = at ∙ ap (λ (q : QueueValue). slice_index_or q.seats s found) same;
+}
+
+pub inside : (ring : RingValue) (queue : QueueValue) (s : ℕ) (found : Seat) → IsFound ring queue s found → s < length queue.seats
+inside ring queue s found is = subst (λ (n : ℕ). s < n) (sym is.is_queue.many) is.known
+
+pub seat_at : (ring : RingValue) (queue : QueueValue) (s : ℕ) (found seat : Seat) → IsFound ring queue s found → found ≡ seat → IsSeatOf queue.keeper s seat
+seat_at ring queue s found seat is same = subst (IsSeatOf queue.keeper s) (sym is.found_is ∙ same) (is.is_queue.each s found (inside ring queue s found is))
+
+pub shut_at : (ring : RingValue) (queue : QueueValue) (s : ℕ) (found : Seat) (tally : Tally) → IsFound ring queue s found → found ≡ Idle tally → is_open (trail_of (Sender s) queue.keeper.run) ≡ false
+shut_at ring queue s found tally is same = idle_is_shut queue.keeper s tally (seat_at ring queue s found (Idle tally) is same)
+
+pub open_at : (ring : RingValue) (queue : QueueValue) (s : ℕ) (found : Seat) (idle : IdleReservationValue) (body : List Raw) → IsFound ring queue s found → found ≡ Open idle body
+    → is_open (trail_of (Sender s) queue.keeper.run) ≡ true
+open_at ring queue s found idle body is same = open_is_open queue.keeper s body idle (seat_at ring queue s found (Open idle body) is same)
+
+pub new_queue : (log2 senders max_batches : ℕ) (ring : RingValue) (keeper : KeeperValue) (seats : List Seat) → ring.made_with ≡ made_with log2 senders max_batches
+    → keeper ≡ record { ring = ring; lent = None; run = [] } → AreNew senders seats → IsQueue ring (record { keeper = keeper; seats = seats })
+new_queue log2 senders max_batches ring keeper seats made is all = record {
+  ring_is = ap (λ (k : KeeperValue). k.ring) is;
+  whole = ap (λ (k : KeeperValue). k.lent) is;
+  many = all.many ∙ sym (ap (λ (k : KeeperValue). k.ring.made_with.senders) is ∙ ap (λ (r : Ring). r.senders) made);
+  each = λ s other less. all.each s other less keeper (ap (λ (k : KeeperValue). k.run) is);
+}
+
+-- ---- the seat was lent, by whoever sat there
+
+pub sender_of_idle : (ring : RingValue) (queue : QueueValue) (s : ℕ) (found : Seat) (tally : Tally) → IsFound ring queue s found → found ≡ Idle tally → tally.sender ≡ s
+sender_of_idle ring queue s found tally is same =
+    let seat : IsIdleSeat queue.keeper s tally = seat_at ring queue s found (Idle tally) is same in seat.sender_is
+
+pub is_queue_after : (ring : RingValue) (queue : QueueValue) (s t : ℕ) (found : Seat) (new : KeeperValue) (seat : Seat) → IsFound ring queue s found → t ≡ s → IsBack t queue.keeper new → IsSeatOf new t seat
+    → IsQueue ring (record { keeper = new; seats = slice_set queue.seats s seat })
+is_queue_after ring queue s t found new seat is one back mine =
+    is_queue ring queue s new seat is.is_queue (inside ring queue s found is)
+    (subst (λ (n : ℕ). IsBack n queue.keeper new) one back)
+    (subst (λ (n : ℕ). IsSeatOf new n seat) one mine)

@@ -1,0 +1,59 @@
+//! Single steps of a sender, and what the control word says.
+ghost use Rattle.std.specs.Prelude.{◌≡◌, ◌<◌, ◌∷◌};
+ghost use Rattle.qindex.specs.ControlWord.{IsControl};
+ghost use Rattle.ringcore.specs.declared.world.event.Who.TheVariants.{Consumer, Sender};
+ghost use Rattle.ringcore.specs.declared.world.event.Event.TheVariants.{Close, Ask};
+ghost use Rattle.ringcore.specs.world.Trails.{trail_of};
+ghost use Rattle.ringcore.specs.world.World.{world, control};
+ghost use Rattle.simulator.specs.queue.Reserving.{looked_by};
+ghost use Rattle.simulator.specs.queue.Seated.{ring_in, KeepsConsumer};
+
+use crate::queue::Queue;
+use qindex::Control;
+
+impl Queue {
+    /// What the control word says. Nobody takes a step.
+    pub(crate) fn control(&mut self) -> Control
+        ensures says { result ≡ control (ring_in self.old).geometry (world self.old.keeper.run) }
+        ensures geometry { IsControl (ring_in self.old).geometry result }
+        ensures same { self.new ≡ self.old }
+    {
+        self.keeper.control(&self.ring)
+    }
+
+    /// A sender looks. It may have an open reservation.
+    pub(crate) fn look(&mut self, sender: u32) -> Control
+        requires { sender < (ring_in self.old).senders }
+        ensures run { self.new.keeper.run ≡ looked_by (Sender sender) (ring_in self.old).geometry self.old.keeper.run }
+        ensures found { result ≡ control (ring_in self.old).geometry (world self.old.keeper.run) }
+        ensures geometry { IsControl (ring_in self.old).geometry result }
+        ensures ring { self.new.keeper.ring ≡ self.old.keeper.ring }
+        ensures consumer { KeepsConsumer self.old.keeper self.new.keeper }
+        ensures trail { trail_of Consumer self.new.keeper.run ≡ trail_of Consumer self.old.keeper.run }
+    {
+        self.keeper.look(&self.ring, sender)
+    }
+
+    /// A sender closes. It may have an open reservation.
+    pub(crate) fn close(&mut self, sender: u32)
+        requires { sender < (ring_in self.old).senders }
+        ensures run { self.new.keeper.run ≡ (Sender sender, Close) ∷ self.old.keeper.run }
+        ensures ring { self.new.keeper.ring ≡ self.old.keeper.ring }
+        ensures consumer { KeepsConsumer self.old.keeper self.new.keeper }
+        ensures trail { trail_of Consumer self.new.keeper.run ≡ trail_of Consumer self.old.keeper.run }
+    {
+        self.keeper.close(&self.ring, sender);
+    }
+
+    /// A sender asks for the number in its completion cell. It may have an open reservation.
+    pub(crate) fn ask(&mut self, sender: u32) -> u32
+        requires { sender < (ring_in self.old).senders }
+        ensures run { self.new.keeper.run ≡ (Sender sender, Ask result) ∷ self.old.keeper.run }
+        ensures found { result ≡ (world self.old.keeper.run).acknowledged sender }
+        ensures ring { self.new.keeper.ring ≡ self.old.keeper.ring }
+        ensures consumer { KeepsConsumer self.old.keeper self.new.keeper }
+        ensures trail { trail_of Consumer self.new.keeper.run ≡ trail_of Consumer self.old.keeper.run }
+    {
+        self.keeper.done_up_to(&self.ring, sender)
+    }
+}

@@ -1,0 +1,91 @@
+//! How an open reservation is written and handed over, by a sender whose seat the keeper lends.
+ghost use Rattle.std.specs.Prelude.{◌≡◌, ◌<◌, true, false, None};
+ghost use Rattle.ring.specs.Keepers.{IsIdleSender, IsIdleReservation};
+ghost use Rattle.simulator.specs.queue.Publishing.{published};
+ghost use Rattle.simulator.specs.queue.Seated.{IsBack};
+
+use batch::Batch;
+use qindex::indexes_tell_place_and_wrap_bit;
+use ring::{IdleReservation, IdleSender, Keeper, Ring};
+use ringcore::laws::sender_trail;
+
+/// A sender writes its reservation, of which nothing is written, and hands it over.
+pub(super) fn hand_over(
+    keeper: &mut Keeper,
+    ring: &Ring,
+    idle: IdleReservation,
+    batch: &Batch,
+) -> IdleSender
+    requires ring { keeper.old.ring ≡ ring.now }
+    requires whole { keeper.old.lent ≡ None }
+    requires known { idle.tally.sender < keeper.old.ring.made_with.senders }
+    requires idle { IsIdleReservation keeper.old batch.now idle }
+    requires unwritten { idle.written ≡ 0 }
+    requires unflipped { idle.flipped ≡ 0 }
+    ensures run { keeper.new.run ≡ published keeper.old.ring.made_with.geometry idle.tally.sender keeper.old.run }
+    ensures back { IsBack idle.tally.sender keeper.old keeper.new }
+    ensures number { result.sender ≡ idle.tally.sender }
+    ensures idle { IsIdleSender keeper.new result }
+{
+    if idle.closes() {
+        publish_closing(keeper, ring, idle, batch)
+    } else {
+        publish_bare(keeper, ring, idle, batch)
+    }
+}
+
+fn publish_closing(
+    keeper: &mut Keeper,
+    ring: &Ring,
+    idle: IdleReservation,
+    batch: &Batch,
+) -> IdleSender
+    requires ring { keeper.old.ring ≡ ring.now }
+    requires whole { keeper.old.lent ≡ None }
+    requires known { idle.tally.sender < keeper.old.ring.made_with.senders }
+    requires closes { idle.closes ≡ true }
+    requires idle { IsIdleReservation keeper.old batch.now idle }
+    requires unwritten { idle.written ≡ 0 }
+    requires unflipped { idle.flipped ≡ 0 }
+    ensures run { keeper.new.run ≡ published keeper.old.ring.made_with.geometry idle.tally.sender keeper.old.run }
+    ensures back { IsBack idle.tally.sender keeper.old keeper.new }
+    ensures number { result.sender ≡ idle.tally.sender }
+    ensures idle { IsIdleSender keeper.new result }
+{
+    indexes_tell_place_and_wrap_bit();
+    sender_trail();
+    keeper.run_stands();
+    let reservation = keeper.lend_reservation(ring, idle, batch);
+    let (sender, _receipt) = reservation.publish(ring);
+    let idle = keeper.take_sender(ring, sender);
+    keeper.run_stands();
+    idle
+}
+
+fn publish_bare(
+    keeper: &mut Keeper,
+    ring: &Ring,
+    idle: IdleReservation,
+    batch: &Batch,
+) -> IdleSender
+    requires ring { keeper.old.ring ≡ ring.now }
+    requires whole { keeper.old.lent ≡ None }
+    requires known { idle.tally.sender < keeper.old.ring.made_with.senders }
+    requires closes { idle.closes ≡ false }
+    requires idle { IsIdleReservation keeper.old batch.now idle }
+    requires unwritten { idle.written ≡ 0 }
+    requires unflipped { idle.flipped ≡ 0 }
+    ensures run { keeper.new.run ≡ published keeper.old.ring.made_with.geometry idle.tally.sender keeper.old.run }
+    ensures back { IsBack idle.tally.sender keeper.old keeper.new }
+    ensures number { result.sender ≡ idle.tally.sender }
+    ensures idle { IsIdleSender keeper.new result }
+{
+    indexes_tell_place_and_wrap_bit();
+    sender_trail();
+    keeper.run_stands();
+    let reservation = keeper.lend_bare_reservation(ring, idle, batch);
+    let sender = reservation.publish(ring);
+    let idle = keeper.take_sender(ring, sender);
+    keeper.run_stands();
+    idle
+}
