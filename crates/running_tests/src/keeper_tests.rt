@@ -63,6 +63,7 @@ fn a_reservation_waits_for_its_batch(rt: HostRuntime) {
     };
     let idle = keeper.take_reservation(&ring, reservation);
     assert!(rt; idle.closes());
+    assert_eq!(rt; (idle.first().get(), idle.number()), (0, Some(1)));
     let consumer = keeper.lend_consumer(&ring, consumer);
     let (consumer, head) = take_one(&ring, consumer);
     assert_eq!(rt; head, Head::Unwritten);
@@ -87,6 +88,7 @@ fn a_bare_reservation_waits_for_its_batch(rt: HostRuntime) {
     };
     let idle = keeper.take_bare_reservation(&ring, reservation);
     assert!(rt; !idle.closes());
+    assert_eq!(rt; (idle.first().get(), idle.number()), (0, None));
     let sender = keeper
         .lend_bare_reservation(&ring, idle, &one)
         .publish(&ring);
@@ -95,4 +97,32 @@ fn a_bare_reservation_waits_for_its_batch(rt: HostRuntime) {
     let (consumer, head) = take_one(&ring, consumer);
     assert_eq!(rt; head, Head::Command(CFGI_STE));
     keeper.take_consumer(&ring, consumer);
+}
+
+#[test]
+fn steps_amid_a_reservation(rt: HostRuntime) {
+    let (ring, mut keeper, _) = kept_ring(&rt);
+    assert_eq!(rt; keeper.control(&ring).prod.get(), 0);
+    let sender = keeper.lend_sender(&ring, IdleSender::new(0));
+    let one = batch_of(&rt, 1);
+    let Ok(reservation) = sender.reserve(&ring, &one) else {
+        panic!(rt; "the batch is refused");
+    };
+    let idle = keeper.take_reservation(&ring, reservation);
+    let seen = keeper.look(&ring, 0);
+    assert_eq!(rt;
+        (seen.prod.get(), seen.cons.get(), seen.closed),
+        (2, 0, false)
+    );
+    assert_eq!(rt; keeper.done_up_to(&ring, 0), 0);
+    keeper.close(&ring, 0);
+    let seen = keeper.control(&ring);
+    assert_eq!(rt;
+        (seen.prod.get(), seen.cons.get(), seen.closed),
+        (2, 0, true)
+    );
+    let reservation = keeper.lend_reservation(&ring, idle, &one);
+    let (sender, receipt) = reservation.publish(&ring);
+    assert_eq!(rt; (receipt.sender(), receipt.number()), (0, 1));
+    keeper.take_sender(&ring, sender);
 }
