@@ -5,6 +5,7 @@ ghost use Rattle.ringcore.specs.world.Trails.{trail_of};
 ghost use Rattle.ringcore.specs.machine.Open.{is_open};
 ghost use Rattle.ringcore.specs.machine.Faults.{has_sender};
 ghost use Rattle.ring.specs.NewRings.{IsNotMade, number_fault, made_with};
+ghost use Rattle.ring.specs.table.Keeping.{RunStands};
 ghost use Rattle.ring.specs.Keepers.{IsIdleConsumer};
 ghost use Rattle.simulator.specs.queue.Seated.{ring_in, AreNew, IsIdle, KeepsConsumer};
 ghost use Rattle.simulator.specs.queue.Trying.{tried_by};
@@ -28,7 +29,7 @@ use std::marker::Model;
 
 /// What is left of a sender between two calls.
 #[derive(Drop)]
-pub enum Seat {
+pub(crate) enum Seat {
     /// It has no reservation.
     Idle(IdleSender),
     /// It has one, of which nothing is written.
@@ -37,7 +38,7 @@ pub enum Seat {
 
 /// A ring with its keeper, and what is left of each sender.
 #[derive(Drop)]
-pub struct Queue {
+pub(crate) struct Queue {
     ring: Ring,
     keeper: Keeper,
     seats: Vec<Seat>,
@@ -57,7 +58,7 @@ impl Queue {
     /// A queue to which nothing has happened yet, and what is left of its consumer.
     ///
     /// Errors: as of `Keeper::new`, and out of memory.
-    pub fn new(
+    pub(crate) fn new(
         alloc: Global,
         log2: u32,
         senders: u32,
@@ -84,15 +85,22 @@ impl Queue {
         }
     }
 
-    /// How many senders there are.
-    pub fn has_sender(&self, sender: u32) -> bool
+    /// A witness that the keeper's run is a run of the ring. It does nothing.
+    pub(crate) fn run_stands(&self)
+        ensures { RunStands (ring_in self.now) self.now.keeper.run }
+    {
+        self.keeper.run_stands();
+    }
+
+    /// Whether the ring has a sender of this number.
+    pub(crate) fn has_sender(&self, sender: u32) -> bool
         ensures { result ≡ has_sender (ring_in self.now) sender }
     {
         (sender as usize) < self.seats.len()
     }
 
     /// Whether a sender has an open reservation.
-    pub fn is_open(&self, sender: u32) -> bool
+    pub(crate) fn is_open(&self, sender: u32) -> bool
         requires { sender < (ring_in self.now).senders }
         ensures { result ≡ is_open (trail_of (Sender sender) self.now.keeper.run) }
     {
@@ -105,7 +113,12 @@ impl Queue {
     /// A sender tries once to reserve a batch, which closes with a CMD_SYNC or doesn't, and keeps the batch.
     ///
     /// Errors, in this order: Q4 and Q5 without a step, Q1 and Q2 after a look.
-    pub fn reserve(&mut self, sender: u32, batch: Batch, closes: bool) -> Result<Reserved, Cause>
+    pub(crate) fn reserve(
+        &mut self,
+        sender: u32,
+        batch: Batch,
+        closes: bool,
+    ) -> Result<Reserved, Cause>
         requires known { sender < (ring_in self.old).senders }
         requires settled { is_open (trail_of (Sender sender) self.old.keeper.run) ≡ false }
         ensures run { self.new.keeper.run ≡ (tried_by self.old.keeper sender batch closes).run }
@@ -137,7 +150,7 @@ impl Queue {
     }
 
     /// A sender writes its open reservation and hands it over, and tells the number of its batch, if it has one.
-    pub fn publish(&mut self, sender: u32) -> Option<u32>
+    pub(crate) fn publish(&mut self, sender: u32) -> Option<u32>
         requires known { sender < (ring_in self.old).senders }
         requires opened { is_open (trail_of (Sender sender) self.old.keeper.run) ≡ true }
         ensures run { self.new.keeper.run ≡ published (ring_in self.old).geometry sender self.old.keeper.run }

@@ -3,6 +3,7 @@ ghost use Rattle.std.specs.Prelude.{◌≡◌, ◌<◌, IfOk, IfErr, OnOk, OnErr
 ghost use Rattle.std.specs.FinMap as finite;
 ghost use Rattle.ringcore.specs.machine.Open.{is_open};
 ghost use Rattle.ringcore.specs.machine.Faults.{has_sender};
+ghost use Rattle.ring.specs.table.Keeping.{RunStands};
 ghost use Rattle.simulator.specs.Shapes.{shape_fault, IsNotMade};
 ghost use Rattle.simulator.specs.State.{made, mine, entries, counted, registers_told};
 ghost use Rattle.simulator.specs.Fills.{filled, evicted};
@@ -68,6 +69,14 @@ impl Simulator {
             Err(RingFault::Senders) => Err(ShapeFault::Senders),
             Err(RingFault::Batches) => Err(ShapeFault::Batches),
         }
+    }
+
+    /// A witness that the run of whatever state it stands for is a run of the ring: with some words the ring stands as
+    /// after it, and nobody but the ring's senders and its consumer took a step. It does nothing.
+    pub fn run_stands(&self)
+        ensures { Tells self.now (λ state. RunStands (ring_in self.now.queue) state.run) }
+    {
+        self.queue.run_stands();
     }
 
     /// Whether the ring has a sender of this number.
