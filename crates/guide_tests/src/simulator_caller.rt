@@ -28,4 +28,6 @@ fn a_batch_of_one_owner(rt: HostRuntime) {
     assert!(rt; simulator.has_sender(0));
     assert_eq!(rt; simulator.done_up_to(0), 1);
     assert_eq!(rt; simulator.counts().taken(), 2);
+    // A witness that the run so far is a run of the ring: it does nothing.
+    simulator.run_stands();
 }
