@@ -26,8 +26,8 @@ use Rattle.engine.specs.Settled.{IsSettled}
 use Rattle.engine.specs.Counting.{CountsValue}
 use Rattle.engine.specs.Engines.{EngineValue}
 use Rattle.engine.specs.Ends.{NoneIsOlder, reserved_ahead, WasToldTruly, IsEngineEnd}
-use Rattle.ring_tests.proofs.WorkedCases.{x, y}
-use Rattle.ring_tests.proofs.WorkedTold.{told_21, told_22}
+use Rattle.ringcore_tests.proofs.WorkedCases.{x, y}
+use Rattle.ringcore_tests.proofs.WorkedTold.{told_21, told_22}
 
 -- ---- the entries
 

@@ -1,6 +1,4 @@
-pub mod WorkedCases
-pub mod WorkedTwoLaps
-pub mod WorkedEveryKind
-pub mod WorkedSchedules
-pub mod WorkedCounterexamples
-pub mod WorkedTold
+pub mod Legal
+pub mod WorkedRefusals
+pub mod WorkedTellings
+pub mod Kept

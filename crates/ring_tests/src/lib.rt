@@ -1,6 +1,28 @@
-//! Tests of ringcore. They stand in a crate of their own, since a build of a crate's tests proves the crate
+//! Tests of the running ring. They stand in a crate of their own, since a build of a crate's tests proves the crate
 //! once more.
 #![tactic(auto)]
 
 #[cfg(test)]
-mod ringcore_tests;
+mod batches;
+#[cfg(test)]
+mod calls;
+#[cfg(test)]
+mod consumer_calls;
+#[cfg(test)]
+mod consumer_tests;
+#[cfg(test)]
+mod device;
+#[cfg(test)]
+mod keeper_tests;
+#[cfg(test)]
+mod run_tests;
+#[cfg(test)]
+mod runs;
+#[cfg(test)]
+mod sender_calls;
+#[cfg(test)]
+mod sender_tests;
+#[cfg(test)]
+mod steps;
+#[cfg(test)]
+mod thread_tests;

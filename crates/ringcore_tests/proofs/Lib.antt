@@ -1,0 +1,6 @@
+pub mod WorkedCases
+pub mod WorkedTwoLaps
+pub mod WorkedEveryKind
+pub mod WorkedSchedules
+pub mod WorkedCounterexamples
+pub mod WorkedTold

@@ -1,4 +1,0 @@
-pub mod Legal
-pub mod WorkedRefusals
-pub mod WorkedTellings
-pub mod Kept
