@@ -12,7 +12,7 @@ use Rattle.simulator.specs.State.{State, entries}
 use Rattle.simulator.specs.Fills.{filled_unless, filled}
 use Rattle.replay.specs.declared.request.Request.{Request}
 use Rattle.replay.specs.declared.request.Request.TheVariants as asks
-use Rattle.replay.specs.effects.CacheEffects.{fill_text, fill_effect}
+use Rattle.replay.specs.effects.CacheLines.{fill_text, fill_effect}
 use Rattle.replay.specs.effects.Answering.{tells}
 use Rattle.replay.specs.ReplayText.{served, replays}
 use Rattle.replay.specs.Memory.{TellsOfMemory}

@@ -7,7 +7,7 @@ use Rattle.simulator.specs.declared.queue.reserved.Reserved.{Reserved}
 use Rattle.simulator.specs.Seats.{reserved}
 use Rattle.simulator.specs.Standing.{SimulatorValue, Stands, Does}
 use Rattle.replay.specs.declared.request.Sending.{Sending}
-use Rattle.replay.specs.effects.SendEffects.{reserved_effect, tried_effect, body_effect}
+use Rattle.replay.specs.effects.SendLines.{reserved_effect, tried_effect, body_effect}
 
 -- What was reserved is dealt with as the line says.
 pub after_reserved : (sending : Sending) (body : List Raw) (told : Reserved) (old mid new : SimulatorValue) (before after : List ℕ)

@@ -5,7 +5,7 @@ use Rattle.script.specs.Standing.{Acts}
 use Rattle.script.proofs.EffectLemmas.{produces_at}
 use Rattle.simulator.specs.State.{State}
 use Rattle.simulator.specs.Standing.{SimulatorValue, Stands}
-use Rattle.replay.specs.effects.UnitEffects.{Step, step_of, steps_of, step_effect}
+use Rattle.replay.specs.effects.UnitLines.{Step, step_of, steps_of, step_effect}
 use Rattle.replay.specs.Stepping.{Stepped, Steps}
 
 -- a step with more text ahead

@@ -1,26 +1,19 @@
 -- The text that a script of `replay` is answered with.
-use Rattle.std.specs.Prelude.{ℕ, List, [], Bool, true, Option, Some, None, codes}
+use Rattle.std.specs.Prelude.{ℕ, List, [], Bool, true, Some, None, codes}
 use Rattle.script.specs.Answers.{Answer}
 use Rattle.script.specs.Effects.{Effect, answers, faults}
 use Rattle.script.specs.Kinds as kinds
 use Rattle.script.specs.Kinds.{Kind}
-use Rattle.script.specs.Texts.{ring_text}
-use Rattle.simulator.specs.declared.shape.Shape.{Shape}
-use Rattle.simulator.specs.declared.shape.ShapeFault.{ShapeFault}
-use Rattle.simulator.specs.Shapes.{fault_label, shape_fault}
-use Rattle.simulator.specs.State.{State, made}
+use Rattle.simulator.specs.Shapes.{shape_fault}
+use Rattle.simulator.specs.State.{State}
 use Rattle.replay.specs.declared.request.Request.{Request}
 use Rattle.replay.specs.declared.request.Request.TheVariants as asks
 use Rattle.replay.specs.requests.Whole.{named}
-use Rattle.replay.specs.effects.CacheEffects.{fill_effect, evict_effect, lookup_effect}
-use Rattle.replay.specs.effects.SendEffects.{send_effect}
-use Rattle.replay.specs.effects.SenderEffects.{look_effect, close_effect, done_effect, publish_effect}
-use Rattle.replay.specs.effects.UnitEffects.{step_effect, acknowledge_effect, dump_effect}
-
--- by which of its numbers is out of range, if one is
-abbrev pub ring_or_fault : ℕ → Shape → Option ShapeFault → Effect State
-ring_or_fault number shape (Some fault) = faults number (fault_label fault) None
-ring_or_fault number shape None = answers (ring_text shape.log2) (made shape)
+use Rattle.replay.specs.effects.RingLine.{ring_or_fault}
+use Rattle.replay.specs.effects.CacheLines.{fill_effect, evict_effect, lookup_effect}
+use Rattle.replay.specs.effects.SendLines.{send_effect}
+use Rattle.replay.specs.effects.SenderLines.{look_effect, close_effect, done_effect, publish_effect}
+use Rattle.replay.specs.effects.UnitLines.{step_effect, acknowledge_effect, dump_effect}
 
 -- what a request does once the ring is made
 unfoldable pub served : ℕ → Bool → Request → State → Effect State

@@ -2,7 +2,7 @@
 use Rattle.std.specs.Prelude.{◌≡◌, ℕ, List, ◌++◌, Bool}
 use Rattle.simulator.specs.State.{State}
 use Rattle.simulator.specs.Standing.{SimulatorValue, Stands}
-use Rattle.replay.specs.effects.UnitEffects.{Step}
+use Rattle.replay.specs.effects.UnitLines.{Step}
 
 -- A step says this, and `new` stands for the state after it.
 pub record Stepped (step : Step) (new : SimulatorValue) (answer : List ℕ) (may_follow : Bool) : Type 0 where

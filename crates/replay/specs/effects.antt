@@ -1,6 +1,7 @@
 pub mod Answering
-pub mod CacheEffects
 pub mod SenderFaults
-pub mod SenderEffects
-pub mod SendEffects
-pub mod UnitEffects
+pub mod RingLine
+pub mod CacheLines
+pub mod SendLines
+pub mod SenderLines
+pub mod UnitLines

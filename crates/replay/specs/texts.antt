@@ -1,6 +1,6 @@
 pub mod Refusals
 pub mod Entries
-pub mod Sends
-pub mod Steps
-pub mod Looks
-pub mod Dumps
+pub mod CacheLines
+pub mod SendLines
+pub mod SenderLines
+pub mod UnitLines

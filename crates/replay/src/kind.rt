@@ -3,7 +3,7 @@ ghost use Rattle.std.specs.Prelude.{IfOk};
 ghost use Rattle.script.specs.Standing.{Begins};
 ghost use Rattle.simulator.specs.Shapes.{shape_fault};
 ghost use Rattle.simulator.specs.Standing.{Stands};
-ghost use Rattle.replay.specs.ReplayText.{ring_or_fault};
+ghost use Rattle.replay.specs.effects.RingLine.{ring_or_fault};
 
 use crate::lines::serve_made;
 use crate::parsing::parse_named;

@@ -1,21 +1,23 @@
 //! From a line to what it asks for.
 ghost use Rattle.std.specs.Prelude.{◌≡◌, IfOk};
 ghost use Rattle.script.specs.Words.{words_of};
-ghost use Rattle.replay.specs.requests.Whole.{unit_line, sender_line, plain_line, named};
+ghost use Rattle.replay.specs.requests.Whole.{unit_line, sender_line, send_line, plain_line, named};
 
 mod cache_lines;
 mod numbers;
 mod ring_line;
 mod send_lines;
+mod sender_lines;
 mod tags;
 mod unit_lines;
 
 use crate::request::Request;
 use cache_lines::{parse_evict, parse_fill, parse_lookup};
 use ring_line::parse_ring;
-use send_lines::{parse_commands, parse_detach, parse_inval, parse_publish};
+use send_lines::{parse_commands, parse_detach, parse_inval};
+use sender_lines::{parse_close, parse_done, parse_look, parse_publish};
 use std::alloc::{AllocError, Global};
-use unit_lines::{parse_ack, parse_close, parse_done, parse_dump, parse_look, parse_step};
+use unit_lines::{parse_ack, parse_dump, parse_step};
 
 #[tactic(auto, unfolding(crate::specs::requests::Whole::unit_line))]
 fn parse_unit_line(name: &[u8], rest: &[u8]) -> Option<Request>
@@ -25,12 +27,6 @@ fn parse_unit_line(name: &[u8], rest: &[u8]) -> Option<Request>
         parse_step(rest)
     } else if name == b"ack".as_slice() {
         parse_ack(rest)
-    } else if name == b"done".as_slice() {
-        parse_done(rest)
-    } else if name == b"look".as_slice() {
-        parse_look(rest)
-    } else if name == b"close".as_slice() {
-        parse_close(rest)
     } else if name == b"dump".as_slice() {
         parse_dump(rest)
     } else {
@@ -42,14 +38,29 @@ fn parse_unit_line(name: &[u8], rest: &[u8]) -> Option<Request>
 fn parse_sender_line(name: &[u8], rest: &[u8]) -> Option<Request>
     ensures { result ≡ sender_line name.now (words_of rest.now) }
 {
+    if name == b"publish".as_slice() {
+        parse_publish(rest)
+    } else if name == b"done".as_slice() {
+        parse_done(rest)
+    } else if name == b"look".as_slice() {
+        parse_look(rest)
+    } else if name == b"close".as_slice() {
+        parse_close(rest)
+    } else {
+        parse_unit_line(name, rest)
+    }
+}
+
+#[tactic(auto, unfolding(crate::specs::requests::Whole::send_line))]
+fn parse_send_line(name: &[u8], rest: &[u8]) -> Option<Request>
+    ensures { result ≡ send_line name.now (words_of rest.now) }
+{
     if name == b"inval".as_slice() {
         parse_inval(rest)
     } else if name == b"detach".as_slice() {
         parse_detach(rest)
-    } else if name == b"publish".as_slice() {
-        parse_publish(rest)
     } else {
-        parse_unit_line(name, rest)
+        parse_sender_line(name, rest)
     }
 }
 
@@ -66,7 +77,7 @@ fn parse_plain_line(name: &[u8], rest: &[u8]) -> Option<Request>
     } else if name == b"lookup".as_slice() {
         parse_lookup(rest)
     } else {
-        parse_sender_line(name, rest)
+        parse_send_line(name, rest)
     }
 }
 

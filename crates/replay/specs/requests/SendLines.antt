@@ -1,10 +1,10 @@
 -- What the lines that send ask for.
-use Rattle.std.specs.Prelude.{ℕ, ◌^◌, List, Bool, true, Option, Some, option_map}
-use Rattle.script.specs.Fields.{◌>>=◌, guard, next_below, is_end, one_number, raws_of}
+use Rattle.std.specs.Prelude.{ℕ, ◌^◌, List, Bool, true, Option, Some}
+use Rattle.script.specs.Fields.{◌>>=◌, guard, next_below, is_end, raws_of}
 use Rattle.replay.specs.declared.request.Content.{Content}
 use Rattle.replay.specs.declared.request.Content.TheVariants.{Commands, Range, Detach}
 use Rattle.replay.specs.declared.request.Request.{Request}
-use Rattle.replay.specs.declared.request.Request.TheVariants.{Send, Publish}
+use Rattle.replay.specs.declared.request.Request.TheVariants.{Send}
 
 -- a batch that a sender hands over at once, its closing CMD_SYNC with it
 abbrev pub whole_batch : ℕ → Content → Request
@@ -34,7 +34,3 @@ detach_of words = do
   sender ← next_below (2 ^ 32) words
   sid ← next_below (2 ^ 32) sender.1
   guard (is_end sid.1) (whole_batch sender.0 (Detach sid.0))
-
--- `publish S`
-unfoldable pub publish_of : List (List ℕ) → Option Request
-publish_of words = option_map (λ sender. Publish sender) (one_number words)

@@ -1,11 +1,11 @@
--- What the lines of the unit ask for, and those that look.
-use Rattle.std.specs.Prelude.{ℕ, ◌^◌, nat_le, List, [], ◌∷◌, ◌&&◌, Option, Some, None, option_map, codes, if◌then◌else◌}
+-- What the lines of the unit ask for.
+use Rattle.std.specs.Prelude.{ℕ, ◌^◌, nat_le, List, [], ◌∷◌, ◌&&◌, Option, Some, None, codes, if◌then◌else◌}
 use Rattle.std.specs.Str.{bytes_eq}
-use Rattle.script.specs.Fields.{◌>>=◌, guard, next_below, is_end, one_number}
+use Rattle.script.specs.Fields.{◌>>=◌, guard, next_below, is_end}
 use Rattle.engine.specs.declared.remedy.Remedy.{Remedy}
 use Rattle.engine.specs.declared.remedy.Remedy.TheVariants.{Retry, Replace}
 use Rattle.replay.specs.declared.request.Request.{Request}
-use Rattle.replay.specs.declared.request.Request.TheVariants.{Step, Acknowledge, Done, Look, Close, Dump}
+use Rattle.replay.specs.declared.request.Request.TheVariants.{Step, Acknowledge, Dump}
 
 -- COUNT, 1 to 1,000,000, and no more words
 unfoldable pub counted_steps : List (List ℕ) → Option Request
@@ -31,18 +31,6 @@ ack_of words = do
   gerrorn ← next_below (2 ^ 32) words
   remedy ← remedy_of gerrorn.1
   Some (Acknowledge gerrorn.0 remedy)
-
--- `done S`
-unfoldable pub done_of : List (List ℕ) → Option Request
-done_of words = option_map (λ sender. Done sender) (one_number words)
-
--- `look S`
-unfoldable pub look_of : List (List ℕ) → Option Request
-look_of words = option_map (λ sender. Look sender) (one_number words)
-
--- `close S`
-unfoldable pub close_of : List (List ℕ) → Option Request
-close_of words = option_map (λ sender. Close sender) (one_number words)
 
 -- `dump`
 unfoldable pub dump_of : List (List ℕ) → Option Request

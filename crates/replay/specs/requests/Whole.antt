@@ -4,27 +4,33 @@ use Rattle.std.specs.Str.{bytes_eq}
 use Rattle.replay.specs.declared.request.Request.{Request}
 use Rattle.replay.specs.requests.RingLine.{ring_of}
 use Rattle.replay.specs.requests.CacheLines.{fill_of, evict_of, lookup_of}
-use Rattle.replay.specs.requests.SendLines.{commands_of, inval_of, detach_of, publish_of}
-use Rattle.replay.specs.requests.UnitLines.{steps_of, ack_of, done_of, look_of, close_of, dump_of}
+use Rattle.replay.specs.requests.SendLines.{commands_of, inval_of, detach_of}
+use Rattle.replay.specs.requests.SenderLines.{publish_of, done_of, look_of, close_of}
+use Rattle.replay.specs.requests.UnitLines.{steps_of, ack_of, dump_of}
 
--- a line of the unit or one that looks, by its first word
+-- a line of the unit, by its first word
 unfoldable pub unit_line : List ℕ → List (List ℕ) → Option Request
 unit_line name words =
     if bytes_eq name (codes "step") then steps_of words
     else if bytes_eq name (codes "ack") then ack_of words
-    else if bytes_eq name (codes "done") then done_of words
-    else if bytes_eq name (codes "look") then look_of words
-    else if bytes_eq name (codes "close") then close_of words
     else if bytes_eq name (codes "dump") then dump_of words
     else None
 
--- a line that sends what stands in no hexadecimal digits, or else one of the unit
+-- a line by which a sender hands over what it reserved, asks, looks or closes, or else one of the unit
 unfoldable pub sender_line : List ℕ → List (List ℕ) → Option Request
 sender_line name words =
+    if bytes_eq name (codes "publish") then publish_of words
+    else if bytes_eq name (codes "done") then done_of words
+    else if bytes_eq name (codes "look") then look_of words
+    else if bytes_eq name (codes "close") then close_of words
+    else unit_line name words
+
+-- a line that sends what stands in no hexadecimal digits, or else another one of a sender or of the unit
+unfoldable pub send_line : List ℕ → List (List ℕ) → Option Request
+send_line name words =
     if bytes_eq name (codes "inval") then inval_of words
     else if bytes_eq name (codes "detach") then detach_of words
-    else if bytes_eq name (codes "publish") then publish_of words
-    else unit_line name words
+    else sender_line name words
 
 -- a line that makes the ring or is of the caches, or else another one without commands
 unfoldable pub plain_line : List ℕ → List (List ℕ) → Option Request
@@ -33,7 +39,7 @@ plain_line name words =
     else if bytes_eq name (codes "fill") then fill_of words
     else if bytes_eq name (codes "evict") then evict_of words
     else if bytes_eq name (codes "lookup") then lookup_of words
-    else sender_line name words
+    else send_line name words
 
 -- a line with commands, or else one without
 unfoldable pub named : List ℕ → List (List ℕ) → Option Request

@@ -37,18 +37,3 @@ value_text entry = codes " value=" ++ decimal entry.value ++ codes " born=" ++ d
 -- a line of a dump
 abbrev pub entry_line : Entry → List ℕ
 entry_line entry = codes "entry " ++ tag_text entry.tag ++ value_text entry
-
--- of a fill, by the entry of the tag that was held before
-abbrev pub filled_text : Option Entry → List ℕ
-filled_text None = codes "filled\n"
-filled_text (Some was) = codes "replaced" ++ value_text was
-
--- of an eviction, by the entry that was held
-abbrev pub evicted_text : Option Entry → List ℕ
-evicted_text None = codes "absent\n"
-evicted_text (Some was) = codes "evicted" ++ value_text was
-
--- of a lookup, by the entry that is held
-abbrev pub found_text : Option Entry → List ℕ
-found_text None = codes "absent\n"
-found_text (Some entry) = codes "found" ++ value_text entry

@@ -2,7 +2,7 @@
 ghost use Rattle.std.specs.Prelude.{◌≡◌, IfOk, string_bytes};
 ghost use Rattle.script.specs.Standing.{Acts};
 ghost use Rattle.simulator.specs.Standing.{Stands};
-ghost use Rattle.replay.specs.effects.CacheEffects.{fill_effect, evict_effect, lookup_effect};
+ghost use Rattle.replay.specs.effects.CacheLines.{fill_effect, evict_effect, lookup_effect};
 
 use crate::telling::{say_evicted, say_fill_refused, say_filled, say_found};
 use caches::Tag;

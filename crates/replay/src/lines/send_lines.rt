@@ -3,7 +3,7 @@ ghost use Rattle.std.specs.Prelude.{◌≡◌, ◌<◌, IfOk, OnOk, Ok, string_b
 ghost use Rattle.script.specs.Standing.{Acts};
 ghost use Rattle.simulator.specs.queue.Seated.{ring_in};
 ghost use Rattle.simulator.specs.Standing.{Stands, HasOpen};
-ghost use Rattle.replay.specs.effects.SendEffects.{body_of, body_effect, reserved_effect, send_effect};
+ghost use Rattle.replay.specs.effects.SendLines.{body_of, body_effect, reserved_effect, send_effect};
 
 use crate::request::{Content, Sending};
 use crate::sender_fault::settled_fault;

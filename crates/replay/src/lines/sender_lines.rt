@@ -2,7 +2,7 @@
 ghost use Rattle.std.specs.Prelude.{◌≡◌, IfOk, string_bytes};
 ghost use Rattle.script.specs.Standing.{Acts};
 ghost use Rattle.simulator.specs.Standing.{Stands};
-ghost use Rattle.replay.specs.effects.SenderEffects.{look_effect, close_effect, done_effect, publish_effect};
+ghost use Rattle.replay.specs.effects.SenderLines.{look_effect, close_effect, done_effect, publish_effect};
 
 use crate::sender_fault::{reserved_fault, settled_fault};
 use crate::telling::{say_closed, say_control, say_done, say_published};

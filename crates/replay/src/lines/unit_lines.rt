@@ -1,8 +1,8 @@
-//! The lines of the unit, and a dump.
+//! The lines of the unit.
 ghost use Rattle.std.specs.Prelude.{◌≡◌, IfOk, string_bytes};
 ghost use Rattle.script.specs.Standing.{Acts};
 ghost use Rattle.simulator.specs.Standing.{Stands};
-ghost use Rattle.replay.specs.effects.UnitEffects.{completes, step_of, step_effect, acknowledge_effect, dump_effect};
+ghost use Rattle.replay.specs.effects.UnitLines.{completes, step_of, step_effect, acknowledge_effect, dump_effect};
 ghost use Rattle.replay.specs.Stepping.{Steps};
 
 use crate::telling::{say_acknowledged, say_acknowledgement_refused, say_dump, say_step};

@@ -2,11 +2,11 @@
 ghost use Rattle.std.specs.Prelude.{◌≡◌, IfOk};
 ghost use Rattle.script.specs.Words.{words_of};
 ghost use Rattle.script.specs.Fields.{raws_of};
-ghost use Rattle.replay.specs.requests.SendLines.{whole_batch, commands_of, inval_of, detach_of, publish_of};
+ghost use Rattle.replay.specs.requests.SendLines.{whole_batch, commands_of, inval_of, detach_of};
 
 use super::numbers::{next_asid, next_page, next_sid, next_vmid};
 use crate::request::{Body, Content, Request, Sending};
-use script::{is_end, next_u32, next_u64, next_word, one_number, raw};
+use script::{is_end, next_u32, next_u64, next_word, raw};
 use std::alloc::{AllocError, Global};
 
 /// The commands that the words of a text say, if each word is one.
@@ -99,12 +99,4 @@ pub(super) fn parse_detach(text: &[u8]) -> Option<Request>
         return None;
     }
     Some(whole_batch(sender, Content::Detach { sid }))
-}
-
-#[tactic(auto, unfolding(crate::specs::requests::SendLines::publish_of))]
-pub(super) fn parse_publish(text: &[u8]) -> Option<Request>
-    ensures { result ≡ publish_of (words_of text.now) }
-{
-    let sender = one_number(text)?;
-    Some(Request::Publish { sender })
 }

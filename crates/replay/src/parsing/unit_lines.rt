@@ -1,11 +1,11 @@
-//! The lines of the unit, and those that look.
+//! The lines of the unit.
 ghost use Rattle.std.specs.Prelude.{◌≡◌};
 ghost use Rattle.script.specs.Words.{words_of};
-ghost use Rattle.replay.specs.requests.UnitLines.{counted_steps, steps_of, remedy_of, ack_of, done_of, look_of, close_of, dump_of};
+ghost use Rattle.replay.specs.requests.UnitLines.{counted_steps, steps_of, remedy_of, ack_of, dump_of};
 
 use crate::request::Request;
 use engine::Remedy;
-use script::{is_end, next_u32, next_u64, next_word, one_number};
+use script::{is_end, next_u32, next_u64, next_word};
 
 /// The most steps that one line may ask for.
 const MOST_STEPS: u64 = 1_000_000;
@@ -56,30 +56,6 @@ pub(super) fn parse_ack(text: &[u8]) -> Option<Request>
     let (gerrorn, rest) = next_u32(text)?;
     let remedy = one_remedy(rest)?;
     Some(Request::Acknowledge { gerrorn, remedy })
-}
-
-#[tactic(auto, unfolding(crate::specs::requests::UnitLines::done_of))]
-pub(super) fn parse_done(text: &[u8]) -> Option<Request>
-    ensures { result ≡ done_of (words_of text.now) }
-{
-    let sender = one_number(text)?;
-    Some(Request::Done { sender })
-}
-
-#[tactic(auto, unfolding(crate::specs::requests::UnitLines::look_of))]
-pub(super) fn parse_look(text: &[u8]) -> Option<Request>
-    ensures { result ≡ look_of (words_of text.now) }
-{
-    let sender = one_number(text)?;
-    Some(Request::Look { sender })
-}
-
-#[tactic(auto, unfolding(crate::specs::requests::UnitLines::close_of))]
-pub(super) fn parse_close(text: &[u8]) -> Option<Request>
-    ensures { result ≡ close_of (words_of text.now) }
-{
-    let sender = one_number(text)?;
-    Some(Request::Close { sender })
 }
 
 #[tactic(auto, unfolding(crate::specs::requests::UnitLines::dump_of))]

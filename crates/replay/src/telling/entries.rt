@@ -1,6 +1,6 @@
 //! The texts of cached entries.
 ghost use Rattle.std.specs.Prelude.{◌≡◌, ◌++◌, OnOk, string_bytes};
-ghost use Rattle.replay.specs.texts.Entries.{scope_text, substream_text, block_text, tag_text, value_text, entry_line, filled_text, evicted_text, found_text};
+ghost use Rattle.replay.specs.texts.Entries.{scope_text, substream_text, block_text, tag_text, value_text, entry_line};
 
 use caches::{Entry, Scope, Tag};
 use cmdcodec::{Page, Ssid};
@@ -70,8 +70,8 @@ fn say_tag(tag: &Tag, reply: &mut String) -> Result<(), AllocError>
     }
 }
 
-// The value of an entry, behind what is told of it.
-fn say_value(name: &str, entry: &Entry, reply: &mut String) -> Result<(), AllocError>
+/// The value of an entry, behind what is told of it.
+pub(super) fn say_value(name: &str, entry: &Entry, reply: &mut String) -> Result<(), AllocError>
     ensures { OnOk result (string_bytes reply.new ≡ string_bytes reply.old ++ (name.now ++ value_text entry.now)) }
 {
     let (value, born) = (entry.value, entry.born);
@@ -85,34 +85,4 @@ pub(crate) fn say_entry(entry: &Entry, reply: &mut String) -> Result<(), AllocEr
     reply.push_str("entry ")?;
     say_tag(&entry.tag, reply)?;
     say_value("", entry, reply)
-}
-
-/// Tells of a fill, by the entry of the tag that was held before.
-pub(crate) fn say_filled(was: Option<Entry>, reply: &mut String) -> Result<(), AllocError>
-    ensures { OnOk result (string_bytes reply.new ≡ string_bytes reply.old ++ filled_text was) }
-{
-    match was {
-        None => reply.push_str("filled\n"),
-        Some(was) => say_value("replaced", &was, reply),
-    }
-}
-
-/// Tells of an eviction, by the entry that was held.
-pub(crate) fn say_evicted(was: Option<Entry>, reply: &mut String) -> Result<(), AllocError>
-    ensures { OnOk result (string_bytes reply.new ≡ string_bytes reply.old ++ evicted_text was) }
-{
-    match was {
-        None => reply.push_str("absent\n"),
-        Some(was) => say_value("evicted", &was, reply),
-    }
-}
-
-/// Tells of a lookup, by the entry that is held.
-pub(crate) fn say_found(found: Option<Entry>, reply: &mut String) -> Result<(), AllocError>
-    ensures { OnOk result (string_bytes reply.new ≡ string_bytes reply.old ++ found_text found) }
-{
-    match found {
-        None => reply.push_str("absent\n"),
-        Some(entry) => say_value("found", &entry, reply),
-    }
 }

@@ -1,5 +1,5 @@
 use Rattle.std.proofs.Common.{◌-◌, arith, string_bytes, subst}
-use Rattle.replay.specs.effects.UnitEffects.{step_of}
+use Rattle.replay.specs.effects.UnitLines.{step_of}
 use Rattle.replay.specs.Stepping.{Steps}
 use Rattle.replay.proofs.StepsLemmas.{starts_running, runs_on, stops_running, ran}
 use Rattle.replay.proofs.lines.unit_lines.steps.Goals as goal

@@ -1,6 +1,7 @@
--- The texts of what a sender sees.
-use Rattle.std.specs.Prelude.{ℕ, List, ◌++◌, codes, decimal, if◌then◌else◌}
+-- The texts of what the lines of a sender answer.
+use Rattle.std.specs.Prelude.{ℕ, List, ◌++◌, Option, codes, decimal, if◌then◌else◌}
 use Rattle.qindex.specs.declared.control.Control.{Control}
+use Rattle.replay.specs.texts.SendLines.{number_text}
 
 -- of a look
 abbrev pub control_text : Control → List ℕ
@@ -15,3 +16,7 @@ done_text sender number = codes "done " ++ decimal sender ++ codes " up to " ++ 
 -- The ring is closed.
 abbrev pub closed_text : List ℕ
 closed_text = codes "closed\n"
+
+-- of a batch that was handed over after it was reserved alone
+abbrev pub published_text : ℕ → Option ℕ → List ℕ
+published_text sender number = codes "published " ++ decimal sender ++ number_text number ++ codes "\n"

@@ -8,7 +8,7 @@ use Rattle.caches.specs.Faults.{label_of}
 use Rattle.script.specs.Effects.{Effect, answers}
 use Rattle.simulator.specs.State.{State, entries}
 use Rattle.simulator.specs.Fills.{filled, evicted}
-use Rattle.replay.specs.texts.Entries.{filled_text, evicted_text, found_text}
+use Rattle.replay.specs.texts.CacheLines.{filled_text, evicted_text, found_text}
 use Rattle.replay.specs.texts.Refusals.{refused_text}
 use Rattle.replay.specs.effects.Answering.{tells}
 

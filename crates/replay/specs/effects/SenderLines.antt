@@ -3,8 +3,7 @@ use Rattle.std.specs.Prelude.{ℕ, ⊤}
 use Rattle.script.specs.Effects.{Effect}
 use Rattle.simulator.specs.State.{State}
 use Rattle.simulator.specs.Seats.{looked, closed, asked, published_by}
-use Rattle.replay.specs.texts.Looks.{control_text, done_text, closed_text}
-use Rattle.replay.specs.texts.Sends.{published_text}
+use Rattle.replay.specs.texts.SenderLines.{control_text, done_text, closed_text, published_text}
 use Rattle.replay.specs.effects.Answering.{tells}
 use Rattle.replay.specs.effects.SenderFaults.{settled_fault, reserved_fault, unless_fault}
 

@@ -1,6 +1,6 @@
-//! The texts of what senders reserve and hand over. A batch without a closing CMD_SYNC has no number.
+//! The texts of what the lines that send answer. A batch without a closing CMD_SYNC has no number.
 ghost use Rattle.std.specs.Prelude.{◌≡◌, ◌++◌, OnOk, string_bytes};
-ghost use Rattle.replay.specs.texts.Sends.{sent_text, opened_text, published_text};
+ghost use Rattle.replay.specs.texts.SendLines.{sent_text, opened_text};
 
 use qindex::Index;
 use std::alloc::AllocError;
@@ -33,19 +33,5 @@ pub(crate) fn say_opened(
     match number {
         Some(number) => write!(reply, "opened {sender} number {number} first {first}\n"),
         None => write!(reply, "opened {sender} bare first {first}\n"),
-    }
-}
-
-/// Tells of a batch that was handed over after it was reserved alone.
-pub(crate) fn say_published(
-    sender: u32,
-    number: Option<u32>,
-    reply: &mut String,
-) -> Result<(), AllocError>
-    ensures { OnOk result (string_bytes reply.new ≡ string_bytes reply.old ++ published_text sender number) }
-{
-    match number {
-        Some(number) => write!(reply, "published {sender} number {number}\n"),
-        None => write!(reply, "published {sender} bare\n"),
     }
 }

@@ -1,4 +1,4 @@
--- What the lines of the unit do, and a dump.
+-- What the lines of the unit do.
 use Rattle.std.specs.Prelude.{ℕ, zero, suc, List, [], ◌++◌, Bool, true, false, ⊤, Result, Ok, Err, if◌then◌else◌}
 use Rattle.std.specs.FinMap as finite
 use Rattle.engine.specs.declared.answer.StepAnswer.{StepAnswer}
@@ -10,8 +10,7 @@ use Rattle.script.specs.Effects.{Effect, answers}
 use Rattle.simulator.specs.State.{State, Answered, entries, counted, registers}
 use Rattle.simulator.specs.Steps.{stepped, acknowledged}
 use Rattle.replay.specs.texts.Refusals.{refused_text}
-use Rattle.replay.specs.texts.Steps.{step_text, acknowledged_text}
-use Rattle.replay.specs.texts.Dumps.{dump_text}
+use Rattle.replay.specs.texts.UnitLines.{step_text, acknowledged_text, dump_text}
 use Rattle.replay.specs.effects.Answering.{tells}
 
 -- ---- steps

@@ -1,4 +1,4 @@
--- The texts of what senders reserve and hand over.
+-- The texts of what the lines that send answer.
 use Rattle.std.specs.Prelude.{ℕ, List, ◌++◌, Option, Some, None, codes, decimal}
 
 -- the number of a batch, which one without a closing CMD_SYNC doesn't have
@@ -13,7 +13,3 @@ sent_text sender number = codes "sent " ++ decimal sender ++ number_text number 
 -- of a batch that was reserved alone, its first slot at this index
 abbrev pub opened_text : ℕ → Option ℕ → ℕ → List ℕ
 opened_text sender number first = codes "opened " ++ decimal sender ++ number_text number ++ codes " first " ++ decimal first ++ codes "\n"
-
--- of one that was handed over later
-abbrev pub published_text : ℕ → Option ℕ → List ℕ
-published_text sender number = codes "published " ++ decimal sender ++ number_text number ++ codes "\n"

@@ -1,10 +1,34 @@
--- The text of a dump: the registers, the totals and the entries.
+-- The texts of what the lines of the unit answer.
 use Rattle.std.specs.Prelude.{ℕ, ◌-◌, ◌^◌, List, [], ◌++◌, false, flat_map, codes, decimal}
 use Rattle.std.specs.Fmt.{digits, padded_integral, format_spec}
 use Rattle.caches.specs.declared.tag.Entry.{Entry}
+use Rattle.cmdcodec.specs.Labels.{label_of}
+use Rattle.cmdcodec.specs.Text.{text_of}
+use Rattle.engine.specs.declared.answer.StepAnswer.{StepAnswer}
+use Rattle.engine.specs.declared.answer.StepAnswer.TheVariants.{Empty, Drained, Unwritten, Applied, Stopped, Replaced, StillStopped, Exhausted}
 use Rattle.engine.specs.declared.answer.Registers.{Registers}
 use Rattle.engine.specs.Counting.{CountsValue, taken}
 use Rattle.replay.specs.texts.Entries.{entry_line}
+
+-- ---- a step
+
+abbrev pub step_text : StepAnswer → List ℕ
+step_text Empty = codes "empty\n"
+step_text Drained = codes "drained\n"
+step_text Unwritten = codes "unwritten\n"
+step_text (Applied command removed) = codes "applied " ++ text_of command ++ codes " removed=" ++ decimal removed ++ codes "\n"
+step_text (Stopped ill) = codes "stopped " ++ label_of ill ++ codes "\n"
+step_text (Replaced ill) = codes "replaced " ++ label_of ill ++ codes "\n"
+step_text StillStopped = codes "still stopped\n"
+step_text Exhausted = codes "exhausted\n"
+
+-- ---- an acknowledgement
+
+-- of one that wasn't refused
+abbrev pub acknowledged_text : List ℕ
+acknowledged_text = codes "acknowledged\n"
+
+-- ---- a dump: the registers, the totals and the entries
 
 -- 0x and eight lower-case hexadecimal digits
 abbrev pub register : ℕ → List ℕ

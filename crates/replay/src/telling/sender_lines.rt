@@ -1,6 +1,6 @@
-//! The texts of what a sender sees.
+//! The texts of what the lines of a sender answer.
 ghost use Rattle.std.specs.Prelude.{◌≡◌, ◌++◌, OnOk, string_bytes};
-ghost use Rattle.replay.specs.texts.Looks.{control_text, done_text, closed_text};
+ghost use Rattle.replay.specs.texts.SenderLines.{control_text, done_text, closed_text, published_text};
 
 use qindex::Control;
 use std::alloc::AllocError;
@@ -30,4 +30,18 @@ pub(crate) fn say_closed(reply: &mut String) -> Result<(), AllocError>
     ensures { OnOk result (string_bytes reply.new ≡ string_bytes reply.old ++ closed_text) }
 {
     reply.push_str("closed\n")
+}
+
+/// Tells of a batch that was handed over after it was reserved alone.
+pub(crate) fn say_published(
+    sender: u32,
+    number: Option<u32>,
+    reply: &mut String,
+) -> Result<(), AllocError>
+    ensures { OnOk result (string_bytes reply.new ≡ string_bytes reply.old ++ published_text sender number) }
+{
+    match number {
+        Some(number) => write!(reply, "published {sender} number {number}\n"),
+        None => write!(reply, "published {sender} bare\n"),
+    }
 }

@@ -17,7 +17,7 @@ use Rattle.replay.specs.declared.request.Content.{Content}
 use Rattle.replay.specs.declared.request.Content.TheVariants.{Commands, Range, Detach}
 use Rattle.replay.specs.declared.request.Sending.{Sending}
 use Rattle.replay.specs.texts.Refusals.{refused_text}
-use Rattle.replay.specs.texts.Sends.{sent_text, opened_text}
+use Rattle.replay.specs.texts.SendLines.{sent_text, opened_text}
 use Rattle.replay.specs.effects.Answering.{tells}
 use Rattle.replay.specs.effects.SenderFaults.{settled_fault, unless_fault}
 

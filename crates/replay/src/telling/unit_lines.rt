@@ -1,13 +1,44 @@
-//! The text of a dump: the registers, the totals and the entries.
+//! The texts of what the lines of the unit answer.
 ghost use Rattle.std.specs.Prelude.{◌≡◌, ◌++◌, OnOk, flat_map, string_bytes};
 ghost use Rattle.replay.specs.texts.Entries.{entry_line};
-ghost use Rattle.replay.specs.texts.Dumps.{register_line, errors_line, registers_text, totals_line, dump_text};
+ghost use Rattle.replay.specs.texts.UnitLines.{step_text, acknowledged_text, register_line, errors_line, registers_text, totals_line, dump_text};
 
 use super::entries::say_entry;
 use caches::Entry;
-use engine::{Counts, Registers};
+use engine::{Counts, Registers, StepAnswer};
 use std::alloc::AllocError;
 use std::fmt::Write;
+
+/// Tells what a step did.
+pub(crate) fn say_step(answer: &StepAnswer, reply: &mut String) -> Result<(), AllocError>
+    ensures { OnOk result (string_bytes reply.new ≡ string_bytes reply.old ++ step_text answer.now) }
+{
+    match answer {
+        StepAnswer::Empty => reply.push_str("empty\n"),
+        StepAnswer::Drained => reply.push_str("drained\n"),
+        StepAnswer::Unwritten => reply.push_str("unwritten\n"),
+        StepAnswer::Applied { command, removed } => {
+            write!(reply, "applied {command} removed={removed}\n")
+        }
+        StepAnswer::Stopped(ill) => {
+            let label = ill.label();
+            write!(reply, "stopped {label}\n")
+        }
+        StepAnswer::Replaced(ill) => {
+            let label = ill.label();
+            write!(reply, "replaced {label}\n")
+        }
+        StepAnswer::StillStopped => reply.push_str("still stopped\n"),
+        StepAnswer::Exhausted => reply.push_str("exhausted\n"),
+    }
+}
+
+/// Tells of an acknowledgement that wasn't refused.
+pub(crate) fn say_acknowledged(reply: &mut String) -> Result<(), AllocError>
+    ensures { OnOk result (string_bytes reply.new ≡ string_bytes reply.old ++ acknowledged_text) }
+{
+    reply.push_str("acknowledged\n")
+}
 
 fn say_register(name: &str, value: u32, reply: &mut String) -> Result<(), AllocError>
     ensures { OnOk result (string_bytes reply.new ≡ string_bytes reply.old ++ register_line name.now value) }
