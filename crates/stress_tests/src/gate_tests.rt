@@ -61,12 +61,13 @@ impl Gate for Listener {
     }
 }
 
-/// With turns enough each batch is begun once and sent once, the receipt of each names its own CMD_SYNC, and each turn
-/// of the engine is told in its order.
+/// Each batch is begun once and sent once, the receipt of each names its own CMD_SYNC, and each turn of the engine is
+/// told in its order. The ring has room for all 90 batches of at most 5 commands, so that no sender's turns run out,
+/// however slow the engine's thread is.
 #[test]
 fn each_batch_and_each_turn_once(rt: HostRuntime) {
     let listener = Listener::new();
-    let plan = Plan::with_bare(4, 3, 30, 1_000_000, EVERY).expect(&rt, "a plan");
+    let plan = Plan::with_bare(9, 3, 30, 1_000_000, EVERY).expect(&rt, "a plan");
     let report = run_all(&rt, &plan, &listener).expect(&rt, "a report");
     assert!(rt;
         !listener.is_wrong.load(Ordering::SeqCst),
