@@ -1,3 +1,4 @@
 pub mod world
 pub mod memory
 pub mod machine
+pub mod RingFaults

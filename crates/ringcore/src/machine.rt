@@ -4,12 +4,15 @@ ghost use Rattle.qindex.specs.ControlWord.{IsControl};
 ghost use Rattle.ringcore.specs.world.Trails.{Run};
 ghost use Rattle.ringcore.specs.world.World.{world, control};
 ghost use Rattle.ringcore.specs.world.Delivery.{IsOrderedDelivery};
+ghost use Rattle.ringcore.specs.RingFaults.{IsNotMade};
 ghost use Rattle.ringcore.specs.machine.SenderViews.{Knows};
 ghost use Rattle.ringcore.specs.machine.Played.{played};
-ghost use Rattle.ringcore.specs.machine.Core.{ring_of, ring_with, AllKnow, AfterEachRun, StandsAfter, IsTaken, IsRefused, IsTakenOrRefused, IsNew, IsNotMade, number_fault, HasPlayed};
+ghost use Rattle.ringcore.specs.machine.Core.{ring_of, ring_with, AllKnow, AfterEachRun, StandsAfter, IsTaken, IsRefused, IsTakenOrRefused, IsNew, core_fault, HasPlayed};
 
 use crate::memory::{RingWords, laws as word_laws};
+use crate::ring_fault::{RingFault, ring_geometry};
 use crate::world::laws::world_law;
+use cmdcodec::MOST_BATCHES;
 use qindex::{Control, Geometry, control_words_say_their_control, indexes_tell_the_queue};
 use std::alloc::{AllocError, Global};
 use std::marker::Model;
@@ -17,7 +20,6 @@ use std::marker::Model;
 mod commands;
 mod consumer_steps;
 mod consumer_view;
-mod core_fault;
 mod held;
 pub mod laws;
 mod places;
@@ -30,7 +32,6 @@ mod sync_tallies;
 
 pub use commands::batch_commands;
 pub use consumer_view::ConsumerView;
-pub use core_fault::CoreFault;
 pub use places::index_of;
 pub use sender_view::SenderView;
 pub use step::{Seen, Step};
@@ -62,19 +63,14 @@ impl Core {
     /// A new ring of `2^log2` slots, for so many senders.
     ///
     /// Errors: N1 where log2 isn't 1 to 19, N2 where the senders aren't 1 to 256, N4 when out of memory.
-    pub fn new(alloc: Global, log2: u32, senders: u32) -> Result<Core, CoreFault>
+    pub fn new(alloc: Global, log2: u32, senders: u32) -> Result<Core, RingFault>
         ensures made { IfOk result (λ core. IsNew core log2 senders) }
-        ensures refused { IfErr result (λ fault. IsNotMade (number_fault log2 senders) fault) }
+        ensures refused { IfErr result (λ fault. IsNotMade (core_fault log2 senders) fault) }
     {
-        let Some(geometry) = Geometry::new(log2) else {
-            return Err(CoreFault::Size);
-        };
-        if senders < 1 || senders > 256 {
-            return Err(CoreFault::Senders);
-        }
+        let geometry = ring_geometry(log2, senders, MOST_BATCHES)?;
         match Core::open(alloc, geometry, senders) {
             Ok(core) => Ok(core),
-            Err(error) => Err(CoreFault::Memory(error)),
+            Err(error) => Err(RingFault::Memory(error)),
         }
     }
 
@@ -169,10 +165,10 @@ pub fn run(
     log2: u32,
     senders: u32,
     steps: &[Step],
-) -> Result<(Core, Option<(usize, StepFault)>), CoreFault>
+) -> Result<(Core, Option<(usize, StepFault)>), RingFault>
     ensures played { IfOk result (λ told. HasPlayed log2 senders steps.now told.0 told.1) }
     ensures delivery { IfOk result (λ told. IsOrderedDelivery (played (ring_with log2 senders) steps.now).run) }
-    ensures refused { IfErr result (λ fault. IsNotMade (number_fault log2 senders) fault) }
+    ensures refused { IfErr result (λ fault. IsNotMade (core_fault log2 senders) fault) }
 {
     world_law();
     let mut core = Core::new(alloc, log2, senders)?;

@@ -8,8 +8,8 @@ use Rattle.ringcore.specs.declared.machine.step.Step.{Step}
 use Rattle.ringcore.specs.declared.machine.step.Step.TheVariants.{Reserve}
 use Rattle.ringcore.specs.declared.machine.step.Seen.{Seen}
 use Rattle.ringcore.specs.declared.machine.step_fault.StepFault.{StepFault}
-use Rattle.ringcore.specs.declared.machine.core_fault.CoreFault.{CoreFault}
-use Rattle.ringcore.specs.declared.machine.core_fault.CoreFault.TheVariants.{Size, Senders, Memory}
+use Rattle.ringcore.specs.declared.ring_fault.RingFault.{RingFault}
+use Rattle.ringcore.specs.RingFaults.{number_fault}
 use Rattle.ringcore.specs.declared.machine.Core.TheInside.{Inside}
 use Rattle.ringcore.specs.world.Trails.{Run, trail_of, looked}
 use Rattle.ringcore.specs.world.World.{world, control}
@@ -110,28 +110,20 @@ FindsControl core run s found same =
 
 -- ---- how it is made, and a list of steps
 
--- which of its numbers is out of range, the first one
-abbrev pub number_fault : ℕ → ℕ → Option CoreFault
-number_fault log2 senders =
-    if not (nat_le 1 log2 && nat_le log2 19) then Some Size
-    else if not (nat_le 1 senders && nat_le senders 256) then Some Senders
-    else None
-
--- It isn't made for that fault, or where there is none because memory ran out.
-abbrev pub IsNotMade : Option CoreFault → CoreFault → Type 0
-IsNotMade numbers (Memory error) = numbers ≡ None
-IsNotMade numbers fault = numbers ≡ Some fault
+-- the first of its numbers that is out of range
+abbrev pub core_fault : ℕ → ℕ → Option RingFault
+core_fault log2 senders = number_fault log2 senders most_batches
 
 -- A new machine, before the first step.
 pub record IsNew (core : CoreValue) (log2 senders : ℕ) : Type 0 where
-  pub numbers : number_fault log2 senders ≡ None
+  pub numbers : core_fault log2 senders ≡ None
   pub ring : ring_of core ≡ ring_with log2 senders
   pub stands : StandsAfter core []
 
 -- Steps were played from an empty ring: the machine stands as after them, and the one that was refused is told, if
 -- one was.
 pub record HasPlayed (log2 senders : ℕ) (steps : List Step) (core : CoreValue) (refused : Option (ℕ × StepFault)) : Type 0 where
-  pub numbers : number_fault log2 senders ≡ None
+  pub numbers : core_fault log2 senders ≡ None
   pub ring : ring_of core ≡ ring_with log2 senders
   pub stands : StandsAfter core (played (ring_with log2 senders) steps).run
   pub refused_is : refused ≡ (played (ring_with log2 senders) steps).refused

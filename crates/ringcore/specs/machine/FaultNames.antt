@@ -1,9 +1,7 @@
--- What the faults of a step, and of a machine that is made, are called.
+-- What the faults of a step are called.
 use Rattle.std.specs.Prelude.{ℕ, List, codes}
 use Rattle.ringcore.specs.declared.machine.step_fault.StepFault.{StepFault}
 use Rattle.ringcore.specs.declared.machine.step_fault.StepFault.TheVariants.{AnotherSenders, NotReserved, Flipped, HalfMissing, NotTheHead, NotSeenReady, NotNext, NoSuchPlace, NoRoom, NotSettled, BadBody}
-use Rattle.ringcore.specs.declared.machine.core_fault.CoreFault.{CoreFault}
-use Rattle.ringcore.specs.declared.machine.core_fault.CoreFault.TheVariants.{Size, Senders, Memory}
 
 abbrev pub label_of : StepFault → List ℕ
 label_of AnotherSenders = codes "F1"
@@ -17,8 +15,3 @@ label_of NoSuchPlace = codes "F8"
 label_of NoRoom = codes "F9"
 label_of NotSettled = codes "F10"
 label_of BadBody = codes "F11"
-
-abbrev pub core_label : CoreFault → List ℕ
-core_label Size = codes "N1"
-core_label Senders = codes "N2"
-core_label (Memory error) = codes "N4"

@@ -1,0 +1,76 @@
+//! Why a ring isn't made.
+ghost use Rattle.std.specs.Prelude.{◌≡◌, ◌≤◌, Some, None, IfOk, IfErr, OnOk};
+ghost use Rattle.ringcore.specs.RingFaults.{fault_label, number_fault};
+
+use qindex::Geometry;
+use std::alloc::AllocError;
+use std::error::Error;
+use std::fmt;
+
+/// Why a ring isn't made. The first that applies is told.
+#[derive(Clone, Copy, Debug, PartialEq, Eq)]
+pub enum RingFault {
+    /// N1: the ring isn't of `2^1` to `2^19` slots.
+    Size,
+    /// N2: the senders aren't 1 to 256.
+    Senders,
+    /// N3: a sender may reserve no batch.
+    Batches,
+    /// N4: out of memory.
+    Memory(AllocError),
+}
+
+impl RingFault {
+    /// Its label alone, `N1` to `N4`.
+    pub fn label(self) -> &'static str
+        ensures { result.now ≡ fault_label self }
+    {
+        match self {
+            RingFault::Size => "N1",
+            RingFault::Senders => "N2",
+            RingFault::Batches => "N3",
+            RingFault::Memory(_) => "N4",
+        }
+    }
+}
+
+impl From<AllocError> for RingFault {
+    fn from(error: AllocError) -> RingFault
+        ensures { result ≡ RingFault.Memory error }
+    {
+        RingFault::Memory(error)
+    }
+}
+
+impl fmt::Display for RingFault {
+    ghost output = { λ fault. Some (fault_label fault) };
+
+    fn fmt<W: fmt::Write>(&self, f: &mut fmt::Formatter<W>) -> fmt::Result {
+        write!(f, "{}", self.label())
+    }
+}
+
+impl Error for RingFault {}
+
+/// The geometry of a ring of `2^log2` slots, where it can be made for so many senders, each of which may reserve
+/// `max_batches` batches.
+///
+/// Errors, in this order: N1 where log2 isn't 1 to 19, N2 where the senders aren't 1 to 256, N3 where max_batches is 0.
+pub fn ring_geometry(log2: u32, senders: u32, max_batches: u32) -> Result<Geometry, RingFault>
+    ensures geometry { IfOk result (λ geometry. geometry ≡ log2) }
+    ensures some { OnOk result (1 ≤ senders) }
+    ensures senders { OnOk result (senders ≤ 256) }
+    ensures numbers { OnOk result (number_fault log2 senders max_batches ≡ None) }
+    ensures refused { IfErr result (λ fault. number_fault log2 senders max_batches ≡ Some fault) }
+{
+    let Some(geometry) = Geometry::new(log2) else {
+        return Err(RingFault::Size);
+    };
+    if senders < 1 || senders > 256 {
+        return Err(RingFault::Senders);
+    }
+    if max_batches == 0 {
+        return Err(RingFault::Batches);
+    }
+    Ok(geometry)
+}
