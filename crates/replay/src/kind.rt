@@ -8,6 +8,7 @@ ghost use Rattle.replay.specs.effects.RingLine.{ring_or_fault};
 use crate::lines::serve_made;
 use crate::parsing::parse_named;
 use crate::request::Request;
+use ring::RingFault;
 use script::{First, ScriptKind};
 use simulator::{Shape, ShapeFault, Simulator};
 use std::alloc::{AllocError, Global};
@@ -21,11 +22,8 @@ fn first_ring(alloc: Global, shape: &Shape) -> Result<First<Simulator>, AllocErr
             log2: shape.log2,
             kept: simulator,
         }),
-        Err(ShapeFault::Size) => Ok(First::Fault("N1")),
-        Err(ShapeFault::Senders) => Ok(First::Fault("N2")),
-        Err(ShapeFault::Batches) => Ok(First::Fault("N3")),
-        Err(ShapeFault::Capacity) => Ok(First::Fault("C4")),
-        Err(ShapeFault::Memory(error)) => Err(error),
+        Err(ShapeFault::Ring(RingFault::Memory(error))) => Err(error),
+        Err(fault) => Ok(First::Fault(fault.label())),
     }
 }
 

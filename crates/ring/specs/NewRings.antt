@@ -1,24 +1,10 @@
--- A new ring, and why none is made.
-use Rattle.std.specs.Prelude.{◌≡◌, ℕ, zero, suc, nat_le, ◌==◌, ◌&&◌, not, List, [], ◌∷◌, ◌++◌, Option, Some, None, if◌then◌else◌}
+-- A new ring.
+use Rattle.std.specs.Prelude.{◌≡◌, ℕ, zero, suc, List, [], ◌∷◌, ◌++◌, None}
 use Rattle.ringcore.specs.world.Allowed.{Ring}
-use Rattle.ring.specs.declared.fault.RingFault.{RingFault}
-use Rattle.ring.specs.declared.fault.RingFault.TheVariants.{Size, Senders, Batches, Memory}
+use Rattle.ringcore.specs.RingFaults.{number_fault}
 use Rattle.ring.specs.Rings.{RingValue}
 use Rattle.ring.specs.consumer.Consumers.{ConsumerValue}
 use Rattle.ring.specs.sender.Senders.{SenderValue}
-
--- the first fault of the numbers that a ring is to be made with
-abbrev pub number_fault : ℕ → ℕ → ℕ → Option RingFault
-number_fault log2 senders max_batches =
-    if not (nat_le 1 log2 && nat_le log2 19) then Some Size
-    else if not (nat_le 1 senders && nat_le senders 256) then Some Senders
-    else if max_batches == 0 then Some Batches
-    else None
-
--- It isn't made for that fault, or where there is none because memory ran out.
-abbrev pub IsNotMade : Option RingFault → RingFault → Type 0
-IsNotMade numbers (Memory error) = numbers ≡ None
-IsNotMade numbers fault = numbers ≡ Some fault
 
 -- a sender that has taken no step
 abbrev pub new_sender : RingValue → ℕ → SenderValue

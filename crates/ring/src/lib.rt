@@ -3,7 +3,6 @@
 
 mod consumer;
 mod device;
-mod fault;
 mod keeper;
 mod ring;
 mod sender;
@@ -12,10 +11,9 @@ mod table;
 
 pub use consumer::{Consumer, Pending, PendingRun, Taken, TakenRun};
 pub use device::Device;
-pub use fault::RingFault;
 pub use keeper::{IdleConsumer, IdleReservation, IdleSender, Keeper};
 pub use ring::Ring;
-pub use ringcore::Outcome;
+pub use ringcore::{Outcome, RingFault};
 pub use sender::{BareReservation, Cause, Receipt, Refused, Reservation, Sender};
 pub use summary::Summary;
 pub use table::{growth_adds_up, run_is_one};

@@ -4,17 +4,17 @@ ghost use Rattle.qindex.specs.Indexes.{IsGeometry};
 ghost use Rattle.ringcore.specs.memory.Layout.{words_of};
 ghost use Rattle.ring.specs.table.Rule.{IsWithinLimits, first_participants, participants_from};
 ghost use Rattle.ring.specs.Finishing.{AreAll, IsEnd};
-ghost use Rattle.ring.specs.NewRings.{IsNewRing, IsUnused, new_senders, IsNotMade, number_fault};
+ghost use Rattle.ringcore.specs.RingFaults.{IsNotMade, number_fault};
+ghost use Rattle.ring.specs.NewRings.{IsNewRing, IsUnused, new_senders};
 
 use crate::consumer::{Commands, Consumer, ConsumerPort, Lent};
 use crate::device::Device;
-use crate::fault::RingFault;
 use crate::sender::{Sender, Tally};
 use crate::summary::Summary;
 use crate::table::{Deals, Gathers, Parameters, Participants, Port, RingRule};
 use atomic_table::{Seat, Shared, Table};
 use qindex::{Control, Geometry, Index, control_words_say_their_control, indexes_tell_the_queue};
-use ringcore::{batches_law, control_word, laws, words, world_law};
+use ringcore::{RingFault, batches_law, control_word, laws, ring_geometry, words, world_law};
 use std::alloc::{AllocError, Global};
 use std::marker::Model;
 
@@ -50,15 +50,7 @@ impl Ring {
         ensures made { IfOk result (λ r. IsNewRing log2 senders max_batches r.0 r.1.items r.2) }
         ensures refused { IfErr result (λ fault. IsNotMade (number_fault log2 senders max_batches) fault) }
     {
-        let Some(geometry) = Geometry::new(log2) else {
-            return Err(RingFault::Size);
-        };
-        if senders < 1 || senders > 256 {
-            return Err(RingFault::Senders);
-        }
-        if max_batches == 0 {
-            return Err(RingFault::Batches);
-        }
+        let geometry = ring_geometry(log2, senders, max_batches)?;
         match Ring::open(alloc, geometry, senders, max_batches) {
             Ok(parts) => Ok(parts),
             Err(error) => Err(RingFault::Memory(error)),

@@ -9,11 +9,11 @@ use Rattle.ringcore.specs.declared.world.event.Who.TheVariants.{Sender}
 use Rattle.ringcore.specs.declared.world.event.Event.TheVariants.{Look, Lost}
 use Rattle.ringcore.specs.world.Trails.{Trail, Run, looked}
 use Rattle.ringcore.specs.world.Allowed.{Ring}
-use Rattle.ring.specs.declared.fault.RingFault.TheVariants.{Size, Senders, Batches, Memory}
+use Rattle.ringcore.specs.declared.ring_fault.RingFault.TheVariants.{Size, Senders, Batches, Memory}
 use Rattle.ring.specs.declared.sender.cause.Cause.{Cause}
 use Rattle.ring.specs.declared.sender.cause.Cause.TheVariants.{TooLong, Exhausted, Closed, Full, Contended}
 use Rattle.ring.specs.Rings.{RingValue}
-use Rattle.ring.specs.NewRings.{number_fault, IsNotMade}
+use Rattle.ringcore.specs.RingFaults.{number_fault, IsNotMade}
 use Rattle.ring.specs.sender.Senders.{SenderValue}
 use Rattle.ring.specs.sender.Reserving.{IsTooLong, IsExhausted, IsClosed, IsFull, IsContended, IsRefused, HasLookedAt}
 use Rattle.ring.specs.sender.Sending.{may_pass, HasTried, IsGivenUp}

@@ -5,15 +5,16 @@ use Rattle.script.specs.Effects.{Effect, answers, faults}
 use Rattle.script.specs.Kinds as kinds
 use Rattle.script.specs.Kinds.{Kind}
 use Rattle.script.specs.Texts.{ring_text}
-use Rattle.ringcore.specs.declared.machine.core_fault.CoreFault.{CoreFault}
+use Rattle.ringcore.specs.declared.ring_fault.RingFault.{RingFault}
 use Rattle.ringcore.specs.declared.machine.step.Step.{Step}
 use Rattle.ringcore.specs.declared.machine.step_fault.StepFault.{StepFault}
 use Rattle.ringcore.specs.world.Trails.{Run}
 use Rattle.ringcore.specs.world.Allowed.{Ring}
 use Rattle.ringcore.specs.machine.Faults.{fault_of}
-use Rattle.ringcore.specs.machine.FaultNames.{label_of, core_label}
+use Rattle.ringcore.specs.machine.FaultNames.{label_of}
+use Rattle.ringcore.specs.RingFaults.{fault_label}
 use Rattle.ringcore.specs.machine.StepAnswers.{event_of}
-use Rattle.ringcore.specs.machine.Core.{ring_with, number_fault, answer_to as seen_by}
+use Rattle.ringcore.specs.machine.Core.{ring_with, core_fault, answer_to as seen_by}
 use Rattle.schedule.specs.declared.request.Request.{Request}
 use Rattle.schedule.specs.declared.request.Request.TheVariants as asks
 use Rattle.schedule.specs.Lines.{named}
@@ -32,8 +33,8 @@ abbrev pub made : ℕ → ℕ → State
 made log2 senders = record { ring = ring_with log2 senders; run = [] }
 
 -- by which of its numbers is out of range, if one is
-abbrev pub ring_or_fault : ℕ → ℕ → ℕ → Option CoreFault → Effect State
-ring_or_fault number log2 senders (Some fault) = faults number (core_label fault) None
+abbrev pub ring_or_fault : ℕ → ℕ → ℕ → Option RingFault → Effect State
+ring_or_fault number log2 senders (Some fault) = faults number (fault_label fault) None
 ring_or_fault number log2 senders None = answers (ring_text log2) (made log2 senders)
 
 -- ---- steps
@@ -65,7 +66,7 @@ served number request state = asked_effect number (step_of request) state
 -- what a request does before that
 unfoldable pub first_served : ℕ → Request → Effect State
 first_served number asks.Nothing = record { text = []; state = None; goes_on = true }
-first_served number (asks.Ring log2 senders) = ring_or_fault number log2 senders (number_fault log2 senders)
+first_served number (asks.Ring log2 senders) = ring_or_fault number log2 senders (core_fault log2 senders)
 first_served number request = faults number (codes "no ring") None
 
 -- A schedule's requests don't look at whether memory runs out, so that a script has one answer.

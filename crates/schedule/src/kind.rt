@@ -1,6 +1,6 @@
 //! Schedules, a kind of script.
 ghost use Rattle.std.specs.Prelude.{◌≡◌, IfOk, string_bytes};
-ghost use Rattle.ringcore.specs.machine.Core.{number_fault};
+ghost use Rattle.ringcore.specs.machine.Core.{core_fault};
 ghost use Rattle.script.specs.Standing.{Acts, Begins};
 ghost use Rattle.schedule.specs.ScheduleText.{ring_or_fault, asked_effect, served};
 ghost use Rattle.schedule.specs.Standing.{Stands};
@@ -16,13 +16,12 @@ use std::alloc::{AllocError, Global};
 
 /// Makes a ring, where its numbers are in range.
 fn first_ring(alloc: Global, log2: u32, senders: u32) -> Result<First<Core>, AllocError>
-    ensures { IfOk result (λ first. Begins Stands first (λ number. ring_or_fault number log2 senders (number_fault log2 senders))) }
+    ensures { IfOk result (λ first. Begins Stands first (λ number. ring_or_fault number log2 senders (core_fault log2 senders))) }
 {
     match Core::new(alloc, log2, senders) {
         Ok(core) => Ok(First::Made { log2, kept: core }),
-        Err(CoreFault::Size) => Ok(First::Fault("N1")),
-        Err(CoreFault::Senders) => Ok(First::Fault("N2")),
         Err(CoreFault::Memory(error)) => Err(error),
+        Err(fault) => Ok(First::Fault(fault.label())),
     }
 }
 

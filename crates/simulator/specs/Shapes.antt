@@ -1,29 +1,25 @@
 -- The numbers of a ring and its caches.
-use Rattle.std.specs.Prelude.{◌≡◌, ℕ, nat_le, List, ◌==◌, ◌&&◌, Bool, not, Option, Some, None, codes, if◌then◌else◌}
+use Rattle.std.specs.Prelude.{◌≡◌, ℕ, nat_le, List, ◌&&◌, not, Option, Some, None, codes, if◌then◌else◌}
+use Rattle.ringcore.specs.declared.ring_fault.RingFault.{RingFault}
+use Rattle.ringcore.specs.declared.ring_fault.RingFault.TheVariants.{Memory}
+use Rattle.ringcore.specs.RingFaults.{fault_label, number_fault}
 use Rattle.simulator.specs.declared.shape.Shape.{Shape}
 use Rattle.simulator.specs.declared.shape.ShapeFault.{ShapeFault}
-use Rattle.simulator.specs.declared.shape.ShapeFault.TheVariants.{Size, Senders, Batches, Capacity, Memory}
+use Rattle.simulator.specs.declared.shape.ShapeFault.TheVariants.{Ring, Capacity}
 
-abbrev pub fault_label : ShapeFault → List ℕ
-fault_label Size = codes "N1"
-fault_label Senders = codes "N2"
-fault_label Batches = codes "N3"
-fault_label Capacity = codes "C4"
-fault_label (Memory error) = codes "N4"
+abbrev pub shape_label : ShapeFault → List ℕ
+shape_label (Ring fault) = fault_label fault
+shape_label Capacity = codes "C4"
 
-abbrev pub is_within : ℕ → ℕ → ℕ → Bool
-is_within low high n = nat_le low n && nat_le n high
+-- the first of the ring's numbers that is out of range, or else the capacity of the caches
+abbrev pub first_fault : Option RingFault → ℕ → Option ShapeFault
+first_fault (Some fault) capacity = Some (Ring fault)
+first_fault None capacity = if not (nat_le 1 capacity && nat_le capacity 65536) then Some Capacity else None
 
--- the first of the numbers that is out of range
 abbrev pub shape_fault : Shape → Option ShapeFault
-shape_fault shape =
-    if not (is_within 1 19 shape.log2) then Some Size
-    else if not (is_within 1 256 shape.senders) then Some Senders
-    else if shape.max_batches == 0 then Some Batches
-    else if not (is_within 1 65536 shape.capacity) then Some Capacity
-    else None
+shape_fault shape = first_fault (number_fault shape.log2 shape.senders shape.max_batches) shape.capacity
 
 -- Nothing is made for that fault, or where there is none because memory ran out.
 abbrev pub IsNotMade : Option ShapeFault → ShapeFault → Type 0
-IsNotMade numbers (Memory error) = numbers ≡ None
+IsNotMade numbers (Ring (Memory error)) = numbers ≡ None
 IsNotMade numbers fault = numbers ≡ Some fault

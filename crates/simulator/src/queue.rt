@@ -4,7 +4,8 @@ ghost use Rattle.ringcore.specs.declared.world.event.Who.TheVariants.{Consumer, 
 ghost use Rattle.ringcore.specs.world.Trails.{trail_of};
 ghost use Rattle.ringcore.specs.machine.Open.{is_open};
 ghost use Rattle.ringcore.specs.machine.Faults.{has_sender};
-ghost use Rattle.ring.specs.NewRings.{IsNotMade, number_fault, made_with};
+ghost use Rattle.ringcore.specs.RingFaults.{IsNotMade, number_fault};
+ghost use Rattle.ring.specs.NewRings.{made_with};
 ghost use Rattle.ring.specs.table.Keeping.{RunStands};
 ghost use Rattle.ring.specs.Keepers.{IsIdleConsumer};
 ghost use Rattle.simulator.specs.queue.Seated.{ring_in, AreNew, IsIdle, KeepsConsumer};

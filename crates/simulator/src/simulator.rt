@@ -18,7 +18,8 @@ use batch::Batch;
 use caches::{CacheFault, Caches, Entry, Tag};
 use engine::{AckFault, Counts, Registers, Remedy, StepAnswer, Unit};
 use qindex::Control;
-use ring::{Cause, IdleConsumer, RingFault};
+use ring::{Cause, IdleConsumer};
+use ringcore::ring_geometry;
 use std::alloc::Global;
 use std::marker::Model;
 
@@ -54,20 +55,19 @@ impl Simulator {
         ensures numbers { IfOk result (λ simulator. shape_fault shape.now ≡ None) }
         ensures refused { IfErr result (λ fault. IsNotMade (shape_fault shape.now) fault) }
     {
-        if let Some(fault) = shape.fault() {
-            return Err(fault);
+        if let Err(fault) = ring_geometry(shape.log2, shape.senders, shape.max_batches) {
+            return Err(ShapeFault::Ring(fault));
         }
-        let caches = Caches::new(alloc, shape.capacity).unwrap();
+        let Ok(caches) = Caches::new(alloc, shape.capacity) else {
+            return Err(ShapeFault::Capacity);
+        };
         match Queue::new(alloc, shape.log2, shape.senders, shape.max_batches) {
             Ok((queue, consumer)) => Ok(Simulator {
                 queue,
                 consumer: Some(consumer),
                 unit: Unit::new(caches),
             }),
-            Err(RingFault::Memory(error)) => Err(ShapeFault::Memory(error)),
-            Err(RingFault::Size) => Err(ShapeFault::Size),
-            Err(RingFault::Senders) => Err(ShapeFault::Senders),
-            Err(RingFault::Batches) => Err(ShapeFault::Batches),
+            Err(fault) => Err(ShapeFault::Ring(fault)),
         }
     }
 

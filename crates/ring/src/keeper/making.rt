@@ -1,18 +1,17 @@
 //! A ring whose seats are all the keeper's from the start.
 ghost use Rattle.std.specs.Prelude.{◌≡◌, ◌≤◌, None, OnOk, IfOk, IfErr};
 ghost use Rattle.qindex.specs.Indexes.{IsGeometry};
-ghost use Rattle.ring.specs.NewRings.{IsNotMade, number_fault};
+ghost use Rattle.ringcore.specs.RingFaults.{IsNotMade, number_fault};
 ghost use Rattle.ring.specs.Keepers.{IsKept};
 
 use crate::consumer::{Commands, Lent};
 use crate::device::Device;
-use crate::fault::RingFault;
 use crate::keeper::{IdleConsumer, Keeper};
 use crate::ring::Ring;
 use crate::table::Parameters;
 use atomic_table::Table;
 use qindex::{Geometry, Index};
-use ringcore::{laws, words};
+use ringcore::{RingFault, laws, ring_geometry, words};
 use std::alloc::{AllocError, Global};
 
 impl Keeper {
@@ -30,15 +29,7 @@ impl Keeper {
         ensures made { IfOk result (λ r. IsKept log2 senders max_batches r.0 r.1 r.2) }
         ensures refused { IfErr result (λ fault. IsNotMade (number_fault log2 senders max_batches) fault) }
     {
-        let Some(geometry) = Geometry::new(log2) else {
-            return Err(RingFault::Size);
-        };
-        if senders < 1 || senders > 256 {
-            return Err(RingFault::Senders);
-        }
-        if max_batches == 0 {
-            return Err(RingFault::Batches);
-        }
+        let geometry = ring_geometry(log2, senders, max_batches)?;
         match Keeper::open(alloc, geometry, senders, max_batches) {
             Ok(parts) => Ok(parts),
             Err(error) => Err(RingFault::Memory(error)),
