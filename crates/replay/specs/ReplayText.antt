@@ -5,6 +5,7 @@ use Rattle.script.specs.Effects.{Effect, answers, faults}
 use Rattle.script.specs.Kinds as kinds
 use Rattle.script.specs.Kinds.{Kind}
 use Rattle.simulator.specs.Shapes.{shape_fault}
+use Rattle.ring.specs.table.Keeping.{RunStands}
 use Rattle.simulator.specs.State.{State}
 use Rattle.replay.specs.declared.request.Request.{Request}
 use Rattle.replay.specs.declared.request.Request.TheVariants as asks
@@ -37,9 +38,10 @@ first_served number asks.Nothing = record { text = []; state = None; goes_on = t
 first_served number (asks.Ring shape) = ring_or_fault number shape (shape_fault shape)
 first_served number request = faults number (codes "no ring") None
 
--- Memory may be wanting for a fill of a new tag that there is room for.
+-- Memory may be wanting for a fill of a new tag that there is room for. The events of each state are a run of the ring:
+-- with some words the ring stands as after them, and nobody but its senders and its consumer took a step.
 abbrev pub replays : Kind State Request
-replays = record { nothing = asks.Nothing; named = named; first_served = first_served; served = served }
+replays = record { nothing = asks.Nothing; named = named; first_served = first_served; served = served; holds = λ state. RunStands state.ring state.run }
 
 -- The answer to a script. Where memory is never wanting the choice is [].
 abbrev pub answer_to : List Bool → List ℕ → Answer

@@ -79,4 +79,8 @@ impl ScriptKind for Replay {
     ) -> Result<bool, AllocError> {
         serve_made(simulator, number, request, reply)
     }
+
+    fn holds(simulator: &Simulator) {
+        simulator.run_stands();
+    }
 }

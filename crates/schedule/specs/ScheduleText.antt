@@ -1,5 +1,5 @@
 -- The text that a schedule is answered with.
-use Rattle.std.specs.Prelude.{ℕ, List, [], ◌∷◌, Bool, true, Option, Some, None, codes}
+use Rattle.std.specs.Prelude.{ℕ, List, [], ◌∷◌, Bool, true, Option, Some, None, codes, ⊤}
 use Rattle.script.specs.Answers.{Answer}
 use Rattle.script.specs.Effects.{Effect, answers, faults}
 use Rattle.script.specs.Kinds as kinds
@@ -71,7 +71,7 @@ first_served number request = faults number (codes "no ring") None
 
 -- A schedule's requests don't look at whether memory runs out, so that a script has one answer.
 abbrev pub schedules : Kind State Request
-schedules = record { nothing = asks.Nothing; named = named; first_served = first_served; served = λ number wanting. served number }
+schedules = record { nothing = asks.Nothing; named = named; first_served = first_served; served = λ number wanting. served number; holds = λ state. ⊤ }
 
 -- what a line asks for; None is a bad line
 abbrev pub request_of : List ℕ → Option Request

@@ -143,4 +143,6 @@ impl ScriptKind for Schedule {
             | Request::Ask { .. } => serve_step(core, number, request, reply),
         }
     }
+
+    fn holds(_: &Core) {}
 }

@@ -1,12 +1,13 @@
 -- From what a line does to what it and the lines after it may come to.
 use Rattle.std.proofs.Common.{◌≡◌, ℕ, ◌+◌, Bool, true, false, cond, List, [], ◌∷◌, ◌++◌, length, refl, ap, sym, ◌∙◌, Option, Some, None, subst, codes}
-use Rattle.std.specs.Prelude.{nat_lt}
+use Rattle.std.specs.Prelude.{nat_lt, IfSome}
 use Rattle.script.specs.Outcome.{Continues, Ends}
 use Rattle.script.specs.Answers.{Answer, with_text, EndsAs}
 use Rattle.script.specs.Effects.{Effect, faults}
-use Rattle.script.specs.Kinds.{Kind, HasNoChoice, request_of, request_effect, asked_effect, line_effect, after_effect, first_choice, later_choice, answer_from}
+use Rattle.script.specs.Kinds.{Kind, HasNoChoice, request_of, request_effect, asked_effect, line_effect, after_effect, first_choice, later_choice, answer_from, AllHold}
 use Rattle.script.specs.Standing.{StandsAt, ActsAt}
-use Rattle.script.specs.Giving.{MayAnswer, MayGive, Answers}
+use Rattle.script.specs.declared.ending.Ending.{Ending}
+use Rattle.script.specs.Giving.{MayAnswer, MayGive, Answers, HeldThroughout, Holds}
 use Rattle.script.proofs.AnswerLemmas.{ends_front}
 use Rattle.script.proofs.MayLemmas.{Implies}
 
@@ -46,23 +47,39 @@ one_answer kind alike number choice state (line ∷ lines) =
     ap (λ e. after_effect e (λ left. answer_from kind (number + 1) (later_choice choice) left lines)) (line_alike kind alike number (first_choice choice) line state)
     ∙ ap (λ a. cond effect.goes_on (with_text effect.text a) (record { text = effect.text; is_good = false })) (one_answer kind alike (number + 1) (later_choice choice) effect.state lines)
 
+-- ---- what held
+
+held_on : {State Request : Type 0} → (kind : Kind State Request) (number : ℕ) (wanting : Bool) (choice : List Bool) (state : Option State) (line : List ℕ) (lines : List (List ℕ)) (ending : Option Ending)
+    → IfSome (line_effect kind number wanting line state).state kind.holds → HeldThroughout kind (number + 1) choice (line_effect kind number wanting line state).state lines ending
+    → HeldThroughout kind number (wanting ∷ choice) state (line ∷ lines) ending
+unfolding AllHold
+held_on kind number wanting choice state line lines None now later = tt
+held_on kind number wanting choice state line lines (Some ending) now later = λ on. (now, later)
+
+held_over : {State Request : Type 0} → (kind : Kind State Request) (number : ℕ) (wanting : Bool) (state : Option State) (line : List ℕ) (lines : List (List ℕ))
+    → (line_effect kind number wanting line state).goes_on ≡ false → AllHold kind number (wanting ∷ []) state (line ∷ lines)
+unfolding AllHold
+held_over kind number wanting state line lines off = λ on. let no : false ≡ true = sym off ∙ on in absurd cc
+
 -- ---- what is given
 
 module _ {Kept State Request : Type 0} (kind : Kind State Request) (Stands : Kept → State → Type 0) where
   pub continues : (old new : Option Kept) (number : ℕ) (line before after : List ℕ) (on : Bool) → ActsAt Stands (λ wanting state. line_effect kind number wanting line state) old new before after on
-      → on ≡ true → Continues (MayGive kind Stands old) (MayGive kind Stands new) number line before after
+      → Holds kind Stands new → on ≡ true → Continues (MayGive kind Stands old) (MayGive kind Stands new) number line before after
   unfolding answer_from
-  continues old new number line before after on acts is_on = record {
+  continues old new number line before after on acts held is_on = record {
     answer = acts.answer;
     text = acts.text;
     rest = λ lines outcome may state stands.
         let done = acts.produces state stands in
         let effect = line_effect kind number done.wanting line state in
-        let later = may effect.state (done.after is_on) in (
+        let stand = done.after is_on in
+        let later = may effect.state stand in (
           done.wanting ∷ later.0,
           subst (λ (a : Answer). EndsAs a (acts.answer ++ outcome.text) outcome.ending)
               (sym (goes_on effect (λ left. answer_from kind (number + 1) later.0 left lines) acts.answer done.text (done.ending ∙ is_on)))
               (ends_front acts.answer (answer_from kind (number + 1) later.0 effect.state lines) outcome.text outcome.ending later.1),
+          held_on kind number done.wanting later.0 state line lines outcome.ending (held effect.state stand) later.2,
         );
   }
 
@@ -74,7 +91,11 @@ module _ {Kept State Request : Type 0} (kind : Kind State Request) (Stands : Kep
     text = acts.text;
     rest = λ lines state stands.
         let done = acts.produces state stands in
-        (done.wanting ∷ [], is_over (line_effect kind number done.wanting line state) (λ left. answer_from kind (number + 1) [] left lines) acts.answer done.text (done.ending ∙ is_off));
+        let off = done.ending ∙ is_off in (
+          done.wanting ∷ [],
+          is_over (line_effect kind number done.wanting line state) (λ left. answer_from kind (number + 1) [] left lines) acts.answer done.text off,
+          held_over kind number done.wanting state line lines off,
+        );
   }
 
   -- What is given where no ring is made is what a script may come to.

@@ -1,5 +1,5 @@
 -- A kind of script: what its lines do one after another, and the text that such a script is answered with.
-use Rattle.std.specs.Prelude.{◌≡◌, ℕ, ◌+◌, nat_lt, List, [], ◌∷◌, Bool, true, false, Option, Some, None, length, codes, if◌then◌else◌}
+use Rattle.std.specs.Prelude.{◌≡◌, ℕ, ◌+◌, nat_lt, List, [], ◌∷◌, Bool, true, false, Option, Some, None, IfSome, ⊤, length, codes, if◌then◌else◌}
 use Rattle.std.specs.List.{list_all}
 use Rattle.script.specs.Words.{words_of}
 use Rattle.script.specs.Fields.{is_comment, is_printable}
@@ -9,12 +9,14 @@ use Rattle.script.specs.Effects.{Effect, faults}
 
 -- How things stand once the ring is made, and what a line may ask for: what one asks for that says nothing, what
 -- one asks for by its first word and the others (None is a bad line), and what a request does in the line of a
--- number: before the ring is made, and after, memory being wanting or not.
-pub record Kind (State Request : Type 0) : Type 0 where
+-- number: before the ring is made, and after, memory being wanting or not. And what holds of each state that a run comes
+-- to.
+pub record Kind (State Request : Type 0) : Type 1 where
   pub nothing : Request
   pub named : List ℕ → List (List ℕ) → Option Request
   pub first_served : ℕ → Request → Effect State
   pub served : ℕ → Bool → Request → State → Effect State
+  pub holds : State → Type 0
 
 -- ---- a line
 
@@ -60,6 +62,13 @@ unfoldable pub answer_from : {State Request : Type 0} → Kind State Request →
 answer_from kind number choice state [] = record { text = []; is_good = true }
 answer_from kind number choice state (line ∷ lines) =
     after_effect (line_effect kind number (first_choice choice) line state) (λ left. answer_from kind (number + 1) (later_choice choice) left lines)
+
+-- After each of these lines behind which the run goes on, the kind's `holds` holds.
+unfoldable pub AllHold : {State Request : Type 0} → Kind State Request → ℕ → List Bool → Option State → List (List ℕ) → Type 0
+AllHold kind number choice state [] = ⊤
+AllHold kind number choice state (line ∷ lines) =
+    let effect = line_effect kind number (first_choice choice) line state in
+    effect.goes_on ≡ true → IfSome effect.state kind.holds × AllHold kind (number + 1) (later_choice choice) effect.state lines
 
 -- The answer to a script. Where memory is never wanting the choice is [].
 abbrev pub answer_to : {State Request : Type 0} → Kind State Request → List Bool → List ℕ → Answer

@@ -48,4 +48,9 @@ pub trait ScriptKind {
         reply: &mut String,
     ) -> Result<bool, AllocError>
         ensures { IfOk result (λ goes_on. Acts stands (λ wanting. kind.served number wanting request.now) kept.old kept.new (string_bytes reply.old) (string_bytes reply.new) goes_on) };
+
+    /// A witness that what the kind says of each state that a run comes to (`holds`) holds of those that this stands for.
+    /// It does nothing.
+    fn holds(kept: &Self::Kept)
+        ensures { (state : State) → stands kept.now state → kind.holds state };
 }

@@ -1,6 +1,6 @@
 //! The lines of a script of any kind, one after another.
 ghost use Rattle.std.specs.Prelude.{◌≡◌, ◌≤◌, IfOk, None, length, string_bytes};
-ghost use Rattle.script.specs.Giving.{MayAnswer};
+ghost use Rattle.script.specs.Giving.{MayAnswer, Holds};
 ghost use Rattle.script.specs.Kinds.{request_from, request_of, request_effect, line_effect};
 ghost use Rattle.script.specs.Serves.{Serves};
 ghost use Rattle.script.specs.Standing.{ActsAt};
@@ -115,6 +115,17 @@ impl<K: ScriptKind> Session<K> {
     }
 }
 
+impl<K: ScriptKind> Session<K> {
+    /// A witness that what the kind says of each state holds of the one that is kept. It does nothing.
+    fn holds(&self)
+        ensures { Holds K.kind K.stands self.now.kept }
+    {
+        if let Some(kept) = &self.kept {
+            K::holds(kept);
+        }
+    }
+}
+
 impl<K: ScriptKind> Interpreter for Session<K> {
     ghost use Rattle.script.specs.Giving.{MayGive};
     ghost use Rattle.script.specs.GivingLaws as laws;
@@ -135,7 +146,9 @@ impl<K: ScriptKind> Interpreter for Session<K> {
         line: &[u8],
         reply: &mut String,
     ) -> Result<bool, AllocError> {
-        self.serve_text(number, line, reply)
+        let goes_on = self.serve_text(number, line, reply)?;
+        self.holds();
+        Ok(goes_on)
     }
 }
 

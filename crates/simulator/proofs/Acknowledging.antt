@@ -65,17 +65,8 @@ state_after (Err fault) remedy state = state
 stands_after : (queue : QueueValue) (unit new : UnitValue) (state : State) (remedy : Remedy) (r : Result ⊤ AckFault) → OnOk r (new ≡ record unit { stop = told remedy unit.stop })
     → OnErr r (new ≡ unit) → Stands (record { queue = queue; unit = unit }) state → Stands (record { queue = queue; unit = new }) (state_after r remedy state)
 stands_after queue unit new state remedy (Ok t) ok err s =
-    subst (λ (u : UnitValue). Stands (record { queue = queue; unit = u }) (state_after (Ok t) remedy state)) (sym ok) (record {
-      run = s.run;
-      geometry = s.geometry;
-      senders = s.senders;
-      max_batches = s.max_batches;
-      capacity = s.capacity;
-      entries = s.entries;
-      stop = ap (told remedy) s.stop;
-      counts = s.counts;
-    })
-stands_after queue unit new state remedy (Err fault) ok err s = subst (λ (u : UnitValue). Stands (record { queue = queue; unit = u }) state) (sym err) s
+    record { ring = s.ring; run = s.run; unit_is = ok ∙ ap (λ (u : UnitValue). record u { stop = told remedy u.stop }) s.unit_is }
+stands_after queue unit new state remedy (Err fault) ok err s = record { ring = s.ring; run = s.run; unit_is = err ∙ s.unit_is }
 
 ok_is_no_fault : (t : ⊤) (fault : AckFault) → Ok t ≡ Err fault → ⊥
 ok_is_no_fault t fault e = absurd cc
@@ -96,7 +87,7 @@ pub acknowledged_is : (queue : QueueValue) (unit new : UnitValue) (state : State
     → AckClauses gerrorn unit.stop r → OnOk r (new ≡ record unit { stop = told remedy unit.stop }) → OnErr r (new ≡ unit) → Stands (record { queue = queue; unit = unit }) state
     → (r ≡ (acknowledged gerrorn remedy state).answer) × Stands (record { queue = queue; unit = new }) (acknowledged gerrorn remedy state).state
 acknowledged_is queue unit new state gerrorn remedy r clauses ok err s =
-    let is = answer_is gerrorn remedy state r (subst (λ (stop : StopValue). AckClauses gerrorn stop r) s.stop clauses) in (
+    let is = answer_is gerrorn remedy state r (subst (λ (u : UnitValue). AckClauses gerrorn u.stop r) s.unit_is clauses) in (
       ap (λ (a : Answered (Result ⊤ AckFault)). a.answer) (sym is),
       subst (λ (a : Answered (Result ⊤ AckFault)). Stands (record { queue = queue; unit = new }) a.state) (sym is) (stands_after queue unit new state remedy r ok err s),
     )

@@ -15,6 +15,7 @@ use Rattle.ringcore.specs.declared.world.event.Half.TheVariants.{Lo, Hi}
 use Rattle.ringcore.specs.declared.world.event.Event.TheVariants.{Look, Test, Read, Advance, Acknowledge}
 use Rattle.ringcore.specs.world.Trails.{Trail, Run, trail_of}
 use Rattle.ringcore.specs.world.World.{Taken, World, world}
+use Rattle.ringcore.specs.world.Allowed.{Ring}
 use Rattle.ringcore.specs.world.Laws.{NeverMoreThanFull}
 use Rattle.caches.specs.Held.{Take, without_covered}
 use Rattle.ring.specs.Rings.{RingValue}
@@ -27,13 +28,13 @@ use Rattle.ring.specs.consumer.Completing.{completed as completed_by_ring, compl
 use Rattle.engine.specs.declared.answer.StepAnswer.{StepAnswer}
 use Rattle.engine.specs.declared.answer.StepAnswer.TheVariants.{Empty, Drained, Unwritten, Applied, Stopped, Replaced, StillStopped, Exhausted}
 use Rattle.engine.specs.declared.stop.Mode.{Mode}
-use Rattle.engine.specs.Stops.{StopValue, IsStopped, stopped_at, gone_on}
-use Rattle.engine.specs.Counting.{taken, counted_applied, counted_replaced}
+use Rattle.engine.specs.Stops.{IsStopped, stopped_at, gone_on}
+use Rattle.engine.specs.Counting.{CountsValue, taken, counted_applied, counted_replaced}
 use Rattle.engine.specs.Units.{UnitValue, IsApplied, IsStoppedAt, IsReplaced}
 use Rattle.engine.specs.Engines.{EngineValue, IsFirst, HasStepped}
 use Rattle.simulator.specs.queue.Heads as head
 use Rattle.simulator.specs.queue.Heads.{Head, head_of, head_taken, completed}
-use Rattle.simulator.specs.State.{State, Answered, entries, taken_so_far, removed_from, counts_of, counted}
+use Rattle.simulator.specs.State.{State, Answered, entries, taken_so_far, removed_from, counts_of, unit_of}
 use Rattle.simulator.specs.Seats.{with_run}
 use Rattle.simulator.specs.Steps.{found, illegal, judged, stepped, unchanged}
 use Rattle.simulator.specs.Standing.{StandFor, AreStepped}
@@ -55,20 +56,20 @@ others_stay old lent new lent_is is =
 abbrev found_state : State → State
 found_state state = with_run state (head_taken state.ring.geometry state.run)
 
-many_taken : (unit : UnitValue) (state : State) → unit.counts ≡ counted state.run state.history → taken unit.counts ≡ taken_so_far state
-many_taken unit state counts = ap taken counts ∙ all_counted (world state.run).taken state.history
+many_taken : (unit : UnitValue) (state : State) → unit ≡ unit_of state → taken unit.counts ≡ taken_so_far state
+many_taken unit state is = ap (λ (u : UnitValue). taken u.counts) is ∙ all_counted (world state.run).taken state.history
 
 finds : (keeper : KeeperValue) (unit : UnitValue) (state : State) (h : Head) → ¬ IsStopped unit.stop.mode → (taken unit.counts ≡ 2 ^ 46 → ⊥) → StandFor keeper unit state
     → head_of (world keeper.run) ≡ h → stepped state ≡ found h (found_state state)
 finds keeper unit state h no_stop more s is =
-    stepped_going state (λ at. no_stop (subst (λ (stop : StopValue). IsStopped stop.mode) (sym s.stop) at))
-    ∙ ap (λ b. cond b (unchanged Exhausted state) (at_head state)) (ne_eqb (taken_so_far state) (2 ^ 46) (λ all. more (many_taken unit state s.counts ∙ all)))
+    stepped_going state (λ at. no_stop (subst (λ (u : UnitValue). IsStopped u.stop.mode) (sym s.unit_is) at))
+    ∙ ap (λ b. cond b (unchanged Exhausted state) (at_head state)) (ne_eqb (taken_so_far state) (2 ^ 46) (λ all. more (many_taken unit state s.unit_is ∙ all)))
     ∙ ap (λ x. found x (found_state state)) (ap (λ (run : Run). head_of (world run)) (sym s.run) ∙ is)
 
 -- The run of a keeper that found this, and did as much more, by the state.
 run_after : (keeper : KeeperValue) (unit : UnitValue) (state : State) (h : Head) (more : Trail) (new : Run) → StandFor keeper unit state → HasFound keeper.ring.made_with keeper.run h more new
     → new ≡ run_by Consumer more ++ (found_state state).run
-run_after keeper unit state h more new s is = is.run_is ∙ ap₂ (λ (geometry : ℕ) (run : Run). run_by Consumer more ++ head_taken geometry run) s.geometry s.run
+run_after keeper unit state h more new s is = is.run_is ∙ ap₂ (λ (ring : Ring) (run : Run). run_by Consumer more ++ head_taken ring.geometry run) s.ring s.run
 
 taken_same : (state : State) → (world (found_state state).run).taken ≡ (world state.run).taken
 taken_same state = ap (λ (w : World). w.taken) (found_world (head_of (world state.run)) _)
@@ -83,65 +84,36 @@ module _ (old new : KeeperValue) (unit moved : UnitValue) (same_ring : new.ring 
   comes_to : (answer : StepAnswer) (state : State) (then : Answered StepAnswer) → stepped state ≡ then → ComesTo answer state then → (answer ≡ (stepped state).answer) × StandFor new moved (stepped state).state
   comes_to answer state then same is = subst (ComesTo answer state) (sym same) is
 
-  -- the numbers of the ring stay
   module _ (state : State) (s : StandFor old unit state) where
-    geometry_stays : new.ring.made_with.geometry ≡ state.ring.geometry
-    geometry_stays = ap (λ (r : RingValue). r.made_with.geometry) same_ring ∙ s.geometry
+    ring_stays : new.ring.made_with ≡ state.ring
+    ring_stays = ap (λ (r : RingValue). r.made_with) same_ring ∙ s.ring
 
-    senders_stay : new.ring.made_with.senders ≡ state.ring.senders
-    senders_stay = ap (λ (r : RingValue). r.made_with.senders) same_ring ∙ s.senders
+    -- Where the head was found nothing more is taken.
+    unit_found : unit ≡ unit_of (found_state state)
+    unit_found = s.unit_is ∙ ap (λ (list : List Taken). record (unit_of state) { counts = counts_of list state.history }) (sym (taken_same state))
 
-    batches_stay : new.ring.made_with.max_batches ≡ state.max_batches
-    batches_stay = ap (λ (r : RingValue). r.made_with.max_batches) same_ring ∙ s.max_batches
-
-    -- nothing is taken
     stands_found : new.run ≡ (found_state state).run → moved ≡ unit → StandFor new moved (found_state state)
-    stands_found run unit_is = record {
-      run = run;
-      geometry = geometry_stays;
-      senders = senders_stay;
-      max_batches = batches_stay;
-      capacity = ap (λ (u : UnitValue). u.caches.capacity) unit_is ∙ s.capacity;
-      entries = ap (λ (u : UnitValue). u.caches.entries) unit_is ∙ s.entries;
-      stop = ap (λ (u : UnitValue). u.stop) unit_is ∙ s.stop;
-      counts = ap (λ (u : UnitValue). u.counts) unit_is ∙ s.counts ∙ ap (λ (list : List Taken). counts_of list state.history) (sym (taken_same state));
-    }
+    stands_found run same = record { ring = ring_stays; run = run; unit_is = same ∙ unit_found }
 
     stands_still : new.run ≡ old.run → moved ≡ unit → StandFor new moved state
-    stands_still run unit_is = record {
-      run = run ∙ s.run;
-      geometry = geometry_stays;
-      senders = senders_stay;
-      max_batches = batches_stay;
-      capacity = ap (λ (u : UnitValue). u.caches.capacity) unit_is ∙ s.capacity;
-      entries = ap (λ (u : UnitValue). u.caches.entries) unit_is ∙ s.entries;
-      stop = ap (λ (u : UnitValue). u.stop) unit_is ∙ s.stop;
-      counts = ap (λ (u : UnitValue). u.counts) unit_is ∙ s.counts;
-    }
+    stands_still run same = record { ring = ring_stays; run = run ∙ s.run; unit_is = same ∙ s.unit_is }
 
     -- it is applied
     applied_is : (raw : Raw) (command : Command) (removed : ℕ) → IsApplied raw command removed unit moved → decoding raw ≡ Ok command → new.run ≡ completed raw (found_state state).run
         → ComesTo (Applied command removed) state (judged raw (decoding raw) (found_state state))
     applied_is raw command removed did decodes run =
         let list = (world (found_state state).run).taken in
-        let counts : unit.counts ≡ counts_of list state.history = s.counts ∙ ap (λ (list : List Taken). counts_of list state.history) (sym (taken_same state)) in
-        let counted_removed : removed ≡ removed_from command (entries state) =
-        removed_is removed _ _ did.removed_are ∙ ap (λ old. finite.len old - finite.len moved.caches.entries) s.entries
-        ∙ ap (λ left. finite.len (entries state) - finite.len left) (did.entries ∙ ap (without_covered command) s.entries) in
+        let held_before = ap (λ (u : UnitValue). u.caches.entries) unit_found in
+        let held_after = did.entries ∙ ap (without_covered command) held_before in
+        let capacity = did.capacity ∙ ap (λ (u : UnitValue). u.caches.capacity) unit_found in
+        let stop = did.stop ∙ ap (λ (u : UnitValue). gone_on u.stop) unit_found in
+        let counted_removed : removed ≡ removed_from command (entries state) = removed_is removed _ _ did.removed_are ∙ (λ k. finite.len (held_before k) - finite.len (held_after k)) in
+        let counts = did.counts ∙ (λ k. counted_applied raw (counted_removed k) (unit_found k).counts) ∙ sym (counts_after_applied list state.history raw command did.legal.legal)
+        ∙ ap (λ taken. counts_of taken (Take command ∷ state.history)) (sym (completed_taken raw (found_state state).run)) in
         let same = ap (λ (r : Result Command Ill). judged raw r (found_state state)) (sym decodes) in (
           ap (Applied command) counted_removed ∙ ap (λ (a : Answered StepAnswer). a.answer) same,
-          subst (λ (a : Answered StepAnswer). StandFor new moved a.state) same (record {
-            run = run;
-            geometry = geometry_stays;
-            senders = senders_stay;
-            max_batches = batches_stay;
-            capacity = did.capacity ∙ s.capacity;
-            entries = did.entries ∙ ap (without_covered command) s.entries;
-            stop = did.stop ∙ ap gone_on s.stop;
-            counts = did.counts ∙ ap (counted_applied raw removed) counts ∙ ap (λ n. counted_applied raw n (counts_of list state.history)) counted_removed
-                ∙ sym (counts_after_applied list state.history raw command did.legal.legal)
-                ∙ ap (λ taken. counts_of taken (Take command ∷ state.history)) (sym (completed_taken raw (found_state state).run));
-          }),
+          subst (λ (a : Answered StepAnswer). StandFor new moved a.state) same
+              (record { ring = ring_stays; run = run; unit_is = λ k. record { caches = record { capacity = capacity k; entries = held_after k }; stop = stop k; counts = counts k } }),
         )
 
     -- it is replaced
@@ -149,19 +121,14 @@ module _ (old new : KeeperValue) (unit moved : UnitValue) (same_ring : new.ring 
         → ComesTo (Replaced ill) state (judged raw (decoding raw) (found_state state))
     replaced_is raw ill did decodes run =
         let list = (world (found_state state).run).taken in
-        let counts : unit.counts ≡ counts_of list state.history = s.counts ∙ ap (λ (list : List Taken). counts_of list state.history) (sym (taken_same state)) in
-        let same = ap (λ (m : Mode). illegal raw ill m (found_state state)) (sym did.told ∙ ap (λ (stop : StopValue). stop.mode) s.stop) ∙ ap (λ (r : Result Command Ill). judged raw r (found_state state)) (sym decodes) in (
+        let counts = sym (counts_after_replaced list state.history raw ill did.first) ∙ ap (λ taken. counts_of taken state.history) (sym (completed_taken raw (found_state state).run)) in
+        let same = ap (λ (m : Mode). illegal raw ill m (found_state state)) (sym did.told ∙ ap (λ (u : UnitValue). u.stop.mode) s.unit_is) ∙ ap (λ (r : Result Command Ill). judged raw r (found_state state)) (sym decodes) in (
           ap (λ (a : Answered StepAnswer). a.answer) same,
           subst (λ (a : Answered StepAnswer). StandFor new moved a.state) same (record {
+            ring = ring_stays;
             run = run;
-            geometry = geometry_stays;
-            senders = senders_stay;
-            max_batches = batches_stay;
-            capacity = ap (λ (u : UnitValue). u.caches.capacity) did.new_is ∙ s.capacity;
-            entries = ap (λ (u : UnitValue). u.caches.entries) did.new_is ∙ s.entries;
-            stop = ap (λ (u : UnitValue). u.stop) did.new_is ∙ ap gone_on s.stop;
-            counts = ap (λ (u : UnitValue). u.counts) did.new_is ∙ ap (counted_replaced raw) counts ∙ sym (counts_after_replaced list state.history raw ill did.first)
-                ∙ ap (λ taken. counts_of taken state.history) (sym (completed_taken raw (found_state state).run));
+            unit_is = did.new_is ∙ ap (λ (u : UnitValue). record u { stop = gone_on u.stop; counts = counted_replaced raw u.counts }) unit_found
+                ∙ ap (λ (c : CountsValue). record (unit_of state) { stop = gone_on state.stop; counts = c }) counts;
           }),
         )
 
@@ -169,18 +136,10 @@ module _ (old new : KeeperValue) (unit moved : UnitValue) (same_ring : new.ring 
     stopped_is : (raw : Raw) (ill : Ill) → IsStoppedAt raw ill unit moved → decoding raw ≡ Err ill → new.run ≡ (found_state state).run
         → ComesTo (Stopped ill) state (judged raw (decoding raw) (found_state state))
     stopped_is raw ill did decodes run =
-        let same = ap (λ (m : Mode). illegal raw ill m (found_state state)) (sym did.running ∙ ap (λ (stop : StopValue). stop.mode) s.stop) ∙ ap (λ (r : Result Command Ill). judged raw r (found_state state)) (sym decodes) in (
+        let same = ap (λ (m : Mode). illegal raw ill m (found_state state)) (sym did.running ∙ ap (λ (u : UnitValue). u.stop.mode) s.unit_is) ∙ ap (λ (r : Result Command Ill). judged raw r (found_state state)) (sym decodes) in (
           ap (λ (a : Answered StepAnswer). a.answer) same,
-          subst (λ (a : Answered StepAnswer). StandFor new moved a.state) same (record {
-            run = run;
-            geometry = geometry_stays;
-            senders = senders_stay;
-            max_batches = batches_stay;
-            capacity = ap (λ (u : UnitValue). u.caches.capacity) did.new_is ∙ s.capacity;
-            entries = ap (λ (u : UnitValue). u.caches.entries) did.new_is ∙ s.entries;
-            stop = ap (λ (u : UnitValue). u.stop) did.new_is ∙ ap (stopped_at raw ill) s.stop;
-            counts = ap (λ (u : UnitValue). u.counts) did.new_is ∙ s.counts ∙ ap (λ (list : List Taken). counts_of list state.history) (sym (taken_same state));
-          }),
+          subst (λ (a : Answered StepAnswer). StandFor new moved a.state) same
+              (record { ring = ring_stays; run = run; unit_is = did.new_is ∙ ap (λ (u : UnitValue). record u { stop = stopped_at raw ill u.stop }) unit_found }),
         )
 
 -- ---- what the engine's step did
@@ -285,12 +244,12 @@ module _ (tells : IndexesTellTheQueue) (within : NeverMoreThanFull) (decoded : W
       (replaced_is old new unit moved same_ring state s raw ill did (faults raw ill did.first)
       (run_after old unit state (head.Ready raw) (completing raw) new.run s is ∙ completed_by_run raw (found_state state).run))
   engine_steps StillStopped did still exhausted state s =
-      let at : IsStopped state.stop.mode = subst (λ (stop : StopValue). IsStopped stop.mode) s.stop did.0 in
+      let at : IsStopped state.stop.mode = subst (λ (u : UnitValue). IsStopped u.stop.mode) s.unit_is did.0 in
       comes_to old new unit moved same_ring StillStopped state (unchanged StillStopped state) (stays_stopped state at)
       (refl, stands_still old new unit moved same_ring state s (ran_nothing (ap (λ (v : EngineValue). v.consumer) did.1)) (ap (λ (v : EngineValue). v.unit) did.1))
   engine_steps Exhausted did still exhausted state s =
       let at = exhausted.0 refl in
       comes_to old new unit moved same_ring Exhausted state (unchanged Exhausted state)
-      (stepped_going state (λ stop. at.0 (subst (λ (v : StopValue). IsStopped v.mode) (sym s.stop) stop))
-      ∙ ap (λ b. cond b (unchanged Exhausted state) (at_head state)) (eq-eqb (taken_so_far state) (2 ^ 46) (sym (many_taken unit state s.counts) ∙ at.1)))
+      (stepped_going state (λ stop. at.0 (subst (λ (u : UnitValue). IsStopped u.stop.mode) (sym s.unit_is) stop))
+      ∙ ap (λ b. cond b (unchanged Exhausted state) (at_head state)) (eq-eqb (taken_so_far state) (2 ^ 46) (sym (many_taken unit state s.unit_is) ∙ at.1)))
       (refl, stands_still old new unit moved same_ring state s (ran_nothing (ap (λ (v : EngineValue). v.consumer) did.1)) (ap (λ (v : EngineValue). v.unit) did.1))

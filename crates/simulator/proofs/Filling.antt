@@ -16,7 +16,7 @@ use Rattle.caches.specs.Held.{Fill, Evict}
 use Rattle.engine.specs.Counting.{taken}
 use Rattle.engine.specs.Units.{UnitValue, with_entries, filled as filled_in_unit}
 use Rattle.simulator.specs.queue.Seated.{QueueValue}
-use Rattle.simulator.specs.State.{State, Answered, entries, taken_so_far}
+use Rattle.simulator.specs.State.{State, Answered, entries, taken_so_far, unit_of}
 use Rattle.simulator.specs.Fills.{with_item, fill_fault, filled_unless, filled}
 use Rattle.simulator.specs.Standing.{Stands}
 use Rattle.simulator.proofs.Counts.{all_counted}
@@ -114,17 +114,11 @@ fill_accepted state tag r was clauses e = no_fault state tag (finite.get (entrie
 
 pub after_evict : (queue : QueueValue) (unit new : UnitValue) (state : State) (tag : Tag) → new ≡ with_entries unit (finite.remove unit.caches.entries tag)
     → Stands (record { queue = queue; unit = unit }) state → Stands (record { queue = queue; unit = new }) (with_item (Evict tag) state)
-after_evict queue unit new state tag e s =
-    subst (λ (u : UnitValue). Stands (record { queue = queue; unit = u }) (with_item (Evict tag) state)) (sym e) (record {
-      run = s.run;
-      geometry = s.geometry;
-      senders = s.senders;
-      max_batches = s.max_batches;
-      capacity = s.capacity;
-      entries = ap (λ held. finite.remove held tag) s.entries;
-      stop = s.stop;
-      counts = s.counts;
-    })
+after_evict queue unit new state tag e s = record {
+  ring = s.ring;
+  run = s.run;
+  unit_is = e ∙ ap (λ (u : UnitValue). with_entries u (finite.remove u.caches.entries tag)) s.unit_is;
+}
 
 -- the entry that is put in, by the state
 abbrev born_now : State → Tag → ℕ → Entry
@@ -132,24 +126,16 @@ born_now state tag value = record { tag = tag; value = value; born = taken_so_fa
 
 after_fill : (queue : QueueValue) (unit new : UnitValue) (state : State) (tag : Tag) (value : ℕ) → new ≡ with_entries unit (filled_in_unit tag value unit)
     → Stands (record { queue = queue; unit = unit }) state → Stands (record { queue = queue; unit = new }) (with_item (Fill (born_now state tag value)) state)
-after_fill queue unit new state tag value e s =
-    let born = ap taken s.counts ∙ all_counted (world state.run).taken state.history in
-    subst (λ (u : UnitValue). Stands (record { queue = queue; unit = u }) (with_item (Fill (born_now state tag value)) state)) (sym e) (record {
-      run = s.run;
-      geometry = s.geometry;
-      senders = s.senders;
-      max_batches = s.max_batches;
-      capacity = s.capacity;
-      entries = ap (λ held. finite.insert held tag (record { tag = tag; value = value; born = taken unit.counts })) s.entries
-          ∙ ap (λ n. finite.insert (entries state) tag (record { tag = tag; value = value; born = n })) born;
-      stop = s.stop;
-      counts = s.counts;
-    })
+after_fill queue unit new state tag value e s = record {
+  ring = s.ring;
+  run = s.run;
+  unit_is = e ∙ ap (λ (u : UnitValue). with_entries u (filled_in_unit tag value u)) s.unit_is
+      ∙ ap (λ n. with_entries (unit_of state) (finite.insert (entries state) tag (record { tag = tag; value = value; born = n }))) (all_counted (world state.run).taken state.history);
+}
 
-clauses_at : (unit : UnitValue) (state : State) (tag : Tag) (r : Result (Option Entry) CacheFault) → unit.caches.entries ≡ entries state → unit.caches.capacity ≡ state.capacity
+clauses_at : (unit : UnitValue) (state : State) (tag : Tag) (r : Result (Option Entry) CacheFault) → unit ≡ unit_of state
     → FillClauses unit.caches.entries unit.caches.capacity tag r → FillClauses (entries state) state.capacity tag r
-clauses_at unit state tag r e c clauses =
-    subst (λ n. FillClauses (entries state) n tag r) c (subst (λ held. FillClauses held unit.caches.capacity tag r) e clauses)
+clauses_at unit state tag r e clauses = subst (λ (u : UnitValue). FillClauses u.caches.entries u.caches.capacity tag r) e clauses
 
 pub filled_is : (queue : QueueValue) (unit new : UnitValue) (state : State) (tag : Tag) (value : ℕ) (r : Result (Option Entry) CacheFault)
     → FillClauses unit.caches.entries unit.caches.capacity tag r → IfOk r (λ was. was ≡ finite.get unit.caches.entries tag)
@@ -157,17 +143,17 @@ pub filled_is : (queue : QueueValue) (unit new : UnitValue) (state : State) (tag
     → (wanting : Bool) × (r ≡ (filled wanting tag value state).answer) × Stands (record { queue = queue; unit = new }) (filled wanting tag value state).state
 unfolding filled
 filled_is queue unit new state tag value (Ok was) clauses is ok err s =
-    let none = fill_accepted state tag (Ok was) was (clauses_at unit state tag (Ok was) s.entries s.capacity clauses) refl in
+    let none = fill_accepted state tag (Ok was) was (clauses_at unit state tag (Ok was) s.unit_is clauses) refl in
     let same = ap (λ fault. filled_unless fault tag value state) none in (
       false,
-      ap Ok (is ∙ ap (λ held. finite.get held tag) s.entries) ∙ ap (λ (a : Answered (Result (Option Entry) CacheFault)). a.answer) (sym same),
+      ap Ok (is ∙ ap (λ (u : UnitValue). finite.get u.caches.entries tag) s.unit_is) ∙ ap (λ (a : Answered (Result (Option Entry) CacheFault)). a.answer) (sym same),
       subst (λ (a : Answered (Result (Option Entry) CacheFault)). Stands (record { queue = queue; unit = new }) a.state) (sym same) (after_fill queue unit new state tag value ok s),
     )
 filled_is queue unit new state tag value (Err fault) clauses is ok err s =
-    let refused = fill_refused state tag (Err fault) fault (clauses_at unit state tag (Err fault) s.entries s.capacity clauses) refl in
+    let refused = fill_refused state tag (Err fault) fault (clauses_at unit state tag (Err fault) s.unit_is clauses) refl in
     let same = ap (λ f. filled_unless f tag value state) refused.1 in (
       refused.0,
       ap (λ (a : Answered (Result (Option Entry) CacheFault)). a.answer) (sym same),
       subst (λ (a : Answered (Result (Option Entry) CacheFault)). Stands (record { queue = queue; unit = new }) a.state) (sym same)
-          (subst (λ (u : UnitValue). Stands (record { queue = queue; unit = u }) state) (sym err) s),
+          (record { ring = s.ring; run = s.run; unit_is = err ∙ s.unit_is }),
     )

@@ -11,7 +11,7 @@ use Rattle.ring.specs.Keepers.{KeeperValue}
 use Rattle.engine.specs.Units.{UnitValue}
 use Rattle.simulator.specs.queue.Reserving.{cause_ahead, cause_seen, unless_seen, unless_ahead, try_to_reserve}
 use Rattle.simulator.specs.queue.Publishing.{written, flipped, first_flags, published}
-use Rattle.simulator.specs.State.{State, counts_of}
+use Rattle.simulator.specs.State.{State, counts_of, unit_of}
 use Rattle.simulator.specs.Seats.{with_run}
 use Rattle.simulator.specs.Standing.{StandFor}
 
@@ -33,33 +33,6 @@ pub try_takes_none : (ring : Ring) (max_batches s : ℕ) (body : List Raw) (clos
 unfolding try_to_reserve
 try_takes_none ring max_batches s body closes run =
     ahead_takes_none ring s body closes run (cause_ahead ring max_batches (trail_of (Sender s) run) (length_with closes body))
-
--- Of a ring a try reads the geometry alone.
-abbrev bare : ℕ → Ring
-bare geometry = record { geometry = geometry; senders = 0; max_batches = 0; flags = 64 }
-
-seen_bare : (ring : Ring) (s : ℕ) (body : List Raw) (closes : Bool) (run : Run) (cause : Option Cause)
-    → unless_seen ring s body closes run cause ≡ unless_seen (bare ring.geometry) s body closes run cause
-seen_bare ring s body closes run (Some cause) = refl
-seen_bare ring s body closes run None = refl
-
-ahead_bare : (ring : Ring) (s : ℕ) (body : List Raw) (closes : Bool) (run : Run) (cause : Option Cause)
-    → unless_ahead ring s body closes run cause ≡ unless_ahead (bare ring.geometry) s body closes run cause
-ahead_bare ring s body closes run (Some cause) = refl
-ahead_bare ring s body closes run None = seen_bare ring s body closes run (cause_seen ring (world run) (length_with closes body))
-
-try_bare : (ring : Ring) (max_batches s : ℕ) (body : List Raw) (closes : Bool) (run : Run)
-    → try_to_reserve ring max_batches s body closes run ≡ try_to_reserve (bare ring.geometry) max_batches s body closes run
-unfolding try_to_reserve
-try_bare ring max_batches s body closes run =
-    ahead_bare ring s body closes run (cause_ahead ring max_batches (trail_of (Sender s) run) (length_with closes body))
-
-pub same_try : (ring other : Ring) (max_batches many s : ℕ) (body : List Raw) (closes : Bool) (run now : Run) → ring.geometry ≡ other.geometry → max_batches ≡ many → run ≡ now
-    → try_to_reserve ring max_batches s body closes run ≡ try_to_reserve other many s body closes now
-same_try ring other max_batches many s body closes run now geometry batches runs =
-    try_bare ring max_batches s body closes run
-    ∙ (λ k. try_to_reserve (bare (geometry k)) (batches k) s body closes (runs k))
-    ∙ sym (try_bare other many s body closes now)
 
 -- ---- publish
 
@@ -84,12 +57,7 @@ published_takes_none geometry s run =
 pub stands_after : (old new : KeeperValue) (unit : UnitValue) (state : State) (run : Run) → new.ring ≡ old.ring → new.run ≡ run → TakesNone state.run run → StandFor old unit state
     → StandFor new unit (with_run state run)
 stands_after old new unit state run ring is none s = record {
+  ring = ap (λ (r : RingValue). r.made_with) ring ∙ s.ring;
   run = is;
-  geometry = ap (λ (r : RingValue). r.made_with.geometry) ring ∙ s.geometry;
-  senders = ap (λ (r : RingValue). r.made_with.senders) ring ∙ s.senders;
-  max_batches = ap (λ (r : RingValue). r.made_with.max_batches) ring ∙ s.max_batches;
-  capacity = s.capacity;
-  entries = s.entries;
-  stop = s.stop;
-  counts = s.counts ∙ sym (ap (λ (taken : List Taken). counts_of taken state.history) none);
+  unit_is = s.unit_is ∙ sym (ap (λ (taken : List Taken). record (unit_of state) { counts = counts_of taken state.history }) none);
 }

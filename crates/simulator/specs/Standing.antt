@@ -3,29 +3,23 @@ use Rattle.std.specs.Prelude.{◌≡◌, ℕ, Bool, Option, Some, None}
 use Rattle.ringcore.specs.declared.world.event.Who.TheVariants.{Sender}
 use Rattle.ringcore.specs.world.Trails.{trail_of}
 use Rattle.ringcore.specs.machine.Open.{is_open}
-use Rattle.caches.specs.Held.{held}
 use Rattle.ring.specs.Keepers.{KeeperValue, IdleConsumerValue, IsIdleConsumer, own_consumer}
 use Rattle.engine.specs.declared.answer.StepAnswer.{StepAnswer}
 use Rattle.engine.specs.Units.{UnitValue}
 use Rattle.engine.specs.Engines.{AreTogether}
 use Rattle.simulator.specs.queue.Seated.{QueueValue}
-use Rattle.simulator.specs.State.{State, Answered, counted}
+use Rattle.simulator.specs.State.{State, Answered, unit_of}
 use Rattle.simulator.specs.Steps.{stepped}
 
 pub record SimulatorValue : Type 0 where
   pub queue : QueueValue
   pub unit : UnitValue
 
--- The run is the keeper's, and so are the numbers of its ring; the caches, the stop and the counts are the unit's.
+-- The ring and the run are the keeper's, all else is the unit's.
 pub record StandFor (keeper : KeeperValue) (unit : UnitValue) (state : State) : Type 0 where
+  pub ring : keeper.ring.made_with ≡ state.ring
   pub run : keeper.run ≡ state.run
-  pub geometry : keeper.ring.made_with.geometry ≡ state.ring.geometry
-  pub senders : keeper.ring.made_with.senders ≡ state.ring.senders
-  pub max_batches : keeper.ring.made_with.max_batches ≡ state.max_batches
-  pub capacity : unit.caches.capacity ≡ state.capacity
-  pub entries : unit.caches.entries ≡ held state.history
-  pub stop : unit.stop ≡ state.stop
-  pub counts : unit.counts ≡ counted state.run state.history
+  pub unit_is : unit ≡ unit_of state
 
 abbrev pub Stands : SimulatorValue → State → Type 0
 Stands simulator state = StandFor simulator.queue.keeper simulator.unit state

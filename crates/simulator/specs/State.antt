@@ -10,18 +10,18 @@ use Rattle.ringcore.specs.declared.world.event.Outcome.TheVariants.{Applied, Rep
 use Rattle.ringcore.specs.world.Trails.{Trail, Run, trail_of}
 use Rattle.ringcore.specs.world.World.{Taken, tail, head, world}
 use Rattle.ringcore.specs.world.Allowed.{Ring}
-use Rattle.ringcore.specs.machine.Core.{ring_with}
 use Rattle.caches.specs.Held.{Entries, History, Fill, Evict, Take, held, without_covered}
 use Rattle.engine.specs.declared.answer.Registers.{Registers}
 use Rattle.engine.specs.Stops.{StopValue, unstopped, err_of, word_of}
 use Rattle.engine.specs.Counting.{CountsValue}
+use Rattle.engine.specs.Units.{UnitValue}
+use Rattle.ring.specs.NewRings.{made_with}
 use Rattle.simulator.specs.declared.shape.Shape.{Shape}
 
--- The ring, how many batches each of its senders may reserve, and how many entries the caches may hold; all that
--- happened to the ring, the newest first, and to the caches; and how the stop at an illegal command stands.
+-- The ring, and how many entries the caches may hold; all that happened to the ring, the newest first, and to the caches;
+-- and how the stop at an illegal command stands.
 pub record State : Type 0 where
   pub ring : Ring
-  pub max_batches : ℕ
   pub capacity : ℕ
   pub run : Run
   pub history : History
@@ -30,8 +30,7 @@ pub record State : Type 0 where
 -- before anything happened
 abbrev pub made : Shape → State
 made shape = record {
-  ring = ring_with shape.log2 shape.senders;
-  max_batches = shape.max_batches;
+  ring = made_with shape.log2 shape.senders shape.max_batches;
   capacity = shape.capacity;
   run = [];
   history = [];
@@ -81,6 +80,14 @@ counts_of taken history = record {
 
 abbrev pub counted : Run → History → CountsValue
 counted run history = counts_of (world run).taken history
+
+-- the unit: its caches, its stop and its counts
+abbrev pub unit_of : State → UnitValue
+unit_of state = record {
+  caches = record { capacity = state.capacity; entries = entries state };
+  stop = state.stop;
+  counts = counted state.run state.history;
+}
 
 -- the queue's registers
 abbrev pub registers : State → Registers

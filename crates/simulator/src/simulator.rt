@@ -74,7 +74,7 @@ impl Simulator {
     /// A witness that the run of whatever state it stands for is a run of the ring: with some words the ring stands as
     /// after it, and nobody but the ring's senders and its consumer took a step. It does nothing.
     pub fn run_stands(&self)
-        ensures { Tells self.now (λ state. RunStands (ring_in self.now.queue) state.run) }
+        ensures { Tells self.now (λ state. RunStands state.ring state.run) }
     {
         self.queue.run_stands();
     }

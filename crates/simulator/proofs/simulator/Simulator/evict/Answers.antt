@@ -18,6 +18,6 @@ invariant_of-self c =
 pub returns : goal.returns
 returns c state stands =
     let s = subst (λ (m : SimulatorValue). Stands m state) (sym c.self.view_is) stands in (
-      c.evict.ensures.was ∙ ap (λ e. finite.get e c.args.tag.now) s.entries,
+      c.evict.ensures.was ∙ ap (λ (u : UnitValue). finite.get u.caches.entries c.args.tag.now) s.unit_is,
       after_evict c.self.inside.queue c.self.inside.unit c.evict.new.self state c.args.tag.now c.evict.ensures.new s,
     )

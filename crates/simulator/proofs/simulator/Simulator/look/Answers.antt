@@ -1,5 +1,6 @@
-use Rattle.std.proofs.Common.{refl, ap₂, sym, ◌∙◌, subst, ℕ}
+use Rattle.std.proofs.Common.{refl, ap₂, sym, ◌∙◌, subst}
 use Rattle.ringcore.specs.declared.world.event.Who.TheVariants.{Sender}
+use Rattle.ringcore.specs.world.Allowed.{Ring}
 use Rattle.ringcore.specs.world.Trails.{Run}
 use Rattle.ringcore.specs.world.World.{world, control}
 use Rattle.simulator.specs.queue.Reserving.{looked_by}
@@ -13,7 +14,7 @@ use Rattle.simulator.proofs.simulator.Simulator.look.Goals as goal
 after : (c : goal.After-look) (state : State) → StandFor c.self.inside.queue.keeper c.self.inside.unit state → StandFor c.look.new.self.keeper c.self.inside.unit (looked c.args.sender state).state
 after c state s =
     stands_after c.self.inside.queue.keeper c.look.new.self.keeper c.self.inside.unit state _ c.look.ensures.ring
-    (c.look.ensures.run ∙ ap₂ (λ (geometry : ℕ) (run : Run). looked_by (Sender c.args.sender) geometry run) s.geometry s.run) refl s
+    (c.look.ensures.run ∙ ap₂ (λ (ring : Ring) (run : Run). looked_by (Sender c.args.sender) ring.geometry run) s.ring s.run) refl s
 
 pub invariant_of-self : goal.invariant_of-self
 invariant_of-self c = let is = c.self.invariant in after_call c.self.inside.queue c.look.new.self c.self.inside.consumer c.self.inside.unit _ c.look.ensures.consumer c.look.ensures.trail is (after c is.state is.stands)
@@ -21,4 +22,4 @@ invariant_of-self c = let is = c.self.invariant in after_call c.self.inside.queu
 pub returns : goal.returns
 returns c state stands =
     let s = subst (λ (m : SimulatorValue). Stands m state) (sym c.self.view_is) stands in
-    (c.look.ensures.found ∙ ap₂ (λ (geometry : ℕ) (run : Run). control geometry (world run)) s.geometry s.run, after c state s)
+    (c.look.ensures.found ∙ ap₂ (λ (ring : Ring) (run : Run). control ring.geometry (world run)) s.ring s.run, after c state s)

@@ -1,9 +1,8 @@
 use Rattle.std.proofs.Common.{◌≡◌, [], ap, ◌∙◌, subst}
 use Rattle.std.specs.Result.{IfOk}
-use Rattle.ringcore.specs.world.Allowed.{Ring}
 use Rattle.caches.specs.Stored.{Stored}
 use Rattle.caches.specs.Held.{held}
-use Rattle.engine.specs.Units.{UnitValue}
+use Rattle.engine.specs.Units.{new_unit}
 use Rattle.simulator.specs.State.{made}
 use Rattle.simulator.proofs.Together.{together_first}
 use Rattle.simulator.proofs.simulator.Simulator.new.Goals as goal
@@ -16,13 +15,8 @@ invariant_of-result c =
       together = together_first c.in-Ok.queue.keeper c.new-in-Ok.result _ c.in-Ok.ensures.run unit c.new-in-Ok.ensures.settled;
       state = made c.args.shape.now;
       stands = record {
+        ring = c.in-Ok.ensures.ring;
         run = c.in-Ok.ensures.run;
-        geometry = ap (λ (ring : Ring). ring.geometry) c.in-Ok.ensures.ring;
-        senders = ap (λ (ring : Ring). ring.senders) c.in-Ok.ensures.ring;
-        max_batches = ap (λ (ring : Ring). ring.max_batches) c.in-Ok.ensures.ring;
-        capacity = ap (λ (u : UnitValue). u.caches.capacity) unit ∙ caches.0;
-        entries = ap (λ (u : UnitValue). u.caches.entries) unit ∙ caches.1;
-        stop = ap (λ (u : UnitValue). u.stop) unit;
-        counts = ap (λ (u : UnitValue). u.counts) unit;
+        unit_is = unit ∙ (λ k. new_unit (record { capacity = caches.0 k; entries = caches.1 k }));
       };
     }

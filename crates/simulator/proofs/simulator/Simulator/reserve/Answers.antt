@@ -1,6 +1,7 @@
-use Rattle.std.proofs.Common.{◌≡◌, ap, refl, sym, ◌∙◌, subst, true, Result, Ok, Err}
+use Rattle.std.proofs.Common.{◌≡◌, ap, ap₂, refl, sym, ◌∙◌, subst, true, Result, Ok, Err}
 use Rattle.std.specs.Result.{OnOk}
 use Rattle.ringcore.specs.declared.world.event.Who.TheVariants.{Sender}
+use Rattle.ringcore.specs.world.Allowed.{Ring}
 use Rattle.ringcore.specs.world.Trails.{Run, trail_of}
 use Rattle.ringcore.specs.machine.Open.{is_open}
 use Rattle.ring.specs.declared.sender.cause.Cause.{Cause}
@@ -10,21 +11,21 @@ use Rattle.simulator.specs.queue.Seated.{ring_in}
 use Rattle.simulator.specs.State.{State}
 use Rattle.simulator.specs.Seats.{reserved}
 use Rattle.simulator.specs.Standing.{SimulatorValue, StandFor, Stands, HasOpen}
-use Rattle.simulator.proofs.Standings.{try_takes_none, same_try, stands_after}
+use Rattle.simulator.proofs.Standings.{try_takes_none, stands_after}
 use Rattle.simulator.proofs.Opening.{try_is_open}
 use Rattle.simulator.proofs.Together.{after_call}
 use Rattle.simulator.proofs.simulator.Simulator.reserve.Goals as goal
 
 same : (c : goal.After-reserve) (state : State) → StandFor c.self.inside.queue.keeper c.self.inside.unit state
     → try_to_reserve (ring_in c.self.inside.queue) (ring_in c.self.inside.queue).max_batches c.args.sender c.args.batch c.args.closes c.self.inside.queue.keeper.run
-    ≡ try_to_reserve state.ring state.max_batches c.args.sender c.args.batch c.args.closes state.run
-same c state s = same_try (ring_in c.self.inside.queue) state.ring _ _ c.args.sender c.args.batch c.args.closes _ _ s.geometry s.max_batches s.run
+    ≡ try_to_reserve state.ring state.ring.max_batches c.args.sender c.args.batch c.args.closes state.run
+same c state s = ap₂ (λ (ring : Ring) (run : Run). try_to_reserve ring ring.max_batches c.args.sender c.args.batch c.args.closes run) s.ring s.run
 
 after : (c : goal.After-reserve) (state : State) → StandFor c.self.inside.queue.keeper c.self.inside.unit state
     → StandFor c.reserve.new.self.keeper c.self.inside.unit (reserved c.args.sender c.args.batch c.args.closes state).state
 after c state s =
     stands_after c.self.inside.queue.keeper c.reserve.new.self.keeper c.self.inside.unit state _ c.reserve.ensures.ring
-    (c.reserve.ensures.run ∙ ap (λ (t : Try). t.run) (same c state s)) (try_takes_none state.ring state.max_batches c.args.sender c.args.batch c.args.closes state.run) s
+    (c.reserve.ensures.run ∙ ap (λ (t : Try). t.run) (same c state s)) (try_takes_none state.ring state.ring.max_batches c.args.sender c.args.batch c.args.closes state.run) s
 
 pub invariant_of-self : goal.invariant_of-self
 invariant_of-self c = let is = c.self.invariant in after_call c.self.inside.queue c.reserve.new.self c.self.inside.consumer c.self.inside.unit _ c.reserve.ensures.consumer c.reserve.ensures.trail is (after c is.state is.stands)
