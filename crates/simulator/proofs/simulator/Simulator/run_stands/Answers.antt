@@ -1,6 +1,5 @@
 use Rattle.std.proofs.Common.{sym, subst}
 use Rattle.ringcore.specs.world.Allowed.{Ring}
-use Rattle.ringcore.specs.world.Trails.{Run}
 use Rattle.ring.specs.table.Keeping.{RunStands}
 use Rattle.simulator.specs.Standing.{SimulatorValue, Stands}
 use Rattle.simulator.proofs.simulator.Simulator.run_stands.Goals as goal
