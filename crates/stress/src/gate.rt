@@ -17,9 +17,9 @@ pub trait Gate {
 pub struct NoGate;
 
 impl Gate for NoGate {
-    fn before(&self, _sender: u32, _batch: u32) {}
+    fn before(&self, _: u32, _: u32) {}
 
-    fn after(&self, _sender: u32, _batch: u32, _receipt: Option<&Receipt>) {}
+    fn after(&self, _: u32, _: u32, _: Option<&Receipt>) {}
 
-    fn turn(&self, _turn: u32) {}
+    fn turn(&self, _: u32) {}
 }
