@@ -2,9 +2,9 @@
 use Rattle.std.proofs.Common.{◌≡◌, ℕ, ◌+◌, ◌<◌, ◌≤◌, Bool, true, false, not, ◌&&◌, inl, inr, Option, Some, None, refl, sym, ◌∙◌, ap, subst, arith}
 use Rattle.std.specs.declared.cmp.Ordering.{Ordering}
 use Rattle.std.specs.declared.cmp.Ordering.TheVariants.{Less, Equal, Greater}
-use Rattle.std.specs.declared.ops.Bound.TheVariants.{Included, Excluded}
-use Rattle.std.specs.Ordering.{nat_cmp, ordering_then, is_le}
-use Rattle.std.specs.Cmp.{IsTotalOrder, ranked}
+use Rattle.std.specs.declared.ops.Bound.TheVariants.{Included, Excluded, Unbounded}
+use Rattle.std.specs.Ordering.{nat_cmp, ordering_then, ordering_reverse, is_le, is_lt}
+use Rattle.std.specs.Cmp.{IsTotalOrder, ranked, tied_itself}
 use Rattle.std.specs.BTreeMap.Range.{range_contains}
 use Rattle.std.proofs.lemmas.Bool.{cases_lt}
 use Rattle.std.proofs.lemmas.Map.Lookups.{exact_unsigned}
@@ -103,7 +103,7 @@ cmp_more a b h =
       | Greater ↦ λ e. refl
     ] refl
 
-cmp_same : (a b : ℕ) → a ≡ b → nat_cmp a b ≡ Equal
+pub cmp_same : (a b : ℕ) → a ≡ b → nat_cmp a b ≡ Equal
 cmp_same a b h =
     elim (nat_cmp a b) as (λ r. r ≡ nat_cmp a b → r ≡ Equal) [
       | Less ↦ λ e. let f : a < b = ranked a b Less e in absurd (omega arith)
@@ -129,6 +129,22 @@ between : (a b : Bool) → a ≡ true → b ≡ false → (a && not b) ≡ true
 between true b p q = ap not q
 between false b p q = cc
 
+first_true : (a b : Bool) → (a && b) ≡ true → a ≡ true
+first_true true b e = refl
+first_true false b e = e
+
+behind_both : (r s : Ordering) → s ≡ ordering_reverse r → is_lt r ≡ true → is_le s ≡ true → ⊥
+behind_both Less s e l h = let f : false ≡ true = sym (ap is_le e) ∙ h in cc
+behind_both Equal s e l h = cc
+behind_both Greater s e l h = cc
+
+second_true : (a b : Bool) → (a && b) ≡ true → b ≡ true
+second_true true b e = e
+second_true false b e = cc
+
+pub le_itself : (k : Key) → is_le (key_cmp k k) ≡ true
+le_itself k = ap is_le (tied_itself key_total k)
+
 low : (x : Option ℕ) → is_le (some_cmp None x) ≡ true
 low None = refl
 low (Some x) = refl
@@ -152,6 +168,9 @@ in_pages w first end (Endpoint v p n c) o a b =
     let e : Device v ≡ w = cc in
     subst (λ w. range_contains key_cmp (Included (least w first 0)) (Excluded (least w end 0)) (Endpoint v p n c) ≡ true) e
     (between _ _ (le_then v v _ (omega arith) (le_then first p _ a (le_then 0 n _ (omega arith) (low c)))) (same_then v v _ refl (more_then end p _ b)))
+
+pub up_to_page : (w : Owner) (end : ℕ) (k : Key) → owner_of k ≡ Some w → page_of k < end → range_contains key_cmp Unbounded (Excluded (least w end 0)) k ≡ true
+up_to_page w end k o b = second_true _ _ (in_pages w 0 end k o (omega arith) b)
 
 -- blocks that begin at a page, of a span or longer
 pub in_start : (w : Owner) (page span : ℕ) (k : Key) → owner_of k ≡ Some w → page_of k ≡ page → span ≤ span_of k → range_contains key_cmp (Included (least w page span)) (Excluded (least w (page + 1) 0)) k ≡ true
@@ -238,3 +257,10 @@ pub owner_of-least : (w : Owner) (page span : ℕ) → owner_of (least w page sp
 owner_of-least (Guest v) page span = refl
 owner_of-least Host page span = refl
 owner_of-least (Device s) page span = refl
+
+-- an owner's keys are not before its least
+pub from_least : (w : Owner) (k : Key) → owner_of k ≡ Some w → is_le (key_cmp (least w 0 0) k) ≡ true
+from_least w k o = first_true _ _ (in_pages w 0 (page_of k + 1) k o (omega arith) (omega arith))
+
+pub not_below_least : (w : Owner) (k : Key) → is_lt (key_cmp k (least w 0 0)) ≡ true → owner_of k ≡ Some w → ⊥
+not_below_least w k below o = behind_both (key_cmp k (least w 0 0)) (key_cmp (least w 0 0) k) (key_total.antisymm (least w 0 0) k) below (from_least w k o)

@@ -12,6 +12,8 @@ ghost use Rattle.caches.specs.Puts.{IsPut};
 use crate::fault::CacheFault;
 use crate::key::Key;
 use crate::ranges::remove_all_covered;
+use crate::rank::Rank;
+use crate::spans::Spans;
 use crate::tag::{Entry, Tag};
 use cmdcodec::Command;
 use std::alloc::Global;
@@ -23,7 +25,9 @@ use std::marker::Model;
 pub struct Caches {
     alloc: Global,
     capacity: u32,
-    map: BTreeMap<Key, Entry>,
+    map: BTreeMap<Rank, Entry>,
+    /// Those of the blocks in the map, and of blocks that were in it.
+    spans: Spans,
 }
 
 impl Model for Caches {
@@ -56,6 +60,7 @@ impl Caches {
             alloc,
             capacity,
             map: BTreeMap::new(alloc),
+            spans: Spans::none(),
         })
     }
 
@@ -64,7 +69,7 @@ impl Caches {
         ensures value { result ≡ finite.get self.now.entries tag.now }
         ensures own { IfSome result (λ entry. entry.tag ≡ tag.now) }
     {
-        self.map.get(&Key::of(tag)).copied()
+        self.map.get(&Rank::of(tag)).copied()
     }
 
     /// How many entries are held.
@@ -103,7 +108,7 @@ impl Caches {
         ensures held { (h : History) → self.old.entries ≡ held h → self.new.entries ≡ held (Take command.now ∷ h) }
     {
         let before = self.len();
-        remove_all_covered(&mut self.map, command);
+        remove_all_covered(&mut self.map, &self.spans, command);
         (before - self.len()) as u32
     }
 
@@ -114,7 +119,7 @@ impl Caches {
         ensures capacity { self.new.capacity ≡ self.old.capacity }
         ensures held { (h : History) → self.old.entries ≡ held h → self.new.entries ≡ held (Evict tag.now ∷ h) }
     {
-        self.map.remove(&Key::of(tag))
+        self.map.remove(&Rank::of(tag))
     }
 
     /// Puts an entry in, and answers the one of its tag that was held before.
@@ -148,7 +153,9 @@ impl Caches {
         ensures put { IsFilled self.old.entries entry self.new.entries result }
         ensures capacity { self.new.capacity ≡ self.old.capacity }
     {
-        put_entry(&mut self.map, Key::of(&entry.tag), entry)
+        let key = Key::of(&entry.tag);
+        self.spans.add(key.span());
+        put_entry(&mut self.map, Rank::at(key), entry)
     }
 }
 
@@ -166,11 +173,11 @@ fn sort_by_tag(list: &mut Vec<Entry>)
 
 /// Puts an entry into the map under this key.
 fn put_entry(
-    map: &mut BTreeMap<Key, Entry>,
-    key: Key,
+    map: &mut BTreeMap<Rank, Entry>,
+    key: Rank,
     entry: Entry,
 ) -> Result<Option<Entry>, CacheFault>
-    ensures { IsPut ⟦<Key as Ord>⟧.cmp map.old key entry map.new result }
+    ensures { IsPut ⟦<Rank as Ord>⟧.cmp map.old key entry map.new result }
 {
     match map.insert(key, entry) {
         Ok(was) => Ok(was),
