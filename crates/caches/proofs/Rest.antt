@@ -9,12 +9,13 @@ use Rattle.std.specs.List.{AllByRecursion, filter}
 use Rattle.std.specs.List.Sorted.{IsStrictlySortedBy}
 use Rattle.std.specs.Map.{keys_of, lookup}
 use Rattle.std.specs.BTreeMap.{BTreeMap, get, is_at, IsOrdered}
-use Rattle.std.specs.BTreeMap.Range.{range_contains, entries_between, IsEntryInRange, IsLeBy}
+use Rattle.std.specs.BTreeMap.Range.{range_contains, entries_between, IsEntryInRange}
 use Rattle.std.proofs.lemmas.List.Elements.{All-head, All-tail}
 use Rattle.std.proofs.lemmas.List.Kept.{IsStrictlySortedBy-filter}
 use Rattle.std.proofs.lemmas.Map.Entries.{lookup-filter-keys}
 use Rattle.std.proofs.lemmas.Map.Keys.{sorted_head, sorted_tail}
 use Rattle.std.proofs.lemmas.Map.Views.{range_contains-from_IsInRange}
+use Rattle.caches.specs.Sweep.{IsNextKey}
 
 -- the keys that pass a test, of the entries that pass it
 keys_filter : {K X : Type 0} (t : K → Bool) (es : List (K × X)) → keys_of (filter (λ e. t e.0) es) ≡ filter t (keys_of es)
@@ -67,20 +68,20 @@ module _ {K X : Type 0} (R : K → K → Ordering) (p : K → Bool) (m : BTreeMa
       | false ↦ λ at more. behind k q t h.1 more
     ] refl s
 
-    pub rest_found : (e : K × X) (t : List (K × X)) → IsRest (e ∷ t) → p e.0 ≡ true
-        → (range_contains R lo hi e.0 ≡ true) × (p e.0 ≡ true) × IsSome (get R m e.0) × ((q : K) → range_contains R lo hi q ≡ true → p q ≡ true → IsSome (get R m q) → IsLeBy R e.0 q)
+    pub rest_found : (e : K × X) (t : List (K × X)) → IsRest (e ∷ t) → p e.0 ≡ true → IsNextKey R p m lo hi e.0
     rest_found e t h passed =
-        let here = All-head (IsEntryInRange R lo hi m) e t h.among in (
-          range_contains-from_IsInRange o lo hi e.0 here.0,
-          passed,
-          subst (λ x. IsSome x) (sym here.1) refl,
-          λ q inside passes some.
+        let here = All-head (IsEntryInRange R lo hi m) e t h.among in
+        record {
+          within = range_contains-from_IsInRange o lo hi e.0 here.0;
+          passes = passed;
+          there = subst (λ x. IsSome x) (sym here.1) refl;
+          least = λ q inside passes some.
               let there : IsSome (lookup (is_at (R q)) (e ∷ t)) = subst (λ x. IsSome x) (h.left q inside passes) some in
               elim (is_at (R q) e.0) as (λ b. is_at (R q) e.0 ≡ b → IsSome (cond b (Some e.1) (lookup (is_at (R q)) t)) → is_gt (R e.0 q) ≡ false) [
                 | true ↦ λ at _. ap is_gt (o.antisymm e.0 q ∙ ap ordering_reverse (at_is _ at))
                 | false ↦ λ at more. ap is_gt (behind e.0 q t (sorted_head R e.0 (keys_of t) h.sorted) more)
-              ] refl there,
-        )
+              ] refl there;
+        }
 
     pub rest_none : IsRest [] → (q : K) → range_contains R lo hi q ≡ true → p q ≡ true → get R m q ≡ None
     rest_none h q inside passes = h.left q inside passes

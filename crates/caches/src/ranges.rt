@@ -231,38 +231,24 @@ pub(crate) fn remove_all_covered(map: &mut BTreeMap<Rank, Entry>, spans: &Spans,
         return;
     }
     match *command {
-        Command::CfgiSte { sid, .. } => sweep_streams(map, one_stream(sid), command),
+        Command::CfgiSte { sid, .. } | Command::CfgiCd { sid, .. } | Command::CfgiCdAll { sid } =>
+            sweep_streams(map, one_stream(sid), command),
         Command::CfgiSteRange { sid, range } => {
             let streams = aligned(u64::from(sid.get()), range.get() + 1);
             sweep_streams(map, streams, command)
         }
-        Command::CfgiCd { sid, .. } => sweep_streams(map, one_stream(sid), command),
-        Command::CfgiCdAll { sid } => sweep_streams(map, one_stream(sid), command),
-        Command::TlbiNhAll { vmid } => sweep_owner(map, Owner::Guest(vmid.get()), command),
-        Command::TlbiNhAsid { vmid, .. } => sweep_owner(map, Owner::Guest(vmid.get()), command),
-        Command::TlbiNhVa { vmid, .. } => sweep_address(
-            map,
-            spans,
-            Owner::Guest(vmid.get()),
-            command,
-        ),
-        Command::TlbiNhVaa { vmid, .. } => sweep_address(
-            map,
-            spans,
-            Owner::Guest(vmid.get()),
-            command,
-        ),
-        Command::TlbiEl2All => sweep_owner(map, Owner::Host, command),
-        Command::TlbiEl2Asid { .. } => sweep_owner(map, Owner::Host, command),
-        Command::TlbiEl2Va { .. } => sweep_address(map, spans, Owner::Host, command),
-        Command::TlbiEl2Vaa { .. } => sweep_address(map, spans, Owner::Host, command),
-        Command::TlbiS12Vmall { vmid } => sweep_owner(map, Owner::Guest(vmid.get()), command),
-        Command::TlbiS2Ipa { vmid, .. } => sweep_address(
-            map,
-            spans,
-            Owner::Guest(vmid.get()),
-            command,
-        ),
+        Command::TlbiNhAll { vmid }
+        | Command::TlbiNhAsid { vmid, .. }
+        | Command::TlbiS12Vmall { vmid } => sweep_owner(map, Owner::Guest(vmid.get()), command),
+        Command::TlbiNhVa { vmid, .. }
+        | Command::TlbiNhVaa { vmid, .. }
+        | Command::TlbiS2Ipa { vmid, .. } => {
+            sweep_address(map, spans, Owner::Guest(vmid.get()), command)
+        }
+        Command::TlbiEl2All | Command::TlbiEl2Asid { .. } => sweep_owner(map, Owner::Host, command),
+        Command::TlbiEl2Va { .. } | Command::TlbiEl2Vaa { .. } => {
+            sweep_address(map, spans, Owner::Host, command)
+        }
         Command::TlbiNsnhAll => sweep_machines(map, command),
         Command::AtcInv {
             sid,

@@ -23,7 +23,7 @@ loop-key-init c = record {
 
 pub loop-key-smaller : goal.loop-key-smaller
 loop-key-smaller c =
-    let falls = left_falls key_total c.loop-key.from (Excluded c.args.end) c.in-Some.key (tied_itself key_total c.in-Some.key) key_exact c.in-Some.ensures.0 c.loop-key.map.entries c.in-Some.ensures.2 in
+    let falls = left_falls key_total c.loop-key.from (Excluded c.args.end) c.in-Some.key (tied_itself key_total c.in-Some.key) key_exact c.in-Some.ensures.within c.loop-key.map.entries c.in-Some.ensures.there in
     rw c.remove.ensures.entries (omega (arith, falls, without_one (is_at (key_cmp c.in-Some.key)) (range_contains key_cmp (Excluded c.in-Some.key) (Excluded c.args.end)) c.loop-key.map.entries))
 
 pub loop-key-preserved : goal.loop-key-preserved
@@ -32,10 +32,10 @@ loop-key-preserved c =
     let f = λ (q : Key). tree.get key_cmp c.loop-key.map q in
     let old = λ (q : Key). tree.get key_cmp c.args.map.now q in
     record {
-      kept = swept_more key_total p (Included c.args.first) (Excluded c.args.end) old c.loop-key.from c.in-Some.key f (λ (q : Key). tree.get key_cmp c.remove.new.self q) c.loop-key.invariant.kept c.in-Some.ensures.0 c.in-Some.ensures.3 c.loop-key.invariant.starts
-          (after_yes key_cmp p c.in-Some.key f _ c.in-Some.ensures.1 c.remove.ensures.updates.0) key_exact;
-      forward = before_end key_total c.loop-key.from (Excluded c.args.end) c.in-Some.key c.in-Some.ensures.0;
-      starts = starts_more key_total c.loop-key.from (Included c.args.first) (Excluded c.args.end) c.in-Some.key c.loop-key.invariant.starts c.in-Some.ensures.0;
+      kept = swept_more key_total p (Included c.args.first) (Excluded c.args.end) old c.loop-key.from c.in-Some.key f (λ (q : Key). tree.get key_cmp c.remove.new.self q) c.loop-key.invariant.kept c.in-Some.ensures.within c.in-Some.ensures.least c.loop-key.invariant.starts
+          (after_yes key_cmp p c.in-Some.key f _ c.in-Some.ensures.passes c.remove.ensures.updates.0) key_exact;
+      forward = before_end key_total c.loop-key.from (Excluded c.args.end) c.in-Some.key c.in-Some.ensures.within;
+      starts = starts_more key_total c.loop-key.from (Included c.args.first) (Excluded c.args.end) c.in-Some.key c.loop-key.invariant.starts c.in-Some.ensures.within;
     }
 
 pub returns : goal.returns
