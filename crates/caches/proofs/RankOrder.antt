@@ -12,7 +12,7 @@ use Rattle.caches.specs.declared.key.Key.{Key}
 use Rattle.caches.specs.declared.key.Key.TheVariants.{Configuration, Machine, Hypervisor, Endpoint}
 use Rattle.caches.specs.Keys.{page_of, span_of}
 use Rattle.caches.specs.Ranks.{kind_of, id_of, part_of, option_number, stage_number, owner_number, number_of, key_from, key_at, IsRoomy, IsRank}
-use Rattle.caches.proofs.KeyOrder.{key_cmp, stage_cmp, some_cmp, cmp_more, cmp_same}
+use Rattle.caches.proofs.KeyOrder.{key_cmp, stage_cmp, some_cmp, cmp_less, cmp_same, cmp_more}
 
 -- ---- a number is cut into the parts of its key
 abbrev upper : Key → ℕ
@@ -78,29 +78,19 @@ page_in n h =
     ap (λ x. x / 2 ^ 22 / 2 ^ 8 % 2 ^ 64) (sym h.same) ∙ ap (λ x. x / 2 ^ 8 % 2 ^ 64) c.low ∙ ap (λ x. x % 2 ^ 64) c.above ∙ c.page
 
 -- ---- the order
-cmp_less : (a b : ℕ) → a < b → nat_cmp a b ≡ Less
-cmp_less a b h =
-    elim (nat_cmp a b) as (λ r. r ≡ nat_cmp a b → r ≡ Less) [
-      | Less ↦ λ e. refl
-      | Equal ↦ λ e. let f : a ≡ b = ranked a b Equal e in absurd (omega arith)
-      | Greater ↦ λ e. let f : b < a = ranked a b Greater e in absurd (omega arith)
+same_cmp : (a b c d : ℕ) → (a < b → c < d) → (a ≡ b → c ≡ d) → (b < a → d < c) → nat_cmp c d ≡ nat_cmp a b
+same_cmp a b c d less same more =
+    elim (nat_cmp a b) as (λ r. r ≡ nat_cmp a b → nat_cmp c d ≡ r) [
+      | Less ↦ λ e. cmp_less c d (less (ranked a b Less e))
+      | Equal ↦ λ e. cmp_same c d (same (ranked a b Equal e))
+      | Greater ↦ λ e. cmp_more c d (more (ranked a b Greater e))
     ] refl
 
 cmp_add : (x b d : ℕ) → nat_cmp (x + b) (x + d) ≡ nat_cmp b d
-cmp_add x b d =
-    elim (nat_cmp b d) as (λ r. r ≡ nat_cmp b d → nat_cmp (x + b) (x + d) ≡ r) [
-      | Less ↦ λ e. let f : b < d = ranked b d Less e in cmp_less (x + b) (x + d) (omega arith)
-      | Equal ↦ λ e. let f : b ≡ d = ranked b d Equal e in cmp_same (x + b) (x + d) (omega arith)
-      | Greater ↦ λ e. let f : d < b = ranked b d Greater e in cmp_more (x + b) (x + d) (omega arith)
-    ] refl
+cmp_add x b d = same_cmp b d (x + b) (x + d) (λ h. omega arith) (λ h. omega arith) (λ h. omega arith)
 
 cmp_suc : (b d : ℕ) → nat_cmp (suc b) (suc d) ≡ nat_cmp b d
-cmp_suc b d =
-    elim (nat_cmp b d) as (λ r. r ≡ nat_cmp b d → nat_cmp (suc b) (suc d) ≡ r) [
-      | Less ↦ λ e. let f : b < d = ranked b d Less e in cmp_less (suc b) (suc d) (omega arith)
-      | Equal ↦ λ e. let f : b ≡ d = ranked b d Equal e in cmp_same (suc b) (suc d) (omega arith)
-      | Greater ↦ λ e. let f : d < b = ranked b d Greater e in cmp_more (suc b) (suc d) (omega arith)
-    ] refl
+cmp_suc b d = same_cmp b d (suc b) (suc d) (λ h. omega arith) (λ h. omega arith) (λ h. omega arith)
 
 carried : (m a b c d : ℕ) → a < c → b < m → a * m + b < c * m + d
 carried m a b c d f p =

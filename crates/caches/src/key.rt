@@ -6,6 +6,9 @@ ghost use Rattle.caches.specs.Ranks.{id_of, option_number, owner_number, part_of
 use crate::rank::Rank;
 use crate::tag::{Scope, Tag};
 
+/// How many streams, or virtual machines, there is room for in an owner's number.
+const IDS: u64 = 1 << 32;
+
 /// Which stage of a virtual machine's translation; of stage 1 also the address space, `None` for all.
 #[derive(Clone, Copy, PartialEq, Eq, PartialOrd, Ord, Debug)]
 pub(crate) enum Stage {
@@ -142,9 +145,9 @@ impl Key {
     {
         match *self {
             Key::Configuration { sid, .. } => u64::from(sid),
-            Key::Machine { vmid, .. } => 0x1_0000_0000 + u64::from(vmid),
-            Key::Hypervisor { .. } => 0x2_0000_0000,
-            Key::Endpoint { sid, .. } => 0x3_0000_0000 + u64::from(sid),
+            Key::Machine { vmid, .. } => IDS + u64::from(vmid),
+            Key::Hypervisor { .. } => 2 * IDS,
+            Key::Endpoint { sid, .. } => 3 * IDS + u64::from(sid),
         }
     }
 

@@ -11,6 +11,15 @@ use crate::tag::Tag;
 use std::cmp::Ordering;
 use std::marker::Model;
 
+/// How many pages there is room for in a rank.
+const PAGES: u128 = 1 << 64;
+
+/// How many spans there is room for beside each page.
+const SPANS: u128 = 1 << 8;
+
+/// How many substreams, or stages with their address spaces, there is room for beside each span.
+const PARTS: u128 = 1 << 22;
+
 /// A key as one number, so that two are compared at once. It is seen as the key.
 #[derive(Clone, Copy)]
 pub(crate) struct Rank {
@@ -82,7 +91,7 @@ impl Rank {
         let span = u128::from(key.span());
         let part = u128::from(key.part());
         Rank {
-            number: ((owner * 0x1_0000_0000_0000_0000 + page) * 0x100 + span) * 0x40_0000 + part,
+            number: ((owner * PAGES + page) * SPANS + span) * PARTS + part,
         }
     }
 
@@ -98,6 +107,6 @@ impl Rank {
     pub(crate) fn page(&self) -> u64
         ensures { result ≡ page_of self.now }
     {
-        (self.number / 0x40_0000 / 0x100 % 0x1_0000_0000_0000_0000) as u64
+        (self.number / PARTS / SPANS % PAGES) as u64
     }
 }
