@@ -1,12 +1,12 @@
 //! The caches: each entry in one ordered map.
-ghost use Rattle.std.specs.Prelude.{◌≡◌, ◌+◌, ◌<◌, ◌≤◌, ◌↔◌, All, IfOk, IfSome, OnOk, OnErr, Err, None, Some, [], ◌∷◌};
+ghost use Rattle.std.specs.Prelude.{◌≡◌, ◌+◌, ◌<◌, ◌≤◌, ◌↔◌, IfOk, IfSome, OnOk, OnErr, Err, None, [], ◌∷◌};
 ghost use Rattle.std.specs.FinMap as finite;
 ghost use Rattle.std.specs.List.Sorted.{IsPermutation, IsSortedByKey};
 ghost use Rattle.caches.specs.TagOrder.{tag_cmp, numbers};
 ghost use Rattle.caches.specs.declared.tag.Entry.{Entry};
 ghost use Rattle.caches.specs.Blocks.{IsBlock};
 ghost use Rattle.caches.specs.Held.{without_covered, held, History, Fill, Evict, Take};
-ghost use Rattle.caches.specs.Stored.{IsFilled};
+ghost use Rattle.caches.specs.Stored.{IsFilled, IsFillAnswer, IsListAnswer};
 ghost use Rattle.caches.specs.Puts.{IsPut};
 
 use crate::fault::CacheFault;
@@ -85,10 +85,7 @@ impl Caches {
     ///
     /// Errors: C3 when out of memory, and no other.
     pub fn entries(&self) -> Result<Vec<Entry>, CacheFault>
-        ensures ok { IfOk result (λ list. list.items ≡ finite.values self.now.entries) }
-        // Each stands under its own tag.
-        ensures own { IfOk result (λ list. All (λ entry. finite.get self.now.entries entry.tag ≡ Some entry) list.items) }
-        ensures err { OnErr result (result ≡ Err CacheFault.NoMemory) }
+        ensures { IsListAnswer self.now.entries result }
     {
         match self.map.values().copied().collect::<Vec<Entry>>(self.alloc) {
             Ok(mut list) => {
@@ -127,14 +124,10 @@ impl Caches {
     /// Errors, in this order, which leave the caches as they were: C2 where its block isn't well formed;
     /// C1 where its tag is new and the caches are full; C3 when out of memory, where its tag is new.
     pub fn fill(&mut self, entry: Entry) -> Result<Option<Entry>, CacheFault>
-        ensures was { IfOk result (λ was. was ≡ finite.get self.old.entries entry.tag) }
+        ensures answer { IsFillAnswer self.old entry.tag result }
         ensures after { OnOk result (self.new.entries ≡ finite.insert self.old.entries entry.tag entry) }
         ensures err { OnErr result (self.new.entries ≡ self.old.entries) }
         ensures capacity { self.new.capacity ≡ self.old.capacity }
-        ensures bad { (result ≡ Err CacheFault.BadBlock) ↔ ¬ IsBlock entry.tag }
-        ensures full { (result ≡ Err CacheFault.Full) ↔ (IsBlock entry.tag × (finite.get self.old.entries entry.tag ≡ None) × (finite.len self.old.entries ≡ self.old.capacity)) }
-        ensures named { ¬ (result ≡ Err CacheFault.BadCapacity) }
-        ensures new_only { result ≡ Err CacheFault.NoMemory → finite.get self.old.entries entry.tag ≡ None }
         ensures held { OnOk result ((h : History) → self.old.entries ≡ held h → self.new.entries ≡ held (Fill entry ∷ h)) }
     {
         if !entry.tag.is_block() {
