@@ -1,18 +1,18 @@
 -- What is covered and begins ahead of a page, as the spans rise.
-use Rattle.std.proofs.Common.{◌≡◌, ℕ, ◌+◌, ◌-◌, ◌%◌, ◌^◌, ◌<◌, ◌≤◌, Bool, true, cond, inl, inr, Option, Some, None, sym, ◌∙◌, arith}
+use Rattle.std.proofs.Common.{◌≡◌, ℕ, ◌+◌, ◌-◌, ◌%◌, ◌^◌, ◌<◌, ◌≤◌, ◌≢◌, Bool, true, inl, inr, Option, Some, None, sym, ◌∙◌, ap, arith}
 use Rattle.std.specs.Option.{MatchOption}
-use Rattle.std.specs.declared.ops.Bound.TheVariants.{Included, Excluded}
 use Rattle.std.specs.BTreeMap.{BTreeMap, get}
 use Rattle.std.proofs.lemmas.Bool.{cases_lt}
 use Rattle.caches.specs.declared.tag.Entry.{Entry}
 use Rattle.caches.specs.declared.key.Key.{Key}
 use Rattle.caches.specs.declared.key.Owner.{Owner}
-use Rattle.caches.specs.Keys.{owner_of, page_of, span_of, least}
-use Rattle.caches.specs.Sweep.{IsKeeping, IsLastPage, is_swept}
+use Rattle.caches.specs.Keys.{owner_of, page_of, span_of}
+use Rattle.caches.specs.Sweep.{IsKeeping, IsLastPage, IsPruned}
 use Rattle.caches.proofs.Aligned.{aligned_start, start_falls}
 use Rattle.caches.proofs.FirstInRange.{is_some_at}
-use Rattle.caches.proofs.KeyOrder.{key_cmp, in_start}
-use Rattle.caches.proofs.Pruned.{aligned_key, none_comes, none_unless, some_was}
+use Rattle.caches.proofs.KeyOrder.{key_cmp}
+use Rattle.caches.proofs.Sweeping.{none_of}
+use Rattle.caches.proofs.Pruned.{aligned_key, none_pruned, none_unless}
 
 module _ (p : Key → Bool) (w : Owner) (page : ℕ) where
   -- nothing is left of a span below this one
@@ -52,19 +52,35 @@ module _ (p : Key → Bool) (w : Owner) (page : ℕ) where
           let c = below q e covered before there in
           absurd (omega arith))
 
-      -- what a sweep of the blocks that begin there leaves
-      pub below_start : (first end : Key) → first ≡ least w start span → end ≡ least w (start + 1) 0 → (m n : BTreeMap Key Entry) → IsKeeping key_cmp n → AreGone m span
-          → ((q : Key) → get key_cmp n q ≡ cond (is_swept key_cmp p (Included first) (Excluded end) q) None (get key_cmp m q)) → AreBelow n start
-      below_start first end f g m n keeping gone after q e covered before there =
+      -- nor where no block has that span
+      pub gone_unused : (m : BTreeMap Key Entry) → AreGone m span → ((q : Key) → span_of q ≡ span → get key_cmp m q ≡ None) → AreGone m (span + 1)
+      gone_unused m gone unused q h covered before = elim (cases_lt (span_of q) span) as (λ _. get key_cmp m q ≡ None) [
+        | inl less ↦ gone q less covered before
+        | inr more ↦ unused q (omega arith)
+      ]
+
+      -- what is left begins before a page at which none is left of this span or a longer one
+      pub below_start : (m n : BTreeMap Key Entry) → IsKeeping key_cmp n → AreGone m span → IsPruned key_cmp p m n
+          → ((q : Key) → p q ≡ true → owner_of q ≡ Some w → page_of q ≡ start → span ≤ span_of q → get key_cmp n q ≡ None) → AreBelow n start
+      below_start m n keeping gone pruned clean q e covered before there =
           let a : page - page % 2 ^ span_of q ≡ page_of q = starts_at n keeping q e covered before there in
-          let was : get key_cmp m q ≡ Some e = some_was (is_swept key_cmp p (Included first) (Excluded end) q) (get key_cmp m q) e (sym (after q) ∙ there) in
           elim (cases_lt (span_of q) span) as (λ _. page_of q < start) [
-            | inl less ↦ let h : None ≡ Some e = sym (gone q less covered before) ∙ was in cc
+            | inl less ↦ let h : None ≡ Some e = sym (none_pruned key_cmp p m n pruned q (gone q less covered before)) ∙ there in cc
             | inr more ↦ elim (cases_lt (page_of q) start) as (λ _. page_of q < start) [
               | inl below ↦ below
               | inr at ↦
                   let b : page - page % 2 ^ span_of q ≤ page - page % 2 ^ span = start_falls page span (span_of q) more in
-                  let h : None ≡ Some e = sym (none_comes key_cmp p (Included first) (Excluded end) m n after q covered (rw (f, g) (in_start w start span q (reach q covered).0 (omega arith) more))) ∙ there in
+                  let here : page_of q ≡ start = omega arith in
+                  let h : None ≡ Some e = sym (clean q covered (reach q covered).0 here more) ∙ there in
                   cc
             ]
           ]
+
+-- the last page up to a page that isn't that page is the last before it, and nothing begins there
+pub last_passes : (m : BTreeMap Key Entry) (w : Owner) (start : ℕ) (found : Option ℕ) → IsLastPage key_cmp m w (start + 1) found → (found ≡ Some start → ⊥)
+    → IsLastPage key_cmp m w start found × ((q : Key) → owner_of q ≡ Some w → page_of q ≡ start → get key_cmp m q ≡ None)
+last_passes m w start None is other = (λ q o before. is q o (omega arith), λ q o at. is q o (omega arith))
+last_passes m w start (Some last) is other =
+    let apart : last ≢ start = λ e. other (ap Some e) in
+    let below : last < start + 1 = is.0 in
+    ((omega arith, is.1, λ q o before some. is.2 q o (omega arith) some), λ q o at. none_of (get key_cmp m q) (λ some. let h : page_of q ≤ last = is.2 q o (omega arith) some in apart (omega arith)))

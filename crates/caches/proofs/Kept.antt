@@ -21,7 +21,8 @@ use Rattle.caches.specs.declared.fault.CacheFault.{CacheFault}
 use Rattle.caches.specs.declared.caches.Caches.TheInside.{Inside}
 use Rattle.caches.specs.Blocks.{IsBlock}
 use Rattle.caches.specs.Covers.{covers}
-use Rattle.caches.specs.Keys.{key_of, page_of, covers_key, IsKept}
+use Rattle.caches.specs.Keys.{key_of, page_of, span_of, covers_key, IsKept}
+use Rattle.caches.specs.Spanned.{IsSpanOf}
 use Rattle.caches.specs.TagOrder.{tag_cmp, tag_cmp_total, tag_cmp_exact}
 use Rattle.caches.specs.Held.{Entries, without_covered}
 use Rattle.caches.specs.Stored.{Stored, IsFilled}
@@ -70,9 +71,12 @@ some_within : {X : Type 0} (b : Bool) (o : Option X) → IsSome (cond b None o) 
 some_within true o h = cc
 some_within false o h = h
 
+spans_same : (a b : Inside) (n : ℕ) → b.spans ≡ a.spans → IsSpanOf a.spans n → IsSpanOf b.spans n
+spans_same a b n same h = subst (λ s. IsSpanOf s n) (sym same) h
+
 -- what some test takes away leaves caches
-less_are : (a b : Inside) → b.capacity ≡ a.capacity → AreCaches a → (p : Tag → Bool) → ((t : Tag) → finite.get (stored b).entries t ≡ cond (p t) None (finite.get (stored a).entries t)) → AreCaches b
-less_are a b same h p less =
+less_are : (a b : Inside) → b.capacity ≡ a.capacity → b.spans ≡ a.spans → AreCaches a → (p : Tag → Bool) → ((t : Tag) → finite.get (stored b).entries t ≡ cond (p t) None (finite.get (stored a).entries t)) → AreCaches b
+less_are a b same spans h p less =
     let shrinks = shorter tag_cmp_total (stored a).entries (stored b).entries (λ t s. some_within (p t) _ (subst IsSome (less t) s)) in
     let room = h.room in
     let limit = h.limit in
@@ -80,22 +84,24 @@ less_are a b same h p less =
       limit = omega (arith, same, limit);
       room = omega (arith, same, shrinks, room);
       kept = λ t e is. h.kept t e (some_was (p t) _ e (sym (less t) ∙ is));
+      spanned = λ t e is. spans_same a b (span_of (key_of t)) spans (h.spanned t e (some_was (p t) _ e (sym (less t) ∙ is)));
     }
 
 pub len_without : (c : Command) (m : Entries) → finite.len (without_covered c m) ≤ finite.len m
 len_without c m = shorter tag_cmp_total m (without_covered c m) (λ t s. some_within (covers c t) _ (subst IsSome (get_without_covered c m t) s))
 
-pub are_without : (c : Command) (a b : Inside) → b.capacity ≡ a.capacity → AreCaches a → IsWithout key_cmp (covers_key c) a.map b.map → AreCaches b
-are_without c a b same h w = less_are a b same h (covers c) (λ t. ap (λ m. finite.get m t) (stored_without c a b w) ∙ get_without_covered c (stored a).entries t)
+pub are_without : (c : Command) (a b : Inside) → b.capacity ≡ a.capacity → b.spans ≡ a.spans → AreCaches a → IsWithout key_cmp (covers_key c) a.map b.map → AreCaches b
+are_without c a b same spans h w = less_are a b same spans h (covers c) (λ t. ap (λ m. finite.get m t) (stored_without c a b w) ∙ get_without_covered c (stored a).entries t)
 
-pub are_evicted : (a b : Inside) (t : Tag) → b.capacity ≡ a.capacity → AreCaches a → Updates key_cmp a.map b.map (key_of t) None → AreCaches b
-are_evicted a b t same h u = less_are a b same h (λ q. eq_by_cmp tag_cmp q t) (λ q. ap (λ m. finite.get m q) (stored_remove a b t u) ∙ get-remove tag_cmp_total (stored a).entries t q)
+pub are_evicted : (a b : Inside) (t : Tag) → b.capacity ≡ a.capacity → b.spans ≡ a.spans → AreCaches a → Updates key_cmp a.map b.map (key_of t) None → AreCaches b
+are_evicted a b t same spans h u = less_are a b same spans h (λ q. eq_by_cmp tag_cmp q t) (λ q. ap (λ m. finite.get m q) (stored_remove a b t u) ∙ get-remove tag_cmp_total (stored a).entries t q)
 
 pub are_empty : (a : Inside) → a.capacity ≤ 65536 → (stored a).entries ≡ finite.empty → AreCaches a
 are_empty a h e = record {
   limit = h;
   room = subst (λ m. finite.len m ≤ a.capacity) (sym e) (omega (arith, len-empty tag_cmp Entry));
   kept = λ t x is. let n = get-empty {X = Entry} tag_cmp t in let no_entry : None ≡ Some x = sym n ∙ subst (λ m. finite.get m t ≡ Some x) e is in cc;
+  spanned = λ t x is. let n = get-empty {X = Entry} tag_cmp t in let no_entry : None ≡ Some x = sym n ∙ subst (λ m. finite.get m t ≡ Some x) e is in cc;
 }
 
 -- ---- a put
@@ -117,8 +123,15 @@ kept_at x q o e here old is =
       | false ↦ λ n s. old s
     ] refl is
 
-are_filled : (a b : Inside) (x : Entry) → b.capacity ≡ a.capacity → AreCaches a → IsKept x.tag x → (is_some (finite.get (stored a).entries x.tag) ≡ true) ⊎ (finite.len (stored a).entries < a.capacity) → (stored b).entries ≡ finite.insert (stored a).entries x.tag x → AreCaches b
-are_filled a b x same h here room e =
+spanned_at : (b : Inside) (x : Entry) (q : Tag) (o : Option Entry) (e : Entry) → IsSpanOf b.spans (span_of (key_of x.tag)) → (o ≡ Some e → IsSpanOf b.spans (span_of (key_of q))) → cond (eq_by_cmp tag_cmp q x.tag) (Some x) o ≡ Some e → IsSpanOf b.spans (span_of (key_of q))
+spanned_at b x q o e here old is =
+    elim (eq_by_cmp tag_cmp q x.tag) as (λ t. eq_by_cmp tag_cmp q x.tag ≡ t → cond t (Some x) o ≡ Some e → IsSpanOf b.spans (span_of (key_of q))) [
+      | true ↦ λ y s. subst (λ t. IsSpanOf b.spans (span_of (key_of t))) (sym (tag_cmp_exact q x.tag ((Equal-is (tag_cmp q x.tag)).0 y))) here
+      | false ↦ λ n s. old s
+    ] refl is
+
+are_filled : (a b : Inside) (x : Entry) → b.capacity ≡ a.capacity → IsSpanOf b.spans (span_of (key_of x.tag)) → ((n : ℕ) → IsSpanOf a.spans n → IsSpanOf b.spans n) → AreCaches a → IsKept x.tag x → (is_some (finite.get (stored a).entries x.tag) ≡ true) ⊎ (finite.len (stored a).entries < a.capacity) → (stored b).entries ≡ finite.insert (stored a).entries x.tag x → AreCaches b
+are_filled a b x same added more h here room e =
     let longer : finite.len (finite.insert (stored a).entries x.tag x) ≤ a.capacity = subst (λ n. n ≤ a.capacity) (sym (len-insert tag_cmp_total (stored a).entries x.tag x)) (one_more (is_some (finite.get (stored a).entries x.tag)) (finite.len (stored a).entries) a.capacity h.room room) in
     let limit = h.limit in
     let fits : finite.len (stored b).entries ≤ a.capacity = subst (λ n. finite.len n ≤ a.capacity) (sym e) longer in
@@ -126,20 +139,21 @@ are_filled a b x same h here room e =
       limit = omega (arith, same, limit);
       room = omega (arith, same, fits);
       kept = λ q y is. kept_at x q (finite.get (stored a).entries q) y here (h.kept q y) (sym (ap (λ n. finite.get n q) e ∙ get-insert tag_cmp_total (stored a).entries x.tag x q) ∙ is);
+      spanned = λ q y is. spanned_at b x q (finite.get (stored a).entries q) y added (λ old. more _ (h.spanned q y old)) (sym (ap (λ n. finite.get n q) e ∙ get-insert tag_cmp_total (stored a).entries x.tag x q) ∙ is);
     }
 
 same_stored : (a b : Inside) → b.map.entries ≡ a.map.entries → (stored b).entries ≡ (stored a).entries
 same_stored a b e = ap (λ es. finite.from_entries {R = tag_cmp} (tagged es)) e
 
-pub put_are : (a b : Inside) (x : Entry) (r : Result (Option Entry) CacheFault) → b.capacity ≡ a.capacity → AreCaches a → IsBlock x.tag → page_of (key_of x.tag) < 2 ^ 52
+pub put_are : (a b : Inside) (x : Entry) (r : Result (Option Entry) CacheFault) → b.capacity ≡ a.capacity → IsSpanOf b.spans (span_of (key_of x.tag)) → ((n : ℕ) → IsSpanOf a.spans n → IsSpanOf b.spans n) → AreCaches a → IsBlock x.tag → page_of (key_of x.tag) < 2 ^ 52
     → (finite.get (stored a).entries x.tag ≡ None → finite.len (stored a).entries < a.capacity) → IsPut key_cmp a.map (key_of x.tag) x b.map r → AreCaches b
-put_are a b x (Ok was) same h block page room p = are_filled a b x same h (kept_here x block page) (room_of _ _ _ room) (stored_insert a b x.tag x p.1)
-put_are a b x (Err f) same h block page room p =
+put_are a b x (Ok was) same added more h block page room p = are_filled a b x same added more h (kept_here x block page) (room_of _ _ _ room) (stored_insert a b x.tag x p.1)
+put_are a b x (Err f) same added more h block page room p =
     let limit = h.limit in
     let old = h.room in
     let e = same_stored a b p.1 in
     let fits : finite.len (stored b).entries ≤ a.capacity = subst (λ n. finite.len n ≤ a.capacity) (sym e) old in
-    record { limit = omega (arith, same, limit); room = omega (arith, same, fits); kept = λ q y is. h.kept q y (subst (λ n. finite.get n q ≡ Some y) e is) }
+    record { limit = omega (arith, same, limit); room = omega (arith, same, fits); kept = λ q y is. h.kept q y (subst (λ n. finite.get n q ≡ Some y) e is); spanned = λ q y is. more _ (h.spanned q y (subst (λ n. finite.get n q ≡ Some y) e is)) }
 
 pub put_filled : (a b : Inside) (s : Stored) (x : Entry) (r : Result (Option Entry) CacheFault) → stored a ≡ s → IsPut key_cmp a.map (key_of x.tag) x b.map r → IsFilled s.entries x (stored b).entries r
 put_filled a b s x (Ok was) e p = (p.0 ∙ sym (look_is a x.tag) ∙ ap (λ (y : Stored). finite.get y.entries x.tag) e, stored_insert a b x.tag x p.1 ∙ ap (λ (y : Stored). finite.insert y.entries x.tag x) e)

@@ -2,9 +2,9 @@
 use Rattle.std.proofs.Common.{◌≡◌, ℕ, ◌+◌, ◌<◌, ◌≤◌, Bool, true, false, not, ◌&&◌, inl, inr, Option, Some, None, refl, sym, ◌∙◌, ap, subst, arith}
 use Rattle.std.specs.declared.cmp.Ordering.{Ordering}
 use Rattle.std.specs.declared.cmp.Ordering.TheVariants.{Less, Equal, Greater}
-use Rattle.std.specs.declared.ops.Bound.TheVariants.{Included, Excluded}
-use Rattle.std.specs.Ordering.{nat_cmp, ordering_then, is_le}
-use Rattle.std.specs.Cmp.{IsTotalOrder, ranked}
+use Rattle.std.specs.declared.ops.Bound.TheVariants.{Included, Excluded, Unbounded}
+use Rattle.std.specs.Ordering.{nat_cmp, ordering_then, ordering_reverse, is_le, is_lt}
+use Rattle.std.specs.Cmp.{IsTotalOrder, ranked, nat_cmp_is, tied_itself}
 use Rattle.std.specs.BTreeMap.Range.{range_contains}
 use Rattle.std.proofs.lemmas.Bool.{cases_lt}
 use Rattle.std.proofs.lemmas.Map.Lookups.{exact_unsigned}
@@ -95,21 +95,14 @@ key_exact (Endpoint v p n c) (Machine w q m d) e = let l : Greater ≡ Equal = e
 key_exact (Endpoint v p n c) (Hypervisor q m d) e = let l : Greater ≡ Equal = e in cc
 
 -- ---- numbers compared in turn
-pub cmp_more : (a b : ℕ) → b < a → nat_cmp a b ≡ Greater
-cmp_more a b h =
-    elim (nat_cmp a b) as (λ r. r ≡ nat_cmp a b → r ≡ Greater) [
-      | Less ↦ λ e. let f : a < b = ranked a b Less e in absurd (omega arith)
-      | Equal ↦ λ e. let f : a ≡ b = ranked a b Equal e in absurd (omega arith)
-      | Greater ↦ λ e. refl
-    ] refl
+pub cmp_less : (a b : ℕ) → a < b → nat_cmp a b ≡ Less
+cmp_less a b h = sym (nat_cmp_is a b Less h)
 
-cmp_same : (a b : ℕ) → a ≡ b → nat_cmp a b ≡ Equal
-cmp_same a b h =
-    elim (nat_cmp a b) as (λ r. r ≡ nat_cmp a b → r ≡ Equal) [
-      | Less ↦ λ e. let f : a < b = ranked a b Less e in absurd (omega arith)
-      | Equal ↦ λ e. refl
-      | Greater ↦ λ e. let f : b < a = ranked a b Greater e in absurd (omega arith)
-    ] refl
+pub cmp_same : (a b : ℕ) → a ≡ b → nat_cmp a b ≡ Equal
+cmp_same a b h = sym (nat_cmp_is a b Equal h)
+
+pub cmp_more : (a b : ℕ) → b < a → nat_cmp a b ≡ Greater
+cmp_more a b h = sym (nat_cmp_is a b Greater h)
 
 le_then : (a b : ℕ) (o : Ordering) → a ≤ b → is_le o ≡ true → is_le (ordering_then (nat_cmp a b) o) ≡ true
 le_then a b o h l =
@@ -129,6 +122,22 @@ between : (a b : Bool) → a ≡ true → b ≡ false → (a && not b) ≡ true
 between true b p q = ap not q
 between false b p q = cc
 
+first_true : (a b : Bool) → (a && b) ≡ true → a ≡ true
+first_true true b e = refl
+first_true false b e = e
+
+behind_both : (r s : Ordering) → s ≡ ordering_reverse r → is_lt r ≡ true → is_le s ≡ true → ⊥
+behind_both Less s e l h = let f : false ≡ true = sym (ap is_le e) ∙ h in cc
+behind_both Equal s e l h = cc
+behind_both Greater s e l h = cc
+
+second_true : (a b : Bool) → (a && b) ≡ true → b ≡ true
+second_true true b e = e
+second_true false b e = cc
+
+pub le_itself : (k : Key) → is_le (key_cmp k k) ≡ true
+le_itself k = ap is_le (tied_itself key_total k)
+
 low : (x : Option ℕ) → is_le (some_cmp None x) ≡ true
 low None = refl
 low (Some x) = refl
@@ -138,36 +147,30 @@ low_stage Two = refl
 low_stage (One x) = refl
 
 -- ---- keys in a range
-pub in_pages : (w : Owner) (first end : ℕ) (k : Key) → owner_of k ≡ Some w → first ≤ page_of k → page_of k < end → range_contains key_cmp (Included (least w first 0)) (Excluded (least w end 0)) k ≡ true
-in_pages w first end (Configuration s c) o a b = cc
-in_pages w first end (Machine v p n c) o a b =
+in_block : (w : Owner) (first span end : ℕ) (k : Key) → owner_of k ≡ Some w → first ≤ page_of k → span ≤ span_of k → page_of k < end → range_contains key_cmp (Included (least w first span)) (Excluded (least w end 0)) k ≡ true
+in_block w first span end (Configuration s c) o a b d = cc
+in_block w first span end (Machine v p n c) o a b d =
     let e : Guest v ≡ w = cc in
-    subst (λ w. range_contains key_cmp (Included (least w first 0)) (Excluded (least w end 0)) (Machine v p n c) ≡ true) e
-    (between _ _ (le_then v v _ (omega arith) (le_then first p _ a (le_then 0 n _ (omega arith) (low_stage c)))) (same_then v v _ refl (more_then end p _ b)))
-in_pages w first end (Hypervisor p n c) o a b =
+    subst (λ w. range_contains key_cmp (Included (least w first span)) (Excluded (least w end 0)) (Machine v p n c) ≡ true) e
+    (between _ _ (le_then v v _ (omega arith) (le_then first p _ a (le_then span n _ b (low_stage c)))) (same_then v v _ refl (more_then end p _ d)))
+in_block w first span end (Hypervisor p n c) o a b d =
     let e : Host ≡ w = cc in
-    subst (λ w. range_contains key_cmp (Included (least w first 0)) (Excluded (least w end 0)) (Hypervisor p n c) ≡ true) e
-    (between _ _ (le_then first p _ a (le_then 0 n _ (omega arith) (low c))) (more_then end p _ b))
-in_pages w first end (Endpoint v p n c) o a b =
+    subst (λ w. range_contains key_cmp (Included (least w first span)) (Excluded (least w end 0)) (Hypervisor p n c) ≡ true) e
+    (between _ _ (le_then first p _ a (le_then span n _ b (low c))) (more_then end p _ d))
+in_block w first span end (Endpoint v p n c) o a b d =
     let e : Device v ≡ w = cc in
-    subst (λ w. range_contains key_cmp (Included (least w first 0)) (Excluded (least w end 0)) (Endpoint v p n c) ≡ true) e
-    (between _ _ (le_then v v _ (omega arith) (le_then first p _ a (le_then 0 n _ (omega arith) (low c)))) (same_then v v _ refl (more_then end p _ b)))
+    subst (λ w. range_contains key_cmp (Included (least w first span)) (Excluded (least w end 0)) (Endpoint v p n c) ≡ true) e
+    (between _ _ (le_then v v _ (omega arith) (le_then first p _ a (le_then span n _ b (low c)))) (same_then v v _ refl (more_then end p _ d)))
+
+pub in_pages : (w : Owner) (first end : ℕ) (k : Key) → owner_of k ≡ Some w → first ≤ page_of k → page_of k < end → range_contains key_cmp (Included (least w first 0)) (Excluded (least w end 0)) k ≡ true
+in_pages w first end k o a b = in_block w first 0 end k o a (omega arith) b
+
+pub up_to_page : (w : Owner) (end : ℕ) (k : Key) → owner_of k ≡ Some w → page_of k < end → range_contains key_cmp Unbounded (Excluded (least w end 0)) k ≡ true
+up_to_page w end k o b = second_true _ _ (in_pages w 0 end k o (omega arith) b)
 
 -- blocks that begin at a page, of a span or longer
 pub in_start : (w : Owner) (page span : ℕ) (k : Key) → owner_of k ≡ Some w → page_of k ≡ page → span ≤ span_of k → range_contains key_cmp (Included (least w page span)) (Excluded (least w (page + 1) 0)) k ≡ true
-in_start w page span (Configuration s c) o a b = cc
-in_start w page span (Machine v p n c) o a b =
-    let e : Guest v ≡ w = cc in
-    subst (λ w. range_contains key_cmp (Included (least w page span)) (Excluded (least w (page + 1) 0)) (Machine v p n c) ≡ true) e
-    (between _ _ (le_then v v _ (omega arith) (le_then page p _ (omega arith) (le_then span n _ b (low_stage c)))) (same_then v v _ refl (more_then (page + 1) p _ (omega arith))))
-in_start w page span (Hypervisor p n c) o a b =
-    let e : Host ≡ w = cc in
-    subst (λ w. range_contains key_cmp (Included (least w page span)) (Excluded (least w (page + 1) 0)) (Hypervisor p n c) ≡ true) e
-    (between _ _ (le_then page p _ (omega arith) (le_then span n _ b (low c))) (more_then (page + 1) p _ (omega arith)))
-in_start w page span (Endpoint v p n c) o a b =
-    let e : Device v ≡ w = cc in
-    subst (λ w. range_contains key_cmp (Included (least w page span)) (Excluded (least w (page + 1) 0)) (Endpoint v p n c) ≡ true) e
-    (between _ _ (le_then v v _ (omega arith) (le_then page p _ (omega arith) (le_then span n _ b (low c)))) (same_then v v _ refl (more_then (page + 1) p _ (omega arith))))
+in_start w page span k o a b = in_block w page span (page + 1) k o (omega arith) b (omega arith)
 
 pub in_streams : (run : PageRun) (k : Key) → IsOfStreams run k → range_contains key_cmp (Included (Configuration run.first None)) (Excluded (Configuration run.end None)) k ≡ true
 in_streams run (Configuration s c) h = between _ _ (le_then run.first s _ h.0 (low c)) (more_then run.end s _ h.1)
@@ -238,3 +241,10 @@ pub owner_of-least : (w : Owner) (page span : ℕ) → owner_of (least w page sp
 owner_of-least (Guest v) page span = refl
 owner_of-least Host page span = refl
 owner_of-least (Device s) page span = refl
+
+-- an owner's keys are not before its least
+pub from_least : (w : Owner) (k : Key) → owner_of k ≡ Some w → is_le (key_cmp (least w 0 0) k) ≡ true
+from_least w k o = first_true _ _ (in_pages w 0 (page_of k + 1) k o (omega arith) (omega arith))
+
+pub not_below_least : (w : Owner) (k : Key) → is_lt (key_cmp k (least w 0 0)) ≡ true → owner_of k ≡ Some w → ⊥
+not_below_least w k below o = behind_both (key_cmp k (least w 0 0)) (key_cmp (least w 0 0) k) (key_total.antisymm (least w 0 0) k) below (from_least w k o)

@@ -7,7 +7,9 @@ pub mod KeyOrder
 pub mod LawLemmas
 pub mod Pruned
 pub mod RangeLaw
+pub mod RankOrder
 pub mod Reach
+pub mod Rest
 pub mod Standing
 pub mod Sweeping
 pub mod Viewed

@@ -1,8 +1,9 @@
 -- Maps that lost some of what passes a test.
-use Rattle.std.proofs.Common.{◌≡◌, ◌≤◌, ◌%◌, ◌^◌, Bool, true, false, ◌&&◌, ◌⊎◌, inl, inr, cond, IsSome, Option, Some, None, refl, sym, ◌∙◌, ap, subst, arith}
+use Rattle.std.proofs.Common.{◌≡◌, ◌≤◌, ◌%◌, ◌^◌, Bool, true, false, ◌&&◌, ◌⊎◌, inl, inr, cond, IsSome, Option, Some, None, refl, sym, ◌∙◌, ap, subst, List, [], ◌∷◌, length, arith}
 use Rattle.std.specs.declared.cmp.Ordering.{Ordering}
 use Rattle.std.specs.declared.ops.Bound.{Bound}
-use Rattle.std.specs.BTreeMap.{BTreeMap, get}
+use Rattle.std.specs.Map.{lookup}
+use Rattle.std.specs.BTreeMap.{BTreeMap, get, is_at}
 use Rattle.std.specs.BTreeMap.Range.{range_contains}
 use Rattle.caches.specs.declared.tag.Entry.{Entry}
 use Rattle.caches.specs.declared.key.Key.{Key}
@@ -21,6 +22,10 @@ some_not_none (Some x) s e = cc
 none_either : {X : Type 0} (b : Bool) (o : Option X) → o ≡ None → cond b None o ≡ None
 none_either true o e = refl
 none_either false o e = e
+
+none_of_empty : {K X : Type 0} (t : K → Bool) (es : List (K × X)) → length es ≡ 0 → lookup t es ≡ None
+none_of_empty t [] e = refl
+none_of_empty t (x ∷ es) e = absurd (omega arith)
 
 module _ {K X : Type 0} (R : K → K → Ordering) (p : K → Bool) where
   module _ (lo hi : Bound K) (m n : BTreeMap K X) (after : (q : K) → get R n q ≡ cond (is_swept R p lo hi q) None (get R m q)) where
@@ -54,6 +59,12 @@ module _ {K X : Type 0} (R : K → K → Ordering) (p : K → Bool) where
 
     pub none_comes : (q : K) → p q ≡ true → range_contains R lo hi q ≡ true → get R n q ≡ None
     none_comes q c r = after q ∙ ap (λ b. cond b None (get R m q)) (both_true _ _ r c)
+
+  -- nothing is taken of an empty map
+  pub without_nothing : (m : BTreeMap K X) → length m.entries ≡ 0 → IsWithout R p m m
+  without_nothing m e q =
+      let none : get R m q ≡ None = none_of_empty (is_at (R q)) m.entries e in
+      none ∙ sym (none_either (p q) (get R m q) none)
 
   pub pruned_trans : (l m n : BTreeMap K X) → IsPruned R p l m → IsPruned R p m n → IsPruned R p l n
   pruned_trans l m n f g q =

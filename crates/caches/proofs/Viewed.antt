@@ -1,5 +1,5 @@
 -- The ordered map as a finite map of tags: what it has at a tag, and how long it is.
-use Rattle.std.proofs.Common.{IfSome, ◌≡◌, ◌+◌, Bool, true, false, not, Option, Some, None, is_some, refl, sym, ◌∙◌, ap, subst, List, [], ◌∷◌, length, arith, cond}
+use Rattle.std.proofs.Common.{IfSome, IsSome, ◌≡◌, ◌+◌, Bool, true, false, not, Option, Some, None, is_some, refl, sym, ◌∙◌, ap, subst, List, [], ◌∷◌, length, arith, cond}
 use Rattle.std.specs.declared.cmp.Ordering.{Ordering}
 use Rattle.std.specs.declared.cmp.Ordering.TheVariants.{Less, Equal, Greater}
 use Rattle.std.specs.Ordering.{eq_by_cmp, is_eq}
@@ -23,7 +23,8 @@ use Rattle.caches.specs.declared.key.Key.{Key}
 use Rattle.caches.specs.declared.key.Key.TheVariants.{Configuration, Machine, Hypervisor, Endpoint}
 use Rattle.caches.specs.declared.caches.Caches.TheInside.{Inside}
 use Rattle.caches.specs.Covers.{covers}
-use Rattle.caches.specs.Keys.{key_of, tag_of, covers_key, IsKept}
+use Rattle.caches.specs.Keys.{key_of, span_of, tag_of, covers_key, IsKept}
+use Rattle.caches.specs.Spanned.{IsSpanOf, AreSpansOf}
 use Rattle.caches.specs.TagOrder.{tag_cmp, tag_cmp_total, tag_cmp_exact}
 use Rattle.caches.specs.Held.{Entries, without_covered}
 use Rattle.caches.specs.Sweep.{IsWithout, IsKeeping}
@@ -79,6 +80,13 @@ look_is a t = get-from_entries tag_cmp_total (tagged a.map.entries) t ∙ find_t
 
 pub keeping : (a : Inside) → ((t : Tag) (e : Entry) → finite.get (stored a).entries t ≡ Some e → IsKept t e) → IsKeeping key_cmp a.map
 keeping a kept q e is = kept (tag_of q) e (look_is a (tag_of q) ∙ ap (λ k. tree.get key_cmp a.map k) (key_back q) ∙ is)
+
+pub spanning : (a : Inside) → ((t : Tag) (e : Entry) → finite.get (stored a).entries t ≡ Some e → IsSpanOf a.spans (span_of (key_of t))) → AreSpansOf a.spans key_cmp a.map
+spanning a spanned q some =
+    elim (tree.get key_cmp a.map q) as (λ o. tree.get key_cmp a.map q ≡ o → IsSome o → IsSpanOf a.spans (span_of q)) [
+      | None ↦ λ e s. cc
+      | Some x ↦ λ e s. subst (λ k. IsSpanOf a.spans (span_of k)) (key_back q) (spanned (tag_of q) x (look_is a (tag_of q) ∙ ap (λ k. tree.get key_cmp a.map k) (key_back q) ∙ e))
+    ] refl some
 
 -- ---- the length
 abbrev Fresh : List (Tag × Entry) → Type 0

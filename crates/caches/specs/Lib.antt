@@ -5,6 +5,8 @@ pub mod Held
 pub mod Keys
 pub mod Laws
 pub mod Puts
+pub mod Ranks
+pub mod Spanned
 pub mod Stored
 pub mod Sweep
 pub mod TagOrder

@@ -1,12 +1,15 @@
 -- Caches as callers see them.
-use Rattle.std.specs.Prelude.{◌≡◌, ℕ, Option, None, Result}
+use Rattle.std.specs.Prelude.{◌≡◌, ◌↔◌, ℕ, Option, Some, None, Result, Err, IfOk, OnErr, All}
 use Rattle.std.proofs.Common.{refl}
+use Rattle.std.specs.Global.{Vec}
 use Rattle.std.specs.Result.{MatchResult}
 use Rattle.std.specs.Coded.{Coded, code_by, coded×, coded_ℕ}
 use Rattle.std.specs.FinMap as finite
+use Rattle.caches.specs.declared.tag.Tag.{Tag}
 use Rattle.caches.specs.declared.tag.Entry.{Entry}
 use Rattle.caches.specs.declared.fault.CacheFault.{CacheFault}
-use Rattle.caches.specs.declared.fault.CacheFault.TheVariants.{NoMemory}
+use Rattle.caches.specs.declared.fault.CacheFault.TheVariants.{Full, BadBlock, NoMemory, BadCapacity}
+use Rattle.caches.specs.Blocks.{IsBlock}
 use Rattle.caches.specs.TagOrder.{tag_code, entry_code}
 use Rattle.caches.specs.Held.{Entries}
 
@@ -23,3 +26,20 @@ abbrev pub IsFilled : Entries → Entry → Entries → Result (Option Entry) Ca
 IsFilled old entry new result = MatchResult result
     (λ was. (was ≡ finite.get old entry.tag) × (new ≡ finite.insert old entry.tag entry))
     (λ fault. (fault ≡ NoMemory) × (new ≡ old) × (finite.get old entry.tag ≡ None))
+
+-- ---- what callers are answered
+
+-- The entry of this tag that was held before; or C2, exactly where its block isn't well formed; C1, exactly where it is,
+-- and its tag is new and the caches are full; or C3, where its tag is new.
+pub record IsFillAnswer (held : Stored) (tag : Tag) (answer : Result (Option Entry) CacheFault) : Type 0 where
+  pub was : IfOk answer (λ was. was ≡ finite.get held.entries tag)
+  pub bad : (answer ≡ Err BadBlock) ↔ ¬ IsBlock tag
+  pub full : (answer ≡ Err Full) ↔ (IsBlock tag × (finite.get held.entries tag ≡ None) × (finite.len held.entries ≡ held.capacity))
+  pub named : ¬ (answer ≡ Err BadCapacity)
+  pub new_only : answer ≡ Err NoMemory → finite.get held.entries tag ≡ None
+
+-- All entries in the order of their tags, each of which stands under its own tag; or C3, and no other.
+pub record IsListAnswer (held : Entries) (answer : Result (Vec Entry) CacheFault) : Type 0 where
+  pub ok : IfOk answer (λ list. list.items ≡ finite.values held)
+  pub own : IfOk answer (λ list. All (λ entry. finite.get held entry.tag ≡ Some entry) list.items)
+  pub err : OnErr answer (answer ≡ Err NoMemory)

@@ -15,12 +15,18 @@ use Rattle.caches.specs.Keys.{tag_of, owner_of, page_of, IsKept}
 abbrev pub IsKeeping : (Key → Key → Ordering) → BTreeMap Key Entry → Type 0
 IsKeeping cmp m = (key : Key) (entry : Entry) → tree.get cmp m key ≡ Some entry → IsKept (tag_of key) entry
 
--- the least key of the map from a bound on and below the end, with its entry, or none
-abbrev pub IsNext : {K X : Type 0} → (K → K → Ordering) → BTreeMap K X → Bound K → Bound K → Option (K × X) → Type 0
-IsNext {K} cmp m from end found = MatchOption found
-    ((q : K) → range_contains cmp from end q ≡ true → tree.get cmp m q ≡ None)
-    (λ e. (range_contains cmp from end e.0 ≡ true) × (tree.get cmp m e.0 ≡ Some e.1)
-    × ((q : K) → range_contains cmp from end q ≡ true → IsSome (tree.get cmp m q) → IsLeBy cmp e.0 q))
+-- This key of the map is within the bounds and passes the test, and no other such key comes before it.
+pub record IsNextKey {K X : Type 0} (cmp : K → K → Ordering) (p : K → Bool) (m : BTreeMap K X) (from end : Bound K) (key : K) : Type 0 where
+  pub within : range_contains cmp from end key ≡ true
+  pub passes : p key ≡ true
+  pub there : IsSome (tree.get cmp m key)
+  pub least : (q : K) → range_contains cmp from end q ≡ true → p q ≡ true → IsSome (tree.get cmp m q) → IsLeBy cmp key q
+
+-- the least key of the map from a bound on and below the end that passes the test, or none
+abbrev pub IsNext : {K X : Type 0} → (K → K → Ordering) → (K → Bool) → BTreeMap K X → Bound K → Bound K → Option K → Type 0
+IsNext {K} cmp p m from end found = MatchOption found
+    ((q : K) → range_contains cmp from end q ≡ true → p q ≡ true → tree.get cmp m q ≡ None)
+    (IsNextKey cmp p m from end)
 
 -- the greatest page below this one at which a block of this owner begins that the map has, or none
 abbrev pub IsLastPage : (Key → Key → Ordering) → BTreeMap Key Entry → Owner → ℕ → Option ℕ → Type 0

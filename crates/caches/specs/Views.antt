@@ -5,7 +5,8 @@ use Rattle.caches.specs.declared.tag.Tag.{Tag}
 use Rattle.caches.specs.declared.tag.Entry.{Entry}
 use Rattle.caches.specs.declared.key.Key.{Key}
 use Rattle.caches.specs.declared.caches.Caches.TheInside.{Inside}
-use Rattle.caches.specs.Keys.{tag_of, IsKept}
+use Rattle.caches.specs.Keys.{key_of, span_of, tag_of, IsKept}
+use Rattle.caches.specs.Spanned.{IsSpanOf}
 use Rattle.caches.specs.Stored.{Stored}
 
 -- the entries of the map under their tags
@@ -15,8 +16,10 @@ tagged es = map {B = Tag × Entry} (λ (e : Key × Entry). (tag_of e.0, e.1)) es
 abbrev pub stored : Inside → Stored
 stored inside = record { capacity = inside.capacity; entries = finite.from_entries (tagged inside.map.entries) }
 
--- There are no more entries than the capacity allows, and each may stand under its tag.
+-- There are no more entries than the capacity allows, each may stand under its tag, and the span of each is among those
+-- that were put in.
 pub record AreCaches (inside : Inside) : Type 0 where
   pub limit : inside.capacity ≤ 65536
   pub room : finite.len (stored inside).entries ≤ inside.capacity
   pub kept : (tag : Tag) (entry : Entry) → finite.get (stored inside).entries tag ≡ Some entry → IsKept tag entry
+  pub spanned : (tag : Tag) (entry : Entry) → finite.get (stored inside).entries tag ≡ Some entry → IsSpanOf inside.spans (span_of (key_of tag))

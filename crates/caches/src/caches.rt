@@ -1,17 +1,19 @@
 //! The caches: each entry in one ordered map.
-ghost use Rattle.std.specs.Prelude.{◌≡◌, ◌+◌, ◌<◌, ◌≤◌, ◌↔◌, All, IfOk, IfSome, OnOk, OnErr, Err, None, Some, [], ◌∷◌};
+ghost use Rattle.std.specs.Prelude.{◌≡◌, ◌+◌, ◌<◌, ◌≤◌, ◌↔◌, IfOk, IfSome, OnOk, OnErr, Err, None, [], ◌∷◌};
 ghost use Rattle.std.specs.FinMap as finite;
 ghost use Rattle.std.specs.List.Sorted.{IsPermutation, IsSortedByKey};
 ghost use Rattle.caches.specs.TagOrder.{tag_cmp, numbers};
 ghost use Rattle.caches.specs.declared.tag.Entry.{Entry};
 ghost use Rattle.caches.specs.Blocks.{IsBlock};
 ghost use Rattle.caches.specs.Held.{without_covered, held, History, Fill, Evict, Take};
-ghost use Rattle.caches.specs.Stored.{IsFilled};
+ghost use Rattle.caches.specs.Stored.{IsFilled, IsFillAnswer, IsListAnswer};
 ghost use Rattle.caches.specs.Puts.{IsPut};
 
 use crate::fault::CacheFault;
 use crate::key::Key;
 use crate::ranges::remove_all_covered;
+use crate::rank::Rank;
+use crate::spans::Spans;
 use crate::tag::{Entry, Tag};
 use cmdcodec::Command;
 use std::alloc::Global;
@@ -23,7 +25,9 @@ use std::marker::Model;
 pub struct Caches {
     alloc: Global,
     capacity: u32,
-    map: BTreeMap<Key, Entry>,
+    map: BTreeMap<Rank, Entry>,
+    /// Those of the blocks in the map, and of blocks that were in it.
+    spans: Spans,
 }
 
 impl Model for Caches {
@@ -56,6 +60,7 @@ impl Caches {
             alloc,
             capacity,
             map: BTreeMap::new(alloc),
+            spans: Spans::none(),
         })
     }
 
@@ -64,7 +69,7 @@ impl Caches {
         ensures value { result ≡ finite.get self.now.entries tag.now }
         ensures own { IfSome result (λ entry. entry.tag ≡ tag.now) }
     {
-        self.map.get(&Key::of(tag)).copied()
+        self.map.get(&Rank::of(tag)).copied()
     }
 
     /// How many entries are held.
@@ -80,10 +85,7 @@ impl Caches {
     ///
     /// Errors: C3 when out of memory, and no other.
     pub fn entries(&self) -> Result<Vec<Entry>, CacheFault>
-        ensures ok { IfOk result (λ list. list.items ≡ finite.values self.now.entries) }
-        // Each stands under its own tag.
-        ensures own { IfOk result (λ list. All (λ entry. finite.get self.now.entries entry.tag ≡ Some entry) list.items) }
-        ensures err { OnErr result (result ≡ Err CacheFault.NoMemory) }
+        ensures { IsListAnswer self.now.entries result }
     {
         match self.map.values().copied().collect::<Vec<Entry>>(self.alloc) {
             Ok(mut list) => {
@@ -103,7 +105,7 @@ impl Caches {
         ensures held { (h : History) → self.old.entries ≡ held h → self.new.entries ≡ held (Take command.now ∷ h) }
     {
         let before = self.len();
-        remove_all_covered(&mut self.map, command);
+        remove_all_covered(&mut self.map, &self.spans, command);
         (before - self.len()) as u32
     }
 
@@ -114,7 +116,7 @@ impl Caches {
         ensures capacity { self.new.capacity ≡ self.old.capacity }
         ensures held { (h : History) → self.old.entries ≡ held h → self.new.entries ≡ held (Evict tag.now ∷ h) }
     {
-        self.map.remove(&Key::of(tag))
+        self.map.remove(&Rank::of(tag))
     }
 
     /// Puts an entry in, and answers the one of its tag that was held before.
@@ -122,14 +124,10 @@ impl Caches {
     /// Errors, in this order, which leave the caches as they were: C2 where its block isn't well formed;
     /// C1 where its tag is new and the caches are full; C3 when out of memory, where its tag is new.
     pub fn fill(&mut self, entry: Entry) -> Result<Option<Entry>, CacheFault>
-        ensures was { IfOk result (λ was. was ≡ finite.get self.old.entries entry.tag) }
+        ensures answer { IsFillAnswer self.old entry.tag result }
         ensures after { OnOk result (self.new.entries ≡ finite.insert self.old.entries entry.tag entry) }
         ensures err { OnErr result (self.new.entries ≡ self.old.entries) }
         ensures capacity { self.new.capacity ≡ self.old.capacity }
-        ensures bad { (result ≡ Err CacheFault.BadBlock) ↔ ¬ IsBlock entry.tag }
-        ensures full { (result ≡ Err CacheFault.Full) ↔ (IsBlock entry.tag × (finite.get self.old.entries entry.tag ≡ None) × (finite.len self.old.entries ≡ self.old.capacity)) }
-        ensures named { ¬ (result ≡ Err CacheFault.BadCapacity) }
-        ensures new_only { result ≡ Err CacheFault.NoMemory → finite.get self.old.entries entry.tag ≡ None }
         ensures held { OnOk result ((h : History) → self.old.entries ≡ held h → self.new.entries ≡ held (Fill entry ∷ h)) }
     {
         if !entry.tag.is_block() {
@@ -148,7 +146,9 @@ impl Caches {
         ensures put { IsFilled self.old.entries entry self.new.entries result }
         ensures capacity { self.new.capacity ≡ self.old.capacity }
     {
-        put_entry(&mut self.map, Key::of(&entry.tag), entry)
+        let key = Key::of(&entry.tag);
+        self.spans.add(key.span());
+        put_entry(&mut self.map, Rank::at(key), entry)
     }
 }
 
@@ -166,11 +166,11 @@ fn sort_by_tag(list: &mut Vec<Entry>)
 
 /// Puts an entry into the map under this key.
 fn put_entry(
-    map: &mut BTreeMap<Key, Entry>,
-    key: Key,
+    map: &mut BTreeMap<Rank, Entry>,
+    key: Rank,
     entry: Entry,
 ) -> Result<Option<Entry>, CacheFault>
-    ensures { IsPut ⟦<Key as Ord>⟧.cmp map.old key entry map.new result }
+    ensures { IsPut ⟦<Rank as Ord>⟧.cmp map.old key entry map.new result }
 {
     match map.insert(key, entry) {
         Ok(was) => Ok(was),

@@ -8,6 +8,8 @@ mod fault;
 mod key;
 mod laws;
 mod ranges;
+mod rank;
+mod spans;
 mod sweep;
 mod tag;
 

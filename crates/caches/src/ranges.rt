@@ -6,10 +6,13 @@ ghost use Rattle.caches.specs.declared.key.Key.{Key};
 ghost use Rattle.caches.specs.Blocks.{block};
 ghost use Rattle.caches.specs.Covers.{meets_run};
 ghost use Rattle.caches.specs.Keys.{covers_key, owner_of, page_of, span_of, IsOfStreams, IsOfMachines};
+ghost use Rattle.caches.specs.Spanned.{AreSpansOf};
 ghost use Rattle.caches.specs.Sweep.{IsKeeping, IsLastPage, IsPruned, IsWithout};
 
 use crate::covering::aligned;
 use crate::key::{Key, Owner};
+use crate::rank::Rank;
+use crate::spans::Spans;
 use crate::sweep::remove_covered;
 use crate::tag::Entry;
 use cmdcodec::{Command, PageRun, Sid};
@@ -17,48 +20,43 @@ use std::collections::BTreeMap;
 use std::ops::Bound;
 
 /// Removes what is covered, for a command that covers entries of these streams alone.
-fn sweep_streams(map: &mut BTreeMap<Key, Entry>, streams: PageRun, command: &Command)
-    requires keeping { IsKeeping ⟦<Key as Ord>⟧.cmp map.old }
+fn sweep_streams(map: &mut BTreeMap<Rank, Entry>, streams: PageRun, command: &Command)
+    requires keeping { IsKeeping ⟦<Rank as Ord>⟧.cmp map.old }
     requires begins { streams.first < 2 ^ 32 }
     requires forward { streams.first < streams.end }
     requires reach { (q : Key) → covers_key command.now q ≡ true → IsOfStreams streams q }
-    ensures after { IsWithout ⟦<Key as Ord>⟧.cmp (covers_key command.now) map.old map.new }
+    ensures after { IsWithout ⟦<Rank as Ord>⟧.cmp (covers_key command.now) map.old map.new }
 {
-    let first = Key::Configuration {
+    let first = Rank::at(Key::Configuration {
         sid: streams.first as u32,
         ssid: None,
-    };
+    });
     let end = match u32::try_from(streams.end) {
-        Ok(sid) => Key::Configuration { sid, ssid: None },
+        Ok(sid) => Rank::at(Key::Configuration { sid, ssid: None }),
         Err(_) => Owner::Guest(0).least(0, 0),
     };
-    remove_covered(map, Bound::Included(first), Bound::Excluded(end), command);
+    remove_covered(map, first, end, command);
 }
 
 /// Removes what is covered, for a command that covers entries of this owner alone.
-fn sweep_owner(map: &mut BTreeMap<Key, Entry>, owner: Owner, command: &Command)
-    requires keeping { IsKeeping ⟦<Key as Ord>⟧.cmp map.old }
+fn sweep_owner(map: &mut BTreeMap<Rank, Entry>, owner: Owner, command: &Command)
+    requires keeping { IsKeeping ⟦<Rank as Ord>⟧.cmp map.old }
     requires reach { (q : Key) → covers_key command.now q ≡ true → owner_of q ≡ Some owner }
-    ensures after { IsWithout ⟦<Key as Ord>⟧.cmp (covers_key command.now) map.old map.new }
+    ensures after { IsWithout ⟦<Rank as Ord>⟧.cmp (covers_key command.now) map.old map.new }
 {
-    remove_covered(
-        map,
-        Bound::Included(owner.least(0, 0)),
-        Bound::Excluded(owner.least(1 << 52, 0)),
-        command,
-    );
+    remove_covered(map, owner.least(0, 0), owner.least(1 << 52, 0), command);
 }
 
 /// Removes what is covered, for a command that covers translations of virtual machines alone.
-fn sweep_machines(map: &mut BTreeMap<Key, Entry>, command: &Command)
-    requires keeping { IsKeeping ⟦<Key as Ord>⟧.cmp map.old }
+fn sweep_machines(map: &mut BTreeMap<Rank, Entry>, command: &Command)
+    requires keeping { IsKeeping ⟦<Rank as Ord>⟧.cmp map.old }
     requires reach { (q : Key) → covers_key command.now q ≡ true → IsOfMachines q }
-    ensures after { IsWithout ⟦<Key as Ord>⟧.cmp (covers_key command.now) map.old map.new }
+    ensures after { IsWithout ⟦<Rank as Ord>⟧.cmp (covers_key command.now) map.old map.new }
 {
     remove_covered(
         map,
-        Bound::Included(Owner::Guest(0).least(0, 0)),
-        Bound::Excluded(Owner::Host.least(0, 0)),
+        Owner::Guest(0).least(0, 0),
+        Owner::Host.least(0, 0),
         command,
     );
 }
@@ -72,50 +70,84 @@ fn block_start(page: u64, span: u8) -> u64
 }
 
 /// The greatest page before this one at which an entry of this owner begins.
-fn last_page_before(map: &BTreeMap<Key, Entry>, owner: Owner, page: u64) -> Option<u64>
-    ensures { IsLastPage ⟦<Key as Ord>⟧.cmp map.now owner page result }
+fn last_page_before(map: &BTreeMap<Rank, Entry>, owner: Owner, page: u64) -> Option<u64>
+    ensures { IsLastPage ⟦<Rank as Ord>⟧.cmp map.now owner page result }
 {
-    let first = Bound::Included(owner.least(0, 0));
     let end = Bound::Excluded(owner.least(page, 0));
-    match map.range((first, end)).next_back() {
-        Some((key, _)) => Some(key.page()),
+    match map.range((Bound::Unbounded, end)).next_back() {
+        Some((key, _)) => {
+            if key.cmp(&owner.least(0, 0)).is_lt() {
+                return None;
+            }
+            Some(key.page())
+        }
         None => None,
     }
+}
+
+/// Removes what is covered and begins at this page in a block of this span or a longer one, and tells the greatest page
+/// before it at which an entry of this owner begins. An entry of the owner begins at `last`.
+fn sweep_start(
+    map: &mut BTreeMap<Rank, Entry>,
+    owner: Owner,
+    start: u64,
+    span: u8,
+    last: u64,
+    command: &Command,
+) -> Option<u64>
+    requires keeping { IsKeeping ⟦<Rank as Ord>⟧.cmp map.old }
+    requires few { start < 2 ^ 64 - 1 }
+    ensures pruned { IsPruned ⟦<Rank as Ord>⟧.cmp (covers_key command.now) map.old map.new }
+    ensures clean { (q : Key) → covers_key command.now q ≡ true → owner_of q ≡ Some owner → page_of q ≡ start → span ≤ span_of q → tree.get ⟦<Rank as Ord>⟧.cmp map.new q ≡ None }
+    ensures before { IsLastPage ⟦<Rank as Ord>⟧.cmp map.new owner start result }
+{
+    if last != start {
+        let found = last_page_before(map, owner, start + 1);
+        if found != Some(start) {
+            return found;
+        }
+    }
+    remove_covered(
+        map,
+        owner.least(start, span),
+        owner.least(start + 1, 0),
+        command,
+    );
+    last_page_before(map, owner, start)
 }
 
 /// Removes what is covered and begins before a page, for a command that covers blocks of this owner alone
 /// that end behind that page.
 ///
 /// A block begins at a multiple of its length, so one that begins before the page and holds it begins at
-/// the page rounded down to one of 53 powers of two. These starts fall as the powers rise, and one is passed
-/// over where the owner's next entry lies further down.
+/// the page rounded down to a power of two, its length. These starts fall as the powers rise, and one is passed
+/// over where no block of that length was put in, or where the owner's next entry lies further down.
 fn sweep_before(
-    map: &mut BTreeMap<Key, Entry>,
+    map: &mut BTreeMap<Rank, Entry>,
+    spans: &Spans,
     owner: Owner,
     page: u64,
     last_before: Option<u64>,
     command: &Command,
 )
-    requires keeping { IsKeeping ⟦<Key as Ord>⟧.cmp map.old }
-    requires last_before { IsLastPage ⟦<Key as Ord>⟧.cmp map.old owner page last_before }
+    requires keeping { IsKeeping ⟦<Rank as Ord>⟧.cmp map.old }
+    requires spans { AreSpansOf spans.now ⟦<Rank as Ord>⟧.cmp map.old }
+    requires last_before { IsLastPage ⟦<Rank as Ord>⟧.cmp map.old owner page last_before }
     requires reach { (q : Key) → covers_key command.now q ≡ true → (owner_of q ≡ Some owner) × (page < page_of q + 2 ^ span_of q) }
-    ensures pruned { IsPruned ⟦<Key as Ord>⟧.cmp (covers_key command.now) map.old map.new }
-    ensures clean { (q : Key) → covers_key command.now q ≡ true → page_of q < page → tree.get ⟦<Key as Ord>⟧.cmp map.new q ≡ None }
+    ensures pruned { IsPruned ⟦<Rank as Ord>⟧.cmp (covers_key command.now) map.old map.new }
+    ensures clean { (q : Key) → covers_key command.now q ≡ true → page_of q < page → tree.get ⟦<Rank as Ord>⟧.cmp map.new q ≡ None }
 {
     let mut before = last_before;
-    for span in 0..53u8 {
+    for span in 0..spans.end() {
         let Some(last) = before else {
             return;
         };
+        if !spans.has(span) {
+            continue;
+        }
         let start = block_start(page, span);
         if start <= last {
-            remove_covered(
-                map,
-                Bound::Included(owner.least(start, span)),
-                Bound::Excluded(owner.least(start + 1, 0)),
-                command,
-            );
-            before = last_page_before(map, owner, start);
+            before = sweep_start(map, owner, start, span, last, command);
         }
     }
 }
@@ -125,16 +157,16 @@ fn sweep_before(
 ///
 /// One look from the end of the run finds that page where no entry begins in it, as is so most often.
 fn sweep_within(
-    map: &mut BTreeMap<Key, Entry>,
+    map: &mut BTreeMap<Rank, Entry>,
     owner: Owner,
     run: PageRun,
     command: &Command,
 ) -> Option<u64>
-    requires keeping { IsKeeping ⟦<Key as Ord>⟧.cmp map.old }
+    requires keeping { IsKeeping ⟦<Rank as Ord>⟧.cmp map.old }
     requires reach { (q : Key) → covers_key command.now q ≡ true → owner_of q ≡ Some owner }
-    ensures pruned { IsPruned ⟦<Key as Ord>⟧.cmp (covers_key command.now) map.old map.new }
-    ensures clean { (q : Key) → covers_key command.now q ≡ true → run.first ≤ page_of q → page_of q < run.end → tree.get ⟦<Key as Ord>⟧.cmp map.new q ≡ None }
-    ensures before { IsLastPage ⟦<Key as Ord>⟧.cmp map.new owner run.first result }
+    ensures pruned { IsPruned ⟦<Rank as Ord>⟧.cmp (covers_key command.now) map.old map.new }
+    ensures clean { (q : Key) → covers_key command.now q ≡ true → run.first ≤ page_of q → page_of q < run.end → tree.get ⟦<Rank as Ord>⟧.cmp map.new q ≡ None }
+    ensures before { IsLastPage ⟦<Rank as Ord>⟧.cmp map.new owner run.first result }
 {
     // A range of the map may not run backward.
     let end = run.end.max(run.first);
@@ -144,33 +176,36 @@ fn sweep_within(
     if last < run.first {
         return Some(last);
     }
-    remove_covered(
-        map,
-        Bound::Included(owner.least(run.first, 0)),
-        Bound::Excluded(owner.least(end, 0)),
-        command,
-    );
+    remove_covered(map, owner.least(run.first, 0), owner.least(end, 0), command);
     last_page_before(map, owner, run.first)
 }
 
 /// Removes what is covered, for a command that covers blocks of this owner alone that meet this run.
-fn sweep_run(map: &mut BTreeMap<Key, Entry>, owner: Owner, run: PageRun, command: &Command)
-    requires keeping { IsKeeping ⟦<Key as Ord>⟧.cmp map.old }
+fn sweep_run(
+    map: &mut BTreeMap<Rank, Entry>,
+    spans: &Spans,
+    owner: Owner,
+    run: PageRun,
+    command: &Command,
+)
+    requires keeping { IsKeeping ⟦<Rank as Ord>⟧.cmp map.old }
+    requires spans { AreSpansOf spans.now ⟦<Rank as Ord>⟧.cmp map.old }
     requires reach { (q : Key) → covers_key command.now q ≡ true → (owner_of q ≡ Some owner) × (run.first < page_of q + 2 ^ span_of q) × (page_of q < run.end) }
-    ensures after { IsWithout ⟦<Key as Ord>⟧.cmp (covers_key command.now) map.old map.new }
+    ensures after { IsWithout ⟦<Rank as Ord>⟧.cmp (covers_key command.now) map.old map.new }
 {
     let before = sweep_within(map, owner, run, command);
-    sweep_before(map, owner, run.first, before, command);
+    sweep_before(map, spans, owner, run.first, before, command);
 }
 
 /// Removes what is covered, for a command by address that covers blocks of this owner alone.
-fn sweep_address(map: &mut BTreeMap<Key, Entry>, owner: Owner, command: &Command)
-    requires keeping { IsKeeping ⟦<Key as Ord>⟧.cmp map.old }
+fn sweep_address(map: &mut BTreeMap<Rank, Entry>, spans: &Spans, owner: Owner, command: &Command)
+    requires keeping { IsKeeping ⟦<Rank as Ord>⟧.cmp map.old }
+    requires spans { AreSpansOf spans.now ⟦<Rank as Ord>⟧.cmp map.old }
     requires reach { (q : Key) → covers_key command.now q ≡ true → (owner_of q ≡ Some owner) × (meets_run (block (page_of q) (span_of q)) (run_of command.now) ≡ true) }
-    ensures after { IsWithout ⟦<Key as Ord>⟧.cmp (covers_key command.now) map.old map.new }
+    ensures after { IsWithout ⟦<Rank as Ord>⟧.cmp (covers_key command.now) map.old map.new }
 {
     if let Some(run) = command.pages() {
-        sweep_run(map, owner, run, command);
+        sweep_run(map, spans, owner, run, command);
     }
 }
 
@@ -186,29 +221,34 @@ fn one_stream(sid: Sid) -> PageRun
     }
 }
 
-/// Removes what the command covers. It takes no memory.
-pub(crate) fn remove_all_covered(map: &mut BTreeMap<Key, Entry>, command: &Command)
-    requires keeping { IsKeeping ⟦<Key as Ord>⟧.cmp map.old }
-    ensures after { IsWithout ⟦<Key as Ord>⟧.cmp (covers_key command.now) map.old map.new }
+/// Removes what the command covers, from a map whose blocks have these spans. It takes no memory.
+pub(crate) fn remove_all_covered(map: &mut BTreeMap<Rank, Entry>, spans: &Spans, command: &Command)
+    requires keeping { IsKeeping ⟦<Rank as Ord>⟧.cmp map.old }
+    requires spans { AreSpansOf spans.now ⟦<Rank as Ord>⟧.cmp map.old }
+    ensures after { IsWithout ⟦<Rank as Ord>⟧.cmp (covers_key command.now) map.old map.new }
 {
+    if map.is_empty() {
+        return;
+    }
     match *command {
-        Command::CfgiSte { sid, .. } => sweep_streams(map, one_stream(sid), command),
+        Command::CfgiSte { sid, .. } | Command::CfgiCd { sid, .. } | Command::CfgiCdAll { sid } =>
+            sweep_streams(map, one_stream(sid), command),
         Command::CfgiSteRange { sid, range } => {
             let streams = aligned(u64::from(sid.get()), range.get() + 1);
             sweep_streams(map, streams, command)
         }
-        Command::CfgiCd { sid, .. } => sweep_streams(map, one_stream(sid), command),
-        Command::CfgiCdAll { sid } => sweep_streams(map, one_stream(sid), command),
-        Command::TlbiNhAll { vmid } => sweep_owner(map, Owner::Guest(vmid.get()), command),
-        Command::TlbiNhAsid { vmid, .. } => sweep_owner(map, Owner::Guest(vmid.get()), command),
-        Command::TlbiNhVa { vmid, .. } => sweep_address(map, Owner::Guest(vmid.get()), command),
-        Command::TlbiNhVaa { vmid, .. } => sweep_address(map, Owner::Guest(vmid.get()), command),
-        Command::TlbiEl2All => sweep_owner(map, Owner::Host, command),
-        Command::TlbiEl2Asid { .. } => sweep_owner(map, Owner::Host, command),
-        Command::TlbiEl2Va { .. } => sweep_address(map, Owner::Host, command),
-        Command::TlbiEl2Vaa { .. } => sweep_address(map, Owner::Host, command),
-        Command::TlbiS12Vmall { vmid } => sweep_owner(map, Owner::Guest(vmid.get()), command),
-        Command::TlbiS2Ipa { vmid, .. } => sweep_address(map, Owner::Guest(vmid.get()), command),
+        Command::TlbiNhAll { vmid }
+        | Command::TlbiNhAsid { vmid, .. }
+        | Command::TlbiS12Vmall { vmid } => sweep_owner(map, Owner::Guest(vmid.get()), command),
+        Command::TlbiNhVa { vmid, .. }
+        | Command::TlbiNhVaa { vmid, .. }
+        | Command::TlbiS2Ipa { vmid, .. } => {
+            sweep_address(map, spans, Owner::Guest(vmid.get()), command)
+        }
+        Command::TlbiEl2All | Command::TlbiEl2Asid { .. } => sweep_owner(map, Owner::Host, command),
+        Command::TlbiEl2Va { .. } | Command::TlbiEl2Vaa { .. } => {
+            sweep_address(map, spans, Owner::Host, command)
+        }
         Command::TlbiNsnhAll => sweep_machines(map, command),
         Command::AtcInv {
             sid,
@@ -217,7 +257,7 @@ pub(crate) fn remove_all_covered(map: &mut BTreeMap<Key, Entry>, command: &Comma
             ..
         } => {
             let pages = aligned(page.get(), size.get());
-            sweep_run(map, Owner::Device(sid.get()), pages, command)
+            sweep_run(map, spans, Owner::Device(sid.get()), pages, command)
         }
         Command::Kept(_) | Command::CmdSync { .. } => {}
     }

@@ -8,39 +8,45 @@ ghost use Rattle.caches.specs.Keys.{covers_key};
 ghost use Rattle.caches.specs.Sweep.{IsNext, IsKeeping, is_swept};
 
 use crate::covering::covers;
-use crate::key::Key;
+use crate::rank::Rank;
 use crate::tag::Entry;
 use cmdcodec::Command;
 use std::collections::BTreeMap;
 use std::ops::Bound;
 
-/// The first entry of a range of keys.
-fn next_entry(map: &BTreeMap<Key, Entry>, from: Bound<Key>, end: Bound<Key>) -> Option<(Key, Entry)>
-    requires { IsForward (IsLeBy ⟦<Key as Ord>⟧.cmp) (IsLtBy ⟦<Key as Ord>⟧.cmp) from end }
-    ensures { IsNext ⟦<Key as Ord>⟧.cmp map.now from end result }
+/// The first key of a range whose entry the command covers. It goes along the map, from one entry to the next.
+fn next_covered(
+    map: &BTreeMap<Rank, Entry>,
+    from: Bound<Rank>,
+    end: Rank,
+    command: &Command,
+) -> Option<Rank>
+    requires forward { IsForward (IsLeBy ⟦<Rank as Ord>⟧.cmp) (IsLtBy ⟦<Rank as Ord>⟧.cmp) from (Bound.Excluded end) }
+    requires keeping { IsKeeping ⟦<Rank as Ord>⟧.cmp map.now }
+    ensures { IsNext ⟦<Rank as Ord>⟧.cmp (covers_key command.now) map.now from (Bound.Excluded end) result }
 {
-    match map.range((from, end)).next() {
-        Some((key, entry)) => Some((*key, *entry)),
-        None => None,
+    for (key, entry) in map.range((from, Bound::Excluded(end))) {
+        if covers(command, &entry.tag) {
+            return Some(*key);
+        }
     }
+    None
 }
 
-/// Removes the entries of a range of keys that the command covers. It takes no memory.
+/// Removes the entries that the command covers, of those from the first key on and before the end. It takes no memory.
 pub(crate) fn remove_covered(
-    map: &mut BTreeMap<Key, Entry>,
-    first: Bound<Key>,
-    end: Bound<Key>,
+    map: &mut BTreeMap<Rank, Entry>,
+    first: Rank,
+    end: Rank,
     command: &Command,
 )
-    requires forward { IsForward (IsLeBy ⟦<Key as Ord>⟧.cmp) (IsLtBy ⟦<Key as Ord>⟧.cmp) first end }
-    requires keeping { IsKeeping ⟦<Key as Ord>⟧.cmp map.old }
-    ensures after { (q : Key) → tree.get ⟦<Key as Ord>⟧.cmp map.new q ≡ cond (is_swept ⟦<Key as Ord>⟧.cmp (covers_key command.now) first end q) None (tree.get ⟦<Key as Ord>⟧.cmp map.old q) }
+    requires forward { IsForward (IsLeBy ⟦<Rank as Ord>⟧.cmp) (IsLtBy ⟦<Rank as Ord>⟧.cmp) (Bound.Included first) (Bound.Excluded end) }
+    requires keeping { IsKeeping ⟦<Rank as Ord>⟧.cmp map.old }
+    ensures after { (q : Key) → tree.get ⟦<Rank as Ord>⟧.cmp map.new q ≡ cond (is_swept ⟦<Rank as Ord>⟧.cmp (covers_key command.now) (Bound.Included first) (Bound.Excluded end) q) None (tree.get ⟦<Rank as Ord>⟧.cmp map.old q) }
 {
-    let mut from = first;
-    while let Some((key, entry)) = next_entry(map, from, end) {
-        if covers(command, &entry.tag) {
-            map.remove(&key);
-        }
+    let mut from = Bound::Included(first);
+    while let Some(key) = next_covered(map, from, end, command) {
+        map.remove(&key);
         from = Bound::Excluded(key);
     }
 }

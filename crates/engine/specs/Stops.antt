@@ -1,5 +1,5 @@
 -- The stop at an illegal command (command queue errors): how it stands, and what turns it.
-use Rattle.std.specs.Prelude.{◌≡◌, ℕ, ◌%◌, Bool, false, cond, not, ◌==◌, List, Option, Some, None, codes}
+use Rattle.std.specs.Prelude.{◌≡◌, ◌≢◌, ◌↔◌, ℕ, ◌%◌, Bool, false, cond, not, ◌==◌, List, Option, Some, None, Result, Err, ⊤, codes}
 use Rattle.cmdcodec.specs.declared.raw.Raw.{Raw}
 use Rattle.cmdcodec.specs.declared.ill.Ill.{Ill}
 use Rattle.cmdcodec.specs.Legality.{first_ill}
@@ -63,6 +63,13 @@ word_of bit = cond bit 1 0
 -- CMDQ_ERR of any word
 abbrev pub command_queue_bit : ℕ → Bool
 command_queue_bit word = word % 2 == 1
+
+-- ---- what an acknowledgement is answered
+
+-- G1, exactly where no error is active; G2, exactly where one is, and CMDQ_ERR of the word isn't that of GERROR.
+pub record IsAcknowledgementAnswer (stop : StopValue) (gerrorn : ℕ) (answer : Result ⊤ AckFault) : Type 0 where
+  pub none : (answer ≡ Err NoError) ↔ ¬ IsStopped stop.mode
+  pub other : (answer ≡ Err OtherBit) ↔ (IsStopped stop.mode × (command_queue_bit gerrorn ≢ stop.error))
 
 -- ---- what always holds
 

@@ -1,16 +1,16 @@
 //! The engine: a unit with the consumer of a ring.
-ghost use Rattle.std.specs.Prelude.{◌≡◌, ◌≢◌, ◌≤◌, ◌^◌, ◌↔◌, [], length, All, IfOk, IfSome, IsTrue, OnOk, OnErr, Ok, Err, None, Some};
+ghost use Rattle.std.specs.Prelude.{◌≡◌, ◌≤◌, ◌^◌, ◌↔◌, [], length, IfSome, IsTrue, OnOk, OnErr};
 ghost use Rattle.std.specs.FinMap as finite;
 ghost use Rattle.ringcore.specs.declared.world.event.Who.TheVariants.{Consumer as ConsumerOf, Sender as SenderOf};
 ghost use Rattle.ringcore.specs.world.World.{world};
-ghost use Rattle.caches.specs.Blocks.{IsBlock};
 ghost use Rattle.caches.specs.Held.{held};
+ghost use Rattle.caches.specs.Stored.{IsFillAnswer, IsListAnswer};
 ghost use Rattle.ring.specs.table.Rule.{WentOn};
 ghost use Rattle.ring.specs.table.Histories.{IsHistory, Grew};
 ghost use Rattle.ring.specs.Finishing.{AreAll};
 ghost use Rattle.ring.specs.consumer.Completing.{taken_of};
 ghost use Rattle.engine.specs.Settled.{IsSettled};
-ghost use Rattle.engine.specs.Stops.{IsStopped, told, err_of, word_of, command_queue_bit};
+ghost use Rattle.engine.specs.Stops.{IsStopped, IsAcknowledgementAnswer, told, err_of, word_of};
 ghost use Rattle.engine.specs.Counting.{taken, AreCountsOf};
 ghost use Rattle.engine.specs.Units.{new_unit, filled, with_entries, OnlyRemoves};
 ghost use Rattle.engine.specs.Engines.{HasStepped, HasRun, HasLooked};
@@ -218,10 +218,9 @@ impl Engine {
     /// Errors, in this order, which change nothing: G1 where no error is active; G2 where CMDQ_ERR of the word isn't
     /// that of SMMU_GERROR.
     pub fn acknowledge(&mut self, gerrorn: u32, remedy: Remedy) -> Result<(), AckFault>
+        ensures answer { IsAcknowledgementAnswer self.old.unit.stop gerrorn result }
         ensures ok { OnOk result (self.new ≡ record self.old { unit = record self.old.unit { stop = told remedy self.old.unit.stop } }) }
         ensures err { OnErr result (self.new ≡ self.old) }
-        ensures none { (result ≡ Err AckFault.NoError) ↔ ¬ IsStopped self.old.unit.stop.mode }
-        ensures other { (result ≡ Err AckFault.OtherBit) ↔ (IsStopped self.old.unit.stop.mode × (command_queue_bit gerrorn ≢ self.old.unit.stop.error)) }
         ensures consumer { self.new.consumer ≡ self.old.consumer }
         ensures settled { IsSettled self.new.unit.caches.entries (taken_of self.new.consumer.trail) }
     {
@@ -233,13 +232,9 @@ impl Engine {
     /// Errors, in this order, which leave the engine as it was: C2 where its block isn't well formed; C1 where its tag
     /// is new and the caches are full; C3 when out of memory, where its tag is new.
     pub fn fill(&mut self, tag: Tag, value: u64) -> Result<Option<Entry>, CacheFault>
-        ensures was { IfOk result (λ was. was ≡ finite.get self.old.unit.caches.entries tag) }
+        ensures answer { IsFillAnswer self.old.unit.caches tag result }
         ensures ok { OnOk result (self.new ≡ record self.old { unit = with_entries self.old.unit (filled tag value self.old.unit) }) }
         ensures err { OnErr result (self.new ≡ self.old) }
-        ensures bad { (result ≡ Err CacheFault.BadBlock) ↔ ¬ IsBlock tag }
-        ensures full { (result ≡ Err CacheFault.Full) ↔ (IsBlock tag × (finite.get self.old.unit.caches.entries tag ≡ None) × (finite.len self.old.unit.caches.entries ≡ self.old.unit.caches.capacity)) }
-        ensures named { ¬ (result ≡ Err CacheFault.BadCapacity) }
-        ensures new_only { result ≡ Err CacheFault.NoMemory → finite.get self.old.unit.caches.entries tag ≡ None }
         ensures consumer { self.new.consumer ≡ self.old.consumer }
         ensures settled { IsSettled self.new.unit.caches.entries (taken_of self.new.consumer.trail) }
     {
@@ -268,9 +263,7 @@ impl Engine {
     ///
     /// Errors: C3 when out of memory, and no other.
     pub fn entries(&self) -> Result<Vec<Entry>, CacheFault>
-        ensures ok { IfOk result (λ list. list.items ≡ finite.values self.now.unit.caches.entries) }
-        ensures own { IfOk result (λ list. All (λ entry. finite.get self.now.unit.caches.entries entry.tag ≡ Some entry) list.items) }
-        ensures err { OnErr result (result ≡ Err CacheFault.NoMemory) }
+        ensures { IsListAnswer self.now.unit.caches.entries result }
     {
         self.unit.entries()
     }

@@ -1,7 +1,7 @@
 //! The stop at an illegal command.
-ghost use Rattle.std.specs.Prelude.{◌≡◌, ◌≢◌, ◌↔◌, IsTrue, OnOk, OnErr, Some, Err};
+ghost use Rattle.std.specs.Prelude.{◌≡◌, ◌↔◌, IsTrue, OnOk, OnErr, Some};
 ghost use Rattle.cmdcodec.specs.Legality.{first_ill};
-ghost use Rattle.engine.specs.Stops.{unstopped, IsStopped, stopped_at, gone_on, told, mode_after, err_of, word_of, command_queue_bit, IsKept};
+ghost use Rattle.engine.specs.Stops.{unstopped, IsStopped, IsAcknowledgementAnswer, stopped_at, gone_on, told, mode_after, err_of, word_of, IsKept};
 
 use crate::global_errors::{command_queue_bit, word_of};
 use crate::remedy::{AckFault, Remedy};
@@ -100,10 +100,9 @@ impl Stop {
 
     /// Software writes SMMU_GERRORN, and says what is to become of the command.
     pub(crate) fn acknowledge(&mut self, gerrorn: u32, remedy: Remedy) -> Result<(), AckFault>
+        ensures answer { IsAcknowledgementAnswer self.old gerrorn result }
         ensures ok { OnOk result (self.new ≡ told remedy self.old) }
         ensures err { OnErr result (self.new ≡ self.old) }
-        ensures none { (result ≡ Err AckFault.NoError) ↔ ¬ IsStopped self.old.mode }
-        ensures other { (result ≡ Err AckFault.OtherBit) ↔ (IsStopped self.old.mode × (command_queue_bit gerrorn ≢ self.old.error)) }
     {
         if !self.is_stopped() {
             return Err(AckFault::NoError);

@@ -1,11 +1,11 @@
 //! The unit: the caches, and the stop at an illegal command.
-ghost use Rattle.std.specs.Prelude.{◌≡◌, ◌<◌, ◌≤◌, ◌^◌, ◌↔◌, ◌≢◌, [], List, All, IfOk, IfSome, OnOk, OnErr, IsTrue, Ok, Err, None, Some};
+ghost use Rattle.std.specs.Prelude.{◌≡◌, ◌<◌, ◌^◌, ◌↔◌, [], List, IfSome, OnOk, OnErr, IsTrue};
 ghost use Rattle.std.specs.FinMap as finite;
 ghost use Rattle.ringcore.specs.world.World.{Taken};
-ghost use Rattle.caches.specs.Blocks.{IsBlock};
 ghost use Rattle.caches.specs.Held.{held};
+ghost use Rattle.caches.specs.Stored.{IsFillAnswer, IsListAnswer};
 ghost use Rattle.engine.specs.Settled.{IsSettled};
-ghost use Rattle.engine.specs.Stops.{IsStopped, MayComeNext, told, err_of, word_of, command_queue_bit};
+ghost use Rattle.engine.specs.Stops.{IsStopped, MayComeNext, IsAcknowledgementAnswer, told, err_of, word_of};
 ghost use Rattle.engine.specs.Counting.{taken};
 ghost use Rattle.engine.specs.Units.{HasJudged, StaysSettled, IsSettledUnit, IsLegal, IsApplied, took, new_unit, filled, with_entries};
 
@@ -144,10 +144,9 @@ impl Unit {
     /// Errors, in this order, which change nothing: G1 where no error is active; G2 where CMDQ_ERR of the word isn't
     /// that of SMMU_GERROR.
     pub fn acknowledge(&mut self, gerrorn: u32, remedy: Remedy) -> Result<(), AckFault>
+        ensures answer { IsAcknowledgementAnswer self.old.stop gerrorn result }
         ensures ok { OnOk result (self.new ≡ record self.old { stop = told remedy self.old.stop }) }
         ensures err { OnErr result (self.new ≡ self.old) }
-        ensures none { (result ≡ Err AckFault.NoError) ↔ ¬ IsStopped self.old.stop.mode }
-        ensures other { (result ≡ Err AckFault.OtherBit) ↔ (IsStopped self.old.stop.mode × (command_queue_bit gerrorn ≢ self.old.stop.error)) }
         ensures settled { StaysSettled self.old self.new [] }
     {
         self.stop.acknowledge(gerrorn, remedy)
@@ -169,13 +168,9 @@ impl Unit {
     /// Errors, in this order, which leave the unit as it was: C2 where its block isn't well formed; C1 where its tag
     /// is new and the caches are full; C3 when out of memory, where its tag is new.
     pub fn fill(&mut self, tag: Tag, value: u64) -> Result<Option<Entry>, CacheFault>
-        ensures was { IfOk result (λ was. was ≡ finite.get self.old.caches.entries tag) }
+        ensures answer { IsFillAnswer self.old.caches tag result }
         ensures ok { OnOk result (self.new ≡ with_entries self.old (filled tag value self.old)) }
         ensures err { OnErr result (self.new ≡ self.old) }
-        ensures bad { (result ≡ Err CacheFault.BadBlock) ↔ ¬ IsBlock tag }
-        ensures full { (result ≡ Err CacheFault.Full) ↔ (IsBlock tag × (finite.get self.old.caches.entries tag ≡ None) × (finite.len self.old.caches.entries ≡ self.old.caches.capacity)) }
-        ensures named { ¬ (result ≡ Err CacheFault.BadCapacity) }
-        ensures new_only { result ≡ Err CacheFault.NoMemory → finite.get self.old.caches.entries tag ≡ None }
         ensures settled { StaysSettled self.old self.new [] }
     {
         let born = self.counts.taken();
@@ -203,9 +198,7 @@ impl Unit {
     ///
     /// Errors: C3 when out of memory, and no other.
     pub fn entries(&self) -> Result<Vec<Entry>, CacheFault>
-        ensures ok { IfOk result (λ list. list.items ≡ finite.values self.now.caches.entries) }
-        ensures own { IfOk result (λ list. All (λ entry. finite.get self.now.caches.entries entry.tag ≡ Some entry) list.items) }
-        ensures err { OnErr result (result ≡ Err CacheFault.NoMemory) }
+        ensures { IsListAnswer self.now.caches.entries result }
     {
         self.caches.entries()
     }

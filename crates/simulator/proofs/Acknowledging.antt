@@ -1,22 +1,17 @@
 -- What an acknowledgement comes to, by what the unit's is answered.
 use Rattle.std.proofs.Common.{◌≡◌, ◌≢◌, refl, ap, sym, ◌∙◌, subst, ℕ, Bool, true, false, not, cond, Result, Ok, Err}
-use Rattle.std.specs.Prelude.{◌↔◌, ⊤, OnOk, OnErr}
+use Rattle.std.specs.Prelude.{⊤, OnOk, OnErr}
 use Rattle.engine.specs.declared.stop.Mode.{Mode}
 use Rattle.engine.specs.declared.stop.Mode.TheVariants as mode
 use Rattle.engine.specs.declared.remedy.Remedy.{Remedy}
 use Rattle.engine.specs.declared.remedy.AckFault.{AckFault}
 use Rattle.engine.specs.declared.remedy.AckFault.TheVariants.{NoError, OtherBit}
-use Rattle.engine.specs.Stops.{StopValue, IsStopped, told, command_queue_bit}
+use Rattle.engine.specs.Stops.{StopValue, IsStopped, IsAcknowledgementAnswer, told, command_queue_bit}
 use Rattle.engine.specs.Units.{UnitValue}
 use Rattle.simulator.specs.queue.Seated.{QueueValue}
 use Rattle.simulator.specs.State.{State, Answered}
 use Rattle.simulator.specs.Steps.{is_stopped, same_bit, acknowledged}
 use Rattle.simulator.specs.Standing.{Stands}
-
--- when an acknowledgement is refused, and for what
-pub record AckClauses (gerrorn : ℕ) (stop : StopValue) (r : Result ⊤ AckFault) : Type 0 where
-  pub none : (r ≡ Err NoError) ↔ ¬ IsStopped stop.mode
-  pub other : (r ≡ Err OtherBit) ↔ (IsStopped stop.mode × (command_queue_bit gerrorn ≢ stop.error))
 
 -- by whether it is stopped, and whether the bits agree
 abbrev by_tests : Bool → Bool → Remedy → State → Answered (Result ⊤ AckFault)
@@ -72,22 +67,22 @@ ok_is_no_fault : (t : ⊤) (fault : AckFault) → Ok t ≡ Err fault → ⊥
 ok_is_no_fault t fault e = absurd cc
 
 -- by what the unit answered
-answer_is : (gerrorn : ℕ) (remedy : Remedy) (state : State) (r : Result ⊤ AckFault) → AckClauses gerrorn state.stop r
+answer_is : (gerrorn : ℕ) (remedy : Remedy) (state : State) (r : Result ⊤ AckFault) → IsAcknowledgementAnswer state.stop gerrorn r
     → acknowledged gerrorn remedy state ≡ record { answer = r; state = state_after r remedy state }
-answer_is gerrorn remedy state (Ok t) clauses =
-    let stopped = is_stopped_or_not state.stop.mode (λ no_stop. ok_is_no_fault t NoError (clauses.none.1 no_stop)) in
+answer_is gerrorn remedy state (Ok t) answer =
+    let stopped = is_stopped_or_not state.stop.mode (λ no_stop. ok_is_no_fault t NoError (answer.none.1 no_stop)) in
     tests_say gerrorn remedy state true true (stopped_by state.stop.mode stopped)
-    (same_bits (command_queue_bit gerrorn) state.stop.error (λ other. ok_is_no_fault t OtherBit (clauses.other.1 (stopped, other))))
-answer_is gerrorn remedy state (Err NoError) clauses = tests_say gerrorn remedy state false _ (not_stopped state.stop.mode (clauses.none.0 refl)) refl
-answer_is gerrorn remedy state (Err OtherBit) clauses =
-    let is = clauses.other.0 refl in
+    (same_bits (command_queue_bit gerrorn) state.stop.error (λ other. ok_is_no_fault t OtherBit (answer.other.1 (stopped, other))))
+answer_is gerrorn remedy state (Err NoError) answer = tests_say gerrorn remedy state false _ (not_stopped state.stop.mode (answer.none.0 refl)) refl
+answer_is gerrorn remedy state (Err OtherBit) answer =
+    let is = answer.other.0 refl in
     tests_say gerrorn remedy state true false (stopped_by state.stop.mode is.0) (other_bits (command_queue_bit gerrorn) state.stop.error is.1)
 
 pub acknowledged_is : (queue : QueueValue) (unit new : UnitValue) (state : State) (gerrorn : ℕ) (remedy : Remedy) (r : Result ⊤ AckFault)
-    → AckClauses gerrorn unit.stop r → OnOk r (new ≡ record unit { stop = told remedy unit.stop }) → OnErr r (new ≡ unit) → Stands (record { queue = queue; unit = unit }) state
+    → IsAcknowledgementAnswer unit.stop gerrorn r → OnOk r (new ≡ record unit { stop = told remedy unit.stop }) → OnErr r (new ≡ unit) → Stands (record { queue = queue; unit = unit }) state
     → (r ≡ (acknowledged gerrorn remedy state).answer) × Stands (record { queue = queue; unit = new }) (acknowledged gerrorn remedy state).state
-acknowledged_is queue unit new state gerrorn remedy r clauses ok err s =
-    let is = answer_is gerrorn remedy state r (subst (λ (u : UnitValue). AckClauses gerrorn u.stop r) s.unit_is clauses) in (
+acknowledged_is queue unit new state gerrorn remedy r answer ok err s =
+    let is = answer_is gerrorn remedy state r (subst (λ (u : UnitValue). IsAcknowledgementAnswer u.stop gerrorn r) s.unit_is answer) in (
       ap (λ (a : Answered (Result ⊤ AckFault)). a.answer) (sym is),
       subst (λ (a : Answered (Result ⊤ AckFault)). Stands (record { queue = queue; unit = new }) a.state) (sym is) (stands_after queue unit new state remedy r ok err s),
     )

@@ -1,6 +1,6 @@
 -- What a fill comes to, by what the unit's fill is answered.
 use Rattle.std.proofs.Common.{◌≡◌, refl, ap, sym, ◌∙◌, subst, ℕ, ◌+◌, ◌%◌, ◌^◌, ◌==◌, Bool, true, false, not, cond, nat_le, Option, Some, None, Result, Ok, Err}
-use Rattle.std.specs.Prelude.{◌↔◌, is_some, IfOk, OnOk, OnErr}
+use Rattle.std.specs.Prelude.{◌↔◌, is_some, OnOk, OnErr}
 use Rattle.std.specs.FinMap as finite
 use Rattle.std.proofs.lemmas.Bool.{both_ways, and_parts, and_from, leb-true, le-leb, eqb-true, eq-eqb, ne_eqb, false_from_ne_true}
 use Rattle.caches.specs.declared.tag.Tag.{Tag}
@@ -9,7 +9,7 @@ use Rattle.caches.specs.declared.tag.Entry.{Entry}
 use Rattle.caches.specs.declared.fault.CacheFault.{CacheFault}
 use Rattle.caches.specs.declared.fault.CacheFault.TheVariants.{Full, BadBlock, NoMemory, BadCapacity}
 use Rattle.caches.specs.Blocks.{IsAligned, IsBlock}
-use Rattle.caches.specs.Held.{Entries}
+use Rattle.caches.specs.Stored.{Stored, IsFillAnswer}
 use Rattle.simulator.specs.Blocks.{is_aligned, is_block}
 use Rattle.ringcore.specs.world.World.{world}
 use Rattle.caches.specs.Held.{Fill, Evict}
@@ -52,12 +52,9 @@ block_test (Atc sid ssid page span) b = aligned_test page span b
 
 -- ---- faults
 
--- when a fill is refused, and for what
-pub record FillClauses (held : Entries) (capacity : ℕ) (tag : Tag) (r : Result (Option Entry) CacheFault) : Type 0 where
-  pub bad : (r ≡ Err BadBlock) ↔ ¬ IsBlock tag
-  pub full : (r ≡ Err Full) ↔ (IsBlock tag × (finite.get held tag ≡ None) × (finite.len held ≡ capacity))
-  pub named : ¬ (r ≡ Err BadCapacity)
-  pub new_only : r ≡ Err NoMemory → finite.get held tag ≡ None
+-- the caches of this state
+abbrev stored_in : State → Stored
+stored_in state = record { capacity = state.capacity; entries = entries state }
 
 -- what the test of a fill says, part by part
 abbrev by_parts : Bool → Option Entry → Bool → Bool → Option CacheFault
@@ -72,10 +69,10 @@ well_formed tag r bad other = by_test (is_block tag) refl
     by_test true e = refl
     by_test false e = absurd (other (bad.1 (λ block. both_ways (is_block tag) e (block_test tag block))))
 
-not_full : (held : Entries) (capacity : ℕ) (tag : Tag) (r : Result (Option Entry) CacheFault) → FillClauses held capacity tag r → is_block tag ≡ true → finite.get held tag ≡ None
-    → ¬ (r ≡ Err Full) → (finite.len held == capacity) ≡ false
-not_full held capacity tag r clauses block absent other =
-    ne_eqb (finite.len held) capacity (λ same. other (clauses.full.1 (block_is tag block, absent, same)))
+not_full : (held : Stored) (tag : Tag) (r : Result (Option Entry) CacheFault) → IsFillAnswer held tag r → is_block tag ≡ true → finite.get held.entries tag ≡ None
+    → ¬ (r ≡ Err Full) → (finite.len held.entries == held.capacity) ≡ false
+not_full held tag r answer block absent other =
+    ne_eqb (finite.len held.entries) held.capacity (λ same. other (answer.full.1 (block_is tag block, absent, same)))
 
 fault_is : (state : State) (tag : Tag) (wanting : Bool) (block : Bool) (was : Option Entry) (full : Bool) → is_block tag ≡ block → finite.get (entries state) tag ≡ was
     → (finite.len (entries state) == state.capacity) ≡ full → fill_fault wanting tag state ≡ by_parts block was full wanting
@@ -84,31 +81,31 @@ fault_is state tag wanting block was full b w f =
     ∙ ap (λ x. by_parts block x (finite.len (entries state) == state.capacity) wanting) w
     ∙ ap (λ x. by_parts block was x wanting) f
 
-no_fault : (state : State) (tag : Tag) (was : Option Entry) (r : Result (Option Entry) CacheFault) (result : Option Entry) → FillClauses (entries state) state.capacity tag r → r ≡ Ok result
+no_fault : (state : State) (tag : Tag) (was : Option Entry) (r : Result (Option Entry) CacheFault) (result : Option Entry) → IsFillAnswer (stored_in state) tag r → r ≡ Ok result
     → finite.get (entries state) tag ≡ was → fill_fault false tag state ≡ None
-no_fault state tag (Some old) r result clauses ok e =
-    fault_is state tag false true (Some old) _ (well_formed tag r clauses.bad (λ bad. absurd cc)) e refl
-no_fault state tag None r result clauses ok e =
-    let block = well_formed tag r clauses.bad (λ bad. absurd cc) in
-    fault_is state tag false true None false block e (not_full (entries state) state.capacity tag r clauses block e (λ full. absurd cc))
+no_fault state tag (Some old) r result answer ok e =
+    fault_is state tag false true (Some old) _ (well_formed tag r answer.bad (λ bad. absurd cc)) e refl
+no_fault state tag None r result answer ok e =
+    let block = well_formed tag r answer.bad (λ bad. absurd cc) in
+    fault_is state tag false true None false block e (not_full (stored_in state) tag r answer block e (λ full. absurd cc))
 
 -- The test has the fault that the unit's fill told; whether memory runs out is a choice.
-pub fill_refused : (state : State) (tag : Tag) (r : Result (Option Entry) CacheFault) (fault : CacheFault) → FillClauses (entries state) state.capacity tag r → r ≡ Err fault
+pub fill_refused : (state : State) (tag : Tag) (r : Result (Option Entry) CacheFault) (fault : CacheFault) → IsFillAnswer (stored_in state) tag r → r ≡ Err fault
     → (wanting : Bool) × (fill_fault wanting tag state ≡ Some fault)
-fill_refused state tag r BadBlock clauses e =
-    (false, fault_is state tag false false _ _ (false_from_ne_true (is_block tag) (λ block. clauses.bad.0 e (block_is tag block))) refl refl)
-fill_refused state tag r Full clauses e =
-    let is = clauses.full.0 e in
+fill_refused state tag r BadBlock answer e =
+    (false, fault_is state tag false false _ _ (false_from_ne_true (is_block tag) (λ block. answer.bad.0 e (block_is tag block))) refl refl)
+fill_refused state tag r Full answer e =
+    let is = answer.full.0 e in
     (false, fault_is state tag false true None true (block_test tag is.0) is.1 (eq-eqb (finite.len (entries state)) state.capacity is.2))
-fill_refused state tag r NoMemory clauses e =
-    let block = well_formed tag r clauses.bad (λ bad. absurd cc) in
-    let absent = clauses.new_only e in
-    (true, fault_is state tag true true None false block absent (not_full (entries state) state.capacity tag r clauses block absent (λ full. absurd cc)))
-fill_refused state tag r BadCapacity clauses e = absurd (clauses.named e)
+fill_refused state tag r NoMemory answer e =
+    let block = well_formed tag r answer.bad (λ bad. absurd cc) in
+    let absent = answer.new_only e in
+    (true, fault_is state tag true true None false block absent (not_full (stored_in state) tag r answer block absent (λ full. absurd cc)))
+fill_refused state tag r BadCapacity answer e = absurd (answer.named e)
 
-pub fill_accepted : (state : State) (tag : Tag) (r : Result (Option Entry) CacheFault) (was : Option Entry) → FillClauses (entries state) state.capacity tag r → r ≡ Ok was
+pub fill_accepted : (state : State) (tag : Tag) (r : Result (Option Entry) CacheFault) (was : Option Entry) → IsFillAnswer (stored_in state) tag r → r ≡ Ok was
     → fill_fault false tag state ≡ None
-fill_accepted state tag r was clauses e = no_fault state tag (finite.get (entries state) tag) r was clauses e refl
+fill_accepted state tag r was answer e = no_fault state tag (finite.get (entries state) tag) r was answer e refl
 
 -- ---- how the simulator stands after it
 
@@ -133,24 +130,22 @@ after_fill queue unit new state tag value e s = record {
       ∙ ap (λ n. with_entries (unit_of state) (finite.insert (entries state) tag (record { tag = tag; value = value; born = n }))) (all_counted (world state.run).taken state.history);
 }
 
-clauses_at : (unit : UnitValue) (state : State) (tag : Tag) (r : Result (Option Entry) CacheFault) → unit ≡ unit_of state
-    → FillClauses unit.caches.entries unit.caches.capacity tag r → FillClauses (entries state) state.capacity tag r
-clauses_at unit state tag r e clauses = subst (λ (u : UnitValue). FillClauses u.caches.entries u.caches.capacity tag r) e clauses
+answer_at : (unit : UnitValue) (state : State) (tag : Tag) (r : Result (Option Entry) CacheFault) → unit ≡ unit_of state → IsFillAnswer unit.caches tag r → IsFillAnswer (stored_in state) tag r
+answer_at unit state tag r is = subst (λ (u : UnitValue). IsFillAnswer u.caches tag r) is
 
 pub filled_is : (queue : QueueValue) (unit new : UnitValue) (state : State) (tag : Tag) (value : ℕ) (r : Result (Option Entry) CacheFault)
-    → FillClauses unit.caches.entries unit.caches.capacity tag r → IfOk r (λ was. was ≡ finite.get unit.caches.entries tag)
-    → OnOk r (new ≡ with_entries unit (filled_in_unit tag value unit)) → OnErr r (new ≡ unit) → Stands (record { queue = queue; unit = unit }) state
+    → IsFillAnswer unit.caches tag r → OnOk r (new ≡ with_entries unit (filled_in_unit tag value unit)) → OnErr r (new ≡ unit) → Stands (record { queue = queue; unit = unit }) state
     → (wanting : Bool) × (r ≡ (filled wanting tag value state).answer) × Stands (record { queue = queue; unit = new }) (filled wanting tag value state).state
 unfolding filled
-filled_is queue unit new state tag value (Ok was) clauses is ok err s =
-    let none = fill_accepted state tag (Ok was) was (clauses_at unit state tag (Ok was) s.unit_is clauses) refl in
+filled_is queue unit new state tag value (Ok was) answer ok err s =
+    let none = fill_accepted state tag (Ok was) was (answer_at unit state tag (Ok was) s.unit_is answer) refl in
     let same = ap (λ fault. filled_unless fault tag value state) none in (
       false,
-      ap Ok (is ∙ ap (λ (u : UnitValue). finite.get u.caches.entries tag) s.unit_is) ∙ ap (λ (a : Answered (Result (Option Entry) CacheFault)). a.answer) (sym same),
+      ap Ok (answer.was ∙ ap (λ (u : UnitValue). finite.get u.caches.entries tag) s.unit_is) ∙ ap (λ (a : Answered (Result (Option Entry) CacheFault)). a.answer) (sym same),
       subst (λ (a : Answered (Result (Option Entry) CacheFault)). Stands (record { queue = queue; unit = new }) a.state) (sym same) (after_fill queue unit new state tag value ok s),
     )
-filled_is queue unit new state tag value (Err fault) clauses is ok err s =
-    let refused = fill_refused state tag (Err fault) fault (clauses_at unit state tag (Err fault) s.unit_is clauses) refl in
+filled_is queue unit new state tag value (Err fault) answer ok err s =
+    let refused = fill_refused state tag (Err fault) fault (answer_at unit state tag (Err fault) s.unit_is answer) refl in
     let same = ap (λ f. filled_unless f tag value state) refused.1 in (
       refused.0,
       ap (λ (a : Answered (Result (Option Entry) CacheFault)). a.answer) (sym same),

@@ -1,15 +1,14 @@
 use Rattle.std.proofs.Common.{arith, ◌+◌, ◌<◌, Some}
-use Rattle.std.specs.declared.ops.Bound.TheVariants.{Included, Excluded}
 use Rattle.caches.specs.Keys.{covers_key, page_of}
 use Rattle.caches.specs.Sweep.{IsKeeping, IsPruned}
 use Rattle.caches.proofs.KeyOrder.{key_cmp}
-use Rattle.caches.proofs.Pruned.{pruned_from_swept, pruned_trans, keeping_pruned}
+use Rattle.caches.proofs.Pruned.{pruned_trans, keeping_pruned}
 use Rattle.caches.proofs.Ahead.{AreBelow, AreFound, found_before, gone_below, below_start}
 use Rattle.caches.proofs.ranges.sweep_before.Goals as goal
 use Rattle.caches.proofs.ranges.sweep_before.Goals.{then-start-last, else-start-last}
 
-pub remove_covered-requires-clause-keeping : goal.remove_covered-requires-clause-keeping
-remove_covered-requires-clause-keeping c = keeping_pruned (covers_key c.args.command.now) c.args.map.now c.loop-span.map c.loop-span.invariant.pruned c.requires.keeping
+pub sweep_start-before-requires-clause-keeping : goal.sweep_start-before-requires-clause-keeping
+sweep_start-before-requires-clause-keeping c = keeping_pruned (covers_key c.args.command.now) c.args.map.now c.loop-span.map c.loop-span.invariant.pruned c.requires.keeping
 
 pub loop-span-preserved : goal.loop-span-preserved
 loop-span-preserved c =
@@ -22,14 +21,14 @@ loop-span-preserved c =
     let kept : IsKeeping key_cmp m = keeping_pruned p old m c.loop-span.invariant.pruned c.requires.keeping in
     elim c.if-start-last.branch [
       | then-start-last b ↦
-          let n = b.remove_covered.new.map in
-          let pruned : IsPruned key_cmp p old n = pruned_trans key_cmp p old m n c.loop-span.invariant.pruned (pruned_from_swept key_cmp p (Included b.least.result) (Excluded b.least-then-start-last.result) m n b.remove_covered.ensures.after) in
+          let n = b.sweep_start-before.new.map in
+          let pruned : IsPruned key_cmp p old n = pruned_trans key_cmp p old m n c.loop-span.invariant.pruned b.sweep_start-before.ensures.pruned in
           let keeping : IsKeeping key_cmp n = keeping_pruned p old n pruned c.requires.keeping in
-          let below : AreBelow p w page n start = below_start p w page c.requires.reach c.loop-span.span start c.block_start-start.ensures _ _ b.least.ensures b.least-then-start-last.ensures m n keeping c.loop-span.invariant.gone b.remove_covered.ensures.after in
+          let below : AreBelow p w page n start = below_start p w page c.requires.reach c.loop-span.span start c.block_start-start.ensures m n keeping c.loop-span.invariant.gone b.sweep_start-before.ensures.pruned b.sweep_start-before.ensures.clean in
           rw (b.map-is, b.before-is) (record {
             pruned = pruned;
             gone = gone_below p w page c.requires.reach c.loop-span.span start c.block_start-start.ensures n keeping below;
-            found = found_before p w page c.requires.reach n start b.last_page_before-before.result (omega (arith, c.block_start-start.ensures)) below b.last_page_before-before.ensures;
+            found = found_before p w page c.requires.reach n start b.sweep_start-before.result (omega (arith, c.block_start-start.ensures)) below b.sweep_start-before.ensures.before;
           })
       | else-start-last b ↦
           let found : AreFound p w page m (Some c.in-Some.last) = rw c.in-Some.is at c.loop-span.invariant.found in

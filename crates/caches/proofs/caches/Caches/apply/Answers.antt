@@ -3,15 +3,15 @@ use Rattle.std.specs.FinMap as finite
 use Rattle.caches.specs.Held.{without_covered}
 use Rattle.caches.specs.Stored.{Stored}
 use Rattle.caches.specs.Views.{stored}
-use Rattle.caches.proofs.Viewed.{keeping, stored_without}
+use Rattle.caches.proofs.Viewed.{keeping, spanning, stored_without}
 use Rattle.caches.proofs.Kept.{are_without, len_without}
 use Rattle.caches.proofs.caches.Caches.apply.Goals as goal
 
 pub remove_all_covered-requires : goal.remove_all_covered-requires
-remove_all_covered-requires c = record { keeping = keeping c.self.inside c.self.invariant.kept }
+remove_all_covered-requires c = record { keeping = keeping c.self.inside c.self.invariant.kept; spans = spanning c.self.inside c.self.invariant.spanned }
 
 pub invariant_of-self : goal.invariant_of-self
-invariant_of-self c = are_without c.args.command.now c.self.inside (record c.self.inside { map = c.remove_all_covered.new.map }) refl c.self.invariant c.remove_all_covered.ensures.after
+invariant_of-self c = are_without c.args.command.now c.self.inside (record c.self.inside { map = c.remove_all_covered.new.map }) refl refl c.self.invariant c.remove_all_covered.ensures.after
 
 pub returns-clause-after : goal.returns-clause-after
 returns-clause-after c =

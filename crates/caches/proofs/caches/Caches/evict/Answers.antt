@@ -9,7 +9,7 @@ use Rattle.caches.proofs.Kept.{are_evicted}
 use Rattle.caches.proofs.caches.Caches.evict.Goals as goal
 
 pub invariant_of-self : goal.invariant_of-self
-invariant_of-self c = are_evicted c.self.inside (record c.self.inside { map = c.remove.new.self }) c.args.tag.now refl c.self.invariant
+invariant_of-self c = are_evicted c.self.inside (record c.self.inside { map = c.remove.new.self }) c.args.tag.now refl refl c.self.invariant
     (subst (λ k. Updates key_cmp c.self.inside.map c.remove.new.self k None) c.of.ensures.key c.remove.ensures.updates)
 
 pub returns-clause-was : goal.returns-clause-was

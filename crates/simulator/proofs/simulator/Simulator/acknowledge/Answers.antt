@@ -7,12 +7,9 @@ use Rattle.engine.specs.Stops.{told}
 use Rattle.engine.specs.Units.{UnitValue}
 use Rattle.simulator.specs.Steps.{acknowledged}
 use Rattle.simulator.specs.Standing.{SimulatorValue, Stands}
-use Rattle.simulator.proofs.Acknowledging.{AckClauses, acknowledged_is}
+use Rattle.simulator.proofs.Acknowledging.{acknowledged_is}
 use Rattle.simulator.proofs.Together.{after_unit}
 use Rattle.simulator.proofs.simulator.Simulator.acknowledge.Goals as goal
-
-clauses : (c : goal.After-acknowledge) → AckClauses c.args.gerrorn c.self.inside.unit.stop c.acknowledge.result
-clauses c = record { none = c.acknowledge.ensures.none; other = c.acknowledge.ensures.other }
 
 -- Whatever was answered, the counts stay, and so do the words that come next.
 stays : {A : Type 0} (part : UnitValue → A) → ((u : UnitValue) (remedy : Remedy) → part (record u { stop = told remedy u.stop }) ≡ part u)
@@ -26,9 +23,9 @@ invariant_of-self c =
     after_unit c.self.inside.queue c.self.inside.consumer c.self.inside.unit c.acknowledge.new.self (acknowledged c.args.gerrorn c.args.remedy is.state).state
     (stays (λ u. u.counts) (λ u remedy _. u.counts) c.acknowledge.result _ _ _ c.acknowledge.ensures.ok c.acknowledge.ensures.err)
     (stays (λ u. u.stop.next) (λ u remedy _. u.stop.next) c.acknowledge.result _ _ _ c.acknowledge.ensures.ok c.acknowledge.ensures.err) c.acknowledge.ensures.settled is
-    (acknowledged_is c.self.inside.queue c.self.inside.unit c.acknowledge.new.self is.state c.args.gerrorn c.args.remedy c.acknowledge.result (clauses c) c.acknowledge.ensures.ok c.acknowledge.ensures.err is.stands).1
+    (acknowledged_is c.self.inside.queue c.self.inside.unit c.acknowledge.new.self is.state c.args.gerrorn c.args.remedy c.acknowledge.result c.acknowledge.ensures.answer c.acknowledge.ensures.ok c.acknowledge.ensures.err is.stands).1
 
 pub returns : goal.returns
 returns c state stands =
-    acknowledged_is c.self.inside.queue c.self.inside.unit c.acknowledge.new.self state c.args.gerrorn c.args.remedy c.acknowledge.result (clauses c) c.acknowledge.ensures.ok c.acknowledge.ensures.err
+    acknowledged_is c.self.inside.queue c.self.inside.unit c.acknowledge.new.self state c.args.gerrorn c.args.remedy c.acknowledge.result c.acknowledge.ensures.answer c.acknowledge.ensures.ok c.acknowledge.ensures.err
     (subst (λ (m : SimulatorValue). Stands m state) (sym c.self.view_is) stands)

@@ -6,12 +6,9 @@ use Rattle.caches.specs.Held.{Entries}
 use Rattle.engine.specs.Units.{UnitValue, with_entries}
 use Rattle.simulator.specs.Fills.{filled}
 use Rattle.simulator.specs.Standing.{SimulatorValue, Stands}
-use Rattle.simulator.proofs.Filling.{FillClauses, filled_is}
+use Rattle.simulator.proofs.Filling.{filled_is}
 use Rattle.simulator.proofs.Together.{after_unit}
 use Rattle.simulator.proofs.simulator.Simulator.fill.Goals as goal
-
-clauses : (c : goal.After-fill) → FillClauses c.self.inside.unit.caches.entries c.self.inside.unit.caches.capacity c.args.tag c.fill.result
-clauses c = record { bad = c.fill.ensures.bad; full = c.fill.ensures.full; named = c.fill.ensures.named; new_only = c.fill.ensures.new_only }
 
 -- Whatever was answered, the counts and the stop stay.
 stays : {A : Type 0} (part : UnitValue → A) → ((u : UnitValue) (entries : Entries) → part (with_entries u entries) ≡ part u)
@@ -22,12 +19,12 @@ stays part same (Err fault) old new entries ok err = ap part err
 pub invariant_of-self : goal.invariant_of-self
 invariant_of-self c =
     let is = c.self.invariant in
-    let f = filled_is c.self.inside.queue c.self.inside.unit c.fill.new.self is.state c.args.tag c.args.value c.fill.result (clauses c) c.fill.ensures.was c.fill.ensures.ok c.fill.ensures.err is.stands in
+    let f = filled_is c.self.inside.queue c.self.inside.unit c.fill.new.self is.state c.args.tag c.args.value c.fill.result c.fill.ensures.answer c.fill.ensures.ok c.fill.ensures.err is.stands in
     after_unit c.self.inside.queue c.self.inside.consumer c.self.inside.unit c.fill.new.self (filled f.0 c.args.tag c.args.value is.state).state
     (stays (λ u. u.counts) (λ u entries _. u.counts) c.fill.result _ _ _ c.fill.ensures.ok c.fill.ensures.err)
     (stays (λ u. u.stop.next) (λ u entries _. u.stop.next) c.fill.result _ _ _ c.fill.ensures.ok c.fill.ensures.err) c.fill.ensures.settled is f.2
 
 pub returns : goal.returns
 returns c state stands =
-    filled_is c.self.inside.queue c.self.inside.unit c.fill.new.self state c.args.tag c.args.value c.fill.result (clauses c) c.fill.ensures.was c.fill.ensures.ok c.fill.ensures.err
+    filled_is c.self.inside.queue c.self.inside.unit c.fill.new.self state c.args.tag c.args.value c.fill.result c.fill.ensures.answer c.fill.ensures.ok c.fill.ensures.err
     (subst (λ (m : SimulatorValue). Stands m state) (sym c.self.view_is) stands)

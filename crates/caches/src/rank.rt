@@ -1,0 +1,112 @@
+//! Keys as numbers, by which they stand in the map.
+ghost use Rattle.std.specs.Prelude.{◌≡◌, ◌<◌, ◌^◌, refl};
+ghost use Rattle.std.specs.Ordering.{eq_by_cmp, as_partial_cmp};
+ghost use Rattle.std.specs.Cmp.{eq_by_cmp_equiv, partial_equiv_from_equiv, partial_order_from_agreeing_total};
+ghost use Rattle.caches.specs.contracts.key.KeyOrd.TheImpl.Laws as key_laws;
+ghost use Rattle.caches.specs.Keys.{key_of, page_of};
+ghost use Rattle.caches.specs.Ranks.{part_of};
+
+use crate::key::Key;
+use crate::tag::Tag;
+use std::cmp::Ordering;
+use std::marker::Model;
+
+/// How many pages there is room for in a rank.
+const PAGES: u128 = 1 << 64;
+
+/// How many spans there is room for beside each page.
+const SPANS: u128 = 1 << 8;
+
+/// How many substreams, or stages with their address spaces, there is room for beside each span.
+const PARTS: u128 = 1 << 22;
+
+/// A key as one number, so that two are compared at once. It is seen as the key.
+#[derive(Clone, Copy)]
+pub(crate) struct Rank {
+    number: u128,
+}
+
+impl Model for Rank {
+    ghost use Rattle.caches.specs.declared.key.Key.{Key};
+    ghost use Rattle.caches.specs.Ranks.{key_at, number_of, IsRank};
+
+    ghost Value = { Key };
+
+    ghost view = { λ r. key_at r.number };
+
+    ghost invariant = { λ r. IsRank r.number };
+
+    ghost inverse = { λ k. record { number = number_of k } };
+
+    ghost inverse_ok = { λ r h i. record { number = h.same i } };
+}
+
+impl PartialEq for Rank {
+    ghost eq = { eq_by_cmp ⟦<Key as Ord>⟧.cmp };
+
+    ghost laws = { partial_equiv_from_equiv (eq_by_cmp_equiv key_laws.total-law) };
+
+    fn eq(&self, other: &Rank) -> bool {
+        self.cmp(other).is_eq()
+    }
+}
+
+impl Eq for Rank {
+    ghost laws = { eq_by_cmp_equiv key_laws.total-law };
+}
+
+impl PartialOrd for Rank {
+    ghost partial_cmp = { as_partial_cmp ⟦<Key as Ord>⟧.cmp };
+
+    ghost laws = { partial_order_from_agreeing_total ⟦<Key as Ord>⟧.cmp key_laws.total-law (λ x y. refl) (λ x y. refl) };
+
+    fn partial_cmp(&self, other: &Rank) -> Option<Ordering> {
+        Some(self.cmp(other))
+    }
+}
+
+impl Ord for Rank {
+    ghost cmp = { ⟦<Key as Ord>⟧.cmp };
+
+    ghost total = { key_laws.total-law };
+
+    ghost matches_partial_cmp = { λ x y. refl };
+
+    ghost matches_eq = { λ x y. refl };
+
+    #[inline(always)]
+    fn cmp(&self, other: &Rank) -> Ordering {
+        self.number.cmp(&other.number)
+    }
+}
+
+impl Rank {
+    /// The rank of a key.
+    pub(crate) fn at(key: Key) -> Rank
+        requires { part_of key < 2 ^ 22 }
+        ensures { result ≡ key }
+    {
+        let owner = u128::from(key.owner_number());
+        let page = u128::from(key.page());
+        let span = u128::from(key.span());
+        let part = u128::from(key.part());
+        Rank {
+            number: ((owner * PAGES + page) * SPANS + span) * PARTS + part,
+        }
+    }
+
+    /// The rank of the key of a tag.
+    pub(crate) fn of(tag: &Tag) -> Rank
+        ensures key { result ≡ key_of tag.now }
+        ensures page { page_of result < 2 ^ 52 }
+    {
+        Rank::at(Key::of(tag))
+    }
+
+    /// The page at which its block begins; 0 where it has none.
+    pub(crate) fn page(&self) -> u64
+        ensures { result ≡ page_of self.now }
+    {
+        (self.number / PARTS / SPANS % PAGES) as u64
+    }
+}
