@@ -1,5 +1,5 @@
 -- From what a step does to what the request that asks for it does.
-use Rattle.std.proofs.Common.{◌≡◌, ℕ, Bool, true, false, List, ◌∷◌, ◌++◌, ap, sym, ◌∙◌, Option, Some, None, Ok, Err, IfSome, subst}
+use Rattle.std.proofs.Common.{◌≡◌, ℕ, Bool, true, false, List, ◌∷◌, ◌++◌, ap, sym, ◌∙◌, Option, Some, None, subst}
 use Rattle.script.specs.Outcome.{fault_line}
 use Rattle.script.specs.Effects.{answers}
 use Rattle.script.specs.Standing.{Acts}
@@ -13,8 +13,7 @@ use Rattle.ringcore.specs.machine.FaultNames.{label_of}
 use Rattle.ringcore.specs.machine.StepAnswers.{event_of}
 use Rattle.ringcore.specs.machine.Core.{CoreValue, StandsAfter, ring_of, IsRefused, IsTaken, answer_to as seen_by}
 use Rattle.schedule.specs.Texts.{answer_line}
-use Rattle.schedule.specs.ScheduleText.{State, taken, step_or_fault, step_effect, asked_effect}
-use Rattle.schedule.specs.Taking.{IsAnswered}
+use Rattle.schedule.specs.ScheduleText.{State, taken, step_or_fault, step_effect}
 use Rattle.schedule.specs.Standing.{Stands}
 
 -- the fault of a step, by the state that the machine stands for
@@ -49,13 +48,3 @@ step_taken number step is_counted seen old new before after took same text = rec
       (ap (λ (ring : Ring). seen_by ring state.run step) (sym s.ring) ∙ sym takes.answer))
       (λ on. stands_taken old new state step s same takes.stands);
 }
-
-pub asked_refused : (number : ℕ) (asked : Option (Step × Bool)) (fault : StepFault) (old new : CoreValue) (before after : List ℕ) → IsAnswered asked old new (Some (Err fault))
-    → after ≡ before ++ fault_line number (label_of fault) → Acts Stands (λ wanting. asked_effect number asked) old new before after false
-asked_refused number None fault old new before after answered text = absurd answered
-asked_refused number (Some asked) fault old new before after answered text = step_refused number asked.0 asked.1 fault old new before after answered.0 text
-
-pub asked_taken : (number : ℕ) (asked : Option (Step × Bool)) (seen : Seen) (old new : CoreValue) (before after : List ℕ) → IsAnswered asked old new (Some (Ok seen))
-    → IfSome asked (λ a. after ≡ before ++ answer_line a.0 a.1 seen) → Acts Stands (λ wanting. asked_effect number asked) old new before after true
-asked_taken number None seen old new before after answered text = absurd answered
-asked_taken number (Some asked) seen old new before after answered text = step_taken number asked.0 asked.1 seen old new before after answered.0 answered.1 text

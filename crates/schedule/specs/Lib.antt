@@ -3,5 +3,4 @@ pub mod Steps
 pub mod Texts
 pub mod ScheduleText
 pub mod Standing
-pub mod Taking
 pub mod Scheduling

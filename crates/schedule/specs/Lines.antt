@@ -6,6 +6,7 @@ use Rattle.cmdcodec.specs.declared.raw.Raw.{Raw}
 use Rattle.script.specs.Fields.{◌>>=◌, guard, next_below, is_end, one_number, raws_of}
 use Rattle.schedule.specs.declared.request.Request.{Request}
 use Rattle.schedule.specs.declared.request.Request.TheVariants as asks
+use Rattle.schedule.specs.declared.request.Asked.TheVariants as steps
 
 -- ---- numbers
 
@@ -47,24 +48,24 @@ ring_of words = option_map (λ numbers. asks.Ring numbers.0 numbers.1) (two_numb
 
 -- `look S`
 unfoldable pub look_of_sender : List (List ℕ) → Option Request
-look_of_sender words = option_map (λ sender. asks.Look (Some sender)) (one_number words)
+look_of_sender words = option_map (λ sender. asks.Step (steps.Look (Some sender)) false) (one_number words)
 
 -- `look c`, or `look S`
 unfoldable pub look_of : List (List ℕ) → Option Request
 look_of [] = None
 look_of (who ∷ words) =
-    if bytes_eq who (codes "c") then guard (is_end words) (asks.Look None) else look_of_sender (who ∷ words)
+    if bytes_eq who (codes "c") then guard (is_end words) (asks.Step (steps.Look None) false) else look_of_sender (who ∷ words)
 
 -- `reserve S HEX ..`, which closes its batch, or `bare S HEX ..`, which doesn't
 unfoldable pub reserve_of : Bool → List (List ℕ) → Option Request
 reserve_of closes words = do
   sender ← next_below (2 ^ 32) words
   body ← body_of sender.1
-  Some (asks.Reserve sender.0 body closes)
+  Some (asks.Step (steps.Reserve sender.0 body closes) false)
 
 -- `write S SLOT HALF`
 unfoldable pub write_of : List (List ℕ) → Option Request
-write_of words = option_map (λ numbers. asks.Write numbers.0 numbers.1 numbers.2) (three_numbers words)
+write_of words = option_map (λ numbers. asks.Step (steps.Write numbers.0 numbers.1 numbers.2) false) (three_numbers words)
 
 -- `flip S SLOT` or `flip S SLOT COUNT`
 unfoldable pub flip_of : List (List ℕ) → Option Request
@@ -72,34 +73,34 @@ flip_of words = do
   sender ← next_below (2 ^ 32) words
   slot ← next_below (2 ^ 32) sender.1
   count ← count_of slot.1
-  Some (asks.Flip sender.0 slot.0 count.0 count.1)
+  Some (asks.Step (steps.Flip sender.0 slot.0 count.0) count.1)
 
 -- `test SLOT` or `test SLOT COUNT`
 unfoldable pub test_of : List (List ℕ) → Option Request
 test_of words = do
   slot ← next_below (2 ^ 32) words
   count ← count_of slot.1
-  Some (asks.Test slot.0 count.0 count.1)
+  Some (asks.Step (steps.Test slot.0 count.0) count.1)
 
 -- `read SLOT HALF`
 unfoldable pub read_of : List (List ℕ) → Option Request
-read_of words = option_map (λ numbers. asks.Read numbers.0 numbers.1) (two_numbers words)
+read_of words = option_map (λ numbers. asks.Step (steps.Read numbers.0 numbers.1) false) (two_numbers words)
 
 -- `advance` or `advance COUNT`
 unfoldable pub advance_of : List (List ℕ) → Option Request
-advance_of words = option_map (λ count. asks.Advance count.0 count.1) (count_of words)
+advance_of words = option_map (λ count. asks.Step (steps.Advance count.0) count.1) (count_of words)
 
 -- `close S`
 unfoldable pub close_of : List (List ℕ) → Option Request
-close_of words = option_map (λ sender. asks.Close sender) (one_number words)
+close_of words = option_map (λ sender. asks.Step (steps.Close sender) false) (one_number words)
 
 -- `ack S K`
 unfoldable pub ack_of : List (List ℕ) → Option Request
-ack_of words = option_map (λ numbers. asks.Acknowledge numbers.0 numbers.1) (two_numbers words)
+ack_of words = option_map (λ numbers. asks.Step (steps.Acknowledge numbers.0 numbers.1) false) (two_numbers words)
 
 -- `ask S`
 unfoldable pub ask_of : List (List ℕ) → Option Request
-ask_of words = option_map (λ sender. asks.Ask sender) (one_number words)
+ask_of words = option_map (λ sender. asks.Step (steps.Ask sender) false) (one_number words)
 
 -- a line of the consumer's, by its first word
 unfoldable pub consumer_line : List ℕ → List (List ℕ) → Option Request

@@ -51,23 +51,19 @@ step_or_fault number step is_counted state None =
 unfoldable pub step_effect : ℕ → Step → Bool → State → Effect State
 step_effect number step is_counted state = step_or_fault number step is_counted state (fault_of state.ring state.run step)
 
--- of the step that a request asks for, if it asks for one
-abbrev pub asked_effect : ℕ → Option (Step × Bool) → State → Effect State
-asked_effect number None state = answers [] state
-asked_effect number (Some asked) state = step_effect number asked.0 asked.1 state
-
 -- ---- lines
 
 -- what a request does once the ring is made
 unfoldable pub served : ℕ → Request → State → Effect State
+served number asks.Nothing state = answers [] state
 served number (asks.Ring log2 senders) state = faults number (codes "second ring") (Some state)
-served number request state = asked_effect number (step_of request) state
+served number (asks.Step asked is_counted) state = step_effect number (step_of asked) is_counted state
 
 -- what a request does before that
 unfoldable pub first_served : ℕ → Request → Effect State
 first_served number asks.Nothing = record { text = []; state = None; goes_on = true }
 first_served number (asks.Ring log2 senders) = ring_or_fault number log2 senders (core_fault log2 senders)
-first_served number request = faults number (codes "no ring") None
+first_served number (asks.Step asked is_counted) = faults number (codes "no ring") None
 
 -- A schedule's requests don't look at whether memory runs out, so that a script has one answer.
 abbrev pub schedules : Kind State Request

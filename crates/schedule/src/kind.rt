@@ -1,14 +1,13 @@
 //! Schedules, a kind of script.
 ghost use Rattle.std.specs.Prelude.{◌≡◌, IfOk, string_bytes};
-ghost use Rattle.ringcore.specs.machine.Core.{core_fault};
+ghost use Rattle.ringcore.specs.machine.Core.{core_fault, IsTakenOrRefused};
 ghost use Rattle.script.specs.Standing.{Acts, Begins};
-ghost use Rattle.schedule.specs.ScheduleText.{ring_or_fault, asked_effect, served};
+ghost use Rattle.schedule.specs.ScheduleText.{ring_or_fault, step_effect, served};
 ghost use Rattle.schedule.specs.Standing.{Stands};
 ghost use Rattle.schedule.specs.Steps.{step_of};
-ghost use Rattle.schedule.specs.Taking.{IsAnswered};
 
 use crate::parsing::parse_named;
-use crate::request::Request;
+use crate::request::{Asked, Request};
 use crate::telling::{say_answer, say_step_fault};
 use ringcore::{Core, CoreFault, Seen, StepFault};
 use script::{First, ScriptKind, say_fault};
@@ -25,51 +24,48 @@ fn first_ring(alloc: Global, log2: u32, senders: u32) -> Result<First<Core>, All
     }
 }
 
-/// Takes the step that a request asks for, if it asks for one.
-fn take(core: &mut Core, request: &Request) -> Option<Result<Seen, StepFault>>
-    ensures { IsAnswered (step_of request.now) core.old core.new result }
+/// Takes the step that a line asks for.
+fn take(core: &mut Core, asked: &Asked) -> Result<Seen, StepFault>
+    ensures { IsTakenOrRefused core.old core.new (step_of asked.now) result }
 {
-    match request {
-        Request::Nothing => None,
-        Request::Ring { .. } => None,
-        Request::Look { who } => Some(core.look(*who)),
-        Request::Reserve {
+    match asked {
+        Asked::Look { who } => core.look(*who),
+        Asked::Reserve {
             sender,
             body,
             closes,
-        } => Some(core.reserve(*sender, body.commands(), *closes)),
-        Request::Write { sender, slot, half } => Some(core.write(*sender, *slot, *half)),
-        Request::Flip {
+        } => core.reserve(*sender, body.commands(), *closes),
+        Asked::Write { sender, slot, half } => core.write(*sender, *slot, *half),
+        Asked::Flip {
             sender,
             slot,
             count,
-            ..
-        } => Some(core.flip(*sender, *slot, *count)),
-        Request::Test { slot, count, .. } => Some(core.test(*slot, *count)),
-        Request::Read { slot, half } => Some(core.read(*slot, *half)),
-        Request::Advance { count, .. } => Some(core.advance(*count)),
-        Request::Close { sender } => Some(core.close(*sender)),
-        Request::Acknowledge { sender, number } => Some(core.acknowledge(*sender, *number)),
-        Request::Ask { sender } => Some(core.ask(*sender)),
+        } => core.flip(*sender, *slot, *count),
+        Asked::Test { slot, count } => core.test(*slot, *count),
+        Asked::Read { slot, half } => core.read(*slot, *half),
+        Asked::Advance { count } => core.advance(*count),
+        Asked::Close { sender } => core.close(*sender),
+        Asked::Acknowledge { sender, number } => core.acknowledge(*sender, *number),
+        Asked::Ask { sender } => core.ask(*sender),
     }
 }
 
-/// Serves the step that a request asks for, if it asks for one, and says whether the run goes on.
+/// Serves a step, and says whether the run goes on.
 fn serve_step(
     core: &mut Core,
     number: u64,
-    request: &Request,
+    asked: &Asked,
+    is_counted: bool,
     reply: &mut String,
 ) -> Result<bool, AllocError>
-    ensures { IfOk result (λ goes_on. Acts Stands (λ wanting. asked_effect number (step_of request.now)) core.old core.new (string_bytes reply.old) (string_bytes reply.new) goes_on) }
+    ensures { IfOk result (λ goes_on. Acts Stands (λ wanting. step_effect number (step_of asked.now) is_counted) core.old core.new (string_bytes reply.old) (string_bytes reply.new) goes_on) }
 {
-    match take(core, request) {
-        None => Ok(true),
-        Some(Ok(seen)) => {
-            say_answer(request, seen, reply)?;
+    match take(core, asked) {
+        Ok(seen) => {
+            say_answer(asked, is_counted, seen, reply)?;
             Ok(true)
         }
-        Some(Err(fault)) => {
+        Err(fault) => {
             say_step_fault(number, fault, reply)?;
             Ok(false)
         }
@@ -105,16 +101,7 @@ impl ScriptKind for Schedule {
         match request {
             Request::Nothing => Ok(First::Nothing),
             Request::Ring { log2, senders } => first_ring(alloc, *log2, *senders),
-            Request::Look { .. }
-            | Request::Reserve { .. }
-            | Request::Write { .. }
-            | Request::Flip { .. }
-            | Request::Test { .. }
-            | Request::Read { .. }
-            | Request::Advance { .. }
-            | Request::Close { .. }
-            | Request::Acknowledge { .. }
-            | Request::Ask { .. } => Ok(First::Fault("no ring")),
+            Request::Step { .. } => Ok(First::Fault("no ring")),
         }
     }
 
@@ -130,17 +117,14 @@ impl ScriptKind for Schedule {
                 say_fault(number, "second ring", reply)?;
                 Ok(false)
             }
-            Request::Nothing
-            | Request::Look { .. }
-            | Request::Reserve { .. }
-            | Request::Write { .. }
-            | Request::Flip { .. }
-            | Request::Test { .. }
-            | Request::Read { .. }
-            | Request::Advance { .. }
-            | Request::Close { .. }
-            | Request::Acknowledge { .. }
-            | Request::Ask { .. } => serve_step(core, number, request, reply),
+            Request::Nothing => Ok(true),
+            Request::Step { asked, is_counted } => serve_step(
+                core,
+                number,
+                asked,
+                *is_counted,
+                reply,
+            ),
         }
     }
 

@@ -10,5 +10,5 @@ mod telling;
 
 pub use body::Body;
 pub use parsing::parse;
-pub use request::Request;
+pub use request::{Asked, Request};
 pub use serving::{schedule, serve};

@@ -1,18 +1,28 @@
 //! From a line to what it asks for.
-ghost use Rattle.std.specs.Prelude.{◌≡◌, ◌≤◌, [], ◌∷◌, ◌++◌, length, take, option_map, IfOk};
+ghost use Rattle.std.specs.Prelude.{◌≡◌, ◌≤◌, false, [], ◌∷◌, ◌++◌, length, take, option_map, IfOk};
 ghost use Rattle.script.specs.Words.{words_of};
 ghost use Rattle.schedule.specs.Lines.{two_numbers, three_numbers, given_count, count_of, body_of, ring_of, look_of_sender, look_of, reserve_of, write_of, flip_of, test_of, read_of, advance_of, close_of, ack_of, ask_of, consumer_line, sender_line, plain_line, named};
 ghost use Rattle.schedule.specs.ScheduleText.{request_of};
 
 use crate::body::Body;
 use crate::kind::Schedule;
-use crate::request::Request;
+use crate::request::{Asked, Request};
 use cmdcodec::{Raw, RawList};
 use script::{is_end, next_u32, next_word, one_number, raw};
 use std::alloc::{AllocError, Global};
 
 /// The most flags that one step goes over.
 const MOST_FLAGS: u32 = 64;
+
+/// What a line without a COUNT asks for.
+fn step(asked: Asked) -> Request
+    ensures { result ≡ Request.Step asked false }
+{
+    Request::Step {
+        asked,
+        is_counted: false,
+    }
+}
 
 #[tactic(auto, unfolding(crate::specs::Lines::two_numbers))]
 fn two_numbers(text: &[u8]) -> Option<(u32, u32)>
@@ -94,7 +104,7 @@ fn parse_look_of_sender(text: &[u8]) -> Option<Request>
     ensures { result ≡ look_of_sender (words_of text.now) }
 {
     let sender = one_number(text)?;
-    Some(Request::Look { who: Some(sender) })
+    Some(step(Asked::Look { who: Some(sender) }))
 }
 
 #[tactic(auto, unfolding(crate::specs::Lines::look_of))]
@@ -108,7 +118,7 @@ fn parse_look(text: &[u8]) -> Option<Request>
     if !is_end(rest) {
         return None;
     }
-    Some(Request::Look { who: None })
+    Some(step(Asked::Look { who: None }))
 }
 
 #[tactic(auto, unfolding(crate::specs::Lines::reserve_of))]
@@ -122,11 +132,11 @@ fn parse_reserve(alloc: Global, closes: bool, text: &[u8]) -> Result<Option<Requ
         return Ok(None);
     };
     let body = Body::new(alloc, commands)?;
-    Ok(Some(Request::Reserve {
+    Ok(Some(step(Asked::Reserve {
         sender,
         body,
         closes,
-    }))
+    })))
 }
 
 #[tactic(auto, unfolding(crate::specs::Lines::write_of))]
@@ -134,7 +144,7 @@ fn parse_write(text: &[u8]) -> Option<Request>
     ensures { result ≡ write_of (words_of text.now) }
 {
     let (sender, slot, half) = three_numbers(text)?;
-    Some(Request::Write { sender, slot, half })
+    Some(step(Asked::Write { sender, slot, half }))
 }
 
 #[tactic(auto, unfolding(crate::specs::Lines::flip_of))]
@@ -144,12 +154,12 @@ fn parse_flip(text: &[u8]) -> Option<Request>
     let (sender, rest) = next_u32(text)?;
     let (slot, rest) = next_u32(rest)?;
     let (count, is_counted) = parse_count(rest)?;
-    Some(Request::Flip {
+    let asked = Asked::Flip {
         sender,
         slot,
         count,
-        is_counted,
-    })
+    };
+    Some(Request::Step { asked, is_counted })
 }
 
 #[tactic(auto, unfolding(crate::specs::Lines::test_of))]
@@ -158,11 +168,8 @@ fn parse_test(text: &[u8]) -> Option<Request>
 {
     let (slot, rest) = next_u32(text)?;
     let (count, is_counted) = parse_count(rest)?;
-    Some(Request::Test {
-        slot,
-        count,
-        is_counted,
-    })
+    let asked = Asked::Test { slot, count };
+    Some(Request::Step { asked, is_counted })
 }
 
 #[tactic(auto, unfolding(crate::specs::Lines::read_of))]
@@ -170,7 +177,7 @@ fn parse_read(text: &[u8]) -> Option<Request>
     ensures { result ≡ read_of (words_of text.now) }
 {
     let (slot, half) = two_numbers(text)?;
-    Some(Request::Read { slot, half })
+    Some(step(Asked::Read { slot, half }))
 }
 
 #[tactic(auto, unfolding(crate::specs::Lines::advance_of))]
@@ -178,7 +185,8 @@ fn parse_advance(text: &[u8]) -> Option<Request>
     ensures { result ≡ advance_of (words_of text.now) }
 {
     let (count, is_counted) = parse_count(text)?;
-    Some(Request::Advance { count, is_counted })
+    let asked = Asked::Advance { count };
+    Some(Request::Step { asked, is_counted })
 }
 
 #[tactic(auto, unfolding(crate::specs::Lines::close_of))]
@@ -186,7 +194,7 @@ fn parse_close(text: &[u8]) -> Option<Request>
     ensures { result ≡ close_of (words_of text.now) }
 {
     let sender = one_number(text)?;
-    Some(Request::Close { sender })
+    Some(step(Asked::Close { sender }))
 }
 
 #[tactic(auto, unfolding(crate::specs::Lines::ack_of))]
@@ -194,7 +202,7 @@ fn parse_ack(text: &[u8]) -> Option<Request>
     ensures { result ≡ ack_of (words_of text.now) }
 {
     let (sender, number) = two_numbers(text)?;
-    Some(Request::Acknowledge { sender, number })
+    Some(step(Asked::Acknowledge { sender, number }))
 }
 
 #[tactic(auto, unfolding(crate::specs::Lines::ask_of))]
@@ -202,7 +210,7 @@ fn parse_ask(text: &[u8]) -> Option<Request>
     ensures { result ≡ ask_of (words_of text.now) }
 {
     let sender = one_number(text)?;
-    Some(Request::Ask { sender })
+    Some(step(Asked::Ask { sender }))
 }
 
 #[tactic(auto, unfolding(crate::specs::Lines::consumer_line))]

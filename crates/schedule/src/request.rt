@@ -1,18 +1,21 @@
 //! What the lines of a schedule ask for.
 use crate::body::Body;
 
-/// What a line asks for: a step of the ring mostly. Slots are places in the ring, halves are 0 (lo) and 1 (hi),
-/// and counts are of 1 to 64 slots in a row. Where the line has a COUNT of its own, a test's answer tells how
-/// many are ready.
+/// What a line asks for.
 #[derive(Debug, Drop)]
 pub enum Request {
     /// Nothing, as a comment or a line without words does.
     Nothing,
     /// That a ring of `2^log2` slots is made for so many senders.
-    Ring {
-        log2: u32,
-        senders: u32,
-    },
+    Ring { log2: u32, senders: u32 },
+    /// A step of the ring. Where the line has a COUNT of its own, a test's answer tells how many are ready.
+    Step { asked: Asked, is_counted: bool },
+}
+
+/// A step of the ring, as ringcore's `Step` without a kilobyte in it. Slots are places in the ring, halves are 0 (lo) and
+/// 1 (hi), and counts are of 1 to 64 slots in a row.
+#[derive(Debug, Drop)]
+pub enum Asked {
     /// A look at the control word: by a sender, or by the consumer where none is named.
     Look {
         who: Option<u32>,
@@ -34,13 +37,11 @@ pub enum Request {
         sender: u32,
         slot: u32,
         count: u32,
-        is_counted: bool,
     },
     /// A test of the head, which looks at so many flags at most.
     Test {
         slot: u32,
         count: u32,
-        is_counted: bool,
     },
     /// That the consumer reads a half of a slot.
     Read {
@@ -50,7 +51,6 @@ pub enum Request {
     /// That the consumer takes so many commands.
     Advance {
         count: u32,
-        is_counted: bool,
     },
     /// That a sender closes the ring.
     Close {

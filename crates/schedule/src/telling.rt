@@ -1,11 +1,11 @@
 //! The texts that the steps of a schedule are answered with.
-ghost use Rattle.std.specs.Prelude.{◌≡◌, ◌++◌, IfSome, OnOk, codes, decimal, string_bytes};
+ghost use Rattle.std.specs.Prelude.{◌≡◌, ◌++◌, OnOk, codes, decimal, string_bytes};
 ghost use Rattle.ringcore.specs.machine.FaultNames.{label_of};
 ghost use Rattle.script.specs.Outcome.{fault_line};
 ghost use Rattle.schedule.specs.Texts.{control_text, flags_text, number_text, ready_text, word_name, flags_of, seen_text, answer_line};
 ghost use Rattle.schedule.specs.Steps.{step_of};
 
-use crate::request::Request;
+use crate::request::Asked;
 use qindex::{Control, Index};
 use ringcore::{Seen, StepFault};
 use std::alloc::AllocError;
@@ -56,36 +56,24 @@ fn say_ready(is_counted: bool, found: u32, reply: &mut String) -> Result<(), All
     }
 }
 
-/// What the control word in the answer to a request's step is.
-fn word_name(request: &Request) -> &'static str
-    ensures { IfSome (step_of request.now) (λ asked. result.now ≡ word_name asked.0) }
+/// What the control word in the answer to a step is.
+fn word_name(asked: &Asked) -> &'static str
+    ensures { result.now ≡ word_name (step_of asked.now) }
 {
-    match request {
-        Request::Advance { .. } => "advanced ",
-        Request::Close { .. } => "closed ",
+    match asked {
+        Asked::Advance { .. } => "advanced ",
+        Asked::Close { .. } => "closed ",
         _ => "control ",
     }
 }
 
-/// How many flags a request's step turns.
-fn flags_of(request: &Request) -> u32
-    ensures { IfSome (step_of request.now) (λ asked. result ≡ flags_of asked.0) }
+/// How many flags a step turns.
+fn flags_of(asked: &Asked) -> u32
+    ensures { result ≡ flags_of (step_of asked.now) }
 {
-    match request {
-        Request::Flip { count, .. } => *count,
+    match asked {
+        Asked::Flip { count, .. } => *count,
         _ => 0,
-    }
-}
-
-/// Whether a request's line has a COUNT.
-fn has_count(request: &Request) -> bool
-    ensures { IfSome (step_of request.now) (λ asked. result ≡ asked.1) }
-{
-    match request {
-        Request::Flip { is_counted, .. } => *is_counted,
-        Request::Test { is_counted, .. } => *is_counted,
-        Request::Advance { is_counted, .. } => *is_counted,
-        _ => false,
     }
 }
 
@@ -120,16 +108,16 @@ fn say_seen(
     }
 }
 
-/// Tells what the step of a request was answered, on a line of its own.
+/// Tells what a step was answered, on a line of its own.
 pub(crate) fn say_answer(
-    request: &Request,
+    asked: &Asked,
+    is_counted: bool,
     seen: Seen,
     reply: &mut String,
 ) -> Result<(), AllocError>
-    ensures { OnOk result (IfSome (step_of request.now) (λ asked. string_bytes reply.new ≡ string_bytes reply.old ++ answer_line asked.0 asked.1 seen)) }
+    ensures { OnOk result (string_bytes reply.new ≡ string_bytes reply.old ++ answer_line (step_of asked.now) is_counted seen) }
 {
-    let (name, flags) = (word_name(request), flags_of(request));
-    say_seen(name, flags, has_count(request), seen, reply)?;
+    say_seen(word_name(asked), flags_of(asked), is_counted, seen, reply)?;
     reply.push_str("\n")
 }
 
