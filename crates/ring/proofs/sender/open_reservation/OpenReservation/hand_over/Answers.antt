@@ -8,19 +8,19 @@ use Rattle.ring.specs.sender.Senders.{SenderValue}
 use Rattle.ring.specs.sender.Reservations.{ReservationValue}
 use Rattle.ring.proofs.SenderLemmas.ReservesNone.{published_none}
 use Rattle.ring.proofs.SenderLemmas.TwoRuns.{published_ring, published_sender, wrote_is, left_is, all_flipped}
-use Rattle.ring.proofs.sender.open_reservation.OpenReservation.publish.Goals as goal
+use Rattle.ring.proofs.sender.open_reservation.OpenReservation.hand_over.Goals as goal
 use Rattle.ring.specs.sender.Publishing.{flipped_left, ReservesNone}
 
 pub flip_left-requires : goal.flip_left-requires
-flip_left-requires c = ap (λ (r : ReservationValue). r.ring) c.write_left-reservation.ensures.new ∙ (wrote_is (reserved_length c.args.self.trail - c.args.self.written) (record c.args.self { history = [] })).ring_is ∙ c.requires
+flip_left-requires g c = ap (λ (r : ReservationValue). r.ring) c.write_left-reservation.ensures.new ∙ (wrote_is (reserved_length c.args.self.trail - c.args.self.written) (record c.args.self { history = [] })).ring_is ∙ c.requires
 
 pub flip_left-requires-2 : goal.flip_left-requires-2
-flip_left-requires-2 c =
+flip_left-requires-2 g c =
     ap (λ (r : ReservationValue). r.ring) c.flip_left.ensures.new ∙ (left_is (record c.write_left-reservation.result { history = [] })).ring_is
     ∙ ap (λ (r : ReservationValue). r.ring) c.write_left-reservation.ensures.new ∙ (wrote_is (reserved_length c.args.self.trail - c.args.self.written) (record c.args.self { history = [] })).ring_is ∙ c.requires
 
 pub into_sender-requires : goal.into_sender-requires
-into_sender-requires c =
+into_sender-requires g c =
     let s : ReservationValue = record c.args.self { history = [] } in let r : ReservationValue = record c.write_left-reservation.result { history = [] } in
     let f = wrote_is (reserved_length s.trail - s.written) s in
     let e = c.write_left-reservation.ensures.new in
@@ -33,19 +33,19 @@ into_sender-requires c =
     (all_flipped r (omega arith) (omega arith) (omega arith) (omega arith))
 
 pub returns-clause-ring : goal.returns-clause-ring
-returns-clause-ring c =
+returns-clause-ring g c =
     ap (λ (s : SenderValue). s.ring) c.into_sender.ensures.sender
     ∙ ap (λ (r : ReservationValue). r.ring) (c.flip_left-2.ensures.new ∙ ap flipped_left (c.flip_left.ensures.new ∙ ap flipped_left c.write_left-reservation.ensures.new))
     ∙ published_ring (record c.args.self { history = [] })
 
 pub returns-clause-id : goal.returns-clause-id
-returns-clause-id c =
+returns-clause-id g c =
     ap (λ (s : SenderValue). s.number) c.into_sender.ensures.sender
     ∙ ap (λ (r : ReservationValue). r.sender) (c.flip_left-2.ensures.new ∙ ap flipped_left (c.flip_left.ensures.new ∙ ap flipped_left c.write_left-reservation.ensures.new))
     ∙ published_sender (record c.args.self { history = [] })
 
 pub returns-clause-batches : goal.returns-clause-batches
-returns-clause-batches c =
+returns-clause-batches g c =
     subst (λ (t : Trail). ReservesNone c.args.self.trail t)
     (sym
     (ap (λ (s : SenderValue). s.trail) c.into_sender.ensures.sender
@@ -53,7 +53,7 @@ returns-clause-batches c =
     (published_none (record c.args.self { history = [] }))
 
 pub returns-clause-history : goal.returns-clause-history
-returns-clause-history c =
+returns-clause-history g c =
     let first : ReservationValue = c.write_left-reservation.result in let second : ReservationValue = c.flip_left.new.self in let third : ReservationValue = c.flip_left-2.new.self in
     let once : first.sender ≡ c.args.self.sender =
     ap (λ (r : ReservationValue). r.sender) c.write_left-reservation.ensures.new ∙ (wrote_is (reserved_length c.args.self.trail - c.args.self.written) (record c.args.self { history = [] })).sender_is in
