@@ -34,7 +34,7 @@ use qindex::{Control, indexes_tell_the_queue};
 pub use receipt::Receipt;
 use ringcore::laws::newest_event;
 use ringcore::world_law;
-use std::marker::{Model, PhantomData};
+use std::marker::{Brand, Model, PhantomData};
 pub use tally::Tally;
 
 /// One of a ring's senders, which may be moved to a thread of its own.
@@ -220,7 +220,7 @@ impl Sender {
         ensures id { MatchResult result (λ r. r.sender ≡ self.number) (λ e. e.sender.number ≡ self.number) }
     {
         let Sender { mut port, tally } = self;
-        if port.exchange(ring, tally.sender, batch, K::closes(), many, &seen) {
+        if port.exchange::<Brand>(ring, tally.sender, batch, K::closes(), many, &seen) {
             return Ok(OpenReservation {
                 port,
                 tally: tally.with_batch::<K>(),

@@ -21,7 +21,7 @@ use atomic_table::Seat;
 use cmdcodec::Raw;
 use qindex::{Control, Index, indexes_tell_the_queue};
 use ringcore::{Half, world_law};
-use std::marker::Model;
+use std::marker::{Brand, Model};
 
 /// The consumer's port, which has acknowledged each CMD_SYNC that it took.
 #[derive(Drop)]
@@ -62,26 +62,21 @@ impl ConsumerPort {
         port.into_seat()
     }
 
-    /// What it read at the head is found again until it is taken. It does nothing.
-    pub(crate) fn steady(&self)
-        ensures { IsSteady self.now.trail }
+    /// What it has taken, and what it found ready behind that, are few; and what it read at the head is found again until
+    /// it is taken. It does nothing.
+    pub(crate) fn tells_of_its_steps(&self)
+        ensures few { taken_by self.now.trail + found_ready self.now.trail ≤ 2 ^ 46 }
+        ensures steady { IsSteady self.now.trail }
     {
-        self.port.steady();
+        self.port.tells_of_the_consumer();
     }
 
     pub(crate) fn taken(&self) -> u64
         ensures value { result ≡ taken_by self.now.trail }
         ensures few { result ≤ 2 ^ 46 }
     {
-        self.port.few();
+        self.port.tells_of_the_consumer();
         self.taken
-    }
-
-    /// What was taken and what was found ready behind it are few. It does nothing.
-    pub(crate) fn few_with_ready(&self)
-        ensures { taken_by self.now.trail + found_ready self.now.trail ≤ 2 ^ 46 }
-    {
-        self.port.few_with_ready();
     }
 
     pub(crate) fn look(&mut self, ring: &Ring) -> Control
@@ -127,7 +122,7 @@ impl ConsumerPort {
         ensures limit { result ≤ limit }
         ensures within { result ≤ size self.old.ring.made_with.geometry }
     {
-        let found = self.port.test(ring, self.head, limit);
+        let found = self.port.test::<Brand>(ring, self.head, limit);
         self.port.trail_stands_in_a_run();
         found
     }
@@ -140,7 +135,7 @@ impl ConsumerPort {
         ensures history { GrewBy Consumer (Read offset half result) self.old.history self.new.history }
     {
         self.port
-            .read(ring, self.head.forward(offset), offset, half)
+            .read::<Brand>(ring, self.head.forward(offset), offset, half)
     }
 
     /// Reads the first so many commands.
@@ -177,8 +172,8 @@ impl ConsumerPort {
             head,
             taken,
         } = self;
-        port.advance(ring, head, commands, count);
-        port.few();
+        port.advance::<Brand>(ring, head, commands, count);
+        port.tells_of_the_consumer();
         port.acknowledge_run(ring, commands, count);
         ConsumerPort {
             port,

@@ -19,7 +19,7 @@ use batch::Batch;
 use cmdcodec::{Raw, closing_sync, encode};
 use qindex::Index;
 use ringcore::{Half, shared_word};
-use std::marker::{Model, PhantomData};
+use std::marker::{Brand, Model, PhantomData};
 
 /// Slots that are reserved for a batch and its closing CMD_SYNC. It must be spent by `publish`.
 pub type Reservation<'b> = OpenReservation<'b, Closing>;
@@ -62,9 +62,9 @@ impl<'b, K: BatchKind> OpenReservation<'b, K> {
         let raw = self.next_command();
         let slot = self.start.forward(self.written);
         self.port
-            .write(ring, self.tally.sender, slot, self.written, Half::Lo, raw);
+            .write::<Brand>(ring, self.tally.sender, slot, self.written, Half::Lo, raw);
         self.port
-            .write(ring, self.tally.sender, slot, self.written, Half::Hi, raw);
+            .write::<Brand>(ring, self.tally.sender, slot, self.written, Half::Hi, raw);
         self.written += 1;
     }
 
@@ -88,7 +88,7 @@ impl<'b, K: BatchKind> OpenReservation<'b, K> {
     {
         let slot = self.start.forward(self.flipped);
         self.port
-            .flip(ring, self.tally.sender, slot, self.flipped, 1);
+            .flip::<Brand>(ring, self.tally.sender, slot, self.flipped, 1);
         self.flipped += 1;
     }
 
@@ -102,7 +102,7 @@ impl<'b, K: BatchKind> OpenReservation<'b, K> {
         let slot = self.start.forward(self.flipped);
         let count = shared_word(slot).min(self.written - self.flipped);
         self.port
-            .flip(ring, self.tally.sender, slot, self.flipped, count);
+            .flip::<Brand>(ring, self.tally.sender, slot, self.flipped, count);
         self.flipped += count;
     }
 

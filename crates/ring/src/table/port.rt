@@ -23,7 +23,7 @@ use qindex::{Control, Index, close_mask};
 use ringcore::{
     Half, cell, control_word, counts_law, data_word, flag_word, flip_mask, laws, world_law,
 };
-use std::marker::{Brand, Model};
+use std::marker::Model;
 
 /// A seat that stands for one participant alone.
 #[derive(Drop)]
@@ -104,26 +104,7 @@ impl Port {
     }
 
     /// An exchange of the control word that was looked at, to reserve a batch of so many commands: whether it was won.
-    pub(crate) fn exchange(
-        &mut self,
-        ring: &Ring,
-        sender: u32,
-        batch: &Batch,
-        closes: bool,
-        many: u32,
-        seen: &Control,
-    ) -> bool
-        requires ring { self.old.ring ≡ ring.now }
-        requires who { self.old.who ≡ Sender sender }
-        requires many { many ≡ length_with closes batch.now }
-        requires may { MayTry self.old.ring.made_with self.old.trail batch.now many seen.now }
-        requires control { IsControl self.old.ring.made_with.geometry seen.now }
-        ensures { IsWonOrLost batch.now closes seen.now self.old self.new result }
-    {
-        self.exchange_for::<Brand>(ring, sender, batch, closes, many, seen)
-    }
-
-    fn exchange_for<I: HasIntent>(
+    pub(crate) fn exchange<I: HasIntent>(
         &mut self,
         ring: &Ring,
         sender: u32,
@@ -159,28 +140,7 @@ impl Port {
     }
 
     /// A store of a half of a command of the open reservation, in the slot of this index.
-    pub(crate) fn write(
-        &mut self,
-        ring: &Ring,
-        sender: u32,
-        slot: Index,
-        offset: u32,
-        half: Half,
-        raw: Raw,
-    )
-        requires ring { self.old.ring ≡ ring.now }
-        requires who { self.old.who ≡ Sender sender }
-        requires may { MayWrite self.old.trail offset }
-        requires raw { slice_get (reserved_commands sender self.old.trail) offset ≡ Some raw }
-        requires geometry { slot.geometry ≡ self.old.ring.made_with.geometry }
-        requires slot { IsSlotAt self.old slot offset }
-        ensures trail { record self.new { history = [] } ≡ record self.old { trail = Write offset half ∷ self.old.trail; history = [] } }
-        ensures history { GrewBy self.old.who (Write offset half) self.old.history self.new.history }
-    {
-        self.write_for::<Brand>(ring, sender, slot, offset, half, raw)
-    }
-
-    fn write_for<I: HasIntent>(
+    pub(crate) fn write<I: HasIntent>(
         &mut self,
         ring: &Ring,
         sender: u32,
@@ -207,22 +167,7 @@ impl Port {
     }
 
     /// An exclusive or of a flag word, by the mask of the flags of so many slots from this index on.
-    pub(crate) fn flip(&mut self, ring: &Ring, sender: u32, slot: Index, offset: u32, count: u32)
-        requires ring { self.old.ring ≡ ring.now }
-        requires who { self.old.who ≡ Sender sender }
-        requires geometry { slot.geometry ≡ self.old.ring.made_with.geometry }
-        requires slot { IsSlotAt self.old slot offset }
-        requires may { MayFlipAt self.old.trail offset count }
-        requires within { count ≤ size slot.geometry }
-        requires share { ShareAWord 64 slot.geometry slot.number count }
-        requires share_at_position { (geometry position : ℕ) → slot ≡ index_of geometry position → ShareAWord 64 geometry position count }
-        ensures trail { record self.new { history = [] } ≡ record self.old { trail = Flip offset count ∷ self.old.trail; history = [] } }
-        ensures history { GrewBy self.old.who (Flip offset count) self.old.history self.new.history }
-    {
-        self.flip_for::<Brand>(ring, sender, slot, offset, count)
-    }
-
-    fn flip_for<I: HasIntent>(
+    pub(crate) fn flip<I: HasIntent>(
         &mut self,
         ring: &Ring,
         sender: u32,

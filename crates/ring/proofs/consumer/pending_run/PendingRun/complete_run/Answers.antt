@@ -9,4 +9,4 @@ pub returns-clause-taken : goal.returns-clause-taken
 returns-clause-taken g c =
     ap (λ (d : ConsumerPortValue). taken_of d.trail) c.complete_run.ensures.trail
     ∙ ap (λ (p : PendingValue _). taken_of (completed_trail (take c.args.count p.raws) p.consumer.trail)) c.self.view_is
-    ∙ taken_after c.args.self.consumer.trail (take c.args.count c.args.self.raws) c.args._outcome c.requires.outcome
+    ∙ taken_after c.args.self.consumer.trail (take c.args.count c.args.self.raws) c.args.outcome c.requires.outcome

@@ -1,15 +1,15 @@
-use Rattle.std.proofs.Common.{[], ◌≡◌, ◌+◌, ◌-◌, ℕ, ap, sym, subst, arith, ◌∙◌}
+use Rattle.std.proofs.Common.{rules, [], ◌≡◌, ◌+◌, ◌-◌, ℕ, ap, sym, subst, arith, ◌∙◌}
 use Rattle.qindex.specs.Positions.{size}
 use Rattle.ringcore.specs.declared.world.event.Who.TheVariants.{Sender}
-use Rattle.ringcore.specs.world.Trails.{Trail, reserved_length}
+use Rattle.ringcore.specs.world.Trails.{reserved_length}
 use Rattle.ring.specs.table.Histories.{Grew}
 use Rattle.ring.proofs.TableLemmas.Grown.{grew_more}
 use Rattle.ring.specs.sender.Senders.{SenderValue}
 use Rattle.ring.specs.sender.Reservations.{ReservationValue}
-use Rattle.ring.proofs.SenderLemmas.ReservesNone.{published_none}
-use Rattle.ring.proofs.SenderLemmas.TwoRuns.{published_ring, published_sender, wrote_is, left_is, all_flipped}
+use Rattle.ring.proofs.SenderLemmas.ReservesNone.{handed_over}
+use Rattle.ring.proofs.SenderLemmas.TwoRuns.{wrote_is, left_is, all_flipped}
 use Rattle.ring.proofs.sender.open_reservation.OpenReservation.hand_over.Goals as goal
-use Rattle.ring.specs.sender.Publishing.{flipped_left, ReservesNone}
+use Rattle.ring.specs.sender.Publishing.{flipped_left}
 
 pub flip_left-requires : goal.flip_left-requires
 flip_left-requires g c = ap (λ (r : ReservationValue). r.ring) c.write_left-reservation.ensures.new ∙ (wrote_is (reserved_length c.args.self.trail - c.args.self.written) (record c.args.self { history = [] })).ring_is ∙ c.requires
@@ -33,24 +33,13 @@ into_sender-requires g c =
     (all_flipped r (omega arith) (omega arith) (omega arith) (omega arith))
 
 pub returns-clause-ring : goal.returns-clause-ring
-returns-clause-ring g c =
-    ap (λ (s : SenderValue). s.ring) c.into_sender.ensures.sender
-    ∙ ap (λ (r : ReservationValue). r.ring) (c.flip_left-2.ensures.new ∙ ap flipped_left (c.flip_left.ensures.new ∙ ap flipped_left c.write_left-reservation.ensures.new))
-    ∙ published_ring (record c.args.self { history = [] })
+returns-clause-ring g c = (handed_over c.args.self c.into_sender.result (search rules)).ring_is
 
 pub returns-clause-id : goal.returns-clause-id
-returns-clause-id g c =
-    ap (λ (s : SenderValue). s.number) c.into_sender.ensures.sender
-    ∙ ap (λ (r : ReservationValue). r.sender) (c.flip_left-2.ensures.new ∙ ap flipped_left (c.flip_left.ensures.new ∙ ap flipped_left c.write_left-reservation.ensures.new))
-    ∙ published_sender (record c.args.self { history = [] })
+returns-clause-id g c = (handed_over c.args.self c.into_sender.result (search rules)).number_is
 
 pub returns-clause-batches : goal.returns-clause-batches
-returns-clause-batches g c =
-    subst (λ (t : Trail). ReservesNone c.args.self.trail t)
-    (sym
-    (ap (λ (s : SenderValue). s.trail) c.into_sender.ensures.sender
-    ∙ ap (λ (r : ReservationValue). r.trail) (c.flip_left-2.ensures.new ∙ ap flipped_left (c.flip_left.ensures.new ∙ ap flipped_left c.write_left-reservation.ensures.new))))
-    (published_none (record c.args.self { history = [] }))
+returns-clause-batches g c = (handed_over c.args.self c.into_sender.result (search rules)).none
 
 pub returns-clause-history : goal.returns-clause-history
 returns-clause-history g c =

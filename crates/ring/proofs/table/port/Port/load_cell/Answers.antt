@@ -1,6 +1,8 @@
-use Rattle.std.proofs.Common.{rules, sym, ap, ◌∙◌}
+use Rattle.std.proofs.Common.{rules, refl, sym, ap, ◌∙◌}
 use Rattle.ringcore.specs.memory.Layout.{cell}
-use Rattle.ring.proofs.TableLemmas.PortSteps.{asks_now, in_cells, sender_known}
+use Rattle.ring.proofs.TableLemmas.PortSteps.{may_change, words_are, sender_known}
+use Rattle.ring.proofs.TableLemmas.StepKinds.{asks_may, cell_inside}
+use Rattle.ring.specs.table.Intents.{asks}
 use Rattle.ring.proofs.TableLemmas.Asks.{ask_few}
 use Rattle.ring.proofs.table.port.Port.load_cell.Goals as goal
 use Rattle.ring.specs.Rings.{RingValue}
@@ -9,8 +11,8 @@ pub load-requires : goal.load-requires
 load-requires c =
     let at = c.cell.ensures ∙ ap (λ g. cell g c.args.sender) (c.geometry.ensures ∙ ap (λ (r : RingValue). r.made_with.geometry) (sym c.requires.ring)) in (
       search rules,
-      in_cells _ _ c.ring.invariant.words _ _ c.requires.ring _ (sym c.ring.view_is) _ _ at (sender_known _ _ _ c.self.view_is c.self.invariant _ c.requires.who),
-      asks_now _ _ _ c.self.view_is c.self.invariant _ _ _ c.ask.ensures _ c.requires.who _ at,
+      cell_inside _ _ _ _ _ (words_are _ _ c.ring.invariant.words _ _ c.requires.ring _ (sym c.ring.view_is)) at (sender_known _ _ _ c.self.view_is c.self.invariant _ c.requires.who),
+      may_change _ _ _ c.self.view_is c.self.invariant _ _ _ asks asks refl _ c.requires.who _ 0 0 (λ x. x) (asks_may c.ask.ensures _ _ _ _ at),
     )
 
 pub returns-clause-few : goal.returns-clause-few

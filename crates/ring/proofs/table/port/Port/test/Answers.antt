@@ -1,13 +1,14 @@
 use Rattle.std.proofs.Common.{rules, sym}
-use Rattle.ring.proofs.TableLemmas.PortSteps.{tested, tests_now, in_flags}
-use Rattle.ring.proofs.table.port.Port.test_for.Goals as goal
+use Rattle.ring.proofs.TableLemmas.PortSteps.{tested, may_change, words_are}
+use Rattle.ring.proofs.TableLemmas.StepKinds.{tests_may, flag_inside}
+use Rattle.ring.proofs.table.port.Port.test.Goals as goal
 
 pub load-word-requires : goal.load-word-requires
 load-word-requires g c =
     let at = c.flag_word.ensures.position _ _ c.requires.head in (
       search rules,
-      in_flags _ _ c.ring.invariant.words _ _ c.requires.ring _ (sym c.ring.view_is) _ _ at,
-      tests_now _ _ _ c.self.view_is c.self.invariant _ _ _ c.ready_runs.ensures.test c.consumer_trail.ensures.head c.requires.who _ c.args.limit _ c.requires.intent (c.requires.some, c.requires.most) at,
+      flag_inside _ _ _ _ _ (words_are _ _ c.ring.invariant.words _ _ c.requires.ring _ (sym c.ring.view_is)) at,
+      may_change _ _ _ c.self.view_is c.self.invariant _ _ _ _ _ c.requires.intent _ c.requires.who _ 0 0 (λ x. x) (tests_may c.ready_runs.ensures.test c.consumer_trail.ensures.head _ _ c.args.limit _ (c.requires.some, c.requires.most) at),
     )
 
 pub returns-clause-trail : goal.returns-clause-trail
