@@ -1,5 +1,5 @@
 -- What an acknowledgement comes to, by what the unit's is answered.
-use Rattle.std.proofs.Common.{◌≡◌, ◌≢◌, refl, ap, sym, ◌∙◌, subst, ℕ, Bool, true, false, not, cond, Result, Ok, Err}
+use Rattle.std.proofs.Common.{rules, ◌≡◌, ◌≢◌, refl, ap, sym, ◌∙◌, subst, ℕ, Bool, true, false, not, cond, Result, Ok, Err}
 use Rattle.std.specs.Prelude.{◌↔◌, ⊤, OnOk, OnErr}
 use Rattle.engine.specs.declared.stop.Mode.{Mode}
 use Rattle.engine.specs.declared.stop.Mode.TheVariants as mode
@@ -65,16 +65,7 @@ state_after (Err fault) remedy state = state
 stands_after : (queue : QueueValue) (unit new : UnitValue) (state : State) (remedy : Remedy) (r : Result ⊤ AckFault) → OnOk r (new ≡ record unit { stop = told remedy unit.stop })
     → OnErr r (new ≡ unit) → Stands (record { queue = queue; unit = unit }) state → Stands (record { queue = queue; unit = new }) (state_after r remedy state)
 stands_after queue unit new state remedy (Ok t) ok err s =
-    subst (λ (u : UnitValue). Stands (record { queue = queue; unit = u }) (state_after (Ok t) remedy state)) (sym ok) (record {
-      run = s.run;
-      geometry = s.geometry;
-      senders = s.senders;
-      max_batches = s.max_batches;
-      capacity = s.capacity;
-      entries = s.entries;
-      stop = ap (told remedy) s.stop;
-      counts = s.counts;
-    })
+    subst (λ (u : UnitValue). Stands (record { queue = queue; unit = u }) (state_after (Ok t) remedy state)) (sym ok) (let stop = ap (told remedy) s.stop in search rules)
 stands_after queue unit new state remedy (Err fault) ok err s = subst (λ (u : UnitValue). Stands (record { queue = queue; unit = u }) state) (sym err) s
 
 ok_is_no_fault : (t : ⊤) (fault : AckFault) → Ok t ≡ Err fault → ⊥

@@ -17,9 +17,10 @@ use Rattle.ringcore.specs.world.Trails.{Trail, Run, trail_of}
 use Rattle.ringcore.specs.world.World.{Taken, World, world}
 use Rattle.ringcore.specs.world.Laws.{NeverMoreThanFull}
 use Rattle.caches.specs.Held.{Take, without_covered}
+use Rattle.ringcore.specs.world.Allowed.{Ring}
 use Rattle.ring.specs.Rings.{RingValue}
 use Rattle.ring.specs.table.Keeping.{run_by, RunStands}
-use Rattle.ring.specs.Keepers.{KeeperValue, Adds, has_lent, KeepsOthers}
+use Rattle.ring.specs.Keepers.{KeeperValue, Adds}
 use Rattle.ring.specs.consumer.Consumers.{ConsumerValue}
 use Rattle.ring.specs.consumer.Pendings.{PendingValue, reads_from}
 use Rattle.ring.specs.consumer.Taking.{TookNone, TookUnwritten}
@@ -35,20 +36,12 @@ use Rattle.simulator.specs.queue.Heads as head
 use Rattle.simulator.specs.queue.Heads.{Head, head_of, head_taken, completed}
 use Rattle.simulator.specs.State.{State, Answered, entries, taken_so_far, removed_from, counts_of, counted}
 use Rattle.simulator.specs.Seats.{with_run}
-use Rattle.simulator.specs.Steps.{found, illegal, judged, stepped, unchanged}
+use Rattle.simulator.specs.Steps.{applied, completes, found, illegal, judged, stepped, unchanged}
 use Rattle.simulator.specs.Standing.{StandFor, AreStepped}
 use Rattle.simulator.proofs.Counts.{all_counted}
 use Rattle.simulator.proofs.OneMore.{completed_taken, counts_after_applied, counts_after_replaced, removed_is}
 use Rattle.simulator.proofs.Ways.{stays_stopped, stepped_going, at_head, found_world}
 use Rattle.simulator.proofs.HeadLemmas.{HasFound, found_none, found_unwritten, found_ready}
-
--- ---- the keeper around a call
-
--- What is left of the others stays, whomever the keeper had lent a seat.
-pub others_stay : (old lent new : KeeperValue) → lent ≡ has_lent Consumer old → KeepsOthers Consumer lent new → KeepsOthers Consumer old new
-others_stay old lent new lent_is is =
-    let kept : KeepsOthers Consumer (has_lent Consumer old) new = subst (λ (k : KeeperValue). KeepsOthers Consumer k new) lent_is is in
-    record { trails = kept.trails; senders = kept.senders; reservations = kept.reservations; consumer = kept.consumer }
 
 -- ---- the state in which the head was found
 
@@ -85,63 +78,46 @@ module _ (old new : KeeperValue) (unit moved : UnitValue) (same_ring : new.ring 
 
   -- the numbers of the ring stay
   module _ (state : State) (s : StandFor old unit state) where
-    geometry_stays : new.ring.made_with.geometry ≡ state.ring.geometry
-    geometry_stays = ap (λ (r : RingValue). r.made_with.geometry) same_ring ∙ s.geometry
+    stands_for : (then : State) → then.ring ≡ state.ring → then.max_batches ≡ state.max_batches → then.capacity ≡ state.capacity → new.run ≡ then.run → moved.caches.capacity ≡ unit.caches.capacity
+        → moved.caches.entries ≡ entries then → moved.stop ≡ then.stop → moved.counts ≡ counted then.run then.history → StandFor new moved then
+    stands_for then ring batches room run capacity held stop counts = record {
+      run = run;
+      geometry = ap (λ (r : RingValue). r.made_with.geometry) same_ring ∙ s.geometry ∙ sym (ap (λ (r : Ring). r.geometry) ring);
+      senders = ap (λ (r : RingValue). r.made_with.senders) same_ring ∙ s.senders ∙ sym (ap (λ (r : Ring). r.senders) ring);
+      max_batches = ap (λ (r : RingValue). r.made_with.max_batches) same_ring ∙ s.max_batches ∙ sym batches;
+      capacity = capacity ∙ s.capacity ∙ sym room;
+      entries = held;
+      stop = stop;
+      counts = counts;
+    }
 
-    senders_stay : new.ring.made_with.senders ≡ state.ring.senders
-    senders_stay = ap (λ (r : RingValue). r.made_with.senders) same_ring ∙ s.senders
-
-    batches_stay : new.ring.made_with.max_batches ≡ state.max_batches
-    batches_stay = ap (λ (r : RingValue). r.made_with.max_batches) same_ring ∙ s.max_batches
+    counts_found : unit.counts ≡ counted (found_state state).run state.history
+    counts_found = s.counts ∙ ap (λ (list : List Taken). counts_of list state.history) (sym (taken_same state))
 
     -- nothing is taken
     stands_found : new.run ≡ (found_state state).run → moved ≡ unit → StandFor new moved (found_state state)
-    stands_found run unit_is = record {
-      run = run;
-      geometry = geometry_stays;
-      senders = senders_stay;
-      max_batches = batches_stay;
-      capacity = ap (λ (u : UnitValue). u.caches.capacity) unit_is ∙ s.capacity;
-      entries = ap (λ (u : UnitValue). u.caches.entries) unit_is ∙ s.entries;
-      stop = ap (λ (u : UnitValue). u.stop) unit_is ∙ s.stop;
-      counts = ap (λ (u : UnitValue). u.counts) unit_is ∙ s.counts ∙ ap (λ (list : List Taken). counts_of list state.history) (sym (taken_same state));
-    }
+    stands_found run unit_is = stands_for (found_state state) refl refl refl run (ap (λ (u : UnitValue). u.caches.capacity) unit_is) (ap (λ (u : UnitValue). u.caches.entries) unit_is ∙ s.entries)
+        (ap (λ (u : UnitValue). u.stop) unit_is ∙ s.stop) (ap (λ (u : UnitValue). u.counts) unit_is ∙ counts_found)
 
     stands_still : new.run ≡ old.run → moved ≡ unit → StandFor new moved state
-    stands_still run unit_is = record {
-      run = run ∙ s.run;
-      geometry = geometry_stays;
-      senders = senders_stay;
-      max_batches = batches_stay;
-      capacity = ap (λ (u : UnitValue). u.caches.capacity) unit_is ∙ s.capacity;
-      entries = ap (λ (u : UnitValue). u.caches.entries) unit_is ∙ s.entries;
-      stop = ap (λ (u : UnitValue). u.stop) unit_is ∙ s.stop;
-      counts = ap (λ (u : UnitValue). u.counts) unit_is ∙ s.counts;
-    }
+    stands_still run unit_is = stands_for state refl refl refl (run ∙ s.run) (ap (λ (u : UnitValue). u.caches.capacity) unit_is) (ap (λ (u : UnitValue). u.caches.entries) unit_is ∙ s.entries)
+        (ap (λ (u : UnitValue). u.stop) unit_is ∙ s.stop) (ap (λ (u : UnitValue). u.counts) unit_is ∙ s.counts)
 
     -- it is applied
     applied_is : (raw : Raw) (command : Command) (removed : ℕ) → IsApplied raw command removed unit moved → decoding raw ≡ Ok command → new.run ≡ completed raw (found_state state).run
         → ComesTo (Applied command removed) state (judged raw (decoding raw) (found_state state))
     applied_is raw command removed did decodes run =
         let list = (world (found_state state).run).taken in
-        let counts : unit.counts ≡ counts_of list state.history = s.counts ∙ ap (λ (list : List Taken). counts_of list state.history) (sym (taken_same state)) in
         let counted_removed : removed ≡ removed_from command (entries state) =
         removed_is removed _ _ did.removed_are ∙ ap (λ old. finite.len old - finite.len moved.caches.entries) s.entries
         ∙ ap (λ left. finite.len (entries state) - finite.len left) (did.entries ∙ ap (without_covered command) s.entries) in
         let same = ap (λ (r : Result Command Ill). judged raw r (found_state state)) (sym decodes) in (
           ap (Applied command) counted_removed ∙ ap (λ (a : Answered StepAnswer). a.answer) same,
-          subst (λ (a : Answered StepAnswer). StandFor new moved a.state) same (record {
-            run = run;
-            geometry = geometry_stays;
-            senders = senders_stay;
-            max_batches = batches_stay;
-            capacity = did.capacity ∙ s.capacity;
-            entries = did.entries ∙ ap (without_covered command) s.entries;
-            stop = did.stop ∙ ap gone_on s.stop;
-            counts = did.counts ∙ ap (counted_applied raw removed) counts ∙ ap (λ n. counted_applied raw n (counts_of list state.history)) counted_removed
-                ∙ sym (counts_after_applied list state.history raw command did.legal.legal)
-                ∙ ap (λ taken. counts_of taken (Take command ∷ state.history)) (sym (completed_taken raw (found_state state).run));
-          }),
+          subst (λ (a : Answered StepAnswer). StandFor new moved a.state) same
+              (stands_for (applied raw command (found_state state)).state refl refl refl run did.capacity (did.entries ∙ ap (without_covered command) s.entries) (did.stop ∙ ap gone_on s.stop)
+              (did.counts ∙ ap (counted_applied raw removed) counts_found ∙ ap (λ n. counted_applied raw n (counts_of list state.history)) counted_removed
+              ∙ sym (counts_after_applied list state.history raw command did.legal.legal)
+              ∙ ap (λ taken. counts_of taken (Take command ∷ state.history)) (sym (completed_taken raw (found_state state).run)))),
         )
 
     -- it is replaced
@@ -149,20 +125,13 @@ module _ (old new : KeeperValue) (unit moved : UnitValue) (same_ring : new.ring 
         → ComesTo (Replaced ill) state (judged raw (decoding raw) (found_state state))
     replaced_is raw ill did decodes run =
         let list = (world (found_state state).run).taken in
-        let counts : unit.counts ≡ counts_of list state.history = s.counts ∙ ap (λ (list : List Taken). counts_of list state.history) (sym (taken_same state)) in
         let same = ap (λ (m : Mode). illegal raw ill m (found_state state)) (sym did.told ∙ ap (λ (stop : StopValue). stop.mode) s.stop) ∙ ap (λ (r : Result Command Ill). judged raw r (found_state state)) (sym decodes) in (
           ap (λ (a : Answered StepAnswer). a.answer) same,
-          subst (λ (a : Answered StepAnswer). StandFor new moved a.state) same (record {
-            run = run;
-            geometry = geometry_stays;
-            senders = senders_stay;
-            max_batches = batches_stay;
-            capacity = ap (λ (u : UnitValue). u.caches.capacity) did.new_is ∙ s.capacity;
-            entries = ap (λ (u : UnitValue). u.caches.entries) did.new_is ∙ s.entries;
-            stop = ap (λ (u : UnitValue). u.stop) did.new_is ∙ ap gone_on s.stop;
-            counts = ap (λ (u : UnitValue). u.counts) did.new_is ∙ ap (counted_replaced raw) counts ∙ sym (counts_after_replaced list state.history raw ill did.first)
-                ∙ ap (λ taken. counts_of taken state.history) (sym (completed_taken raw (found_state state).run));
-          }),
+          subst (λ (a : Answered StepAnswer). StandFor new moved a.state) same
+              (stands_for (completes raw (found_state state)) refl refl refl run (ap (λ (u : UnitValue). u.caches.capacity) did.new_is) (ap (λ (u : UnitValue). u.caches.entries) did.new_is ∙ s.entries)
+              (ap (λ (u : UnitValue). u.stop) did.new_is ∙ ap gone_on s.stop)
+              (ap (λ (u : UnitValue). u.counts) did.new_is ∙ ap (counted_replaced raw) counts_found ∙ sym (counts_after_replaced list state.history raw ill did.first)
+              ∙ ap (λ taken. counts_of taken state.history) (sym (completed_taken raw (found_state state).run)))),
         )
 
     -- it is left at the head
@@ -171,16 +140,9 @@ module _ (old new : KeeperValue) (unit moved : UnitValue) (same_ring : new.ring 
     stopped_is raw ill did decodes run =
         let same = ap (λ (m : Mode). illegal raw ill m (found_state state)) (sym did.running ∙ ap (λ (stop : StopValue). stop.mode) s.stop) ∙ ap (λ (r : Result Command Ill). judged raw r (found_state state)) (sym decodes) in (
           ap (λ (a : Answered StepAnswer). a.answer) same,
-          subst (λ (a : Answered StepAnswer). StandFor new moved a.state) same (record {
-            run = run;
-            geometry = geometry_stays;
-            senders = senders_stay;
-            max_batches = batches_stay;
-            capacity = ap (λ (u : UnitValue). u.caches.capacity) did.new_is ∙ s.capacity;
-            entries = ap (λ (u : UnitValue). u.caches.entries) did.new_is ∙ s.entries;
-            stop = ap (λ (u : UnitValue). u.stop) did.new_is ∙ ap (stopped_at raw ill) s.stop;
-            counts = ap (λ (u : UnitValue). u.counts) did.new_is ∙ s.counts ∙ ap (λ (list : List Taken). counts_of list state.history) (sym (taken_same state));
-          }),
+          subst (λ (a : Answered StepAnswer). StandFor new moved a.state) same
+              (stands_for (record (found_state state) { stop = stopped_at raw ill state.stop }) refl refl refl run (ap (λ (u : UnitValue). u.caches.capacity) did.new_is)
+              (ap (λ (u : UnitValue). u.caches.entries) did.new_is ∙ s.entries) (ap (λ (u : UnitValue). u.stop) did.new_is ∙ ap (stopped_at raw ill) s.stop) (ap (λ (u : UnitValue). u.counts) did.new_is ∙ counts_found)),
         )
 
 -- ---- what the engine's step did

@@ -1,5 +1,5 @@
 -- What the unit and what is left of the consumer keep together between two calls.
-use Rattle.std.proofs.Common.{◌≡◌, refl, ap, sym, ◌∙◌, subst, List, [], length, Option, Some, None, append-nil}
+use Rattle.std.proofs.Common.{rules, ◌≡◌, refl, ap, sym, ◌∙◌, subst, List, [], length, Option, Some, None, append-nil}
 use Rattle.ringcore.specs.declared.world.event.Who.TheVariants.{Consumer}
 use Rattle.ringcore.specs.world.Trails.{Trail, Run, trail_of}
 use Rattle.ringcore.specs.world.World.{Taken}
@@ -18,8 +18,7 @@ use Rattle.simulator.specs.Standing.{StandFor, IsThere, IsSimulator}
 -- They are together by the consumer's trail alone.
 pub still_together : (d e : ConsumerValue UnitValue) (unit : UnitValue) → d.trail ≡ e.trail → AreTogether d unit → AreTogether e unit
 still_together d e unit same is =
-    let there = subst (λ (t : Trail). AreTogether (record e { trail = t }) unit) same (record { many = is.many; counted = is.counted; settled = is.settled; seen = is.seen }) in
-    record { many = there.many; counted = there.counted; settled = there.settled; seen = there.seen }
+    let there = subst (λ (t : Trail). AreTogether (record e { trail = t }) unit) same (search rules) in search rules
 
 -- before anything happened
 pub together_first : (keeper : KeeperValue) (unit : UnitValue) (caches : Stored) → keeper.run ≡ [] → unit ≡ new_unit caches → IsSettled unit.caches.entries [] → AreTogether (own_consumer None keeper) unit

@@ -208,7 +208,7 @@ module _ (tells : IndexesTellTheQueue) (within : NeverMoreThanFull) (old new : K
     first_is : (idle : IdleReservationValue) → idle.tally.sender ≡ s → IsIdleReservation new body idle → idle.start ≡ index_of made.geometry (tail (world old.run))
     first_is idle sender_is there =
         there.start_is
-        ∙ ap₂ (λ (k : RingValue) (n : ℕ). start_index k.made_with.geometry (trail_of (Sender n) new.run)) call.ring_is sender_is
+        ∙ ap₂ (λ (k : RingValue) (n : ℕ). start_index k.made_with.geometry (trail_of (Sender n) new.run)) call.back.ring_is sender_is
         ∙ ap (start_index made.geometry) won_trail
         ∙ ap (λ (c : Control). c.prod) same_seen
 
