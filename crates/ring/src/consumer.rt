@@ -140,7 +140,7 @@ impl<D: Device> Consumer<D> {
     {
         let mut consumer = self;
         let seen = consumer.look(ring);
-        consumer.port.tells_of_its_steps();
+        consumer.port.knows_its_steps();
         consumer.port.ends_tell_all();
         if seen.prod.get() == seen.cons.get() {
             return if seen.closed {
@@ -150,7 +150,7 @@ impl<D: Device> Consumer<D> {
             };
         }
         let found = consumer.port.test(ring, most);
-        consumer.port.tells_of_its_steps();
+        consumer.port.knows_its_steps();
         if found == 0 {
             return TakenRun::Unwritten(consumer);
         }
@@ -160,7 +160,7 @@ impl<D: Device> Consumer<D> {
             lent,
         } = consumer;
         port.read_run(ring, found, &mut commands);
-        port.tells_of_its_steps();
+        port.knows_its_steps();
         TakenRun::Ready(PendingRun {
             port,
             commands,

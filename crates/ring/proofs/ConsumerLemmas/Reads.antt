@@ -12,7 +12,7 @@ use Rattle.ringcore.specs.world.World.{half_of}
 use Rattle.ringcore.specs.world.Trails.{head_read}
 use Rattle.ringcore.specs.world.ConsumerLaws.{IsSteady}
 use Rattle.ring.specs.consumer.Pendings.{HasSeen, reads_from}
-use Rattle.ring.specs.consumer.Consumers.{ConsumerPortValue}
+use Rattle.ring.specs.table.Ports.{PortValue}
 use Rattle.qindex.specs.declared.control.Control.{Control}
 
 -- ---- what was read at the head is found again
@@ -100,7 +100,7 @@ module _ (lo hi : ℕ) where
         ∙ before k raw half (sym (get_shorter xs (one ∷ []) k low) ∙ at)
   ]
 
-  pub run_more : (d s s1 s2 : ConsumerPortValue) (xs ys : List Raw) (i : ℕ) → length xs ≡ i → record s { history = [] } ≡ record d { trail = reads_from 0 xs d.trail; history = [] }
+  pub run_more : (d s s1 s2 : PortValue) (xs ys : List Raw) (i : ℕ) → length xs ≡ i → record s { history = [] } ≡ record d { trail = reads_from 0 xs d.trail; history = [] }
       → record s1 { history = [] } ≡ record s { trail = Read i Lo lo ∷ s.trail; history = [] } → record s2 { history = [] } ≡ record s1 { trail = Read i Hi hi ∷ s1.trail; history = [] } → ys ≡ xs ++ one ∷ []
       → record s2 { history = [] } ≡ record d { trail = reads_from 0 ys d.trail; history = [] }
   run_more d s s1 s2 xs ys i long s_is s1_is s2_is ys_is =
@@ -108,14 +108,14 @@ module _ (lo hi : ℕ) where
       let trail : reads_from 0 ys d.trail ≡ Read i Hi hi ∷ Read i Lo lo ∷ reads_from 0 xs d.trail =
       ap (λ (l : List Raw). reads_from 0 l d.trail) ys_is ∙ reads_snoc 0 xs one d.trail
       ∙ ap (λ (k : ℕ). let u : Trail = Read k Hi hi ∷ Read k Lo lo ∷ reads_from 0 xs d.trail in u) n in
-      s2_is ∙ ap (λ (x : ConsumerPortValue). let y : ConsumerPortValue = record x { trail = Read i Hi hi ∷ x.trail } in y) s1_is
-      ∙ ap (λ (x : ConsumerPortValue). let y : ConsumerPortValue = record x { trail = Read i Hi hi ∷ Read i Lo lo ∷ x.trail } in y) s_is
-      ∙ ap (λ (t : Trail). let y : ConsumerPortValue = record d { trail = t; history = [] } in y) (sym trail)
+      s2_is ∙ ap (λ (x : PortValue). let y : PortValue = record x { trail = Read i Hi hi ∷ x.trail } in y) s1_is
+      ∙ ap (λ (x : PortValue). let y : PortValue = record x { trail = Read i Hi hi ∷ Read i Lo lo ∷ x.trail } in y) s_is
+      ∙ ap (λ (t : Trail). let y : PortValue = record d { trail = t; history = [] } in y) (sym trail)
 
-  pub trail_more : (s s1 s2 : ConsumerPortValue) (i : ℕ) → record s1 { history = [] } ≡ record s { trail = Read i Lo lo ∷ s.trail; history = [] } → record s2 { history = [] } ≡ record s1 { trail = Read i Hi hi ∷ s1.trail; history = [] }
+  pub trail_more : (s s1 s2 : PortValue) (i : ℕ) → record s1 { history = [] } ≡ record s { trail = Read i Lo lo ∷ s.trail; history = [] } → record s2 { history = [] } ≡ record s1 { trail = Read i Hi hi ∷ s1.trail; history = [] }
       → s2.trail ≡ Read i Hi hi ∷ Read i Lo lo ∷ s.trail
   trail_more s s1 s2 i s1_is s2_is =
-      ap (λ (x : ConsumerPortValue). x.trail) s2_is ∙ ap (λ (x : ConsumerPortValue). let u : Trail = Read i Hi hi ∷ x.trail in u) s1_is
+      ap (λ (x : PortValue). x.trail) s2_is ∙ ap (λ (x : PortValue). let u : Trail = Read i Hi hi ∷ x.trail in u) s1_is
 
 -- A run that is read again begins with the command that was read before.
 pub run_again : (limit found : ℕ) (c : Control) (t u : Trail) (rs : List Raw) (raw : Raw) → u ≡ reads_from 0 rs (Test limit found ∷ Look c ∷ t) → 1 ≤ length rs

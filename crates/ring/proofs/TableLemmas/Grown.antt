@@ -15,7 +15,6 @@ use Rattle.ring.specs.table.Histories.{IsHistory, GrewBy, EndsWith, Grew, OneSte
 use Rattle.ring.specs.table.Ports.{PortValue}
 use Rattle.ring.specs.sender.Senders.{SenderValue}
 use Rattle.ring.specs.sender.Reserving.{TellsRoom}
-use Rattle.ring.specs.consumer.Consumers.{ConsumerPortValue}
 use Rattle.ring.proofs.TableLemmas.Trails.{trail_here, trail_append, none_before}
 
 -- ---- no step, one, and some after others
@@ -109,6 +108,6 @@ pub sender_step : (s t : SenderValue) (e : Event) → record t { history = [] } 
     → Grew (Sender s.number) s.trail t.trail s.history t.history
 sender_step s t e is grew = grew_step (Sender s.number) e s.trail t.trail s.history t.history (ap (λ (x : SenderValue). x.trail) is) grew
 
-pub consumer_step : (c d : ConsumerPortValue) (e : Event) → record d { history = [] } ≡ record c { trail = e ∷ c.trail; history = [] } → GrewBy Consumer e c.history d.history
+pub consumer_step : (c d : PortValue) (e : Event) → record d { history = [] } ≡ record c { trail = e ∷ c.trail; history = [] } → GrewBy Consumer e c.history d.history
     → Grew Consumer c.trail d.trail c.history d.history
-consumer_step c d e is grew = grew_step Consumer e c.trail d.trail c.history d.history (ap (λ (x : ConsumerPortValue). x.trail) is) grew
+consumer_step c d e is grew = grew_step Consumer e c.trail d.trail c.history d.history (ap (λ (x : PortValue). x.trail) is) grew

@@ -6,12 +6,12 @@ ghost use Rattle.ringcore.specs.declared.world.event.Event.TheVariants.{Look, Te
 ghost use Rattle.ringcore.specs.declared.world.event.Who.TheVariants.{Consumer};
 ghost use Rattle.ringcore.specs.world.Trails.{same, taken_by, found_ready};
 ghost use Rattle.ringcore.specs.world.Allowed.{MayAdvance};
-ghost use Rattle.ringcore.specs.world.ConsumerLaws.{IsSteady};
 ghost use Rattle.ring.specs.table.Rule.{StandsInARun, WentOn};
 ghost use Rattle.ring.specs.table.Histories.{IsHistory, GrewBy, Grew, EndsTellAll};
 ghost use Rattle.ringcore.specs.world.World.{world, head, control as control_of};
 ghost use Rattle.ring.specs.table.Ports.{SitsFor};
 ghost use Rattle.ring.specs.consumer.Pendings.{HasReadRun, reads_from};
+ghost use Rattle.ring.specs.consumer.Consumers.{KnowsItsSteps};
 ghost use Rattle.ring.specs.consumer.Completing.{completed_trail};
 
 use crate::consumer::commands::Commands;
@@ -34,11 +34,12 @@ pub struct ConsumerPort {
 }
 
 impl Model for ConsumerPort {
-    ghost use Rattle.ring.specs.consumer.Consumers.{ConsumerPortValue, IsConsumer};
+    ghost use Rattle.ring.specs.table.Ports.{PortValue};
+    ghost use Rattle.ring.specs.consumer.Consumers.{IsConsumer};
 
-    ghost Value = { ConsumerPortValue };
+    ghost Value = { PortValue };
 
-    ghost view = { λ p. record { ring = p.port.ring; trail = p.port.trail; history = p.port.history } };
+    ghost view = { λ p. p.port };
 
     ghost invariant = { λ p. IsConsumer p.port p.head p.taken };
 }
@@ -62,20 +63,17 @@ impl ConsumerPort {
         port.into_seat()
     }
 
-    /// What it has taken, and what it found ready behind that, are few; and what it read at the head is found again until
-    /// it is taken. It does nothing.
-    pub(crate) fn tells_of_its_steps(&self)
-        ensures few { taken_by self.now.trail + found_ready self.now.trail ≤ 2 ^ 46 }
-        ensures steady { IsSteady self.now.trail }
+    pub(crate) fn knows_its_steps(&self)
+        ensures { KnowsItsSteps self.now.ring.made_with self.now.trail }
     {
-        self.port.tells_of_the_consumer();
+        self.port.knows_its_steps();
     }
 
     pub(crate) fn taken(&self) -> u64
         ensures value { result ≡ taken_by self.now.trail }
         ensures few { result ≤ 2 ^ 46 }
     {
-        self.port.tells_of_the_consumer();
+        self.port.knows_its_steps();
         self.taken
     }
 
@@ -173,7 +171,7 @@ impl ConsumerPort {
             taken,
         } = self;
         port.advance::<Brand>(ring, head, commands, count);
-        port.tells_of_the_consumer();
+        port.knows_its_steps();
         port.acknowledge_run(ring, commands, count);
         ConsumerPort {
             port,

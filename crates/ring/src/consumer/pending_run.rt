@@ -43,7 +43,7 @@ impl<D: Device> PendingRun<D> {
         ensures in_all { length (taken_of self.now.consumer.trail) + result ≤ 2 ^ 46 }
     {
         laws::consumer_trail();
-        self.port.tells_of_its_steps();
+        self.port.knows_its_steps();
         self.commands.len()
     }
 

@@ -1,17 +1,17 @@
 //! The atomic steps of the consumer.
-ghost use Rattle.std.specs.Prelude.{◌≡◌, ◌∷◌, ◌+◌, ◌<◌, ◌≤◌, ◌^◌, ℕ, suc, length, take, []};
+ghost use Rattle.std.specs.Prelude.{◌≡◌, ◌∷◌, ◌+◌, ◌<◌, ◌≤◌, ℕ, suc, length, take, []};
 ghost use Rattle.cmdcodec.specs.Opcodes.{is_sync};
 ghost use Rattle.qindex.specs.Positions.{size, index_of};
 ghost use Rattle.ringcore.specs.declared.world.event.Who.TheVariants.{Consumer};
 ghost use Rattle.ringcore.specs.declared.world.event.Event.TheVariants.{Test, Read, Advance, Acknowledge};
-ghost use Rattle.ringcore.specs.world.Trails.{taken_by, acknowledged_by, raws_by, found_ready};
+ghost use Rattle.ringcore.specs.world.Trails.{taken_by, acknowledged_by, found_ready};
 ghost use Rattle.ringcore.specs.world.Allowed.{MayAdvance};
-ghost use Rattle.ringcore.specs.world.Laws.{syncs_taken, SyncsAreInOrder};
-ghost use Rattle.ringcore.specs.world.ConsumerLaws.{IsSteady};
+ghost use Rattle.ringcore.specs.world.Laws.{syncs_taken};
 ghost use Rattle.ringcore.specs.memory.Flags.{ready_in};
 ghost use Rattle.ring.specs.table.Intents.{tests, reads, advances, acknowledges};
 ghost use Rattle.ring.specs.table.Rule.{IsWithinLimits};
 ghost use Rattle.ring.specs.table.Histories.{GrewBy, Grew};
+ghost use Rattle.ring.specs.consumer.Consumers.{KnowsItsSteps};
 ghost use Rattle.ring.specs.consumer.Completing.{all_acknowledged, HasAdvanced, sync_sender, sync_number, IsClosingSync};
 
 use crate::consumer::Commands;
@@ -24,15 +24,11 @@ use ringcore::{Half, cell, control_word, counts_law, data_word, flag_word, laws,
 use std::marker::Brand;
 
 impl Port {
-    /// What the consumer knows of its own steps. It has taken few commands, also with those that its last test found behind
-    /// them, so that no count of them wraps; the closing syncs among them come in the order of their numbers; and what it
-    /// read at the head it finds again, until it takes it. It does nothing.
-    pub(crate) fn tells_of_the_consumer(&self)
-        ensures few { self.now.who ≡ Consumer → taken_by self.now.trail ≤ 2 ^ 46 }
-        ensures with_ready { self.now.who ≡ Consumer → taken_by self.now.trail + found_ready self.now.trail ≤ 2 ^ 46 }
-        ensures order { self.now.who ≡ Consumer → SyncsAreInOrder self.now.ring.made_with.senders (raws_by self.now.trail) }
+    /// What the consumer knows of its own steps, by the laws of every run: so no count of what it took wraps. It does
+    /// nothing.
+    pub(crate) fn knows_its_steps(&self)
+        ensures steps { self.now.who ≡ Consumer → KnowsItsSteps self.now.ring.made_with self.now.trail }
         ensures limits { IsWithinLimits self.now.ring.made_with }
-        ensures steady { self.now.who ≡ Consumer → IsSteady self.now.trail }
     {
         counts_law();
         laws::consumer_trail();
@@ -139,7 +135,7 @@ impl Port {
         ensures current { (s : ℕ) → acknowledged_by s self.new.trail ≡ syncs_taken s self.new.trail }
         ensures history { Grew Consumer self.old.trail self.new.trail self.old.history self.new.history }
     {
-        self.tells_of_the_consumer();
+        self.knows_its_steps();
         counts_law();
         laws::consumer_trail();
         for place in 0..count {
