@@ -45,24 +45,6 @@ impl Model for ConsumerPort {
 }
 
 impl ConsumerPort {
-    pub(crate) fn trail_stands_in_a_run(&self)
-        ensures trail { StandsInARun self.now.ring.made_with Consumer self.now.trail }
-        ensures history { IsHistory self.now.ring.made_with Consumer self.now.trail self.now.history }
-    {
-        self.port.trail_stands_in_a_run();
-    }
-
-    pub(crate) fn into_seat(self) -> Seat<(), Participants>
-        ensures { SitsFor result.table_id result.me self.ring Consumer self.trail self.history }
-    {
-        let ConsumerPort {
-            port,
-            head: _,
-            taken: _,
-        } = self;
-        port.into_seat()
-    }
-
     pub(crate) fn knows_its_steps(&self)
         ensures { KnowsItsSteps self.now.ring.made_with self.now.trail }
     {
@@ -75,30 +57,6 @@ impl ConsumerPort {
     {
         self.port.knows_its_steps();
         self.taken
-    }
-
-    pub(crate) fn look(&mut self, ring: &Ring) -> Control
-        requires { self.old.ring ≡ ring.now }
-        ensures trail { record self.new { history = [] } ≡ record self.old { trail = Look result ∷ self.old.trail; history = [] } }
-        ensures control { IsControl self.old.ring.made_with.geometry result }
-        ensures history { GrewBy Consumer (Look result) self.old.history self.new.history }
-        ensures current { result ≡ control_of self.old.ring.made_with.geometry (world self.new.history) }
-    {
-        self.port.look(ring)
-    }
-
-    /// It and a sender's port come to know one run.
-    pub(crate) fn meet(&mut self, ring: &Ring, sender: &mut Port)
-        requires ring { self.old.ring ≡ ring.now }
-        requires sender { sender.old.ring ≡ ring.now }
-        requires apart { same Consumer sender.old.who ≡ false }
-        ensures mine { record self.new { history = [] } ≡ record self.old { history = [] } }
-        ensures theirs { record sender.new { history = [] } ≡ record sender.old { history = [] } }
-        ensures one { sender.new.history ≡ self.new.history }
-        ensures i_knew { WentOn Consumer self.old.history self.new.history }
-        ensures they_knew { WentOn sender.old.who sender.old.history self.new.history }
-    {
-        self.port.meet(ring, sender);
     }
 
     /// Where a look finds the two ends at one place, all that is reserved is taken. It does nothing.
