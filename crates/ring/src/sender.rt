@@ -12,7 +12,7 @@ ghost use Rattle.ring.specs.table.Histories.{IsHistory, GrewBy, Grew, AreApplied
 ghost use Rattle.ringcore.specs.world.World.{world, control as control_of};
 ghost use Rattle.ring.specs.table.Ports.{SitsFor};
 ghost use Rattle.ring.specs.sender.Senders.{HasAsked};
-ghost use Rattle.ring.specs.sender.Reserving.{HasRoom, IsReserved, IsRefused, IsWon, IsLost, Fits, HasBatchLeft, TellsRoom};
+ghost use Rattle.ring.specs.sender.Reserving.{HasRoom, IsReserved, IsRefused, IsWon, IsLost, Fits, HasBatchLeft};
 
 mod batch_kind;
 mod batch_length;
@@ -30,7 +30,7 @@ use batch::Batch;
 pub use batch_kind::{Bare, BatchKind, Closing};
 pub use cause::{Cause, Refused};
 pub use open_reservation::{BareReservation, OpenReservation, Reservation};
-use qindex::{Control, indexes_tell_the_queue};
+use qindex::Control;
 pub use receipt::Receipt;
 use ringcore::laws::newest_event;
 use ringcore::world_law;
@@ -156,15 +156,6 @@ impl Sender {
         self.reserve_as::<Bare>(ring, batch)
     }
 
-    /// Where a look finds too little room, there is too little. It does nothing.
-    fn tells_room(&self)
-        ensures { TellsRoom self.now.ring.made_with.geometry (world self.now.history) }
-    {
-        world_law();
-        indexes_tell_the_queue();
-        self.port.trail_stands_in_a_run();
-    }
-
     /// The same of a batch of either kind: looks, and tries to reserve where the batch fits.
     pub fn reserve_as<'b, K: BatchKind>(
         self,
@@ -188,7 +179,7 @@ impl Sender {
             return Err(Cause::Exhausted.refused(sender));
         }
         let seen = sender.look(ring);
-        sender.tells_room();
+        sender.port.looks_tell();
         if seen.closed {
             return Err(Cause::Closed.refused(sender));
         }

@@ -42,9 +42,6 @@ get_shorter [] ys i low = absurd (omega (arith, low))
 get_shorter (x ∷ xs) ys zero low = refl
 get_shorter (x ∷ xs) ys (suc i) low = get_shorter xs ys i (omega (arith, low))
 
-some_one : {A : Type 0} (x y : A) → Some x ≡ Some y → x ≡ y
-some_one x y e = cc
-
 pub reads_snoc : (o : ℕ) (rs : List Raw) (r : Raw) (t : Trail) → reads_from o (rs ++ r ∷ []) t ≡ Read (o + length rs) Hi r.hi ∷ Read (o + length rs) Lo r.lo ∷ reads_from o rs t
 reads_snoc o [] r t = let e : o ≡ o + 0 = omega arith in ap (λ (n : ℕ). let u : Trail = Read n Hi r.hi ∷ Read n Lo r.lo ∷ t in u) e
 reads_snoc o (x ∷ xs) r t =
@@ -89,7 +86,7 @@ module _ (lo hi : ℕ) where
   read_more xs i t long before k raw half at = elim (cases_eq k i) [
     | inl same ↦
         let place : k ≡ length xs + 0 = omega (arith, same, long) in
-        let is : one ≡ raw = some_one one raw (sym (get_behind xs (one ∷ []) 0) ∙ ap (slice_get (xs ++ one ∷ [])) (sym place) ∙ at) in
+        let is : one ≡ raw = (let e : Some one ≡ Some raw = sym (get_behind xs (one ∷ []) 0) ∙ ap (slice_get (xs ++ one ∷ [])) (sym place) ∙ at in cc) in
         ap (λ (b : Bool). cond (b && same_half half Hi) (Some hi) (cond (b && same_half half Lo) (Some lo) (half_read k half t))) (eq-eqb k i same)
         ∙ now t k half ∙ ap (λ (r : Raw). Some (half_of half r)) is
     | inr other ↦

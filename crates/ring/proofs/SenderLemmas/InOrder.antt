@@ -1,5 +1,6 @@
 -- A reservation that is written and flipped in the order of its slots.
 use Rattle.std.proofs.Common.{rules, ◌≡◌, ℕ, zero, suc, ◌+◌, ◌<◌, ◌≤◌, Bool, true, false, ◌==◌, ◌||◌, ◌&&◌, ◌%◌, ◌/◌, ◌^◌, List, [], ◌∷◌, ◌++◌, length, Option, Some, None, refl, sym, ap, ◌∙◌, subst, arith}
+use Rattle.std.proofs.lemmas.Bool.{lt-ltb}
 use Rattle.std.proofs.lemmas.Bool.Decides.{nat_tests}
 use Rattle.std.specs.Prelude.{slice_get, nat_lt}
 use Rattle.cmdcodec.specs.declared.raw.Raw.{Raw}
@@ -36,9 +37,6 @@ flipped_more t f n is k = ap (λ (b : Bool). is_among f n k || b) (is k) ∙ unt
     until : (is_among f n k || nat_lt k f) ≡ nat_lt k (f + n)
     until = grind (arith, nat_tests)
 
-below : (a b : ℕ) → a < b → nat_lt a b ≡ true
-below a b l = grind (arith, nat_tests)
-
 not_below : (a b : ℕ) → b ≤ a → nat_lt a b ≡ false
 not_below a b le = grind (arith, nat_tests)
 
@@ -56,7 +54,7 @@ module _ (port : PortValue) (tally : Tally) (body : List Raw) (closes : Bool) (s
     many = (some, few);
     inside = (let m = is.many in let w = is.within in omega arith);
     unflipped = λ i less. is.in_flipped (flipped + i) ∙ not_below (flipped + i) flipped (omega arith);
-    written = λ i half less. is.in_written (flipped + i) half ∙ below (flipped + i) written (omega arith);
+    written = λ i half less. is.in_written (flipped + i) half ∙ lt-ltb (flipped + i) written (omega arith);
   }
 
   pub slot_at : (offset : ℕ) (slot : IndexValue) → ((geometry position : ℕ) → start ≡ index_of geometry position → slot ≡ index_of geometry (position + offset)) → IsSlotAt port slot offset
@@ -73,7 +71,7 @@ module _ (port : PortValue) (tally : Tally) (body : List Raw) (closes : Bool) (s
       (let more = flipped_more port.trail flipped count is.in_flipped in search rules))
 
   pub settled : flipped ≡ reserved_length port.trail → IsSettled port.trail
-  settled all offset low = is.in_flipped offset ∙ below offset flipped (omega arith)
+  settled all offset low = is.in_flipped offset ∙ lt-ltb offset flipped (omega arith)
 
 -- ---- the next command
 

@@ -1,20 +1,16 @@
 -- What a participant knows of the run grows step by step, and what its newest step found stands in it.
-use Rattle.std.proofs.Common.{◌≡◌, ℕ, ◌+◌, ◌-◌, ◌/◌, ◌≤◌, false, [], ◌∷◌, ◌++◌, length, refl, sym, ap, ◌∙◌, subst, append_assoc, arith}
+use Rattle.std.proofs.Common.{◌≡◌, ℕ, ◌+◌, ◌/◌, ◌≤◌, false, [], ◌∷◌, ◌++◌, length, refl, sym, ap, ◌∙◌, subst, append_assoc, arith}
 use Rattle.qindex.specs.Positions.{place}
-use Rattle.qindex.specs.Indexes.{distance}
-use Rattle.qindex.specs.Laws.{IndexesTellTheQueue}
 use Rattle.ringcore.specs.declared.world.event.Who.{Who}
 use Rattle.ringcore.specs.declared.world.event.Who.TheVariants.{Consumer, Sender}
 use Rattle.ringcore.specs.declared.world.event.Event.{Event}
 use Rattle.ringcore.specs.declared.world.event.Event.TheVariants.{Test}
 use Rattle.ringcore.specs.world.Trails.{Trail, Run, trail_of}
-use Rattle.ringcore.specs.world.World.{World, head, tail, world, control}
+use Rattle.ringcore.specs.world.World.{World, head, world}
 use Rattle.ringcore.specs.world.Allowed.{Ring, IsRun, FindsReady}
-use Rattle.ringcore.specs.world.Laws.{NeverMoreThanFull}
 use Rattle.ring.specs.table.Histories.{IsHistory, GrewBy, EndsWith, Grew, OneStepIsLast, NoStepIsNone}
 use Rattle.ring.specs.table.Ports.{PortValue}
 use Rattle.ring.specs.sender.Senders.{SenderValue}
-use Rattle.ring.specs.sender.Reserving.{TellsRoom}
 use Rattle.ring.proofs.TableLemmas.Trails.{trail_here, trail_append, none_before}
 
 -- ---- no step, one, and some after others
@@ -85,17 +81,6 @@ pub unturned_now : (ring : Ring) (trail : Trail) (limit found : ℕ) (older run 
 unturned_now ring trail limit found older run some is grew none =
     let ok : IsRun ring ((Consumer, Test limit found) ∷ grew.before) = subst (IsRun ring) grew.run_is is.stands.after.run_is in
     subst (λ (r : Run). (world r).flipped (head (world r)) ≡ false) (sym grew.run_is) (none_turned ring (world grew.before) limit found some none ok.1)
-
--- ---- what a look found
-
--- where a look finds too little room, there is too little
-pub tells_room : NeverMoreThanFull → IndexesTellTheQueue → (ring : Ring) (who : Who) (trail : Trail) (run : Run) → IsHistory ring who trail run → TellsRoom ring.geometry (world run)
-tells_room within tells ring who trail run is slots many full =
-    let w = world run in
-    let i = within ring run is.stands.after.run_is in
-    let queue = tells ring.geometry (tail w) (head w) is.stands.after.geometry_is i.behind i.within in
-    let apart : distance (control ring.geometry w).prod (control ring.geometry w).cons ≡ tail w - head w = queue.distance in
-    let behind = i.behind in omega (arith, apart, behind, full)
 
 -- ---- as contracts see a step
 

@@ -63,9 +63,7 @@ impl ConsumerPort {
     pub(crate) fn ends_tell_all(&self)
         ensures { EndsTellAll self.now.ring.made_with.geometry (world self.now.history) }
     {
-        world_law();
-        indexes_tell_the_queue();
-        self.port.trail_stands_in_a_run();
+        self.port.looks_tell();
     }
 
     pub(crate) fn test(&mut self, ring: &Ring, limit: u32) -> u32

@@ -10,7 +10,8 @@ ghost use Rattle.ringcore.specs.memory.StepLaws.{reserved_commands};
 ghost use Rattle.ring.specs.table.Intents.{reserves, writes, flips};
 ghost use Rattle.ringcore.specs.world.Trails.{same};
 ghost use Rattle.ring.specs.table.Rule.{StandsInARun, WentOn};
-ghost use Rattle.ring.specs.table.Histories.{IsHistory, GrewBy};
+ghost use Rattle.ring.specs.table.Histories.{IsHistory, GrewBy, EndsTellAll};
+ghost use Rattle.ring.specs.sender.Reserving.{TellsRoom};
 ghost use Rattle.ring.specs.table.Ports.{PortValue, SitsFor, IsWonOrLost, IsSlotAt, MayFlipAt};
 
 use crate::ring::Ring;
@@ -19,7 +20,7 @@ use crate::table::steps::{Asks, Closes, Deals, Gathers, HasIntent, Looks, Meets,
 use atomic_table::Seat;
 use batch::Batch;
 use cmdcodec::Raw;
-use qindex::{Control, Index, close_mask};
+use qindex::{Control, Index, close_mask, indexes_tell_the_queue};
 use ringcore::{
     Half, cell, control_word, counts_law, data_word, flag_word, flip_mask, laws, world_law,
 };
@@ -49,6 +50,17 @@ impl Port {
         ensures history { IsHistory self.now.ring.made_with self.now.who self.now.trail self.now.history }
     {
         let _ = &self.seat;
+    }
+
+    /// Where a look finds too little room, there is too little; and where it finds the two ends at one place, all that is
+    /// reserved is taken. It does nothing.
+    pub(crate) fn looks_tell(&self)
+        ensures room { TellsRoom self.now.ring.made_with.geometry (world self.now.history) }
+        ensures ends { EndsTellAll self.now.ring.made_with.geometry (world self.now.history) }
+    {
+        world_law();
+        indexes_tell_the_queue();
+        self.trail_stands_in_a_run();
     }
 
     /// The seat by itself.
@@ -200,21 +212,12 @@ impl Port {
         ensures trail { record self.new { history = [] } ≡ record self.old { trail = Ask result ∷ self.old.trail; history = [] } }
         ensures history { GrewBy self.old.who (Ask result) self.old.history self.new.history }
     {
-        self.load_cell(ring, sender) as u32
-    }
-
-    fn load_cell(&mut self, ring: &Ring, sender: u32) -> u64
-        requires ring { self.old.ring ≡ ring.now }
-        requires who { self.old.who ≡ Sender sender }
-        ensures trail { record self.new { history = [] } ≡ record self.old { trail = Ask result ∷ self.old.trail; history = [] } }
-        ensures history { GrewBy self.old.who (Ask result) self.old.history self.new.history }
-        ensures few { result < 2 ^ 32 }
-    {
         laws::ask();
         world_law();
         counts_law();
         let words = &ring.table.shared;
-        words.load::<StepFor<Asks>>(&mut self.seat, cell(ring.geometry(), sender))
+        let found = words.load::<StepFor<Asks>>(&mut self.seat, cell(ring.geometry(), sender));
+        found as u32
     }
 }
 

@@ -3,7 +3,8 @@ use Rattle.ringcore.specs.declared.world.event.Who.TheVariants.{Sender}
 use Rattle.ring.specs.declared.sender.cause.Cause.{Cause}
 use Rattle.ring.specs.table.Histories.{Grew}
 use Rattle.ring.specs.sender.Senders.{SenderValue}
-use Rattle.ring.specs.sender.Reserving.{HasLookedAt, IsFull, IsRefused}
+use Rattle.ring.specs.sender.Reserving.{HasLookedAt, IsFull, IsRefused, TellsRoom}
+use Rattle.ringcore.specs.world.World.{world}
 use Rattle.ring.proofs.SenderLemmas.Tries.{looked_grew, exchanged_grew, full_then}
 use Rattle.ring.proofs.sender.Sender.reserve_as.Goals as goal
 
@@ -29,7 +30,7 @@ returns-then-distance-many-clause-refused g c =
       unclosed = c.if-seen.false;
       full = search rules;
       looked = looked;
-      full_then = full_then c.args.batch.now g.K.BatchKind.closes _ _ _ looked c.tells_room.ensures (search rules);
+      full_then = full_then c.args.batch.now g.K.BatchKind.closes _ _ _ looked (subst (λ (t : SenderValue). TellsRoom t.ring.made_with.geometry (world t.history)) c.sender-2.view_is c.looks_tell.ensures.room) (search rules);
     } in
     subst (λ (q : Cause × SenderValue). IsRefused c.args.batch.now g.K.BatchKind.closes c.args.self q.0 q.1)
     (λ k. (sym c.refused-then-distance-many.ensures.cause k, sym c.refused-then-distance-many.ensures.sender k)) full
