@@ -12,7 +12,7 @@ use Rattle.ring.specs.table.Rule.{Holding, RuleHolds, Any, ring_of, history_of_f
 use Rattle.ring.specs.table.Keeping.{AllKnow, without, own_part}
 use Rattle.ring.specs.Keepers.{KeeperValue, keeper_of, missing_from, missing, AllBut, IsKeeper, has_lent}
 use Rattle.ring.proofs.TableLemmas.Keeping.{know_less, any_parted, lends_at}
-use Rattle.ring.proofs.KeeperLemmas.Seated.{sits_any, sits_not, one_missing, IsOther, someone, first_ring, first_history}
+use Rattle.ring.proofs.KeeperLemmas.Seated.{sits_any, sits_not, one_missing, IsOther, someone, first_knows}
 
 module _ (table : TableId) (p : KeeperValue) (v : List Participant) (is : keeper_of table v ≡ p) (knows : AllBut (missing v) (ring_of v) (history_of_first v) v) (whole : p.lent ≡ None) (who : Who) (known : IsOne p.ring.made_with.senders who) where
   abbrev z : Ring
@@ -49,10 +49,10 @@ module _ (table : TableId) (p : KeeperValue) (v : List Participant) (is : keeper
   some_left = left_sits apart.other apart.one apart.apart
 
   left_ring : ring_of left ≡ z
-  left_ring = first_ring z run left (λ q. q.who ≡ apart.other) left_knows some_left
+  left_ring = (first_knows z run left (λ q. q.who ≡ apart.other) left_knows some_left).0
 
   left_history : history_of_first left ≡ run
-  left_history = first_history z run left (λ q. q.who ≡ apart.other) left_knows some_left
+  left_history = (first_knows z run left (λ q. q.who ≡ apart.other) left_knows some_left).1
 
   left_missing : missing left ≡ Some who
   left_missing = ap (λ (r : Ring). missing_from 0 r.senders left) left_ring

@@ -69,13 +69,9 @@ someone n (Sender s) some = record { other = Consumer; one = tt; apart = λ e. c
 
 -- ---- what those who sit there know
 
-pub first_ring : (z : Ring) (run : Run) (v : List Participant) (P : Participant → Type 0) → AllKnow z run v → Any P v → ring_of v ≡ z
-first_ring z run [] P all one = absurd one
-first_ring z run (p ∷ ps) P all one = ap (λ (q : Participant). q.ring) all.0
-
-pub first_history : (z : Ring) (run : Run) (v : List Participant) (P : Participant → Type 0) → AllKnow z run v → Any P v → history_of_first v ≡ run
-first_history z run [] P all one = absurd one
-first_history z run (p ∷ ps) P all one = ap (λ (q : Participant). q.history) all.0
+pub first_knows : (z : Ring) (run : Run) (v : List Participant) (P : Participant → Type 0) → AllKnow z run v → Any P v → (ring_of v ≡ z) × (history_of_first v ≡ run)
+first_knows z run [] P all one = absurd one
+first_knows z run (p ∷ ps) P all one = (ap (λ (q : Participant). q.ring) all.0, ap (λ (q : Participant). q.history) all.0)
 
 pub same_history : (z : Ring) (old new : Run) (v : List Participant) → AllKnow z old v → Any (λ p. p.history ≡ new) v → old ≡ new
 same_history z old new [] all one = absurd one
