@@ -2,6 +2,7 @@
 use Rattle.std.proofs.Common.{rules, ◌≡◌, ◌≢◌, ℕ, refl, ap, sym, ◌∙◌, subst, arith, Bool, true, false, not, zero, suc, ◌+◌, ◌-◌, ◌<◌, ◌≤◌, List, [], ◌∷◌, ◌++◌, length, inl, inr, ap₂}
 use Rattle.std.proofs.lemmas.Bool.{cases_lt, cases_eq, lt-leb}
 use Rattle.std.proofs.lemmas.List.{length-set, get_or-set_same, get_or-set_other, get_or-append_right, length_push}
+use Rattle.std.proofs.Math.ListN.{get_or-append}
 use Rattle.std.specs.Prelude.{None, ◌⊎◌, ◌||◌, nat_lt, slice_index_or, slice_set}
 use Rattle.cmdcodec.specs.declared.raw.Raw.{Raw}
 use Rattle.ringcore.specs.declared.world.event.Who.{Who}
@@ -126,11 +127,6 @@ is_queue_stepped ring old new s e is step all =
 pub new_seat : (s : ℕ) (tally : Tally) → tally.sender ≡ s → ((keeper : KeeperValue) → keeper.run ≡ [] → IsIdleSender keeper tally) → IsNewSeat s (Idle tally)
 new_seat s tally is idle keeper none = record { sender_is = is; idle = idle keeper none }
 
-append_left : (xs : List Seat) (y : Seat) (t : ℕ) (other : Seat) → t < length xs → slice_index_or (xs ++ y ∷ []) t other ≡ slice_index_or xs t other
-append_left [] y t other less = absurd (omega (arith, less))
-append_left (x ∷ xs) y zero other less = refl
-append_left (x ∷ xs) y (suc t) other less = append_left xs y t other (omega (arith, less))
-
 pub one_more_seat : (s : ℕ) (seats : List Seat) (seat : Seat) → AreNew s seats → IsNewSeat s seat → AreNew (s + 1) (seats ++ seat ∷ [])
 one_more_seat s seats seat is one = record {
   many = length_push seats seat ∙ ap (λ (n : ℕ). n + 1) is.many;
@@ -138,7 +134,7 @@ one_more_seat s seats seat is one = record {
 }
   where
     by_last : (t : ℕ) (other : Seat) → t < length seats + 1 → (t < length seats) ⊎ (length seats ≤ t) → IsNewSeat t (slice_index_or (seats ++ seat ∷ []) t other)
-    by_last t other less (inl before) = subst (IsNewSeat t) (sym (append_left seats seat t other before)) (is.each t other before)
+    by_last t other less (inl before) = subst (IsNewSeat t) (sym (get_or-append seats (seat ∷ []) other t before)) (is.each t other before)
     by_last t other less (inr last) =
         let many = is.many in
         let here : t ≡ s = omega (arith, less, last, many) in
