@@ -7,9 +7,8 @@ use Rattle.cmdcodec.specs.declared.raw.Raw.{Raw}
 use Rattle.ringcore.specs.declared.world.event.Half.{Half}
 use Rattle.ringcore.specs.declared.world.event.Half.TheVariants.{Lo, Hi}
 use Rattle.ringcore.specs.declared.world.event.Event.TheVariants.{Look, Test, Read}
-use Rattle.ringcore.specs.world.Trails.{Trail, half_read, same_half}
+use Rattle.ringcore.specs.world.Trails.{Trail, half_read, same_half, head_read}
 use Rattle.ringcore.specs.world.World.{half_of}
-use Rattle.ringcore.specs.world.Trails.{head_read}
 use Rattle.ringcore.specs.world.ConsumerLaws.{IsSteady}
 use Rattle.ring.specs.consumer.Pendings.{HasSeen, reads_from}
 use Rattle.ring.specs.table.Ports.{PortValue}

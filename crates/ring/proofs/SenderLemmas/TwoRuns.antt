@@ -5,9 +5,8 @@ use Rattle.std.specs.Prelude.{nat_lt}
 use mathlib.Core.Logic.{dite}
 use native.Mathlib.Decide.{dec_lt, dec_le}
 use Rattle.qindex.specs.Positions.{size, index_of}
-use Rattle.ringcore.specs.world.Trails.{reserved_length}
+use Rattle.ringcore.specs.world.Trails.{reserved_length, start_index}
 use Rattle.ringcore.specs.memory.Flags.{flag_bit, shared_word}
-use Rattle.ringcore.specs.world.Trails.{start_index}
 use Rattle.std.proofs.Math.Pow.{pow_mono}
 use Rattle.std.proofs.lemmas.Bool.{cases_lt, lt-leb, lt-ltb, le-leb}
 use Rattle.std.proofs.lemmas.Nat.{pow-add}

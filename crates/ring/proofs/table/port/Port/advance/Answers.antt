@@ -1,5 +1,4 @@
-use Rattle.std.proofs.Common.{rules, ◌≡◌, ◌+◌, ℕ, take, length, sym, ap, ◌∙◌}
-use Rattle.std.proofs.Common.{length-take-le}
+use Rattle.std.proofs.Common.{rules, ◌≡◌, ◌+◌, ℕ, take, length, sym, ap, ◌∙◌, length-take-le}
 use Rattle.std.specs.Prelude.{bit_xor}
 use Rattle.qindex.specs.Positions.{index_of}
 use Rattle.qindex.specs.ControlWord.{advance_mask}
