@@ -60,7 +60,7 @@ impl<D: Device> Consumer<D> {
         ensures trail { StandsInARun self.now.ring.made_with ConsumerOf self.now.trail }
         ensures history { IsHistory self.now.ring.made_with ConsumerOf self.now.trail self.now.history }
     {
-        self.port.trail_stands_in_a_run();
+        self.port.port.trail_stands_in_a_run();
     }
 
     pub(crate) fn into_seat(self) -> Seat<(), Participants>
@@ -71,6 +71,11 @@ impl<D: Device> Consumer<D> {
             commands: _,
             lent: _,
         } = self;
+        let ConsumerPort {
+            port,
+            head: _,
+            taken: _,
+        } = port;
         port.into_seat()
     }
 
@@ -82,7 +87,7 @@ impl<D: Device> Consumer<D> {
         ensures history { GrewBy ConsumerOf (Look result) self.old.history self.new.history }
         ensures current { result ≡ control_of self.old.ring.made_with.geometry (world self.new.history) }
     {
-        self.port.look(ring)
+        self.port.port.look(ring)
     }
 
     /// A witness, while the ring runs, that its steps and those of a sender are steps of one run, which both know from
@@ -100,8 +105,8 @@ impl<D: Device> Consumer<D> {
         ensures told { WasToldAll self.new.history sender.old.number sender.old.trail }
     {
         world_law();
-        self.port.meet(ring, &mut sender.port);
-        self.port.trail_stands_in_a_run();
+        self.port.port.meet(ring, &mut sender.port);
+        self.port.port.trail_stands_in_a_run();
         sender.port.trail_stands_in_a_run();
     }
 
@@ -140,7 +145,7 @@ impl<D: Device> Consumer<D> {
     {
         let mut consumer = self;
         let seen = consumer.look(ring);
-        consumer.port.steady();
+        consumer.port.knows_its_steps();
         consumer.port.ends_tell_all();
         if seen.prod.get() == seen.cons.get() {
             return if seen.closed {
@@ -150,7 +155,7 @@ impl<D: Device> Consumer<D> {
             };
         }
         let found = consumer.port.test(ring, most);
-        consumer.port.steady();
+        consumer.port.knows_its_steps();
         if found == 0 {
             return TakenRun::Unwritten(consumer);
         }
@@ -160,7 +165,7 @@ impl<D: Device> Consumer<D> {
             lent,
         } = consumer;
         port.read_run(ring, found, &mut commands);
-        port.steady();
+        port.knows_its_steps();
         TakenRun::Ready(PendingRun {
             port,
             commands,

@@ -1,6 +1,6 @@
 //! One who sits for everybody, and so knows the whole run. He lends one seat at a time.
 ghost use Rattle.std.specs.Prelude.{◌≡◌, ◌<◌, Some, None};
-ghost use Rattle.ringcore.specs.declared.world.event.Who.TheVariants.{Sender as SenderOf, Consumer as ConsumerOf};
+ghost use Rattle.ringcore.specs.declared.world.event.Who.TheVariants.{Sender as SenderOf};
 ghost use Rattle.ringcore.specs.world.Trails.{trail_of};
 ghost use Rattle.ringcore.specs.world.Laws.{IsOne};
 ghost use Rattle.ring.specs.table.Histories.{Grew};
@@ -67,16 +67,6 @@ impl Keeper {
         ensures keeper { self.new ≡ has_lent (SenderOf sender) self.old }
     {
         self.lend::<W>(ring)
-    }
-
-    /// The consumer's seat.
-    fn lend_to_consumer(&mut self, ring: &Ring) -> Port
-        requires ring { self.old.ring ≡ ring.now }
-        requires whole { self.old.lent ≡ None }
-        ensures port { result ≡ own_port ConsumerOf self.old }
-        ensures keeper { self.new ≡ has_lent ConsumerOf self.old }
-    {
-        self.lend::<Brand>(ring)
     }
 
     fn lend<W: HasWho>(&mut self, ring: &Ring) -> Port

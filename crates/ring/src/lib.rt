@@ -14,6 +14,9 @@ pub use device::Device;
 pub use keeper::{IdleConsumer, IdleReservation, IdleSender, Keeper};
 pub use ring::Ring;
 pub use ringcore::{Outcome, RingFault};
-pub use sender::{BareReservation, Cause, Receipt, Refused, Reservation, Sender};
+pub use sender::{
+    Bare, BareReservation, BatchKind, Cause, Closing, OpenReservation, Receipt, Refused,
+    Reservation, Sender,
+};
 pub use summary::Summary;
 pub use table::{growth_adds_up, run_is_one};

@@ -12,14 +12,13 @@ ghost use Rattle.ring.specs.table.Histories.{IsHistory, GrewBy, Grew, AreApplied
 ghost use Rattle.ringcore.specs.world.World.{world, control as control_of};
 ghost use Rattle.ring.specs.table.Ports.{SitsFor};
 ghost use Rattle.ring.specs.sender.Senders.{HasAsked};
-ghost use Rattle.ring.specs.sender.Reserving.{HasRoom, IsReserved, IsRefused, IsWon, IsLost, Fits, HasBatchLeft, TellsRoom};
+ghost use Rattle.ring.specs.sender.Reserving.{HasRoom, IsReserved, IsRefused, IsWon, IsLost, Fits, HasBatchLeft};
 
-mod bare_reservation;
+mod batch_kind;
 mod batch_length;
 mod cause;
 mod open_reservation;
 mod receipt;
-mod reservation;
 mod sending;
 mod tally;
 
@@ -27,16 +26,15 @@ use crate::ring::Ring;
 use crate::sender::batch_length::batch_length;
 use crate::table::{Participants, Port};
 use atomic_table::Seat;
-pub use bare_reservation::BareReservation;
 use batch::Batch;
+pub use batch_kind::{Bare, BatchKind, Closing};
 pub use cause::{Cause, Refused};
-pub use open_reservation::OpenReservation;
-use qindex::{Control, indexes_tell_the_queue};
+pub use open_reservation::{BareReservation, OpenReservation, Reservation};
+use qindex::Control;
 pub use receipt::Receipt;
-pub use reservation::Reservation;
 use ringcore::laws::newest_event;
 use ringcore::world_law;
-use std::marker::Model;
+use std::marker::{Brand, Model, PhantomData};
 pub use tally::Tally;
 
 /// One of a ring's senders, which may be moved to a thread of its own.
@@ -139,10 +137,7 @@ impl Sender {
         ensures ring { MatchResult result (λ r. r.ring ≡ self.ring) (λ e. e.sender.ring ≡ self.ring) }
         ensures id { MatchResult result (λ r. r.sender ≡ self.number) (λ e. e.sender.number ≡ self.number) }
     {
-        match self.open(ring, batch, true) {
-            Ok(open) => Ok(Reservation { open }),
-            Err(refused) => Err(refused),
-        }
+        self.reserve_as::<Closing>(ring, batch)
     }
 
     /// The same of a batch without a closing CMD_SYNC, which has no number (own).
@@ -158,37 +153,24 @@ impl Sender {
         ensures ring { MatchResult result (λ r. r.ring ≡ self.ring) (λ e. e.sender.ring ≡ self.ring) }
         ensures id { MatchResult result (λ r. r.sender ≡ self.number) (λ e. e.sender.number ≡ self.number) }
     {
-        match self.open(ring, batch, false) {
-            Ok(open) => Ok(BareReservation { open }),
-            Err(refused) => Err(refused),
-        }
+        self.reserve_as::<Bare>(ring, batch)
     }
 
-    /// Where a look finds too little room, there is too little. It does nothing.
-    fn tells_room(&self)
-        ensures { TellsRoom self.now.ring.made_with.geometry (world self.now.history) }
-    {
-        world_law();
-        indexes_tell_the_queue();
-        self.port.trail_stands_in_a_run();
-    }
-
-    /// Looks, and tries to reserve where the batch fits.
-    fn open<'b>(
+    /// The same of a batch of either kind: looks, and tries to reserve where the batch fits.
+    pub fn reserve_as<'b, K: BatchKind>(
         self,
         ring: &Ring,
         batch: &'b Batch,
-        closes: bool,
-    ) -> Result<OpenReservation<'b>, Refused>
+    ) -> Result<OpenReservation<'b, K>, Refused>
         requires { self.ring ≡ ring.now }
-        ensures reserved { IfOk result (λ r. IsReserved batch.now closes self r) }
-        ensures refused { IfErr result (λ e. IsRefused batch.now closes self e.cause e.sender) }
+        ensures reserved { IfOk result (λ r. IsReserved batch.now K.closes self r) }
+        ensures refused { IfErr result (λ e. IsRefused batch.now K.closes self e.cause e.sender) }
         ensures history { MatchResult result (λ r. Grew (SenderOf self.number) self.trail r.trail self.history r.history) (λ e. Grew (SenderOf self.number) self.trail e.sender.trail self.history e.sender.history) }
         ensures ring { MatchResult result (λ r. r.ring ≡ self.ring) (λ e. e.sender.ring ≡ self.ring) }
         ensures id { MatchResult result (λ r. r.sender ≡ self.number) (λ e. e.sender.number ≡ self.number) }
     {
         let mut sender = self;
-        let many = batch_length(batch, closes);
+        let many = batch_length::<K>(batch);
         let size = ring.geometry().size();
         if many > size {
             return Err(Cause::TooLong.refused(sender));
@@ -197,48 +179,47 @@ impl Sender {
             return Err(Cause::Exhausted.refused(sender));
         }
         let seen = sender.look(ring);
-        sender.tells_room();
+        sender.port.looks_tell();
         if seen.closed {
             return Err(Cause::Closed.refused(sender));
         }
         if seen.prod.distance(seen.cons) + many > size {
             return Err(Cause::Full.refused(sender));
         }
-        sender.exchange(ring, batch, closes, many, seen)
+        sender.exchange::<K>(ring, batch, many, seen)
     }
 
     /// The exchange, after a look that found the room.
-    fn exchange<'b>(
+    fn exchange<'b, K: BatchKind>(
         self,
         ring: &Ring,
         batch: &'b Batch,
-        closes: bool,
         many: u32,
         seen: Control,
-    ) -> Result<OpenReservation<'b>, Refused>
+    ) -> Result<OpenReservation<'b, K>, Refused>
         requires ring { self.ring ≡ ring.now }
         requires body { IsBody batch.now }
-        requires many { many ≡ length_with closes batch.now }
+        requires many { many ≡ length_with K.closes batch.now }
         requires seen { looked self.trail ≡ Some seen }
-        requires room { HasRoom batch.now closes self seen }
+        requires room { HasRoom batch.now K.closes self seen }
         requires left { HasBatchLeft self }
-        requires fits { Fits batch.now closes self }
+        requires fits { Fits batch.now K.closes self }
         requires control { IsControl self.ring.made_with.geometry seen }
-        ensures won { IfOk result (λ r. IsWon batch.now closes seen self r) }
-        ensures lost { IfErr result (λ e. (e.cause ≡ Cause.Contended) × IsLost batch.now closes seen self e.sender) }
+        ensures won { IfOk result (λ r. IsWon batch.now K.closes seen self r) }
+        ensures lost { IfErr result (λ e. (e.cause ≡ Cause.Contended) × IsLost batch.now K.closes seen self e.sender) }
         ensures ring { MatchResult result (λ r. r.ring ≡ self.ring) (λ e. e.sender.ring ≡ self.ring) }
         ensures id { MatchResult result (λ r. r.sender ≡ self.number) (λ e. e.sender.number ≡ self.number) }
     {
         let Sender { mut port, tally } = self;
-        if port.exchange(ring, tally.sender, batch, closes, many, &seen) {
+        if port.exchange::<Brand>(ring, tally.sender, batch, K::closes(), many, &seen) {
             return Ok(OpenReservation {
                 port,
-                tally: tally.with_batch(closes),
+                tally: tally.with_batch::<K>(),
                 batch,
-                closes,
                 start: seen.prod,
                 written: 0,
                 flipped: 0,
+                kind: PhantomData,
             });
         }
         Err(Cause::Contended.refused(Sender { port, tally }))

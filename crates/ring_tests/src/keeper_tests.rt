@@ -68,7 +68,7 @@ fn a_reservation_waits_for_its_batch(rt: HostRuntime) {
     let (consumer, head) = take_one(&ring, consumer);
     assert_eq!(rt; head, Head::Unwritten);
     let consumer = keeper.take_consumer(&ring, consumer);
-    let reservation = keeper.lend_reservation(&ring, idle, &one);
+    let reservation = keeper.lend_reservation::<Closing>(&ring, idle, &one);
     let (sender, receipt) = reservation.publish(&ring);
     assert_eq!(rt; (receipt.sender(), receipt.number()), (0, 1));
     keeper.take_sender(&ring, sender);
@@ -86,11 +86,11 @@ fn a_bare_reservation_waits_for_its_batch(rt: HostRuntime) {
     let Ok(reservation) = sender.reserve_bare(&ring, &one) else {
         panic!(rt; "the batch is refused");
     };
-    let idle = keeper.take_bare_reservation(&ring, reservation);
+    let idle = keeper.take_reservation(&ring, reservation);
     assert!(rt; !idle.closes());
     assert_eq!(rt; (idle.first().get(), idle.number()), (0, None));
     let sender = keeper
-        .lend_bare_reservation(&ring, idle, &one)
+        .lend_reservation::<Bare>(&ring, idle, &one)
         .publish(&ring);
     keeper.take_sender(&ring, sender);
     let consumer = keeper.lend_consumer(&ring, consumer);
@@ -121,7 +121,7 @@ fn steps_amid_a_reservation(rt: HostRuntime) {
         (seen.prod.get(), seen.cons.get(), seen.closed),
         (2, 0, true)
     );
-    let reservation = keeper.lend_reservation(&ring, idle, &one);
+    let reservation = keeper.lend_reservation::<Closing>(&ring, idle, &one);
     let (sender, receipt) = reservation.publish(&ring);
     assert_eq!(rt; (receipt.sender(), receipt.number()), (0, 1));
     keeper.take_sender(&ring, sender);

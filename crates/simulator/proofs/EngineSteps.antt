@@ -20,7 +20,7 @@ use Rattle.ringcore.specs.world.Laws.{NeverMoreThanFull}
 use Rattle.caches.specs.Held.{Take, without_covered}
 use Rattle.ring.specs.Rings.{RingValue}
 use Rattle.ring.specs.table.Keeping.{run_by, RunStands}
-use Rattle.ring.specs.Keepers.{KeeperValue, Adds, has_lent, KeepsOthers}
+use Rattle.ring.specs.Keepers.{KeeperValue, Adds}
 use Rattle.ring.specs.consumer.Consumers.{ConsumerValue}
 use Rattle.ring.specs.consumer.Pendings.{PendingValue, reads_from}
 use Rattle.ring.specs.consumer.Taking.{TookNone, TookUnwritten}
@@ -42,14 +42,6 @@ use Rattle.simulator.proofs.Counts.{all_counted}
 use Rattle.simulator.proofs.OneMore.{completed_taken, counts_after_applied, counts_after_replaced, removed_is}
 use Rattle.simulator.proofs.Ways.{stays_stopped, stepped_going, at_head, found_world}
 use Rattle.simulator.proofs.HeadLemmas.{HasFound, found_none, found_unwritten, found_ready}
-
--- ---- the keeper around a call
-
--- What is left of the others stays, whomever the keeper had lent a seat.
-pub others_stay : (old lent new : KeeperValue) → lent ≡ has_lent Consumer old → KeepsOthers Consumer lent new → KeepsOthers Consumer old new
-others_stay old lent new lent_is is =
-    let kept : KeepsOthers Consumer (has_lent Consumer old) new = subst (λ (k : KeeperValue). KeepsOthers Consumer k new) lent_is is in
-    record { trails = kept.trails; senders = kept.senders; reservations = kept.reservations; consumer = kept.consumer }
 
 -- ---- the state in which the head was found
 

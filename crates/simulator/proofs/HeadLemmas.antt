@@ -1,5 +1,5 @@
 -- What the consumer found at the head, by the run that it left.
-use Rattle.std.proofs.Common.{◌≡◌, ◌≢◌, ℕ, ◌+◌, ◌-◌, ◌%◌, ◌*◌, Bool, true, false, ◌==◌, [], ◌∷◌, ◌++◌, Option, Some, refl, sym, ap, ap₂, ◌∙◌, subst, eq-eqb, append_assoc, arith}
+use Rattle.std.proofs.Common.{◌≡◌, ◌≢◌, ℕ, ◌+◌, ◌-◌, ◌%◌, ◌*◌, Bool, true, false, ◌==◌, [], ◌∷◌, ◌++◌, Option, Some, refl, sym, ap, ◌∙◌, subst, eq-eqb, append_assoc, arith}
 use Rattle.std.specs.Prelude.{◌/◌, slice_get, option_map, if◌then◌else◌}
 use Rattle.std.proofs.lemmas.Bool.{ne_eqb}
 use native.Mathlib.Nat.{mod_self}
@@ -18,25 +18,12 @@ use Rattle.ringcore.specs.world.Laws.{NeverMoreThanFull}
 use Rattle.ring.specs.table.Keeping.{run_by, RunStands}
 use Rattle.ring.specs.Keepers.{KeeperValue, Adds}
 use Rattle.simulator.specs.queue.Reserving.{looked_by}
-use Rattle.simulator.specs.queue.Heads.{Head, Empty, Drained, Unwritten, Ready, raw_at_head, ready_with, head_of, found_by, head_taken}
+use Rattle.simulator.specs.queue.Heads.{Head, Empty, Drained, Unwritten, Ready, raw_at_head, head_of, found_by, head_taken}
 
 -- ---- what stands at the head
 
 abbrev pub nothing_with : Bool → Head
 nothing_with closed = if closed then Drained else Empty
-
-head_by : (w : World) (empty flipped : Bool) → (tail w == head w) ≡ empty → w.flipped (head w) ≡ flipped
-    → head_of w ≡ (if empty then nothing_with w.closed else if flipped then ready_with (raw_at_head w) else Unwritten)
-head_by w empty flipped e f = ap₂ (λ (a b : Bool). if a then nothing_with w.closed else if b then ready_with (raw_at_head w) else Unwritten) e f
-
-head_nothing : (w : World) → (tail w == head w) ≡ true → (closed : Bool) → w.closed ≡ closed → head_of w ≡ nothing_with closed
-head_nothing w empty closed is = head_by w true (w.flipped (head w)) empty refl ∙ ap nothing_with is
-
-head_unwritten : (w : World) → (tail w == head w) ≡ false → w.flipped (head w) ≡ false → head_of w ≡ Unwritten
-head_unwritten w some unflipped = head_by w false false some unflipped
-
-head_ready : (w : World) → (tail w == head w) ≡ false → w.flipped (head w) ≡ true → (raw : Raw) → raw_at_head w ≡ Some raw → head_of w ≡ Ready raw
-head_ready w some flipped raw there = head_by w false true some flipped ∙ ap ready_with there
 
 -- ---- what comes behind it
 
@@ -108,7 +95,7 @@ module _ (tells : IndexesTellTheQueue) (within : NeverMoreThanFull) (old_keeper 
     none_looks = subst (IsRun made) none_run stands.after.run_is
 
     none_head : head_of w ≡ nothing_with closed
-    none_head = head_nothing w (nothing_is seen none_looks nothing) closed (closed_is seen none_looks ∙ says)
+    none_head = let empty = nothing_is seen none_looks nothing in let shut : w.closed ≡ closed = closed_is seen none_looks ∙ says in rw (empty, shut)
 
     no_more : (c : Bool) → found_by (nothing_with c) (looked_by Consumer g run) ≡ looked_by Consumer g run
     no_more true = refl
@@ -138,7 +125,7 @@ module _ (tells : IndexesTellTheQueue) (within : NeverMoreThanFull) (old_keeper 
     unflipped = ap w.flipped (let e : head w ≡ head w + 0 = omega arith in e) ∙ un_finds.no_more (omega arith) one_shares
 
     un_head : head_of w ≡ Unwritten
-    un_head = head_unwritten w (something_is seen un_ok.0 something) unflipped
+    un_head = let some = something_is seen un_ok.0 something in rw (some, unflipped)
 
     pub found_unwritten : HasFound made run Unwritten [] new
     found_unwritten = record {
@@ -186,7 +173,7 @@ module _ (tells : IndexesTellTheQueue) (within : NeverMoreThanFull) (old_keeper 
     looked_first = ready_ok.0.0.0
 
     ready_head : head_of w ≡ Ready raw
-    ready_head = head_ready w (something_is seen looked_first something) flipped_there raw raw_there
+    ready_head = let some = something_is seen looked_first something in rw (some, flipped_there, raw_there)
 
     pub found_ready : HasFound made run (Ready raw) more new
     found_ready = record {

@@ -13,7 +13,7 @@ use Rattle.ringcore.specs.world.Trails.{Run}
 use Rattle.ringcore.specs.world.World.{Taken, outcome_of, taken_as, world}
 use Rattle.ring.specs.consumer.Completing.{sync_sender, sync_number}
 use Rattle.caches.specs.Held.{History, Take, held}
-use Rattle.engine.specs.Counting.{syncs_with, counted_applied, counted_replaced}
+use Rattle.engine.specs.Counting.{CountsValue, syncs_with, counted_applied, counted_replaced}
 use Rattle.simulator.specs.queue.Heads.{completed}
 use Rattle.simulator.specs.State.{removed_from, removed_in, is_applied, counts_of}
 use Rattle.simulator.proofs.Counts.{count_by-snoc}
@@ -49,9 +49,7 @@ one_more_counted list history raw =
     let applied = count_by-snoc (λ (t : Taken). is_applied t.outcome) list (taken_as raw) in
     let replaced = count_by-snoc (λ (t : Taken). not (is_applied t.outcome)) list (taken_as raw) in
     let syncs = count_by-snoc (λ (t : Taken). is_sync t.raw) list (taken_as raw) ∙ sym (syncs_are raw (counts_of list history).syncs) in
-    ap (λ n. record { applied = n; replaced = (counts_of (list ++ taken_as raw ∷ []) history).replaced; syncs = (counts_of (list ++ taken_as raw ∷ []) history).syncs; removed = removed_in history }) applied
-    ∙ ap (λ n. record { applied = (counts_of list history).applied + cond (is_applied (outcome_of raw)) 1 0; replaced = n; syncs = (counts_of (list ++ taken_as raw ∷ []) history).syncs; removed = removed_in history }) replaced
-    ∙ ap (λ n. record { applied = (counts_of list history).applied + cond (is_applied (outcome_of raw)) 1 0; replaced = (counts_of list history).replaced + cond (not (is_applied (outcome_of raw))) 1 0; syncs = n; removed = removed_in history }) syncs
+    (λ k. let counts : CountsValue = record { applied = applied k; replaced = replaced k; syncs = syncs k; removed = removed_in history } in counts)
 
 -- one more is taken as this
 pub counts_after_applied : (list : List Taken) (history : History) (raw : Raw) (command : Command) → first_ill raw ≡ None

@@ -1,24 +1,21 @@
 -- A sender that has just reserved a batch has an open reservation.
-use Rattle.std.proofs.Common.{◌≡◌, refl, ap, ◌∙◌, arith, ℕ, zero, suc, ◌+◌, ◌≤◌, Bool, true, cond, List, ◌∷◌, length, Option, Some, None, Ok, eq-eqb}
+use Rattle.std.proofs.Common.{◌≡◌, refl, ap, ◌∙◌, arith, ℕ, ◌+◌, ◌≤◌, Bool, true, cond, List, ◌∷◌, length, Option, Some, None, Ok, eq-eqb}
 use Rattle.cmdcodec.specs.declared.raw.Raw.{Raw}
 use Rattle.ringcore.specs.declared.world.event.Who.TheVariants.{Sender}
 use Rattle.ringcore.specs.declared.world.event.Event.TheVariants.{Won}
 use Rattle.ringcore.specs.world.Trails.{Trail, Run, trail_of}
 use Rattle.ringcore.specs.world.World.{world}
 use Rattle.ringcore.specs.world.Allowed.{Ring, length_with}
-use Rattle.ringcore.specs.machine.Open.{some_below, is_open}
+use Rattle.ringcore.specs.machine.Open.{is_open}
 use Rattle.ringcore.specs.machine.StepAnswers.{next_number}
 use Rattle.ring.specs.declared.sender.cause.Cause.{Cause}
 use Rattle.simulator.specs.declared.queue.reserved.Reserved.{Reserved}
+use Rattle.simulator.proofs.SeatLemmas.{some_is}
 use Rattle.simulator.specs.queue.Reserving.{looked_by, cause_ahead, cause_seen, unless_seen, unless_ahead, try_to_reserve}
 
-some_of_all : (n : ℕ) → 1 ≤ n → some_below n (λ offset. true) ≡ true
-some_of_all zero low = absurd (omega arith)
-some_of_all (suc n) low = refl
-
 won_is_open : (body : List Raw) (number : Option ℕ) (es : Trail) → 1 ≤ length body → is_open (Won body number ∷ es) ≡ true
-won_is_open body None es some = some_of_all (length body) some
-won_is_open body (Some number) es some = some_of_all (length body + 1) (omega arith)
+won_is_open body None es some = some_is (length body) (λ offset. true) some (λ k. refl)
+won_is_open body (Some number) es some = some_is (length body + 1) (λ offset. true) (omega arith) (λ k. refl)
 
 seen_is_open : (ring : Ring) (s : ℕ) (body : List Raw) (closes : Bool) (run : Run) (cause : Option Cause) (r : Reserved) → 1 ≤ length body
     → (unless_seen ring s body closes run cause).answer ≡ Ok r → is_open (trail_of (Sender s) (unless_seen ring s body closes run cause).run) ≡ true

@@ -26,7 +26,7 @@ use Rattle.ring.specs.sender.Senders.{SenderValue}
 use Rattle.ring.specs.sender.Reservations.{ReservationValue, reserved_number, number_when}
 use Rattle.ring.specs.sender.Publishing.{wrote_one, wrote_many, flipped_left, sender_of, published as published_by_ring}
 use Rattle.simulator.specs.queue.Publishing.{last_number, written, flipped, first_flags, published}
-use Rattle.simulator.proofs.SeatLemmas.{IsCall}
+use Rattle.simulator.proofs.SeatLemmas.{IsCall, length_some}
 
 -- The trail has some events more than this one, and the run has just these more.
 record Grows (who : Who) (t : Trail) (run : Run) (x : Trail) (r : Run) : Type 0 where
@@ -204,10 +204,6 @@ module _ (places : IndexesTellPlaceAndWrapBit) (shared : IndexesTellSharedWords)
 
 -- ---- by the contracts of the ring
 
-length_some : (body : List Raw) (closes : Bool) → IsBody body → 1 ≤ length_with closes body
-length_some body true is = omega (arith, is.some)
-length_some body false is = is.some
-
 length_few : (body : List Raw) (closes : Bool) → IsBody body → length_with closes body ≤ 64
 length_few body true is = omega (arith, is.few)
 length_few body false is = omega (arith, is.few)
@@ -218,7 +214,7 @@ pub published_so : IndexesTellPlaceAndWrapBit → IndexesTellSharedWords → Bat
     → new.run ≡ published old.ring.made_with.geometry idle.tally.sender old.run
 published_so places shared two_words starts old new body idle r t ok is unwritten unflipped r_is did call =
     published_right places shared two_words starts old.ring idle.tally.sender body idle.closes old.run ok
-    (subst (λ (n : ℕ). 1 ≤ n) (sym is.many) (length_some body idle.closes is.body_is))
+    (subst (λ (n : ℕ). 1 ≤ n) (sym is.many) (length_some body idle.closes is.body_is.some))
     (subst (λ (n : ℕ). n ≤ 64) (sym is.many) (length_few body idle.closes is.body_is))
     (subst (λ (n : ℕ). n ≤ size old.ring.made_with.geometry) (sym is.many) is.fits)
     t.trail new.run call.adds

@@ -1,7 +1,8 @@
 -- What the keeper knows of a call for which it had lent a sender its seat.
-use Rattle.std.proofs.Common.{◌≡◌, ℕ, refl, ap, sym, ◌∙◌, subst, arith, Bool, true, false, not, zero, suc, ◌+◌, ◌-◌, ◌<◌, ◌≤◌, List, [], ◌∷◌, ◌++◌, length, inl, inr, ap₂}
+use Rattle.std.proofs.Common.{rules, ◌≡◌, ◌≢◌, ℕ, refl, ap, sym, ◌∙◌, subst, arith, Bool, true, false, not, zero, suc, ◌+◌, ◌-◌, ◌<◌, ◌≤◌, List, [], ◌∷◌, ◌++◌, length, inl, inr, ap₂}
 use Rattle.std.proofs.lemmas.Bool.{cases_lt, cases_eq, lt-leb}
 use Rattle.std.proofs.lemmas.List.{length-set, get_or-set_same, get_or-set_other, get_or-append_right, length_push}
+use Rattle.std.proofs.Math.ListN.{get_or-append}
 use Rattle.std.specs.Prelude.{None, ◌⊎◌, ◌||◌, nat_lt, slice_index_or, slice_set}
 use Rattle.cmdcodec.specs.declared.raw.Raw.{Raw}
 use Rattle.ringcore.specs.declared.world.event.Who.{Who}
@@ -14,38 +15,32 @@ use Rattle.ring.specs.Rings.{RingValue}
 use Rattle.ring.specs.NewRings.{made_with}
 use Rattle.ring.specs.declared.sender.tally.Tally.{Tally}
 use Rattle.ring.specs.table.Keeping.{RunStands}
-use Rattle.ring.specs.Keepers.{KeeperValue, IdleReservationValue, Adds, has_lent, has_back, with_step, KeepsAll, KeepsOthers, IsIdleSender}
+use Rattle.ring.specs.Keepers.{KeeperValue, IdleReservationValue, Adds, has_lent, has_back, with_step, KeepsAll, KeepsOthers, IsIdleSender, IsIdleReservation}
 use Rattle.simulator.specs.declared.queue.Seat.{Seat}
 use Rattle.simulator.specs.declared.queue.Seat.TheVariants.{Idle, Open}
 use Rattle.simulator.specs.queue.Seated.{QueueValue, ring_in, IsIdleSeat, IsOpenSeat, IsSeatOf, IsNewSeat, AreNew, IsQueue, IsBack}
 
 -- ---- a seat is lent, and comes back
 
--- The run has the events more that the trail has, and stands.
+-- What is left of the others stays, whomever the keeper had lent a seat.
+pub others_stay : (who : Who) (old lent new : KeeperValue) → lent ≡ has_lent who old → KeepsOthers who lent new → KeepsOthers who old new
+others_stay who old lent new lent_is is = let kept : KeepsOthers who (has_lent who old) new = subst (λ (k : KeeperValue). KeepsOthers who k new) lent_is is in search rules
+
+-- The run has the events more that the trail has, and stands; and the seat is back.
 pub record IsCall (s : ℕ) (trail : Trail) (old new : KeeperValue) : Type 0 where
   pub adds : Adds (Sender s) trail old.run new.run
   pub stands : RunStands old.ring.made_with new.run
-  pub ring_is : new.ring ≡ old.ring
+  pub back : IsBack s old new
 
 -- whoever came back was the one to whom the seat was lent
-module _ (s t : ℕ) (trail : Trail) (old lent new : KeeperValue) (lent_is : lent ≡ has_lent (Sender s) old) (one : t ≡ s) (back : new ≡ has_back (Sender t) trail lent) where
-  ring_stays : new.ring ≡ old.ring
-  ring_stays = ap (λ (k : KeeperValue). k.ring) back ∙ ap (λ (k : KeeperValue). k.ring) lent_is
-
-  pub is_call : Adds (Sender t) trail lent.run new.run → RunStands new.ring.made_with new.run → IsCall s trail old new
-  is_call adds stands = record {
-    adds = subst (λ (q : ℕ × KeeperValue). Adds (Sender q.0) trail q.1.run new.run) (λ k. (one k, lent_is k)) adds;
-    stands = subst (λ (r : RingValue). RunStands r.made_with new.run) ring_stays stands;
-    ring_is = ring_stays;
-  }
-
-  pub is_back : KeepsOthers (Sender t) lent new → IsBack s old new
-  is_back is =
-      let kept : KeepsOthers (Sender s) (has_lent (Sender s) old) new = subst (λ (q : ℕ × KeeperValue). KeepsOthers (Sender q.0) q.1 new) (λ k. (one k, lent_is k)) is in record {
-        ring_is = ring_stays;
-        whole = ap (λ (k : KeeperValue). k.lent) back;
-        others = record { trails = kept.trails; senders = kept.senders; reservations = kept.reservations; consumer = kept.consumer };
-      }
+pub is_call : (s t : ℕ) (trail : Trail) (old lent new : KeeperValue) → lent ≡ has_lent (Sender s) old → t ≡ s → new ≡ has_back (Sender t) trail lent
+    → Adds (Sender t) trail lent.run new.run → RunStands new.ring.made_with new.run → KeepsOthers (Sender t) lent new → IsCall s trail old new
+is_call s t trail old lent new lent_is one back adds stands others =
+    let ring_stays : new.ring ≡ old.ring = ap (λ (k : KeeperValue). k.ring) back ∙ ap (λ (k : KeeperValue). k.ring) lent_is in record {
+      adds = subst (λ (q : ℕ × KeeperValue). Adds (Sender q.0) trail q.1.run new.run) (λ k. (one k, lent_is k)) adds;
+      stands = subst (λ (r : RingValue). RunStands r.made_with new.run) ring_stays stands;
+      back = record { ring_is = ring_stays; whole = ap (λ (k : KeeperValue). k.lent) back; others = others_stay (Sender s) old lent new lent_is (subst (λ (n : ℕ). KeepsOthers (Sender n) lent new) one others) };
+    }
 
 -- ---- which seats have an open reservation
 
@@ -53,13 +48,13 @@ none_is : (n : ℕ) (f : ℕ → Bool) → ((k : ℕ) → k < n → f k ≡ fals
 none_is zero f never = refl
 none_is (suc n) f never = ap₂ (λ (a b : Bool). a || b) (never n (omega arith)) (none_is n f (λ k less. never k (omega (arith, less))))
 
-some_is : (n : ℕ) (f : ℕ → Bool) → 1 ≤ n → ((k : ℕ) → f k ≡ true) → some_below n f ≡ true
+pub some_is : (n : ℕ) (f : ℕ → Bool) → 1 ≤ n → ((k : ℕ) → f k ≡ true) → some_below n f ≡ true
 some_is zero f low all = absurd (omega (arith, low))
 some_is (suc n) f low all = ap (λ (a : Bool). a || some_below n f) (all n)
 
-is_some : (body : List Raw) (closes : Bool) → 1 ≤ length body → 1 ≤ length_with closes body
-is_some body true some = omega (arith, some)
-is_some body false some = some
+pub length_some : (body : List Raw) (closes : Bool) → 1 ≤ length body → 1 ≤ length_with closes body
+length_some body true some = omega (arith, some)
+length_some body false some = some
 
 pub idle_is_shut : (keeper : KeeperValue) (s : ℕ) (tally : Tally) → IsIdleSeat keeper s tally → is_open (trail_of (Sender s) keeper.run) ≡ false
 idle_is_shut keeper s tally is = subst (λ (n : ℕ). is_open (trail_of (Sender n) keeper.run) ≡ false) is.sender_is (shut (trail_of (Sender tally.sender) keeper.run) is.idle.settled)
@@ -70,32 +65,22 @@ idle_is_shut keeper s tally is = subst (λ (n : ℕ). is_open (trail_of (Sender 
 pub open_is_open : (keeper : KeeperValue) (s : ℕ) (body : List Raw) (idle : IdleReservationValue) → IsOpenSeat keeper s body idle → is_open (trail_of (Sender s) keeper.run) ≡ true
 open_is_open keeper s body idle is =
     let mine : Trail = trail_of (Sender idle.tally.sender) keeper.run in
-    let some : 1 ≤ reserved_length mine = subst (λ (n : ℕ). 1 ≤ n) (sym is.open_is.many) (is_some body idle.closes is.open_is.body_is.some) in
+    let some : 1 ≤ reserved_length mine = subst (λ (n : ℕ). 1 ≤ n) (sym is.open_is.many) (length_some body idle.closes is.open_is.body_is.some) in
     subst (λ (n : ℕ). is_open (trail_of (Sender n) keeper.run) ≡ true) is.sender_is
     (some_is (reserved_length mine) (λ k. not (has_flipped k mine)) some
     (λ k. ap not (is.open_is.in_flipped k ∙ ap (λ (n : ℕ). nat_lt k n) is.unflipped ∙ lt-leb (suc k) 0 (omega arith))))
 
 -- ---- the others' seats
 
-abbrev sender_in : Who → ℕ
-sender_in Consumer = 0
-sender_in (Sender s) = s
+-- A seat stays where what is left of its sender does.
+seat_stays : (t : ℕ) (old new : KeeperValue) (seat : Seat) → ((tally : Tally) → tally.sender ≡ t → IsIdleSender old tally → IsIdleSender new tally)
+    → ((body : List Raw) (idle : IdleReservationValue) → idle.tally.sender ≡ t → IsIdleReservation old body idle → IsIdleReservation new body idle) → IsSeatOf old t seat → IsSeatOf new t seat
+seat_stays t old new (Idle tally) senders reservations is = record { sender_is = is.sender_is; idle = senders tally is.sender_is is.idle }
+seat_stays t old new (Open idle body) senders reservations is =
+    record { sender_is = is.sender_is; open_is = reservations body idle is.sender_is is.open_is; unwritten = is.unwritten; unflipped = is.unflipped }
 
-abbrev sends : Who → Bool
-sends Consumer = false
-sends (Sender s) = true
-
-other_seat : (s t : ℕ) (old new : KeeperValue) (seat : Seat) → IsBack s old new → (t ≡ s → ⊥) → IsSeatOf old t seat → IsSeatOf new t seat
-other_seat s t old new (Idle tally) back other is = record {
-  sender_is = is.sender_is;
-  idle = back.others.senders tally (λ e. other (sym is.sender_is ∙ ap sender_in e)) is.idle;
-}
-other_seat s t old new (Open idle body) back other is = record {
-  sender_is = is.sender_is;
-  open_is = back.others.reservations body idle (λ e. other (sym is.sender_is ∙ ap sender_in e)) is.open_is;
-  unwritten = is.unwritten;
-  unflipped = is.unflipped;
-}
+not_his : (s t n : ℕ) → (t ≡ s → ⊥) → n ≡ t → Sender n ≢ Sender s
+not_his s t n other is e = let same : n ≡ s = cc in other (sym is ∙ same)
 
 -- One seat is another's now, and the rest stay.
 pub is_queue : (ring : RingValue) (old : QueueValue) (s : ℕ) (new : KeeperValue) (seat : Seat) → IsQueue ring old → s < length old.seats → IsBack s old.keeper new → IsSeatOf new s seat
@@ -111,58 +96,36 @@ is_queue ring old s new seat is known back mine = record {
     by_one t other less (inl same) =
         subst (λ (n : ℕ). IsSeatOf new n (slice_index_or (slice_set old.seats s seat) n other)) (sym same) (subst (IsSeatOf new s) (sym (get_or-set_same old.seats s seat other known)) mine)
     by_one t other less (inr else) =
-        subst (IsSeatOf new t) (sym (get_or-set_other old.seats s t seat other else)) (other_seat s t old.keeper new (slice_index_or old.seats t other) back else (is.each t other less))
+        subst (IsSeatOf new t) (sym (get_or-set_other old.seats s t seat other else)) (seat_stays t old.keeper new (slice_index_or old.seats t other) (λ tally mine. back.others.senders tally (not_his s t tally.sender else mine))
+        (λ body idle mine. back.others.reservations body idle (not_his s t idle.tally.sender else mine)) (is.each t other less))
 
--- All stay where the consumer alone took steps.
-pub is_queue_still : (ring : RingValue) (old : QueueValue) (new : KeeperValue) → IsQueue ring old → new.ring ≡ old.keeper.ring → new.lent ≡ None → KeepsOthers Consumer old.keeper new
+-- All stay with another keeper of the ring.
+all_stay : (ring : RingValue) (old : QueueValue) (new : KeeperValue) → IsQueue ring old → new.ring ≡ old.keeper.ring → new.lent ≡ None → ((t : ℕ) (seat : Seat) → IsSeatOf old.keeper t seat → IsSeatOf new t seat)
     → IsQueue ring (record { keeper = new; seats = old.seats })
-is_queue_still ring old new is same whole others = record {
+all_stay ring old new is same whole still = record {
   ring_is = same ∙ is.ring_is;
   whole = whole;
   many = is.many ∙ ap (λ (r : RingValue). r.made_with.senders) (sym same);
   each = λ t other less. still t (slice_index_or old.seats t other) (is.each t other less);
 }
-  where
-    no_sender : (s : ℕ) → Sender s ≡ Consumer → ⊥
-    no_sender s e = let never : true ≡ false = ap sends e in absurd cc
 
-    still : (t : ℕ) (seat : Seat) → IsSeatOf old.keeper t seat → IsSeatOf new t seat
-    still t (Idle tally) mine = record { sender_is = mine.sender_is; idle = others.senders tally (no_sender tally.sender) mine.idle }
-    still t (Open idle body) mine = record {
-      sender_is = mine.sender_is;
-      open_is = others.reservations body idle (no_sender idle.tally.sender) mine.open_is;
-      unwritten = mine.unwritten;
-      unflipped = mine.unflipped;
-    }
+-- where the consumer alone took steps
+pub is_queue_still : (ring : RingValue) (old : QueueValue) (new : KeeperValue) → IsQueue ring old → new.ring ≡ old.keeper.ring → new.lent ≡ None → KeepsOthers Consumer old.keeper new
+    → IsQueue ring (record { keeper = new; seats = old.seats })
+is_queue_still ring old new is same whole others =
+    all_stay ring old new is same whole (λ t seat. seat_stays t old.keeper new seat (λ tally mine. others.senders tally (λ e. cc)) (λ body idle mine. others.reservations body idle (λ e. cc)))
 
--- All stay where one sender took a step, of whom a reservation may be open.
+-- where one sender took a step, of whom a reservation may be open
 pub is_queue_stepped : (ring : RingValue) (old : QueueValue) (new : KeeperValue) (s : ℕ) (e : Event) → IsQueue ring old → new ≡ with_step (Sender s) e old.keeper → KeepsAll old.keeper new
     → IsQueue ring (record { keeper = new; seats = old.seats })
-is_queue_stepped ring old new s e is step all = record {
-  ring_is = ap (λ (k : KeeperValue). k.ring) step ∙ is.ring_is;
-  whole = ap (λ (k : KeeperValue). k.lent) step ∙ is.whole;
-  many = is.many ∙ ap (λ (k : KeeperValue). k.ring.made_with.senders) (sym step);
-  each = λ t other less. still t (slice_index_or old.seats t other) (is.each t other less);
-}
-  where
-    still : (t : ℕ) (seat : Seat) → IsSeatOf old.keeper t seat → IsSeatOf new t seat
-    still t (Idle tally) mine = record { sender_is = mine.sender_is; idle = all.senders tally mine.idle }
-    still t (Open idle body) mine = record {
-      sender_is = mine.sender_is;
-      open_is = all.reservations body idle mine.open_is;
-      unwritten = mine.unwritten;
-      unflipped = mine.unflipped;
-    }
+is_queue_stepped ring old new s e is step all =
+    all_stay ring old new is (ap (λ (k : KeeperValue). k.ring) step) (ap (λ (k : KeeperValue). k.lent) step ∙ is.whole)
+    (λ t seat. seat_stays t old.keeper new seat (λ tally mine. all.senders tally) (λ body idle mine. all.reservations body idle))
 
 -- ---- new seats
 
 pub new_seat : (s : ℕ) (tally : Tally) → tally.sender ≡ s → ((keeper : KeeperValue) → keeper.run ≡ [] → IsIdleSender keeper tally) → IsNewSeat s (Idle tally)
 new_seat s tally is idle keeper none = record { sender_is = is; idle = idle keeper none }
-
-append_left : (xs : List Seat) (y : Seat) (t : ℕ) (other : Seat) → t < length xs → slice_index_or (xs ++ y ∷ []) t other ≡ slice_index_or xs t other
-append_left [] y t other less = absurd (omega (arith, less))
-append_left (x ∷ xs) y zero other less = refl
-append_left (x ∷ xs) y (suc t) other less = append_left xs y t other (omega (arith, less))
 
 pub one_more_seat : (s : ℕ) (seats : List Seat) (seat : Seat) → AreNew s seats → IsNewSeat s seat → AreNew (s + 1) (seats ++ seat ∷ [])
 one_more_seat s seats seat is one = record {
@@ -171,7 +134,7 @@ one_more_seat s seats seat is one = record {
 }
   where
     by_last : (t : ℕ) (other : Seat) → t < length seats + 1 → (t < length seats) ⊎ (length seats ≤ t) → IsNewSeat t (slice_index_or (seats ++ seat ∷ []) t other)
-    by_last t other less (inl before) = subst (IsNewSeat t) (sym (append_left seats seat t other before)) (is.each t other before)
+    by_last t other less (inl before) = subst (IsNewSeat t) (sym (get_or-append seats (seat ∷ []) other t before)) (is.each t other before)
     by_last t other less (inr last) =
         let many = is.many in
         let here : t ≡ s = omega (arith, less, last, many) in

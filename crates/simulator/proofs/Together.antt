@@ -1,5 +1,5 @@
 -- What the unit and what is left of the consumer keep together between two calls.
-use Rattle.std.proofs.Common.{◌≡◌, refl, ap, sym, ◌∙◌, subst, List, [], length, Option, Some, None, append-nil}
+use Rattle.std.proofs.Common.{rules, ◌≡◌, refl, ap, sym, ◌∙◌, subst, List, [], length, Option, Some, None, append-nil}
 use Rattle.ringcore.specs.declared.world.event.Who.TheVariants.{Consumer}
 use Rattle.ringcore.specs.world.Trails.{Trail, Run, trail_of}
 use Rattle.ringcore.specs.world.World.{Taken}
@@ -11,15 +11,14 @@ use Rattle.engine.specs.Settled.{IsSettled}
 use Rattle.engine.specs.Counting.{taken, AreCountsOf}
 use Rattle.engine.specs.Units.{UnitValue, StaysSettled, new_unit}
 use Rattle.engine.specs.Engines.{AreTogether}
-use Rattle.simulator.specs.queue.Seated.{QueueValue, KeepsConsumer}
+use Rattle.simulator.specs.queue.Seated.{QueueValue, LeavesConsumer}
 use Rattle.simulator.specs.State.{State}
 use Rattle.simulator.specs.Standing.{StandFor, IsThere, IsSimulator}
 
 -- They are together by the consumer's trail alone.
 pub still_together : (d e : ConsumerValue UnitValue) (unit : UnitValue) → d.trail ≡ e.trail → AreTogether d unit → AreTogether e unit
 still_together d e unit same is =
-    let there = subst (λ (t : Trail). AreTogether (record e { trail = t }) unit) same (record { many = is.many; counted = is.counted; settled = is.settled; seen = is.seen }) in
-    record { many = there.many; counted = there.counted; settled = there.settled; seen = there.seen }
+    let there = subst (λ (t : Trail). AreTogether (record e { trail = t }) unit) same (search rules) in search rules
 
 -- before anything happened
 pub together_first : (keeper : KeeperValue) (unit : UnitValue) (caches : Stored) → keeper.run ≡ [] → unit ≡ new_unit caches → IsSettled unit.caches.entries [] → AreTogether (own_consumer None keeper) unit
@@ -34,15 +33,15 @@ together_first keeper unit caches run is settled =
 
 -- ---- a sender's call
 
-there_after : (old new : KeeperValue) (consumer : Option (IdleConsumerValue UnitValue)) → KeepsConsumer old new → IsThere old consumer → IsThere new consumer
-there_after old new None keeps is = is
-there_after old new (Some idle) keeps is = keeps idle.head idle.taken is
+there_after : (old new : KeeperValue) (consumer : Option (IdleConsumerValue UnitValue)) → LeavesConsumer old new → IsThere old consumer → IsThere new consumer
+there_after old new None leaves is = is
+there_after old new (Some idle) leaves is = leaves.left idle.head idle.taken is
 
-pub after_call : (queue new : QueueValue) (consumer : Option (IdleConsumerValue UnitValue)) (unit : UnitValue) (state : State) → KeepsConsumer queue.keeper new.keeper
-    → trail_of Consumer new.keeper.run ≡ trail_of Consumer queue.keeper.run → IsSimulator queue consumer unit → StandFor new.keeper unit state → IsSimulator new consumer unit
-after_call queue new consumer unit state keeps trail is stands = record {
-  there = there_after queue.keeper new.keeper consumer keeps is.there;
-  together = still_together (own_consumer None queue.keeper) (own_consumer None new.keeper) unit (sym trail) is.together;
+pub after_call : (queue new : QueueValue) (consumer : Option (IdleConsumerValue UnitValue)) (unit : UnitValue) (state : State) → LeavesConsumer queue.keeper new.keeper
+    → IsSimulator queue consumer unit → StandFor new.keeper unit state → IsSimulator new consumer unit
+after_call queue new consumer unit state leaves is stands = record {
+  there = there_after queue.keeper new.keeper consumer leaves is.there;
+  together = still_together (own_consumer None queue.keeper) (own_consumer None new.keeper) unit (sym leaves.trail_is) is.together;
   state = state;
   stands = stands;
 }

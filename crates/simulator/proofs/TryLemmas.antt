@@ -1,7 +1,7 @@
 -- What a try by the sender of the ring comes to, by the run that it left.
-use Rattle.std.proofs.Common.{◌≡◌, ◌≢◌, ℕ, suc, ◌+◌, ◌-◌, ◌<◌, ◌≤◌, Bool, true, false, List, [], ◌∷◌, Option, Some, None, Ok, refl, sym, ap, ap₂, ◌∙◌, subst, arith}
+use Rattle.std.proofs.Common.{◌≡◌, ◌≢◌, ℕ, suc, ◌+◌, ◌-◌, ◌<◌, ◌≤◌, Bool, true, false, List, [], ◌∷◌, Option, Some, None, Ok, sym, ap, ap₂, ◌∙◌, subst, arith}
 use Rattle.std.proofs.lemmas.Bool.{lt-leb, lt-ltb, le-leb}
-use Rattle.std.specs.Prelude.{nat_lt, nat_le, if◌then◌else◌, Result}
+use Rattle.std.specs.Prelude.{nat_lt, Result}
 use Rattle.cmdcodec.specs.declared.raw.Raw.{Raw}
 use Rattle.qindex.specs.declared.control.Control.{Control}
 use Rattle.qindex.specs.Positions.{IndexValue, size, index_of}
@@ -54,21 +54,17 @@ module _ (ring : Ring) (s : ℕ) (body : List Raw) (closes : Bool) (run : Run) w
     is_won : cause_seen ring (world run) many ≡ None → try_to_reserve ring ring.max_batches s body closes run ≡ won ring s body closes run after_look
     is_won is = goes_further ∙ ap (unless_seen ring s body closes run) is
 
-  ahead_by : (a b : Bool) → nat_lt (size ring.geometry) many ≡ a → nat_le ring.max_batches (batches_made mine) ≡ b
-      → cause_ahead ring ring.max_batches mine many ≡ (if a then Some TooLong else if b then Some Exhausted else None)
-  ahead_by a b long all = ap₂ (λ (x y : Bool). if x then Some TooLong else if y then Some Exhausted else None) long all
-
   too_long : size ring.geometry < many → cause_ahead ring ring.max_batches mine many ≡ Some TooLong
-  too_long over = ahead_by true (nat_le ring.max_batches (batches_made mine)) (lt-ltb (size ring.geometry) many over) refl
+  too_long over = rw (lt-ltb (size ring.geometry) many over)
 
   fits_so : many ≤ size ring.geometry → nat_lt (size ring.geometry) many ≡ false
   fits_so fits = lt-leb (suc (size ring.geometry)) many (omega (arith, fits))
 
   exhausted : many ≤ size ring.geometry → batches_made mine ≡ ring.max_batches → cause_ahead ring ring.max_batches mine many ≡ Some Exhausted
-  exhausted fits all = ahead_by false true (fits_so fits) (le-leb ring.max_batches (batches_made mine) (omega (arith, all)))
+  exhausted fits all = rw (fits_so fits, le-leb ring.max_batches (batches_made mine) (omega (arith, all)))
 
   none_ahead : many ≤ size ring.geometry → batches_made mine < ring.max_batches → cause_ahead ring ring.max_batches mine many ≡ None
-  none_ahead fits left = ahead_by false false (fits_so fits) (lt-leb ring.max_batches (batches_made mine) left)
+  none_ahead fits left = rw (fits_so fits, lt-leb ring.max_batches (batches_made mine) left)
 
   -- ---- what a look finds is the queue
 
@@ -89,22 +85,18 @@ module _ (ring : Ring) (s : ℕ) (body : List Raw) (closes : Bool) (run : Run) w
     look_is : (Sender s, Look seen) ∷ run ≡ after_look
     look_is = ap (λ (c : Control). (Sender s, Look c) ∷ run) seen_is
 
-    seen_by : (a b : Bool) → (world run).closed ≡ a → nat_lt (head (world run) + size ring.geometry) (tail (world run) + many) ≡ b
-        → cause_seen ring (world run) many ≡ (if a then Some Closed else if b then Some Full else None)
-    seen_by a b closed full = ap₂ (λ (x y : Bool). if x then Some Closed else if y then Some Full else None) closed full
-
     sees_closed : seen.closed ≡ true → cause_seen ring (world run) many ≡ Some Closed
-    sees_closed closed = seen_by true (nat_lt (head (world run) + size ring.geometry) (tail (world run) + many)) (sym closed_is ∙ closed) refl
+    sees_closed closed = let is : (world run).closed ≡ true = sym closed_is ∙ closed in rw is
 
     sees_full : seen.closed ≡ false → size ring.geometry < distance seen.prod seen.cons + many → cause_seen ring (world run) many ≡ Some Full
     sees_full unclosed over =
-        let far = far_is in let behind = (within ring run ok).behind in
-        seen_by false true (sym closed_is ∙ unclosed) (lt-ltb (head (world run) + size ring.geometry) (tail (world run) + many) (omega (arith, far, behind, over)))
+        let far = far_is in let behind = (within ring run ok).behind in let is : (world run).closed ≡ false = sym closed_is ∙ unclosed in
+        rw (is, lt-ltb (head (world run) + size ring.geometry) (tail (world run) + many) (omega (arith, far, behind, over)))
 
     sees_room : seen.closed ≡ false → distance seen.prod seen.cons + many ≤ size ring.geometry → cause_seen ring (world run) many ≡ None
     sees_room unclosed room =
-        let far = far_is in let behind = (within ring run ok).behind in
-        seen_by false false (sym closed_is ∙ unclosed) (lt-leb (suc (head (world run) + size ring.geometry)) (tail (world run) + many) (omega (arith, far, behind, room)))
+        let far = far_is in let behind = (within ring run ok).behind in let is : (world run).closed ≡ false = sym closed_is ∙ unclosed in
+        rw (is, lt-leb (suc (head (world run) + size ring.geometry)) (tail (world run) + many) (omega (arith, far, behind, room)))
 
 -- ---- by the contracts of the ring
 
@@ -208,7 +200,7 @@ module _ (tells : IndexesTellTheQueue) (within : NeverMoreThanFull) (old new : K
     first_is : (idle : IdleReservationValue) → idle.tally.sender ≡ s → IsIdleReservation new body idle → idle.start ≡ index_of made.geometry (tail (world old.run))
     first_is idle sender_is there =
         there.start_is
-        ∙ ap₂ (λ (k : RingValue) (n : ℕ). start_index k.made_with.geometry (trail_of (Sender n) new.run)) call.ring_is sender_is
+        ∙ ap₂ (λ (k : RingValue) (n : ℕ). start_index k.made_with.geometry (trail_of (Sender n) new.run)) call.back.ring_is sender_is
         ∙ ap (start_index made.geometry) won_trail
         ∙ ap (λ (c : Control). c.prod) same_seen
 

@@ -1,6 +1,6 @@
 //! The command queue on the ring of threads, in one hand: a keeper lends its senders their seats, one call at a time.
 ghost use Rattle.std.specs.Prelude.{◌≡◌, ◌<◌, [], true, false, None, Some, IfOk, IfErr, OnOk, Result};
-ghost use Rattle.ringcore.specs.declared.world.event.Who.TheVariants.{Consumer, Sender};
+ghost use Rattle.ringcore.specs.declared.world.event.Who.TheVariants.{Sender};
 ghost use Rattle.ringcore.specs.world.Trails.{trail_of};
 ghost use Rattle.ringcore.specs.machine.Open.{is_open};
 ghost use Rattle.ringcore.specs.machine.Faults.{has_sender};
@@ -8,7 +8,7 @@ ghost use Rattle.ringcore.specs.RingFaults.{IsNotMade, number_fault};
 ghost use Rattle.ring.specs.NewRings.{made_with};
 ghost use Rattle.ring.specs.table.Keeping.{RunStands};
 ghost use Rattle.ring.specs.Keepers.{IsIdleConsumer};
-ghost use Rattle.simulator.specs.queue.Seated.{ring_in, AreNew, IsIdle, KeepsConsumer};
+ghost use Rattle.simulator.specs.queue.Seated.{ring_in, AreNew, IsIdle, LeavesConsumer};
 ghost use Rattle.simulator.specs.queue.Trying.{tried_by};
 ghost use Rattle.simulator.specs.queue.Publishing.{last_number, published};
 ghost use Rattle.simulator.specs.declared.queue.Seat.TheVariants.{Idle};
@@ -124,9 +124,7 @@ impl Queue {
         requires settled { is_open (trail_of (Sender sender) self.old.keeper.run) ≡ false }
         ensures run { self.new.keeper.run ≡ (tried_by self.old.keeper sender batch closes).run }
         ensures answer { result ≡ (tried_by self.old.keeper sender batch closes).answer }
-        ensures ring { self.new.keeper.ring ≡ self.old.keeper.ring }
-        ensures consumer { KeepsConsumer self.old.keeper self.new.keeper }
-        ensures trail { trail_of Consumer self.new.keeper.run ≡ trail_of Consumer self.old.keeper.run }
+        ensures consumer { LeavesConsumer self.old.keeper self.new.keeper }
     {
         let Queue {
             ring,
@@ -156,9 +154,7 @@ impl Queue {
         requires opened { is_open (trail_of (Sender sender) self.old.keeper.run) ≡ true }
         ensures run { self.new.keeper.run ≡ published (ring_in self.old).geometry sender self.old.keeper.run }
         ensures number { result ≡ last_number (trail_of (Sender sender) self.old.keeper.run) }
-        ensures ring { self.new.keeper.ring ≡ self.old.keeper.ring }
-        ensures consumer { KeepsConsumer self.old.keeper self.new.keeper }
-        ensures trail { trail_of Consumer self.new.keeper.run ≡ trail_of Consumer self.old.keeper.run }
+        ensures consumer { LeavesConsumer self.old.keeper self.new.keeper }
     {
         let Queue {
             ring,

@@ -7,12 +7,11 @@ use Rattle.cmdcodec.specs.declared.raw.Raw.{Raw}
 use Rattle.ringcore.specs.declared.world.event.Half.{Half}
 use Rattle.ringcore.specs.declared.world.event.Half.TheVariants.{Lo, Hi}
 use Rattle.ringcore.specs.declared.world.event.Event.TheVariants.{Look, Test, Read}
-use Rattle.ringcore.specs.world.Trails.{Trail, half_read, same_half}
+use Rattle.ringcore.specs.world.Trails.{Trail, half_read, same_half, head_read}
 use Rattle.ringcore.specs.world.World.{half_of}
-use Rattle.ringcore.specs.world.Trails.{head_read}
 use Rattle.ringcore.specs.world.ConsumerLaws.{IsSteady}
 use Rattle.ring.specs.consumer.Pendings.{HasSeen, reads_from}
-use Rattle.ring.specs.consumer.Consumers.{ConsumerPortValue}
+use Rattle.ring.specs.table.Ports.{PortValue}
 use Rattle.qindex.specs.declared.control.Control.{Control}
 
 -- ---- what was read at the head is found again
@@ -41,9 +40,6 @@ get_shorter : {A : Type 0} (xs ys : List A) (i : ℕ) → i < length xs → slic
 get_shorter [] ys i low = absurd (omega (arith, low))
 get_shorter (x ∷ xs) ys zero low = refl
 get_shorter (x ∷ xs) ys (suc i) low = get_shorter xs ys i (omega (arith, low))
-
-some_one : {A : Type 0} (x y : A) → Some x ≡ Some y → x ≡ y
-some_one x y e = cc
 
 pub reads_snoc : (o : ℕ) (rs : List Raw) (r : Raw) (t : Trail) → reads_from o (rs ++ r ∷ []) t ≡ Read (o + length rs) Hi r.hi ∷ Read (o + length rs) Lo r.lo ∷ reads_from o rs t
 reads_snoc o [] r t = let e : o ≡ o + 0 = omega arith in ap (λ (n : ℕ). let u : Trail = Read n Hi r.hi ∷ Read n Lo r.lo ∷ t in u) e
@@ -89,7 +85,7 @@ module _ (lo hi : ℕ) where
   read_more xs i t long before k raw half at = elim (cases_eq k i) [
     | inl same ↦
         let place : k ≡ length xs + 0 = omega (arith, same, long) in
-        let is : one ≡ raw = some_one one raw (sym (get_behind xs (one ∷ []) 0) ∙ ap (slice_get (xs ++ one ∷ [])) (sym place) ∙ at) in
+        let is : one ≡ raw = (let e : Some one ≡ Some raw = sym (get_behind xs (one ∷ []) 0) ∙ ap (slice_get (xs ++ one ∷ [])) (sym place) ∙ at in cc) in
         ap (λ (b : Bool). cond (b && same_half half Hi) (Some hi) (cond (b && same_half half Lo) (Some lo) (half_read k half t))) (eq-eqb k i same)
         ∙ now t k half ∙ ap (λ (r : Raw). Some (half_of half r)) is
     | inr other ↦
@@ -100,7 +96,7 @@ module _ (lo hi : ℕ) where
         ∙ before k raw half (sym (get_shorter xs (one ∷ []) k low) ∙ at)
   ]
 
-  pub run_more : (d s s1 s2 : ConsumerPortValue) (xs ys : List Raw) (i : ℕ) → length xs ≡ i → record s { history = [] } ≡ record d { trail = reads_from 0 xs d.trail; history = [] }
+  pub run_more : (d s s1 s2 : PortValue) (xs ys : List Raw) (i : ℕ) → length xs ≡ i → record s { history = [] } ≡ record d { trail = reads_from 0 xs d.trail; history = [] }
       → record s1 { history = [] } ≡ record s { trail = Read i Lo lo ∷ s.trail; history = [] } → record s2 { history = [] } ≡ record s1 { trail = Read i Hi hi ∷ s1.trail; history = [] } → ys ≡ xs ++ one ∷ []
       → record s2 { history = [] } ≡ record d { trail = reads_from 0 ys d.trail; history = [] }
   run_more d s s1 s2 xs ys i long s_is s1_is s2_is ys_is =
@@ -108,14 +104,14 @@ module _ (lo hi : ℕ) where
       let trail : reads_from 0 ys d.trail ≡ Read i Hi hi ∷ Read i Lo lo ∷ reads_from 0 xs d.trail =
       ap (λ (l : List Raw). reads_from 0 l d.trail) ys_is ∙ reads_snoc 0 xs one d.trail
       ∙ ap (λ (k : ℕ). let u : Trail = Read k Hi hi ∷ Read k Lo lo ∷ reads_from 0 xs d.trail in u) n in
-      s2_is ∙ ap (λ (x : ConsumerPortValue). let y : ConsumerPortValue = record x { trail = Read i Hi hi ∷ x.trail } in y) s1_is
-      ∙ ap (λ (x : ConsumerPortValue). let y : ConsumerPortValue = record x { trail = Read i Hi hi ∷ Read i Lo lo ∷ x.trail } in y) s_is
-      ∙ ap (λ (t : Trail). let y : ConsumerPortValue = record d { trail = t; history = [] } in y) (sym trail)
+      s2_is ∙ ap (λ (x : PortValue). let y : PortValue = record x { trail = Read i Hi hi ∷ x.trail } in y) s1_is
+      ∙ ap (λ (x : PortValue). let y : PortValue = record x { trail = Read i Hi hi ∷ Read i Lo lo ∷ x.trail } in y) s_is
+      ∙ ap (λ (t : Trail). let y : PortValue = record d { trail = t; history = [] } in y) (sym trail)
 
-  pub trail_more : (s s1 s2 : ConsumerPortValue) (i : ℕ) → record s1 { history = [] } ≡ record s { trail = Read i Lo lo ∷ s.trail; history = [] } → record s2 { history = [] } ≡ record s1 { trail = Read i Hi hi ∷ s1.trail; history = [] }
+  pub trail_more : (s s1 s2 : PortValue) (i : ℕ) → record s1 { history = [] } ≡ record s { trail = Read i Lo lo ∷ s.trail; history = [] } → record s2 { history = [] } ≡ record s1 { trail = Read i Hi hi ∷ s1.trail; history = [] }
       → s2.trail ≡ Read i Hi hi ∷ Read i Lo lo ∷ s.trail
   trail_more s s1 s2 i s1_is s2_is =
-      ap (λ (x : ConsumerPortValue). x.trail) s2_is ∙ ap (λ (x : ConsumerPortValue). let u : Trail = Read i Hi hi ∷ x.trail in u) s1_is
+      ap (λ (x : PortValue). x.trail) s2_is ∙ ap (λ (x : PortValue). let u : Trail = Read i Hi hi ∷ x.trail in u) s1_is
 
 -- A run that is read again begins with the command that was read before.
 pub run_again : (limit found : ℕ) (c : Control) (t u : Trail) (rs : List Raw) (raw : Raw) → u ≡ reads_from 0 rs (Test limit found ∷ Look c ∷ t) → 1 ≤ length rs

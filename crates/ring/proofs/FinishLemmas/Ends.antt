@@ -20,7 +20,7 @@ use Rattle.ringcore.specs.world.ConsumerLaws.{TellsTheHead, TellsWhatIsAdvanced,
 use Rattle.ringcore.specs.memory.StepLaws.{Always, HasAControlWord}
 use Rattle.ring.specs.declared.table.rule.Participant.{Participant}
 use Rattle.ring.specs.Rings.{RingValue}
-use Rattle.ring.specs.table.Rule.{participant, WentOn, HasTrails, RuleHolds}
+use Rattle.ring.specs.table.Rule.{participant, WentOn, IsIn, HasTrails, RuleHolds}
 use Rattle.ring.specs.sender.Senders.{SenderValue}
 use Rattle.ring.specs.consumer.Consumers.{ConsumerValue}
 use Rattle.ring.specs.consumer.Completing.{taken_of}
@@ -57,15 +57,11 @@ pub empty : {A : Type 0} (xs : List A) → length xs ≡ 0 → xs ≡ []
 empty [] h = refl
 empty (x ∷ xs) h = absurd (omega arith)
 
-sender_trail : (ring : Ring) (run : Run) (all : List SenderValue) (rest : List Participant) (k : ℕ) (s : SenderValue) → slice_get all k ≡ Some s → HasTrails ring run (map sender_in all ++ rest) → trail_of (Sender s.number) run ≡ s.trail
-sender_trail ring run [] rest k s at has = absurd (cc)
-sender_trail ring run (x ∷ xs) rest zero s at has = let e : x ≡ s = cc in subst (λ (y : SenderValue). trail_of (Sender y.number) run ≡ y.trail) e has.0.trail
-sender_trail ring run (x ∷ xs) rest (suc k) s at has = sender_trail ring run xs rest k s at has.1
-
-sender_knew : (ring : Ring) (run : Run) (all : List SenderValue) (rest : List Participant) (k : ℕ) (s : SenderValue) → slice_get all k ≡ Some s → HasTrails ring run (map sender_in all ++ rest) → WentOn (Sender s.number) s.history run
-sender_knew ring run [] rest k s at has = absurd (cc)
-sender_knew ring run (x ∷ xs) rest zero s at has = let e : x ≡ s = cc in subst (λ (y : SenderValue). WentOn (Sender y.number) y.history run) e has.0.went_on
-sender_knew ring run (x ∷ xs) rest (suc k) s at has = sender_knew ring run xs rest k s at has.1
+-- what the run has of the k-th of the senders
+its_trail : (ring : Ring) (run : Run) (all : List SenderValue) (rest : List Participant) (k : ℕ) (s : SenderValue) → slice_get all k ≡ Some s → HasTrails ring run (map sender_in all ++ rest) → IsIn ring run (sender_in s)
+its_trail ring run [] rest k s at has = absurd (cc)
+its_trail ring run (x ∷ xs) rest zero s at has = let e : x ≡ s = cc in subst (λ (y : SenderValue). IsIn ring run (sender_in y)) e has.0
+its_trail ring run (x ∷ xs) rest (suc k) s at has = its_trail ring run xs rest k s at has.1
 
 rest_trails : (ring : Ring) (run : Run) (all : List SenderValue) (rest : List Participant) → HasTrails ring run (map sender_in all ++ rest) → HasTrails ring run rest
 rest_trails ring run [] rest has = has
@@ -107,9 +103,9 @@ module _ {D : Type 0} (ring : RingValue) (senders : List SenderValue) (consumer 
   run_of = record {
     run_is = ok;
     only = k.only;
-    of_senders = λ j s there. ap (λ (x : ℕ). trail_of (Sender x) run) (sym (all.each j s there).1) ∙ sender_trail key run senders (participant key Consumer consumer.trail consumer.history ∷ []) j s there has;
+    of_senders = λ j s there. ap (λ (x : ℕ). trail_of (Sender x) run) (sym (all.each j s there).1) ∙ (its_trail key run senders (participant key Consumer consumer.trail consumer.history ∷ []) j s there has).trail;
     of_consumer = device.0.trail;
-    known_to_senders = λ j s there. subst (λ (x : ℕ). WentOn (Sender x) s.history run) (all.each j s there).1 (sender_knew key run senders (participant key Consumer consumer.trail consumer.history ∷ []) j s there has);
+    known_to_senders = λ j s there. subst (λ (x : ℕ). WentOn (Sender x) s.history run) (all.each j s there).1 (its_trail key run senders (participant key Consumer consumer.trail consumer.history ∷ []) j s there has).went_on;
     known_to_consumer = device.0.went_on;
   }
 

@@ -1,5 +1,5 @@
 -- One step of a sender that asks, looks or closes, and a load of the control word.
-use Rattle.std.proofs.Common.{◌≡◌, ℕ, ◌<◌, Bool, true, false, cond, List, [], ◌∷◌, refl, sym, ap, ◌∙◌, subst}
+use Rattle.std.proofs.Common.{rules, ◌≡◌, ℕ, ◌<◌, Bool, true, false, cond, List, [], ◌∷◌, refl, sym, ap, ◌∙◌, subst}
 use Rattle.std.specs.Prelude.{◌==◌, Some, None, slice_index}
 use mathlib.Core.Option.{none}
 use Rattle.atomic_table.specs.Table.{step, Allows}
@@ -64,27 +64,21 @@ abbrev pub LeavesAll : Event → Type 0
 LeavesAll e = (t : Trail) → Leaves t (e ∷ t)
 
 pub look_leaves_all : (found : Control) → LeavesAll (Look found)
-look_leaves_all found t = record { batches = refl; numbers = refl; many = refl; number = refl; commands = λ s. refl; start = λ g. refl; written = λ slot half. refl; flipped = λ slot. refl }
+look_leaves_all found t = search rules
 
 pub close_leaves_all : LeavesAll Close
-close_leaves_all t = record { batches = refl; numbers = refl; many = refl; number = refl; commands = λ s. refl; start = λ g. refl; written = λ slot half. refl; flipped = λ slot. refl }
+close_leaves_all t = search rules
 
 pub ask_leaves_all : (found : ℕ) → LeavesAll (Ask found)
-ask_leaves_all found t = record { batches = refl; numbers = refl; many = refl; number = refl; commands = λ s. refl; start = λ g. refl; written = λ slot half. refl; flipped = λ slot. refl }
+ask_leaves_all found t = search rules
 
 -- whether the event is its own or not
 leaves_either : (e : Event) → LeavesAll e → (own : Bool) (t : Trail) → Leaves t (cond own (e ∷ t) t)
 leaves_either e leaves true t = leaves t
-leaves_either e leaves false t = record { batches = refl; numbers = refl; many = refl; number = refl; commands = λ s. refl; start = λ g. refl; written = λ slot half. refl; flipped = λ slot. refl }
+leaves_either e leaves false t = search rules
 
 left_tally : (p : PortValue) (u : Trail) (h : Run) (tally : Tally) → Leaves p.trail u → IsTallied p tally → IsTallied (record p { trail = u; history = h }) tally
-left_tally p u h tally leaves is = record {
-  who_is = is.who_is;
-  batches_are = is.batches_are ∙ sym leaves.batches;
-  numbers_are = is.numbers_are ∙ sym leaves.numbers;
-  numbered = is.numbered;
-  most = is.most;
-}
+left_tally p u h tally leaves is = let batches = is.batches_are ∙ sym leaves.batches in let numbers = is.numbers_are ∙ sym leaves.numbers in search rules
 
 left_sender : (p : PortValue) (u : Trail) (h : Run) (tally : Tally) → Leaves p.trail u → IsSender p tally → IsSender (record p { trail = u; history = h }) tally
 left_sender p u h tally leaves is = record {
@@ -94,20 +88,14 @@ left_sender p u h tally leaves is = record {
 
 left_open : (p : PortValue) (u : Trail) (h : Run) (body : List Raw) (idle : IdleReservationValue) → Leaves p.trail u → IsOpen p idle.tally body idle.closes idle.start idle.written idle.flipped
     → IsOpen (record p { trail = u; history = h }) idle.tally body idle.closes idle.start idle.written idle.flipped
-left_open p u h body idle leaves is = record {
-  tallied = left_tally p u h idle.tally leaves is.tallied;
-  body_is = is.body_is;
-  number_is = leaves.number ∙ is.number_is;
-  commands_are = leaves.commands idle.tally.sender ∙ is.commands_are;
-  many = leaves.many ∙ is.many;
-  geometry_is = is.geometry_is;
-  start_is = is.start_is ∙ sym (leaves.start p.ring.made_with.geometry);
-  in_written = λ slot half. leaves.written slot half ∙ is.in_written slot half;
-  in_flipped = λ slot. leaves.flipped slot ∙ is.in_flipped slot;
-  within = is.within;
-  behind = is.behind;
-  fits = is.fits;
-}
+left_open p u h body idle leaves is =
+    let tallied = left_tally p u h idle.tally leaves is.tallied in
+    let number = leaves.number ∙ is.number_is in
+    let commands = leaves.commands idle.tally.sender ∙ is.commands_are in
+    let many = leaves.many ∙ is.many in
+    let start = is.start_is ∙ sym (leaves.start p.ring.made_with.geometry) in
+    let written = λ (slot : ℕ) (half : Half). leaves.written slot half ∙ is.in_written slot half in
+    let flipped = λ (slot : ℕ). leaves.flipped slot ∙ is.in_flipped slot in search rules
 
 pub keeps_all : (s : ℕ) (e : Event) (old new : KeeperValue) → LeavesAll e → IsStep s e old new → KeepsAll old new
 keeps_all s e old new leaves did =

@@ -1,5 +1,6 @@
 -- What a run has more that only one has grown.
-use Rattle.std.proofs.Common.{◌≡◌, ◌≢◌, ◌⊎◌, ℕ, ◌-◌, List, [], ◌∷◌, ◌++◌, length, length-append, take, refl, sym, ap, ◌∙◌, inl, inr, arith}
+use Rattle.std.proofs.Common.{◌≡◌, ◌≢◌, ◌⊎◌, ℕ, ◌-◌, [], ◌∷◌, ◌++◌, length, length-append, take, refl, sym, ap, ◌∙◌, inl, inr, arith}
+use Rattle.std.proofs.Math.Seq.{take-append_seam}
 use Rattle.ringcore.specs.declared.world.event.Who.{Who}
 use Rattle.ringcore.specs.world.Trails.{Trail, Run, trail_of}
 use Rattle.ringcore.specs.world.Laws.{IsOne, OnlyOf}
@@ -19,15 +20,10 @@ pub ends_by : (who : Who) (added : Trail) → EndsWith who (run_by who added)
 ends_by who [] = tt
 ends_by who (e ∷ es) = refl
 
-front : {A : Type 0} (xs ys : List A) → take (length xs) (xs ++ ys) ≡ xs
-front [] [] = refl
-front [] (y ∷ ys) = refl
-front (x ∷ xs) ys = ap (λ (l : List _). x ∷ l) (front xs ys)
-
 newest : (added old : Trail) → take (length (added ++ old) - length old) (added ++ old) ≡ added
 newest added old =
     let n : length (added ++ old) - length old ≡ length added = (let l = length-append added old in omega (arith, l)) in
-    ap (λ (k : ℕ). take k (added ++ old)) n ∙ front added old
+    ap (λ (k : ℕ). take k (added ++ old)) n ∙ take-append_seam added old
 
 pub grown_run_is : (who : Who) (since : Run) (trail added : Trail) → trail ≡ added ++ trail_of who since → grown_run who since trail ≡ run_by who added ++ since
 grown_run_is who since trail added is =

@@ -1,5 +1,5 @@
 -- What is left of others than the one who took steps.
-use Rattle.std.proofs.Common.{◌≡◌, ◌≢◌, ℕ, Bool, List, [], ◌++◌, refl, sym, ap, ◌∙◌, subst}
+use Rattle.std.proofs.Common.{rules, ◌≡◌, ◌≢◌, ℕ, Bool, List, [], ◌++◌, sym, ap, ◌∙◌, subst}
 use Rattle.ringcore.specs.declared.world.event.Who.{Who}
 use Rattle.ringcore.specs.declared.world.event.Who.TheVariants.{Consumer, Sender}
 use Rattle.ringcore.specs.world.Trails.{Trail, same, trail_of, IsSettled}
@@ -13,59 +13,24 @@ use Rattle.ring.specs.table.Keeping.{run_by}
 use Rattle.ring.specs.table.Ports.{PortValue}
 use Rattle.ring.specs.Keepers.{KeeperValue, own_port, KeepsOthers}
 use Rattle.ring.proofs.KeeperLemmas.Growing.{trail_stays}
+use Rattle.ring.proofs.SenderLemmas.InOrder.{knowing}
 
 -- what is left of one does not depend on what it knows of the run
 abbrev bare_port : PortValue → PortValue
 bare_port p = record p { history = [] }
 
 bare_tally : (p q : PortValue) (tally : Tally) → bare_port p ≡ bare_port q → IsTallied p tally → IsTallied q tally
-bare_tally p q tally same is =
-    let moved : IsTallied (bare_port q) tally = subst (λ (x : PortValue). IsTallied x tally) same
-    (record { who_is = is.who_is; batches_are = is.batches_are; numbers_are = is.numbers_are; numbered = is.numbered; most = is.most }) in
-    record { who_is = moved.who_is; batches_are = moved.batches_are; numbers_are = moved.numbers_are; numbered = moved.numbered; most = moved.most }
+bare_tally p q tally same is = let moved : IsTallied (bare_port q) tally = subst (λ (x : PortValue). IsTallied x tally) same (search rules) in search rules
 
 bare_sender : (p q : PortValue) (tally : Tally) → bare_port p ≡ bare_port q → IsSender p tally → IsSender q tally
-bare_sender p q tally same is = record {
-  tallied = bare_tally p q tally same is.tallied;
-  settled = subst (λ (x : PortValue). IsSettled x.trail) same is.settled;
-}
+bare_sender p q tally same is = record { tallied = bare_tally p q tally same is.tallied; settled = subst (λ (x : PortValue). IsSettled x.trail) same is.settled }
 
 bare_consumer : (p q : PortValue) (head : IndexValue) (taken : ℕ) → bare_port p ≡ bare_port q → IsConsumer p head taken → IsConsumer q head taken
-bare_consumer p q head taken same is =
-    let moved : IsConsumer (bare_port q) head taken = subst (λ (x : PortValue). IsConsumer x head taken) same
-    (record { who_is = is.who_is; head_is = is.head_is; taken_is = is.taken_is; current = is.current }) in
-    record { who_is = moved.who_is; head_is = moved.head_is; taken_is = moved.taken_is; current = moved.current }
+bare_consumer p q head taken same is = let moved : IsConsumer (bare_port q) head taken = subst (λ (x : PortValue). IsConsumer x head taken) same (search rules) in search rules
 
 bare_open : (p q : PortValue) (tally : Tally) (body : List Raw) (closes : Bool) (start : IndexValue) (written flipped : ℕ) → bare_port p ≡ bare_port q → IsOpen p tally body closes start written flipped → IsOpen q tally body closes start written flipped
 bare_open p q tally body closes start written flipped same is =
-    let moved : IsOpen (bare_port q) tally body closes start written flipped = subst (λ (x : PortValue). IsOpen x tally body closes start written flipped) same
-    record {
-      tallied = bare_tally p (bare_port p) tally refl is.tallied;
-      body_is = is.body_is;
-      number_is = is.number_is;
-      commands_are = is.commands_are;
-      many = is.many;
-      geometry_is = is.geometry_is;
-      start_is = is.start_is;
-      in_written = is.in_written;
-      in_flipped = is.in_flipped;
-      within = is.within;
-      behind = is.behind;
-      fits = is.fits;
-    } in record {
-      tallied = bare_tally (bare_port q) q tally refl moved.tallied;
-      body_is = moved.body_is;
-      number_is = moved.number_is;
-      commands_are = moved.commands_are;
-      many = moved.many;
-      geometry_is = moved.geometry_is;
-      start_is = moved.start_is;
-      in_written = moved.in_written;
-      in_flipped = moved.in_flipped;
-      within = moved.within;
-      behind = moved.behind;
-      fits = moved.fits;
-    }
+    knowing q tally body closes start written flipped (subst (λ (x : PortValue). IsOpen x tally body closes start written flipped) same (search rules))
 
 pub keeps_others : (who : Who) (old new : KeeperValue) (added : Trail) → new.ring ≡ old.ring → new.run ≡ run_by who added ++ old.run → KeepsOthers who old new
 keeps_others who old new added same run_is =

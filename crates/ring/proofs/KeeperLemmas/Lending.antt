@@ -1,5 +1,5 @@
 -- A keeper lends a seat.
-use Rattle.std.proofs.Common.{◌≡◌, ◌≢◌, ℕ, List, [], refl, sym, ap, ◌∙◌, subst}
+use Rattle.std.proofs.Common.{◌≡◌, ◌≢◌, ℕ, List, [], refl, sym, ap, ◌∙◌, subst, ⊎_elim}
 use Rattle.std.specs.Prelude.{Option, Some, None}
 use Rattle.atomic_table.specs.Table.{Splits}
 use Rattle.atomic_table.specs.Seated.{TableId}
@@ -11,8 +11,8 @@ use Rattle.ring.specs.declared.table.rule.Participant.{Participant}
 use Rattle.ring.specs.table.Rule.{Holding, RuleHolds, Any, ring_of, history_of_first}
 use Rattle.ring.specs.table.Keeping.{AllKnow, without, own_part}
 use Rattle.ring.specs.Keepers.{KeeperValue, keeper_of, missing_from, missing, AllBut, IsKeeper, has_lent}
-use Rattle.ring.proofs.TableLemmas.Keeping.{know_less, lends_at}
-use Rattle.ring.proofs.KeeperLemmas.Seated.{sits_any, sits_not, any_less, one_missing, IsOther, someone, first_ring, first_history}
+use Rattle.ring.proofs.TableLemmas.Keeping.{know_less, any_parted, lends_at}
+use Rattle.ring.proofs.KeeperLemmas.Seated.{sits_any, sits_not, one_missing, IsOther, someone, first_knows}
 
 module _ (table : TableId) (p : KeeperValue) (v : List Participant) (is : keeper_of table v ≡ p) (knows : AllBut (missing v) (ring_of v) (history_of_first v) v) (whole : p.lent ≡ None) (who : Who) (known : IsOne p.ring.made_with.senders who) where
   abbrev z : Ring
@@ -40,7 +40,7 @@ module _ (table : TableId) (p : KeeperValue) (v : List Participant) (is : keeper
   left_knows = know_less z run who v knows.each
 
   left_sits : (u : Who) → IsOne z.senders u → u ≢ who → Any (λ q. q.who ≡ u) left
-  left_sits u one ne = any_less who u v ne (sits_there u one)
+  left_sits u one ne = ⊎_elim (λ (here : Any (λ q. q.who ≡ u) left). here) (λ (is : who ≡ u). absurd (ne (sym is))) (any_parted (λ q. q.who ≡ u) z run who v knows.each (sits_there u one))
 
   apart : IsOther z.senders who
   apart = someone z.senders who knows.some
@@ -49,10 +49,10 @@ module _ (table : TableId) (p : KeeperValue) (v : List Participant) (is : keeper
   some_left = left_sits apart.other apart.one apart.apart
 
   left_ring : ring_of left ≡ z
-  left_ring = first_ring z run left (λ q. q.who ≡ apart.other) left_knows some_left
+  left_ring = (first_knows z run left (λ q. q.who ≡ apart.other) left_knows some_left).0
 
   left_history : history_of_first left ≡ run
-  left_history = first_history z run left (λ q. q.who ≡ apart.other) left_knows some_left
+  left_history = (first_knows z run left (λ q. q.who ≡ apart.other) left_knows some_left).1
 
   left_missing : missing left ≡ Some who
   left_missing = ap (λ (r : Ring). missing_from 0 r.senders left) left_ring

@@ -107,6 +107,13 @@ pub meets_as : (key : Ring) (slots id i : ℕ) (p : Participant) (ps : List Part
 meets_as key slots id i p ps me is = subst (λ (m : Holding). Allows (RuleHolds key) slots id m i (λ x. x) (has_met (step slots i 0 0 none) m)) (sym is) (meets_at key slots id i p ps)
 
 -- the same by what contracts see
+pub record ComesBack (q : PortValue) (old new : KeeperValue) : Type 0 where
+  pub keeper : new ≡ has_back q.who q.trail old
+  pub adds : Adds q.who q.trail old.run new.run
+  pub grew : Grew q.who (trail_of q.who old.run) q.trail old.run new.run
+  pub news : IsNews q.who q.trail q.history old.run new.run
+  pub others : KeepsOthers q.who old new
+
 module _ (table : TableId) (p : KeeperValue) (v : List Participant) (is : keeper_of table v ≡ p) (knows : AllBut (missing v) (ring_of v) (history_of_first v) v)
     (q : PortValue) (lent : p.lent ≡ Some q.who) (ours : q.ring ≡ p.ring) (port_table : TableId) (their : Holding) (port_is : port_of port_table their ≡ q) (alone_is : IsAlone their (who_of their.0)) where
   lends_him : missing v ≡ Some q.who
@@ -133,19 +140,15 @@ module _ (table : TableId) (p : KeeperValue) (v : List Participant) (is : keeper
   run_same = ap (λ (k : KeeperValue). k.run) is
 
   module _ (last : Holding) (back : IsBack (ring_of v) (history_of_first v) q.who q.trail q.history last) where
-    pub back_is : (last_table : TableId) → last_table ≡ table → keeper_of last_table last.0 ≡ has_back q.who q.trail p
+    back_is : (last_table : TableId) → last_table ≡ table → keeper_of last_table last.0 ≡ has_back q.who q.trail p
     back_is last_table same = (λ k. let r : KeeperValue = record { ring = record { table = same k; made_with = back.ring_is k }; lent = back.lent_is k; run = back.run_is k } in r)
         ∙ ap (has_back q.who q.trail) is
 
-    pub back_adds : Adds q.who q.trail p.run (history_of_first last.0)
-    back_adds = adds_those q.who q.trail p.run (history_of_first last.0) (back.run_is ∙ ap (λ (r : Run). grown_run q.who r q.trail) run_same)
-
-    pub back_grew : Grew q.who (trail_of q.who p.run) q.trail p.run (history_of_first last.0)
-    back_grew = subst (λ (r : Run). Grew q.who (trail_of q.who r) q.trail r (history_of_first last.0)) run_same back.grew
-
-    pub back_news : IsNews q.who q.trail q.history p.run (history_of_first last.0)
-    back_news = subst (λ (r : Run). IsNews q.who q.trail q.history r (history_of_first last.0)) run_same back.news
-
-    pub back_others : (last_table : TableId) → last_table ≡ table → KeepsOthers q.who p (keeper_of last_table last.0)
-    back_others last_table same = keeps_others q.who p (keeper_of last_table last.0) back.added (ap (λ (k : KeeperValue). k.ring) (back_is last_table same))
-        (back.added_is ∙ ap (λ (r : Run). run_by q.who back.added ++ r) run_same)
+    pub comes_as : (last_table : TableId) → last_table ≡ table → ComesBack q p (keeper_of last_table last.0)
+    comes_as last_table same = record {
+      keeper = back_is last_table same;
+      adds = adds_those q.who q.trail p.run (history_of_first last.0) (back.run_is ∙ ap (λ (r : Run). grown_run q.who r q.trail) run_same);
+      grew = subst (λ (r : Run). Grew q.who (trail_of q.who r) q.trail r (history_of_first last.0)) run_same back.grew;
+      news = subst (λ (r : Run). IsNews q.who q.trail q.history r (history_of_first last.0)) run_same back.news;
+      others = keeps_others q.who p (keeper_of last_table last.0) back.added (ap (λ (k : KeeperValue). k.ring) (back_is last_table same)) (back.added_is ∙ ap (λ (r : Run). run_by q.who back.added ++ r) run_same);
+    }

@@ -13,7 +13,7 @@ use Rattle.ring.specs.table.Rule.{HasTrails, Any, ring_of, history_of_first}
 use Rattle.ring.specs.table.Meetings.{all_knowing}
 use Rattle.ring.specs.table.Keeping.{AllKnow, without}
 use Rattle.ring.specs.Keepers.{sits, missing_from}
-use Rattle.ring.proofs.TableLemmas.Trails.{same_refl, same_not}
+use Rattle.ring.proofs.TableLemmas.Trails.{same_refl}
 
 -- ---- who is missing
 
@@ -33,19 +33,6 @@ sits_not who (p ∷ ps) = by_one (same p.who who) refl (sits_not who ps)
     by_one : (b : Bool) → same p.who who ≡ b → sits who (without who ps) ≡ false → sits who (cond b (without who ps) (p ∷ without who ps)) ≡ false
     by_one true is rest = rest
     by_one false is rest = ap (λ (b : Bool). cond b true (sits who (without who ps))) is ∙ rest
-
-pub any_less : (who u : Who) (v : List Participant) → u ≢ who → Any (λ p. p.who ≡ u) v → Any (λ p. p.who ≡ u) (without who v)
-any_less who u [] ne one = absurd one
-any_less who u (p ∷ ps) ne (inl is) = by_one (same p.who who) (ap (λ (w : Who). same w who) is ∙ same_not u who ne)
-  where
-    by_one : (b : Bool) → b ≡ false → Any (λ p. p.who ≡ u) (cond b (without who ps) (p ∷ without who ps))
-    by_one true e = (let no : true ≡ false = e in absurd (cc))
-    by_one false e = inl is
-any_less who u (p ∷ ps) ne (inr more) = by_one (same p.who who) (any_less who u ps ne more)
-  where
-    by_one : (b : Bool) → Any (λ p. p.who ≡ u) (without who ps) → Any (λ p. p.who ≡ u) (cond b (without who ps) (p ∷ without who ps))
-    by_one true rest = rest
-    by_one false rest = inr rest
 
 pub none_missing : (n k more : ℕ) (v : List Participant) → k + more ≡ n → ((u : Who) → IsOne n u → sits u v ≡ true) → missing_from k more v ≡ None
 none_missing n k zero v is all = ap (λ (b : Bool). let o : Option Who = cond b None (Some Consumer) in o) (all Consumer tt)
@@ -82,13 +69,9 @@ someone n (Sender s) some = record { other = Consumer; one = tt; apart = λ e. c
 
 -- ---- what those who sit there know
 
-pub first_ring : (z : Ring) (run : Run) (v : List Participant) (P : Participant → Type 0) → AllKnow z run v → Any P v → ring_of v ≡ z
-first_ring z run [] P all one = absurd one
-first_ring z run (p ∷ ps) P all one = ap (λ (q : Participant). q.ring) all.0
-
-pub first_history : (z : Ring) (run : Run) (v : List Participant) (P : Participant → Type 0) → AllKnow z run v → Any P v → history_of_first v ≡ run
-first_history z run [] P all one = absurd one
-first_history z run (p ∷ ps) P all one = ap (λ (q : Participant). q.history) all.0
+pub first_knows : (z : Ring) (run : Run) (v : List Participant) (P : Participant → Type 0) → AllKnow z run v → Any P v → (ring_of v ≡ z) × (history_of_first v ≡ run)
+first_knows z run [] P all one = absurd one
+first_knows z run (p ∷ ps) P all one = (ap (λ (q : Participant). q.ring) all.0, ap (λ (q : Participant). q.history) all.0)
 
 pub same_history : (z : Ring) (old new : Run) (v : List Participant) → AllKnow z old v → Any (λ p. p.history ≡ new) v → old ≡ new
 same_history z old new [] all one = absurd one

@@ -13,7 +13,7 @@ use Rattle.ring.specs.table.Rule.{Holding, participants_from, first_participants
 use Rattle.ring.specs.table.Keeping.{RunStands, AllKnow}
 use Rattle.ring.specs.Keepers.{KeeperValue, keeper_of, missing_from, missing, AllBut, IsKeeper, own_port}
 use Rattle.ring.proofs.TableLemmas.Starts.{all_in_first}
-use Rattle.ring.proofs.KeeperLemmas.Seated.{sits_any, none_missing, first_ring, first_history}
+use Rattle.ring.proofs.KeeperLemmas.Seated.{sits_any, none_missing, first_knows}
 
 know_first : (ring : Ring) (k more : ℕ) → AllKnow ring [] (participants_from ring k more)
 know_first ring k zero = (refl, tt)
@@ -27,7 +27,7 @@ starts_kept ring some stands me is =
     let base : AllBut (missing v) ring [] v = record { some = some; each = all; others = λ u known ne. all_in_first ring u known; stands = stands } in
     subst IsKeeper (sym is) record {
       no_slots = refl;
-      knows = subst (λ (t : Ring × Run). AllBut (missing v) t.0 t.1 v) (λ k. (sym (first_ring ring [] v (λ p. p.who ≡ Consumer) all one) k, sym (first_history ring [] v (λ p. p.who ≡ Consumer) all one) k)) base;
+      knows = subst (λ (t : Ring × Run). AllBut (missing v) t.0 t.1 v) (let first = first_knows ring [] v (λ p. p.who ≡ Consumer) all one in (λ k. (sym first.0 k, sym first.1 k))) base;
     }
 
 pub starts_as : (ring : Ring) (table new_table : TableId) → new_table ≡ table → (me : Holding) → me ≡ (first_participants ring, []) → keeper_of new_table me.0 ≡ record { ring = record { table = table; made_with = ring }; lent = None; run = [] }
@@ -35,10 +35,10 @@ starts_as ring table new_table ours me is =
     let v : List Participant = first_participants ring in
     let all = know_first ring 0 ring.senders in
     let one = all_in_first ring Consumer tt in
-    let ring_is = first_ring ring [] v (λ p. p.who ≡ Consumer) all one in
+    let first = first_knows ring [] v (λ p. p.who ≡ Consumer) all one in let ring_is = first.0 in
     let none_is : missing v ≡ None = ap (λ (r : Ring). missing_from 0 r.senders v) ring_is ∙ none_missing ring.senders 0 ring.senders v (omega arith) (λ u known. sits_any u v (all_in_first ring u known)) in
     (λ k. keeper_of (ours k) (is k).0)
-    ∙ (λ k. let q : KeeperValue = record { ring = record { table = table; made_with = ring_is k }; lent = none_is k; run = first_history ring [] v (λ p. p.who ≡ Consumer) all one k } in q)
+    ∙ (λ k. let q : KeeperValue = record { ring = record { table = table; made_with = ring_is k }; lent = none_is k; run = first.1 k } in q)
 
 pub starts_idle : (ring : RingValue) (k : KeeperValue) → k ≡ record { ring = ring; lent = None; run = [] } → (head : IndexValue) → head ≡ index_of ring.made_with.geometry 0 → IsConsumer (own_port Consumer k) head 0
 starts_idle ring k is head head_is = subst (λ (q : KeeperValue). IsConsumer (own_port Consumer q) head 0) (sym is) record { who_is = refl; head_is = head_is; taken_is = refl; current = λ s. refl }

@@ -1,5 +1,6 @@
 -- A reservation that is written and flipped in the order of its slots.
-use Rattle.std.proofs.Common.{◌≡◌, ℕ, zero, suc, ◌+◌, ◌<◌, ◌≤◌, Bool, true, false, ◌==◌, ◌||◌, ◌&&◌, ◌%◌, ◌/◌, ◌^◌, List, [], ◌∷◌, ◌++◌, length, Option, Some, None, refl, sym, ap, ◌∙◌, subst, arith}
+use Rattle.std.proofs.Common.{rules, ◌≡◌, ℕ, zero, suc, ◌+◌, ◌<◌, ◌≤◌, Bool, true, false, ◌==◌, ◌||◌, ◌&&◌, ◌%◌, ◌/◌, ◌^◌, List, [], ◌∷◌, ◌++◌, length, Option, Some, None, refl, sym, ap, ◌∙◌, subst, arith}
+use Rattle.std.proofs.lemmas.Bool.{lt-ltb}
 use Rattle.std.proofs.lemmas.Bool.Decides.{nat_tests}
 use Rattle.std.specs.Prelude.{slice_get, nat_lt}
 use Rattle.cmdcodec.specs.declared.raw.Raw.{Raw}
@@ -36,29 +37,13 @@ flipped_more t f n is k = ap (λ (b : Bool). is_among f n k || b) (is k) ∙ unt
     until : (is_among f n k || nat_lt k f) ≡ nat_lt k (f + n)
     until = grind (arith, nat_tests)
 
-below : (a b : ℕ) → a < b → nat_lt a b ≡ true
-below a b l = grind (arith, nat_tests)
-
 not_below : (a b : ℕ) → b ≤ a → nat_lt a b ≡ false
 not_below a b le = grind (arith, nat_tests)
 
 -- whatever is known of the run, a reservation is open by its trail
 pub knowing : (port : PortValue) (tally : Tally) (body : List Raw) (closes : Bool) (start : IndexValue) (written flipped : ℕ) → IsOpen (record port { history = [] }) tally body closes start written flipped
     → IsOpen port tally body closes start written flipped
-knowing port tally body closes start written flipped is = record {
-  tallied = record { who_is = is.tallied.who_is; batches_are = is.tallied.batches_are; numbers_are = is.tallied.numbers_are; numbered = is.tallied.numbered; most = is.tallied.most };
-  body_is = is.body_is;
-  number_is = is.number_is;
-  commands_are = is.commands_are;
-  many = is.many;
-  geometry_is = is.geometry_is;
-  start_is = is.start_is;
-  in_written = is.in_written;
-  in_flipped = is.in_flipped;
-  within = is.within;
-  behind = is.behind;
-  fits = is.fits;
-}
+knowing port tally body closes start written flipped is = search rules
 
 module _ (port : PortValue) (tally : Tally) (body : List Raw) (closes : Bool) (start : IndexValue) (written flipped : ℕ) (is : IsOpen port tally body closes start written flipped) where
   pub may_write : written < reserved_length port.trail → MayWrite port.trail written
@@ -69,7 +54,7 @@ module _ (port : PortValue) (tally : Tally) (body : List Raw) (closes : Bool) (s
     many = (some, few);
     inside = (let m = is.many in let w = is.within in omega arith);
     unflipped = λ i less. is.in_flipped (flipped + i) ∙ not_below (flipped + i) flipped (omega arith);
-    written = λ i half less. is.in_written (flipped + i) half ∙ below (flipped + i) written (omega arith);
+    written = λ i half less. is.in_written (flipped + i) half ∙ lt-ltb (flipped + i) written (omega arith);
   }
 
   pub slot_at : (offset : ℕ) (slot : IndexValue) → ((geometry position : ℕ) → start ≡ index_of geometry position → slot ≡ index_of geometry (position + offset)) → IsSlotAt port slot offset
@@ -77,40 +62,16 @@ module _ (port : PortValue) (tally : Tally) (body : List Raw) (closes : Bool) (s
 
   pub wrote_is : written < reserved_length port.trail → (new : PortValue) → record new { history = [] } ≡ record port { trail = Write written Hi ∷ Write written Lo ∷ port.trail; history = [] }
       → IsOpen new tally body closes start (written + 1) flipped
-  wrote_is low new new_is = knowing new tally body closes start (written + 1) flipped (subst (λ (q : PortValue). IsOpen q tally body closes start (written + 1) flipped) (sym new_is) record {
-    tallied = record { who_is = is.tallied.who_is; batches_are = is.tallied.batches_are; numbers_are = is.tallied.numbers_are; numbered = is.tallied.numbered; most = is.tallied.most };
-    body_is = is.body_is;
-    number_is = is.number_is;
-    commands_are = is.commands_are;
-    many = is.many;
-    geometry_is = is.geometry_is;
-    start_is = is.start_is;
-    in_written = wrote port.trail written is.in_written;
-    in_flipped = is.in_flipped;
-    within = (let m = is.many in omega arith);
-    behind = (let b = is.behind in omega arith);
-    fits = is.fits;
-  })
+  wrote_is low new new_is = knowing new tally body closes start (written + 1) flipped (subst (λ (q : PortValue). IsOpen q tally body closes start (written + 1) flipped) (sym new_is)
+      (let more = wrote port.trail written is.in_written in let many = is.many in let within : written + 1 ≤ length_with closes body = omega arith in let behind : flipped ≤ written + 1 = omega arith in search rules))
 
   pub flipped_is : (count : ℕ) → flipped + count ≤ written → (new : PortValue) → record new { history = [] } ≡ record port { trail = Flip flipped count ∷ port.trail; history = [] }
       → IsOpen new tally body closes start written (flipped + count)
-  flipped_is count low new new_is = knowing new tally body closes start written (flipped + count) (subst (λ (q : PortValue). IsOpen q tally body closes start written (flipped + count)) (sym new_is) record {
-    tallied = record { who_is = is.tallied.who_is; batches_are = is.tallied.batches_are; numbers_are = is.tallied.numbers_are; numbered = is.tallied.numbered; most = is.tallied.most };
-    body_is = is.body_is;
-    number_is = is.number_is;
-    commands_are = is.commands_are;
-    many = is.many;
-    geometry_is = is.geometry_is;
-    start_is = is.start_is;
-    in_written = is.in_written;
-    in_flipped = flipped_more port.trail flipped count is.in_flipped;
-    within = is.within;
-    behind = low;
-    fits = is.fits;
-  })
+  flipped_is count low new new_is = knowing new tally body closes start written (flipped + count) (subst (λ (q : PortValue). IsOpen q tally body closes start written (flipped + count)) (sym new_is)
+      (let more = flipped_more port.trail flipped count is.in_flipped in search rules))
 
   pub settled : flipped ≡ reserved_length port.trail → IsSettled port.trail
-  settled all offset low = is.in_flipped offset ∙ below offset flipped (omega arith)
+  settled all offset low = is.in_flipped offset ∙ lt-ltb offset flipped (omega arith)
 
 -- ---- the next command
 

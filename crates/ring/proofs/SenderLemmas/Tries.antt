@@ -1,5 +1,5 @@
 -- What a sender knows before it tries, and once it has won.
-use Rattle.std.proofs.Common.{◌≡◌, ℕ, ◌+◌, ◌<◌, ◌≤◌, Bool, true, false, List, [], ◌∷◌, Some, Result, Ok, Err, refl, sym, ap, subst, ◌∙◌, arith}
+use Rattle.std.proofs.Common.{rules, ◌≡◌, ℕ, ◌+◌, ◌<◌, ◌≤◌, Bool, true, false, List, [], ◌∷◌, Some, Result, Ok, Err, sym, ap, subst, ◌∙◌, arith}
 use Rattle.std.specs.Prelude.{nat_lt, IfOk, IfErr, MatchResult}
 use Rattle.std.proofs.lemmas.Bool.Decides.{nat_tests}
 use Rattle.cmdcodec.specs.declared.raw.Raw.{Raw}
@@ -10,7 +10,7 @@ use Rattle.qindex.specs.Indexes.{distance}
 use Rattle.ringcore.specs.declared.world.event.Who.TheVariants.{Sender}
 use Rattle.ringcore.specs.declared.world.event.Event.{Event}
 use Rattle.ringcore.specs.declared.world.event.Event.TheVariants.{Look}
-use Rattle.ringcore.specs.world.Trails.{Trail, Run, IsSettled, looked, batches_made, prod_of}
+use Rattle.ringcore.specs.world.Trails.{Trail, Run, IsSettled, looked, batches_made, numbers_given, prod_of}
 use Rattle.ringcore.specs.world.World.{commands, world, control}
 use Rattle.ringcore.specs.world.Allowed.{MayTry, length_with}
 use Rattle.ring.specs.declared.sender.tally.Tally.{Tally}
@@ -42,46 +42,15 @@ module _ (port : PortValue) (tally : Tally) (body : List Raw) (seen : Control) (
   Opens closes new = IsOpen new (one_more closes tally) body closes seen.prod 0 0
 
   opens_won : (closes : Bool) → length_with closes body ≤ size port.ring.made_with.geometry → Opens closes (has_won body closes (record port { history = [] }))
-  opens_won true fits = record {
-    tallied = record {
-      who_is = tallied.who_is;
-      batches_are = (let b = tallied.batches_are in omega arith);
-      numbers_are = (let n = tallied.numbers_are in omega arith);
-      numbered = (let n = tallied.numbered in omega arith);
-      most = (let b = tallied.batches_are in omega arith);
-    };
-    body_is = is;
-    number_is = ap Some (let n = tallied.numbers_are in omega arith);
-    commands_are = ap (λ (n : ℕ). commands tally.sender (Some n) body) (let n = tallied.numbers_are in omega arith);
-    many = refl;
-    geometry_is = geometry_is;
-    start_is = sym (ap (prod_of port.ring.made_with.geometry) looked_is);
-    in_written = λ slot half. nothing_below slot;
-    in_flipped = λ slot. nothing_below slot;
-    within = omega arith;
-    behind = omega arith;
-    fits = fits;
-  }
-  opens_won false fits = record {
-    tallied = record {
-      who_is = tallied.who_is;
-      batches_are = (let b = tallied.batches_are in omega arith);
-      numbers_are = tallied.numbers_are;
-      numbered = (let n = tallied.numbered in omega arith);
-      most = (let b = tallied.batches_are in omega arith);
-    };
-    body_is = is;
-    number_is = refl;
-    commands_are = refl;
-    many = refl;
-    geometry_is = geometry_is;
-    start_is = sym (ap (prod_of port.ring.made_with.geometry) looked_is);
-    in_written = λ slot half. nothing_below slot;
-    in_flipped = λ slot. nothing_below slot;
-    within = omega arith;
-    behind = omega arith;
-    fits = fits;
-  }
+  opens_won true fits =
+      let start = sym (ap (prod_of port.ring.made_with.geometry) looked_is) in
+      let number : tally.numbers + 1 ≡ numbers_given port.trail + 1 = ap (λ (n : ℕ). n + 1) tallied.numbers_are in
+      let numbered = ap Some (sym number) in
+      let commanded = ap (λ (n : ℕ). commands tally.sender (Some n) body) (sym number) in
+      let most : tally.batches + 1 ≤ port.ring.made_with.max_batches = (let b = tallied.batches_are in omega arith) in search (rules, nothing_below)
+  opens_won false fits =
+      let start = sym (ap (prod_of port.ring.made_with.geometry) looked_is) in
+      let most : tally.batches + 1 ≤ port.ring.made_with.max_batches = (let b = tallied.batches_are in omega arith) in search (rules, nothing_below)
 
   pub opens : (closes : Bool) (new : PortValue) → record new { history = [] } ≡ has_won body closes (record port { history = [] }) → length_with closes body ≤ size port.ring.made_with.geometry → Opens closes new
   opens closes new new_is fits = knowing new (one_more closes tally) body closes seen.prod 0 0 (subst (Opens closes) (sym new_is) (opens_won closes fits))

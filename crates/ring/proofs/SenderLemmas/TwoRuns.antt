@@ -1,31 +1,17 @@
 -- A whole batch is flipped by two steps at most.
 use Rattle.std.proofs.Common.{◌≡◌, ◌⊎◌, ◌^◌, inl, inr, ℕ, zero, suc, ◌+◌, ◌-◌, ◌*◌, ◌/◌, ◌%◌, ◌<◌, ◌≤◌, Bool, true, false, cond, min, refl, sym, ap, ◌∙◌, ⊎_elim, div-add-mod', arith}
 use Rattle.std.proofs.Math.Nat.{add-mul-mod_self_right}
-use Rattle.std.proofs.lemmas.Bool.Decides.{nat_tests}
-use Rattle.std.specs.Prelude.{nat_lt, nat_le}
+use Rattle.std.specs.Prelude.{nat_lt}
 use mathlib.Core.Logic.{dite}
 use native.Mathlib.Decide.{dec_lt, dec_le}
 use Rattle.qindex.specs.Positions.{size, index_of}
-use Rattle.ringcore.specs.world.Trails.{reserved_length}
+use Rattle.ringcore.specs.world.Trails.{reserved_length, start_index}
 use Rattle.ringcore.specs.memory.Flags.{flag_bit, shared_word}
-use Rattle.ringcore.specs.world.Trails.{start_index}
 use Rattle.std.proofs.Math.Pow.{pow_mono}
-use Rattle.std.proofs.lemmas.Bool.{cases_lt}
+use Rattle.std.proofs.lemmas.Bool.{cases_lt, lt-leb, lt-ltb, le-leb}
 use Rattle.std.proofs.lemmas.Nat.{pow-add}
 use Rattle.ring.specs.sender.Reservations.{ReservationValue}
-use Rattle.ring.specs.sender.Publishing.{published, wrote_many, next_run, flipped_run, flipped_left}
-
-lt_true : (a b : ℕ) → a < b → nat_lt a b ≡ true
-lt_true a b l = grind (arith, nat_tests)
-
-lt_false : (a b : ℕ) → b ≤ a → nat_lt a b ≡ false
-lt_false a b l = grind (arith, nat_tests)
-
-le_true : (a b : ℕ) → a ≤ b → nat_le a b ≡ true
-le_true a b l = grind (arith, nat_tests)
-
-le_false : (a b : ℕ) → b < a → nat_le a b ≡ false
-le_false a b l = grind (arith, nat_tests)
+use Rattle.ring.specs.sender.Publishing.{wrote_many, next_run, flipped_run, flipped_left}
 
 -- the flag words of a ring are whole, but for a ring's that has less than one
 whole_words : (g : ℕ) → (size g ≤ 64) ⊎ (size g ≡ 64 * (size g / 64))
@@ -59,7 +45,7 @@ module _ (g x w : ℕ) (few : w ≤ 64) (fits : w ≤ size g) where
   further f = further_at g x w f
 
   small : size g ≤ 64 → (f : ℕ) → shared_word g (index_of g (x + f)).number ≡ size g
-  small le f = ap (λ (b : Bool). cond b (size g) (64 - flag_bit g (index_of g (x + f)).number)) (le_true (size g) 64 le)
+  small le f = ap (λ (b : Bool). cond b (size g) (64 - flag_bit g (index_of g (x + f)).number)) (le-leb (size g) 64 le)
 
   large : 64 < size g → (f : ℕ) → shared_word g (index_of g (x + f)).number ≡ 64 - (x + f) % 64
   large l f =
@@ -67,13 +53,13 @@ module _ (g x w : ℕ) (few : w ≤ 64) (fits : w ≤ size g) where
       let words : size g ≡ size g / 64 * 64 = ⊎_elim (λ (s : size g ≤ 64). absurd (omega arith)) (λ (e : size g ≡ 64 * (size g / 64)). (let q : ℕ = size g / 64 in omega arith)) (whole_words g) in
       let bit : flag_bit g (index_of g (x + f)).number ≡ (x + f) % 64 =
       ap (λ (m : ℕ). m % 64) (by_multiple (x + f) (2 * size g) 2 (size g) refl) ∙ by_multiple (x + f) (size g) (size g / 64) 64 words in
-      ap (λ (b : Bool). cond b (size g) (64 - flag_bit g (index_of g (x + f)).number)) (le_false (size g) 64 l) ∙ ap (λ (m : ℕ). 64 - m) bit
+      ap (λ (b : Bool). cond b (size g) (64 - flag_bit g (index_of g (x + f)).number)) (lt-leb (size g) 64 l) ∙ ap (λ (m : ℕ). 64 - m) bit
 
   stays : further w ≡ w
-  stays = ap (λ (b : Bool). cond b (w + run w) w) (lt_false w w (omega arith))
+  stays = ap (λ (b : Bool). cond b (w + run w) w) (lt-leb (suc w) w (omega arith))
 
   goes : (f : ℕ) → f < w → further f ≡ f + run f
-  goes f l = ap (λ (b : Bool). cond b (f + run f) f) (lt_true f w l)
+  goes f l = ap (λ (b : Bool). cond b (f + run f) f) (lt-ltb f w l)
 
   pub two_runs : (f : ℕ) → f ≤ w → further (further f) ≡ w
   two_runs f le = dite (dec_lt f w)
@@ -120,17 +106,6 @@ pub record IsWrote (k : ℕ) (r new : ReservationValue) : Type 0 where
 pub wrote_is : (k : ℕ) (r : ReservationValue) → IsWrote k r (wrote_many k r)
 wrote_is zero r = record { ring_is = refl; sender_is = refl; written_is = omega arith; flipped_is = refl; length_is = refl }
 wrote_is (suc k) r = let b = wrote_is k r in record { ring_is = b.ring_is; sender_is = b.sender_is; written_is = (let w = b.written_is in omega arith); flipped_is = b.flipped_is; length_is = b.length_is }
-
--- what is published is of the same ring and sender
-pub published_ring : (r : ReservationValue) → (published r).ring ≡ r.ring
-published_ring r =
-    let k : ℕ = reserved_length r.trail - r.written in let w : ReservationValue = wrote_many k r in
-    (left_is (flipped_left w)).ring_is ∙ (left_is w).ring_is ∙ (wrote_is k r).ring_is
-
-pub published_sender : (r : ReservationValue) → (published r).sender ≡ r.sender
-published_sender r =
-    let k : ℕ = reserved_length r.trail - r.written in let w : ReservationValue = wrote_many k r in
-    (left_is (flipped_left w)).sender_is ∙ (left_is w).sender_is ∙ (wrote_is k r).sender_is
 
 -- once all is written, two are enough
 pub all_flipped : (r : ReservationValue) → r.written ≡ reserved_length r.trail → r.written ≤ 64 → r.written ≤ size r.ring.made_with.geometry → r.flipped ≤ r.written

@@ -11,9 +11,8 @@ use Rattle.ringcore.specs.declared.world.event.Event.{Event}
 use Rattle.ringcore.specs.declared.world.event.Event.TheVariants.{Ask}
 use Rattle.ringcore.specs.world.Trails.{Trail, Run, trail_of}
 use Rattle.ringcore.specs.world.World.{world}
-use Rattle.ringcore.specs.world.Allowed.{Allowed}
+use Rattle.ringcore.specs.world.Allowed.{Allowed, Ring}
 use Rattle.ringcore.specs.world.Laws.{EveryRun, AcknowledgedAreTaken, NumbersAreFew}
-use Rattle.ringcore.specs.world.Allowed.{Ring}
 use Rattle.ring.specs.table.Rule.{Holding, ring_of, who_of, trail_of_first, history_of_first}
 use Rattle.ring.specs.table.Intents.{asks}
 use Rattle.ring.specs.table.StepEvents.{IsNewest, adds_for}

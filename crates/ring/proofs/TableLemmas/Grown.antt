@@ -1,21 +1,16 @@
 -- What a participant knows of the run grows step by step, and what its newest step found stands in it.
-use Rattle.std.proofs.Common.{◌≡◌, ℕ, ◌+◌, ◌-◌, ◌/◌, ◌≤◌, false, [], ◌∷◌, ◌++◌, length, refl, sym, ap, ◌∙◌, subst, append_assoc, arith}
+use Rattle.std.proofs.Common.{◌≡◌, ℕ, ◌+◌, ◌/◌, ◌≤◌, false, [], ◌∷◌, ◌++◌, length, refl, sym, ap, ◌∙◌, subst, append_assoc, arith}
 use Rattle.qindex.specs.Positions.{place}
-use Rattle.qindex.specs.Indexes.{distance}
-use Rattle.qindex.specs.Laws.{IndexesTellTheQueue}
 use Rattle.ringcore.specs.declared.world.event.Who.{Who}
 use Rattle.ringcore.specs.declared.world.event.Who.TheVariants.{Consumer, Sender}
 use Rattle.ringcore.specs.declared.world.event.Event.{Event}
 use Rattle.ringcore.specs.declared.world.event.Event.TheVariants.{Test}
 use Rattle.ringcore.specs.world.Trails.{Trail, Run, trail_of}
-use Rattle.ringcore.specs.world.World.{World, head, tail, world, control}
+use Rattle.ringcore.specs.world.World.{World, head, world}
 use Rattle.ringcore.specs.world.Allowed.{Ring, IsRun, FindsReady}
-use Rattle.ringcore.specs.world.Laws.{NeverMoreThanFull}
 use Rattle.ring.specs.table.Histories.{IsHistory, GrewBy, EndsWith, Grew, OneStepIsLast, NoStepIsNone}
 use Rattle.ring.specs.table.Ports.{PortValue}
 use Rattle.ring.specs.sender.Senders.{SenderValue}
-use Rattle.ring.specs.sender.Reserving.{TellsRoom}
-use Rattle.ring.specs.consumer.Consumers.{ConsumerPortValue}
 use Rattle.ring.proofs.TableLemmas.Trails.{trail_here, trail_append, none_before}
 
 -- ---- no step, one, and some after others
@@ -87,17 +82,6 @@ unturned_now ring trail limit found older run some is grew none =
     let ok : IsRun ring ((Consumer, Test limit found) ∷ grew.before) = subst (IsRun ring) grew.run_is is.stands.after.run_is in
     subst (λ (r : Run). (world r).flipped (head (world r)) ≡ false) (sym grew.run_is) (none_turned ring (world grew.before) limit found some none ok.1)
 
--- ---- what a look found
-
--- where a look finds too little room, there is too little
-pub tells_room : NeverMoreThanFull → IndexesTellTheQueue → (ring : Ring) (who : Who) (trail : Trail) (run : Run) → IsHistory ring who trail run → TellsRoom ring.geometry (world run)
-tells_room within tells ring who trail run is slots many full =
-    let w = world run in
-    let i = within ring run is.stands.after.run_is in
-    let queue = tells ring.geometry (tail w) (head w) is.stands.after.geometry_is i.behind i.within in
-    let apart : distance (control ring.geometry w).prod (control ring.geometry w).cons ≡ tail w - head w = queue.distance in
-    let behind = i.behind in omega (arith, apart, behind, full)
-
 -- ---- as contracts see a step
 
 pub port_step : (p q : PortValue) (who : Who) (e : Event) → p.who ≡ who → record q { history = [] } ≡ record p { trail = e ∷ p.trail; history = [] } → GrewBy p.who e p.history q.history
@@ -109,6 +93,6 @@ pub sender_step : (s t : SenderValue) (e : Event) → record t { history = [] } 
     → Grew (Sender s.number) s.trail t.trail s.history t.history
 sender_step s t e is grew = grew_step (Sender s.number) e s.trail t.trail s.history t.history (ap (λ (x : SenderValue). x.trail) is) grew
 
-pub consumer_step : (c d : ConsumerPortValue) (e : Event) → record d { history = [] } ≡ record c { trail = e ∷ c.trail; history = [] } → GrewBy Consumer e c.history d.history
+pub consumer_step : (c d : PortValue) (e : Event) → record d { history = [] } ≡ record c { trail = e ∷ c.trail; history = [] } → GrewBy Consumer e c.history d.history
     → Grew Consumer c.trail d.trail c.history d.history
-consumer_step c d e is grew = grew_step Consumer e c.trail d.trail c.history d.history (ap (λ (x : ConsumerPortValue). x.trail) is) grew
+consumer_step c d e is grew = grew_step Consumer e c.trail d.trail c.history d.history (ap (λ (x : PortValue). x.trail) is) grew

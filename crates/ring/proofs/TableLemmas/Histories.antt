@@ -17,6 +17,7 @@ use Rattle.ring.specs.table.Rule.{Holding, ring_of, who_of, trail_of_first, hist
 use Rattle.ring.specs.table.StepEvents.{Added}
 use Rattle.ring.specs.table.Histories.{IsHistory, GrewBy, AreApplied, EndsTellAll}
 use Rattle.ring.specs.table.Ports.{port_of, PortValue}
+use Rattle.ring.specs.sender.Reserving.{TellsRoom}
 
 -- a seat knows a run of its ring
 pub knows : (table : TableId) (me : Holding) (p : PortValue) → port_of table me ≡ p → IsAlone me (who_of me.0) → IsHistory p.ring.made_with p.who p.trail p.history
@@ -53,14 +54,15 @@ told_now law ring s x trail older run is grew number some up_to =
     let same : (world run).acknowledged s ≡ x = ap (λ (r : Run). (world r).acknowledged s) grew.run_is ∙ sym ok.1 in
     law ring run is.stands.after.run_is s number some (subst (λ (n : ℕ). number ≤ n) (sym same) up_to)
 
--- where a look finds the two ends at one place, all that is reserved is taken
-pub ends_tell_all : NeverMoreThanFull → IndexesTellTheQueue → (ring : Ring) (who : Who) (trail : Trail) (run : Run) → IsHistory ring who trail run → EndsTellAll ring.geometry (world run)
-ends_tell_all within tells ring who trail run is same =
+-- where a look finds too little room, there is too little; and where it finds the two ends at one place, all that is reserved is taken
+pub looks_tell : NeverMoreThanFull → IndexesTellTheQueue → (ring : Ring) (who : Who) (trail : Trail) (run : Run) → IsHistory ring who trail run → TellsRoom ring.geometry (world run) × EndsTellAll ring.geometry (world run)
+looks_tell within tells ring who trail run is =
     let w = world run in let g : ℕ = ring.geometry in
-    let i = within ring run is.stands.after.run_is in
-    let queue = tells g (tail w) (head w) is.stands.after.geometry_is i.behind i.within in
-    let none = tells g (head w) (head w) is.stands.after.geometry_is (omega arith) (omega arith) in
-    let one : distance (index_of g (tail w)) (index_of g (head w)) ≡ distance (index_of g (head w)) (index_of g (head w)) =
-    ap (λ (n : ℕ). let p : IndexValue = record { geometry = g; number = n } in distance p (index_of g (head w))) same in
-    let apart : tail w - head w ≡ head w - head w = sym queue.distance ∙ one ∙ none.distance in
-    let behind = i.behind in omega (arith, apart, behind)
+    let i = within ring run is.stands.after.run_is in let behind = i.behind in
+    let apart : distance (index_of g (tail w)) (index_of g (head w)) ≡ tail w - head w = (tells g (tail w) (head w) is.stands.after.geometry_is i.behind i.within).distance in
+    let none : distance (index_of g (head w)) (index_of g (head w)) ≡ head w - head w = (tells g (head w) (head w) is.stands.after.geometry_is (omega arith) (omega arith)).distance in (
+      λ slots many full. omega (arith, apart, behind, full),
+      λ same.
+          let one : distance (index_of g (tail w)) (index_of g (head w)) ≡ distance (index_of g (head w)) (index_of g (head w)) =
+          ap (λ (n : ℕ). let p : IndexValue = record { geometry = g; number = n } in distance p (index_of g (head w))) same in omega (arith, apart, none, one, behind),
+    )

@@ -100,6 +100,14 @@ meets_at ring slots id i g hs s k many at low = let did = finds_at ring slots id
 
 -- ---- two seats, each of which stands for one alone
 
+-- Both know one run, and neither took a step.
+pub record MetAs (p q new_p new_q : PortValue) : Type 0 where
+  pub mine : record new_p { history = [] } ≡ record p { history = [] }
+  pub theirs : record new_q { history = [] } ≡ record q { history = [] }
+  pub one : new_q.history ≡ new_p.history
+  pub i_knew : WentOn p.who p.history new_p.history
+  pub they_knew : WentOn q.who q.history new_p.history
+
 -- One seat stands for nobody for a while.
 pub leaves_now : (me : Holding) → IsAlone me (who_of me.0) → (key : Ring) (id : ℕ) → Splits (RuleHolds key) id me.0 (without_first me.0) (first_alone me.0)
 leaves_now me alone key id =
@@ -170,19 +178,13 @@ module _ (mine theirs : Holding) (my_own : IsAlone mine (who_of mine.0)) (their_
       pub their_seat : IsAlone back (who_of back.0)
       their_seat = subst (λ (m : Holding). IsAlone m (who_of m.0)) (sym they_are) record { me_is = refl; words = words; stands = their_stand }
 
-      pub one_run : history_of_first back.0 ≡ history_of_first left.0
-      one_run = ap (λ (m : Holding). history_of_first m.0) they_are ∙ sym (ap (λ (m : Holding). history_of_first m.0) i_am)
-
-      module _ (table new_table : TableId) (same_table : new_table ≡ table) (p : PortValue) where
-        pub i_stay : port_of table mine ≡ p → record (port_of new_table left) { history = [] } ≡ record p { history = [] }
-        i_stay is = (λ k. let q : PortValue = record (port_of (same_table k) (i_am k)) { history = [] } in q) ∙ ap (λ (q : PortValue). let r : PortValue = record q { history = [] } in r) is
-
-        pub they_stay : port_of table theirs ≡ p → record (port_of new_table back) { history = [] } ≡ record p { history = [] }
-        they_stay is = (λ k. let q : PortValue = record (port_of (same_table k) (they_are k)) { history = [] } in q) ∙ ap (λ (q : PortValue). let r : PortValue = record q { history = [] } in r) is
-
-      module _ (table : TableId) (p : PortValue) where
-        pub i_knew : port_of table mine ≡ p → WentOn p.who p.history (history_of_first left.0)
-        i_knew is = subst (λ (q : PortValue × Run). WentOn q.0.who q.0.history q.1) (λ k. (is k, history_of_first (sym i_am k).0)) all.has.1.0.went_on
-
-        pub they_knew : port_of table theirs ≡ p → WentOn p.who p.history (history_of_first left.0)
-        they_knew is = subst (λ (q : PortValue × Run). WentOn q.0.who q.0.history q.1) (λ k. (is k, history_of_first (sym i_am k).0)) all.has.0.went_on
+      -- what contracts see of it
+      pub have_met : (my_table my_new_table their_table their_new_table : TableId) → my_new_table ≡ my_table → their_new_table ≡ their_table → (p q : PortValue) → port_of my_table mine ≡ p → port_of their_table theirs ≡ q
+          → MetAs p q (port_of my_new_table left) (port_of their_new_table back)
+      have_met my_table my_new_table their_table their_new_table mine_same theirs_same p q p_is q_is = record {
+        mine = (λ k. let x : PortValue = record (port_of (mine_same k) (i_am k)) { history = [] } in x) ∙ ap (λ (x : PortValue). let y : PortValue = record x { history = [] } in y) p_is;
+        theirs = (λ k. let x : PortValue = record (port_of (theirs_same k) (they_are k)) { history = [] } in x) ∙ ap (λ (x : PortValue). let y : PortValue = record x { history = [] } in y) q_is;
+        one = ap (λ (m : Holding). history_of_first m.0) they_are ∙ sym (ap (λ (m : Holding). history_of_first m.0) i_am);
+        i_knew = subst (λ (x : PortValue × Run). WentOn x.0.who x.0.history x.1) (λ k. (p_is k, history_of_first (sym i_am k).0)) all.has.1.0.went_on;
+        they_knew = subst (λ (x : PortValue × Run). WentOn x.0.who x.0.history x.1) (λ k. (q_is k, history_of_first (sym i_am k).0)) all.has.0.went_on;
+      }

@@ -1,11 +1,11 @@
 -- The words that the operations of a run make of zeros are one list.
-use Rattle.std.proofs.Common.{◌≡◌, ℕ, zero, suc, ◌+◌, ◌/◌, ◌%◌, ◌^◌, ◌<◌, List, [], ◌∷◌, length, Some, refl, sym, ap, ◌∙◌, arith}
+use Rattle.std.proofs.Common.{◌≡◌, ℕ, zero, suc, ◌+◌, ◌/◌, ◌%◌, ◌^◌, ◌<◌, List, [], ◌∷◌, length, refl, sym, ap, ◌∙◌, arith}
 use mathlib.Core.Logic.{dite}
 use native.Mathlib.Decide.{ℕ_discrete}
+use Rattle.std.proofs.lemmas.List.{length-set}
 use Rattle.std.specs.Prelude.{slice_index, slice_set, bit_or}
 use Rattle.std.specs.Int.{bit_at}
 use Rattle.std.proofs.lemmas.Nat.Bits.{bit_at-lt, bit_at_lowest, bit_at-suc}
-use Rattle.cmdcodec.specs.declared.raw.Raw.{Raw}
 use Rattle.qindex.specs.Positions.{index_of}
 use Rattle.qindex.specs.ControlWord.{packed, advance_mask, close_mask}
 use Rattle.ringcore.specs.declared.world.event.Who.{Who}
@@ -40,11 +40,6 @@ one_mask g p count a b one other = same_bits 64 a b one.fits other.fits (λ i.
 
 -- ---- lists
 
-length_stored : (ns : List ℕ) (i x : ℕ) → length (slice_set ns i x) ≡ length ns
-length_stored [] i x = refl
-length_stored (n ∷ ns) zero x = refl
-length_stored (n ∷ ns) (suc i) x = ap suc (length_stored ns i x)
-
 all_zeros : (a b : List ℕ) → length a ≡ length b → ((i : ℕ) → slice_index a i ≡ 0) → ((i : ℕ) → slice_index b i ≡ 0) → a ≡ b
 all_zeros [] [] same none other = refl
 all_zeros [] (y ∷ ys) same none other = absurd (omega (arith, same))
@@ -54,25 +49,22 @@ all_zeros (x ∷ xs) (y ∷ ys) same none other =
     let first : x ≡ y = none 0 ∙ sym (other 0) in
     (λ k. first k ∷ rest k)
 
-some_one : (x y : Raw) → Some x ≡ Some y → x ≡ y
-some_one x y e = cc
-
 -- ---- one operation
 
 keeps_length : (ring : Ring) (run : Run) (who : Who) (e : Event) (old new : List ℕ) → IsOperation ring run who e old new → length new ≡ length old
-keeps_length ring run (Sender s) (Won body number) old new is = ap (λ (l : List ℕ). length l) is.stored ∙ length_stored old _ _
-keeps_length ring run (Sender s) (Write offset half) old new is = ap (λ (l : List ℕ). length l) is.stored ∙ length_stored old _ _
-keeps_length ring run (Sender s) (Flip offset count) old new is = ap (λ (l : List ℕ). length l) is.stored ∙ length_stored old _ _
-keeps_length ring run (Sender s) Close old new is = ap (λ (l : List ℕ). length l) is ∙ length_stored old _ _
-keeps_length ring run Consumer (Advance raws) old new is = ap (λ (l : List ℕ). length l) is ∙ length_stored old _ _
-keeps_length ring run Consumer (Acknowledge s number) old new is = ap (λ (l : List ℕ). length l) is ∙ length_stored old _ _
+keeps_length ring run (Sender s) (Won body number) old new is = ap (λ (l : List ℕ). length l) is.stored ∙ length-set old _ _
+keeps_length ring run (Sender s) (Write offset half) old new is = ap (λ (l : List ℕ). length l) is.stored ∙ length-set old _ _
+keeps_length ring run (Sender s) (Flip offset count) old new is = ap (λ (l : List ℕ). length l) is.stored ∙ length-set old _ _
+keeps_length ring run (Sender s) Close old new is = ap (λ (l : List ℕ). length l) is ∙ length-set old _ _
+keeps_length ring run Consumer (Advance raws) old new is = ap (λ (l : List ℕ). length l) is ∙ length-set old _ _
+keeps_length ring run Consumer (Acknowledge s number) old new is = ap (λ (l : List ℕ). length l) is ∙ length-set old _ _
 keeps_length ring run who e old new is = ap (λ (l : List ℕ). length l) is
 
 one_operation : (ring : Ring) (run : Run) (who : Who) (e : Event) (old older new newer : List ℕ) → old ≡ older → IsOperation ring run who e old new → IsOperation ring run who e older newer → new ≡ newer
 one_operation ring run (Sender s) (Won body number) old older new newer same one other =
     one.stored ∙ ap (λ (l : List ℕ). slice_set l control_word (packed (control ring.geometry (world ((Sender s, Won body number) ∷ run))))) same ∙ sym other.stored
 one_operation ring run (Sender s) (Write offset half) old older new newer same one other =
-    let raw_is : one.raw ≡ other.raw = some_one _ _ (sym one.command ∙ other.command) in
+    let raw_is : one.raw ≡ other.raw = (let e = sym one.command ∙ other.command in cc) in
     one.stored ∙ (λ k. slice_set (same k) (data_word ring.geometry ((world run).start s + offset) half) (half_of half (raw_is k))) ∙ sym other.stored
 one_operation ring run (Sender s) (Flip offset count) old older new newer same one other =
     let mask_is : one.mask ≡ other.mask = one_mask _ _ _ _ _ one.mask_is other.mask_is in

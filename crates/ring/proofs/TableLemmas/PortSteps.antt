@@ -1,105 +1,49 @@
 -- The steps of a seat that stands for one alone, by what contracts see of it.
-use Rattle.std.proofs.Common.{◌≡◌, ℕ, ◌+◌, ◌<◌, Bool, true, false, cond, ◌==◌, List, ◌∷◌, [], Some, refl, sym, ap, ◌∙◌, subst, suc, ◌≤◌, length}
-use Rattle.std.specs.Prelude.{slice_get, bit_xor, bit_or}
+use Rattle.std.proofs.Common.{◌≡◌, ℕ, ◌+◌, ◌<◌, Bool, true, false, cond, ◌==◌, List, ◌∷◌, [], Some, refl, sym, ap, ◌∙◌, subst}
 use mathlib.Core.Option.{none}
-use prog.Atomic.{either}
 use Rattle.atomic_table.specs.Table.{step, Allows}
 use Rattle.atomic_table.specs.Seated.{TableId}
 use Rattle.cmdcodec.specs.declared.raw.Raw.{Raw}
 use Rattle.qindex.specs.declared.control.Control.{Control}
 use Rattle.qindex.specs.Positions.{IndexValue, index_of}
-use Rattle.qindex.specs.ControlWord.{packed, control_in, close_mask, advance_mask}
+use Rattle.qindex.specs.ControlWord.{control_in}
 use Rattle.ringcore.specs.declared.world.event.Who.{Who}
-use Rattle.ringcore.specs.declared.world.event.Who.TheVariants.{Sender, Consumer}
-use Rattle.ringcore.specs.declared.world.event.Half.{Half}
+use Rattle.ringcore.specs.declared.world.event.Who.TheVariants.{Sender}
 use Rattle.ringcore.specs.declared.world.event.Event.{Event}
 use Rattle.ringcore.specs.declared.world.event.Event.TheVariants.{Won, Lost, Test}
-use Rattle.ringcore.specs.world.Trails.{Trail, Run, trail_of, looked, start_index, found_ready, taken_by, acknowledged_by}
-use Rattle.ringcore.specs.world.World.{world, half_of, control}
-use Rattle.ringcore.specs.world.Allowed.{ShareAWord, Allowed, MayTry, MayWin, MayLose, MayWrite, MayFlip, length_with, Ring, IsRunLength, MayAdvance}
-use Rattle.ringcore.specs.memory.Layout.{control_word, flag_word, data_word, cell, words_of}
-use Rattle.ringcore.specs.memory.Flags.{IsFlipMask, ready_in}
-use Rattle.ringcore.specs.world.Laws.{IsOne, EveryRun, SyncsAreCounted, syncs_taken}
-use Rattle.ringcore.specs.memory.StepLaws.{Always, ClosesByAnOr, WinsByAnExchange, LosesByAnExchange, WritesByAStore, FlipsByAnExclusiveOr, AsksByALoad, StartsWhereItLooked, with_reserved, reserved_commands, ReadsByALoad, AdvancesByAnExclusiveOr, AcknowledgesByAStore, TestsFindReadyIn}
+use Rattle.ringcore.specs.world.Trails.{Trail, Run, trail_of, looked, start_index, taken_by}
+use Rattle.ringcore.specs.world.World.{world, control}
+use Rattle.ringcore.specs.world.Allowed.{ShareAWord, Allowed, MayWin, MayLose, MayFlip, Ring}
+use Rattle.ringcore.specs.memory.Layout.{words_of}
+use Rattle.ringcore.specs.memory.Flags.{ready_in}
+use Rattle.ringcore.specs.world.Laws.{IsOne}
 use Rattle.ringcore.specs.machine.StepAnswers.{next_number}
 use Rattle.ring.specs.table.Rule.{Holding, participant, RuleHolds, ring_of, who_of, trail_of_first, history_of_first, IsAlone}
-use Rattle.ring.specs.table.Intents.{Intent, closes, reserves, writes, flips, asks, tests, reads, advances, acknowledges}
+use Rattle.ring.specs.table.Intents.{Intent, reserves, tests}
 use Rattle.ring.specs.table.StepEvents.{IsEventOf, Added, IsNewest, adds_for}
 use Rattle.ring.specs.table.Histories.{GrewBy}
-use Rattle.ring.proofs.TableLemmas.StepKinds.{closes_as, reserves_as, writes_as, flips_as, asks_as, flag_inside, data_inside, cell_inside, tests_as, reads_as, advances_as, acknowledges_as}
+use Rattle.ring.proofs.TableLemmas.Steps.{MayStep, steps_as}
 use Rattle.ring.specs.Rings.{RingValue}
 use Rattle.ring.specs.table.Ports.{port_of, PortValue, IsWonOrLost, IsSlotAt, MayFlipAt}
-use Rattle.ringcore.specs.world.ConsumerLaws.{TellsTheHead, TellsTheNumbers}
 
-module _ (table : TableId) (me : Holding) (p : PortValue) (is : port_of table me ≡ p) (alone : IsAlone me (who_of me.0)) (ring : Ring) (slots id : ℕ) where
-  pub closes_now : Always ClosesByAnOr → (s : ℕ) → p.who ≡ Sender s → (i mask : ℕ) → i ≡ control_word → mask ≡ close_mask → Allows (RuleHolds ring) slots id me i (λ x. bit_or x mask) (adds_for closes (step slots i mask 0 none) me)
-  closes_now law s who i mask at mask_is =
-      subst (λ (q : PortValue). q.who ≡ Sender s → Allows (RuleHolds ring) slots id me i (λ x. bit_or x mask) (adds_for closes (step slots i mask 0 none) me)) is
-      (λ w. closes_as law ring slots id s me (subst (IsAlone me) w alone) i mask at mask_is) who
+-- A step that its law allows by what contracts see of the seat: whatever it is for, it may be taken.
+module _ (table : TableId) (me : Holding) (p : PortValue) (is : port_of table me ≡ p) (alone : IsAlone me (who_of me.0)) (ring : Ring) (slots id : ℕ) (intent sought : Intent) (intent_is : intent ≡ sought) (who : Who) (who_is : p.who ≡ who) where
+  may_go : (says : Intent → Ring → Trail → ℕ → Event → Type 0) (i : ℕ) (f : ℕ → ℕ) → MayStep p.ring.made_with who p.trail i f (says sought p.ring.made_with p.trail)
+      → Allows (RuleHolds ring) slots id me i f (Added (ring_of me.0) (who_of me.0) (trail_of_first me.0) (history_of_first me.0) (says intent (ring_of me.0) (trail_of_first me.0)))
+  may_go says i f =
+      subst (λ (q : PortValue × Intent). q.0.who ≡ who → MayStep q.0.ring.made_with who q.0.trail i f (says sought q.0.ring.made_with q.0.trail)
+      → Allows (RuleHolds ring) slots id me i f (Added (ring_of me.0) (who_of me.0) (trail_of_first me.0) (history_of_first me.0) (says q.1 (ring_of me.0) (trail_of_first me.0)))) (λ k. (is k, sym intent_is k))
+      (λ w. steps_as ring slots id who me (subst (IsAlone me) w alone) i f (says sought (ring_of me.0) (trail_of_first me.0))) who_is
 
-  pub reserves_now : Always WinsByAnExchange → Always LosesByAnExchange → (s : ℕ) → p.who ≡ Sender s → (intent : Intent) (body : List Raw) (closing : Bool) (before : Control) (i old new : ℕ)
-      → intent ≡ reserves body closing → i ≡ control_word → MayTry p.ring.made_with p.trail body (length_with closing body) before
-      → old ≡ packed before → new ≡ packed (with_reserved before (length_with closing body))
-      → Allows (RuleHolds ring) slots id me i (λ x. either (x == old) new x) (adds_for intent (step slots i old new none) me)
-  reserves_now wins loses s who intent body closing before i old new intent_is at may old_is new_is =
-      subst (λ (q : PortValue). q.who ≡ Sender s → MayTry q.ring.made_with q.trail body (length_with closing body) before → Allows (RuleHolds ring) slots id me i (λ x. either (x == old) new x) (adds_for intent (step slots i old new none) me)) is
-      (λ w m. reserves_as wins loses ring slots id s me (subst (IsAlone me) w alone) intent body closing before i old new intent_is at m old_is new_is) who may
+  -- of a load, an or, an exclusive or and an exchange, whose first operand this is
+  pub may_change : (i operand next : ℕ) (f : ℕ → ℕ) → MayStep p.ring.made_with who p.trail i f (IsEventOf p.ring.made_with p.trail sought operand)
+      → Allows (RuleHolds ring) slots id me i f (adds_for intent (step slots i operand next none) me)
+  may_change i operand next f = may_go (λ n r t. IsEventOf r t n operand) i f
 
-  pub writes_now : Always WritesByAStore → Always StartsWhereItLooked → (s : ℕ) → p.who ≡ Sender s → (intent : Intent) (offset : ℕ) (half : Half) (raw : Raw) (i x : ℕ) (slot : IndexValue) → intent ≡ writes offset half
-      → MayWrite p.trail offset → slice_get (reserved_commands s p.trail) offset ≡ Some raw → x ≡ half_of half raw → IsSlotAt p slot offset
-      → ((g position : ℕ) → slot ≡ index_of g position → i ≡ data_word g position half)
+  -- and of a store
+  pub may_store : (i x : ℕ) → MayStep p.ring.made_with who p.trail i (λ _. x) (λ _. IsEventOf p.ring.made_with p.trail sought x x)
       → Allows (RuleHolds ring) slots id me i (λ _. x) (λ _. adds_for intent (step slots i x 0 none) me x)
-  writes_now law starts s who intent offset half raw i x slot intent_is may there x_is slot_is at =
-      subst (λ (q : PortValue). q.who ≡ Sender s → MayWrite q.trail offset → slice_get (reserved_commands s q.trail) offset ≡ Some raw → IsSlotAt q slot offset → Allows (RuleHolds ring) slots id me i (λ _. x) (λ _. adds_for intent (step slots i x 0 none) me x)) is
-      (λ w m t a. writes_as law starts ring slots id s me (subst (IsAlone me) w alone) intent offset half raw i x intent_is m t x_is (λ position here. at (ring_of me.0).geometry (position + offset) (a position here)))
-      who may there slot_is
-
-  pub flips_now : Always FlipsByAnExclusiveOr → Always StartsWhereItLooked → (s : ℕ) → p.who ≡ Sender s → (intent : Intent) (offset count i mask : ℕ) (slot : IndexValue) → intent ≡ flips offset count
-      → ((position : ℕ) → start_index p.ring.made_with.geometry p.trail ≡ index_of p.ring.made_with.geometry position → p.ring.made_with.flags ≡ 64 → MayFlip p.ring.made_with p.trail position offset count)
-      → IsSlotAt p slot offset
-      → ((g position : ℕ) → slot ≡ index_of g position → i ≡ flag_word g position)
-      → ((g position : ℕ) → slot ≡ index_of g position → IsFlipMask g position count mask)
-      → Allows (RuleHolds ring) slots id me i (λ x. bit_xor x mask) (adds_for intent (step slots i mask 0 none) me)
-  flips_now law starts s who intent offset count i mask slot intent_is may slot_is at mask_is =
-      subst (λ (q : PortValue). q.who ≡ Sender s
-      → ((position : ℕ) → start_index q.ring.made_with.geometry q.trail ≡ index_of q.ring.made_with.geometry position → q.ring.made_with.flags ≡ 64 → MayFlip q.ring.made_with q.trail position offset count)
-      → IsSlotAt q slot offset → Allows (RuleHolds ring) slots id me i (λ x. bit_xor x mask) (adds_for intent (step slots i mask 0 none) me)) is
-      (λ w m a. flips_as law starts ring slots id s me (subst (IsAlone me) w alone) intent offset count i mask intent_is m
-      (λ position here. at (ring_of me.0).geometry (position + offset) (a position here))
-      (λ position here. mask_is (ring_of me.0).geometry (position + offset) (a position here)))
-      who may slot_is
-
-  pub tests_now : Always TestsFindReadyIn → EveryRun TellsTheHead → p.who ≡ Consumer → (intent : Intent) (limit i : ℕ) → intent ≡ tests limit → IsRunLength limit
-      → i ≡ flag_word p.ring.made_with.geometry (taken_by p.trail) → Allows (RuleHolds ring) slots id me i (λ x. x) (adds_for intent (step slots i 0 0 none) me)
-  tests_now law tells who intent limit i intent_is many at =
-      subst (λ (q : PortValue). q.who ≡ Consumer → i ≡ flag_word q.ring.made_with.geometry (taken_by q.trail) → Allows (RuleHolds ring) slots id me i (λ x. x) (adds_for intent (step slots i 0 0 none) me)) is
-      (λ w a. tests_as law tells ring slots id me (subst (IsAlone me) w alone) intent limit i intent_is many a) who at
-
-  pub reads_now : Always ReadsByALoad → EveryRun TellsTheHead → p.who ≡ Consumer → (intent : Intent) (offset : ℕ) (half : Half) (i : ℕ) → intent ≡ reads offset half → offset < found_ready p.trail
-      → i ≡ data_word p.ring.made_with.geometry (taken_by p.trail + offset) half → Allows (RuleHolds ring) slots id me i (λ x. x) (adds_for intent (step slots i 0 0 none) me)
-  reads_now law tells who intent offset half i intent_is low at =
-      subst (λ (q : PortValue). q.who ≡ Consumer → offset < found_ready q.trail → i ≡ data_word q.ring.made_with.geometry (taken_by q.trail + offset) half → Allows (RuleHolds ring) slots id me i (λ x. x) (adds_for intent (step slots i 0 0 none) me)) is
-      (λ w l a. reads_as law tells ring slots id me (subst (IsAlone me) w alone) intent offset half i intent_is l a) who low at
-
-  pub advances_now : Always AdvancesByAnExclusiveOr → EveryRun TellsTheHead → p.who ≡ Consumer → (intent : Intent) (raws : List Raw) (i mask : ℕ) → intent ≡ advances raws → i ≡ control_word → MayAdvance p.trail raws
-      → mask ≡ advance_mask (index_of p.ring.made_with.geometry (taken_by p.trail)) (index_of p.ring.made_with.geometry (taken_by p.trail + length raws))
-      → Allows (RuleHolds ring) slots id me i (λ x. bit_xor x mask) (adds_for intent (step slots i mask 0 none) me)
-  advances_now law tells who intent raws i mask intent_is at may mask_is =
-      subst (λ (q : PortValue). q.who ≡ Consumer → MayAdvance q.trail raws → mask ≡ advance_mask (index_of q.ring.made_with.geometry (taken_by q.trail)) (index_of q.ring.made_with.geometry (taken_by q.trail + length raws))
-      → Allows (RuleHolds ring) slots id me i (λ x. bit_xor x mask) (adds_for intent (step slots i mask 0 none) me)) is
-      (λ w m a. advances_as law tells ring slots id me (subst (IsAlone me) w alone) intent raws i mask intent_is at m a) who may mask_is
-
-  pub acknowledges_now : Always AcknowledgesByAStore → EveryRun TellsTheNumbers → EveryRun SyncsAreCounted → p.who ≡ Consumer → (intent : Intent) (s number i x : ℕ) → intent ≡ acknowledges s number
-      → i ≡ cell p.ring.made_with.geometry s → x ≡ number → number ≡ suc (acknowledged_by s p.trail) → number ≤ syncs_taken s p.trail
-      → Allows (RuleHolds ring) slots id me i (λ _. x) (λ _. adds_for intent (step slots i x 0 none) me x)
-  acknowledges_now law tells counted who intent s number i x intent_is at x_is next low =
-      subst (λ (q : PortValue). q.who ≡ Consumer → i ≡ cell q.ring.made_with.geometry s → number ≡ suc (acknowledged_by s q.trail) → number ≤ syncs_taken s q.trail → Allows (RuleHolds ring) slots id me i (λ _. x) (λ _. adds_for intent (step slots i x 0 none) me x)) is
-      (λ w a n l. acknowledges_as law tells counted ring slots id me (subst (IsAlone me) w alone) intent s number i x intent_is a x_is n l) who at next low
-
-  pub asks_now : Always AsksByALoad → (s : ℕ) → p.who ≡ Sender s → (i : ℕ) → i ≡ cell p.ring.made_with.geometry s → Allows (RuleHolds ring) slots id me i (λ x. x) (adds_for asks (step slots i 0 0 none) me)
-  asks_now law s who i at =
-      subst (λ (q : PortValue). q.who ≡ Sender s → i ≡ cell q.ring.made_with.geometry s → Allows (RuleHolds ring) slots id me i (λ x. x) (adds_for asks (step slots i 0 0 none) me)) is
-      (λ w a. asks_as law ring slots id s me (subst (IsAlone me) w alone) i a) who at
+  may_store i x = may_go (λ n r t _. IsEventOf r t n x x) i (λ _. x)
 
 -- what a post is of is a ring's seat
 pub sender_known : (table : TableId) (me : Holding) (p : PortValue) → port_of table me ≡ p → IsAlone me (who_of me.0) → (s : ℕ) → p.who ≡ Sender s → s < p.ring.made_with.senders
@@ -113,17 +57,8 @@ module _ (key : Ring) (many : ℕ) (words : many ≡ words_of key.geometry key.s
   key_is : a.made_with ≡ key
   key_is = ap (λ (r : RingValue). r.made_with) (same ∙ b_is)
 
-  words_are : many ≡ words_of a.made_with.geometry a.made_with.senders
+  pub words_are : many ≡ words_of a.made_with.geometry a.made_with.senders
   words_are = words ∙ ap (λ (r : Ring). words_of r.geometry r.senders) (sym key_is)
-
-  pub in_flags : (i p : ℕ) → i ≡ flag_word a.made_with.geometry p → i < many
-  in_flags i p at = flag_inside a.made_with.geometry a.made_with.senders many i p words_are at
-
-  pub in_data : (i p : ℕ) (half : Half) → i ≡ data_word a.made_with.geometry p half → i < many
-  in_data i p half at = data_inside a.made_with.geometry a.made_with.senders many i p half words_are at
-
-  pub in_cells : (i s : ℕ) → i ≡ cell a.made_with.geometry s → s < a.made_with.senders → i < many
-  in_cells i s at low = cell_inside a.made_with.geometry a.made_with.senders many i s words_are at low
 
 -- ---- what a step tells, as contracts see it
 

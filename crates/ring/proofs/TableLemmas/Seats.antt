@@ -103,14 +103,15 @@ among_step P views id v w at keeps one = dite (ℕ_discrete one.place id)
     (λ here. record { place = id; there = w; at = set_there views id v w at; one = keeps (same_place views id v one.there at P one.place here one.at one.one) })
     (λ else. record { place = one.place; there = one.there; at = set_else views id one.place w else ∙ one.at; one = one.one })
 
--- the first of a seat goes to a new one
-pub among_dealt : (P : Participant → Type 0) (views : List (List Participant)) (id : ℕ) (g : Participant) (hs : List Participant) → get_elem? views id ≡ some (g ∷ hs) → Among P views → Among P (set views id hs ++ (g ∷ []) ∷ [])
-among_dealt P views id g hs at one = dite (ℕ_discrete one.place id)
+-- one of a seat goes to a new one
+pub among_parted : (P : Participant → Type 0) (views : List (List Participant)) (id : ℕ) (v left : List Participant) (one : Participant) → get_elem? views id ≡ some v → (Any P v → Any P left ⊎ P one) → Among P views
+    → Among P (set views id left ++ (one ∷ []) ∷ [])
+among_parted P views id v left one at parted among = dite (ℕ_discrete among.place id)
     (λ here. ⊎_elim
-    (λ (first : P g). record { place = length (set views id hs); there = g ∷ []; at = at_last (set views id hs) (g ∷ []) (length (set views id hs)) refl; one = inl first })
-    (λ (rest : Any P hs). record { place = id; there = hs; at = at_longer (set views id hs) ((g ∷ []) ∷ []) id hs (set_there views id (g ∷ hs) hs at); one = rest })
-    (same_place views id (g ∷ hs) one.there at P one.place here one.at one.one))
-    (λ else. record { place = one.place; there = one.there; at = at_longer (set views id hs) ((g ∷ []) ∷ []) one.place one.there (set_else views id one.place hs else ∙ one.at); one = one.one })
+    (λ (rest : Any P left). record { place = id; there = left; at = at_longer (set views id left) ((one ∷ []) ∷ []) id left (set_there views id v left at); one = rest })
+    (λ (its : P one). record { place = length (set views id left); there = one ∷ []; at = at_last (set views id left) (one ∷ []) (length (set views id left)) refl; one = inl its })
+    (parted (same_place views id v among.there at P among.place here among.at among.one)))
+    (λ else. record { place = among.place; there = among.there; at = at_longer (set views id left) ((one ∷ []) ∷ []) among.place among.there (set_else views id among.place left else ∙ among.at); one = among.one })
 
 -- a seat takes in all of another
 pub among_joined : (P : Participant → Type 0) (views : List (List Participant)) (id other : ℕ) (v w : List Participant) → get_elem? views id ≡ some v → other ≢ id → get_elem? (set views id (w ++ v)) other ≡ some w

@@ -22,13 +22,11 @@ use Rattle.ringcore.specs.memory.Flags.{IsFlipMask, ready_in}
 use Rattle.ringcore.specs.memory.Shadow.{AreAfter}
 use Rattle.ringcore.specs.memory.StepLaws.{Always, HasAControlWord, LooksByALoad, ClosesByAnOr, WinsByAnExchange, LosesByAnExchange, WritesByAStore, FlipsByAnExclusiveOr, ReadsByALoad, AdvancesByAnExclusiveOr, AcknowledgesByAStore, AsksByALoad, StartsWhereItLooked, with_reserved, reserved_commands, TestsFindReadyIn}
 use Rattle.ringcore.specs.machine.StepAnswers.{next_number}
-use mathlib.Core.Option.{none}
-use Rattle.atomic_table.specs.Table.{step, Allows}
-use Rattle.ring.specs.table.Rule.{Holding, RuleHolds, Stands, ring_of, trail_of_first, IsAlone}
-use Rattle.ring.specs.table.Intents.{Intent, looks, closes, tests, reserves, writes, flips, reads, advances, acknowledges, asks}
+use Rattle.ring.specs.table.Rule.{Stands}
+use Rattle.ring.specs.table.Intents.{looks, closes, tests, reserves, writes, flips, reads, advances, acknowledges, asks}
 use Rattle.ring.specs.table.Operations.{IsOperation}
-use Rattle.ring.specs.table.StepEvents.{IsEventOf, adds_for}
-use Rattle.ring.proofs.TableLemmas.Steps.{MayStep, steps_as, set_back}
+use Rattle.ring.specs.table.StepEvents.{IsEventOf}
+use Rattle.ring.proofs.TableLemmas.Steps.{MayStep, set_back}
 use Rattle.ringcore.specs.world.ConsumerLaws.{TellsTheHead, TellsTheNumbers}
 
 many_is : (trail : Trail) (closing : Bool) (body : List Raw) → length_with closing body ≡ batch_length body (next_number trail closing)
@@ -112,11 +110,12 @@ module _ (wins : Always WinsByAnExchange) (loses : Always LosesByAnExchange) (ri
     set_back words control_word,
   )
 
-pub reserves_may : Always WinsByAnExchange → Always LosesByAnExchange → (ring : Ring) (s : ℕ) (trail : Trail) (body : List Raw) (closing : Bool) (before : Control) (old new : ℕ)
+pub reserves_may : Always WinsByAnExchange → Always LosesByAnExchange → (ring : Ring) (s : ℕ) (trail : Trail) (body : List Raw) (closing : Bool) (before : Control) (i old new : ℕ) → i ≡ control_word
     → MayTry ring trail body (length_with closing body) before → old ≡ packed before → new ≡ packed (with_reserved before (length_with closing body))
-    → MayStep ring (Sender s) trail control_word (λ x. either (x == old) new x) (IsEventOf ring trail (reserves body closing) old)
-reserves_may wins loses ring s trail body closing before old new may old_is new_is run words now =
-    by_hit wins loses ring s trail body closing before old new may old_is new_is run words now (slice_index words control_word == old) refl
+    → MayStep ring (Sender s) trail i (λ x. either (x == old) new x) (IsEventOf ring trail (reserves body closing) old)
+reserves_may wins loses ring s trail body closing before i old new at may old_is new_is =
+    subst (λ (j : ℕ). MayStep ring (Sender s) trail j (λ x. either (x == old) new x) (IsEventOf ring trail (reserves body closing) old)) (sym at)
+    (λ run words now. by_hit wins loses ring s trail body closing before old new may old_is new_is run words now (slice_index words control_word == old) refl)
 
 -- a store, at the slot that an offset of the reservation has
 pub writes_may : Always WritesByAStore → Always StartsWhereItLooked → (ring : Ring) (s : ℕ) (trail : Trail) (offset : ℕ) (half : Half) (raw : Raw) (i x : ℕ)
@@ -219,82 +218,6 @@ asks_may law ring s trail i at run words now =
       still ring ((Sender s, Ask x) ∷ run) words i (subst (λ (j : ℕ). AreAfter ring ((Sender s, Ask (slice_index words j)) ∷ run) words) (sym at) (law ring run words now.after s now.known)),
       set_back words i,
     )
-
--- ---- the same as a step of a seat asks for it
-
-pub looks_as : Always HasAControlWord → Always LooksByALoad → (ring : Ring) (slots id : ℕ) (who : Who) (me : Holding) → IsAlone me who → (i : ℕ) → i ≡ control_word
-    → Allows (RuleHolds ring) slots id me i (λ x. x) (adds_for looks (step slots i 0 0 none) me)
-looks_as says finds ring slots id who me is i at =
-    steps_as ring slots id who me is i (λ x. x) (IsEventOf (ring_of me.0) (trail_of_first me.0) looks 0) (looks_may says finds (ring_of me.0) who (trail_of_first me.0) i at)
-
-pub closes_as : Always ClosesByAnOr → (ring : Ring) (slots id s : ℕ) (me : Holding) → IsAlone me (Sender s) → (i mask : ℕ) → i ≡ control_word → mask ≡ close_mask
-    → Allows (RuleHolds ring) slots id me i (λ x. bit_or x mask) (adds_for closes (step slots i mask 0 none) me)
-closes_as law ring slots id s me is i mask at mask_is =
-    steps_as ring slots id (Sender s) me is i (λ x. bit_or x mask) (IsEventOf (ring_of me.0) (trail_of_first me.0) closes mask) (closes_may law (ring_of me.0) s (trail_of_first me.0) i mask at mask_is)
-
-pub reserves_as : Always WinsByAnExchange → Always LosesByAnExchange → (ring : Ring) (slots id s : ℕ) (me : Holding) → IsAlone me (Sender s)
-    → (intent : Intent) (body : List Raw) (closing : Bool) (before : Control) (i old new : ℕ) → intent ≡ reserves body closing → i ≡ control_word
-    → MayTry (ring_of me.0) (trail_of_first me.0) body (length_with closing body) before → old ≡ packed before → new ≡ packed (with_reserved before (length_with closing body))
-    → Allows (RuleHolds ring) slots id me i (λ x. either (x == old) new x) (adds_for intent (step slots i old new none) me)
-reserves_as wins loses ring slots id s me is intent body closing before i old new intent_is at may old_is new_is =
-    let z : Ring = ring_of me.0 in let t : Trail = trail_of_first me.0 in
-    subst (λ (q : Intent × ℕ). Allows (RuleHolds ring) slots id me q.1 (λ x. either (x == old) new x) (adds_for q.0 (step slots q.1 old new none) me)) (λ q. (sym intent_is q, sym at q))
-    (steps_as ring slots id (Sender s) me is control_word (λ x. either (x == old) new x) (IsEventOf z t (reserves body closing) old) (reserves_may wins loses z s t body closing before old new may old_is new_is))
-
-pub writes_as : Always WritesByAStore → Always StartsWhereItLooked → (ring : Ring) (slots id s : ℕ) (me : Holding) → IsAlone me (Sender s)
-    → (intent : Intent) (offset : ℕ) (half : Half) (raw : Raw) (i x : ℕ) → intent ≡ writes offset half
-    → MayWrite (trail_of_first me.0) offset → slice_get (reserved_commands s (trail_of_first me.0)) offset ≡ Some raw → x ≡ half_of half raw
-    → ((p : ℕ) → start_index (ring_of me.0).geometry (trail_of_first me.0) ≡ index_of (ring_of me.0).geometry p → i ≡ data_word (ring_of me.0).geometry (p + offset) half)
-    → Allows (RuleHolds ring) slots id me i (λ _. x) (λ _. adds_for intent (step slots i x 0 none) me x)
-writes_as law starts ring slots id s me is intent offset half raw i x intent_is may there x_is at =
-    let z : Ring = ring_of me.0 in let t : Trail = trail_of_first me.0 in
-    subst (λ (q : Intent). Allows (RuleHolds ring) slots id me i (λ _. x) (λ _. adds_for q (step slots i x 0 none) me x)) (sym intent_is)
-    (steps_as ring slots id (Sender s) me is i (λ _. x) (λ _. IsEventOf z t (writes offset half) x x) (writes_may law starts z s t offset half raw i x may there x_is at))
-
-pub flips_as : Always FlipsByAnExclusiveOr → Always StartsWhereItLooked → (ring : Ring) (slots id s : ℕ) (me : Holding) → IsAlone me (Sender s)
-    → (intent : Intent) (offset count i mask : ℕ) → intent ≡ flips offset count
-    → ((p : ℕ) → start_index (ring_of me.0).geometry (trail_of_first me.0) ≡ index_of (ring_of me.0).geometry p → (ring_of me.0).flags ≡ 64 → MayFlip (ring_of me.0) (trail_of_first me.0) p offset count)
-    → ((p : ℕ) → start_index (ring_of me.0).geometry (trail_of_first me.0) ≡ index_of (ring_of me.0).geometry p → i ≡ flag_word (ring_of me.0).geometry (p + offset))
-    → ((p : ℕ) → start_index (ring_of me.0).geometry (trail_of_first me.0) ≡ index_of (ring_of me.0).geometry p → IsFlipMask (ring_of me.0).geometry (p + offset) count mask)
-    → Allows (RuleHolds ring) slots id me i (λ x. bit_xor x mask) (adds_for intent (step slots i mask 0 none) me)
-flips_as law starts ring slots id s me is intent offset count i mask intent_is may at mask_is =
-    let z : Ring = ring_of me.0 in let t : Trail = trail_of_first me.0 in
-    subst (λ (q : Intent). Allows (RuleHolds ring) slots id me i (λ x. bit_xor x mask) (adds_for q (step slots i mask 0 none) me)) (sym intent_is)
-    (steps_as ring slots id (Sender s) me is i (λ x. bit_xor x mask) (IsEventOf z t (flips offset count) mask) (flips_may law starts z s t offset count i mask may at mask_is))
-
-pub tests_as : Always TestsFindReadyIn → EveryRun TellsTheHead → (ring : Ring) (slots id : ℕ) (me : Holding) → IsAlone me Consumer → (intent : Intent) (limit i : ℕ) → intent ≡ tests limit → IsRunLength limit
-    → i ≡ flag_word (ring_of me.0).geometry (taken_by (trail_of_first me.0))
-    → Allows (RuleHolds ring) slots id me i (λ x. x) (adds_for intent (step slots i 0 0 none) me)
-tests_as law tells ring slots id me is intent limit i intent_is many at =
-    subst (λ (t : Intent). Allows (RuleHolds ring) slots id me i (λ x. x) (adds_for t (step slots i 0 0 none) me)) (sym intent_is)
-    (steps_as ring slots id Consumer me is i (λ x. x) (IsEventOf (ring_of me.0) (trail_of_first me.0) (tests limit) 0) (tests_may law tells (ring_of me.0) (trail_of_first me.0) limit i many at))
-
-pub reads_as : Always ReadsByALoad → EveryRun TellsTheHead → (ring : Ring) (slots id : ℕ) (me : Holding) → IsAlone me Consumer → (intent : Intent) (offset : ℕ) (half : Half) (i : ℕ) → intent ≡ reads offset half
-    → offset < found_ready (trail_of_first me.0) → i ≡ data_word (ring_of me.0).geometry (taken_by (trail_of_first me.0) + offset) half
-    → Allows (RuleHolds ring) slots id me i (λ x. x) (adds_for intent (step slots i 0 0 none) me)
-reads_as law tells ring slots id me is intent offset half i intent_is low at =
-    subst (λ (t : Intent). Allows (RuleHolds ring) slots id me i (λ x. x) (adds_for t (step slots i 0 0 none) me)) (sym intent_is)
-    (steps_as ring slots id Consumer me is i (λ x. x) (IsEventOf (ring_of me.0) (trail_of_first me.0) (reads offset half) 0) (reads_may law tells (ring_of me.0) (trail_of_first me.0) offset half i low at))
-
-pub advances_as : Always AdvancesByAnExclusiveOr → EveryRun TellsTheHead → (ring : Ring) (slots id : ℕ) (me : Holding) → IsAlone me Consumer → (intent : Intent) (raws : List Raw) (i mask : ℕ) → intent ≡ advances raws
-    → i ≡ control_word → MayAdvance (trail_of_first me.0) raws
-    → mask ≡ advance_mask (index_of (ring_of me.0).geometry (taken_by (trail_of_first me.0))) (index_of (ring_of me.0).geometry (taken_by (trail_of_first me.0) + length raws))
-    → Allows (RuleHolds ring) slots id me i (λ x. bit_xor x mask) (adds_for intent (step slots i mask 0 none) me)
-advances_as law tells ring slots id me is intent raws i mask intent_is at may mask_is =
-    subst (λ (t : Intent). Allows (RuleHolds ring) slots id me i (λ x. bit_xor x mask) (adds_for t (step slots i mask 0 none) me)) (sym intent_is)
-    (steps_as ring slots id Consumer me is i (λ x. bit_xor x mask) (IsEventOf (ring_of me.0) (trail_of_first me.0) (advances raws) mask) (advances_may law tells (ring_of me.0) (trail_of_first me.0) raws i mask at may mask_is))
-
-pub acknowledges_as : Always AcknowledgesByAStore → EveryRun TellsTheNumbers → EveryRun SyncsAreCounted → (ring : Ring) (slots id : ℕ) (me : Holding) → IsAlone me Consumer → (intent : Intent) (s number i x : ℕ) → intent ≡ acknowledges s number
-    → i ≡ cell (ring_of me.0).geometry s → x ≡ number → number ≡ suc (acknowledged_by s (trail_of_first me.0)) → number ≤ syncs_taken s (trail_of_first me.0)
-    → Allows (RuleHolds ring) slots id me i (λ _. x) (λ _. adds_for intent (step slots i x 0 none) me x)
-acknowledges_as law tells counted ring slots id me is intent s number i x intent_is at x_is next low =
-    subst (λ (t : Intent). Allows (RuleHolds ring) slots id me i (λ _. x) (λ _. adds_for t (step slots i x 0 none) me x)) (sym intent_is)
-    (steps_as ring slots id Consumer me is i (λ _. x) (λ _. IsEventOf (ring_of me.0) (trail_of_first me.0) (acknowledges s number) x x) (acknowledges_may law tells counted (ring_of me.0) (trail_of_first me.0) s number i x at x_is next low))
-
-pub asks_as : Always AsksByALoad → (ring : Ring) (slots id s : ℕ) (me : Holding) → IsAlone me (Sender s) → (i : ℕ) → i ≡ cell (ring_of me.0).geometry s
-    → Allows (RuleHolds ring) slots id me i (λ x. x) (adds_for asks (step slots i 0 0 none) me)
-asks_as law ring slots id s me is i at =
-    steps_as ring slots id (Sender s) me is i (λ x. x) (IsEventOf (ring_of me.0) (trail_of_first me.0) asks 0) (asks_may law (ring_of me.0) s (trail_of_first me.0) i at)
 
 -- ---- the words are in the table
 

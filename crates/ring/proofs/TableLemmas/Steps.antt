@@ -1,5 +1,5 @@
 -- A step that the laws of ringcore allow keeps the rule, whatever kind it is: its event comes to the end of the run.
-use Rattle.std.proofs.Common.{◌≡◌, ◌≢◌, ℕ, Bool, cond, List, [], ◌∷◌, ◌++◌, length, set, zero, suc, refl, sym, ap, ◌∙◌, subst, ⊎_elim, inl}
+use Rattle.std.proofs.Common.{◌≡◌, ◌≢◌, ◌⊎◌, ℕ, Bool, cond, List, [], ◌∷◌, ◌++◌, length, set, zero, suc, refl, sym, ap, ◌∙◌, subst, ⊎_elim, inl, inr}
 use Rattle.std.specs.Prelude.{slice_index, slice_set}
 use mathlib.Core.Option.{some}
 use lib.ListN.{get_elem?}
@@ -12,11 +12,11 @@ use Rattle.ringcore.specs.world.Laws.{OnlyOf}
 use Rattle.ringcore.specs.world.Allowed.{Ring}
 use Rattle.ringcore.specs.memory.Shadow.{AreAfter}
 use Rattle.ring.specs.declared.table.rule.Participant.{Participant}
-use Rattle.ring.specs.table.Rule.{Holding, participant, HasTrails, SitAt, RuleHolds, Stands, ring_of, who_of, trail_of_first, history_of_first, IsAlone}
+use Rattle.ring.specs.table.Rule.{Holding, participant, IsIn, HasTrails, SitAt, Any, RuleHolds, Stands, ring_of, who_of, trail_of_first, history_of_first, IsAlone}
 use Rattle.ring.specs.table.Operations.{IsOperation}
 use Rattle.ring.specs.table.StepEvents.{Added}
 use Rattle.ring.proofs.TableLemmas.Trails.{same_refl, trail_here}
-use Rattle.ring.proofs.TableLemmas.Seats.{trails_else, Without, moved_to, sit_without, sit_else, taken_in, sit_taken, sit_stays, sit_append, trails_append, at_snoc_index, went_on_none, set_there, among_step, among_dealt, among_joined}
+use Rattle.ring.proofs.TableLemmas.Seats.{trails_else, Without, moved_to, sit_without, sit_else, taken_in, sit_taken, sit_stays, sit_append, trails_append, at_snoc_index, went_on_none, set_there, among_step, among_parted, among_joined}
 
 -- What the laws have to give: wherever the seat has this trail, the word may change so, by an event that is said of
 -- the word that was found.
@@ -78,29 +78,38 @@ steps_as ring slots id who me is i f says may =
 
 -- ---- a seat is cut in two, and takes in another
 
--- the first of a seat goes to a new seat
-pub deals_at : (ring : Ring) (id : ℕ) (g : Participant) (hs : List Participant) → Without g.who hs → Splits (RuleHolds ring) id (g ∷ hs) hs (g ∷ [])
-deals_at ring id g hs apart s k at =
-    let mine = k.seated id (g ∷ hs) at in
-    let new : ℕ = length (set s.views id hs) in
-    let seat : Who → ℕ = moved_to g.who new k.seat in record {
+-- one of a seat goes to a new seat, and the others stay
+pub parts_at : (ring : Ring) (id : ℕ) (v left : List Participant) (one : Participant)
+    → ((seat : Who → ℕ) (new : ℕ) → SitAt seat id v → (seat one.who ≡ id) × SitAt (moved_to one.who new seat) id left)
+    → ((run : Run) → HasTrails ring run v → IsIn ring run one × HasTrails ring run left)
+    → ((P : Participant → Type 0) → Any P v → Any P left ⊎ P one) → Splits (RuleHolds ring) id v left (one ∷ [])
+parts_at ring id v left one sit has parted s k at =
+    let mine = k.seated id v at in
+    let new : ℕ = length (set s.views id left) in
+    let seat : Who → ℕ = moved_to one.who new k.seat in
+    let sits = sit k.seat new mine.0 in
+    let trails = has k.run mine.1 in record {
       limits = k.limits;
       run = k.run;
       after = k.after;
       made = k.made;
       only = k.only;
       seat = seat;
-      seated = λ j v there. ⊎_elim
-          (λ (old : get_elem? (set s.views id hs) j ≡ some v). ⊎_elim
-          (λ (here : (j ≡ id) × (hs ≡ v)). subst (λ (t : ℕ × List Participant). SitAt seat t.0 t.1 × HasTrails ring k.run t.1) (λ q. (sym here.0 q, here.1 q)) (sit_without g.who new k.seat id hs apart mine.0.1, mine.1.1))
-          (λ (else : (j ≢ id) × (get_elem? s.views j ≡ some v)). let o = k.seated j v else.1 in (sit_else g.who new k.seat j v (λ e. else.0 (sym e ∙ mine.0.0)) o.0, o.1))
-          (at_set s.views id j hs v old))
-          (λ (last : (j ≡ new) × ((g ∷ []) ≡ v)). subst (λ (t : ℕ × List Participant). SitAt seat t.0 t.1 × HasTrails ring k.run t.1) (λ q. (sym last.0 q, last.1 q))
-          ((ap (λ (b : Bool). cond b new (k.seat g.who)) (same_refl g.who), tt), (mine.1.0, tt)))
-          (at_snoc_index (set s.views id hs) (g ∷ []) v j there);
-      newest = among_dealt (λ p. p.history ≡ k.run) s.views id g hs at k.newest;
-      everyone = λ who one. among_dealt (λ p. p.who ≡ who) s.views id g hs at (k.everyone who one);
+      seated = λ j u there. ⊎_elim
+          (λ (old : get_elem? (set s.views id left) j ≡ some u). ⊎_elim
+          (λ (here : (j ≡ id) × (left ≡ u)). subst (λ (t : ℕ × List Participant). SitAt seat t.0 t.1 × HasTrails ring k.run t.1) (λ q. (sym here.0 q, here.1 q)) (sits.1, trails.1))
+          (λ (else : (j ≢ id) × (get_elem? s.views j ≡ some u)). let o = k.seated j u else.1 in (sit_else one.who new k.seat j u (λ e. else.0 (sym e ∙ sits.0)) o.0, o.1))
+          (at_set s.views id j left u old))
+          (λ (last : (j ≡ new) × ((one ∷ []) ≡ u)). subst (λ (t : ℕ × List Participant). SitAt seat t.0 t.1 × HasTrails ring k.run t.1) (λ q. (sym last.0 q, last.1 q))
+          ((ap (λ (b : Bool). cond b new (k.seat one.who)) (same_refl one.who), tt), (trails.0, tt)))
+          (at_snoc_index (set s.views id left) (one ∷ []) u j there);
+      newest = among_parted (λ p. p.history ≡ k.run) s.views id v left one at (parted (λ p. p.history ≡ k.run)) k.newest;
+      everyone = λ u known. among_parted (λ p. p.who ≡ u) s.views id v left one at (parted (λ p. p.who ≡ u)) (k.everyone u known);
     }
+
+-- the first of them
+pub deals_at : (ring : Ring) (id : ℕ) (g : Participant) (hs : List Participant) → Without g.who hs → Splits (RuleHolds ring) id (g ∷ hs) hs (g ∷ [])
+deals_at ring id g hs apart = parts_at ring id (g ∷ hs) hs g (λ seat new sit. (sit.0, sit_without g.who new seat id hs apart sit.1)) (λ run has. has) (λ P one. ⊎_elim inr inl one)
 
 -- a seat takes in all of another
 pub gathers_at : (ring : Ring) (id other : ℕ) (v w : List Participant) → Joins (RuleHolds ring) id v other w (w ++ v) []

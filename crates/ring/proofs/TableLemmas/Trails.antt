@@ -1,5 +1,6 @@
 -- A seat's trail, as the run grows.
-use Rattle.std.proofs.Common.{◌≡◌, ◌≢◌, Bool, true, false, cond, [], ◌∷◌, ◌++◌, length, length-append, refl, ap, eq-eqb, ne_eqb, arith}
+use Rattle.std.proofs.Common.{◌≡◌, ◌≢◌, Bool, true, false, cond, [], ◌∷◌, ◌++◌, refl, ap, eq-eqb, ne_eqb}
+use Rattle.std.proofs.lemmas.List.{append_cancel_right}
 use Rattle.ringcore.specs.declared.world.event.Who.{Who}
 use Rattle.ringcore.specs.declared.world.event.Who.TheVariants.{Consumer, Sender}
 use Rattle.ringcore.specs.declared.world.event.Event.{Event}
@@ -30,5 +31,4 @@ trail_append u (x ∷ xs) b = by_seat (same u x.0) (trail_append u xs b)
     by_seat false e = e
 
 pub none_before : (a b : Trail) → a ++ b ≡ b → a ≡ []
-none_before [] b e = refl
-none_before (x ∷ xs) b e = absurd (let n : length (x ∷ xs ++ b) ≡ length b = ap (λ (t : Trail). length t) e in let m = length-append xs b in omega (arith, n, m))
+none_before a b e = append_cancel_right a [] b e

@@ -7,7 +7,8 @@ use Rattle.ringcore.specs.declared.world.event.Half.TheVariants.{Lo, Hi}
 use Rattle.ringcore.specs.declared.world.event.Event.TheVariants.{Read}
 use Rattle.ringcore.specs.world.Trails.{Trail, found_ready, half_read, head_read}
 use Rattle.ringcore.specs.world.World.{half_of}
-use Rattle.ring.specs.consumer.Consumers.{ConsumerPortValue, ConsumerValue}
+use Rattle.ring.specs.table.Ports.{PortValue}
+use Rattle.ring.specs.consumer.Consumers.{ConsumerValue}
 
 -- This command was read at the head, and not taken.
 abbrev pub HasSeen : Trail → Raw → Type 0
@@ -30,7 +31,7 @@ pub record PendingValue (D : Type 0) : Type 0 where
   pub consumer : ConsumerValue D
   pub raws : List Raw
 
-pub record IsPending (consumer : ConsumerPortValue) (raws : List Raw) : Type 0 where
+pub record IsPending (consumer : PortValue) (raws : List Raw) : Type 0 where
   pub read : HasReadRun consumer.trail raws
   pub few : length raws ≤ 64
   pub fits : length raws ≤ size consumer.ring.made_with.geometry

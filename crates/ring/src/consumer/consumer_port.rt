@@ -6,12 +6,12 @@ ghost use Rattle.ringcore.specs.declared.world.event.Event.TheVariants.{Look, Te
 ghost use Rattle.ringcore.specs.declared.world.event.Who.TheVariants.{Consumer};
 ghost use Rattle.ringcore.specs.world.Trails.{same, taken_by, found_ready};
 ghost use Rattle.ringcore.specs.world.Allowed.{MayAdvance};
-ghost use Rattle.ringcore.specs.world.ConsumerLaws.{IsSteady};
 ghost use Rattle.ring.specs.table.Rule.{StandsInARun, WentOn};
 ghost use Rattle.ring.specs.table.Histories.{IsHistory, GrewBy, Grew, EndsTellAll};
 ghost use Rattle.ringcore.specs.world.World.{world, head, control as control_of};
 ghost use Rattle.ring.specs.table.Ports.{SitsFor};
 ghost use Rattle.ring.specs.consumer.Pendings.{HasReadRun, reads_from};
+ghost use Rattle.ring.specs.consumer.Consumers.{KnowsItsSteps};
 ghost use Rattle.ring.specs.consumer.Completing.{completed_trail};
 
 use crate::consumer::commands::Commands;
@@ -21,7 +21,7 @@ use atomic_table::Seat;
 use cmdcodec::Raw;
 use qindex::{Control, Index, indexes_tell_the_queue};
 use ringcore::{Half, world_law};
-use std::marker::Model;
+use std::marker::{Brand, Model};
 
 /// The consumer's port, which has acknowledged each CMD_SYNC that it took.
 #[derive(Drop)]
@@ -34,87 +34,36 @@ pub struct ConsumerPort {
 }
 
 impl Model for ConsumerPort {
-    ghost use Rattle.ring.specs.consumer.Consumers.{ConsumerPortValue, IsConsumer};
+    ghost use Rattle.ring.specs.table.Ports.{PortValue};
+    ghost use Rattle.ring.specs.consumer.Consumers.{IsConsumer};
 
-    ghost Value = { ConsumerPortValue };
+    ghost Value = { PortValue };
 
-    ghost view = { λ p. record { ring = p.port.ring; trail = p.port.trail; history = p.port.history } };
+    ghost view = { λ p. p.port };
 
     ghost invariant = { λ p. IsConsumer p.port p.head p.taken };
 }
 
 impl ConsumerPort {
-    pub(crate) fn trail_stands_in_a_run(&self)
-        ensures trail { StandsInARun self.now.ring.made_with Consumer self.now.trail }
-        ensures history { IsHistory self.now.ring.made_with Consumer self.now.trail self.now.history }
+    pub(crate) fn knows_its_steps(&self)
+        ensures { KnowsItsSteps self.now.ring.made_with self.now.trail }
     {
-        self.port.trail_stands_in_a_run();
-    }
-
-    pub(crate) fn into_seat(self) -> Seat<(), Participants>
-        ensures { SitsFor result.table_id result.me self.ring Consumer self.trail self.history }
-    {
-        let ConsumerPort {
-            port,
-            head: _,
-            taken: _,
-        } = self;
-        port.into_seat()
-    }
-
-    /// What it read at the head is found again until it is taken. It does nothing.
-    pub(crate) fn steady(&self)
-        ensures { IsSteady self.now.trail }
-    {
-        self.port.steady();
+        self.port.knows_its_steps();
     }
 
     pub(crate) fn taken(&self) -> u64
         ensures value { result ≡ taken_by self.now.trail }
         ensures few { result ≤ 2 ^ 46 }
     {
-        self.port.few();
+        self.port.knows_its_steps();
         self.taken
-    }
-
-    /// What was taken and what was found ready behind it are few. It does nothing.
-    pub(crate) fn few_with_ready(&self)
-        ensures { taken_by self.now.trail + found_ready self.now.trail ≤ 2 ^ 46 }
-    {
-        self.port.few_with_ready();
-    }
-
-    pub(crate) fn look(&mut self, ring: &Ring) -> Control
-        requires { self.old.ring ≡ ring.now }
-        ensures trail { record self.new { history = [] } ≡ record self.old { trail = Look result ∷ self.old.trail; history = [] } }
-        ensures control { IsControl self.old.ring.made_with.geometry result }
-        ensures history { GrewBy Consumer (Look result) self.old.history self.new.history }
-        ensures current { result ≡ control_of self.old.ring.made_with.geometry (world self.new.history) }
-    {
-        self.port.look(ring)
-    }
-
-    /// It and a sender's port come to know one run.
-    pub(crate) fn meet(&mut self, ring: &Ring, sender: &mut Port)
-        requires ring { self.old.ring ≡ ring.now }
-        requires sender { sender.old.ring ≡ ring.now }
-        requires apart { same Consumer sender.old.who ≡ false }
-        ensures mine { record self.new { history = [] } ≡ record self.old { history = [] } }
-        ensures theirs { record sender.new { history = [] } ≡ record sender.old { history = [] } }
-        ensures one { sender.new.history ≡ self.new.history }
-        ensures i_knew { WentOn Consumer self.old.history self.new.history }
-        ensures they_knew { WentOn sender.old.who sender.old.history self.new.history }
-    {
-        self.port.meet(ring, sender);
     }
 
     /// Where a look finds the two ends at one place, all that is reserved is taken. It does nothing.
     pub(crate) fn ends_tell_all(&self)
         ensures { EndsTellAll self.now.ring.made_with.geometry (world self.now.history) }
     {
-        world_law();
-        indexes_tell_the_queue();
-        self.port.trail_stands_in_a_run();
+        self.port.looks_tell();
     }
 
     pub(crate) fn test(&mut self, ring: &Ring, limit: u32) -> u32
@@ -127,7 +76,7 @@ impl ConsumerPort {
         ensures limit { result ≤ limit }
         ensures within { result ≤ size self.old.ring.made_with.geometry }
     {
-        let found = self.port.test(ring, self.head, limit);
+        let found = self.port.test::<Brand>(ring, self.head, limit);
         self.port.trail_stands_in_a_run();
         found
     }
@@ -140,7 +89,7 @@ impl ConsumerPort {
         ensures history { GrewBy Consumer (Read offset half result) self.old.history self.new.history }
     {
         self.port
-            .read(ring, self.head.forward(offset), offset, half)
+            .read::<Brand>(ring, self.head.forward(offset), offset, half)
     }
 
     /// Reads the first so many commands.
@@ -177,8 +126,8 @@ impl ConsumerPort {
             head,
             taken,
         } = self;
-        port.advance(ring, head, commands, count);
-        port.few();
+        port.advance::<Brand>(ring, head, commands, count);
+        port.knows_its_steps();
         port.acknowledge_run(ring, commands, count);
         ConsumerPort {
             port,

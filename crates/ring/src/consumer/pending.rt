@@ -48,16 +48,16 @@ impl<D: Device> Pending<D> {
 
     /// Takes the command, and acknowledges it where it is a CMD_SYNC. The device that is lent must be settled for all
     /// that was taken and this command.
-    pub fn complete(self, ring: &Ring, _outcome: Outcome, _device: &D) -> Consumer<D>
+    pub fn complete(self, ring: &Ring, outcome: Outcome, device: &D) -> Consumer<D>
         requires ring { self.consumer.ring ≡ ring.now }
-        requires outcome { _outcome ≡ outcome_of self.raw }
-        requires settled { D.settled _device.now (taken_of self.consumer.trail ++ record { raw = self.raw; outcome = _outcome } ∷ []) }
-        ensures consumer { record result { history = [] } ≡ completed 1 _device.now (unknowing (run_of self)) }
+        requires outcome { outcome ≡ outcome_of self.raw }
+        requires settled { D.settled device.now (taken_of self.consumer.trail ++ record { raw = self.raw; outcome = outcome } ∷ []) }
+        ensures consumer { record result { history = [] } ≡ completed 1 device.now (unknowing (run_of self)) }
         ensures history { Grew ConsumerOf self.consumer.trail result.trail self.consumer.history result.history }
         ensures ring { result.ring ≡ self.consumer.ring }
-        ensures taken { taken_of result.trail ≡ taken_of self.consumer.trail ++ record { raw = self.raw; outcome = _outcome } ∷ [] }
+        ensures taken { taken_of result.trail ≡ taken_of self.consumer.trail ++ record { raw = self.raw; outcome = outcome } ∷ [] }
     {
         let Pending { run } = self;
-        run.complete_run(ring, 1, _outcome, _device)
+        run.complete_run(ring, 1, outcome, device)
     }
 }

@@ -43,7 +43,7 @@ impl<D: Device> PendingRun<D> {
         ensures in_all { length (taken_of self.now.consumer.trail) + result ≤ 2 ^ 46 }
     {
         laws::consumer_trail();
-        self.port.few_with_ready();
+        self.port.knows_its_steps();
         self.commands.len()
     }
 
@@ -73,24 +73,19 @@ impl<D: Device> PendingRun<D> {
 
     /// Takes the first `count` of the commands, and then acknowledges each CMD_SYNC among them. The device that is lent
     /// must be settled for all that was taken and these.
-    pub fn complete_run(
-        self,
-        ring: &Ring,
-        count: u32,
-        _outcome: Outcome,
-        _device: &D,
-    ) -> Consumer<D>
+    pub fn complete_run(self, ring: &Ring, count: u32, outcome: Outcome, device: &D) -> Consumer<D>
         requires ring { self.consumer.ring ≡ ring.now }
         requires some { 1 ≤ count }
         requires most { count ≤ length self.raws }
-        requires outcome { HasOutcome _outcome (take count self.raws) }
-        requires one { _outcome ≡ Replaced → count ≡ 1 }
-        requires settled { D.settled _device.now (taken_of self.consumer.trail ++ map (with_outcome _outcome) (take count self.raws)) }
-        ensures consumer { record result { history = [] } ≡ completed count _device.now (unknowing self) }
+        requires outcome { HasOutcome outcome (take count self.raws) }
+        requires one { outcome ≡ Replaced → count ≡ 1 }
+        requires settled { D.settled device.now (taken_of self.consumer.trail ++ map (with_outcome outcome) (take count self.raws)) }
+        ensures consumer { record result { history = [] } ≡ completed count device.now (unknowing self) }
         ensures history { Grew ConsumerOf self.consumer.trail result.trail self.consumer.history result.history }
         ensures ring { result.ring ≡ self.consumer.ring }
-        ensures taken { taken_of result.trail ≡ taken_of self.consumer.trail ++ map (with_outcome _outcome) (take count self.raws) }
+        ensures taken { taken_of result.trail ≡ taken_of self.consumer.trail ++ map (with_outcome outcome) (take count self.raws) }
     {
+        let _ = outcome;
         let PendingRun {
             port,
             commands,
@@ -99,7 +94,7 @@ impl<D: Device> PendingRun<D> {
         Consumer {
             port: port.complete_run(ring, &commands, count),
             commands,
-            lent: Lent::of(_device),
+            lent: Lent::of(device),
         }
     }
 }

@@ -10,7 +10,7 @@ use crate::device::Device;
 use crate::keeper::Keeper;
 use crate::ring::Ring;
 use qindex::Index;
-use std::marker::Model;
+use std::marker::{Brand, Model};
 
 /// The consumer while the keeper has its seat: where its head is, how many commands it has taken, and which device was
 /// lent last.
@@ -45,7 +45,7 @@ impl Keeper {
             commands,
             lent,
         } = idle;
-        let port = self.lend_to_consumer(ring);
+        let port = self.lend::<Brand>(ring);
         Consumer {
             port: ConsumerPort { port, head, taken },
             commands,

@@ -1,5 +1,5 @@
 //! What is left of a reservation while the keeper has its sender's seat.
-ghost use Rattle.std.specs.Prelude.{◌≡◌, ◌<◌, true, false, Some, None};
+ghost use Rattle.std.specs.Prelude.{◌≡◌, ◌<◌, Some, None};
 ghost use Rattle.ringcore.specs.declared.world.event.Who.TheVariants.{Sender as SenderOf};
 ghost use Rattle.ringcore.specs.world.Trails.{trail_of};
 ghost use Rattle.ring.specs.table.Histories.{Grew};
@@ -8,10 +8,10 @@ ghost use Rattle.ring.specs.Keepers.{own_reservation, has_lent, has_back, Adds, 
 
 use crate::keeper::Keeper;
 use crate::ring::Ring;
-use crate::sender::{BareReservation, OpenReservation, Reservation, Tally};
+use crate::sender::{BatchKind, OpenReservation, Tally};
 use batch::Batch;
 use qindex::Index;
-use std::marker::Model;
+use std::marker::{Model, PhantomData};
 
 /// A reservation whose sender's seat the keeper has, without its batch: whoever lends it again has kept the batch.
 #[derive(Clone, Copy)]
@@ -43,7 +43,7 @@ impl IdleReservation {
         self.tally.sender
     }
 
-    /// Whether it closes with a CMD_SYNC: if so it is lent by `lend_reservation`, else by `lend_bare_reservation`.
+    /// Whether it closes with a CMD_SYNC: it is lent as a reservation of that kind.
     pub fn closes(&self) -> bool
         ensures { result ≡ self.now.closes }
     {
@@ -71,69 +71,45 @@ impl IdleReservation {
 
 impl Keeper {
     /// Lends a reservation its sender's seat, with a batch that holds what the reservation was made with: so it is a
-    /// reservation as any other.
-    pub fn lend_reservation<'b>(
+    /// reservation as any other, of the kind that it was.
+    pub fn lend_reservation<'b, K: BatchKind>(
         &mut self,
         ring: &Ring,
         idle: IdleReservation,
         batch: &'b Batch,
-    ) -> Reservation<'b>
+    ) -> OpenReservation<'b, K>
         requires ring { self.old.ring ≡ ring.now }
         requires whole { self.old.lent ≡ None }
         requires known { idle.tally.sender < self.old.ring.made_with.senders }
-        requires closes { idle.closes ≡ true }
+        requires closes { idle.closes ≡ K.closes }
         requires idle { IsIdleReservation self.old batch.now idle }
         ensures reservation { result ≡ own_reservation batch.now idle self.old }
         ensures keeper { self.new ≡ has_lent (SenderOf idle.tally.sender) self.old }
     {
-        Reservation {
-            open: self.lend_open(ring, idle, batch),
-        }
-    }
-
-    /// The same of a reservation without a closing CMD_SYNC (own).
-    pub fn lend_bare_reservation<'b>(
-        &mut self,
-        ring: &Ring,
-        idle: IdleReservation,
-        batch: &'b Batch,
-    ) -> BareReservation<'b>
-        requires ring { self.old.ring ≡ ring.now }
-        requires whole { self.old.lent ≡ None }
-        requires known { idle.tally.sender < self.old.ring.made_with.senders }
-        requires closes { idle.closes ≡ false }
-        requires idle { IsIdleReservation self.old batch.now idle }
-        ensures reservation { result ≡ own_reservation batch.now idle self.old }
-        ensures keeper { self.new ≡ has_lent (SenderOf idle.tally.sender) self.old }
-    {
-        BareReservation {
-            open: self.lend_open(ring, idle, batch),
+        let IdleReservation {
+            tally,
+            closes: _,
+            start,
+            written,
+            flipped,
+        } = idle;
+        let port = self.lend_to_sender(ring, tally.sender);
+        OpenReservation {
+            port,
+            tally,
+            batch,
+            start,
+            written,
+            flipped,
+            kind: PhantomData,
         }
     }
 
     /// Takes the seat of a reservation's sender back, and knows the whole run again. The batch is no longer borrowed.
-    pub fn take_reservation(&mut self, ring: &Ring, reservation: Reservation<'_>) -> IdleReservation
-        requires ring { self.old.ring ≡ ring.now }
-        requires own { reservation.ring ≡ ring.now }
-        requires lent { self.old.lent ≡ Some (SenderOf reservation.sender) }
-        ensures keeper { self.new ≡ has_back (SenderOf reservation.entry.sender) reservation.entry.trail self.old }
-        ensures adds { Adds (SenderOf reservation.entry.sender) reservation.entry.trail self.old.run self.new.run }
-        ensures grew { Grew (SenderOf reservation.entry.sender) (trail_of (SenderOf reservation.entry.sender) self.old.run) reservation.entry.trail self.old.run self.new.run }
-        ensures news { IsNews (SenderOf reservation.entry.sender) reservation.entry.trail reservation.entry.history self.old.run self.new.run }
-        ensures others { KeepsOthers (SenderOf reservation.entry.sender) self.old self.new }
-        ensures left { IsLeftOf reservation.entry result }
-        ensures closes { result.closes ≡ true }
-        ensures idle { IsIdleReservation self.new reservation.entry.body result }
-    {
-        let Reservation { open } = reservation;
-        self.take_open(ring, open)
-    }
-
-    /// The same of a reservation without a closing CMD_SYNC (own).
-    pub fn take_bare_reservation(
+    pub fn take_reservation<K: BatchKind>(
         &mut self,
         ring: &Ring,
-        reservation: BareReservation<'_>,
+        reservation: OpenReservation<'_, K>,
     ) -> IdleReservation
         requires ring { self.old.ring ≡ ring.now }
         requires own { reservation.ring ≡ ring.now }
@@ -144,70 +120,22 @@ impl Keeper {
         ensures news { IsNews (SenderOf reservation.entry.sender) reservation.entry.trail reservation.entry.history self.old.run self.new.run }
         ensures others { KeepsOthers (SenderOf reservation.entry.sender) self.old self.new }
         ensures left { IsLeftOf reservation.entry result }
-        ensures closes { result.closes ≡ false }
-        ensures idle { IsIdleReservation self.new reservation.entry.body result }
-    {
-        let BareReservation { open } = reservation;
-        self.take_open(ring, open)
-    }
-
-    fn lend_open<'b>(
-        &mut self,
-        ring: &Ring,
-        idle: IdleReservation,
-        batch: &'b Batch,
-    ) -> OpenReservation<'b>
-        requires ring { self.old.ring ≡ ring.now }
-        requires whole { self.old.lent ≡ None }
-        requires known { idle.tally.sender < self.old.ring.made_with.senders }
-        requires idle { IsIdleReservation self.old batch.now idle }
-        ensures reservation { result ≡ own_reservation batch.now idle self.old }
-        ensures keeper { self.new ≡ has_lent (SenderOf idle.tally.sender) self.old }
-    {
-        let IdleReservation {
-            tally,
-            closes,
-            start,
-            written,
-            flipped,
-        } = idle;
-        let port = self.lend_to_sender(ring, tally.sender);
-        OpenReservation {
-            port,
-            tally,
-            batch,
-            closes,
-            start,
-            written,
-            flipped,
-        }
-    }
-
-    fn take_open(&mut self, ring: &Ring, reservation: OpenReservation<'_>) -> IdleReservation
-        requires ring { self.old.ring ≡ ring.now }
-        requires own { reservation.ring ≡ ring.now }
-        requires lent { self.old.lent ≡ Some (SenderOf reservation.sender) }
-        ensures keeper { self.new ≡ has_back (SenderOf reservation.entry.sender) reservation.entry.trail self.old }
-        ensures adds { Adds (SenderOf reservation.entry.sender) reservation.entry.trail self.old.run self.new.run }
-        ensures grew { Grew (SenderOf reservation.entry.sender) (trail_of (SenderOf reservation.entry.sender) self.old.run) reservation.entry.trail self.old.run self.new.run }
-        ensures news { IsNews (SenderOf reservation.entry.sender) reservation.entry.trail reservation.entry.history self.old.run self.new.run }
-        ensures others { KeepsOthers (SenderOf reservation.entry.sender) self.old self.new }
-        ensures left { IsLeftOf reservation.entry result }
+        ensures closes { result.closes ≡ K.closes }
         ensures idle { IsIdleReservation self.new reservation.entry.body result }
     {
         let OpenReservation {
             port,
             tally,
             batch: _,
-            closes,
             start,
             written,
             flipped,
+            kind: _,
         } = reservation;
         self.take_back(ring, port);
         IdleReservation {
             tally,
-            closes,
+            closes: K::closes(),
             start,
             written,
             flipped,

@@ -47,7 +47,7 @@ impl IdleSender {
 
 impl Keeper {
     /// Lends a sender its seat: so it is a sender as any other. It is to come back by `take_sender`, or as the
-    /// reservation that it became by `take_reservation` or `take_bare_reservation`.
+    /// reservation that it became by `take_reservation`.
     pub fn lend_sender(&mut self, ring: &Ring, idle: IdleSender) -> Sender
         requires ring { self.old.ring ≡ ring.now }
         requires whole { self.old.lent ≡ None }

@@ -3,16 +3,17 @@ ghost use Rattle.std.specs.Prelude.{◌≡◌, ◌≤◌};
 ghost use Rattle.cmdcodec.specs.Bodies.{IsBody};
 ghost use Rattle.ringcore.specs.world.Allowed.{length_with};
 
+use crate::sender::batch_kind::BatchKind;
 use batch::Batch;
 
 /// How many commands a batch has, with its closing CMD_SYNC where it has one.
-pub fn batch_length(batch: &Batch, closes: bool) -> u32
-    ensures value { result ≡ length_with closes batch.now }
+pub fn batch_length<K: BatchKind>(batch: &Batch) -> u32
+    ensures value { result ≡ length_with K.closes batch.now }
     ensures body { IsBody batch.now }
     ensures some { 1 ≤ result }
     ensures few { result ≤ 64 }
 {
-    if closes {
+    if K::closes() {
         batch.len() as u32 + 1
     } else {
         batch.len() as u32

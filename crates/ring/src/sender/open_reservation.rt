@@ -1,50 +1,59 @@
 //! The slots of one sender that are to be written and handed over.
-ghost use Rattle.std.specs.Prelude.{◌≡◌, ◌+◌, ◌-◌, ◌<◌, ◌≤◌, true, Some, slice_get, []};
+ghost use Rattle.std.specs.Prelude.{◌≡◌, ◌+◌, ◌-◌, ◌<◌, ◌≤◌, Some, slice_get, []};
 ghost use Rattle.qindex.specs.Positions.{size};
 ghost use Rattle.ringcore.specs.declared.world.event.Who.TheVariants.{Sender as SenderOf};
 ghost use Rattle.ringcore.specs.world.Trails.{reserved_length, IsSettled};
 ghost use Rattle.ringcore.specs.memory.StepLaws.{reserved_commands};
 ghost use Rattle.ring.specs.table.Histories.{Grew};
-ghost use Rattle.ring.specs.sender.Reservations.{IsWrittenUpTo, IsFlippedUpTo, reserved_number};
+ghost use Rattle.ring.specs.sender.Reservations.{IsWrittenUpTo, IsFlippedUpTo, IsReceiptOf};
 ghost use Rattle.ring.specs.sender.Publishing.{wrote_one, wrote_many, flipped_one, flipped_run, flipped_left, published, sender_of, ReservesNone};
 
 use crate::ring::Ring;
 use crate::sender::Sender;
+use crate::sender::batch_kind::{Bare, BatchKind, Closing};
 use crate::sender::batch_length::batch_length;
+use crate::sender::receipt::Receipt;
 use crate::sender::tally::Tally;
 use crate::table::Port;
 use batch::Batch;
 use cmdcodec::{Raw, closing_sync, encode};
 use qindex::Index;
 use ringcore::{Half, shared_word};
-use std::marker::Model;
+use std::marker::{Brand, Model, PhantomData};
 
-/// Slots that are reserved for a batch. It borrows the batch, so that no command is copied but into its slot.
-pub struct OpenReservation<'b> {
+/// Slots that are reserved for a batch and its closing CMD_SYNC. It must be spent by `publish`.
+pub type Reservation<'b> = OpenReservation<'b, Closing>;
+
+/// Slots that are reserved for a batch alone (own). It must be spent by `publish`.
+pub type BareReservation<'b> = OpenReservation<'b, Bare>;
+
+/// Slots that are reserved for a batch of this kind. It borrows the batch, so that no command is copied but into its
+/// slot. It must be spent by `hand_over` or `publish`.
+pub struct OpenReservation<'b, K: BatchKind> {
     pub(crate) port: Port,
     /// With this batch.
     pub(crate) tally: Tally,
     pub(crate) batch: &'b Batch,
-    pub(crate) closes: bool,
     /// The index of the first slot.
     pub(crate) start: Index,
     pub(crate) written: u32,
     pub(crate) flipped: u32,
+    pub(crate) kind: PhantomData<K>,
 }
 
-impl<'b> Model for OpenReservation<'b> {
+impl<'b, K: BatchKind> Model for OpenReservation<'b, K> {
     ghost use Rattle.ring.specs.sender.Reservations.{ReservationValue, IsOpen};
 
     ghost Value = { ReservationValue };
 
-    ghost view = { λ r. record { ring = r.port.ring; sender = r.tally.sender; body = r.batch.now; closes = r.closes; trail = r.port.trail; history = r.port.history; written = r.written; flipped = r.flipped } };
+    ghost view = { λ r. record { ring = r.port.ring; sender = r.tally.sender; body = r.batch.now; closes = K.closes; trail = r.port.trail; history = r.port.history; written = r.written; flipped = r.flipped } };
 
-    ghost invariant = { λ r. IsOpen r.port r.tally r.batch.now r.closes r.start r.written r.flipped };
+    ghost invariant = { λ r. IsOpen r.port r.tally r.batch.now K.closes r.start r.written r.flipped };
 }
 
-impl<'b> OpenReservation<'b> {
-    /// Writes both halves of the next slot.
-    pub(crate) fn write_next(&mut self, ring: &Ring)
+impl<'b, K: BatchKind> OpenReservation<'b, K> {
+    /// Writes both halves of the next slot. One must be left (`unwritten`).
+    pub fn write_next(&mut self, ring: &Ring)
         requires ring { self.old.ring ≡ ring.now }
         requires left { self.old.written < reserved_length self.old.trail }
         ensures new { record self.new { history = [] } ≡ wrote_one (record self.old { history = [] }) }
@@ -53,9 +62,9 @@ impl<'b> OpenReservation<'b> {
         let raw = self.next_command();
         let slot = self.start.forward(self.written);
         self.port
-            .write(ring, self.tally.sender, slot, self.written, Half::Lo, raw);
+            .write::<Brand>(ring, self.tally.sender, slot, self.written, Half::Lo, raw);
         self.port
-            .write(ring, self.tally.sender, slot, self.written, Half::Hi, raw);
+            .write::<Brand>(ring, self.tally.sender, slot, self.written, Half::Hi, raw);
         self.written += 1;
     }
 
@@ -70,8 +79,8 @@ impl<'b> OpenReservation<'b> {
         }
     }
 
-    /// Flips the flag of the next slot that is written.
-    pub(crate) fn flip_next(&mut self, ring: &Ring)
+    /// Flips the flag of the next slot that is written. One must be left (`unflipped`).
+    pub fn flip_next(&mut self, ring: &Ring)
         requires ring { self.old.ring ≡ ring.now }
         requires left { self.old.flipped < self.old.written }
         ensures new { record self.new { history = [] } ≡ flipped_one (record self.old { history = [] }) }
@@ -79,7 +88,7 @@ impl<'b> OpenReservation<'b> {
     {
         let slot = self.start.forward(self.flipped);
         self.port
-            .flip(ring, self.tally.sender, slot, self.flipped, 1);
+            .flip::<Brand>(ring, self.tally.sender, slot, self.flipped, 1);
         self.flipped += 1;
     }
 
@@ -93,12 +102,12 @@ impl<'b> OpenReservation<'b> {
         let slot = self.start.forward(self.flipped);
         let count = shared_word(slot).min(self.written - self.flipped);
         self.port
-            .flip(ring, self.tally.sender, slot, self.flipped, count);
+            .flip::<Brand>(ring, self.tally.sender, slot, self.flipped, count);
         self.flipped += count;
     }
 
     /// Writes what is left.
-    fn write_left(self, ring: &Ring) -> OpenReservation<'b>
+    fn write_left(self, ring: &Ring) -> OpenReservation<'b, K>
         requires { self.ring ≡ ring.now }
         ensures new { record result { history = [] } ≡ wrote_many (reserved_length self.entry.trail - self.entry.written) (record self.entry { history = [] }) }
         ensures history { Grew (SenderOf self.entry.sender) self.entry.trail result.trail self.entry.history result.history }
@@ -121,8 +130,9 @@ impl<'b> OpenReservation<'b> {
         }
     }
 
-    /// Writes and flips what is left, in order, and gives the sender back.
-    pub(crate) fn publish(self, ring: &Ring) -> Sender
+    /// Writes and flips what is left, in order: the consumer may take the whole batch. Whatever its kind, it gives the
+    /// sender back, and no receipt.
+    pub fn hand_over(self, ring: &Ring) -> Sender
         requires { self.ring ≡ ring.now }
         ensures sender { record result { history = [] } ≡ sender_of (published (record self.entry { history = [] })) }
         ensures settled { IsSettled result.trail }
@@ -148,10 +158,10 @@ impl<'b> OpenReservation<'b> {
             port,
             tally,
             batch: _,
-            closes: _,
             start: _,
             written: _,
             flipped: _,
+            kind: _,
         } = self;
         Sender { port, tally }
     }
@@ -164,11 +174,11 @@ impl<'b> OpenReservation<'b> {
         ensures within { self.now.written ≤ result }
         ensures behind { self.now.flipped ≤ self.now.written }
     {
-        batch_length(self.batch, self.closes)
+        batch_length::<K>(self.batch)
     }
 
     /// How many slots are not written.
-    pub(crate) fn unwritten(&self) -> u32
+    pub fn unwritten(&self) -> u32
         ensures value { result + self.now.written ≡ reserved_length self.now.trail }
         ensures written { IsWrittenUpTo self.now.written self.now.trail }
     {
@@ -176,19 +186,46 @@ impl<'b> OpenReservation<'b> {
     }
 
     /// How many slots are written and not flipped.
-    pub(crate) fn unflipped(&self) -> u32
+    pub fn unflipped(&self) -> u32
         ensures value { result + self.now.flipped ≡ self.now.written }
         ensures flipped { IsFlippedUpTo self.now.flipped self.now.trail }
         ensures written { IsWrittenUpTo self.now.written self.now.trail }
     {
         self.written - self.flipped
     }
+}
 
-    /// The number of the closing CMD_SYNC, where the batch has one.
-    pub(crate) fn number(&self) -> u32
-        requires { self.now.closes ≡ true }
-        ensures { reserved_number self.now.trail ≡ Some result }
+impl<'b> OpenReservation<'b, Closing> {
+    /// Writes and flips what is left, in order: the consumer may take the whole batch. The receipt names its CMD_SYNC.
+    pub fn publish(self, ring: &Ring) -> (Sender, Receipt)
+        requires { self.ring ≡ ring.now }
+        ensures sender { record result.0 { history = [] } ≡ sender_of (published (record self.entry { history = [] })) }
+        ensures settled { IsSettled result.0.trail }
+        ensures history { Grew (SenderOf self.entry.sender) self.entry.trail result.0.trail self.entry.history result.0.history }
+        ensures ring { result.0.ring ≡ self.entry.ring }
+        ensures id { result.0.number ≡ self.entry.sender }
+        ensures batches { ReservesNone self.entry.trail result.0.trail }
+        ensures receipt { IsReceiptOf self.entry result.1 }
     {
-        self.tally.numbers
+        let receipt = Receipt {
+            sender: self.tally.sender,
+            number: self.tally.numbers,
+        };
+        (self.hand_over(ring), receipt)
+    }
+}
+
+impl<'b> OpenReservation<'b, Bare> {
+    /// Writes and flips what is left, in order: the consumer may take the whole batch.
+    pub fn publish(self, ring: &Ring) -> Sender
+        requires { self.ring ≡ ring.now }
+        ensures sender { record result { history = [] } ≡ sender_of (published (record self.entry { history = [] })) }
+        ensures settled { IsSettled result.trail }
+        ensures history { Grew (SenderOf self.entry.sender) self.entry.trail result.trail self.entry.history result.history }
+        ensures ring { result.ring ≡ self.entry.ring }
+        ensures id { result.number ≡ self.entry.sender }
+        ensures batches { ReservesNone self.entry.trail result.trail }
+    {
+        self.hand_over(ring)
     }
 }

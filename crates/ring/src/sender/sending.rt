@@ -6,8 +6,7 @@ ghost use Rattle.ring.specs.table.Histories.{Grew};
 ghost use Rattle.ring.specs.sender.Sending.{IsReservedWithin, IsSent, IsSentBare, IsGivenUp};
 
 use crate::ring::Ring;
-use crate::sender::open_reservation::OpenReservation;
-use crate::sender::{BareReservation, Receipt, Refused, Reservation, Sender};
+use crate::sender::{Bare, BatchKind, Closing, OpenReservation, Receipt, Refused, Sender};
 use batch::Batch;
 
 impl Sender {
@@ -26,8 +25,8 @@ impl Sender {
         ensures ring { MatchResult result (λ r. r.0.ring ≡ self.ring) (λ e. e.sender.ring ≡ self.ring) }
         ensures id { MatchResult result (λ r. r.0.number ≡ self.number) (λ e. e.sender.number ≡ self.number) }
     {
-        match self.try_to_open(ring, batch, true, tries) {
-            Ok(open) => Ok(Reservation { open }.publish(ring)),
+        match self.try_to_open::<Closing>(ring, batch, tries) {
+            Ok(reservation) => Ok(reservation.publish(ring)),
             Err(refused) => Err(refused),
         }
     }
@@ -43,33 +42,32 @@ impl Sender {
         ensures ring { MatchResult result (λ t. t.ring ≡ self.ring) (λ e. e.sender.ring ≡ self.ring) }
         ensures id { MatchResult result (λ t. t.number ≡ self.number) (λ e. e.sender.number ≡ self.number) }
     {
-        match self.try_to_open(ring, batch, false, tries) {
-            Ok(open) => Ok(BareReservation { open }.publish(ring)),
+        match self.try_to_open::<Bare>(ring, batch, tries) {
+            Ok(reservation) => Ok(reservation.publish(ring)),
             Err(refused) => Err(refused),
         }
     }
 
     /// Tries to reserve so often, until it succeeds or the cause won't pass.
-    fn try_to_open<'b>(
+    fn try_to_open<'b, K: BatchKind>(
         self,
         ring: &Ring,
         batch: &'b Batch,
-        closes: bool,
         tries: u32,
-    ) -> Result<OpenReservation<'b>, Refused>
+    ) -> Result<OpenReservation<'b, K>, Refused>
         requires ring { self.ring ≡ ring.now }
         requires tries { 1 ≤ tries }
-        ensures reserved { IfOk result (λ r. IsReservedWithin batch.now closes tries self r) }
-        ensures refused { IfErr result (λ e. IsGivenUp batch.now closes tries self e.cause e.sender) }
+        ensures reserved { IfOk result (λ r. IsReservedWithin batch.now K.closes tries self r) }
+        ensures refused { IfErr result (λ e. IsGivenUp batch.now K.closes tries self e.cause e.sender) }
         ensures history { MatchResult result (λ r. Grew (SenderOf self.number) self.trail r.trail self.history r.history) (λ e. Grew (SenderOf self.number) self.trail e.sender.trail self.history e.sender.history) }
         ensures ring { MatchResult result (λ r. r.ring ≡ self.ring) (λ e. e.sender.ring ≡ self.ring) }
         ensures id { MatchResult result (λ r. r.sender ≡ self.number) (λ e. e.sender.number ≡ self.number) }
     {
         let mut sender = self;
-        // The only call of `open` here: so it is inlined, and no reservation is moved through memory.
+        // The only call of `reserve_as` here: so it is inlined, and no reservation is moved through memory.
         for tried in 0..tries {
-            match sender.open(ring, batch, closes) {
-                Ok(open) => return Ok(open),
+            match sender.reserve_as::<K>(ring, batch) {
+                Ok(reservation) => return Ok(reservation),
                 Err(refused) => {
                     if tried + 1 == tries || !refused.cause.may_pass() {
                         return Err(refused);

@@ -2,6 +2,8 @@
 ghost use Rattle.std.specs.Prelude.{◌≡◌, ◌<◌, ◌+◌, ◌^◌};
 ghost use Rattle.ring.specs.sender.Senders.{one_more};
 
+use crate::sender::batch_kind::BatchKind;
+
 /// Which sender it is, and how many batches it has reserved.
 #[derive(Clone, Copy)]
 pub struct Tally {
@@ -24,16 +26,16 @@ impl Tally {
         }
     }
 
-    /// One batch more, which closes with a CMD_SYNC or doesn't.
-    pub(crate) fn with_batch(self, closes: bool) -> Tally
+    /// One batch more, of this kind.
+    pub(crate) fn with_batch<K: BatchKind>(self) -> Tally
         requires batches { self.batches + 1 < 2 ^ 32 }
         requires numbers { self.numbers + 1 < 2 ^ 32 }
-        ensures { result ≡ one_more closes self }
+        ensures { result ≡ one_more K.closes self }
     {
         Tally {
             sender: self.sender,
             batches: self.batches + 1,
-            numbers: self.numbers + u32::from(closes),
+            numbers: self.numbers + u32::from(K::closes()),
         }
     }
 }

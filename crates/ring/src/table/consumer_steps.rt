@@ -1,17 +1,17 @@
 //! The atomic steps of the consumer.
-ghost use Rattle.std.specs.Prelude.{◌≡◌, ◌∷◌, ◌+◌, ◌<◌, ◌≤◌, ◌^◌, ℕ, suc, length, take, []};
+ghost use Rattle.std.specs.Prelude.{◌≡◌, ◌∷◌, ◌+◌, ◌<◌, ◌≤◌, ℕ, suc, length, take, []};
 ghost use Rattle.cmdcodec.specs.Opcodes.{is_sync};
 ghost use Rattle.qindex.specs.Positions.{size, index_of};
 ghost use Rattle.ringcore.specs.declared.world.event.Who.TheVariants.{Consumer};
 ghost use Rattle.ringcore.specs.declared.world.event.Event.TheVariants.{Test, Read, Advance, Acknowledge};
-ghost use Rattle.ringcore.specs.world.Trails.{taken_by, acknowledged_by, raws_by, found_ready};
+ghost use Rattle.ringcore.specs.world.Trails.{taken_by, acknowledged_by, found_ready};
 ghost use Rattle.ringcore.specs.world.Allowed.{MayAdvance};
-ghost use Rattle.ringcore.specs.world.Laws.{syncs_taken, SyncsAreInOrder};
-ghost use Rattle.ringcore.specs.world.ConsumerLaws.{IsSteady};
+ghost use Rattle.ringcore.specs.world.Laws.{syncs_taken};
 ghost use Rattle.ringcore.specs.memory.Flags.{ready_in};
 ghost use Rattle.ring.specs.table.Intents.{tests, reads, advances, acknowledges};
 ghost use Rattle.ring.specs.table.Rule.{IsWithinLimits};
 ghost use Rattle.ring.specs.table.Histories.{GrewBy, Grew};
+ghost use Rattle.ring.specs.consumer.Consumers.{KnowsItsSteps};
 ghost use Rattle.ring.specs.consumer.Completing.{all_acknowledged, HasAdvanced, sync_sender, sync_number, IsClosingSync};
 
 use crate::consumer::Commands;
@@ -24,57 +24,19 @@ use ringcore::{Half, cell, control_word, counts_law, data_word, flag_word, laws,
 use std::marker::Brand;
 
 impl Port {
-    /// The consumer has taken few commands: so no count of them wraps. It does nothing.
-    pub(crate) fn few(&self)
-        ensures { self.now.who ≡ Consumer → taken_by self.now.trail ≤ 2 ^ 46 }
-    {
-        counts_law();
-        laws::consumer_trail();
-        let _ = &self.seat;
-    }
-
-    /// What the consumer has taken, and what its last test found behind that, are few. It does nothing.
-    pub(crate) fn few_with_ready(&self)
-        ensures { self.now.who ≡ Consumer → taken_by self.now.trail + found_ready self.now.trail ≤ 2 ^ 46 }
-    {
-        counts_law();
-        laws::consumer_trail();
-        let _ = &self.seat;
-    }
-
-    /// The closing syncs that the consumer took come in the order of their numbers. It does nothing.
-    pub(crate) fn syncs_in_order(&self)
-        ensures order { self.now.who ≡ Consumer → SyncsAreInOrder self.now.ring.made_with.senders (raws_by self.now.trail) }
+    /// What the consumer knows of its own steps, by the laws of every run: so no count of what it took wraps. It does
+    /// nothing.
+    pub(crate) fn knows_its_steps(&self)
+        ensures steps { self.now.who ≡ Consumer → KnowsItsSteps self.now.ring.made_with self.now.trail }
         ensures limits { IsWithinLimits self.now.ring.made_with }
     {
-        laws::consumer_trail();
-        let _ = &self.seat;
-    }
-
-    /// What the consumer read at the head it finds again, until it takes it. It does nothing.
-    pub(crate) fn steady(&self)
-        ensures { self.now.who ≡ Consumer → IsSteady self.now.trail }
-    {
+        counts_law();
         laws::consumer_trail();
         let _ = &self.seat;
     }
 
     /// A load of the head's flag word: how many in a row from the head on are ready, at most `limit`.
-    pub(crate) fn test(&mut self, ring: &Ring, head: Index, limit: u32) -> u32
-        requires ring { self.old.ring ≡ ring.now }
-        requires who { self.old.who ≡ Consumer }
-        requires head { head ≡ index_of self.old.ring.made_with.geometry (taken_by self.old.trail) }
-        requires some { 1 ≤ limit }
-        requires most { limit ≤ 64 }
-        ensures trail { record self.new { history = [] } ≡ record self.old { trail = Test limit result ∷ self.old.trail; history = [] } }
-        ensures history { GrewBy Consumer (Test limit result) self.old.history self.new.history }
-        ensures limit { result ≤ limit }
-        ensures within { result ≤ size head.geometry }
-    {
-        self.test_for::<Brand>(ring, head, limit)
-    }
-
-    fn test_for<I: HasIntent>(&mut self, ring: &Ring, head: Index, limit: u32) -> u32
+    pub(crate) fn test<I: HasIntent>(&mut self, ring: &Ring, head: Index, limit: u32) -> u32
         requires ring { self.old.ring ≡ ring.now }
         requires who { self.old.who ≡ Consumer }
         requires head { head ≡ index_of self.old.ring.made_with.geometry (taken_by self.old.trail) }
@@ -94,18 +56,13 @@ impl Port {
     }
 
     /// A load of a data word: a half of the command at an offset from the head.
-    pub(crate) fn read(&mut self, ring: &Ring, slot: Index, offset: u32, half: Half) -> u64
-        requires ring { self.old.ring ≡ ring.now }
-        requires who { self.old.who ≡ Consumer }
-        requires slot { slot ≡ index_of self.old.ring.made_with.geometry (taken_by self.old.trail + offset) }
-        requires ready { offset < found_ready self.old.trail }
-        ensures trail { record self.new { history = [] } ≡ record self.old { trail = Read offset half result ∷ self.old.trail; history = [] } }
-        ensures history { GrewBy Consumer (Read offset half result) self.old.history self.new.history }
-    {
-        self.read_for::<Brand>(ring, slot, offset, half)
-    }
-
-    fn read_for<I: HasIntent>(&mut self, ring: &Ring, slot: Index, offset: u32, half: Half) -> u64
+    pub(crate) fn read<I: HasIntent>(
+        &mut self,
+        ring: &Ring,
+        slot: Index,
+        offset: u32,
+        half: Half,
+    ) -> u64
         requires ring { self.old.ring ≡ ring.now }
         requires who { self.old.who ≡ Consumer }
         requires slot { slot ≡ index_of self.old.ring.made_with.geometry (taken_by self.old.trail + offset) }
@@ -121,20 +78,7 @@ impl Port {
     }
 
     /// An exclusive or of the control word, past the first `count` of these commands.
-    pub(crate) fn advance(&mut self, ring: &Ring, head: Index, commands: &Commands, count: u32)
-        requires ring { self.old.ring ≡ ring.now }
-        requires who { self.old.who ≡ Consumer }
-        requires head { head ≡ index_of self.old.ring.made_with.geometry (taken_by self.old.trail) }
-        requires may { MayAdvance self.old.trail (take count commands.now) }
-        requires count { count ≤ length commands.now }
-        requires few { count ≤ size head.geometry }
-        ensures trail { record self.new { history = [] } ≡ record self.old { trail = Advance (take count commands.now) ∷ self.old.trail; history = [] } }
-        ensures history { GrewBy Consumer (Advance (take count commands.now)) self.old.history self.new.history }
-    {
-        self.advance_for::<Brand>(ring, head, commands, count)
-    }
-
-    fn advance_for<I: HasIntent>(
+    pub(crate) fn advance<I: HasIntent>(
         &mut self,
         ring: &Ring,
         head: Index,
@@ -160,19 +104,7 @@ impl Port {
     }
 
     /// A store of a sender's next number in its completion cell.
-    fn acknowledge(&mut self, ring: &Ring, sender: u32, number: u32)
-        requires ring { self.old.ring ≡ ring.now }
-        requires who { self.old.who ≡ Consumer }
-        requires known { sender < ring.now.made_with.senders }
-        requires next { number ≡ suc (acknowledged_by sender self.old.trail) }
-        requires taken { number ≤ syncs_taken sender self.old.trail }
-        ensures trail { record self.new { history = [] } ≡ record self.old { trail = Acknowledge sender number ∷ self.old.trail; history = [] } }
-        ensures history { GrewBy Consumer (Acknowledge sender number) self.old.history self.new.history }
-    {
-        self.acknowledge_for::<Brand>(ring, sender, number)
-    }
-
-    fn acknowledge_for<I: HasIntent>(&mut self, ring: &Ring, sender: u32, number: u32)
+    fn acknowledge<I: HasIntent>(&mut self, ring: &Ring, sender: u32, number: u32)
         requires ring { self.old.ring ≡ ring.now }
         requires who { self.old.who ≡ Consumer }
         requires known { sender < ring.now.made_with.senders }
@@ -203,13 +135,13 @@ impl Port {
         ensures current { (s : ℕ) → acknowledged_by s self.new.trail ≡ syncs_taken s self.new.trail }
         ensures history { Grew Consumer self.old.trail self.new.trail self.old.history self.new.history }
     {
-        self.syncs_in_order();
+        self.knows_its_steps();
         counts_law();
         laws::consumer_trail();
         for place in 0..count {
             let raw = commands.get(place).unwrap();
             if raw.is_sync() {
-                self.acknowledge(ring, closing_sender(raw), closing_number(raw));
+                self.acknowledge::<Brand>(ring, closing_sender(raw), closing_number(raw));
             }
         }
     }

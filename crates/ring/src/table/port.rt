@@ -10,7 +10,8 @@ ghost use Rattle.ringcore.specs.memory.StepLaws.{reserved_commands};
 ghost use Rattle.ring.specs.table.Intents.{reserves, writes, flips};
 ghost use Rattle.ringcore.specs.world.Trails.{same};
 ghost use Rattle.ring.specs.table.Rule.{StandsInARun, WentOn};
-ghost use Rattle.ring.specs.table.Histories.{IsHistory, GrewBy};
+ghost use Rattle.ring.specs.table.Histories.{IsHistory, GrewBy, EndsTellAll};
+ghost use Rattle.ring.specs.sender.Reserving.{TellsRoom};
 ghost use Rattle.ring.specs.table.Ports.{PortValue, SitsFor, IsWonOrLost, IsSlotAt, MayFlipAt};
 
 use crate::ring::Ring;
@@ -19,11 +20,11 @@ use crate::table::steps::{Asks, Closes, Deals, Gathers, HasIntent, Looks, Meets,
 use atomic_table::Seat;
 use batch::Batch;
 use cmdcodec::Raw;
-use qindex::{Control, Index, close_mask};
+use qindex::{Control, Index, close_mask, indexes_tell_the_queue};
 use ringcore::{
     Half, cell, control_word, counts_law, data_word, flag_word, flip_mask, laws, world_law,
 };
-use std::marker::{Brand, Model};
+use std::marker::Model;
 
 /// A seat that stands for one participant alone.
 #[derive(Drop)]
@@ -49,6 +50,17 @@ impl Port {
         ensures history { IsHistory self.now.ring.made_with self.now.who self.now.trail self.now.history }
     {
         let _ = &self.seat;
+    }
+
+    /// Where a look finds too little room, there is too little; and where it finds the two ends at one place, all that is
+    /// reserved is taken. It does nothing.
+    pub(crate) fn looks_tell(&self)
+        ensures room { TellsRoom self.now.ring.made_with.geometry (world self.now.history) }
+        ensures ends { EndsTellAll self.now.ring.made_with.geometry (world self.now.history) }
+    {
+        world_law();
+        indexes_tell_the_queue();
+        self.trail_stands_in_a_run();
     }
 
     /// The seat by itself.
@@ -104,26 +116,7 @@ impl Port {
     }
 
     /// An exchange of the control word that was looked at, to reserve a batch of so many commands: whether it was won.
-    pub(crate) fn exchange(
-        &mut self,
-        ring: &Ring,
-        sender: u32,
-        batch: &Batch,
-        closes: bool,
-        many: u32,
-        seen: &Control,
-    ) -> bool
-        requires ring { self.old.ring ≡ ring.now }
-        requires who { self.old.who ≡ Sender sender }
-        requires many { many ≡ length_with closes batch.now }
-        requires may { MayTry self.old.ring.made_with self.old.trail batch.now many seen.now }
-        requires control { IsControl self.old.ring.made_with.geometry seen.now }
-        ensures { IsWonOrLost batch.now closes seen.now self.old self.new result }
-    {
-        self.exchange_for::<Brand>(ring, sender, batch, closes, many, seen)
-    }
-
-    fn exchange_for<I: HasIntent>(
+    pub(crate) fn exchange<I: HasIntent>(
         &mut self,
         ring: &Ring,
         sender: u32,
@@ -159,28 +152,7 @@ impl Port {
     }
 
     /// A store of a half of a command of the open reservation, in the slot of this index.
-    pub(crate) fn write(
-        &mut self,
-        ring: &Ring,
-        sender: u32,
-        slot: Index,
-        offset: u32,
-        half: Half,
-        raw: Raw,
-    )
-        requires ring { self.old.ring ≡ ring.now }
-        requires who { self.old.who ≡ Sender sender }
-        requires may { MayWrite self.old.trail offset }
-        requires raw { slice_get (reserved_commands sender self.old.trail) offset ≡ Some raw }
-        requires geometry { slot.geometry ≡ self.old.ring.made_with.geometry }
-        requires slot { IsSlotAt self.old slot offset }
-        ensures trail { record self.new { history = [] } ≡ record self.old { trail = Write offset half ∷ self.old.trail; history = [] } }
-        ensures history { GrewBy self.old.who (Write offset half) self.old.history self.new.history }
-    {
-        self.write_for::<Brand>(ring, sender, slot, offset, half, raw)
-    }
-
-    fn write_for<I: HasIntent>(
+    pub(crate) fn write<I: HasIntent>(
         &mut self,
         ring: &Ring,
         sender: u32,
@@ -207,22 +179,7 @@ impl Port {
     }
 
     /// An exclusive or of a flag word, by the mask of the flags of so many slots from this index on.
-    pub(crate) fn flip(&mut self, ring: &Ring, sender: u32, slot: Index, offset: u32, count: u32)
-        requires ring { self.old.ring ≡ ring.now }
-        requires who { self.old.who ≡ Sender sender }
-        requires geometry { slot.geometry ≡ self.old.ring.made_with.geometry }
-        requires slot { IsSlotAt self.old slot offset }
-        requires may { MayFlipAt self.old.trail offset count }
-        requires within { count ≤ size slot.geometry }
-        requires share { ShareAWord 64 slot.geometry slot.number count }
-        requires share_at_position { (geometry position : ℕ) → slot ≡ index_of geometry position → ShareAWord 64 geometry position count }
-        ensures trail { record self.new { history = [] } ≡ record self.old { trail = Flip offset count ∷ self.old.trail; history = [] } }
-        ensures history { GrewBy self.old.who (Flip offset count) self.old.history self.new.history }
-    {
-        self.flip_for::<Brand>(ring, sender, slot, offset, count)
-    }
-
-    fn flip_for<I: HasIntent>(
+    pub(crate) fn flip<I: HasIntent>(
         &mut self,
         ring: &Ring,
         sender: u32,
@@ -255,21 +212,12 @@ impl Port {
         ensures trail { record self.new { history = [] } ≡ record self.old { trail = Ask result ∷ self.old.trail; history = [] } }
         ensures history { GrewBy self.old.who (Ask result) self.old.history self.new.history }
     {
-        self.load_cell(ring, sender) as u32
-    }
-
-    fn load_cell(&mut self, ring: &Ring, sender: u32) -> u64
-        requires ring { self.old.ring ≡ ring.now }
-        requires who { self.old.who ≡ Sender sender }
-        ensures trail { record self.new { history = [] } ≡ record self.old { trail = Ask result ∷ self.old.trail; history = [] } }
-        ensures history { GrewBy self.old.who (Ask result) self.old.history self.new.history }
-        ensures few { result < 2 ^ 32 }
-    {
         laws::ask();
         world_law();
         counts_law();
         let words = &ring.table.shared;
-        words.load::<StepFor<Asks>>(&mut self.seat, cell(ring.geometry(), sender))
+        let found = words.load::<StepFor<Asks>>(&mut self.seat, cell(ring.geometry(), sender));
+        found as u32
     }
 }
 

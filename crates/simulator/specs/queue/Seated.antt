@@ -2,8 +2,9 @@
 use Rattle.std.specs.Prelude.{◌≡◌, ℕ, ◌<◌, List, [], length, slice_index_or, None}
 use Rattle.cmdcodec.specs.declared.raw.Raw.{Raw}
 use Rattle.qindex.specs.Positions.{IndexValue}
+use Rattle.ringcore.specs.world.Trails.{trail_of}
 use Rattle.ringcore.specs.world.Allowed.{Ring}
-use Rattle.ringcore.specs.declared.world.event.Who.TheVariants.{Sender}
+use Rattle.ringcore.specs.declared.world.event.Who.TheVariants.{Consumer, Sender}
 use Rattle.ring.specs.declared.sender.tally.Tally.{Tally}
 use Rattle.ring.specs.Rings.{RingValue}
 use Rattle.ring.specs.Keepers.{KeeperValue, IdleReservationValue, KeepsOthers, IsIdleSender, IsIdleReservation, IsIdleConsumer}
@@ -65,6 +66,8 @@ pub record IsBack (s : ℕ) (old new : KeeperValue) : Type 0 where
   pub whole : new.lent ≡ None
   pub others : KeepsOthers (Sender s) old new
 
--- What was left of the consumer still is.
-abbrev pub KeepsConsumer : KeeperValue → KeeperValue → Type 0
-KeepsConsumer old new = (head : IndexValue) (taken : ℕ) → IsIdleConsumer old head taken → IsIdleConsumer new head taken
+-- A sender took steps: the ring stays, and so does what is left of the consumer.
+pub record LeavesConsumer (old new : KeeperValue) : Type 0 where
+  pub ring_is : new.ring ≡ old.ring
+  pub left : (head : IndexValue) (taken : ℕ) → IsIdleConsumer old head taken → IsIdleConsumer new head taken
+  pub trail_is : trail_of Consumer new.run ≡ trail_of Consumer old.run

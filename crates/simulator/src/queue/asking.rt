@@ -1,12 +1,11 @@
 //! Single steps of a sender, and what the control word says.
 ghost use Rattle.std.specs.Prelude.{◌≡◌, ◌<◌, ◌∷◌};
 ghost use Rattle.qindex.specs.ControlWord.{IsControl};
-ghost use Rattle.ringcore.specs.declared.world.event.Who.TheVariants.{Consumer, Sender};
+ghost use Rattle.ringcore.specs.declared.world.event.Who.TheVariants.{Sender};
 ghost use Rattle.ringcore.specs.declared.world.event.Event.TheVariants.{Close, Ask};
-ghost use Rattle.ringcore.specs.world.Trails.{trail_of};
 ghost use Rattle.ringcore.specs.world.World.{world, control};
 ghost use Rattle.simulator.specs.queue.Reserving.{looked_by};
-ghost use Rattle.simulator.specs.queue.Seated.{ring_in, KeepsConsumer};
+ghost use Rattle.simulator.specs.queue.Seated.{ring_in, LeavesConsumer};
 
 use crate::queue::Queue;
 use qindex::Control;
@@ -27,9 +26,7 @@ impl Queue {
         ensures run { self.new.keeper.run ≡ looked_by (Sender sender) (ring_in self.old).geometry self.old.keeper.run }
         ensures found { result ≡ control (ring_in self.old).geometry (world self.old.keeper.run) }
         ensures geometry { IsControl (ring_in self.old).geometry result }
-        ensures ring { self.new.keeper.ring ≡ self.old.keeper.ring }
-        ensures consumer { KeepsConsumer self.old.keeper self.new.keeper }
-        ensures trail { trail_of Consumer self.new.keeper.run ≡ trail_of Consumer self.old.keeper.run }
+        ensures consumer { LeavesConsumer self.old.keeper self.new.keeper }
     {
         self.keeper.look(&self.ring, sender)
     }
@@ -38,9 +35,7 @@ impl Queue {
     pub(crate) fn close(&mut self, sender: u32)
         requires { sender < (ring_in self.old).senders }
         ensures run { self.new.keeper.run ≡ (Sender sender, Close) ∷ self.old.keeper.run }
-        ensures ring { self.new.keeper.ring ≡ self.old.keeper.ring }
-        ensures consumer { KeepsConsumer self.old.keeper self.new.keeper }
-        ensures trail { trail_of Consumer self.new.keeper.run ≡ trail_of Consumer self.old.keeper.run }
+        ensures consumer { LeavesConsumer self.old.keeper self.new.keeper }
     {
         self.keeper.close(&self.ring, sender);
     }
@@ -50,9 +45,7 @@ impl Queue {
         requires { sender < (ring_in self.old).senders }
         ensures run { self.new.keeper.run ≡ (Sender sender, Ask result) ∷ self.old.keeper.run }
         ensures found { result ≡ (world self.old.keeper.run).acknowledged sender }
-        ensures ring { self.new.keeper.ring ≡ self.old.keeper.ring }
-        ensures consumer { KeepsConsumer self.old.keeper self.new.keeper }
-        ensures trail { trail_of Consumer self.new.keeper.run ≡ trail_of Consumer self.old.keeper.run }
+        ensures consumer { LeavesConsumer self.old.keeper self.new.keeper }
     {
         self.keeper.done_up_to(&self.ring, sender)
     }

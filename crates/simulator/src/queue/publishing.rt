@@ -1,12 +1,12 @@
 //! How an open reservation is written and handed over, by a sender whose seat the keeper lends.
-ghost use Rattle.std.specs.Prelude.{◌≡◌, ◌<◌, true, false, None};
+ghost use Rattle.std.specs.Prelude.{◌≡◌, ◌<◌, None};
 ghost use Rattle.ring.specs.Keepers.{IsIdleSender, IsIdleReservation};
 ghost use Rattle.simulator.specs.queue.Publishing.{published};
 ghost use Rattle.simulator.specs.queue.Seated.{IsBack};
 
 use batch::Batch;
 use qindex::indexes_tell_place_and_wrap_bit;
-use ring::{IdleReservation, IdleSender, Keeper, Ring};
+use ring::{Bare, BatchKind, Closing, IdleReservation, IdleSender, Keeper, Ring};
 use ringcore::laws::sender_trail;
 
 /// A sender writes its reservation, of which nothing is written, and hands it over.
@@ -28,13 +28,14 @@ pub(super) fn hand_over(
     ensures idle { IsIdleSender keeper.new result }
 {
     if idle.closes() {
-        publish_closing(keeper, ring, idle, batch)
+        publish_as::<Closing>(keeper, ring, idle, batch)
     } else {
-        publish_bare(keeper, ring, idle, batch)
+        publish_as::<Bare>(keeper, ring, idle, batch)
     }
 }
 
-fn publish_closing(
+/// Of a reservation of this kind.
+fn publish_as<K: BatchKind>(
     keeper: &mut Keeper,
     ring: &Ring,
     idle: IdleReservation,
@@ -43,7 +44,7 @@ fn publish_closing(
     requires ring { keeper.old.ring ≡ ring.now }
     requires whole { keeper.old.lent ≡ None }
     requires known { idle.tally.sender < keeper.old.ring.made_with.senders }
-    requires closes { idle.closes ≡ true }
+    requires closes { idle.closes ≡ K.closes }
     requires idle { IsIdleReservation keeper.old batch.now idle }
     requires unwritten { idle.written ≡ 0 }
     requires unflipped { idle.flipped ≡ 0 }
@@ -55,36 +56,8 @@ fn publish_closing(
     indexes_tell_place_and_wrap_bit();
     sender_trail();
     keeper.run_stands();
-    let reservation = keeper.lend_reservation(ring, idle, batch);
-    let (sender, _receipt) = reservation.publish(ring);
-    let idle = keeper.take_sender(ring, sender);
-    keeper.run_stands();
-    idle
-}
-
-fn publish_bare(
-    keeper: &mut Keeper,
-    ring: &Ring,
-    idle: IdleReservation,
-    batch: &Batch,
-) -> IdleSender
-    requires ring { keeper.old.ring ≡ ring.now }
-    requires whole { keeper.old.lent ≡ None }
-    requires known { idle.tally.sender < keeper.old.ring.made_with.senders }
-    requires closes { idle.closes ≡ false }
-    requires idle { IsIdleReservation keeper.old batch.now idle }
-    requires unwritten { idle.written ≡ 0 }
-    requires unflipped { idle.flipped ≡ 0 }
-    ensures run { keeper.new.run ≡ published keeper.old.ring.made_with.geometry idle.tally.sender keeper.old.run }
-    ensures back { IsBack idle.tally.sender keeper.old keeper.new }
-    ensures number { result.sender ≡ idle.tally.sender }
-    ensures idle { IsIdleSender keeper.new result }
-{
-    indexes_tell_place_and_wrap_bit();
-    sender_trail();
-    keeper.run_stands();
-    let reservation = keeper.lend_bare_reservation(ring, idle, batch);
-    let sender = reservation.publish(ring);
+    let reservation = keeper.lend_reservation::<K>(ring, idle, batch);
+    let sender = reservation.hand_over(ring);
     let idle = keeper.take_sender(ring, sender);
     keeper.run_stands();
     idle

@@ -1,12 +1,12 @@
 //! A try to reserve, by a sender whose seat the keeper lends.
-ghost use Rattle.std.specs.Prelude.{◌≡◌, ◌<◌, true, false, None};
+ghost use Rattle.std.specs.Prelude.{◌≡◌, ◌<◌, None};
 ghost use Rattle.ring.specs.Keepers.{IsIdleSender};
 ghost use Rattle.simulator.specs.queue.Seated.{IsBack};
 ghost use Rattle.simulator.specs.queue.Trying.{HasTried};
 
 use batch::Batch;
 use qindex::indexes_tell_the_queue;
-use ring::{Cause, IdleReservation, IdleSender, Keeper, Refused, Ring};
+use ring::{Bare, BatchKind, Cause, Closing, IdleReservation, IdleSender, Keeper, Refused, Ring};
 use ringcore::world_law;
 
 /// A sender tries once to reserve a batch, which closes with a CMD_SYNC or doesn't.
@@ -25,13 +25,14 @@ pub(super) fn try_once(
     ensures back { IsBack idle.sender keeper.old keeper.new }
 {
     if closes {
-        try_closing(keeper, ring, idle, batch)
+        try_as::<Closing>(keeper, ring, idle, batch)
     } else {
-        try_bare(keeper, ring, idle, batch)
+        try_as::<Bare>(keeper, ring, idle, batch)
     }
 }
 
-fn try_closing(
+/// Of a batch of this kind.
+fn try_as<K: BatchKind>(
     keeper: &mut Keeper,
     ring: &Ring,
     idle: IdleSender,
@@ -41,46 +42,15 @@ fn try_closing(
     requires whole { keeper.old.lent ≡ None }
     requires known { idle.sender < keeper.old.ring.made_with.senders }
     requires idle { IsIdleSender keeper.old idle }
-    ensures tried { HasTried keeper.old keeper.new idle.sender batch.now true result }
+    ensures tried { HasTried keeper.old keeper.new idle.sender batch.now K.closes result }
     ensures back { IsBack idle.sender keeper.old keeper.new }
 {
     world_law();
     indexes_tell_the_queue();
     let sender = keeper.lend_sender(ring, idle);
-    match sender.reserve(ring, batch) {
+    match sender.reserve_as::<K>(ring, batch) {
         Ok(reservation) => {
             let idle = keeper.take_reservation(ring, reservation);
-            keeper.run_stands();
-            Ok(idle)
-        }
-        Err(refused) => {
-            let Refused { sender, cause } = refused;
-            let idle = keeper.take_sender(ring, sender);
-            keeper.run_stands();
-            Err((idle, cause))
-        }
-    }
-}
-
-fn try_bare(
-    keeper: &mut Keeper,
-    ring: &Ring,
-    idle: IdleSender,
-    batch: &Batch,
-) -> Result<IdleReservation, (IdleSender, Cause)>
-    requires ring { keeper.old.ring ≡ ring.now }
-    requires whole { keeper.old.lent ≡ None }
-    requires known { idle.sender < keeper.old.ring.made_with.senders }
-    requires idle { IsIdleSender keeper.old idle }
-    ensures tried { HasTried keeper.old keeper.new idle.sender batch.now false result }
-    ensures back { IsBack idle.sender keeper.old keeper.new }
-{
-    world_law();
-    indexes_tell_the_queue();
-    let sender = keeper.lend_sender(ring, idle);
-    match sender.reserve_bare(ring, batch) {
-        Ok(reservation) => {
-            let idle = keeper.take_bare_reservation(ring, reservation);
             keeper.run_stands();
             Ok(idle)
         }

@@ -2,7 +2,7 @@ use Rattle.std.proofs.Common.{rules, ◌≡◌, [], ◌++◌, refl, sym, ap, ◌
 use Rattle.ring.specs.table.Rule.{Holding, ring_of, history_of_first}
 use Rattle.ring.proofs.TableLemmas.StepKinds.{control_inside}
 use Rattle.ring.proofs.TableLemmas.Steps.{gathers_at}
-use Rattle.ring.proofs.KeeperLemmas.Returning.{IsBack, joined_is, comes_back, meets_as, back_is, back_adds, back_grew, back_news, back_others}
+use Rattle.ring.proofs.KeeperLemmas.Returning.{IsBack, joined_is, comes_back, meets_as, comes_as}
 use Rattle.ring.proofs.keeper.Keeper.take_back.Goals as goal
 
 pub join_seat-requires : goal.join_seat-requires
@@ -29,17 +29,7 @@ back c =
 pub invariant_of-self : goal.invariant_of-self
 invariant_of-self c = (back c).keeper
 
-pub returns-clause-keeper : goal.returns-clause-keeper
-returns-clause-keeper c = back_is _ _ _ c.self.view_is c.self.invariant.knows _ c.requires.lent (c.requires.own ∙ sym c.requires.ring) _ _ c.port.view_is c.port.invariant _ (back c) _ (search rules)
-
-pub returns-clause-adds : goal.returns-clause-adds
-returns-clause-adds c = back_adds _ _ _ c.self.view_is c.self.invariant.knows _ c.requires.lent (c.requires.own ∙ sym c.requires.ring) _ _ c.port.view_is c.port.invariant _ (back c)
-
-pub returns-clause-grew : goal.returns-clause-grew
-returns-clause-grew c = back_grew _ _ _ c.self.view_is c.self.invariant.knows _ c.requires.lent (c.requires.own ∙ sym c.requires.ring) _ _ c.port.view_is c.port.invariant _ (back c)
-
-pub returns-clause-news : goal.returns-clause-news
-returns-clause-news c = back_news _ _ _ c.self.view_is c.self.invariant.knows _ c.requires.lent (c.requires.own ∙ sym c.requires.ring) _ _ c.port.view_is c.port.invariant _ (back c)
-
-pub returns-clause-others : goal.returns-clause-others
-returns-clause-others c = back_others _ _ _ c.self.view_is c.self.invariant.knows _ c.requires.lent (c.requires.own ∙ sym c.requires.ring) _ _ c.port.view_is c.port.invariant _ (back c) _ (search rules)
+pub returns : goal.returns
+returns c =
+    let all = comes_as _ _ _ c.self.view_is c.self.invariant.knows _ c.requires.lent (c.requires.own ∙ sym c.requires.ring) _ _ c.port.view_is c.port.invariant _ (back c) _ (search rules) in
+    record { keeper = all.keeper; adds = all.adds; grew = all.grew; news = all.news; others = all.others }

@@ -8,8 +8,7 @@ use Rattle.ring.specs.table.Rule.{Holding, RuleHolds}
 use Rattle.ring.specs.Finishing.{all_in}
 use Rattle.ring.proofs.TableLemmas.StepKinds.{control_inside}
 use Rattle.ring.proofs.TableLemmas.Steps.{gathers_at}
-use Rattle.ring.proofs.FinishLemmas.Ends.{last_ring, empty, is_control_word, end_is}
-use Rattle.ring.proofs.FinishLemmas.Ends.{is_there, that_there}
+use Rattle.ring.proofs.FinishLemmas.Ends.{last_ring, empty, is_control_word, end_is, is_there, that_there}
 use Rattle.qindex.specs.ControlWord.{IsControlWord, control_in}
 use Rattle.ring.proofs.ring.Ring.finish.Given.{Over}
 use Rattle.ring.proofs.ring.Ring.finish.Goals as goal

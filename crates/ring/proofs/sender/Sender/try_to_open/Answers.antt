@@ -6,25 +6,25 @@ use Rattle.ring.proofs.TableLemmas.Grown.{grew_more}
 use Rattle.ring.proofs.sender.Sender.try_to_open.Goals as goal
 
 pub returns-in-Ok-clause-history : goal.returns-in-Ok-clause-history
-returns-in-Ok-clause-history c =
-    let s = c.loop-tried.sender in let r = c.in-Ok.open in
+returns-in-Ok-clause-history g c =
+    let s = c.loop-tried.sender in let r = c.in-Ok.reservation in
     grew_more _ _ _ _ _ _ _ c.loop-tried.invariant.history
     (subst (λ (n : ℕ). Grew (Sender n) s.trail r.trail s.history r.history) c.loop-tried.invariant.number c.in-Ok.ensures.history)
 
 pub returns-then-tried-tries-clause-history : goal.returns-then-tried-tries-clause-history
-returns-then-tried-tries-clause-history c =
+returns-then-tried-tries-clause-history g c =
     let s = c.loop-tried.sender in let t = c.in-Err.refused.sender in
     grew_more _ _ _ _ _ _ _ c.loop-tried.invariant.history
     (subst (λ (n : ℕ). Grew (Sender n) s.trail t.trail s.history t.history) c.loop-tried.invariant.number c.in-Err.ensures.history)
 
 pub loop-tried-preserved : goal.loop-tried-preserved
-loop-tried-preserved c =
+loop-tried-preserved g c =
     let s = c.loop-tried.sender in let t = c.in-Err.refused.sender in
     record {
       ring = c.in-Err.ensures.ring ∙ c.loop-tried.invariant.ring;
       number = c.in-Err.ensures.id ∙ c.loop-tried.invariant.number;
       left = (let not_last = c.if-tried-tries.false in let more = c.loop-tried-test.true in omega arith);
-      tried = subst (λ (k : ℕ). HasTried c.args.batch.now c.args.closes k c.args.self t) (sym (add-one c.loop-tried.tried)) (s, c.in-Err.refused.cause, c.loop-tried.invariant.tried, search rules, c.in-Err.ensures.refused);
+      tried = subst (λ (k : ℕ). HasTried c.args.batch.now g.K.BatchKind.closes k c.args.self t) (sym (add-one c.loop-tried.tried)) (s, c.in-Err.refused.cause, c.loop-tried.invariant.tried, search rules, c.in-Err.ensures.refused);
       history = grew_more _ _ _ _ _ _ _ c.loop-tried.invariant.history
           (subst (λ (n : ℕ). Grew (Sender n) s.trail t.trail s.history t.history) c.loop-tried.invariant.number c.in-Err.ensures.history);
     }

@@ -5,10 +5,10 @@ use Rattle.ring.specs.sender.Sending.{HasTried}
 use Rattle.ring.proofs.sender.Sender.try_to_open.Given as goal
 
 abbrev pub invariant-loop-tried : goal.invariant-loop-tried
-invariant-loop-tried l = record {
+invariant-loop-tried g l = record {
   ring : l.sender.ring ≡ l.fn.self.ring;
   number : l.sender.number ≡ l.fn.self.number;
   left : l.tried < l.tries;
-  tried : HasTried l.batch l.closes l.tried l.fn.self l.sender;
+  tried : HasTried l.batch g.K.BatchKind.closes l.tried l.fn.self l.sender;
   history : Grew (Sender l.fn.self.number) l.fn.self.trail l.sender.trail l.fn.self.history l.sender.history;
 }

@@ -5,7 +5,8 @@ use Rattle.ring.specs.Keepers.{KeeperValue, Adds, own_consumer}
 use Rattle.ring.specs.table.Keeping.{RunStands}
 use Rattle.ring.specs.consumer.Consumers.{ConsumerValue}
 use Rattle.engine.specs.Units.{UnitValue}
-use Rattle.simulator.proofs.EngineSteps.{others_stay, engine_steps}
+use Rattle.simulator.proofs.EngineSteps.{engine_steps}
+use Rattle.simulator.proofs.SeatLemmas.{others_stay}
 use Rattle.simulator.proofs.Together.{still_together}
 use Rattle.simulator.proofs.queue.stepping.step_lent.Goals as goal
 
@@ -32,4 +33,4 @@ returns-clause-together c =
     (sym c.take_consumer-idle.ensures.news.trail_is) c.step_with-consumer.ensures.together
 
 pub returns-clause-others : goal.returns-clause-others
-returns-clause-others c = others_stay c.args.keeper.now c.lend_consumer-consumer.new.self c.take_consumer-idle.new.self c.lend_consumer-consumer.ensures.keeper c.take_consumer-idle.ensures.others
+returns-clause-others c = others_stay Consumer c.args.keeper.now c.lend_consumer-consumer.new.self c.take_consumer-idle.new.self c.lend_consumer-consumer.ensures.keeper c.take_consumer-idle.ensures.others

@@ -11,11 +11,11 @@ use Rattle.simulator.proofs.simulator.Simulator.close.Goals as goal
 
 after : (c : goal.After-close) (state : State) → StandFor c.self.inside.queue.keeper c.self.inside.unit state → StandFor c.close.new.self.keeper c.self.inside.unit (closed c.args.sender state).state
 after c state s =
-    stands_after c.self.inside.queue.keeper c.close.new.self.keeper c.self.inside.unit state _ c.close.ensures.ring
+    stands_after c.self.inside.queue.keeper c.close.new.self.keeper c.self.inside.unit state _ c.close.ensures.consumer.ring_is
     (c.close.ensures.run ∙ ap (λ (run : Run). (Sender c.args.sender, Close) ∷ run) s.run) refl s
 
 pub invariant_of-self : goal.invariant_of-self
-invariant_of-self c = let is = c.self.invariant in after_call c.self.inside.queue c.close.new.self c.self.inside.consumer c.self.inside.unit _ c.close.ensures.consumer c.close.ensures.trail is (after c is.state is.stands)
+invariant_of-self c = let is = c.self.invariant in after_call c.self.inside.queue c.close.new.self c.self.inside.consumer c.self.inside.unit _ c.close.ensures.consumer is (after c is.state is.stands)
 
 pub returns : goal.returns
 returns c state stands =

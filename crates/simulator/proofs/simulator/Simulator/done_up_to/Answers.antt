@@ -15,11 +15,11 @@ found c state s = c.ask.ensures.found ∙ ap (λ (run : Run). (world run).acknow
 
 after : (c : goal.After-ask) (state : State) → StandFor c.self.inside.queue.keeper c.self.inside.unit state → StandFor c.ask.new.self.keeper c.self.inside.unit (asked c.args.sender state).state
 after c state s =
-    stands_after c.self.inside.queue.keeper c.ask.new.self.keeper c.self.inside.unit state _ c.ask.ensures.ring
+    stands_after c.self.inside.queue.keeper c.ask.new.self.keeper c.self.inside.unit state _ c.ask.ensures.consumer.ring_is
     (c.ask.ensures.run ∙ ap₂ (λ (number : ℕ) (run : Run). (Sender c.args.sender, Ask number) ∷ run) (found c state s) s.run) refl s
 
 pub invariant_of-self : goal.invariant_of-self
-invariant_of-self c = let is = c.self.invariant in after_call c.self.inside.queue c.ask.new.self c.self.inside.consumer c.self.inside.unit _ c.ask.ensures.consumer c.ask.ensures.trail is (after c is.state is.stands)
+invariant_of-self c = let is = c.self.invariant in after_call c.self.inside.queue c.ask.new.self c.self.inside.consumer c.self.inside.unit _ c.ask.ensures.consumer is (after c is.state is.stands)
 
 pub returns : goal.returns
 returns c state stands =

@@ -13,11 +13,11 @@ use Rattle.simulator.proofs.simulator.Simulator.look.Goals as goal
 
 after : (c : goal.After-look) (state : State) → StandFor c.self.inside.queue.keeper c.self.inside.unit state → StandFor c.look.new.self.keeper c.self.inside.unit (looked c.args.sender state).state
 after c state s =
-    stands_after c.self.inside.queue.keeper c.look.new.self.keeper c.self.inside.unit state _ c.look.ensures.ring
+    stands_after c.self.inside.queue.keeper c.look.new.self.keeper c.self.inside.unit state _ c.look.ensures.consumer.ring_is
     (c.look.ensures.run ∙ ap₂ (λ (ring : Ring) (run : Run). looked_by (Sender c.args.sender) ring.geometry run) s.ring s.run) refl s
 
 pub invariant_of-self : goal.invariant_of-self
-invariant_of-self c = let is = c.self.invariant in after_call c.self.inside.queue c.look.new.self c.self.inside.consumer c.self.inside.unit _ c.look.ensures.consumer c.look.ensures.trail is (after c is.state is.stands)
+invariant_of-self c = let is = c.self.invariant in after_call c.self.inside.queue c.look.new.self c.self.inside.consumer c.self.inside.unit _ c.look.ensures.consumer is (after c is.state is.stands)
 
 pub returns : goal.returns
 returns c state stands =

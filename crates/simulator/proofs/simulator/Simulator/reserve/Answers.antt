@@ -24,11 +24,11 @@ same c state s = ap₂ (λ (ring : Ring) (run : Run). try_to_reserve ring ring.m
 after : (c : goal.After-reserve) (state : State) → StandFor c.self.inside.queue.keeper c.self.inside.unit state
     → StandFor c.reserve.new.self.keeper c.self.inside.unit (reserved c.args.sender c.args.batch c.args.closes state).state
 after c state s =
-    stands_after c.self.inside.queue.keeper c.reserve.new.self.keeper c.self.inside.unit state _ c.reserve.ensures.ring
+    stands_after c.self.inside.queue.keeper c.reserve.new.self.keeper c.self.inside.unit state _ c.reserve.ensures.consumer.ring_is
     (c.reserve.ensures.run ∙ ap (λ (t : Try). t.run) (same c state s)) (try_takes_none state.ring state.ring.max_batches c.args.sender c.args.batch c.args.closes state.run) s
 
 pub invariant_of-self : goal.invariant_of-self
-invariant_of-self c = let is = c.self.invariant in after_call c.self.inside.queue c.reserve.new.self c.self.inside.consumer c.self.inside.unit _ c.reserve.ensures.consumer c.reserve.ensures.trail is (after c is.state is.stands)
+invariant_of-self c = let is = c.self.invariant in after_call c.self.inside.queue c.reserve.new.self c.self.inside.consumer c.self.inside.unit _ c.reserve.ensures.consumer is (after c is.state is.stands)
 
 pub returns-clause-done : goal.returns-clause-done
 returns-clause-done c state stands =

@@ -3,7 +3,7 @@ use Rattle.cmdcodec.specs.declared.raw.Raw.{Raw}
 use Rattle.ring.specs.table.Ports.{PortValue}
 use Rattle.ringcore.specs.declared.world.event.Who.TheVariants.{Consumer}
 use Rattle.ring.specs.table.Histories.{Grew}
-use Rattle.ring.specs.consumer.Consumers.{IsConsumer, ConsumerPortValue}
+use Rattle.ring.specs.consumer.Consumers.{IsConsumer}
 use Rattle.ring.proofs.TableLemmas.Grown.{grew_step, grew_more}
 use Rattle.ring.specs.consumer.Completing.{all_acknowledged, completed_trail}
 use Rattle.ring.proofs.ConsumerLemmas.Completing.{is_consumer}
@@ -24,4 +24,4 @@ pub returns-clause-history : goal.returns-clause-history
 returns-clause-history c =
     let new : PortValue = c.acknowledge_run.new.self in
     let one = grew_step Consumer _ _ _ _ _ (ap (λ (p : PortValue). p.trail) c.advance.ensures.trail) c.advance.ensures.history in
-    subst (λ (p : ConsumerPortValue). Grew Consumer p.trail new.trail p.history new.history) c.self.view_is (grew_more _ _ _ _ _ _ _ one c.acknowledge_run.ensures.history)
+    subst (λ (p : PortValue). Grew Consumer p.trail new.trail p.history new.history) c.self.view_is (grew_more _ _ _ _ _ _ _ one c.acknowledge_run.ensures.history)

@@ -4,7 +4,7 @@ use Rattle.cmdcodec.specs.declared.raw.Raw.{Raw}
 use Rattle.ringcore.specs.declared.world.event.Half.{Half}
 use Rattle.ringcore.specs.world.Trails.{Trail, found_ready, half_read}
 use Rattle.ringcore.specs.world.World.{half_of}
-use Rattle.ring.specs.consumer.Consumers.{ConsumerPortValue}
+use Rattle.ring.specs.table.Ports.{PortValue}
 use Rattle.ring.specs.consumer.Pendings.{HasSeen}
 use Rattle.ring.proofs.TableLemmas.Grown.{grew_more, consumer_step}
 use Rattle.ring.proofs.ConsumerLemmas.Reads.{read_more, run_more, trail_more, seen_first}
@@ -42,5 +42,5 @@ returns-clause-read c =
       some = omega (arith, m, some, all);
       ready = omega (arith, m, end, found, ready);
       read = i.read;
-      seen = λ raw rest is. subst (λ (t : Trail). HasSeen t raw) (sym (ap (λ (x : ConsumerPortValue). x.trail) i.port)) (seen_first _ _ raw rest is);
+      seen = λ raw rest is. subst (λ (t : Trail). HasSeen t raw) (sym (ap (λ (x : PortValue). x.trail) i.port)) (seen_first _ _ raw rest is);
     }

@@ -1,5 +1,5 @@
 use Rattle.std.proofs.Common.{ap, ◌∙◌, take}
-use Rattle.ring.specs.consumer.Consumers.{ConsumerPortValue}
+use Rattle.ring.specs.table.Ports.{PortValue}
 use Rattle.ring.specs.consumer.Completing.{taken_of, completed_trail}
 use Rattle.ring.specs.consumer.Pendings.{PendingValue}
 use Rattle.ring.proofs.ConsumerLemmas.Completing.{taken_after}
@@ -7,6 +7,6 @@ use Rattle.ring.proofs.consumer.pending_run.PendingRun.complete_run.Goals as goa
 
 pub returns-clause-taken : goal.returns-clause-taken
 returns-clause-taken g c =
-    ap (λ (d : ConsumerPortValue). taken_of d.trail) c.complete_run.ensures.trail
+    ap (λ (d : PortValue). taken_of d.trail) c.complete_run.ensures.trail
     ∙ ap (λ (p : PendingValue _). taken_of (completed_trail (take c.args.count p.raws) p.consumer.trail)) c.self.view_is
-    ∙ taken_after c.args.self.consumer.trail (take c.args.count c.args.self.raws) c.args._outcome c.requires.outcome
+    ∙ taken_after c.args.self.consumer.trail (take c.args.count c.args.self.raws) c.args.outcome c.requires.outcome

@@ -7,9 +7,9 @@ use Rattle.ring.proofs.SenderLemmas.InOrder.{fewer_share}
 use Rattle.ring.proofs.sender.open_reservation.OpenReservation.flip_run.Goals as goal
 
 pub flip-requires-clause-share : goal.flip-requires-clause-share
-flip-requires-clause-share c = let n = c.min-count.ensures in fewer_share _ _ c.shared_word.result c.min-count.result (omega arith) c.shared_word.ensures.share
+flip-requires-clause-share g c = let n = c.min-count.ensures in fewer_share _ _ c.shared_word.result c.min-count.result (omega arith) c.shared_word.ensures.share
 
 pub returns-clause-history : goal.returns-clause-history
-returns-clause-history c =
+returns-clause-history g c =
     subst (λ (r : ReservationValue). Grew (Sender r.sender) r.trail c.flip.new.self.trail r.history c.flip.new.self.history) c.self.view_is
     (port_step c.self.inside.port c.flip.new.self _ _ c.self.invariant.tallied.who_is c.flip.ensures.trail c.flip.ensures.history)

@@ -5,7 +5,7 @@ use Rattle.ring.specs.sender.Publishing.{wrote_many}
 use Rattle.ring.proofs.sender.open_reservation.OpenReservation.write_left.Given as goal
 
 abbrev pub invariant-loop-done : goal.invariant-loop-done
-invariant-loop-done l = record {
+invariant-loop-done g l = record {
   is : record l.reservation { history = [] } ≡ wrote_many l.done (record l.fn.self { history = [] });
   history : Grew (Sender l.fn.self.sender) l.fn.self.trail l.reservation.trail l.fn.self.history l.reservation.history;
 }

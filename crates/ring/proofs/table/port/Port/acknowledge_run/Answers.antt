@@ -13,21 +13,21 @@ use Rattle.ring.proofs.table.port.Port.acknowledge_run.Goals as goal
 
 pub closing_sender-requires : goal.closing_sender-requires
 closing_sender-requires c =
-    is_closing c.args.self.now _ _ c.requires.advanced c.counts_law.ensures.sum c.consumer_trail.ensures.syncs c.counts_law.ensures.words _ c.syncs_in_order.ensures.limits.senders (c.syncs_in_order.ensures.order c.requires.who)
+    is_closing c.args.self.now _ _ c.requires.advanced c.counts_law.ensures.sum c.consumer_trail.ensures.syncs c.counts_law.ensures.words _ c.knows_its_steps.ensures.limits.senders (c.knows_its_steps.ensures.steps c.requires.who).order
     c.loop-place.self c.loop-place.place c.unwrap-raw.result c.loop-place-test.true (sym c.get.ensures ∙ c.unwrap-raw.ensures) c.loop-place.invariant.trail c.loop-place.invariant.acks
     (sym c.is_sync.ensures ∙ c.if-is_sync.true)
 
 pub acknowledge-requires-clause-known : goal.acknowledge-requires-clause-known
 acknowledge-requires-clause-known c =
     subst (λ (t : ℕ × RingValue). t.0 < t.1.made_with.senders) (λ k. (sym c.closing_sender.ensures k, c.requires.ring k))
-    (is_known c.args.self.now _ _ c.requires.advanced c.counts_law.ensures.sum c.consumer_trail.ensures.syncs c.counts_law.ensures.words _ c.syncs_in_order.ensures.limits.senders (c.syncs_in_order.ensures.order c.requires.who)
+    (is_known c.args.self.now _ _ c.requires.advanced c.counts_law.ensures.sum c.consumer_trail.ensures.syncs c.counts_law.ensures.words _ c.knows_its_steps.ensures.limits.senders (c.knows_its_steps.ensures.steps c.requires.who).order
     c.loop-place.self c.loop-place.place c.unwrap-raw.result c.loop-place-test.true (sym c.get.ensures ∙ c.unwrap-raw.ensures) c.loop-place.invariant.trail c.loop-place.invariant.acks
     (sym c.is_sync.ensures ∙ c.if-is_sync.true))
 
 pub acknowledge-requires-clause-next : goal.acknowledge-requires-clause-next
 acknowledge-requires-clause-next c =
     c.closing_number.ensures
-    ∙ is_next c.args.self.now _ _ c.requires.advanced c.counts_law.ensures.sum c.consumer_trail.ensures.syncs c.counts_law.ensures.words _ c.syncs_in_order.ensures.limits.senders (c.syncs_in_order.ensures.order c.requires.who)
+    ∙ is_next c.args.self.now _ _ c.requires.advanced c.counts_law.ensures.sum c.consumer_trail.ensures.syncs c.counts_law.ensures.words _ c.knows_its_steps.ensures.limits.senders (c.knows_its_steps.ensures.steps c.requires.who).order
     c.loop-place.self c.loop-place.place c.unwrap-raw.result c.loop-place-test.true (sym c.get.ensures ∙ c.unwrap-raw.ensures) c.loop-place.invariant.trail c.loop-place.invariant.acks
     (sym c.is_sync.ensures ∙ c.if-is_sync.true)
     ∙ ap (λ (s : ℕ). suc (acknowledged_by s c.loop-place.self.trail)) (sym c.closing_sender.ensures)
@@ -35,17 +35,17 @@ acknowledge-requires-clause-next c =
 pub acknowledge-requires-clause-taken : goal.acknowledge-requires-clause-taken
 acknowledge-requires-clause-taken c =
     subst (λ (t : ℕ × ℕ). t.0 ≤ syncs_taken t.1 c.loop-place.self.trail) (λ k. (sym c.closing_number.ensures k, sym c.closing_sender.ensures k))
-    (is_taken c.args.self.now _ _ c.requires.advanced c.counts_law.ensures.sum c.consumer_trail.ensures.syncs c.counts_law.ensures.words _ c.syncs_in_order.ensures.limits.senders (c.syncs_in_order.ensures.order c.requires.who)
+    (is_taken c.args.self.now _ _ c.requires.advanced c.counts_law.ensures.sum c.consumer_trail.ensures.syncs c.counts_law.ensures.words _ c.knows_its_steps.ensures.limits.senders (c.knows_its_steps.ensures.steps c.requires.who).order
     c.loop-place.self c.loop-place.place c.unwrap-raw.result c.loop-place-test.true (sym c.get.ensures ∙ c.unwrap-raw.ensures) c.loop-place.invariant.trail c.loop-place.invariant.acks
     (sym c.is_sync.ensures ∙ c.if-is_sync.true))
 
 pub loop-place-preserved : goal.loop-place-preserved
 loop-place-preserved c =
-    let order = c.syncs_in_order.ensures.order c.requires.who in
+    let order = (c.knows_its_steps.ensures.steps c.requires.who).order in
     let at = sym c.get.ensures ∙ c.unwrap-raw.ensures in
     elim c.if-is_sync.branch [
       | then-is_sync w ↦
-          let its = then_after c.args.self.now _ _ c.requires.advanced c.counts_law.ensures.sum c.consumer_trail.ensures.syncs c.counts_law.ensures.words _ c.syncs_in_order.ensures.limits.senders order
+          let its = then_after c.args.self.now _ _ c.requires.advanced c.counts_law.ensures.sum c.consumer_trail.ensures.syncs c.counts_law.ensures.words _ c.knows_its_steps.ensures.limits.senders order
           c.loop-place.self c.loop-place.place c.unwrap-raw.result c.loop-place-test.true at c.loop-place.invariant.trail c.loop-place.invariant.acks (sym c.is_sync.ensures ∙ w.if-is_sync.true) c.if-is_sync.self
           (ap (λ (p : PortValue). let q : PortValue = record p { history = [] } in q) w.self-is ∙ w.acknowledge.ensures.trail
           ∙ (λ k. let q : PortValue = record c.loop-place.self { trail = Acknowledge (w.closing_sender.ensures k) (w.closing_number.ensures k) ∷ c.loop-place.self.trail; history = [] } in q)) in
@@ -54,7 +54,7 @@ loop-place-preserved c =
           let grown = subst (λ (p : PortValue). Grew Consumer mid.trail p.trail mid.history p.history) (sym w.self-is) one in
           record { trail = its.0; acks = its.1; history = grew_more _ _ _ _ _ _ _ c.loop-place.invariant.history grown }
       | else-is_sync w ↦
-          let its = else_after c.args.self.now _ _ c.requires.advanced c.counts_law.ensures.sum c.consumer_trail.ensures.syncs c.counts_law.ensures.words _ c.syncs_in_order.ensures.limits.senders order
+          let its = else_after c.args.self.now _ _ c.requires.advanced c.counts_law.ensures.sum c.consumer_trail.ensures.syncs c.counts_law.ensures.words _ c.knows_its_steps.ensures.limits.senders order
           c.loop-place.self c.loop-place.place c.unwrap-raw.result c.loop-place-test.true at c.loop-place.invariant.trail c.loop-place.invariant.acks (sym c.is_sync.ensures ∙ w.if-is_sync.false) c.if-is_sync.self w.self-is in
           let old : PortValue = c.args.self.now in
           record { trail = its.0; acks = its.1; history = subst (λ (p : PortValue). Grew Consumer old.trail p.trail old.history p.history) (sym w.self-is) c.loop-place.invariant.history }

@@ -3,7 +3,7 @@ use Rattle.ringcore.specs.world.Trails.{same}
 use Rattle.ring.specs.table.Rule.{Holding}
 use Rattle.ring.proofs.TableLemmas.StepKinds.{control_inside}
 use Rattle.ring.proofs.TableLemmas.Steps.{gathers_at}
-use Rattle.ring.proofs.TableLemmas.Meetings.{both, leaves_now, joined_is, meets_now, parts_now, my_seat, their_seat, one_run, i_stay, they_stay, i_knew, they_knew}
+use Rattle.ring.proofs.TableLemmas.Meetings.{both, leaves_now, joined_is, meets_now, parts_now, my_seat, their_seat, have_met}
 use Rattle.ring.proofs.table.port.Port.meet.Goals as goal
 
 pub split_seat-one-requires : goal.split_seat-one-requires
@@ -48,21 +48,9 @@ invariant_of-self c = my_seat _ _ c.self.invariant c.other.invariant _ _ (joined
 pub invariant_of-other : goal.invariant_of-other
 invariant_of-other c = their_seat _ _ c.self.invariant c.other.invariant _ _ (joined c) c.load.ensures.2 _ _ c.split_seat.ensures.2 c.split_seat.ensures.4
 
-pub returns-clause-mine : goal.returns-clause-mine
-returns-clause-mine c =
-    let same_table : c.split_seat.new.seat.table_id ≡ c.self.inside.seat.table_id = search rules in
-    i_stay _ _ c.self.invariant c.other.invariant _ _ (joined c) c.load.ensures.2 _ _ c.split_seat.ensures.2 c.split_seat.ensures.4 _ _ same_table _ c.self.view_is
-
-pub returns-clause-theirs : goal.returns-clause-theirs
-returns-clause-theirs c =
-    let same_table : c.split_seat.result.table_id ≡ c.other.inside.seat.table_id = search rules in
-    they_stay _ _ c.self.invariant c.other.invariant _ _ (joined c) c.load.ensures.2 _ _ c.split_seat.ensures.2 c.split_seat.ensures.4 _ _ same_table _ c.other.view_is
-
-pub returns-clause-one : goal.returns-clause-one
-returns-clause-one c = one_run _ _ c.self.invariant c.other.invariant _ _ (joined c) c.load.ensures.2 _ _ c.split_seat.ensures.2 c.split_seat.ensures.4
-
-pub returns-clause-i_knew : goal.returns-clause-i_knew
-returns-clause-i_knew c = i_knew _ _ c.self.invariant c.other.invariant _ _ (joined c) c.load.ensures.2 _ _ c.split_seat.ensures.2 c.split_seat.ensures.4 _ _ c.self.view_is
-
-pub returns-clause-they_knew : goal.returns-clause-they_knew
-returns-clause-they_knew c = they_knew _ _ c.self.invariant c.other.invariant _ _ (joined c) c.load.ensures.2 _ _ c.split_seat.ensures.2 c.split_seat.ensures.4 _ _ c.other.view_is
+pub returns : goal.returns
+returns c =
+    let mine : c.split_seat.new.seat.table_id ≡ c.self.inside.seat.table_id = search rules in
+    let theirs : c.split_seat.result.table_id ≡ c.other.inside.seat.table_id = search rules in
+    let met = have_met _ _ c.self.invariant c.other.invariant _ _ (joined c) c.load.ensures.2 _ _ c.split_seat.ensures.2 c.split_seat.ensures.4 _ _ _ _ mine theirs _ _ c.self.view_is c.other.view_is in
+    record { mine = met.mine; theirs = met.theirs; one = met.one; i_knew = met.i_knew; they_knew = met.they_knew }

@@ -1,0 +1,5 @@
+use Rattle.ring.specs.table.Intents.{reserves}
+use Rattle.ring.proofs.sender.Sender.exchange.Given as goal
+
+abbrev pub ghosts-exchange : goal.ghosts-exchange
+ghosts-exchange g a = record { intent = reserves a.batch.now a.closes }
