@@ -5,7 +5,7 @@ ghost use Rattle.ring.specs.Keepers.{IsKept};
 use crate::batches::{CFGI_STE, batch_of};
 use crate::device::NoEntries;
 use crate::steps::{Head, take_one};
-use ring::{IdleConsumer, IdleSender, Keeper, Ring, RingFault};
+use ring::{Bare, Closing, IdleConsumer, IdleSender, Keeper, Ring, RingFault};
 use std::process::Abort;
 
 /// A ring of eight slots and two senders whose seats are all a keeper's.
