@@ -1,0 +1,65 @@
+//! What the units hold, and the commands that remove it.
+ghost use Rattle.std.specs.Prelude.{◌≡◌, ◌<◌, ◌^◌, IfSome};
+ghost use Rattle.engine.specs.Stops.{unstopped};
+
+use caches::{Caches, Scope, Tag};
+use cmdcodec::{Asid, Page, Raw, Vmid};
+use engine::Unit;
+use std::alloc::Global;
+
+/// TLBI_NH_VA.
+const TLBI_NH_VA: u64 = 0x12;
+
+/// Of four machines with four address spaces each.
+fn machine(place: u16) -> u16 {
+    1 + place % 4
+}
+
+fn space(place: u16) -> u16 {
+    1 + place / 4 % 4
+}
+
+/// They lie 4 MB apart in an address space.
+fn page(place: u16) -> u64
+    ensures { result < 2 ^ 52 }
+{
+    u64::from(place / 16) * 0x400
+}
+
+/// Each eighth is a block of 2 MB, and the others are pages.
+fn span(place: u16) -> u8 {
+    if place / 16 % 8 == 7 { 9 } else { 0 }
+}
+
+/// Which entry stands at a place.
+pub(crate) fn tag(place: u16) -> Tag {
+    Tag::S1 {
+        vmid: Vmid::new(u64::from(machine(place))).unwrap(),
+        scope: Scope::Of(Asid::new(u64::from(space(place))).unwrap()),
+        page: Page::new(page(place)).unwrap(),
+        span: span(place),
+    }
+}
+
+/// The words of the TLBI_NH_VA that covers this entry and no other.
+pub(crate) fn invalidation(place: u16) -> Raw {
+    let machine = u64::from(machine(place));
+    let space = u64::from(space(place));
+    Raw {
+        lo: space << 48 | machine << 32 | TLBI_NH_VA,
+        hi: page(place) << 12,
+    }
+}
+
+/// A unit that holds so many entries and has room for no more, or none where memory ran out.
+pub(crate) fn full_unit(alloc: Global, count: u16) -> Option<Unit>
+    ensures { IfSome result (λ unit. unit.stop ≡ unstopped) }
+{
+    let mut unit = Unit::new(Caches::new(alloc, u32::from(count)).ok()?);
+    for place in 0..count {
+        if unit.fill(tag(place), 0).is_err() {
+            return None;
+        }
+    }
+    Some(unit)
+}
