@@ -97,6 +97,7 @@ impl Caches {
     }
 
     /// Removes the entries that the command covers, and answers how many they were.
+    #[inline]
     pub fn apply(&mut self, command: &Command) -> u32
         ensures after { self.new.entries ≡ without_covered command.now self.old.entries }
         ensures capacity { self.new.capacity ≡ self.old.capacity }

@@ -222,14 +222,26 @@ fn one_stream(sid: Sid) -> PageRun
 }
 
 /// Removes what the command covers, from a map whose blocks have these spans. It takes no memory.
+///
+/// Over an empty map it doesn't look at the command, so that one which is only judged never has to be put together.
+#[inline]
 pub(crate) fn remove_all_covered(map: &mut BTreeMap<Rank, Entry>, spans: &Spans, command: &Command)
     requires keeping { IsKeeping ⟦<Rank as Ord>⟧.cmp map.old }
     requires spans { AreSpansOf spans.now ⟦<Rank as Ord>⟧.cmp map.old }
     ensures after { IsWithout ⟦<Rank as Ord>⟧.cmp (covers_key command.now) map.old map.new }
 {
-    if map.is_empty() {
-        return;
+    if !map.is_empty() {
+        sweep_covered(map, spans, command);
     }
+}
+
+/// The same of a map that may hold something.
+#[inline(never)]
+fn sweep_covered(map: &mut BTreeMap<Rank, Entry>, spans: &Spans, command: &Command)
+    requires keeping { IsKeeping ⟦<Rank as Ord>⟧.cmp map.old }
+    requires spans { AreSpansOf spans.now ⟦<Rank as Ord>⟧.cmp map.old }
+    ensures after { IsWithout ⟦<Rank as Ord>⟧.cmp (covers_key command.now) map.old map.new }
+{
     match *command {
         Command::CfgiSte { sid, .. } | Command::CfgiCd { sid, .. } | Command::CfgiCdAll { sid } =>
             sweep_streams(map, one_stream(sid), command),

@@ -19,6 +19,7 @@ use crate::opcode::Opcode;
 use crate::raw::Raw;
 
 /// The command that the words spell, or the first thing that is illegal in them.
+#[inline(always)]
 #[tactic(auto, unfolding(crate::specs::Words::decoding))]
 pub fn decode(raw: Raw) -> Result<Command, Ill>
     ensures exact { result ≡ decoding raw }
@@ -37,6 +38,7 @@ pub fn decode(raw: Raw) -> Result<Command, Ill>
 }
 
 /// The fields that a command of this opcode has.
+#[inline]
 fn command_with(opcode: Opcode, raw: Raw) -> Command
     requires opcode { number_of opcode ≡ opcode_of raw }
     requires legal { first_ill raw ≡ None }

@@ -17,6 +17,7 @@ const ALL_PAGES: u64 = 52;
 
 impl Raw {
     /// The opcode, where it is one of the profile.
+    #[inline]
     pub fn opcode(self) -> Option<Opcode>
         ensures named { result ≡ opcode_named (opcode_of self) }
         ensures number { IfSome result (λ opcode. number_of opcode ≡ opcode_of self) }
@@ -40,6 +41,7 @@ fn is_secure(raw: Raw) -> bool
 }
 
 /// The first thing that is illegal in the words.
+#[inline]
 #[tactic(auto, unfolding(crate::specs::Opcodes::opcode_named))]
 pub(crate) fn first_ill(raw: Raw) -> Option<Ill>
     ensures { result ≡ first_ill raw }

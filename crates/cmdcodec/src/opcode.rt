@@ -53,6 +53,7 @@ pub enum Opcode {
 
 impl Opcode {
     /// The opcode of this number, where the profile has one.
+    #[inline]
     #[tactic(auto, unfolding(crate::specs::Opcodes::opcode_named))]
     pub fn new(number: u64) -> Option<Opcode>
         ensures named { result ≡ opcode_named number }

@@ -6,7 +6,8 @@ use crate::limits::MOST_BATCH_COMMANDS;
 use arrayvec::ArrayVec;
 use byteorder::{ByteOrder, LittleEndian};
 
-/// The two 64-bit words of a command, whatever they say.
+/// The two 64-bit words of a command, whatever they say, laid out as C does.
+#[repr(C)]
 #[derive(Clone, Copy, Debug, Default, PartialEq, Eq)]
 pub struct Raw {
     /// The low word, which has the opcode in bits 7:0.

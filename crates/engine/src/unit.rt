@@ -124,6 +124,7 @@ impl Unit {
     }
 
     /// Applies a legal command: how many entries it removed.
+    #[inline]
     pub(crate) fn apply(&mut self, raw: Raw, command: &Command) -> u32
         requires running { ¬ IsStopped self.old.stop.mode }
         requires next { MayComeNext raw self.old.stop }
