@@ -3,6 +3,8 @@
 #![tactic(auto)]
 
 #[cfg(test)]
+mod caches_caller;
+#[cfg(test)]
 mod calls;
 #[cfg(test)]
 mod capacity;

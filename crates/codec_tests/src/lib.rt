@@ -6,10 +6,16 @@
 #[cfg(test)]
 mod answers;
 #[cfg(test)]
+mod batch_caller;
+#[cfg(test)]
 mod batch_tests;
+#[cfg(test)]
+mod cmdcodec_caller;
 #[cfg(test)]
 mod cmdcodec_tests;
 #[cfg(test)]
 mod numbers;
+#[cfg(test)]
+mod qindex_caller;
 #[cfg(test)]
 mod qindex_tests;

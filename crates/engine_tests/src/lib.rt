@@ -6,6 +6,10 @@ mod calls;
 #[cfg(test)]
 mod commands;
 #[cfg(test)]
+mod engine_caller;
+#[cfg(test)]
+mod first_hour;
+#[cfg(test)]
 mod row_tests;
 #[cfg(test)]
 mod thread_tests;

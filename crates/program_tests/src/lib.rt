@@ -4,9 +4,15 @@
 #![tactic(auto)]
 
 #[cfg(test)]
+mod command_line_caller;
+#[cfg(test)]
 mod command_line_tests;
 #[cfg(test)]
+mod decode_caller;
+#[cfg(test)]
 mod decoding_tests;
+#[cfg(test)]
+mod program_caller;
 #[cfg(test)]
 mod replaying_tests;
 #[cfg(test)]

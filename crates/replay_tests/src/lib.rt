@@ -19,11 +19,15 @@ mod memory;
 #[cfg(test)]
 mod ranges;
 #[cfg(test)]
+mod replay_caller;
+#[cfg(test)]
 mod reservations;
 #[cfg(test)]
 mod rings;
 #[cfg(test)]
 mod sending;
+#[cfg(test)]
+mod simulator_caller;
 #[cfg(test)]
 mod stops;
 #[cfg(test)]

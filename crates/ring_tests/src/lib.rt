@@ -15,6 +15,8 @@ mod device;
 #[cfg(test)]
 mod keeper_tests;
 #[cfg(test)]
+mod ring_caller;
+#[cfg(test)]
 mod run_tests;
 #[cfg(test)]
 mod runs;

@@ -3,4 +3,6 @@
 #![tactic(auto)]
 
 #[cfg(test)]
+mod ringcore_caller;
+#[cfg(test)]
 mod ringcore_tests;

@@ -6,7 +6,11 @@
 #[cfg(test)]
 mod long_lines;
 #[cfg(test)]
+mod schedule_caller;
+#[cfg(test)]
 mod schedule_tests;
+#[cfg(test)]
+mod script_caller;
 #[cfg(test)]
 mod script_tests;
 #[cfg(test)]

@@ -11,4 +11,6 @@ mod plan_tests;
 #[cfg(test)]
 mod report_tests;
 #[cfg(test)]
+mod stress_caller;
+#[cfg(test)]
 mod turns_tests;
