@@ -1,37 +1,40 @@
 //! Why commands aren't taken into a batch.
-ghost use Rattle.std.specs.Prelude.{Some};
+ghost use Rattle.std.specs.Prelude.{◌≡◌};
 ghost use Rattle.batch.specs.Faults.{label_of};
 
-use std::error::Error;
-use std::fmt;
+use thiserror::Error;
 
 /// Why commands aren't taken into a batch, which then stays as it was (own).
-#[derive(Clone, Copy, Debug, PartialEq, Eq)]
+#[derive(Clone, Copy, Debug, PartialEq, Eq, Error)]
 pub enum BatchFault {
     /// B1: there would be more than 63 commands.
+    #[error("B1: more than 63 commands")]
     Full,
     /// B2: the command is a CMD_SYNC, which the sender adds behind the batch.
+    #[error("B2: a CMD_SYNC among the commands")]
     SyncInside,
     /// B3: the range has no page.
+    #[error("B3: no page")]
     NoPages,
     /// B4: the range goes past the last page, `2^52 - 1`.
+    #[error("B4: pages past the last one")]
     PastEnd,
     /// B5: there is no command.
+    #[error("B5: no command")]
     Empty,
 }
 
-impl fmt::Display for BatchFault {
-    ghost output = { λ fault. Some (label_of fault) };
-
-    fn fmt<W: fmt::Write>(&self, f: &mut fmt::Formatter<W>) -> fmt::Result {
+impl BatchFault {
+    /// Its label alone, `B1` to `B5`.
+    pub fn label(self) -> &'static str
+        ensures { result.now ≡ label_of self }
+    {
         match self {
-            BatchFault::Full => write!(f, "B1"),
-            BatchFault::SyncInside => write!(f, "B2"),
-            BatchFault::NoPages => write!(f, "B3"),
-            BatchFault::PastEnd => write!(f, "B4"),
-            BatchFault::Empty => write!(f, "B5"),
+            BatchFault::Full => "B1",
+            BatchFault::SyncInside => "B2",
+            BatchFault::NoPages => "B3",
+            BatchFault::PastEnd => "B4",
+            BatchFault::Empty => "B5",
         }
     }
 }
-
-impl Error for BatchFault {}

@@ -1,34 +1,36 @@
 //! Why a call of the caches is refused.
-ghost use Rattle.std.specs.Prelude.{Some};
+ghost use Rattle.std.specs.Prelude.{◌≡◌};
 ghost use Rattle.caches.specs.Faults.{label_of};
 
-use std::error::Error;
-use std::fmt;
+use thiserror::Error;
 
 /// A refused call, which changed nothing.
-#[derive(Clone, Copy, PartialEq, Eq, Debug)]
+#[derive(Clone, Copy, PartialEq, Eq, Debug, Error)]
 pub enum CacheFault {
     /// C1: the tag is new, and the caches hold as many entries as they may.
+    #[error("C1: the caches are full")]
     Full,
     /// C2: the block of the tag isn't well formed.
+    #[error("C2: the block isn't well formed")]
     BadBlock,
     /// C3: out of memory.
+    #[error("C3: out of memory")]
     NoMemory,
     /// C4: the capacity isn't 1 to 65,536.
+    #[error("C4: the capacity isn't 1 to 65,536")]
     BadCapacity,
 }
 
-impl fmt::Display for CacheFault {
-    ghost output = { λ fault. Some (label_of fault) };
-
-    fn fmt<W: fmt::Write>(&self, f: &mut fmt::Formatter<W>) -> fmt::Result {
+impl CacheFault {
+    /// Its label alone, `C1` to `C4`.
+    pub fn label(self) -> &'static str
+        ensures { result.now ≡ label_of self }
+    {
         match self {
-            CacheFault::Full => write!(f, "C1"),
-            CacheFault::BadBlock => write!(f, "C2"),
-            CacheFault::NoMemory => write!(f, "C3"),
-            CacheFault::BadCapacity => write!(f, "C4"),
+            CacheFault::Full => "C1",
+            CacheFault::BadBlock => "C2",
+            CacheFault::NoMemory => "C3",
+            CacheFault::BadCapacity => "C4",
         }
     }
 }
-
-impl Error for CacheFault {}

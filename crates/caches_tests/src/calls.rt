@@ -26,7 +26,10 @@ fn fill(alloc: Global, caches: &mut Caches, text: &str) -> Option<String> {
             let before = told(alloc, replaced)?;
             format!(in alloc; "replaced {before}").ok()
         }
-        Err(fault) => format!(in alloc; "refused {fault}").ok(),
+        Err(fault) => {
+            let label = fault.label();
+            format!(in alloc; "refused {label}").ok()
+        }
     }
 }
 

@@ -1,9 +1,8 @@
 //! How software acknowledges an error stop.
-ghost use Rattle.std.specs.Prelude.{Some};
+ghost use Rattle.std.specs.Prelude.{◌≡◌};
 ghost use Rattle.engine.specs.Stops.{label_of};
 
-use std::error::Error;
-use std::fmt;
+use thiserror::Error;
 
 /// What is to become of the illegal command at which consumption stopped (own).
 #[derive(Clone, Copy, Debug, PartialEq, Eq)]
@@ -15,23 +14,24 @@ pub enum Remedy {
 }
 
 /// Why an acknowledgement is refused. The first that applies is told, and nothing is changed.
-#[derive(Clone, Copy, Debug, PartialEq, Eq)]
+#[derive(Clone, Copy, Debug, PartialEq, Eq, Error)]
 pub enum AckFault {
     /// G1: no error is active.
+    #[error("G1: no error is active")]
     NoError,
     /// G2: CMDQ_ERR of the word isn't that of SMMU_GERROR.
+    #[error("G2: CMDQ_ERR isn't that of SMMU_GERROR")]
     OtherBit,
 }
 
-impl fmt::Display for AckFault {
-    ghost output = { λ fault. Some (label_of fault) };
-
-    fn fmt<W: fmt::Write>(&self, f: &mut fmt::Formatter<W>) -> fmt::Result {
+impl AckFault {
+    /// Its label alone, `G1` and `G2`.
+    pub fn label(self) -> &'static str
+        ensures { result.now ≡ label_of self }
+    {
         match self {
-            AckFault::NoError => write!(f, "G1"),
-            AckFault::OtherBit => write!(f, "G2"),
+            AckFault::NoError => "G1",
+            AckFault::OtherBit => "G2",
         }
     }
 }
-
-impl Error for AckFault {}

@@ -30,8 +30,8 @@ fn send(alloc: Global, ring: &Ring, sender: Sender, letters: &str) -> (Sender, O
             (sender, format!(in alloc; "number {number}").ok())
         }
         Err(refused) => {
-            let cause = refused.cause;
-            (refused.sender, format!(in alloc; "refused {cause}").ok())
+            let label = refused.cause.label();
+            (refused.sender, format!(in alloc; "refused {label}").ok())
         }
     }
 }
@@ -52,7 +52,10 @@ fn acknowledge(alloc: Global, engine: &mut Engine, text: &str) -> Option<String>
     };
     match engine.acknowledge(gerrorn, remedy) {
         Ok(()) => String::from_str(alloc, "acknowledged").ok(),
-        Err(fault) => format!(in alloc; "refused {fault}").ok(),
+        Err(fault) => {
+            let label = fault.label();
+            format!(in alloc; "refused {label}").ok()
+        }
     }
 }
 
@@ -64,7 +67,10 @@ fn fill(alloc: Global, engine: &mut Engine, text: &str) -> Option<String>
     let value = value.parse().ok()?;
     match engine.fill(Tag::Ste { sid }, value) {
         Ok(before) => told::held(alloc, before),
-        Err(fault) => format!(in alloc; "refused {fault}").ok(),
+        Err(fault) => {
+            let label = fault.label();
+            format!(in alloc; "refused {label}").ok()
+        }
     }
 }
 

@@ -4,19 +4,22 @@ ghost use Rattle.ringcore.specs.RingFaults.{fault_label, number_fault};
 
 use qindex::Geometry;
 use std::alloc::AllocError;
-use std::error::Error;
-use std::fmt;
+use thiserror::Error;
 
 /// Why a ring isn't made. The first that applies is told.
-#[derive(Clone, Copy, Debug, PartialEq, Eq)]
+#[derive(Clone, Copy, Debug, PartialEq, Eq, Error)]
 pub enum RingFault {
     /// N1: the ring isn't of `2^1` to `2^19` slots.
+    #[error("N1: the ring isn't of 2 to 524,288 slots")]
     Size,
     /// N2: the senders aren't 1 to 256.
+    #[error("N2: the senders aren't 1 to 256")]
     Senders,
     /// N3: a sender may reserve no batch.
+    #[error("N3: a sender may reserve no batch")]
     Batches,
     /// N4: out of memory.
+    #[error("N4: out of memory")]
     Memory(AllocError),
 }
 
@@ -41,16 +44,6 @@ impl From<AllocError> for RingFault {
         RingFault::Memory(error)
     }
 }
-
-impl fmt::Display for RingFault {
-    ghost output = { λ fault. Some (fault_label fault) };
-
-    fn fmt<W: fmt::Write>(&self, f: &mut fmt::Formatter<W>) -> fmt::Result {
-        write!(f, "{}", self.label())
-    }
-}
-
-impl Error for RingFault {}
 
 /// The geometry of a ring of `2^log2` slots, where it can be made for so many senders, each of which may reserve
 /// `max_batches` batches.

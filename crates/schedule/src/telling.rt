@@ -129,5 +129,6 @@ pub(crate) fn say_step_fault(
 ) -> Result<(), AllocError>
     ensures { OnOk result (string_bytes reply.new ≡ string_bytes reply.old ++ fault_line number (label_of fault)) }
 {
-    write!(reply, "line {number}: {fault}\n")
+    let label = fault.label();
+    write!(reply, "line {number}: {label}\n")
 }

@@ -1,10 +1,9 @@
 //! How a ring and its caches are made.
-ghost use Rattle.std.specs.Prelude.{◌≡◌, Some};
+ghost use Rattle.std.specs.Prelude.{◌≡◌};
 ghost use Rattle.simulator.specs.Shapes.{shape_label};
 
 use ringcore::RingFault;
-use std::error::Error;
-use std::fmt;
+use thiserror::Error;
 
 /// The numbers with which a ring and its caches are made.
 #[derive(Clone, Copy, Debug, PartialEq, Eq)]
@@ -20,11 +19,13 @@ pub struct Shape {
 }
 
 /// Why nothing is made. The first that applies is told, in the order of these lines.
-#[derive(Clone, Copy, Debug, PartialEq, Eq)]
+#[derive(Clone, Copy, Debug, PartialEq, Eq, Error)]
 pub enum ShapeFault {
     /// N1 to N4: no ring is made.
+    #[error(transparent)]
     Ring(RingFault),
     /// C4: the capacity isn't 1 to 65,536.
+    #[error("C4: the capacity isn't 1 to 65,536")]
     Capacity,
 }
 
@@ -39,13 +40,3 @@ impl ShapeFault {
         }
     }
 }
-
-impl fmt::Display for ShapeFault {
-    ghost output = { λ fault. Some (shape_label fault) };
-
-    fn fmt<W: fmt::Write>(&self, f: &mut fmt::Formatter<W>) -> fmt::Result {
-        write!(f, "{}", self.label())
-    }
-}
-
-impl Error for ShapeFault {}

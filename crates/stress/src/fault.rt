@@ -1,28 +1,28 @@
 //! Why there is no report.
-use std::error::Error;
-use std::fmt;
+ghost use Rattle.std.specs.Prelude.{◌≡◌};
+ghost use Rattle.stress.specs.ReportText.{fault_label};
+
+use thiserror::Error;
 
 /// Why there is no report.
-#[derive(Clone, Copy, Debug, PartialEq, Eq, Drop)]
+#[derive(Clone, Copy, Debug, PartialEq, Eq, Drop, Error)]
 pub enum StressFault {
     /// S1: out of memory.
+    #[error("S1: out of memory")]
     NoMemory,
     /// S2: behind the workers a batch was refused eight times, or a drain found a command that wasn't handed over.
+    #[error("S2: the run didn't come to its end")]
     Unfinished,
 }
 
-impl fmt::Display for StressFault {
-    ghost use Rattle.std.specs.Prelude.{Some};
-    ghost use Rattle.stress.specs.ReportText.{fault_label};
-
-    ghost output = { λ fault. Some (fault_label fault) };
-
-    fn fmt<W: fmt::Write>(&self, f: &mut fmt::Formatter<W>) -> fmt::Result {
+impl StressFault {
+    /// Its label alone, `S1` or `S2`.
+    pub fn label(self) -> &'static str
+        ensures { result.now ≡ fault_label self }
+    {
         match self {
-            StressFault::NoMemory => write!(f, "S1"),
-            StressFault::Unfinished => write!(f, "S2"),
+            StressFault::NoMemory => "S1",
+            StressFault::Unfinished => "S2",
         }
     }
 }
-
-impl Error for StressFault {}

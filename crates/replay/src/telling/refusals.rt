@@ -16,19 +16,22 @@ use std::fmt::Write;
 pub(crate) fn say_batch_refused(fault: BatchFault, reply: &mut String) -> Result<(), AllocError>
     ensures { OnOk result (string_bytes reply.new ≡ string_bytes reply.old ++ refused_text (batch_label fault)) }
 {
-    write!(reply, "refused {fault}\n")
+    let label = fault.label();
+    write!(reply, "refused {label}\n")
 }
 
 pub(crate) fn say_reserving_refused(cause: Cause, reply: &mut String) -> Result<(), AllocError>
     ensures { OnOk result (string_bytes reply.new ≡ string_bytes reply.old ++ refused_text (cause_label cause)) }
 {
-    write!(reply, "refused {cause}\n")
+    let label = cause.label();
+    write!(reply, "refused {label}\n")
 }
 
 pub(crate) fn say_fill_refused(fault: CacheFault, reply: &mut String) -> Result<(), AllocError>
     ensures { OnOk result (string_bytes reply.new ≡ string_bytes reply.old ++ refused_text (cache_label fault)) }
 {
-    write!(reply, "refused {fault}\n")
+    let label = fault.label();
+    write!(reply, "refused {label}\n")
 }
 
 pub(crate) fn say_acknowledgement_refused(
@@ -37,5 +40,6 @@ pub(crate) fn say_acknowledgement_refused(
 ) -> Result<(), AllocError>
     ensures { OnOk result (string_bytes reply.new ≡ string_bytes reply.old ++ refused_text (acknowledgement_label fault)) }
 {
-    write!(reply, "refused {fault}\n")
+    let label = fault.label();
+    write!(reply, "refused {label}\n")
 }

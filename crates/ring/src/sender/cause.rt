@@ -1,28 +1,45 @@
 //! Why nothing was reserved.
-ghost use Rattle.std.specs.Prelude.{◌≡◌, Some};
+ghost use Rattle.std.specs.Prelude.{◌≡◌};
 ghost use Rattle.ring.specs.sender.Sending.{may_pass};
 ghost use Rattle.ring.specs.FaultNames.{cause_label};
 
 use crate::sender::Sender;
-use std::error::Error;
-use std::fmt;
+use thiserror::Error;
 
 /// Why nothing was reserved. The first that applies is told, in the order of these lines.
-#[derive(Clone, Copy, Debug, PartialEq, Eq)]
+#[derive(Clone, Copy, Debug, PartialEq, Eq, Error)]
 pub enum Cause {
     /// Q4: the batch has more commands than the ring has slots.
+    #[error("Q4: the batch is longer than the ring")]
     TooLong,
     /// Q5: the sender has reserved as many batches as it may.
+    #[error("Q5: the sender has no batch left")]
     Exhausted,
     /// Q1: the ring is closed.
+    #[error("Q1: the ring is closed")]
     Closed,
     /// Q2: the ring has too little room.
+    #[error("Q2: the ring has too little room")]
     Full,
     /// Q3: the control word is no longer the one that was looked at.
+    #[error("Q3: another changed the ring first")]
     Contended,
 }
 
 impl Cause {
+    /// Its label alone, `Q1` to `Q5`.
+    pub fn label(self) -> &'static str
+        ensures { result.now ≡ cause_label self }
+    {
+        match self {
+            Cause::TooLong => "Q4",
+            Cause::Exhausted => "Q5",
+            Cause::Closed => "Q1",
+            Cause::Full => "Q2",
+            Cause::Contended => "Q3",
+        }
+    }
+
     /// Whether a later try may go through.
     pub(crate) fn may_pass(self) -> bool
         ensures { result ≡ may_pass self }
@@ -44,22 +61,6 @@ impl Cause {
         }
     }
 }
-
-impl fmt::Display for Cause {
-    ghost output = { λ cause. Some (cause_label cause) };
-
-    fn fmt<W: fmt::Write>(&self, f: &mut fmt::Formatter<W>) -> fmt::Result {
-        match self {
-            Cause::TooLong => write!(f, "Q4"),
-            Cause::Exhausted => write!(f, "Q5"),
-            Cause::Closed => write!(f, "Q1"),
-            Cause::Full => write!(f, "Q2"),
-            Cause::Contended => write!(f, "Q3"),
-        }
-    }
-}
-
-impl Error for Cause {}
 
 /// Nothing was reserved: the sender comes back.
 #[derive(Drop)]
