@@ -24,7 +24,7 @@ pub enum StepFault {
     #[error("F5: a slot that isn't at the head")]
     NotTheHead,
     /// F6: a read or an advance of more than the last test found.
-    #[error("F6: more than the last test found")]
+    #[error("F6: more than was found ready")]
     NotSeenReady,
     /// F7: an acknowledgement out of order, or of a sync that isn't taken.
     #[error("F7: an acknowledgement that isn't next")]
