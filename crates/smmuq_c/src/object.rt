@@ -1,6 +1,7 @@
 //! What a handle owns.
-use crate::seats::{SeatedEngine, SeatedSender};
-use crate::units::HeldUnit;
+use crate::held_unit::HeldUnit;
+use crate::seated_engine::SeatedEngine;
+use crate::seated_sender::SeatedSender;
 
 /// The kinds of things that a handle may own.
 #[derive(Drop)]
@@ -8,6 +9,4 @@ pub(crate) enum Object {
     Unit(HeldUnit),
     Sender(SeatedSender),
     Engine(SeatedEngine),
-    /// Lent to a call that is running.
-    Gone,
 }
