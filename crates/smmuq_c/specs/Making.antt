@@ -14,13 +14,17 @@ use Rattle.smmuq_c.specs.declared.object.Object.TheVariants.{Unit as UnitOf}
 abbrev pub IsCapacity : ℕ → Type 0
 IsCapacity capacity = (0 < capacity) × (capacity ≤ 65536)
 
+-- Empty caches of this capacity, which is in range.
+pub record AreNewCaches (capacity : ℕ) (caches : Stored) : Type 0 where
+  pub in_range : IsCapacity capacity
+  pub capacity_is : caches.capacity ≡ capacity
+  pub empty : caches.entries ≡ held []
+
 -- A unit that has taken nothing, with empty caches of this capacity.
 pub record IsNewUnit (capacity : ℕ) (unit : UnitValue) : Type 0 where
   pub caches : Stored
+  pub caches_are : AreNewCaches capacity caches
   pub unit_is : unit ≡ new_unit caches
-  pub capacity_is : caches.capacity ≡ capacity
-  pub in_range : IsCapacity capacity
-  pub empty : caches.entries ≡ held []
 
 -- The handle holds such a unit, and what it held before is dropped; or it is as before.
 abbrev pub HasMadeUnit : ℕ → Option Object → Option Object → Status → Type 0

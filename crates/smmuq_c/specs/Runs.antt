@@ -9,11 +9,14 @@ use Rattle.engine.specs.Settled.{IsSettled}
 use Rattle.engine.specs.Stops.{IsStopped}
 use Rattle.engine.specs.Counting.{taken}
 use Rattle.engine.specs.Units.{OnlyRemoves}
-use Rattle.engine.specs.Engines.{EngineValue, HasRun}
+use Rattle.engine.specs.declared.answer.Registers.{Registers}
+use Rattle.engine.specs.Engines.{EngineValue, HasRun, HasLooked}
 use Rattle.smmuq_c.specs.Statuses.{ill_number}
 use Rattle.smmuq_c.specs.declared.status.Status.{Status}
 use Rattle.smmuq_c.specs.declared.status.Status.TheVariants as status
+use Rattle.smmuq_c.specs.declared.status.Status.TheVariants.{Done}
 use Rattle.smmuq_c.specs.declared.words.RunWords.{RunWords}
+use Rattle.smmuq_c.specs.declared.words.RegisterWords.{RegisterWords}
 
 -- cut to 1 to 64
 abbrev pub run_length : ℕ → ℕ
@@ -23,7 +26,7 @@ abbrev pub run_status : RunAnswer → Status
 run_status Empty = status.RingEmpty
 run_status Drained = status.RingDrained
 run_status Unwritten = status.RingUnwritten
-run_status (Applied count removed) = status.Done
+run_status (Applied count removed) = Done
 run_status (Stopped ill) = status.Illegal ill
 run_status (Replaced ill) = status.Replaced
 run_status StillStopped = status.StillStopped
@@ -51,3 +54,16 @@ pub record HasRunFor (most : ℕ) (told : RunWords) (old new : EngineValue) (sta
   pub ring_is : new.consumer.ring ≡ old.consumer.ring
   pub status_is : status ≡ run_status answer
   pub told_is : told ≡ run_words answer
+
+-- ---- registers
+
+abbrev pub register_words : Registers → RegisterWords
+register_words found = record { prod = found.prod; cons = found.cons; gerror = found.gerror; gerrorn = found.gerrorn }
+
+-- The engine looked, and its registers at that moment are told.
+pub record HasToldRegisters (told : RegisterWords) (old new : EngineValue) (status : Status) : Type 0 where
+  pub found : Registers
+  pub looked : HasLooked old new found
+  pub ring_is : new.consumer.ring ≡ old.consumer.ring
+  pub told_is : told ≡ register_words found
+  pub status_is : status ≡ Done

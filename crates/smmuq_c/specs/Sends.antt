@@ -1,13 +1,17 @@
 -- What the calls of a sender do to it, and what C gets of them.
 use Rattle.std.specs.Prelude.{◌≡◌, ◌≤◌, ℕ, max, true, false, List, [], ◌∷◌, Option, None, Some}
 use Rattle.cmdcodec.specs.declared.raw.Raw.{Raw}
+use Rattle.cmdcodec.specs.Fields.{bit}
+use Rattle.qindex.specs.declared.control.Control.{Control}
 use Rattle.batch.specs.Refusals.{list_refusal}
 use Rattle.ringcore.specs.declared.world.event.Who.TheVariants.{Sender as SenderOf}
 use Rattle.ringcore.specs.declared.world.event.Event.{Event}
-use Rattle.ringcore.specs.declared.world.event.Event.TheVariants.{Ask, Close}
+use Rattle.ringcore.specs.declared.world.event.Event.TheVariants.{Look, Ask, Close}
+use Rattle.ringcore.specs.world.World.{world, control as control_of}
 use Rattle.ring.specs.table.Histories.{Grew, GrewBy, AreApplied}
 use Rattle.ring.specs.sender.Senders.{SenderValue, ReceiptValue}
 use Rattle.ring.specs.sender.Sending.{IsSent, IsSentBare, IsGivenUp}
+use Rattle.smmuq_c.specs.declared.words.ControlWords.{ControlWords}
 use Rattle.smmuq_c.specs.declared.status.Status.{Status}
 use Rattle.smmuq_c.specs.declared.status.Status.TheVariants.{Done, Batch, Refused}
 
@@ -60,4 +64,16 @@ pub record HasTold (told : ℕ) (old new : SenderValue) (status : Status) : Type
 
 pub record HasClosed (old new : SenderValue) (status : Status) : Type 0 where
   pub closed : HasStepped Close old new
+  pub status_is : status ≡ Done
+
+-- prod and cons are indexes: the wrap bit stands above the place
+abbrev pub control_words : Control → ControlWords
+control_words control = record { prod = control.prod.number; cons = control.cons.number; closed = bit control.closed }
+
+-- It looked, and what it found, as it stood in the run that it knows from then on, is told.
+pub record HasLookedFor (told : ControlWords) (old new : SenderValue) (status : Status) : Type 0 where
+  pub control : Control
+  pub looked : HasStepped (Look control) old new
+  pub control_is : control ≡ control_of old.ring.made_with.geometry (world new.history)
+  pub told_is : told ≡ control_words control
   pub status_is : status ≡ Done

@@ -4,7 +4,7 @@ ghost use Rattle.engine.specs.Units.{StaysSettled};
 ghost use Rattle.smmuq_c.specs.Judging.{IsJudgement, took_by, HasJudgedFor};
 ghost use Rattle.smmuq_c.specs.Entries.{HasFilled, HasEvicted, TellsEntry};
 ghost use Rattle.smmuq_c.specs.Registers.{HasAcknowledged, error_words, count_words};
-ghost use Rattle.smmuq_c.specs.Making.{IsNewUnit, IsCapacity};
+ghost use Rattle.smmuq_c.specs.Making.{AreNewCaches, IsNewUnit, IsCapacity};
 
 use crate::answers::{acknowledgement_status, fill_status, tell_entry, verdict_status};
 use crate::status::Status;
@@ -51,14 +51,26 @@ pub(crate) enum Refusal {
 /// How many commands a unit takes.
 const MOST_COMMANDS: u64 = 1 << 46;
 
+/// Empty caches for so many entries, 1 to 65,536: C4 refuses another number.
+pub(crate) fn new_caches(alloc: Global, capacity: u32) -> Result<Caches, Status>
+    ensures ok { IfOk result (λ caches. AreNewCaches capacity caches) }
+    ensures err { OnErr result (result ≡ Err (Status.Cache CacheFault.BadCapacity)) }
+    ensures refused { OnErr result (¬ IsCapacity capacity) }
+{
+    match Caches::new(alloc, capacity) {
+        Ok(caches) => Ok(caches),
+        Err(fault) => Err(Status::Cache(fault)),
+    }
+}
+
 impl HeldUnit {
     /// A unit with empty caches for so many entries, 1 to 65,536: C4 refuses another number.
-    pub(crate) fn new(alloc: Global, capacity: u32) -> Result<HeldUnit, CacheFault>
+    pub(crate) fn new(alloc: Global, capacity: u32) -> Result<HeldUnit, Status>
         ensures ok { IfOk result (λ unit. IsNewUnit capacity unit) }
-        ensures err { OnErr result (result ≡ Err CacheFault.BadCapacity) }
+        ensures err { OnErr result (result ≡ Err (Status.Cache CacheFault.BadCapacity)) }
         ensures refused { OnErr result (¬ IsCapacity capacity) }
     {
-        let caches = Caches::new(alloc, capacity)?;
+        let caches = new_caches(alloc, capacity)?;
         Ok(HeldUnit {
             unit: Unit::new(caches),
             awaited: None,

@@ -1,43 +1,21 @@
 //! The export that makes a ring: a handle for each sender and one for the engine, each for a thread of its own.
-ghost use Rattle.std.specs.Prelude.{◌≡◌, ◌≤◌, IfOk, length, map};
+ghost use Rattle.std.specs.Prelude.{◌≡◌, ◌≤◌, Some, IfOk, IfErr, OnOk, length, map};
 ghost use Rattle.std.specs.List.{All};
 ghost use Rattle.std.specs.Arc.{arc_value};
+ghost use Rattle.smmuq_c.specs.declared.object.Object.TheVariants.{Sender as SenderOf};
 ghost use Rattle.smmuq_c.specs.Calls.{Answers};
+ghost use Rattle.smmuq_c.specs.MakingRings.{HasMadeRing, AreNewSeats, IsNoRing, objects_in, boxed};
 
 use crate::handle::{Handle, put};
+use crate::held_unit::new_caches;
 use crate::object::Object;
 use crate::seated_engine::SeatedEngine;
 use crate::seated_sender::SeatedSender;
 use crate::status::Status;
-use caches::{CacheFault, Caches};
 use engine::{Engine, Unit};
-use ring::{Ring, RingFault, Sender};
+use ring::{Ring, Sender};
 use std::alloc::{AllocError, Global};
 use std::sync::Arc;
-
-impl From<CacheFault> for Status {
-    fn from(fault: CacheFault) -> Status
-        ensures { result ≡ Status.Cache fault }
-    {
-        Status::Cache(fault)
-    }
-}
-
-impl From<RingFault> for Status {
-    fn from(fault: RingFault) -> Status
-        ensures { result ≡ Status.Ring fault }
-    {
-        Status::Ring(fault)
-    }
-}
-
-impl From<AllocError> for Status {
-    fn from(_: AllocError) -> Status
-        ensures { result ≡ Status.NoMemory }
-    {
-        Status::NoMemory
-    }
-}
 
 /// What goes into the handles of a ring.
 #[derive(Drop)]
@@ -47,8 +25,8 @@ struct Seats {
 }
 
 /// Makes a ring of `2^log2` slots, and fills a handle for each sender, in the order of their numbers, and one for its
-/// engine, whose caches hold `capacity` entries. Each sender may reserve `max_batches` batches. C4, N1, N2, N3, N4 or
-/// `NO_MEMORY` where none is made: then all handles are as before.
+/// engine, whose caches hold `capacity` entries. Each sender may reserve `max_batches` batches. What the handles held is
+/// dropped. C4, N1, N2, N3, N4 or `NO_MEMORY` where none is made: then all handles are as before.
 #[unsafe(no_mangle)]
 pub extern "C" fn smmuq_ring_new(
     alloc: Global,
@@ -57,8 +35,23 @@ pub extern "C" fn smmuq_ring_new(
     capacity: u32,
     senders: &mut [Handle],
     engine: &mut Handle,
-) -> u32 {
-    let count = u32::try_from(senders.len()).unwrap_or(u32::MAX);
+) -> u32
+    ensures { Answers (HasMadeRing log2 max_batches capacity senders.old senders.new engine.old.object engine.new.object) result }
+{
+    make_ring(alloc, log2, max_batches, capacity, senders, engine).number()
+}
+
+fn make_ring(
+    alloc: Global,
+    log2: u32,
+    max_batches: u32,
+    capacity: u32,
+    senders: &mut [Handle],
+    engine: &mut Handle,
+) -> Status
+    ensures { HasMadeRing log2 max_batches capacity senders.old senders.new engine.old.object engine.new.object result }
+{
+    let count = senders.len().min(u32::MAX as usize) as u32;
     match new_seats(alloc, log2, count, max_batches, capacity) {
         Ok(
             Seats {
@@ -68,9 +61,9 @@ pub extern "C" fn smmuq_ring_new(
         ) => {
             fill_all(senders, seats);
             put(engine, seat);
-            Status::Done.number()
+            Status::Done
         }
-        Err(status) => status.number(),
+        Err(status) => status,
     }
 }
 
@@ -81,13 +74,26 @@ fn new_seats(
     senders: u32,
     max_batches: u32,
     capacity: u32,
-) -> Result<Seats, Status> {
-    let caches = Caches::new(alloc, capacity)?;
-    let (ring, all, consumer) = Ring::new::<Unit>(alloc, log2, senders, max_batches)?;
+) -> Result<Seats, Status>
+    ensures made { IfOk result (λ s. AreNewSeats log2 senders max_batches capacity (boxed s.senders.items) s.engine.value) }
+    ensures refused { IfErr result (λ status. IsNoRing log2 senders max_batches capacity status) }
+    ensures count { IfOk result (λ s. length s.senders.items ≡ senders) }
+    ensures few { OnOk result (senders ≤ 256) }
+{
+    let caches = match new_caches(alloc, capacity) {
+        Ok(caches) => caches,
+        Err(status) => return Err(status),
+    };
+    let (ring, all, consumer) = match Ring::new::<Unit>(alloc, log2, senders, max_batches) {
+        Ok(parts) => parts,
+        Err(fault) => return Err(Status::Ring(fault)),
+    };
     let Ok(ring) = Arc::new(alloc, ring) else {
         return Err(Status::NoMemory);
     };
-    let senders = seat_all(alloc, &ring, all)?;
+    let Ok(senders) = seat_all(alloc, &ring, all) else {
+        return Err(Status::NoMemory);
+    };
     let seated = SeatedEngine::new(ring, Engine::new(consumer, caches));
     match Box::new(alloc, Object::Engine(seated)) {
         Ok(engine) => Ok(Seats { senders, engine }),
@@ -102,6 +108,7 @@ fn seat_all(
     all: Vec<Sender>,
 ) -> Result<Vec<Box<Object>>, AllocError>
     requires { All (λ s. s.ring ≡ arc_value ring.now) all.items }
+    ensures { IfOk result (λ seats. boxed seats.items ≡ map SenderOf all.items) }
 {
     let mut all = all;
     let mut seats = Vec::new(alloc);
@@ -114,11 +121,14 @@ fn seat_all(
 }
 
 /// Fills the handles, the first from the last seat.
-fn fill_all(handles: &mut [Handle], seats: Vec<Box<Object>>) {
+fn fill_all(handles: &mut [Handle], seats: Vec<Box<Object>>)
+    requires { length seats.items ≡ length handles.old }
+    ensures objects { objects_in handles.new ≡ map Some (boxed seats.items) }
+    ensures many { length handles.new ≡ length handles.old }
+{
     let mut seats = seats;
     for handle in handles.iter_mut() {
-        if let Some(seat) = seats.pop() {
-            put(handle, seat);
-        }
+        let seat = seats.pop().unwrap();
+        put(handle, seat);
     }
 }

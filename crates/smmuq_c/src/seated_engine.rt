@@ -5,11 +5,11 @@ ghost use Rattle.ring.specs.consumer.Completing.{taken_of};
 ghost use Rattle.engine.specs.Settled.{IsSettled};
 ghost use Rattle.smmuq_c.specs.Entries.{HasFilled, HasEvicted, TellsEntry};
 ghost use Rattle.smmuq_c.specs.Registers.{HasAcknowledged, error_words, count_words};
-ghost use Rattle.smmuq_c.specs.Runs.{HasRunFor};
+ghost use Rattle.smmuq_c.specs.Runs.{HasRunFor, HasToldRegisters};
 
 use crate::answers::{acknowledgement_status, fill_status, tell_entry};
 use crate::status::Status;
-use crate::words::{Errors, Held, RunWords, Tallies};
+use crate::words::{Errors, Held, RegisterWords, RunWords, Tallies};
 use caches::Tag;
 use engine::{Engine, Remedy};
 use ring::Ring;
@@ -54,6 +54,13 @@ impl SeatedEngine {
         let answer = self.engine.step_run(&self.ring, most.max(1).min(64));
         *told = RunWords::from(answer);
         Status::from(answer)
+    }
+
+    pub(crate) fn registers(&mut self, told: &mut RegisterWords) -> Status
+        ensures { HasToldRegisters told.new self.old self.new result }
+    {
+        *told = RegisterWords::from(self.engine.registers(&self.ring));
+        Status::Done
     }
 
     pub(crate) fn fill(&mut self, tag: Tag, value: u64) -> Status

@@ -1,9 +1,10 @@
 //! A sender with its share of its own ring.
 ghost use Rattle.std.specs.Prelude.{◌≡◌};
 ghost use Rattle.std.specs.Arc.{arc_value};
-ghost use Rattle.smmuq_c.specs.Sends.{HasSent, HasSentBare, HasTold, HasClosed};
+ghost use Rattle.smmuq_c.specs.Sends.{HasSent, HasSentBare, HasTold, HasClosed, HasLookedFor};
 
 use crate::status::Status;
+use crate::words::ControlWords;
 use batch::{Batch, BatchFault};
 use cmdcodec::Raw;
 use ring::{Cause, Receipt, Ring, Sender};
@@ -99,6 +100,16 @@ impl SeatedSender {
         let mut sender = self.sender.take().unwrap();
         sender.close(&self.ring);
         self.sender = Some(sender);
+        Status::Done
+    }
+
+    pub(crate) fn look(&mut self, told: &mut ControlWords) -> Status
+        ensures { HasLookedFor told.new self.old self.new result }
+    {
+        let mut sender = self.sender.take().unwrap();
+        let control = sender.look(&self.ring);
+        self.sender = Some(sender);
+        *told = ControlWords::of(&control);
         Status::Done
     }
 }

@@ -1,10 +1,11 @@
 //! The exports of a sender.
 ghost use Rattle.smmuq_c.specs.Calls.{HasCalled, OfSender};
-ghost use Rattle.smmuq_c.specs.Sends.{HasSent, HasSentBare, HasTold, HasClosed};
+ghost use Rattle.smmuq_c.specs.Sends.{HasSent, HasSentBare, HasTold, HasClosed, HasLookedFor};
 
 use crate::handle::{Handle, put, take};
 use crate::object::Object;
 use crate::status::Status;
+use crate::words::ControlWords;
 use cmdcodec::Raw;
 use std::alloc::Global;
 
@@ -105,6 +106,28 @@ fn close(object: &mut Object) -> Status
 {
     match object {
         Object::Sender(sender) => sender.close(),
+        Object::Unit(_) | Object::Engine(_) => Status::WrongHandle,
+    }
+}
+
+/// Tells SMMU_CMDQ_PROD and SMMU_CMDQ_CONS.RD at this moment, and whether the ring is closed.
+#[unsafe(no_mangle)]
+pub extern "C" fn smmuq_look(alloc: Global, sender: &mut Handle, told: &mut ControlWords) -> u32
+    ensures { HasCalled (OfSender (HasLookedFor told.new)) sender.old.object sender.new.object result }
+{
+    let Some(mut object) = take(alloc, sender) else {
+        return Status::EmptyHandle.number();
+    };
+    let status = look(object.as_mut(), told);
+    put(sender, object);
+    status.number()
+}
+
+fn look(object: &mut Object, told: &mut ControlWords) -> Status
+    ensures { OfSender (HasLookedFor told.new) object.old object.new result }
+{
+    match object {
+        Object::Sender(sender) => sender.look(told),
         Object::Unit(_) | Object::Engine(_) => Status::WrongHandle,
     }
 }

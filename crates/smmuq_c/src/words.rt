@@ -3,11 +3,13 @@ ghost use Rattle.std.specs.Prelude.{◌≡◌};
 ghost use Rattle.smmuq_c.specs.Judging.{verdict_words};
 ghost use Rattle.smmuq_c.specs.Entries.{entry_words};
 ghost use Rattle.smmuq_c.specs.Registers.{count_words};
-ghost use Rattle.smmuq_c.specs.Runs.{run_words};
+ghost use Rattle.smmuq_c.specs.Runs.{run_words, register_words};
+ghost use Rattle.smmuq_c.specs.Sends.{control_words};
 
 use crate::status::ill_number;
 use caches::Entry;
-use engine::{Counts, RunAnswer, Verdict};
+use engine::{Counts, Registers, RunAnswer, Verdict};
+use qindex::Control;
 
 /// What a command did: how many entries it removed, and the number of what is illegal in it, or 0.
 #[repr(C)]
@@ -126,6 +128,50 @@ impl From<RunAnswer> for RunWords {
             | RunAnswer::Unwritten
             | RunAnswer::StillStopped
             | RunAnswer::Exhausted => RunWords::NONE,
+        }
+    }
+}
+
+/// SMMU_CMDQ_PROD, SMMU_CMDQ_CONS, SMMU_GERROR and SMMU_GERRORN at one moment.
+#[repr(C)]
+#[derive(Clone, Copy)]
+pub struct RegisterWords {
+    pub prod: u32,
+    pub cons: u32,
+    pub gerror: u32,
+    pub gerrorn: u32,
+}
+
+impl From<Registers> for RegisterWords {
+    fn from(registers: Registers) -> RegisterWords
+        ensures { result ≡ register_words registers }
+    {
+        RegisterWords {
+            prod: registers.prod,
+            cons: registers.cons,
+            gerror: registers.gerror,
+            gerrorn: registers.gerrorn,
+        }
+    }
+}
+
+/// SMMU_CMDQ_PROD and SMMU_CMDQ_CONS.RD at one moment, and whether the ring is closed, 0 or 1.
+#[repr(C)]
+#[derive(Clone, Copy)]
+pub struct ControlWords {
+    pub prod: u32,
+    pub cons: u32,
+    pub closed: u32,
+}
+
+impl ControlWords {
+    pub(crate) fn of(control: &Control) -> ControlWords
+        ensures { result ≡ control_words control.now }
+    {
+        ControlWords {
+            prod: control.prod.get(),
+            cons: control.cons.get(),
+            closed: u32::from(control.closed),
         }
     }
 }
