@@ -1,0 +1,54 @@
+-- What a send of a seat's own sender did.
+use Rattle.std.proofs.Common.{◌≡◌, ℕ, List, Option, None, Some, Ok, Err, sym, ap, subst, ◌∙◌, true, false}
+use Rattle.cmdcodec.specs.declared.raw.Raw.{Raw}
+use Rattle.batch.specs.declared.fault.BatchFault.{BatchFault}
+use Rattle.batch.specs.Refusals.{unless, list_refusal}
+use Rattle.ringcore.specs.declared.world.event.Who.TheVariants.{Sender as SenderOf}
+use Rattle.ring.specs.table.Histories.{Grew}
+use Rattle.ring.specs.sender.Senders.{SenderValue, ReceiptValue}
+use Rattle.ring.specs.sender.Sending.{IsSent, IsSentBare}
+use Rattle.smmuq_c.specs.declared.status.Status.TheVariants.{Done}
+use Rattle.smmuq_c.specs.Seats.{sender_in}
+use Rattle.smmuq_c.specs.Sends.{HasSent, HasSentBare, HasGrown, tries_of}
+
+pub unrefused : (refusal : Option BatchFault) (batch commands : List Raw) → Ok batch ≡ unless refusal commands → refusal ≡ None
+unrefused None batch commands e = cc
+unrefused (Some fault) batch commands e = absurd (cc)
+
+pub is_batch : (refusal : Option BatchFault) (batch commands : List Raw) → Ok batch ≡ unless refusal commands → batch ≡ commands
+is_batch None batch commands e = cc
+is_batch (Some fault) batch commands e = absurd (cc)
+
+-- the sender that is lent is the one that the seat has
+pub lent : {held : Option SenderValue} {sender own : SenderValue} → held ≡ Some sender → sender_in held ≡ own → sender ≡ own
+lent is view = sym (ap sender_in is) ∙ view
+
+pub grown : {sender own new : SenderValue} → sender ≡ own → Grew (SenderOf sender.number) sender.trail new.trail sender.history new.history
+    → new.ring ≡ sender.ring → new.number ≡ sender.number → HasGrown own new
+grown {new = new} same history ring number = subst (λ (s : SenderValue). HasGrown s new) same (record { history = history; ring_is = ring; number_is = number })
+
+pub sent : (commands : List Raw) (tries : ℕ) {batch : List Raw} {most told : ℕ} {sender own new : SenderValue} {receipt : ReceiptValue}
+    → Ok batch ≡ unless (list_refusal commands) commands → most ≡ tries_of tries → sender ≡ own → IsSent batch most sender new receipt → told ≡ receipt.number
+    → HasGrown own new → HasSent commands tries told own new Done
+sent commands tries {batch} {most} {told} {sender} {own} {new} {receipt} made most_is same is told_is grew = (
+  (
+    receipt,
+    unrefused (list_refusal commands) batch commands made,
+    subst (λ (b : List Raw). IsSent b (tries_of tries) own new receipt) (is_batch (list_refusal commands) batch commands made)
+        (subst (λ (m : ℕ). IsSent batch m own new receipt) most_is (subst (λ (s : SenderValue). IsSent batch most s new receipt) same is)),
+    told_is,
+  ),
+  grew,
+)
+
+pub sent_bare : (commands : List Raw) (tries : ℕ) {batch : List Raw} {most : ℕ} {sender own new : SenderValue}
+    → Ok batch ≡ unless (list_refusal commands) commands → most ≡ tries_of tries → sender ≡ own → IsSentBare batch most sender new
+    → HasGrown own new → HasSentBare commands tries own new Done
+sent_bare commands tries {batch} {most} {sender} {own} {new} made most_is same is grew = (
+  (
+    unrefused (list_refusal commands) batch commands made,
+    subst (λ (b : List Raw). IsSentBare b (tries_of tries) own new) (is_batch (list_refusal commands) batch commands made)
+        (subst (λ (m : ℕ). IsSentBare batch m own new) most_is (subst (λ (s : SenderValue). IsSentBare batch most s new) same is)),
+  ),
+  grew,
+)

@@ -1,0 +1,50 @@
+-- What a call does to the object that a handle holds.
+use Rattle.std.specs.Prelude.{◌≡◌, ℕ, [], Option, None, Some, MatchOption}
+use Rattle.ring.specs.sender.Senders.{SenderValue}
+use Rattle.ring.specs.consumer.Completing.{taken_of}
+use Rattle.engine.specs.Settled.{IsSettled}
+use Rattle.engine.specs.Units.{UnitValue, StaysSettled}
+use Rattle.engine.specs.Engines.{EngineValue}
+use Rattle.smmuq_c.specs.Statuses.{number_of}
+use Rattle.smmuq_c.specs.declared.status.Status.{Status}
+use Rattle.smmuq_c.specs.declared.status.Status.TheVariants.{EmptyHandle, WrongHandle, BadField}
+use Rattle.smmuq_c.specs.declared.object.Object.{Object}
+use Rattle.smmuq_c.specs.declared.object.Object.TheVariants.{Unit as UnitOf, Sender as SenderOf, Engine as EngineOf}
+
+-- A status has this number, and this is so of it.
+abbrev pub Answers : (Status → Type 0) → ℕ → Type 0
+Answers told number = (status : Status) × (number ≡ number_of status) × told status
+
+-- The call did this to the object that the handle holds, and answered its status; or the handle is empty, and stays so.
+abbrev pub HasCalled : (Object → Object → Status → Type 0) → Option Object → Option Object → ℕ → Type 0
+HasCalled does None new number = (new ≡ None) × (number ≡ number_of EmptyHandle)
+HasCalled does (Some old) new number = (after : Object) × (new ≡ Some after) × Answers (does old after) number
+
+-- ---- an object of one kind is changed, and one of another kind refused
+
+abbrev pub OfUnit : (UnitValue → UnitValue → Status → Type 0) → Object → Object → Status → Type 0
+OfUnit does (UnitOf old) new status = (after : UnitValue) × (new ≡ UnitOf after) × does old after status
+OfUnit does (SenderOf s) new status = (new ≡ SenderOf s) × (status ≡ WrongHandle)
+OfUnit does (EngineOf e) new status = (new ≡ EngineOf e) × (status ≡ WrongHandle)
+
+abbrev pub OfSender : (SenderValue → SenderValue → Status → Type 0) → Object → Object → Status → Type 0
+OfSender does (UnitOf u) new status = (new ≡ UnitOf u) × (status ≡ WrongHandle)
+OfSender does (SenderOf old) new status = (after : SenderValue) × (new ≡ SenderOf after) × does old after status
+OfSender does (EngineOf e) new status = (new ≡ EngineOf e) × (status ≡ WrongHandle)
+
+abbrev pub OfEngine : (EngineValue → EngineValue → Status → Type 0) → Object → Object → Status → Type 0
+OfEngine does (UnitOf u) new status = (new ≡ UnitOf u) × (status ≡ WrongHandle)
+OfEngine does (SenderOf s) new status = (new ≡ SenderOf s) × (status ≡ WrongHandle)
+OfEngine does (EngineOf old) new status = (after : EngineValue) × (new ≡ EngineOf after) × does old after status
+
+-- Of a unit, also of that of an engine, whose consumer stays. Entries that were settled are.
+abbrev pub OfAnyUnit : (UnitValue → UnitValue → Status → Type 0) → Object → Object → Status → Type 0
+OfAnyUnit does (UnitOf old) new status = (after : UnitValue) × (new ≡ UnitOf after) × StaysSettled old after [] × does old after status
+OfAnyUnit does (SenderOf s) new status = (new ≡ SenderOf s) × (status ≡ WrongHandle)
+OfAnyUnit does (EngineOf e) new status =
+    (after : UnitValue) × (new ≡ EngineOf (record e { unit = after })) × IsSettled after.caches.entries (taken_of e.consumer.trail) × does e.unit after status
+
+-- It did this with what its words say; where they say nothing, it did nothing.
+abbrev pub OfSaid : {X : Type 0} → (Option X → Type 0) → (X → UnitValue → UnitValue → Status → Type 0) → Object → Object → Status → Type 0
+OfSaid {X} said does old new status =
+    (found : Option X) × said found × MatchOption found ((new ≡ old) × (status ≡ BadField)) (λ x. OfAnyUnit (does x) old new status)

@@ -1,0 +1,88 @@
+-- Which command the flat fields of C say, and what decoding and encoding do.
+use Rattle.std.specs.Prelude.{◌≡◌, ◌<◌, ◌≤◌, ◌*◌, ◌^◌, ℕ, Option, None, Some, Result, Ok, Err}
+use Rattle.cmdcodec.specs.declared.raw.Raw.{Raw}
+use Rattle.cmdcodec.specs.declared.ill.Ill.{Ill}
+use Rattle.cmdcodec.specs.declared.command.Command.{Command}
+use Rattle.cmdcodec.specs.declared.command.Command.TheVariants.{CfgiSte, CfgiSteRange, CfgiCd, CfgiCdAll, TlbiNhAll, TlbiNhAsid, TlbiNhVa, TlbiNhVaa, TlbiEl2All, TlbiEl2Asid, TlbiEl2Va, TlbiEl2Vaa, TlbiS12Vmall, TlbiS2Ipa, TlbiNsnhAll, AtcInv, Kept, CmdSync}
+use Rattle.cmdcodec.specs.declared.reach.Reach.{Reach}
+use Rattle.cmdcodec.specs.declared.reach.Reach.TheVariants.{Page, Range}
+use Rattle.cmdcodec.specs.Fields.{bit}
+use Rattle.cmdcodec.specs.Opcodes.{opcode_of}
+use Rattle.cmdcodec.specs.Legality.{IsKept}
+use Rattle.cmdcodec.specs.Spelling.{granule_number}
+use Rattle.cmdcodec.specs.Words.{decoding}
+use Rattle.smmuq_c.specs.declared.fields.Fields.{Fields}
+use Rattle.smmuq_c.specs.declared.status.Status.{Status}
+use Rattle.smmuq_c.specs.declared.status.Status.TheVariants.{Done, Illegal, BadField}
+
+-- ---- fields that several commands have, in range
+
+abbrev pub SaysMachine : Fields → ℕ → Type 0
+SaysMachine f vmid = (f.vmid ≡ vmid) × (vmid < 2 ^ 16)
+
+abbrev pub SaysSpace : Fields → ℕ → Type 0
+SaysSpace f asid = (f.asid ≡ asid) × (asid < 2 ^ 16)
+
+abbrev pub SaysSubstream : Fields → ℕ → Type 0
+SaysSubstream f ssid = (f.ssid ≡ ssid) × (ssid < 2 ^ 20)
+
+-- the page at the address, of so many
+pub record SaysPage (f : Fields) (pages page : ℕ) : Type 0 where
+  pub address_is : f.address ≡ page * 4096
+  pub in_range : page < pages
+
+-- TG is 0 where one page is meant.
+abbrev pub SaysReachBy : ℕ → ℕ → ℕ → Reach → Type 0
+SaysReachBy tg num scale Page = tg ≡ 0
+SaysReachBy tg num scale (Range granule count power) = (tg ≡ granule_number granule) × (num ≡ count) × (count < 32) × (scale ≡ power) × (power < 32)
+
+abbrev pub SaysReach : Fields → Reach → Type 0
+SaysReach f reach = SaysReachBy f.tg f.num f.scale reach
+
+-- ---- a command
+
+-- The opcode is that of the command, and the fields that it has are these, in range.
+abbrev pub SaysCommand : Fields → Command → Type 0
+SaysCommand f (CfgiSte sid leaf) = (f.opcode ≡ 0x03) × (f.sid ≡ sid) × (f.leaf ≡ bit leaf)
+SaysCommand f (CfgiSteRange sid range) = (f.opcode ≡ 0x04) × (f.sid ≡ sid) × (f.size ≡ range) × (range < 32)
+SaysCommand f (CfgiCd sid ssid leaf) = (f.opcode ≡ 0x05) × (f.sid ≡ sid) × SaysSubstream f ssid × (f.leaf ≡ bit leaf)
+SaysCommand f (CfgiCdAll sid) = (f.opcode ≡ 0x06) × (f.sid ≡ sid)
+SaysCommand f (TlbiNhAll vmid) = (f.opcode ≡ 0x10) × SaysMachine f vmid
+SaysCommand f (TlbiNhAsid vmid asid) = (f.opcode ≡ 0x11) × SaysMachine f vmid × SaysSpace f asid
+SaysCommand f (TlbiNhVa vmid asid leaf page reach) =
+    (f.opcode ≡ 0x12) × SaysMachine f vmid × SaysSpace f asid × (f.leaf ≡ bit leaf) × SaysPage f (2 ^ 52) page × SaysReach f reach
+SaysCommand f (TlbiNhVaa vmid leaf page reach) = (f.opcode ≡ 0x13) × SaysMachine f vmid × (f.leaf ≡ bit leaf) × SaysPage f (2 ^ 52) page × SaysReach f reach
+SaysCommand f TlbiEl2All = f.opcode ≡ 0x20
+SaysCommand f (TlbiEl2Asid asid) = (f.opcode ≡ 0x21) × SaysSpace f asid
+SaysCommand f (TlbiEl2Va asid leaf page reach) = (f.opcode ≡ 0x22) × SaysSpace f asid × (f.leaf ≡ bit leaf) × SaysPage f (2 ^ 52) page × SaysReach f reach
+SaysCommand f (TlbiEl2Vaa leaf page reach) = (f.opcode ≡ 0x23) × (f.leaf ≡ bit leaf) × SaysPage f (2 ^ 52) page × SaysReach f reach
+SaysCommand f (TlbiS12Vmall vmid) = (f.opcode ≡ 0x28) × SaysMachine f vmid
+SaysCommand f (TlbiS2Ipa vmid leaf page reach) = (f.opcode ≡ 0x2a) × SaysMachine f vmid × (f.leaf ≡ bit leaf) × SaysPage f (2 ^ 40) page × SaysReach f reach
+SaysCommand f TlbiNsnhAll = f.opcode ≡ 0x30
+SaysCommand f (AtcInv sid ssv ssid global size page) =
+    (f.opcode ≡ 0x40) × (f.sid ≡ sid) × (f.ssv ≡ bit ssv) × SaysSubstream f ssid × (f.global ≡ bit global) × (f.size ≡ size) × (size ≤ 52) × SaysPage f (2 ^ 52) page
+SaysCommand f (Kept raw) = (f.opcode ≡ opcode_of raw) × (f.lo ≡ raw.lo) × (f.hi ≡ raw.hi) × IsKept raw
+SaysCommand f (CmdSync cs msh attr «data» address) =
+    (f.opcode ≡ 0x46) × (f.cs ≡ cs) × (cs < 3) × (f.msh ≡ msh) × (msh < 4) × (f.attr ≡ attr) × (attr < 16) × (f.data ≡ «data») × (f.address ≡ address * 4) × (address < 2 ^ 50)
+
+-- It is the command that the fields say, or there is none.
+abbrev pub IsCommandOf : Fields → Option Command → Type 0
+IsCommandOf f None = (command : Command) → ¬ SaysCommand f command
+IsCommandOf f (Some command) = SaysCommand f command
+
+-- ---- decoding and encoding
+
+abbrev pub decode_status : Result Command Ill → Status
+decode_status (Ok command) = Done
+decode_status (Err ill) = Illegal ill
+
+-- The words of legal words' command have these fields; of illegal ones they stay.
+abbrev pub HasDecoded : Result Command Ill → Fields → Fields → Type 0
+HasDecoded (Ok command) old new = SaysCommand new command
+HasDecoded (Err ill) old new = new ≡ old
+
+-- The words spell the command that the fields say; or they say none, and the words stay.
+abbrev pub HasEncoded : Fields → Raw → Raw → Status → Type 0
+HasEncoded fields old new Done = (command : Command) × SaysCommand fields command × (decoding new ≡ Ok command)
+HasEncoded fields old new BadField = ((command : Command) → ¬ SaysCommand fields command) × (new ≡ old)
+HasEncoded fields old new other = ⊥

@@ -1,0 +1,83 @@
+//! Answers of the libraries below, as statuses.
+ghost use Rattle.std.specs.Prelude.{◌≡◌, IfSome};
+ghost use Rattle.smmuq_c.specs.Judging.{verdict_status, refusal_status};
+ghost use Rattle.smmuq_c.specs.Entries.{fill_status, entry_status, entry_words};
+ghost use Rattle.smmuq_c.specs.Registers.{acknowledgement_status};
+ghost use Rattle.smmuq_c.specs.Runs.{run_status};
+
+use crate::held_unit::Refusal;
+use crate::status::Status;
+use crate::words::Held;
+use caches::{CacheFault, Entry};
+use engine::{AckFault, RunAnswer, Verdict};
+
+pub(crate) fn verdict_status(verdict: &Verdict) -> Status
+    ensures { result ≡ verdict_status verdict.now }
+{
+    match *verdict {
+        Verdict::Applied { .. } => Status::Done,
+        Verdict::Stopped(ill) => Status::Illegal(ill),
+        Verdict::Replaced(_) => Status::Replaced,
+    }
+}
+
+impl From<Refusal> for Status {
+    fn from(refusal: Refusal) -> Status
+        ensures { result ≡ refusal_status refusal }
+    {
+        match refusal {
+            Refusal::StillStopped => Status::StillStopped,
+            Refusal::OtherCommand => Status::OtherCommand,
+            Refusal::Exhausted => Status::Exhausted,
+        }
+    }
+}
+
+impl From<RunAnswer> for Status {
+    fn from(answer: RunAnswer) -> Status
+        ensures { result ≡ run_status answer }
+    {
+        match answer {
+            RunAnswer::Empty => Status::RingEmpty,
+            RunAnswer::Drained => Status::RingDrained,
+            RunAnswer::Unwritten => Status::RingUnwritten,
+            RunAnswer::Applied { .. } => Status::Done,
+            RunAnswer::Stopped(ill) => Status::Illegal(ill),
+            RunAnswer::Replaced(_) => Status::Replaced,
+            RunAnswer::StillStopped => Status::StillStopped,
+            RunAnswer::Exhausted => Status::Exhausted,
+        }
+    }
+}
+
+pub(crate) fn fill_status(filled: Result<Option<Entry>, CacheFault>) -> Status
+    ensures { result ≡ fill_status filled }
+{
+    match filled {
+        Ok(_) => Status::Done,
+        Err(fault) => Status::Cache(fault),
+    }
+}
+
+/// Tells the entry, where there is one.
+pub(crate) fn tell_entry(entry: Option<Entry>, told: &mut Held) -> Status
+    ensures status { result ≡ entry_status entry }
+    ensures told { IfSome entry (λ entry. told.new ≡ entry_words entry) }
+{
+    match entry {
+        Some(entry) => {
+            *told = Held::from(entry);
+            Status::Done
+        }
+        None => Status::NotHeld,
+    }
+}
+
+pub(crate) fn acknowledgement_status(answer: Result<(), AckFault>) -> Status
+    ensures { result ≡ acknowledgement_status answer }
+{
+    match answer {
+        Ok(()) => Status::Done,
+        Err(fault) => Status::Acknowledgement(fault),
+    }
+}

@@ -1,0 +1,80 @@
+//! The exports that build batches.
+ghost use Rattle.std.specs.Prelude.{◌≡◌, map};
+ghost use Rattle.cmdcodec.specs.Words.{encoding};
+ghost use Rattle.smmuq_c.specs.Calls.{Answers};
+ghost use Rattle.smmuq_c.specs.Batches.{IsGiven, HasRange, HasDetach};
+
+use crate::status::Status;
+use batch::Batch;
+use cmdcodec::{Asid, Page, Raw, Sid, Vmid};
+
+/// Writes a batch's commands to a buffer, and tells how many they are.
+fn give(batch: &Batch, buffer: &mut [Raw], count: &mut usize) -> Status
+    ensures { IsGiven batch.now buffer.old buffer.new count.new result }
+{
+    *count = batch.len();
+    if buffer.len() < batch.len() {
+        return Status::ShortBuffer;
+    }
+    buffer[..batch.len()].copy_from_slice(batch.as_slice());
+    Status::Done
+}
+
+/// The commands that invalidate `pages` pages of an address space from the one that holds `address` on, at most 63, and
+/// how many they are. B3, B4 or B1 where there are none; `BAD_FIELD` where `vmid` or `asid` has more than 16 bits.
+/// Where the buffer is too short, the number of commands is told all the same.
+#[unsafe(no_mangle)]
+pub extern "C" fn smmuq_range(
+    vmid: u32,
+    asid: u32,
+    address: u64,
+    pages: u64,
+    buffer: &mut [Raw],
+    count: &mut usize,
+) -> u32
+    ensures { Answers (HasRange vmid asid address pages buffer.old buffer.new count.new) result }
+{
+    write_range(vmid, asid, address, pages, buffer, count).number()
+}
+
+fn write_range(
+    vmid: u32,
+    asid: u32,
+    address: u64,
+    pages: u64,
+    buffer: &mut [Raw],
+    count: &mut usize,
+) -> Status
+    ensures { HasRange vmid asid address pages buffer.old buffer.new count.new result }
+{
+    let Some(vmid) = Vmid::new(u64::from(vmid)) else {
+        return Status::BadField;
+    };
+    let Some(asid) = Asid::new(u64::from(asid)) else {
+        return Status::BadField;
+    };
+    let page = Page::new(address >> 12).unwrap();
+    match Batch::range(vmid, asid, page, pages) {
+        Ok(batch) => give(&batch, buffer, count),
+        Err(fault) => Status::Batch(fault),
+    }
+}
+
+/// The three commands that detach a stream, and that they are three. Where the buffer is too short, that is told all
+/// the same.
+#[unsafe(no_mangle)]
+pub extern "C" fn smmuq_detach(sid: u32, buffer: &mut [Raw], count: &mut usize) -> u32
+    ensures { Answers (HasDetach sid buffer.old buffer.new count.new) result }
+{
+    write_detach(sid, buffer, count).number()
+}
+
+fn write_detach(sid: u32, buffer: &mut [Raw], count: &mut usize) -> Status
+    ensures { HasDetach sid buffer.old buffer.new count.new result }
+{
+    let sid = Sid::new(u64::from(sid)).unwrap();
+    match Batch::detach(sid) {
+        Ok(batch) => give(&batch, buffer, count),
+        Err(fault) => Status::Batch(fault),
+    }
+}

@@ -1,0 +1,111 @@
+//! The exports of the codec: words to fields and back, and texts.
+ghost use Rattle.std.specs.Prelude.{◌≡◌};
+ghost use Rattle.cmdcodec.specs.Words.{decoding};
+ghost use Rattle.smmuq_c.specs.Statuses.{number_of};
+ghost use Rattle.smmuq_c.specs.Calls.{Answers};
+ghost use Rattle.smmuq_c.specs.Commands.{decode_status, HasDecoded, HasEncoded};
+ghost use Rattle.smmuq_c.specs.Texts.{HasTold, IsCopied};
+
+use crate::fields::{Fields, command_of};
+use crate::status::Status;
+use cmdcodec::{Command, Ill, Raw, decode, encode, text};
+use std::alloc::Global;
+
+/// The version of this interface.
+#[unsafe(no_mangle)]
+pub extern "C" fn smmuq_version() -> u32
+    ensures { result ≡ 1 }
+{
+    1
+}
+
+fn decode_status(decoded: Result<Command, Ill>) -> Status
+    ensures { result ≡ decode_status decoded }
+{
+    match decoded {
+        Ok(_) => Status::Done,
+        Err(ill) => Status::Illegal(ill),
+    }
+}
+
+/// 0 where the words are legal, else what is first illegal in them, 1 to 4.
+#[unsafe(no_mangle)]
+pub extern "C" fn smmuq_check(lo: u64, hi: u64) -> u32
+    ensures { result ≡ number_of (decode_status (decoding (record { lo = lo; hi = hi }))) }
+{
+    decode_status(decode(Raw { lo, hi })).number()
+}
+
+/// The same, and the fields of legal words.
+#[unsafe(no_mangle)]
+pub extern "C" fn smmuq_decode(lo: u64, hi: u64, fields: &mut Fields) -> u32
+    ensures status { result ≡ number_of (decode_status (decoding (record { lo = lo; hi = hi }))) }
+    ensures fields { HasDecoded (decoding (record { lo = lo; hi = hi })) fields.old fields.new }
+{
+    match decode(Raw { lo, hi }) {
+        Ok(command) => {
+            *fields = Fields::from(command);
+            Status::Done.number()
+        }
+        Err(ill) => Status::Illegal(ill).number(),
+    }
+}
+
+/// The words of the command that the fields say, all free bits 0. Fields that it doesn't have don't matter. `BAD_FIELD`
+/// where they say none.
+#[unsafe(no_mangle)]
+pub extern "C" fn smmuq_encode(fields: &Fields, words: &mut Raw) -> u32
+    ensures { Answers (HasEncoded fields.now words.old words.new) result }
+{
+    encode_fields(fields, words).number()
+}
+
+fn encode_fields(fields: &Fields, words: &mut Raw) -> Status
+    ensures { HasEncoded fields.now words.old words.new result }
+{
+    let Some(command) = command_of(fields) else {
+        return Status::BadField;
+    };
+    *words = encode(&command);
+    Status::Done
+}
+
+/// The text of legal words, ended by a 0, and its length without it. Where the buffer is too short, the length that it
+/// wants is told all the same.
+#[unsafe(no_mangle)]
+pub extern "C" fn smmuq_text(
+    alloc: Global,
+    lo: u64,
+    hi: u64,
+    buffer: &mut [u8],
+    written: &mut usize,
+) -> u32
+    ensures { Answers (HasTold (decoding (record { lo = lo; hi = hi })) buffer.old buffer.new written.new) result }
+{
+    write_text(alloc, Raw { lo, hi }, buffer, written).number()
+}
+
+fn write_text(alloc: Global, raw: Raw, buffer: &mut [u8], written: &mut usize) -> Status
+    ensures { HasTold (decoding raw) buffer.old buffer.new written.new result }
+{
+    match decode(raw) {
+        Ok(command) => match text(alloc, &command) {
+            Ok(line) => copy_text(line.as_bytes(), buffer, written),
+            Err(_) => Status::NoMemory,
+        },
+        Err(ill) => Status::Illegal(ill),
+    }
+}
+
+/// Copies a text and a 0 behind it, and tells its length.
+fn copy_text(line: &[u8], buffer: &mut [u8], written: &mut usize) -> Status
+    ensures { IsCopied line.now buffer.old buffer.new written.new result }
+{
+    *written = line.len();
+    if line.len() >= buffer.len() {
+        return Status::ShortBuffer;
+    }
+    buffer[..line.len()].copy_from_slice(line);
+    buffer[line.len()] = 0;
+    Status::Done
+}

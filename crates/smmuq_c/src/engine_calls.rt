@@ -1,0 +1,64 @@
+//! The exports of an engine.
+ghost use Rattle.smmuq_c.specs.Calls.{HasCalled, OfEngine};
+ghost use Rattle.smmuq_c.specs.Runs.{HasRunFor, HasToldRegisters};
+
+use crate::handle::{Handle, put, take};
+use crate::object::Object;
+use crate::status::Status;
+use crate::words::{RegisterWords, RunWords};
+use std::alloc::Global;
+
+/// Takes up to `most` commands, cut to 1 to 64, and applies them: 0 where some were applied, 1 to 4 where the engine
+/// stopped at one, `REPLACED` where one was taken without effect; `RING_EMPTY`, `RING_DRAINED`, `RING_UNWRITTEN`,
+/// `STILL_STOPPED` or `EXHAUSTED` where none was taken.
+#[unsafe(no_mangle)]
+pub extern "C" fn smmuq_run(
+    alloc: Global,
+    engine: &mut Handle,
+    most: u32,
+    answer: &mut RunWords,
+) -> u32
+    ensures { HasCalled (OfEngine (HasRunFor most answer.new)) engine.old.object engine.new.object result }
+{
+    let Some(mut object) = take(alloc, engine) else {
+        return Status::EmptyHandle.number();
+    };
+    let status = run(object.as_mut(), most, answer);
+    put(engine, object);
+    status.number()
+}
+
+fn run(object: &mut Object, most: u32, answer: &mut RunWords) -> Status
+    ensures { OfEngine (HasRunFor most answer.new) object.old object.new result }
+{
+    match object {
+        Object::Engine(engine) => engine.run(most, answer),
+        Object::Unit(_) | Object::Sender(_) => Status::WrongHandle,
+    }
+}
+
+/// Tells the queue's registers at this moment.
+#[unsafe(no_mangle)]
+pub extern "C" fn smmuq_registers(
+    alloc: Global,
+    engine: &mut Handle,
+    told: &mut RegisterWords,
+) -> u32
+    ensures { HasCalled (OfEngine (HasToldRegisters told.new)) engine.old.object engine.new.object result }
+{
+    let Some(mut object) = take(alloc, engine) else {
+        return Status::EmptyHandle.number();
+    };
+    let status = tell_registers(object.as_mut(), told);
+    put(engine, object);
+    status.number()
+}
+
+fn tell_registers(object: &mut Object, told: &mut RegisterWords) -> Status
+    ensures { OfEngine (HasToldRegisters told.new) object.old object.new result }
+{
+    match object {
+        Object::Engine(engine) => engine.registers(told),
+        Object::Unit(_) | Object::Sender(_) => Status::WrongHandle,
+    }
+}

@@ -1,0 +1,102 @@
+//! The exports of entries, of a unit or of an engine.
+ghost use Rattle.smmuq_c.specs.Calls.{HasCalled, OfSaid};
+ghost use Rattle.smmuq_c.specs.Entries.{HasFilled, HasEvicted, HasLookedUp};
+ghost use Rattle.smmuq_c.specs.Tags.{IsTagOf};
+
+use crate::handle::{Handle, put, take};
+use crate::object::Object;
+use crate::status::Status;
+use crate::tags::{TagWords, tag_of};
+use crate::words::Held;
+use std::alloc::Global;
+
+/// Puts an entry into the caches of a unit or an engine. It is born now. `BAD_FIELD` where the tag isn't one; C2, C1 or
+/// C3 as of `Caches::fill`.
+#[unsafe(no_mangle)]
+pub extern "C" fn smmuq_fill(alloc: Global, handle: &mut Handle, tag: &TagWords, value: u64) -> u32
+    ensures { HasCalled (OfSaid (IsTagOf tag.now) (λ t. HasFilled t value)) handle.old.object handle.new.object result }
+{
+    let Some(mut object) = take(alloc, handle) else {
+        return Status::EmptyHandle.number();
+    };
+    let status = fill(object.as_mut(), tag, value);
+    put(handle, object);
+    status.number()
+}
+
+fn fill(object: &mut Object, tag: &TagWords, value: u64) -> Status
+    ensures { OfSaid (IsTagOf tag.now) (λ t. HasFilled t value) object.old object.new result }
+{
+    let Some(tag) = tag_of(tag) else {
+        return Status::BadField;
+    };
+    match object {
+        Object::Unit(held) => held.fill(tag, value),
+        Object::Engine(seated) => seated.fill(tag, value),
+        Object::Sender(_) => Status::WrongHandle,
+    }
+}
+
+/// Tells what a unit or an engine holds under a tag. `NOT_HELD` where it holds nothing, `BAD_FIELD` where the tag isn't
+/// one.
+#[unsafe(no_mangle)]
+pub extern "C" fn smmuq_lookup(
+    alloc: Global,
+    handle: &mut Handle,
+    tag: &TagWords,
+    held: &mut Held,
+) -> u32
+    ensures { HasCalled (OfSaid (IsTagOf tag.now) (λ t. HasLookedUp t held.new)) handle.old.object handle.new.object result }
+{
+    let Some(object) = take(alloc, handle) else {
+        return Status::EmptyHandle.number();
+    };
+    let status = lookup(object.as_ref(), tag, held);
+    put(handle, object);
+    status.number()
+}
+
+fn lookup(object: &Object, tag: &TagWords, held: &mut Held) -> Status
+    ensures { OfSaid (IsTagOf tag.now) (λ t. HasLookedUp t held.new) object.now object.now result }
+{
+    let Some(tag) = tag_of(tag) else {
+        return Status::BadField;
+    };
+    match object {
+        Object::Unit(unit) => unit.lookup(&tag, held),
+        Object::Engine(seated) => seated.lookup(&tag, held),
+        Object::Sender(_) => Status::WrongHandle,
+    }
+}
+
+/// Removes what a unit or an engine holds under a tag, and tells it. `NOT_HELD` where it holds nothing, `BAD_FIELD`
+/// where the tag isn't one.
+#[unsafe(no_mangle)]
+pub extern "C" fn smmuq_evict(
+    alloc: Global,
+    handle: &mut Handle,
+    tag: &TagWords,
+    held: &mut Held,
+) -> u32
+    ensures { HasCalled (OfSaid (IsTagOf tag.now) (λ t. HasEvicted t held.new)) handle.old.object handle.new.object result }
+{
+    let Some(mut object) = take(alloc, handle) else {
+        return Status::EmptyHandle.number();
+    };
+    let status = evict(object.as_mut(), tag, held);
+    put(handle, object);
+    status.number()
+}
+
+fn evict(object: &mut Object, tag: &TagWords, held: &mut Held) -> Status
+    ensures { OfSaid (IsTagOf tag.now) (λ t. HasEvicted t held.new) object.old object.new result }
+{
+    let Some(tag) = tag_of(tag) else {
+        return Status::BadField;
+    };
+    match object {
+        Object::Unit(unit) => unit.evict(&tag, held),
+        Object::Engine(seated) => seated.evict(&tag, held),
+        Object::Sender(_) => Status::WrongHandle,
+    }
+}

@@ -1,0 +1,116 @@
+//! An engine with its share of its own ring.
+ghost use Rattle.std.specs.Prelude.{◌≡◌};
+ghost use Rattle.std.specs.Arc.{arc_value};
+ghost use Rattle.ring.specs.consumer.Completing.{taken_of};
+ghost use Rattle.engine.specs.Settled.{IsSettled};
+ghost use Rattle.smmuq_c.specs.Entries.{HasFilled, HasEvicted, TellsEntry};
+ghost use Rattle.smmuq_c.specs.Registers.{HasAcknowledged, error_words, count_words};
+ghost use Rattle.smmuq_c.specs.Runs.{HasRunFor, HasToldRegisters};
+
+use crate::answers::{acknowledgement_status, fill_status, tell_entry};
+use crate::status::Status;
+use crate::words::{Errors, Held, RegisterWords, RunWords, Tallies};
+use caches::Tag;
+use engine::{Engine, Remedy};
+use ring::Ring;
+use std::marker::Model;
+use std::sync::Arc;
+
+/// An engine with its ring.
+#[derive(Drop)]
+pub(crate) struct SeatedEngine {
+    ring: Arc<Ring>,
+    engine: Engine,
+}
+
+impl Model for SeatedEngine {
+    ghost use Rattle.std.specs.Prelude.{◌≡◌};
+    ghost use Rattle.std.specs.Coded.{codes};
+    ghost use Rattle.std.specs.Arc.{arc_value};
+    ghost use Rattle.caches.specs.Stored.{stored_code};
+    ghost use Rattle.engine.specs.Engines.{EngineValue};
+
+    ghost Value = { EngineValue };
+
+    ghost coded = { Prim.hlevel (codes, stored_code) };
+
+    ghost view = { λ e. e.engine };
+
+    ghost invariant = { λ e. e.engine.consumer.ring ≡ arc_value e.ring };
+}
+
+impl SeatedEngine {
+    pub(crate) fn new(ring: Arc<Ring>, engine: Engine) -> SeatedEngine
+        requires { engine.consumer.ring ≡ arc_value ring }
+        ensures { result ≡ engine }
+    {
+        SeatedEngine { ring, engine }
+    }
+
+    /// Takes up to so many commands, cut to 1 to 64, and applies them.
+    pub(crate) fn run(&mut self, most: u32, told: &mut RunWords) -> Status
+        ensures { HasRunFor most told.new self.old self.new result }
+    {
+        let answer = self.engine.step_run(&self.ring, most.max(1).min(64));
+        *told = RunWords::from(answer);
+        Status::from(answer)
+    }
+
+    pub(crate) fn registers(&mut self, told: &mut RegisterWords) -> Status
+        ensures { HasToldRegisters told.new self.old self.new result }
+    {
+        *told = RegisterWords::from(self.engine.registers(&self.ring));
+        Status::Done
+    }
+
+    pub(crate) fn fill(&mut self, tag: Tag, value: u64) -> Status
+        ensures filled { HasFilled tag value self.old.unit self.new.unit result }
+        ensures consumer { self.new ≡ record self.old { unit = self.new.unit } }
+        ensures settled { IsSettled self.new.unit.caches.entries (taken_of self.new.consumer.trail) }
+    {
+        fill_status(self.engine.fill(tag, value))
+    }
+
+    pub(crate) fn evict(&mut self, tag: &Tag, told: &mut Held) -> Status
+        ensures evicted { HasEvicted tag.now told.new self.old.unit self.new.unit result }
+        ensures consumer { self.new ≡ record self.old { unit = self.new.unit } }
+        ensures settled { IsSettled self.new.unit.caches.entries (taken_of self.new.consumer.trail) }
+    {
+        tell_entry(self.engine.evict(tag), told)
+    }
+
+    pub(crate) fn lookup(&self, tag: &Tag, told: &mut Held) -> Status
+        ensures tells { TellsEntry tag.now told.new self.now.unit result }
+        ensures settled { IsSettled self.now.unit.caches.entries (taken_of self.now.consumer.trail) }
+    {
+        self.engine.is_settled();
+        tell_entry(self.engine.lookup(tag), told)
+    }
+
+    pub(crate) fn errors(&self) -> Errors
+        ensures errors { result ≡ error_words self.now.unit.stop }
+        ensures settled { IsSettled self.now.unit.caches.entries (taken_of self.now.consumer.trail) }
+    {
+        self.engine.is_settled();
+        let (err, gerror, gerrorn) = self.engine.error();
+        Errors {
+            err,
+            gerror,
+            gerrorn,
+        }
+    }
+
+    pub(crate) fn tallies(&self) -> Tallies
+        ensures { result ≡ count_words self.now.unit.counts }
+    {
+        Tallies::from(self.engine.counts())
+    }
+
+    pub(crate) fn acknowledge(&mut self, gerrorn: u32, remedy: Remedy) -> Status
+        ensures acknowledged { HasAcknowledged gerrorn remedy self.old.unit self.new.unit result }
+        ensures consumer { self.new ≡ record self.old { unit = self.new.unit } }
+        ensures settled { IsSettled self.new.unit.caches.entries (taken_of self.new.consumer.trail) }
+    {
+        acknowledgement_status(self.engine.acknowledge(gerrorn, remedy))
+    }
+}

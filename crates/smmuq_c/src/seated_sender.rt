@@ -1,0 +1,115 @@
+//! A sender with its share of its own ring.
+ghost use Rattle.std.specs.Prelude.{◌≡◌};
+ghost use Rattle.std.specs.Arc.{arc_value};
+ghost use Rattle.smmuq_c.specs.Sends.{HasSent, HasSentBare, HasTold, HasClosed, HasLookedFor};
+
+use crate::status::Status;
+use crate::words::ControlWords;
+use batch::{Batch, BatchFault};
+use cmdcodec::Raw;
+use ring::{Cause, Receipt, Ring, Sender};
+use std::marker::Model;
+use std::sync::Arc;
+
+/// A sender with its ring.
+#[derive(Drop)]
+pub(crate) struct SeatedSender {
+    ring: Arc<Ring>,
+    /// It is lent to a send, and comes back.
+    sender: Option<Sender>,
+}
+
+impl Model for SeatedSender {
+    ghost use Rattle.std.specs.Arc.{arc_value};
+    ghost use Rattle.ring.specs.sender.Senders.{SenderValue};
+    ghost use Rattle.smmuq_c.specs.Seats.{sender_in, IsSeated};
+
+    ghost Value = { SenderValue };
+
+    ghost view = { λ s. sender_in s.sender };
+
+    ghost invariant = { λ s. IsSeated (arc_value s.ring) s.sender };
+}
+
+impl SeatedSender {
+    pub(crate) fn new(ring: Arc<Ring>, sender: Sender) -> SeatedSender
+        requires { sender.ring ≡ arc_value ring }
+        ensures { result ≡ sender }
+    {
+        SeatedSender {
+            ring,
+            sender: Some(sender),
+        }
+    }
+
+    /// Sends a batch of these commands with its closing CMD_SYNC, by at most so many tries, 0 being 1.
+    pub(crate) fn send(&mut self, commands: &[Raw], tries: u32, number: &mut u32) -> Status
+        ensures { HasSent commands.now tries number.new self.old self.new result }
+    {
+        let batch = match Batch::from_raws(commands) {
+            Ok(batch) => batch,
+            Err(fault) => return Status::Batch(fault),
+        };
+        let sender = self.sender.take().unwrap();
+        match sender.send(&self.ring, &batch, tries.max(1)) {
+            Ok((sender, receipt)) => {
+                self.sender = Some(sender);
+                *number = receipt.number();
+                Status::Done
+            }
+            Err(refused) => {
+                self.sender = Some(refused.sender);
+                Status::Refused(refused.cause)
+            }
+        }
+    }
+
+    /// The same without a CMD_SYNC.
+    pub(crate) fn send_bare(&mut self, commands: &[Raw], tries: u32) -> Status
+        ensures { HasSentBare commands.now tries self.old self.new result }
+    {
+        let batch = match Batch::from_raws(commands) {
+            Ok(batch) => batch,
+            Err(fault) => return Status::Batch(fault),
+        };
+        let sender = self.sender.take().unwrap();
+        match sender.send_bare(&self.ring, &batch, tries.max(1)) {
+            Ok(sender) => {
+                self.sender = Some(sender);
+                Status::Done
+            }
+            Err(refused) => {
+                self.sender = Some(refused.sender);
+                Status::Refused(refused.cause)
+            }
+        }
+    }
+
+    pub(crate) fn done_up_to(&mut self, number: &mut u32) -> Status
+        ensures { HasTold number.new self.old self.new result }
+    {
+        let mut sender = self.sender.take().unwrap();
+        *number = sender.done_up_to(&self.ring);
+        self.sender = Some(sender);
+        Status::Done
+    }
+
+    pub(crate) fn close(&mut self) -> Status
+        ensures { HasClosed self.old self.new result }
+    {
+        let mut sender = self.sender.take().unwrap();
+        sender.close(&self.ring);
+        self.sender = Some(sender);
+        Status::Done
+    }
+
+    pub(crate) fn look(&mut self, told: &mut ControlWords) -> Status
+        ensures { HasLookedFor told.new self.old self.new result }
+    {
+        let mut sender = self.sender.take().unwrap();
+        let control = sender.look(&self.ring);
+        self.sender = Some(sender);
+        *told = ControlWords::of(&control);
+        Status::Done
+    }
+}

@@ -1,0 +1,133 @@
+//! The exports of a sender.
+ghost use Rattle.smmuq_c.specs.Calls.{HasCalled, OfSender};
+ghost use Rattle.smmuq_c.specs.Sends.{HasSent, HasSentBare, HasTold, HasClosed, HasLookedFor};
+
+use crate::handle::{Handle, put, take};
+use crate::object::Object;
+use crate::status::Status;
+use crate::words::ControlWords;
+use cmdcodec::Raw;
+use std::alloc::Global;
+
+/// Sends a batch of 1 to 63 commands with its closing CMD_SYNC, and tells that one's number. Where the ring has too
+/// little room or another came first it tries again, up to `tries` times in all, 0 being 1. B5, B1 or B2 where the
+/// commands are no batch; Q1 to Q5 as of the last try. Then nothing was reserved.
+#[unsafe(no_mangle)]
+pub extern "C" fn smmuq_send(
+    alloc: Global,
+    sender: &mut Handle,
+    commands: &[Raw],
+    tries: u32,
+    number: &mut u32,
+) -> u32
+    ensures { HasCalled (OfSender (HasSent commands.now tries number.new)) sender.old.object sender.new.object result }
+{
+    let Some(mut object) = take(alloc, sender) else {
+        return Status::EmptyHandle.number();
+    };
+    let status = send(object.as_mut(), commands, tries, number);
+    put(sender, object);
+    status.number()
+}
+
+fn send(object: &mut Object, commands: &[Raw], tries: u32, number: &mut u32) -> Status
+    ensures { OfSender (HasSent commands.now tries number.new) object.old object.new result }
+{
+    match object {
+        Object::Sender(sender) => sender.send(commands, tries, number),
+        Object::Unit(_) | Object::Engine(_) => Status::WrongHandle,
+    }
+}
+
+/// The same without a CMD_SYNC.
+#[unsafe(no_mangle)]
+pub extern "C" fn smmuq_send_bare(
+    alloc: Global,
+    sender: &mut Handle,
+    commands: &[Raw],
+    tries: u32,
+) -> u32
+    ensures { HasCalled (OfSender (HasSentBare commands.now tries)) sender.old.object sender.new.object result }
+{
+    let Some(mut object) = take(alloc, sender) else {
+        return Status::EmptyHandle.number();
+    };
+    let status = send_bare(object.as_mut(), commands, tries);
+    put(sender, object);
+    status.number()
+}
+
+fn send_bare(object: &mut Object, commands: &[Raw], tries: u32) -> Status
+    ensures { OfSender (HasSentBare commands.now tries) object.old object.new result }
+{
+    match object {
+        Object::Sender(sender) => sender.send_bare(commands, tries),
+        Object::Unit(_) | Object::Engine(_) => Status::WrongHandle,
+    }
+}
+
+/// Tells the number of the sender's last CMD_SYNC that completed, 0 where none did.
+#[unsafe(no_mangle)]
+pub extern "C" fn smmuq_done_up_to(alloc: Global, sender: &mut Handle, number: &mut u32) -> u32
+    ensures { HasCalled (OfSender (HasTold number.new)) sender.old.object sender.new.object result }
+{
+    let Some(mut object) = take(alloc, sender) else {
+        return Status::EmptyHandle.number();
+    };
+    let status = done_up_to(object.as_mut(), number);
+    put(sender, object);
+    status.number()
+}
+
+fn done_up_to(object: &mut Object, number: &mut u32) -> Status
+    ensures { OfSender (HasTold number.new) object.old object.new result }
+{
+    match object {
+        Object::Sender(sender) => sender.done_up_to(number),
+        Object::Unit(_) | Object::Engine(_) => Status::WrongHandle,
+    }
+}
+
+/// Closes the ring: nothing more is reserved, by any sender.
+#[unsafe(no_mangle)]
+pub extern "C" fn smmuq_close(alloc: Global, sender: &mut Handle) -> u32
+    ensures { HasCalled (OfSender HasClosed) sender.old.object sender.new.object result }
+{
+    let Some(mut object) = take(alloc, sender) else {
+        return Status::EmptyHandle.number();
+    };
+    let status = close(object.as_mut());
+    put(sender, object);
+    status.number()
+}
+
+fn close(object: &mut Object) -> Status
+    ensures { OfSender HasClosed object.old object.new result }
+{
+    match object {
+        Object::Sender(sender) => sender.close(),
+        Object::Unit(_) | Object::Engine(_) => Status::WrongHandle,
+    }
+}
+
+/// Tells SMMU_CMDQ_PROD and SMMU_CMDQ_CONS.RD at this moment, and whether the ring is closed.
+#[unsafe(no_mangle)]
+pub extern "C" fn smmuq_look(alloc: Global, sender: &mut Handle, told: &mut ControlWords) -> u32
+    ensures { HasCalled (OfSender (HasLookedFor told.new)) sender.old.object sender.new.object result }
+{
+    let Some(mut object) = take(alloc, sender) else {
+        return Status::EmptyHandle.number();
+    };
+    let status = look(object.as_mut(), told);
+    put(sender, object);
+    status.number()
+}
+
+fn look(object: &mut Object, told: &mut ControlWords) -> Status
+    ensures { OfSender (HasLookedFor told.new) object.old object.new result }
+{
+    match object {
+        Object::Sender(sender) => sender.look(told),
+        Object::Unit(_) | Object::Engine(_) => Status::WrongHandle,
+    }
+}

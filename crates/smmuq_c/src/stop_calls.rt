@@ -1,0 +1,88 @@
+//! The exports of the error stop and the counts, of a unit or of an engine.
+ghost use Rattle.smmuq_c.specs.Calls.{HasCalled, OfAnyUnit, OfSaid};
+ghost use Rattle.smmuq_c.specs.Registers.{IsRemedyOf, HasAcknowledged, HasToldState};
+
+use crate::handle::{Handle, put, take};
+use crate::object::Object;
+use crate::status::Status;
+use crate::words::{Errors, Tallies};
+use engine::Remedy;
+use std::alloc::Global;
+
+/// Software writes SMMU_GERRORN. `remedy` 0 has the illegal command come again, 1 has it replaced. G1 where no error is
+/// active, G2 where CMDQ_ERR of the word isn't that of SMMU_GERROR, `BAD_FIELD` where the remedy isn't one.
+#[unsafe(no_mangle)]
+pub extern "C" fn smmuq_acknowledge(
+    alloc: Global,
+    handle: &mut Handle,
+    gerrorn: u32,
+    remedy: u32,
+) -> u32
+    ensures { HasCalled (OfSaid (IsRemedyOf remedy) (HasAcknowledged gerrorn)) handle.old.object handle.new.object result }
+{
+    let Some(mut object) = take(alloc, handle) else {
+        return Status::EmptyHandle.number();
+    };
+    let status = acknowledge(object.as_mut(), gerrorn, remedy);
+    put(handle, object);
+    status.number()
+}
+
+fn remedy_of(number: u32) -> Option<Remedy>
+    ensures { IsRemedyOf number result }
+{
+    match number {
+        0 => Some(Remedy::Retry),
+        1 => Some(Remedy::Replace),
+        _ => None,
+    }
+}
+
+fn acknowledge(object: &mut Object, gerrorn: u32, remedy: u32) -> Status
+    ensures { OfSaid (IsRemedyOf remedy) (HasAcknowledged gerrorn) object.old object.new result }
+{
+    let Some(remedy) = remedy_of(remedy) else {
+        return Status::BadField;
+    };
+    match object {
+        Object::Unit(unit) => unit.acknowledge(gerrorn, remedy),
+        Object::Engine(seated) => seated.acknowledge(gerrorn, remedy),
+        Object::Sender(_) => Status::WrongHandle,
+    }
+}
+
+/// Tells the error registers and the counts of a unit or an engine.
+#[unsafe(no_mangle)]
+pub extern "C" fn smmuq_state(
+    alloc: Global,
+    handle: &mut Handle,
+    errors: &mut Errors,
+    tallies: &mut Tallies,
+) -> u32
+    ensures { HasCalled (OfAnyUnit (HasToldState errors.new tallies.new)) handle.old.object handle.new.object result }
+{
+    let Some(object) = take(alloc, handle) else {
+        return Status::EmptyHandle.number();
+    };
+    let status = tell_state(object.as_ref(), errors, tallies);
+    put(handle, object);
+    status.number()
+}
+
+fn tell_state(object: &Object, errors: &mut Errors, tallies: &mut Tallies) -> Status
+    ensures { OfAnyUnit (HasToldState errors.new tallies.new) object.now object.now result }
+{
+    match object {
+        Object::Unit(unit) => {
+            *errors = unit.errors();
+            *tallies = unit.tallies();
+            Status::Done
+        }
+        Object::Engine(seated) => {
+            *errors = seated.errors();
+            *tallies = seated.tallies();
+            Status::Done
+        }
+        Object::Sender(_) => Status::WrongHandle,
+    }
+}

@@ -1,0 +1,177 @@
+//! What C gets of an answer, flat.
+ghost use Rattle.std.specs.Prelude.{◌≡◌};
+ghost use Rattle.smmuq_c.specs.Judging.{verdict_words};
+ghost use Rattle.smmuq_c.specs.Entries.{entry_words};
+ghost use Rattle.smmuq_c.specs.Registers.{count_words};
+ghost use Rattle.smmuq_c.specs.Runs.{run_words, register_words};
+ghost use Rattle.smmuq_c.specs.Sends.{control_words};
+
+use crate::status::ill_number;
+use caches::Entry;
+use engine::{Counts, Registers, RunAnswer, Verdict};
+use qindex::Control;
+
+/// What a command did: how many entries it removed, and the number of what is illegal in it, or 0.
+#[repr(C)]
+#[derive(Clone, Copy)]
+pub struct VerdictWords {
+    pub removed: u32,
+    pub ill: u32,
+}
+
+impl VerdictWords {
+    /// Of a command that wasn't judged.
+    pub(crate) const NONE: VerdictWords = VerdictWords { removed: 0, ill: 0 };
+
+    pub(crate) fn of(verdict: &Verdict) -> VerdictWords
+        ensures { result ≡ verdict_words verdict.now }
+    {
+        match *verdict {
+            Verdict::Applied { removed, .. } => VerdictWords { removed, ill: 0 },
+            Verdict::Stopped(ill) | Verdict::Replaced(ill) => VerdictWords {
+                removed: 0,
+                ill: ill_number(ill),
+            },
+        }
+    }
+}
+
+/// What is held under a tag.
+#[repr(C)]
+#[derive(Clone, Copy)]
+pub struct Held {
+    pub value: u64,
+    /// How many commands were taken before it was filled.
+    pub born: u64,
+}
+
+impl From<Entry> for Held {
+    fn from(entry: Entry) -> Held
+        ensures { result ≡ entry_words entry }
+    {
+        Held {
+            value: entry.value,
+            born: entry.born,
+        }
+    }
+}
+
+/// SMMU_CMDQ_CONS.ERR, SMMU_GERROR and SMMU_GERRORN.
+#[repr(C)]
+#[derive(Clone, Copy)]
+pub struct Errors {
+    pub err: u32,
+    pub gerror: u32,
+    pub gerrorn: u32,
+}
+
+/// What was counted of the commands taken.
+#[repr(C)]
+#[derive(Clone, Copy)]
+pub struct Tallies {
+    pub applied: u64,
+    pub replaced: u64,
+    pub syncs: u64,
+    pub removed: u64,
+}
+
+impl From<Counts> for Tallies {
+    fn from(counts: Counts) -> Tallies
+        ensures { result ≡ count_words counts }
+    {
+        Tallies {
+            applied: counts.applied(),
+            replaced: counts.replaced(),
+            syncs: counts.syncs(),
+            removed: counts.removed(),
+        }
+    }
+}
+
+/// What a run of the engine did.
+#[repr(C)]
+#[derive(Clone, Copy)]
+pub struct RunWords {
+    /// How many commands were applied.
+    pub count: u32,
+    /// How many entries they removed.
+    pub removed: u32,
+    /// The number of what is illegal in the command at which it stopped, or that was replaced; or 0.
+    pub ill: u32,
+}
+
+impl RunWords {
+    /// Of a run that took nothing, and stopped at nothing.
+    const NONE: RunWords = RunWords {
+        count: 0,
+        removed: 0,
+        ill: 0,
+    };
+}
+
+impl From<RunAnswer> for RunWords {
+    fn from(answer: RunAnswer) -> RunWords
+        ensures { result ≡ run_words answer }
+    {
+        match answer {
+            RunAnswer::Applied { count, removed } => RunWords {
+                count,
+                removed,
+                ill: 0,
+            },
+            RunAnswer::Stopped(ill) | RunAnswer::Replaced(ill) => RunWords {
+                ill: ill_number(ill),
+                ..RunWords::NONE
+            },
+            RunAnswer::Empty
+            | RunAnswer::Drained
+            | RunAnswer::Unwritten
+            | RunAnswer::StillStopped
+            | RunAnswer::Exhausted => RunWords::NONE,
+        }
+    }
+}
+
+/// SMMU_CMDQ_PROD, SMMU_CMDQ_CONS, SMMU_GERROR and SMMU_GERRORN at one moment.
+#[repr(C)]
+#[derive(Clone, Copy)]
+pub struct RegisterWords {
+    pub prod: u32,
+    pub cons: u32,
+    pub gerror: u32,
+    pub gerrorn: u32,
+}
+
+impl From<Registers> for RegisterWords {
+    fn from(registers: Registers) -> RegisterWords
+        ensures { result ≡ register_words registers }
+    {
+        RegisterWords {
+            prod: registers.prod,
+            cons: registers.cons,
+            gerror: registers.gerror,
+            gerrorn: registers.gerrorn,
+        }
+    }
+}
+
+/// SMMU_CMDQ_PROD and SMMU_CMDQ_CONS.RD at one moment, and whether the ring is closed, 0 or 1.
+#[repr(C)]
+#[derive(Clone, Copy)]
+pub struct ControlWords {
+    pub prod: u32,
+    pub cons: u32,
+    pub closed: u32,
+}
+
+impl ControlWords {
+    pub(crate) fn of(control: &Control) -> ControlWords
+        ensures { result ≡ control_words control.now }
+    {
+        ControlWords {
+            prod: control.prod.get(),
+            cons: control.cons.get(),
+            closed: u32::from(control.closed),
+        }
+    }
+}
