@@ -1,1 +1,2 @@
+pub mod CommandText
 pub mod DecodeText

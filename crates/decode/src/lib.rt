@@ -1,6 +1,8 @@
-//! What a word of hexadecimal digits means as a command.
+//! What a word of hexadecimal digits means as a command, and what its two words do.
 #![tactic(auto)]
 
 mod decode;
+mod saying;
 
-pub use decode::decode_text;
+pub use decode::{decode_bytes, decode_text};
+pub use saying::say_command;

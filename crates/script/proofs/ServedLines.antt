@@ -5,6 +5,7 @@ use Rattle.script.specs.declared.run.Run.{Run}
 use Rattle.script.specs.declared.ending.Ending.TheVariants.{Finished, Refused}
 use Rattle.script.specs.Lines.{lines_of}
 use Rattle.script.specs.Outcome.{Outcome, Continues, Ends, with_front, fault, fault_line}
+use Rattle.script.specs.Knowing.{Learns, Leads}
 use Rattle.script.specs.Serving.{RunGives, Advances, Stops, Halts, Closes}
 use Rattle.script.proofs.Searches.{NoneBefore}
 use Rattle.script.proofs.LineLemmas.{EndsAt, IsWhole-append, lines_of-nothing, lines_of-at, lines_of-ended, lines_of-front, lines_of-last}
@@ -98,6 +99,15 @@ pub closes_refused : (before : ℕ → List (List ℕ) → Outcome → Type 0) (
     → Ends before (old.lines + 1) old.pending (string_bytes old.text) (string_bytes new.text) → Closes before old new Refused
 closes_refused before old new none some line =
     gives_last_answer before old new old.pending old.pending line.answer [] (lines_of-last old.pending none some) (line.rest []) line.text
+
+-- what is known of a line that was answered
+pub leads_line : {I : Type 0} → (knows : I → List (List ℕ) → Type 0) (before after : ℕ → List (List ℕ) → Outcome → Type 0) (last old new : I) (number : ℕ) (line told now : List ℕ)
+    → Continues before after number line told now → Learns knows old new (line ∷ []) → Continues (Leads knows last old) (Leads knows last new) number line told now
+leads_line knows before after last old new number line told now answered learns = record {
+  answer = answered.answer;
+  text = answered.text;
+  rest = λ lines outcome leads past known. subst (knows last) (append_assoc past (line ∷ []) lines) (leads (past ++ line ∷ []) (learns past known));
+}
 
 -- ---- lines after lines
 

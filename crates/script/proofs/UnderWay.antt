@@ -8,6 +8,7 @@ use Rattle.script.specs.declared.ending.Ending.{Ending}
 use Rattle.script.specs.declared.ending.Ending.TheVariants.{Finished, Refused}
 use Rattle.script.specs.Lines.{lines_of, HasNoEnd}
 use Rattle.script.specs.Outcome.{Outcome, with_front}
+use Rattle.script.specs.Knowing.{Learns, Leads}
 use Rattle.script.specs.Writing.{ComesTo, MayFollow, IsBeginning, StopsForMemory, WritesAnswer, WritesNoMemory, WritesBeginning, AnswersWholeLines, no_memory_line}
 use Rattle.script.specs.Serving.{Advances, Stops, Halts, Closes, IsUnderWay, SameButText, SameButPending, WritesFront}
 use Rattle.script.proofs.LineLemmas.{IsWhole-append, lines_of-nothing}
@@ -139,6 +140,16 @@ told_part may input rest before mid now seen told text ending cut read is_told t
   beginning = λ more follows.
       inl (cut 1 (lines_of (seen ++ more)) _ (told ++ f.front) f.rest (is_told more follows) (ap (λ x. told ++ x) f.split ∙ sym (append_assoc told f.front f.rest)));
 }
+
+-- What is known of lines is known of all of them, once what is pending is known too.
+pub under_way_learned : {I : Type 0} → (knows : I → List (List ℕ) → Type 0) (first now last : I) (input rest before told : Option (List ℕ)) (s : Run)
+    → IsUnderWay (Leads knows last first) (Leads knows last now) input rest before told s → IsAtEnd rest → Learns knows now last (lines_of s.pending)
+    → IfSome input (λ script. Learns knows first last (lines_of script))
+under_way_learned knows first now last input rest before told s u end learns =
+    script_is input rest (u.whole ++ s.pending) (λ script. Learns knows first last (lines_of script)) u.read
+    (λ more follows.
+    subst (λ ys. Learns knows first last (lines_of ys)) (sym (ap (λ ys. (u.whole ++ s.pending) ++ ys) (follows end) ∙ append-nil (u.whole ++ s.pending)))
+    (u.gives s.pending (with_front (string_bytes s.text) (record { text = []; ending = None })) (record { rest = record { text = []; ending = None }; gives = learns; same = refl })))
 
 -- ---- it is broken off
 

@@ -1,6 +1,7 @@
 pub mod Lines
 pub mod Words
 pub mod Outcome
+pub mod Knowing
 pub mod Errors
 pub mod Writing
 pub mod Serving

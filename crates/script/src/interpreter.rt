@@ -2,6 +2,7 @@
 ghost use Rattle.std.specs.Prelude.{◌≡◌, ◌≤◌, ◌<◌, ◌++◌, ℕ, List, [], ◌∷◌, IfOk, Some, None, length, string_bytes, true, false, codes};
 ghost use Rattle.script.specs.declared.ending.Ending.TheVariants.{Finished};
 ghost use Rattle.script.specs.Outcome.{Outcome, Continues, Ends, fault};
+ghost use Rattle.script.specs.Knowing.{Learns};
 
 use std::alloc::AllocError;
 
@@ -12,6 +13,9 @@ pub const LONGEST_LINE: usize = 4096;
 pub trait Interpreter {
     /// What lines may come to that are served from here on, the first of them having this number.
     ghost gives: { Self → ℕ → List (List ℕ) → Outcome → Type 0 };
+
+    /// What it knows of the lines that it served, all of them: whatever its author wants to be told once all are served.
+    ghost knows: { Self → List (List ℕ) → Type 0 };
 
     /// Serves the line of this number, appends its answer to `reply`, and says whether the run goes on.
     /// Where memory ran out the run is over, and neither `self` nor `reply` is of use.
@@ -25,7 +29,8 @@ pub trait Interpreter {
         ensures goes_on { IfOk result (λ goes_on. goes_on ≡ true
             → Continues (gives self.old) (gives self.new) number line.now (string_bytes reply.old) (string_bytes reply.new)) }
         ensures ends { IfOk result (λ goes_on. goes_on ≡ false
-            → Ends (gives self.old) number line.now (string_bytes reply.old) (string_bytes reply.new)) };
+            → Ends (gives self.old) number line.now (string_bytes reply.old) (string_bytes reply.new)) }
+        ensures learns { IfOk result (λ goes_on. goes_on ≡ true → Learns knows self.old self.new (line.now ∷ [])) };
 
     /// Where no line is left the run is at its end.
     ghost nothing_left: { (s : Self) (n : ℕ) → gives s n [] (record { text = []; ending = Some Finished }) };

@@ -25,6 +25,8 @@ pub use fields::{
 pub use first::First;
 pub use interpreter::{Interpreter, LONGEST_LINE};
 pub use kind::ScriptKind;
+pub use pending::read_once;
+pub use sending::{tell_of_memory, write_whole};
 pub use serving::serve;
 pub use session::{parse, serve_script};
 pub use status::{Status, status_of};

@@ -83,8 +83,8 @@ fn read_behind<R: Read>(reader: &mut R, buffer: &mut [u8], held: usize) -> io::R
     read_once(reader, &mut buffer[held..])
 }
 
-// One read. A read that a signal interrupts is made again.
-fn read_once<R: Read>(reader: &mut R, buffer: &mut [u8]) -> io::Result<usize>
+/// One read. A read that a signal interrupts is made again.
+pub fn read_once<R: Read>(reader: &mut R, buffer: &mut [u8]) -> io::Result<usize>
     ensures bound { IfOk result (λ count. count ≤ length buffer.new) }
     ensures ok { IfOk result (λ count. Consumes (R.remaining reader.old) (R.remaining reader.new) (take count buffer.new)) }
     ensures end { IfOk result (λ count. count ≡ 0 → 0 < length buffer.old → IsAtEnd (R.remaining reader.new)) }

@@ -1,9 +1,10 @@
 //! A run of a script, between two reads.
-ghost use Rattle.std.specs.Prelude.{◌≡◌, ◌≢◌, ◌≤◌, ◌<◌, ◌+◌, ◌++◌, ◌⊎◌, ℕ, List, [], Option, Some, IfOk, IfErr, OnOk, OnErr, length, take, string_bytes, codes, true, false};
+ghost use Rattle.std.specs.Prelude.{◌≡◌, ◌≢◌, ◌≤◌, ◌<◌, ◌+◌, ◌++◌, ◌⊎◌, ℕ, List, [], ◌∷◌, Option, Some, IfOk, IfErr, OnOk, OnErr, length, take, string_bytes, codes, true, false};
 ghost use Rattle.std.specs.Io.KnownBytes.{Appends, Consumes, IsAtEnd, Keeps};
 ghost use Rattle.memchr.specs.Find.{IsFirstByte, is_byte};
-ghost use Rattle.script.specs.Lines.{HasNoEnd};
+ghost use Rattle.script.specs.Lines.{HasNoEnd, lines_of};
 ghost use Rattle.script.specs.Outcome.{Continues, Ends, fault_line};
+ghost use Rattle.script.specs.Knowing.{Learns, Leads};
 ghost use Rattle.script.specs.Errors.{is_read, is_memory, is_write, WantsMemoryOrNumber};
 ghost use Rattle.script.specs.Writing.{no_memory_line};
 
@@ -84,6 +85,7 @@ impl Run {
             → Continues (I.gives interpreter.old) (I.gives interpreter.new) (self.old.lines + 1) (take end self.old.pending) (string_bytes self.old.text) (string_bytes self.new.text)) }
         ensures ends { IfOk result (λ goes_on. goes_on ≡ false
             → Ends (I.gives interpreter.old) (self.old.lines + 1) (take end self.old.pending) (string_bytes self.old.text) (string_bytes self.new.text)) }
+        ensures learns { IfOk result (λ goes_on. goes_on ≡ true → Learns I.knows interpreter.old interpreter.new (take end self.old.pending ∷ [])) }
         ensures err { OnErr result (string_bytes self.new.text ≡ string_bytes self.old.text) }
         ensures error { IfErr result (λ e. WantsMemoryOrNumber e (self.old.lines + 1)) }
     {
@@ -126,6 +128,8 @@ impl Run {
     ) -> Result<bool, ServeError>
         requires { IsFirstByte (is_byte 10) self.old.pending (Some end) }
         ensures goes_on { IfOk result (λ goes_on. goes_on ≡ true → Advances (I.gives interpreter.old) (I.gives interpreter.new) self.old self.new) }
+        ensures learns { IfOk result (λ goes_on. goes_on ≡ true → (last : I)
+            → Advances (Leads I.knows last interpreter.old) (Leads I.knows last interpreter.new) self.old self.new) }
         ensures lines { IfOk result (λ goes_on. goes_on ≡ true → self.new.lines ≡ self.old.lines + 1) }
         ensures shorter { IfOk result (λ goes_on. goes_on ≡ true → length self.new.pending < length self.old.pending) }
         ensures stops { IfOk result (λ goes_on. goes_on ≡ false → Stops (I.gives interpreter.old) self.old self.new) }
@@ -146,6 +150,8 @@ impl Run {
     /// Serves whole lines that are pending, until much text is gathered, and says why it stopped.
     fn serve_lines<I: Interpreter>(&mut self, interpreter: &mut I) -> Result<Pause, ServeError>
         ensures goes_on { IfOk result (λ pause. pause ≢ Pause.Ended → Advances (I.gives interpreter.old) (I.gives interpreter.new) self.old self.new) }
+        ensures learns { IfOk result (λ pause. pause ≢ Pause.Ended → (last : I)
+            → Advances (Leads I.knows last interpreter.old) (Leads I.knows last interpreter.new) self.old self.new) }
         ensures takes { IfOk result (λ pause. pause ≢ Pause.Ended → TakesBytes self.old self.new) }
         ensures full { IfOk result (λ pause. pause ≡ Pause.Full → length self.new.pending < length self.old.pending) }
         ensures drained { IfOk result (λ pause. pause ≡ Pause.Drained → HasNoEnd self.new.pending × (length self.new.pending ≤ 4096)) }
@@ -174,6 +180,7 @@ impl Run {
         requires no_end { HasNoEnd self.old.pending }
         requires short { length self.old.pending ≤ 4096 }
         ensures closes { IfOk result (Closes (I.gives interpreter.old) self.old self.new) }
+        ensures learns { IfOk result (λ ending. ending ≡ Ending.Finished → Learns I.knows interpreter.old interpreter.new (lines_of self.old.pending)) }
         ensures halts { OnErr result (Halts (I.gives interpreter.old) self.old self.new) }
         ensures error { IfErr result (λ e. WantsMemoryOrNumber e (self.old.lines + 1)) }
     {
@@ -241,6 +248,8 @@ impl Run {
     ) -> Result<Pause, ServeError>
         ensures goes_on { IfOk result (λ pause. pause ≢ Pause.Ended → (first : I) (rest : Option (List ℕ))
             → KeepsWay (I.gives first) (I.gives interpreter.old) (I.gives interpreter.new) rest rest (W.contents output.old) (W.contents output.new) self.old self.new) }
+        ensures learns { IfOk result (λ pause. pause ≢ Pause.Ended → (first : I) (last : I) (rest : Option (List ℕ))
+            → KeepsWay (Leads I.knows last first) (Leads I.knows last interpreter.old) (Leads I.knows last interpreter.new) rest rest (W.contents output.old) (W.contents output.new) self.old self.new) }
         ensures takes { IfOk result (λ pause. pause ≢ Pause.Ended → TakesBytes self.old self.new) }
         ensures full { IfOk result (λ pause. pause ≡ Pause.Full → length self.new.pending < length self.old.pending) }
         ensures drained { IfOk result (λ pause. pause ≡ Pause.Drained
@@ -272,6 +281,7 @@ impl Run {
         requires short { length self.old.pending ≤ 4096 }
         ensures answer { IfOk result (λ ending. (first : I) (rest : Option (List ℕ)) → IsAtEnd rest
             → GivesAnswer (I.gives first) (I.gives interpreter.old) rest (W.contents output.old) (W.contents output.new) self.old ending) }
+        ensures learns { IfOk result (λ ending. ending ≡ Ending.Finished → Learns I.knows interpreter.old interpreter.new (lines_of self.old.pending)) }
         ensures memory { IfErr result (λ e. is_memory e ≡ true → (first : I) (rest : Option (List ℕ))
             → GivesNoMemory (I.gives first) (I.gives interpreter.old) rest (W.contents output.old) (W.contents output.new) self.old) }
         ensures err { OnErr result ((first : I) (rest : Option (List ℕ)) → IsAtEnd rest

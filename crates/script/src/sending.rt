@@ -11,7 +11,7 @@ use std::io;
 use std::io::{ErrorKind, Write};
 
 /// Writes the line that tells that memory ran out, with no memory. Gives the error that ends the run.
-pub(crate) fn tell_of_memory<W: Write>(output: &mut W, e: AllocError) -> ServeError
+pub fn tell_of_memory<W: Write>(output: &mut W, e: AllocError) -> ServeError
     ensures told { is_memory result ≡ true → Appends (W.contents output.old) (W.contents output.new) no_memory_line }
     ensures part { WritesFront (W.contents output.old) (W.contents output.new) no_memory_line }
     ensures error { (result ≡ ServeError.Memory e) ⊎ (is_write result ≡ true) }
@@ -23,7 +23,7 @@ pub(crate) fn tell_of_memory<W: Write>(output: &mut W, e: AllocError) -> ServeEr
 }
 
 /// Writes all of the bytes, and flushes. After an `Err` a front of them was written.
-pub(crate) fn write_whole<W: Write>(output: &mut W, bytes: &[u8]) -> Result<(), ServeError>
+pub fn write_whole<W: Write>(output: &mut W, bytes: &[u8]) -> Result<(), ServeError>
     ensures ok { OnOk result (Appends (W.contents output.old) (W.contents output.new) bytes.now) }
     ensures err { OnErr result (WritesFront (W.contents output.old) (W.contents output.new) bytes.now) }
     ensures error { IfErr result (λ e. is_write e ≡ true) }

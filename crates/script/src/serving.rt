@@ -1,7 +1,9 @@
 //! Serving a script, from a reader to a writer.
-ghost use Rattle.std.specs.Prelude.{◌≡◌, ◌^◌, IfOk, IfErr, OnErr, true};
+ghost use Rattle.std.specs.Prelude.{◌≡◌, ◌^◌, IfOk, IfErr, IfSome, OnErr, true};
 ghost use Rattle.std.specs.Io.KnownBytes.{IsAtEnd};
 ghost use Rattle.script.specs.Errors.{is_read, is_memory, is_endless};
+ghost use Rattle.script.specs.Knowing.{Learns};
+ghost use Rattle.script.specs.Lines.{lines_of};
 ghost use Rattle.script.specs.Writing.{WritesAnswer, WritesNoMemory, WritesBeginning, AnswersWholeLines, ReadsAtLeast};
 
 use crate::ending::Ending;
@@ -23,6 +25,10 @@ pub fn serve<I: Interpreter, R: Read, W: Write>(
     // Where nothing failed, what was written is what the script comes to, and nothing else.
     ensures answer { IfOk result (λ ending. WritesAnswer (I.gives interpreter.old) (R.remaining input.old) (W.contents output.old) (W.contents output.new) ending) }
     ensures end { IfOk result (λ ending. ending ≡ Ending.Finished → IsAtEnd (R.remaining input.new)) }
+
+    // Where the script was served to its end, the interpreter has learned of all of its lines.
+    ensures learns { IfOk result (λ ending. ending ≡ Ending.Finished
+        → IfSome (R.remaining input.old) (λ script. Learns I.knows interpreter.old interpreter.new (lines_of script))) }
 
     // Where memory ran out, the answers to the lines before were written, and then the line that tells of it.
     ensures memory { IfErr result (λ e. is_memory e ≡ true

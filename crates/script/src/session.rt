@@ -127,10 +127,13 @@ impl<K: ScriptKind> Session<K> {
 }
 
 impl<K: ScriptKind> Interpreter for Session<K> {
+    ghost use Rattle.std.specs.Prelude.{⊤};
     ghost use Rattle.script.specs.Giving.{MayGive};
     ghost use Rattle.script.specs.GivingLaws as laws;
 
     ghost gives = { λ session number lines outcome. MayGive K.kind K.stands session.kept number lines outcome };
+
+    ghost knows = { λ session lines. ⊤ };
 
     ghost nothing_left = { λ session n. laws.nothing_left K.kind K.stands session.kept n };
 

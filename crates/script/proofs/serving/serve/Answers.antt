@@ -1,7 +1,8 @@
 use Rattle.std.proofs.Common.{◌+◌, length, ap, arith}
 use Rattle.std.proofs.lemmas.Result.{err_from_is_err_and, IfOk-weaker, IfErr-weaker, on_err_weaker}
+use Rattle.script.specs.Knowing.{Leads}
 use Rattle.script.proofs.Pauses.{drained_is_not_ended}
-use Rattle.script.proofs.UnderWay.{under_way_begins, under_way_kept, under_way_read, under_way_read_failed, no_memory_at_once, no_memory_part_at_once}
+use Rattle.script.proofs.UnderWay.{under_way_begins, under_way_kept, under_way_read, under_way_read_failed, under_way_learned, no_memory_at_once, no_memory_part_at_once}
 use Rattle.script.proofs.TakenBytes.{has_read_part, endless_lines}
 use Rattle.script.proofs.serving.serve.Goals as goal
 
@@ -52,6 +53,18 @@ returns-then-not-branch-clause-answer g c =
     part.0 delivered c.read_more.ensures.same part.1 part.2 in
     IfOk-weaker c.finish.result _ _ (λ ending written. written c.args.interpreter.now _ end _ _ read) c.finish.ensures.answer
 
+pub returns-then-not-branch-clause-learns : goal.returns-then-not-branch-clause-learns
+returns-then-not-branch-clause-learns g c =
+    let knows = g.I.Interpreter.knows in
+    let first = c.args.interpreter.now in
+    let now = c.deliver.new.interpreter in
+    let last = c.finish.new.interpreter in
+    let delivered = c.in_ok-deliver.ensures.learns (drained_is_not_ended _ c.in-Drained.is) first last _ _ _ (c.turns.invariant.leads last) in
+    let part = c.in_ok-read_more.ensures.part in
+    let end = (c.in_ok-read_more.ensures.end c.if-not-branch.true).1 in
+    let read = under_way_read (Leads knows last first) (Leads knows last now) _ _ _ _ _ c.deliver.new.self c.read_more.new.self part.0 delivered c.read_more.ensures.same part.1 part.2 in
+    IfOk-weaker c.finish.result _ _ (λ ending learns finished. under_way_learned knows first now last _ _ _ _ c.read_more.new.self read end (learns finished)) c.finish.ensures.learns
+
 pub returns-then-not-branch-clause-memory : goal.returns-then-not-branch-clause-memory
 returns-then-not-branch-clause-memory g c =
     let delivered = c.in_ok-deliver.ensures.goes_on (drained_is_not_ended _ c.in-Drained.is) c.args.interpreter.now _ _ _ c.turns.invariant.under_way in
@@ -85,7 +98,11 @@ turns-preserved g c =
     let delivered = c.in_ok-deliver.ensures.goes_on drained c.args.interpreter.now _ _ _ c.turns.invariant.under_way in
     let part = c.in_ok-read_more.ensures.part in
     let more = c.in_ok-read_more.ensures.more c.if-not-branch.false in
+    let knows = g.I.Interpreter.knows in
     record {
+      leads = λ last.
+          under_way_read (Leads knows last c.args.interpreter.now) (Leads knows last c.deliver.new.interpreter) _ _ _ _ _ c.deliver.new.self c.read_more.new.self
+          part.0 (c.in_ok-deliver.ensures.learns drained c.args.interpreter.now last _ _ _ (c.turns.invariant.leads last)) c.read_more.ensures.same part.1 part.2;
       under_way =
           under_way_read (g.I.Interpreter.gives c.args.interpreter.now) (g.I.Interpreter.gives c.deliver.new.interpreter) _ _ _ _ _ c.deliver.new.self c.read_more.new.self
           part.0 delivered c.read_more.ensures.same part.1 part.2;

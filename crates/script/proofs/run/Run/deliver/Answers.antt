@@ -1,6 +1,7 @@
 use Rattle.std.proofs.Common.{string_bytes, inl, inr}
 use Rattle.std.proofs.lemmas.Result.{err_from_is_err_and}
 use Rattle.script.specs.declared.ending.Ending.TheVariants.{Refused}
+use Rattle.script.specs.Knowing.{Leads}
 use Rattle.script.proofs.Pauses.{ended_or_not}
 use Rattle.script.proofs.UnderWay.{under_way_lines, under_way_sent, under_way_part, under_way_stops, under_way_no_memory, under_way_no_memory_part, told_part}
 use Rattle.script.proofs.run.Run.deliver.Goals as goal
@@ -43,3 +44,13 @@ pub returns-in-Err-clause-err : goal.returns-in-Err-clause-err
 returns-in-Err-clause-err g c first rest input before u =
     under_way_no_memory_part (g.I.Interpreter.gives first) (g.I.Interpreter.gives c.args.interpreter.now) _ _ _ _ _ c.args.self.now c.serve_lines.new.self u c.in-Err.ensures.halts
     c.give_up.ensures.part
+
+pub returns-in_ok-send_text-in-Ok-clause-learns : goal.returns-in_ok-send_text-in-Ok-clause-learns
+returns-in_ok-send_text-in-Ok-clause-learns g c on first last rest input before u =
+    let knows = g.I.Interpreter.knows in
+    let may = Leads knows last c.args.interpreter.now in
+    let then_may = Leads knows last c.serve_lines.new.interpreter in
+    let served = c.serve_lines.new.self in
+    let sent = c.in_ok-send_text-in-Ok.ensures in
+    under_way_sent (Leads knows last first) then_may _ _ _ _ _ served c.send_text.new.self
+    (under_way_lines (Leads knows last first) may then_may _ _ _ _ c.args.self.now served u (c.in-Ok.ensures.learns on last)) sent.same sent.ok.0 sent.ok.1

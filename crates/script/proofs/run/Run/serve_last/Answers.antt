@@ -1,7 +1,9 @@
-use Rattle.std.proofs.Common.{◌≡◌, [], length, ap, arith, refl}
+use Rattle.std.proofs.Common.{◌≡◌, [], ◌∷◌, ◌++◌, length, ap, arith, refl, sym, ◌∙◌, subst, append-nil}
 use Rattle.std.proofs.lemmas.Bool.{eqb-true}
 use Rattle.std.proofs.lemmas.List.{nil_from_length, take_all}
 use Rattle.std.proofs.lemmas.Result.{err_from_is_err_and}
+use Rattle.script.proofs.LineLemmas.{lines_of-nothing, lines_of-last}
+use Rattle.script.specs.Lines.{lines_of}
 use Rattle.script.proofs.Searches.{NoneBefore}
 use Rattle.script.proofs.ServedLines.{advances_refl, closes_nothing, closes_line, closes_refused, halts_after}
 use Rattle.script.proofs.run.Run.serve_last.Goals as goal
@@ -35,3 +37,18 @@ returns-else-branch-clause-closes g c =
     let all = take_all (length c.as_slice-count.result.now) old.pending (omega arith) in
     let none : NoneBefore 10 old.pending (length old.pending) = λ i low e. c.requires.no_end i low (eqb-true _ 10 e) in
     closes_refused (g.I.Interpreter.gives c.args.interpreter.now) old c.answer_line.new.self none (omega arith) (rw all at (c.in_ok-answer_line.ensures.ends c.if-branch.false))
+
+pub returns-then-count-eq0-clause-learns : goal.returns-then-count-eq0-clause-learns
+returns-then-count-eq0-clause-learns g c _ past known =
+    let same = ap length c.as_slice-count.ensures.value in
+    let nothing : c.args.self.now.pending ≡ [] = nil_from_length _ (omega arith) in
+    subst (g.I.Interpreter.knows c.args.interpreter.now) (sym (ap (λ lines. past ++ lines) (ap lines_of nothing ∙ lines_of-nothing) ∙ append-nil past)) known
+
+pub returns-then-branch-clause-learns : goal.returns-then-branch-clause-learns
+returns-then-branch-clause-learns g c _ past known =
+    let old = c.args.self.now in
+    let same = ap length c.as_slice-count.ensures.value in
+    let all = take_all (length c.as_slice-count.result.now) old.pending (omega arith) in
+    let none : NoneBefore 10 old.pending (length old.pending) = λ i low e. c.requires.no_end i low (eqb-true _ 10 e) in
+    subst (g.I.Interpreter.knows c.answer_line.new.interpreter) (ap (λ lines. past ++ lines) (ap (λ line. line ∷ []) all ∙ sym (lines_of-last old.pending none (omega arith))))
+    (c.in_ok-answer_line.ensures.learns c.if-branch.true past known)

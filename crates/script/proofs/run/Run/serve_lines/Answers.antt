@@ -1,7 +1,8 @@
 use Rattle.std.proofs.Common.{length, ap, arith}
 use Rattle.std.proofs.lemmas.Result.{err_from_is_err_and}
+use Rattle.script.specs.Knowing.{Leads}
 use Rattle.script.proofs.LineLemmas.{found_none}
-use Rattle.script.proofs.ServedLines.{advances_trans, stops_after, stops_long_front, halts_after}
+use Rattle.script.proofs.ServedLines.{advances_refl, advances_trans, stops_after, stops_long_front, halts_after}
 use Rattle.script.proofs.TakenBytes.{takes_line}
 use Rattle.script.proofs.run.Run.serve_lines.Goals as goal
 
@@ -22,11 +23,28 @@ returns-then-len-gt-LONG_TEXT-clause-goes_on g c _ =
     advances_trans (g.I.Interpreter.gives c.args.interpreter.now) (g.I.Interpreter.gives c.lines.interpreter) (g.I.Interpreter.gives c.serve_next.new.interpreter)
     c.args.self.now c.lines.self c.serve_next.new.self c.lines.invariant.advances (c.in_ok-serve_next.ensures.goes_on c.if-not-branch.false)
 
+pub lines-init : goal.lines-init
+lines-init g c = record {
+  advances = advances_refl (g.I.Interpreter.gives c.args.interpreter.now) c.args.self.now;
+  leads = λ last. advances_refl (Leads g.I.Interpreter.knows last c.args.interpreter.now) c.args.self.now;
+  takes = record { lines = omega arith; bytes = omega arith };
+}
+
+pub returns-then-len-gt-LONG_TEXT-clause-learns : goal.returns-then-len-gt-LONG_TEXT-clause-learns
+returns-then-len-gt-LONG_TEXT-clause-learns g c _ last =
+    let knows = g.I.Interpreter.knows in
+    advances_trans (Leads knows last c.args.interpreter.now) (Leads knows last c.lines.interpreter) (Leads knows last c.serve_next.new.interpreter)
+    c.args.self.now c.lines.self c.serve_next.new.self (c.lines.invariant.leads last) (c.in_ok-serve_next.ensures.learns c.if-not-branch.false last)
+
 pub lines-preserved : goal.lines-preserved
 lines-preserved g c =
     let served = c.in_ok-serve_next.ensures in
     let next = c.serve_next.new.self in
+    let knows = g.I.Interpreter.knows in
     record {
+      leads = λ last.
+          advances_trans (Leads knows last c.args.interpreter.now) (Leads knows last c.lines.interpreter) (Leads knows last c.serve_next.new.interpreter)
+          c.args.self.now c.lines.self next (c.lines.invariant.leads last) (served.learns c.if-not-branch.false last);
       advances =
           advances_trans (g.I.Interpreter.gives c.args.interpreter.now) (g.I.Interpreter.gives c.lines.interpreter) (g.I.Interpreter.gives c.serve_next.new.interpreter)
           c.args.self.now c.lines.self next c.lines.invariant.advances (served.goes_on c.if-not-branch.false);

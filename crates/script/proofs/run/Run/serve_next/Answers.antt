@@ -1,6 +1,7 @@
 use Rattle.std.proofs.Common.{◌+◌, drop, ap, ◌∙◌, arith}
 use Rattle.script.proofs.LineLemmas.{found_end}
-use Rattle.script.proofs.ServedLines.{advances_line, stops_line, stops_long}
+use Rattle.script.proofs.ServedLines.{advances_line, leads_line, stops_line, stops_long}
+use Rattle.script.specs.Knowing.{Leads}
 use Rattle.script.proofs.run.Run.serve_next.Goals as goal
 
 pub returns-then-end-gt-LONGEST_LINE-clause-stops :
@@ -17,3 +18,13 @@ pub returns-clause-goes_on : goal.returns-clause-goes_on
 returns-clause-goes_on g c _ =
     advances_line (g.I.Interpreter.gives c.args.interpreter.now) (g.I.Interpreter.gives c.answer_line.new.interpreter) c.args.self.now _ c.args.end (found_end _ _ c.requires)
     c.in_ok-answer_line.ensures.lines (c.skip.ensures ∙ ap (drop (c.args.end + 1)) c.in_ok-answer_line.ensures.pending) (c.in_ok-answer_line.ensures.goes_on c.if-not-branch.false)
+
+pub returns-clause-learns : goal.returns-clause-learns
+returns-clause-learns g c _ last =
+    let knows = g.I.Interpreter.knows in
+    let old = c.args.interpreter.now in
+    let new = c.answer_line.new.interpreter in
+    advances_line (Leads knows last old) (Leads knows last new) c.args.self.now _ c.args.end (found_end _ _ c.requires)
+    c.in_ok-answer_line.ensures.lines (c.skip.ensures ∙ ap (drop (c.args.end + 1)) c.in_ok-answer_line.ensures.pending)
+    (leads_line knows (g.I.Interpreter.gives old) (g.I.Interpreter.gives new) last old new _ _ _ _ (c.in_ok-answer_line.ensures.goes_on c.if-not-branch.false)
+    (c.in_ok-answer_line.ensures.learns c.if-not-branch.false))

@@ -1,0 +1,4 @@
+pub mod Queues
+pub mod Views
+pub mod Showings
+pub mod Tellings

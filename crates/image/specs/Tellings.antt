@@ -1,0 +1,51 @@
+-- What the status says of an image that was read from an input, and of what was written.
+use Rattle.std.specs.Prelude.{◌≡◌, ◌⊎◌, ℕ, List, [], ◌++◌, Bool, true, false, Option, IfSome, Result, Ok, Err}
+use Rattle.std.specs.Io.KnownBytes.{Appends}
+use Rattle.script.specs.Serving.{WritesFront}
+use Rattle.script.specs.Statuses.{exit_status}
+use Rattle.script.specs.Writing.{no_memory_line}
+use Rattle.script.specs.declared.ending.Ending.{Ending}
+use Rattle.script.specs.declared.ending.Ending.TheVariants as endings
+use Rattle.script.specs.declared.ending.Ending.TheVariants.{Finished}
+use Rattle.script.specs.declared.error.ServeError.{ServeError}
+use Rattle.script.specs.declared.error.ServeError.TheVariants as errors
+use Rattle.script.specs.declared.status.Status.{Status}
+use Rattle.script.specs.declared.status.Status.TheVariants.{Good, Refused, NoMemory, ReadFailed, WriteFailed, Endless}
+use Rattle.image.specs.declared.asked.Asked.{Asked}
+use Rattle.image.specs.Views.{answer_to}
+
+-- a beginning of the answer, and then the line that tells of memory
+pub record EndsWithoutMemory (answer text : List ℕ) : Type 0 where
+  pub front : List ℕ
+  pub rest : List ℕ
+  pub split : answer ≡ front ++ rest
+  pub told : text ≡ front ++ no_memory_line
+
+-- What came of answering an image, before memory is told of. A failed read is before anything is written.
+abbrev pub Serves : Result Ending ServeError → (List ℕ × Bool) → Option (List ℕ) → Option (List ℕ) → Type 0
+Serves (Ok Finished) answer before after = (answer.1 ≡ true) × Appends before after answer.0
+Serves (Ok endings.Refused) answer before after = (answer.1 ≡ false) × Appends before after answer.0
+Serves (Err (errors.Memory e)) answer before after = WritesFront before after answer.0
+Serves (Err (errors.Read e)) answer before after = Appends before after []
+Serves (Err (errors.Write e)) answer before after = WritesFront before after answer.0
+Serves (Err errors.Endless) answer before after = Appends before after []
+
+abbrev pub IsToBeWritten : List ℕ → List ℕ → Type 0
+IsToBeWritten answer text = (text ≡ answer) ⊎ EndsWithoutMemory answer text
+
+-- Of a writer that held `before` and holds `after`: all of the answer was written, or a beginning of it and then that
+-- memory ran out, or a beginning of one of these. Nothing is written before all is read.
+abbrev pub TellsOfBytes : Status → (List ℕ × Bool) → Option (List ℕ) → Option (List ℕ) → Type 0
+TellsOfBytes Good answer before after = (answer.1 ≡ true) × Appends before after answer.0
+TellsOfBytes Refused answer before after = (answer.1 ≡ false) × Appends before after answer.0
+TellsOfBytes NoMemory answer before after = (text : List ℕ) × EndsWithoutMemory answer.0 text × Appends before after text
+TellsOfBytes ReadFailed answer before after = Appends before after []
+TellsOfBytes WriteFailed answer before after = (text : List ℕ) × IsToBeWritten answer.0 text × WritesFront before after text
+TellsOfBytes Endless answer before after = Appends before after []
+
+abbrev pub TellsOfImage : Asked → Status → Option (List ℕ) → Option (List ℕ) → Option (List ℕ) → Type 0
+TellsOfImage asked status input before after = IfSome input (λ bytes. TellsOfBytes status (answer_to asked bytes) before after)
+
+-- It ended with the exit status of that.
+abbrev pub ExitsAsImage : Asked → ℕ → Option (List ℕ) → Option (List ℕ) → Option (List ℕ) → Type 0
+ExitsAsImage asked exit input before after = (status : Status) × (exit ≡ exit_status status) × TellsOfImage asked status input before after

@@ -1,0 +1,88 @@
+-- What is shown of a queue, by its registers and the bytes of its memory.
+use Rattle.std.specs.Prelude.{ℕ, ◌+◌, ◌-◌, ◌*◌, ◌%◌, ◌^◌, ◌==◌, nat_lt, List, [], ◌++◌, Bool, true, false, Result, Ok, Err, take, drop, length, codes, decimal, if◌then◌else◌}
+use Rattle.std.specs.List.{flat_map, range_with_len}
+use Rattle.std.specs.Fmt.{digits, format_spec, padded_integral}
+use Rattle.cmdcodec.specs.Bytes.{raw_of}
+use Rattle.decode.specs.CommandText.{words_text}
+use Rattle.qindex.specs.Positions.{size, place, wrap_bit}
+use Rattle.image.specs.declared.asked.Asked.{Asked}
+use Rattle.image.specs.declared.fault.ImageFault.{ImageFault}
+use Rattle.image.specs.declared.fault.ImageFault.TheVariants.{BadLength}
+use Rattle.image.specs.declared.queue.Queue.{Queue}
+use Rattle.image.specs.Queues.{err_of, fault_text, queue_of, waiting_of}
+
+-- lower-case hexadecimal digits, filled up to eight with zeros
+abbrev pub eight_digits : ℕ → List ℕ
+eight_digits n = padded_integral (format_spec 32 0 4 8 (2 ^ 64 - 1)) false [] (digits 16 false n)
+
+abbrev pub registers_text : Queue → List ℕ
+registers_text queue =
+    codes "size " ++ decimal (size queue.cons.geometry) ++ codes "\nprod 0x" ++ eight_digits queue.prod.number ++ codes "\ncons 0x" ++ eight_digits queue.register ++ codes "\n"
+
+abbrev pub counts_text : Queue → List ℕ
+counts_text queue = codes "err " ++ decimal (err_of queue.register) ++ codes "\nwaiting " ++ decimal (waiting_of queue) ++ codes "\n"
+
+-- the first five lines
+abbrev pub heading : Queue → List ℕ
+heading queue = registers_text queue ++ counts_text queue
+
+-- what the 16 bytes of a slot mean as a command, and the end of its line
+abbrev pub slot_text : List ℕ → ℕ → List ℕ
+slot_text image slot = (words_text (raw_of (take 16 (drop (16 * slot) image)))).0 ++ codes "\n"
+
+-- ---- the commands that wait
+
+abbrev pub place_text : ℕ → ℕ → List ℕ
+place_text place wrap = codes "slot " ++ decimal place ++ codes " wrap " ++ decimal wrap ++ codes " "
+
+-- the line of the command of a position
+abbrev pub waiting_line : List ℕ → ℕ → ℕ → List ℕ
+waiting_line image geometry position = place_text (place geometry position) (wrap_bit geometry position) ++ slot_text image (place geometry position)
+
+-- the positions from CONS on, as many as wait
+abbrev pub positions : Queue → List ℕ
+positions queue = range_with_len queue.cons.number (waiting_of queue)
+
+abbrev pub waiting_lines : List ℕ → Queue → List ℕ
+waiting_lines image queue = flat_map (waiting_line image queue.cons.geometry) (positions queue)
+
+-- ---- all slots
+
+-- A slot waits where it is fewer slots behind that of CONS, going round, than commands wait.
+abbrev pub is_waiting : Queue → ℕ → Bool
+is_waiting queue slot =
+    let slots = size queue.cons.geometry in
+    nat_lt ((slot + slots - place queue.cons.geometry queue.cons.number) % slots) (waiting_of queue)
+
+abbrev pub standing : Bool → List ℕ
+standing waiting = if waiting then codes "waiting" else codes "taken"
+
+abbrev pub standing_text : ℕ → Bool → List ℕ
+standing_text slot waiting = codes "slot " ++ decimal slot ++ codes " " ++ standing waiting ++ codes " "
+
+abbrev pub slot_line : List ℕ → Queue → ℕ → List ℕ
+slot_line image queue slot = standing_text slot (is_waiting queue slot) ++ slot_text image slot
+
+abbrev pub slots : Queue → List ℕ
+slots queue = range_with_len 0 (size queue.cons.geometry)
+
+abbrev pub slot_lines : List ℕ → Queue → List ℕ
+slot_lines image queue = flat_map (slot_line image queue) (slots queue)
+
+-- ---- the whole
+
+abbrev pub lines_shown : List ℕ → Queue → Bool → List ℕ
+lines_shown image queue all = if all then slot_lines image queue else waiting_lines image queue
+
+abbrev pub view : List ℕ → Queue → Bool → List ℕ
+view image queue all = heading queue ++ lines_shown image queue all
+
+-- An image has 16 bytes a slot.
+abbrev pub answer_by : Result Queue ImageFault → Bool → List ℕ → List ℕ × Bool
+answer_by (Ok queue) all image =
+    if length image == 16 * size queue.cons.geometry then (view image queue all, true) else (fault_text (BadLength (length image)), false)
+answer_by (Err fault) all image = (fault_text fault, false)
+
+-- what is written for an image, and whether it is no refusal
+unfoldable pub answer_to : Asked → List ℕ → List ℕ × Bool
+answer_to asked image = answer_by (queue_of asked) asked.all image

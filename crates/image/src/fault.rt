@@ -1,0 +1,31 @@
+//! Why an image is refused.
+ghost use Rattle.std.specs.Prelude.{◌≡◌, ◌++◌, OnOk, string_bytes};
+ghost use Rattle.image.specs.Queues.{fault_text};
+
+use std::alloc::AllocError;
+use std::fmt::Write;
+
+/// Why an image is refused.
+#[derive(Clone, Copy, Debug, PartialEq, Eq)]
+pub(crate) enum ImageFault {
+    /// PROD has a bit above the wrap bit.
+    BadProd,
+    /// CONS has a bit above the wrap bit that is none of ERR.
+    BadCons,
+    /// PROD is so far ahead of CONS, which is more than there are slots.
+    BadDistance(u32),
+    /// The image has so many bytes, which aren't 16 a slot.
+    BadLength(usize),
+}
+
+/// Tells the one line of a fault.
+pub(crate) fn say_fault(fault: ImageFault, text: &mut String) -> Result<(), AllocError>
+    ensures { OnOk result (string_bytes text.new ≡ string_bytes text.old ++ fault_text fault) }
+{
+    match fault {
+        ImageFault::BadProd => write!(text, "bad prod\n"),
+        ImageFault::BadCons => write!(text, "bad cons\n"),
+        ImageFault::BadDistance(waiting) => write!(text, "bad distance {waiting}\n"),
+        ImageFault::BadLength(bytes) => write!(text, "bad length {bytes}\n"),
+    }
+}

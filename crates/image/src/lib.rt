@@ -1,0 +1,13 @@
+//! The memory of a queue as it lies, shown as the SMMU would see it by its registers.
+#![tactic(auto)]
+
+mod asked;
+mod fault;
+mod lines;
+mod queue;
+mod reading;
+mod showing;
+mod viewing;
+
+pub use asked::Asked;
+pub use viewing::image;

@@ -1,0 +1,81 @@
+//! The queue that two registers tell of.
+ghost use Rattle.std.specs.Prelude.{◌≡◌, ◌≤◌, ◌*◌, ◌^◌, IfOk};
+ghost use Rattle.image.specs.Queues.{IsShown, err_of, judged, queue_of, waiting_of, with_cons, with_prod, without_err};
+
+use crate::asked::Asked;
+use crate::fault::ImageFault;
+use qindex::{Geometry, Index};
+
+/// The queue that two registers tell of.
+#[derive(Clone, Copy, Debug, PartialEq, Eq)]
+pub(crate) struct Queue {
+    pub prod: Index,
+    pub cons: Index,
+    /// SMMU_CMDQ_CONS as it was given, with ERR.
+    pub register: u32,
+}
+
+/// SMMU_CMDQ_CONS.ERR.
+pub(crate) fn err_of(cons: u32) -> u32
+    ensures value { result ≡ err_of cons }
+    ensures within { result * 2 ^ 24 ≤ cons }
+{
+    (cons >> 24) & 0x7f
+}
+
+impl Queue {
+    /// How many commands wait.
+    pub(crate) fn waiting(&self) -> u32
+        requires { self.now.prod.geometry ≡ self.now.cons.geometry }
+        ensures { result ≡ waiting_of self.now }
+    {
+        self.prod.distance(self.cons)
+    }
+}
+
+fn judged(queue: Queue) -> Result<Queue, ImageFault>
+    requires { queue.prod.geometry ≡ queue.cons.geometry }
+    ensures value { result ≡ judged queue }
+    ensures shown { IfOk result IsShown }
+{
+    let waiting = queue.waiting();
+    if waiting <= queue.cons.geometry().size() {
+        Ok(queue)
+    } else {
+        Err(ImageFault::BadDistance(waiting))
+    }
+}
+
+fn with_cons(geometry: Geometry, prod: Index, cons: Option<u32>) -> Result<Queue, ImageFault>
+    requires { prod.geometry ≡ geometry }
+    ensures value { result ≡ with_cons geometry prod.number cons }
+    ensures shown { IfOk result IsShown }
+{
+    let Some(register) = cons else {
+        return Err(ImageFault::BadCons);
+    };
+    let number = register - (err_of(register) << 24);
+    match Index::new(geometry, number) {
+        Some(cons) => judged(Queue {
+            prod,
+            cons,
+            register,
+        }),
+        None => Err(ImageFault::BadCons),
+    }
+}
+
+/// The queue, or what is at fault in its registers.
+#[tactic(auto, unfolding(crate::specs::Queues::queue_of))]
+pub(crate) fn queue_of(asked: &Asked) -> Result<Queue, ImageFault>
+    ensures value { result ≡ queue_of asked.now }
+    ensures shown { IfOk result IsShown }
+{
+    let Some(number) = asked.prod else {
+        return Err(ImageFault::BadProd);
+    };
+    match Index::new(asked.geometry, number) {
+        Some(prod) => with_cons(asked.geometry, prod, asked.cons),
+        None => Err(ImageFault::BadProd),
+    }
+}

@@ -1,0 +1,70 @@
+-- What a line that brings a command is answered with.
+use Rattle.std.specs.Prelude.{ℕ, List, [], ◌∷◌, ◌++◌, ◌==◌, ◌||◌, Bool, true, false, Option, Some, None, codes, map, if◌then◌else◌}
+use Rattle.cmdcodec.specs.declared.raw.Raw.{Raw}
+use Rattle.script.specs.Words.{words_of, is_hex, number_of}
+use Rattle.script.specs.Fields.{is_comment, hex_of}
+use Rattle.decode.specs.CommandText.{words_text}
+use Rattle.decode.specs.DecodeText.{decode_text}
+
+-- What is written for a line, none for one that is skipped, and whether it is good: a legal command, or skipped.
+pub record LineAnswer : Type 0 where
+  pub text : List ℕ
+  pub is_good : Bool
+
+-- a text on a line of its own
+abbrev pub told : List ℕ × Bool → LineAnswer
+told said = record { text = said.0 ++ codes "\n"; is_good = said.1 }
+
+abbrev pub skipped : LineAnswer
+skipped = record { text = []; is_good = true }
+
+abbrev pub bad_line : LineAnswer
+bad_line = told (codes "bad line", false)
+
+-- ---- the words of a line
+
+-- A tab and a carriage return part words as a space does.
+abbrev pub blanked : ℕ → ℕ
+blanked b = if b == 9 || b == 13 then 32 else b
+
+unfoldable pub parted : List ℕ → List (List ℕ)
+parted line = words_of (map blanked line)
+
+-- ---- one word
+
+-- 32 hexadecimal digits are the bytes of a command. Of any other word `decode` says what is bad.
+abbrev pub one_word_by : Option Raw → List ℕ → List ℕ × Bool
+one_word_by (Some raw) word = words_text raw
+one_word_by None word = decode_text word
+
+unfoldable pub one_word : List ℕ → LineAnswer
+one_word word = told (one_word_by (hex_of word) word)
+
+-- ---- two words
+
+-- the number that 0x and 1 to 16 hexadecimal digits of either case say
+unfoldable pub hex_number : List ℕ → Option ℕ
+hex_number word = if is_hex word then number_of word else None
+
+abbrev pub two_numbers : Option ℕ → Option ℕ → LineAnswer
+two_numbers (Some lo) (Some hi) = told (words_text (record { lo = lo; hi = hi }))
+two_numbers (Some lo) None = bad_line
+two_numbers None hi = bad_line
+
+-- lo, and then hi
+unfoldable pub two_words : List ℕ → List ℕ → LineAnswer
+two_words lo hi = two_numbers (hex_number lo) (hex_number hi)
+
+-- ---- a line
+
+abbrev pub command_answer : List ℕ → List (List ℕ) → LineAnswer
+command_answer word [] = one_word word
+command_answer word (other ∷ []) = two_words word other
+command_answer word (other ∷ third ∷ words) = bad_line
+
+abbrev pub words_answer : List (List ℕ) → LineAnswer
+words_answer [] = skipped
+words_answer (word ∷ words) = if is_comment word then skipped else command_answer word words
+
+unfoldable pub answer_of : List ℕ → LineAnswer
+answer_of line = words_answer (parted line)

@@ -1,0 +1,8 @@
+//! Lines that bring a command each, as it is printed elsewhere: what each of them is.
+#![tactic(auto)]
+
+mod answering;
+mod line;
+mod serving;
+
+pub use serving::words;
