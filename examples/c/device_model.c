@@ -1,0 +1,184 @@
+/* The command queue of a device model: commands lie in the guest's memory, a write of SMMU_CMDQ_PROD is the doorbell, and
+ * the library judges each command and keeps the entries that translations and configurations are cached in.
+ *
+ *     device_model                            plays a guest: a page is mapped, used and mapped anew, and an illegal
+ *                                             command stops the queue
+ *     device_model IMAGE LOG2 PROD CONS       serves what waits in an image of a real guest's queue
+ */
+#include "smmuq.h"
+
+#include <inttypes.h>
+#include <stdio.h>
+#include <stdlib.h>
+#include <string.h>
+
+enum { MOST_SLOTS = 1 << 19, TEXT_ROOM = 160 };
+
+/* What the model has of one SMMU. Indexes have the wrap bit above those of the slot. */
+struct model {
+    smmuq_handle unit;
+    smmuq_words *queue; /* the guest's memory: 2^log2 commands */
+    uint32_t log2;
+    uint32_t prod;          /* SMMU_CMDQ_PROD */
+    uint32_t cons;          /* SMMU_CMDQ_CONS without ERR */
+    smmuq_words stopped_at; /* the illegal command, where the queue is stopped */
+    uint32_t walks;
+};
+
+static void fail(const char *what, uint32_t status) {
+    fprintf(stderr, "%s: status 0x%02x\n", what, status);
+    exit(1);
+}
+
+static smmuq_words *slot(struct model *model, uint32_t index) {
+    return &model->queue[index & ((1u << model->log2) - 1)];
+}
+
+/* Takes what waits, up to an illegal command. Answers SMMUQ_OK, or why the queue is stopped. */
+static uint32_t serve(struct model *model) {
+    while (model->cons != model->prod) {
+        const smmuq_words command = *slot(model, model->cons);
+        smmuq_verdict verdict;
+        uint32_t status = smmuq_unit_judge(&model->unit, command.lo, command.hi, &verdict);
+        if (status >= SMMUQ_ILL1 && status <= SMMUQ_ILL4)
+            model->stopped_at = command;
+        if (status != SMMUQ_OK && status != SMMUQ_REPLACED)
+            return status;
+        model->cons = (model->cons + 1) & ((2u << model->log2) - 1);
+    }
+    return SMMUQ_OK;
+}
+
+/* The guest writes SMMU_CMDQ_PROD. */
+static uint32_t doorbell(struct model *model, uint32_t prod) {
+    model->prod = prod;
+    return serve(model);
+}
+
+/* The guest acknowledges the error by SMMU_GERRORN. Linux has written a CMD_SYNC over the illegal command by then, so what
+ * stood there is given up, and the slot is read anew; where the slot is as it was, its command is judged again. */
+static uint32_t write_gerrorn(struct model *model, uint32_t gerrorn) {
+    const smmuq_words *now = slot(model, model->cons);
+    const uint32_t replaced = now->lo != model->stopped_at.lo || now->hi != model->stopped_at.hi;
+    uint32_t status = smmuq_acknowledge(&model->unit, gerrorn, replaced);
+    smmuq_verdict verdict;
+    if (status != SMMUQ_OK)
+        return status;
+    if (replaced) {
+        status = smmuq_unit_judge(&model->unit, model->stopped_at.lo, model->stopped_at.hi, &verdict);
+        if (status != SMMUQ_REPLACED)
+            return status;
+    }
+    return serve(model);
+}
+
+/* The value for a page of an address space: the one that is held, or that of a walk, which is held from then on. */
+static uint64_t translate(struct model *model, const uint64_t *page_table, uint64_t address) {
+    const smmuq_tag tag = {.kind = SMMUQ_S1, .vmid = 1, .has_asid = 1, .asid = 2, .address = address};
+    smmuq_held held;
+    uint32_t status = smmuq_lookup(&model->unit, &tag, &held);
+    if (status == SMMUQ_OK)
+        return held.value;
+    if (status != SMMUQ_NOT_HELD)
+        fail("lookup", status);
+    model->walks++;
+    held.value = page_table[address >> 12];
+    if ((status = smmuq_fill(&model->unit, &tag, held.value)) != SMMUQ_OK)
+        fail("fill", status);
+    return held.value;
+}
+
+static void print_queue(struct model *model) {
+    smmuq_errors errors;
+    smmuq_tallies tallies;
+    uint32_t status = smmuq_state(&model->unit, &errors, &tallies);
+    if (status != SMMUQ_OK)
+        fail("state", status);
+    printf("prod 0x%08" PRIx32 " cons 0x%08" PRIx32 " gerror %" PRIu32 " gerrorn %" PRIu32 " applied %" PRIu64 " replaced %" PRIu64
+           " syncs %" PRIu64 "\n",
+           model->prod, model->cons | errors.err << 24, errors.gerror, errors.gerrorn, tallies.applied, tallies.replaced,
+           tallies.syncs);
+}
+
+static void print_command(const char *what, smmuq_words command) {
+    uint8_t text[TEXT_ROOM];
+    size_t length;
+    uint32_t status = smmuq_text(command.lo, command.hi, text, sizeof text, &length);
+    if (status == SMMUQ_OK)
+        printf("%s %s\n", what, (const char *)text);
+    else
+        printf("%s illegal: status 0x%02" PRIx32 "\n", what, status);
+}
+
+/* What the guest's driver puts into the queue, at PROD. */
+static uint32_t put(struct model *model, uint32_t prod, smmuq_fields fields) {
+    smmuq_words words;
+    uint32_t status = smmuq_encode(&fields, &words);
+    if (status != SMMUQ_OK)
+        fail("encode", status);
+    *slot(model, prod) = words;
+    return (prod + 1) & ((2u << model->log2) - 1);
+}
+
+static void play_a_guest(struct model *model) {
+    uint64_t page_table[16] = {0};
+    const smmuq_fields invalidate = {.opcode = 0x12, .vmid = 1, .asid = 2, .leaf = 1, .address = 0x3000};
+    const smmuq_fields sync = {.opcode = 0x46};
+    uint32_t prod = 0;
+
+    page_table[3] = 0x1000;
+    translate(model, page_table, 0x3000);
+    printf("used twice: 0x%" PRIx64 " after %" PRIu32 " walk\n", translate(model, page_table, 0x3000), model->walks);
+
+    /* The guest maps the page anew: until the CMD_SYNC completed, a device may still reach the old place. */
+    page_table[3] = 0x2000;
+    printf("mapped anew, not invalidated: 0x%" PRIx64 "\n", translate(model, page_table, 0x3000));
+    prod = put(model, put(model, prod, invalidate), sync);
+    if (doorbell(model, prod) != SMMUQ_OK)
+        fail("doorbell", 0);
+    printf("invalidated: 0x%" PRIx64 " after %" PRIu32 " walks\n", translate(model, page_table, 0x3000), model->walks);
+    print_queue(model);
+
+    /* An opcode that nobody knows, and a CMD_SYNC behind it. */
+    *slot(model, prod) = (smmuq_words){0xff, 0};
+    prod = put(model, (prod + 1) & ((2u << model->log2) - 1), sync);
+    printf("stopped: status 0x%02" PRIx32 "\n", doorbell(model, prod));
+    print_queue(model);
+
+    /* As Linux does: a CMD_SYNC over it, and then the acknowledgement. */
+    put(model, model->cons, sync);
+    printf("acknowledged: status 0x%02" PRIx32 "\n", write_gerrorn(model, 1));
+    print_queue(model);
+}
+
+static void serve_image(struct model *model, const char *path, uint32_t prod, uint32_t cons) {
+    FILE *image = fopen(path, "rb");
+    const size_t slots = (size_t)1 << model->log2;
+    if (!image || fread(model->queue, sizeof *model->queue, slots, image) != slots)
+        fail("the image is shorter than the queue", 0);
+    fclose(image);
+    model->cons = cons;
+    print_command("first", *slot(model, cons));
+    printf("served: status 0x%02" PRIx32 "\n", doorbell(model, prod));
+    print_queue(model);
+}
+
+int main(int argc, char **argv) {
+    struct model model = {.unit = SMMUQ_EMPTY, .log2 = 4};
+    uint32_t status;
+    if (argc != 1 && argc != 5)
+        return 2;
+    if (argc == 5)
+        model.log2 = (uint32_t)strtoul(argv[2], NULL, 0);
+    if (model.log2 > 19 || !(model.queue = calloc(MOST_SLOTS, sizeof *model.queue)))
+        return 2;
+    if ((status = smmuq_unit_new(4096, &model.unit)) != SMMUQ_OK)
+        fail("unit_new", status);
+    if (argc == 5)
+        serve_image(&model, argv[1], (uint32_t)strtoul(argv[3], NULL, 0), (uint32_t)strtoul(argv[4], NULL, 0));
+    else
+        play_a_guest(&model);
+    smmuq_free(&model.unit);
+    free(model.queue);
+    return 0;
+}

@@ -1,0 +1,169 @@
+/* Drivers' threads send batches into one ring and wait for their completion, and a thread of its own is the SMMU: it takes
+ * commands and applies them. One of the drivers sends an illegal command, which stops the queue for all, until a thread
+ * that has nothing else to do acknowledges it.
+ *
+ *     driver [SENDERS [BATCHES]]
+ *
+ * What a driver owes in an error stop is done right here. Who waits for a completion keeps nobody from running who has to
+ * acknowledge: it holds no lock and no interrupt is off. And a wait that was given up is no completion: the memory is
+ * given to nobody else until the number was told.
+ */
+#define _POSIX_C_SOURCE 200809L
+#include "smmuq.h"
+
+#include <inttypes.h>
+#include <pthread.h>
+#include <sched.h>
+#include <stdio.h>
+#include <stdlib.h>
+
+enum { MOST_SENDERS = 256, LOG2 = 6, PAGES = 4 };
+
+/* The SMMU, for its two users: the thread that takes commands, and the one that acknowledges. */
+static struct {
+    pthread_mutex_t lock; /* one call at a time on the engine's handle */
+    pthread_cond_t error; /* SMMU_GERROR tells of an error */
+    smmuq_handle engine;
+    int stopped, drained;
+    uint32_t acknowledged;
+} device = {.lock = PTHREAD_MUTEX_INITIALIZER, .error = PTHREAD_COND_INITIALIZER, .engine = SMMUQ_EMPTY};
+
+/* A driver's thread. The handle is its alone. */
+struct driver {
+    smmuq_handle sender;
+    pthread_t thread;
+    uint32_t number, batches, failed;
+};
+
+static uint32_t send_one(struct driver *driver, const smmuq_words *commands, size_t count, uint32_t *number) {
+    uint32_t status;
+    while ((status = smmuq_send(&driver->sender, commands, count, 64, number)) == SMMUQ_Q2 || status == SMMUQ_Q3)
+        sched_yield();
+    return status;
+}
+
+/* Waits until the CMD_SYNC of this number completed: what was reserved ahead of it was applied by then. */
+static uint32_t wait_for(struct driver *driver, uint32_t number) {
+    uint32_t done = 0, status;
+    while ((status = smmuq_done_up_to(&driver->sender, &done)) == SMMUQ_OK && done < number)
+        sched_yield();
+    return status;
+}
+
+static void *drive(void *argument) {
+    struct driver *driver = argument;
+    const smmuq_words illegal = {0xff, 0};
+    uint32_t number = 0, batch;
+    size_t page;
+    if (driver->number == 0 && send_one(driver, &illegal, 1, &number) != SMMUQ_OK)
+        driver->failed = 1;
+    for (batch = 1; batch <= driver->batches && !driver->failed; batch++) {
+        smmuq_words commands[PAGES];
+        for (page = 0; page < PAGES; page++) {
+            const smmuq_fields fields = {
+                .opcode = 0x12, .vmid = driver->number, .asid = 1, .leaf = 1, .address = (uint64_t)(batch + page) << 12};
+            if (smmuq_encode(&fields, &commands[page]) != SMMUQ_OK)
+                driver->failed = 1;
+        }
+        if (send_one(driver, commands, PAGES, &number) != SMMUQ_OK)
+            driver->failed = 1;
+        /* A batch in sixteen is waited for, as before its memory goes to somebody else. */
+        if (!driver->failed && batch % 16 == 0 && wait_for(driver, number) != SMMUQ_OK)
+            driver->failed = 1;
+    }
+    if (!driver->failed && wait_for(driver, number) != SMMUQ_OK)
+        driver->failed = 1;
+    return NULL;
+}
+
+/* Takes commands until the ring was closed and is drained. */
+static void *take(void *argument) {
+    uint32_t status;
+    do {
+        smmuq_run_answer answer;
+        pthread_mutex_lock(&device.lock);
+        status = smmuq_run(&device.engine, 64, &answer);
+        if (status >= SMMUQ_ILL1 && status <= SMMUQ_ILL4) {
+            device.stopped = 1;
+            pthread_cond_signal(&device.error);
+        }
+        pthread_mutex_unlock(&device.lock);
+        if (status != SMMUQ_OK)
+            sched_yield();
+    } while (status != SMMUQ_RING_DRAINED);
+    pthread_mutex_lock(&device.lock);
+    device.drained = 1;
+    pthread_cond_signal(&device.error);
+    pthread_mutex_unlock(&device.lock);
+    return argument;
+}
+
+/* Handles the error's interrupt: gives up the illegal command, and acknowledges. */
+static void *acknowledge(void *argument) {
+    pthread_mutex_lock(&device.lock);
+    while (!device.drained) {
+        smmuq_errors errors;
+        smmuq_tallies tallies;
+        if (device.stopped && smmuq_state(&device.engine, &errors, &tallies) == SMMUQ_OK
+            && smmuq_acknowledge(&device.engine, errors.gerror, 1) == SMMUQ_OK) {
+            device.stopped = 0;
+            device.acknowledged++;
+        }
+        if (!device.stopped && !device.drained)
+            pthread_cond_wait(&device.error, &device.lock);
+    }
+    pthread_mutex_unlock(&device.lock);
+    return argument;
+}
+
+/* The totals: 1 and the CMD_SYNC of the illegal batch, PAGES and a CMD_SYNC of each other one. */
+static int check(struct driver *drivers, uint32_t senders, uint32_t batches) {
+    const uint64_t syncs = (uint64_t)senders * batches + 1;
+    const uint64_t applied = (uint64_t)senders * batches * PAGES + syncs;
+    smmuq_errors errors;
+    smmuq_tallies tallies;
+    uint32_t sender, done;
+    for (sender = 0; sender < senders; sender++)
+        if (drivers[sender].failed || smmuq_done_up_to(&drivers[sender].sender, &done) != SMMUQ_OK
+            || done != batches + (sender == 0))
+            return 0;
+    if (smmuq_state(&device.engine, &errors, &tallies) != SMMUQ_OK)
+        return 0;
+    printf("%" PRIu32 " senders, %" PRIu32 " batches each: applied %" PRIu64 " syncs %" PRIu64 " replaced %" PRIu64
+           " acknowledged %" PRIu32 "\n",
+           senders, batches, tallies.applied, tallies.syncs, tallies.replaced, device.acknowledged);
+    return tallies.applied == applied && tallies.syncs == syncs && tallies.replaced == 1 && device.acknowledged == 1;
+}
+
+int main(int argc, char **argv) {
+    const uint32_t senders = argc > 1 ? (uint32_t)strtoul(argv[1], NULL, 0) : 3;
+    const uint32_t batches = argc > 2 ? (uint32_t)strtoul(argv[2], NULL, 0) : 1000;
+    static smmuq_handle handles[MOST_SENDERS];
+    static struct driver drivers[MOST_SENDERS];
+    pthread_t taker, acknowledger;
+    uint32_t sender, status;
+    int right;
+    if (senders < 1 || senders > MOST_SENDERS)
+        return 2;
+    status = smmuq_ring_new(LOG2, batches + 1, 1024, handles, senders, &device.engine);
+    if (status != SMMUQ_OK)
+        return 1;
+    pthread_create(&taker, NULL, take, NULL);
+    pthread_create(&acknowledger, NULL, acknowledge, NULL);
+    for (sender = 0; sender < senders; sender++) {
+        /* A handle is moved, never copied: the old place isn't used again. */
+        drivers[sender] = (struct driver){.sender = handles[sender], .number = sender, .batches = batches};
+        handles[sender] = (smmuq_handle)SMMUQ_EMPTY;
+        pthread_create(&drivers[sender].thread, NULL, drive, &drivers[sender]);
+    }
+    for (sender = 0; sender < senders; sender++)
+        pthread_join(drivers[sender].thread, NULL);
+    status = smmuq_close(&drivers[0].sender);
+    pthread_join(taker, NULL);
+    pthread_join(acknowledger, NULL);
+    right = status == SMMUQ_OK && check(drivers, senders, batches);
+    for (sender = 0; sender < senders; sender++)
+        smmuq_free(&drivers[sender].sender);
+    smmuq_free(&device.engine);
+    return right ? 0 : 1;
+}

@@ -1,0 +1,165 @@
+/* What a caller can do wrong, and what it is told: each call here is refused, and nothing is changed by it. What nothing
+ * tells of, a copied handle or two threads on one handle, docs/C.md lists; smmuq_enter makes the second a refusal.
+ */
+#include "smmuq.h"
+
+#include <pthread.h>
+#include <stdio.h>
+#include <stdlib.h>
+#include <string.h>
+
+static void want(const char *call, int line, uint32_t got, uint32_t wanted) {
+    if (got != wanted) {
+        printf("line %d: %s is 0x%02x, not 0x%02x\n", line, call, got, wanted);
+        exit(1);
+    }
+}
+#define WANT(call, status) want(#call, __LINE__, (call), (status))
+
+static const smmuq_words CFGI_STE = {0x0000000700000003u, 1}, CMD_SYNC = {0x46, 0}, UNKNOWN = {0xff, 0};
+
+static void misuse_words(void) {
+    smmuq_fields fields = {.opcode = 0x12, .address = 1};
+    smmuq_words words, room[8];
+    uint8_t text[160];
+    size_t length, count;
+    WANT(smmuq_check(0xff, 0), SMMUQ_ILL1);
+    WANT(smmuq_check(0x403, 0), SMMUQ_ILL2);
+    WANT(smmuq_check(0x3046, 0), SMMUQ_ILL3);
+    WANT(smmuq_check(0x40, 53), SMMUQ_ILL4);
+    WANT(smmuq_decode(0xff, 0, &fields), SMMUQ_ILL1);
+    fields = (smmuq_fields){.opcode = 0x12, .address = 1};
+    WANT(smmuq_encode(&fields, &words), SMMUQ_BAD_FIELD); /* no address of a page */
+    fields = (smmuq_fields){.opcode = 0x12, .vmid = 0x10000};
+    WANT(smmuq_encode(&fields, &words), SMMUQ_BAD_FIELD);
+    WANT(smmuq_text(CMD_SYNC.lo, CMD_SYNC.hi, text, 8, &length), SMMUQ_SHORT_BUFFER);
+    WANT(smmuq_text(UNKNOWN.lo, UNKNOWN.hi, text, sizeof text, &length), SMMUQ_ILL1);
+    WANT(smmuq_range(1, 2, 0, 0, room, 8, &count), SMMUQ_B3);
+    WANT(smmuq_range(1, 2, 0x10000, 33, room, 1, &count), SMMUQ_SHORT_BUFFER);
+    WANT(smmuq_detach(5, room, 2, &count), SMMUQ_SHORT_BUFFER);
+}
+
+static void misuse_a_unit(void) {
+    smmuq_handle unit = SMMUQ_EMPTY;
+    smmuq_tag tag = {.kind = SMMUQ_S1, .vmid = 1, .has_asid = 1, .asid = 2, .address = 0x1000, .span = 4};
+    smmuq_verdict verdict;
+    smmuq_held held;
+    uint32_t number;
+    WANT(smmuq_unit_judge(&unit, 3, 0, &verdict), SMMUQ_EMPTY_HANDLE);
+    WANT(smmuq_unit_new(0, &unit), SMMUQ_C4);
+    WANT(smmuq_unit_new(1, &unit), SMMUQ_OK);
+    WANT(smmuq_send(&unit, &CFGI_STE, 1, 1, &number), SMMUQ_WRONG_HANDLE);
+    WANT(smmuq_close(&unit), SMMUQ_WRONG_HANDLE);
+    WANT(smmuq_fill(&unit, &tag, 1), SMMUQ_C2); /* 16 pages begin at none of their multiples */
+    tag.span = 99;
+    WANT(smmuq_fill(&unit, &tag, 1), SMMUQ_BAD_FIELD);
+    tag.span = 0;
+    WANT(smmuq_fill(&unit, &tag, 1), SMMUQ_OK);
+    tag.address = 0x2000;
+    WANT(smmuq_fill(&unit, &tag, 1), SMMUQ_C1);
+    WANT(smmuq_lookup(&unit, &tag, &held), SMMUQ_NOT_HELD);
+    WANT(smmuq_evict(&unit, &tag, &held), SMMUQ_NOT_HELD);
+    /* An error stop: the words at which it stopped come next, and nothing else. */
+    WANT(smmuq_acknowledge(&unit, 1, 0), SMMUQ_G1);
+    WANT(smmuq_unit_judge(&unit, UNKNOWN.lo, UNKNOWN.hi, &verdict), SMMUQ_ILL1);
+    WANT(smmuq_unit_judge(&unit, CMD_SYNC.lo, CMD_SYNC.hi, &verdict), SMMUQ_STILL_STOPPED);
+    WANT(smmuq_acknowledge(&unit, 0, 0), SMMUQ_G2);
+    WANT(smmuq_acknowledge(&unit, 1, 7), SMMUQ_BAD_FIELD);
+    WANT(smmuq_acknowledge(&unit, 1, 1), SMMUQ_OK);
+    WANT(smmuq_unit_judge(&unit, CMD_SYNC.lo, CMD_SYNC.hi, &verdict), SMMUQ_OTHER_COMMAND);
+    WANT(smmuq_unit_judge(&unit, UNKNOWN.lo, UNKNOWN.hi, &verdict), SMMUQ_REPLACED);
+    smmuq_free(&unit);
+    smmuq_free(&unit);
+    WANT(smmuq_lookup(&unit, &tag, &held), SMMUQ_EMPTY_HANDLE);
+}
+
+static void misuse_a_ring(void) {
+    smmuq_handle senders[2] = {SMMUQ_EMPTY, SMMUQ_EMPTY}, engine = SMMUQ_EMPTY;
+    smmuq_words words[64];
+    smmuq_run_answer answer;
+    smmuq_verdict verdict;
+    uint32_t number;
+    size_t i;
+    for (i = 0; i < 64; i++)
+        words[i] = CFGI_STE;
+    WANT(smmuq_ring_new(0, 10, 16, senders, 2, &engine), SMMUQ_N1);
+    WANT(smmuq_ring_new(20, 10, 16, senders, 2, &engine), SMMUQ_N1);
+    WANT(smmuq_ring_new(4, 10, 16, senders, 0, &engine), SMMUQ_N2);
+    WANT(smmuq_ring_new(4, 0, 16, senders, 2, &engine), SMMUQ_N3);
+    WANT(smmuq_ring_new(4, 10, 0, senders, 2, &engine), SMMUQ_C4);
+    WANT(smmuq_send(&senders[0], words, 1, 1, &number), SMMUQ_EMPTY_HANDLE);
+    WANT(smmuq_ring_new(4, 10, 16, senders, 2, &engine), SMMUQ_OK);
+    WANT(smmuq_send(&engine, words, 1, 1, &number), SMMUQ_WRONG_HANDLE);
+    WANT(smmuq_run(&senders[0], 64, &answer), SMMUQ_WRONG_HANDLE);
+    WANT(smmuq_unit_judge(&engine, 3, 0, &verdict), SMMUQ_WRONG_HANDLE);
+    WANT(smmuq_send(&senders[0], words, 0, 1, &number), SMMUQ_B5);
+    WANT(smmuq_send(&senders[0], words, 64, 1, &number), SMMUQ_B1);
+    WANT(smmuq_send(&senders[0], &CMD_SYNC, 1, 1, &number), SMMUQ_B2);
+    WANT(smmuq_send(&senders[0], words, 16, 1, &number), SMMUQ_Q4);
+    WANT(smmuq_run(&engine, 64, &answer), SMMUQ_RING_EMPTY);
+    WANT(smmuq_send(&senders[0], words, 15, 0, &number), SMMUQ_OK); /* no tries count as one */
+    WANT(smmuq_send(&senders[1], words, 1, 5, &number), SMMUQ_Q2);
+    WANT(smmuq_run(&engine, 0, &answer), SMMUQ_OK); /* 0 counts as 1, more than 64 as 64 */
+    WANT(answer.count, 1);
+    WANT(smmuq_run(&engine, 1000, &answer), SMMUQ_OK);
+    WANT(smmuq_done_up_to(&senders[0], &number), SMMUQ_OK);
+    WANT(number, 1);
+    WANT(smmuq_close(&senders[1]), SMMUQ_OK);
+    WANT(smmuq_send(&senders[0], words, 1, 1, &number), SMMUQ_Q1);
+    WANT(smmuq_run(&engine, 64, &answer), SMMUQ_RING_DRAINED);
+    /* Handles are freed in any order: each has its share of the ring. */
+    smmuq_free(&engine);
+    WANT(smmuq_done_up_to(&senders[0], &number), SMMUQ_OK);
+    smmuq_free(&senders[0]);
+    WANT(smmuq_done_up_to(&senders[0], &number), SMMUQ_EMPTY_HANDLE);
+    /* What a handle held is freed where it is made anew. */
+    WANT(smmuq_unit_new(16, &senders[1]), SMMUQ_OK);
+    smmuq_free(&senders[1]);
+}
+
+static smmuq_guarded shared;
+
+static void *send_on_shared(void *sent) {
+    uint32_t number, i;
+    for (i = 0; i < 20000; i++) {
+        smmuq_handle *handle = smmuq_enter(&shared);
+        if (handle) {
+            if (smmuq_send(handle, &CFGI_STE, 1, 1, &number) == SMMUQ_OK)
+                ++*(uint32_t *)sent;
+            smmuq_leave(&shared);
+        }
+    }
+    return NULL;
+}
+
+/* Two threads on one sender: whoever comes second is refused, and all that was sent is taken. */
+static void share_a_guarded_handle(void) {
+    smmuq_handle sender = SMMUQ_EMPTY, engine = SMMUQ_EMPTY;
+    smmuq_run_answer answer;
+    pthread_t threads[2];
+    uint32_t sent[2] = {0, 0}, number, taken = 0, status;
+    int i;
+    WANT(smmuq_ring_new(16, 1000000, 16, &sender, 1, &engine), SMMUQ_OK);
+    shared.handle = sender;
+    for (i = 0; i < 2; i++)
+        pthread_create(&threads[i], NULL, send_on_shared, &sent[i]);
+    for (i = 0; i < 2; i++)
+        pthread_join(threads[i], NULL);
+    while ((status = smmuq_run(&engine, 64, &answer)) == SMMUQ_OK)
+        taken += answer.count;
+    WANT(status, SMMUQ_RING_EMPTY);
+    WANT(taken, 2 * (sent[0] + sent[1]));
+    WANT(smmuq_done_up_to(&shared.handle, &number), SMMUQ_OK);
+    WANT(number, sent[0] + sent[1]);
+    smmuq_free(&shared.handle);
+    smmuq_free(&engine);
+}
+
+int main(void) {
+    misuse_words();
+    misuse_a_unit();
+    misuse_a_ring();
+    share_a_guarded_handle();
+    puts("misuse: all told");
+    return 0;
+}

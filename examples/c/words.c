@@ -1,0 +1,57 @@
+/* Reads commands, 32 hexadecimal digits a line as they lie in the queue, and prints what each says. Each legal one is
+ * encoded again from its fields, and that has to decode to the same fields.
+ *
+ *     words < FILE
+ */
+#include "smmuq.h"
+
+#include <stdio.h>
+#include <string.h>
+
+enum { DIGITS = 32, TEXT_ROOM = 160 };
+
+/* A word of the command, whose lowest byte is the first in memory: whether its 16 digits are hexadecimal. */
+static int read_word(const char *digits, uint64_t *word) {
+    int byte;
+    *word = 0;
+    for (byte = 7; byte >= 0; byte--) {
+        unsigned value;
+        if (sscanf(digits + 2 * byte, "%2x", &value) != 1)
+            return 0;
+        *word = *word << 8 | value;
+    }
+    return 1;
+}
+
+/* Whether a command's fields give words that decode to the same fields. */
+static int comes_back(const smmuq_fields *fields) {
+    smmuq_words words;
+    smmuq_fields again;
+    return smmuq_encode(fields, &words) == SMMUQ_OK && smmuq_decode(words.lo, words.hi, &again) == SMMUQ_OK
+        && memcmp(fields, &again, sizeof again) == 0;
+}
+
+int main(void) {
+    char line[256];
+    unsigned number = 0, faults = 0;
+    while (fgets(line, sizeof line, stdin)) {
+        smmuq_words words;
+        smmuq_fields fields;
+        uint8_t text[TEXT_ROOM];
+        size_t length;
+        uint32_t status;
+        number++;
+        if (strcspn(line, "\r\n") != DIGITS || !read_word(line, &words.lo) || !read_word(line + DIGITS / 2, &words.hi)) {
+            printf("line %u: bad line\n", number);
+            faults++;
+        } else if ((status = smmuq_decode(words.lo, words.hi, &fields)) != SMMUQ_OK) {
+            printf("illegal: status 0x%02x\n", status);
+        } else if (!comes_back(&fields) || smmuq_text(words.lo, words.hi, text, sizeof text, &length) != SMMUQ_OK) {
+            printf("line %u: another command comes back\n", number);
+            faults++;
+        } else {
+            puts((const char *)text);
+        }
+    }
+    return faults ? 1 : 0;
+}

@@ -1,0 +1,127 @@
+//! Two senders and an engine, a thread each, over the C library. The types here keep what C callers owe: a handle is never
+//! copied, and one call at a time is made on it.
+mod sys;
+
+use std::thread;
+use sys::{Handle, RunAnswer, Words};
+
+const BATCHES: u32 = 100_000;
+const CFGI_STE: Words = Words {
+    lo: 0x7_0000_0003,
+    hi: 1,
+};
+
+/// What a call answered, where that isn't 0.
+#[derive(Debug)]
+struct Refused(#[allow(dead_code)] u32);
+
+fn asked(status: u32) -> Result<(), Refused> {
+    match status {
+        sys::OK => Ok(()),
+        other => Err(Refused(other)),
+    }
+}
+
+/// A handle that is freed at its end.
+struct Owned(Handle);
+
+// SAFETY: what a handle owns has no state of a thread's own, so another thread may go on with it.
+unsafe impl Send for Owned {}
+
+impl Drop for Owned {
+    fn drop(&mut self) {
+        unsafe { sys::smmuq_free(&mut self.0) }
+    }
+}
+
+struct Sender(Owned);
+
+impl Sender {
+    /// Sends a batch, and answers the number of its CMD_SYNC.
+    fn send(&mut self, commands: &[Words]) -> Result<u32, Refused> {
+        let mut number = 0;
+        let handle = &mut self.0.0;
+        asked(unsafe {
+            sys::smmuq_send(handle, commands.as_ptr(), commands.len(), 64, &mut number)
+        })?;
+        Ok(number)
+    }
+
+    /// The number of the last CMD_SYNC that completed, 0 where none did.
+    fn done_up_to(&mut self) -> Result<u32, Refused> {
+        let mut number = 0;
+        asked(unsafe { sys::smmuq_done_up_to(&mut self.0.0, &mut number) })?;
+        Ok(number)
+    }
+
+    fn close(&mut self) -> Result<(), Refused> {
+        asked(unsafe { sys::smmuq_close(&mut self.0.0) })
+    }
+}
+
+struct Engine(Owned);
+
+impl Engine {
+    /// Takes what there is, and answers how many commands; nothing where the ring is closed and drained.
+    fn run(&mut self) -> Result<Option<u32>, Refused> {
+        let mut answer = RunAnswer::default();
+        match unsafe { sys::smmuq_run(&mut self.0.0, 64, &mut answer) } {
+            sys::OK => Ok(Some(answer.count)),
+            sys::RING_EMPTY | sys::RING_UNWRITTEN => Ok(Some(0)),
+            sys::RING_DRAINED => Ok(None),
+            other => Err(Refused(other)),
+        }
+    }
+}
+
+fn make() -> Result<([Sender; 2], Engine), Refused> {
+    let mut handles = [Handle::EMPTY, Handle::EMPTY];
+    let mut engine = Owned(Handle::EMPTY);
+    asked(unsafe {
+        sys::smmuq_ring_new(10, BATCHES, 64, handles.as_mut_ptr(), handles.len(), &mut engine.0)
+    })?;
+    Ok((handles.map(|handle| Sender(Owned(handle))), Engine(engine)))
+}
+
+/// Sends all batches, waits for the last, and gives the sender back.
+fn send_all(mut sender: Sender) -> Result<Sender, Refused> {
+    for wanted in 1..=BATCHES {
+        let number = loop {
+            match sender.send(&[CFGI_STE]) {
+                Ok(number) => break number,
+                Err(_) => thread::yield_now(),
+            }
+        };
+        assert_eq!(number, wanted);
+    }
+    while sender.done_up_to()? < BATCHES {
+        thread::yield_now();
+    }
+    Ok(sender)
+}
+
+fn take_all(mut engine: Engine) -> Result<u32, Refused> {
+    let mut taken = 0;
+    while let Some(count) = engine.run()? {
+        taken += count;
+        if count == 0 {
+            thread::yield_now();
+        }
+    }
+    Ok(taken)
+}
+
+fn main() -> Result<(), Refused> {
+    let (senders, engine) = make()?;
+    let taken = thread::scope(|scope| {
+        let taker = scope.spawn(move || take_all(engine));
+        let threads = senders.map(|sender| scope.spawn(move || send_all(sender)));
+        for thread in threads {
+            thread.join().expect("a sender's thread")?.close()?;
+        }
+        taker.join().expect("the engine's thread")
+    })?;
+    assert_eq!(taken, 4 * BATCHES);
+    println!("Rust: {taken} commands taken");
+    Ok(())
+}
