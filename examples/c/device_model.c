@@ -88,6 +88,11 @@ static uint64_t translate(struct model *model, const uint64_t *page_table, uint6
     return held.value;
 }
 
+static void print_translation(struct model *model, const char *when, const uint64_t *page_table) {
+    const uint64_t value = translate(model, page_table, 0x3000);
+    printf("%s: 0x%" PRIx64 ", walks so far %" PRIu32 "\n", when, value, model->walks);
+}
+
 static void print_queue(struct model *model) {
     smmuq_errors errors;
     smmuq_tallies tallies;
@@ -127,16 +132,16 @@ static void play_a_guest(struct model *model) {
     uint32_t prod = 0;
 
     page_table[3] = 0x1000;
-    translate(model, page_table, 0x3000);
-    printf("used twice: 0x%" PRIx64 " after %" PRIu32 " walk\n", translate(model, page_table, 0x3000), model->walks);
+    print_translation(model, "used", page_table);
+    print_translation(model, "used again", page_table);
 
     /* The guest maps the page anew: until the CMD_SYNC completed, a device may still reach the old place. */
     page_table[3] = 0x2000;
-    printf("mapped anew, not invalidated: 0x%" PRIx64 "\n", translate(model, page_table, 0x3000));
+    print_translation(model, "mapped anew, not invalidated", page_table);
     prod = put(model, put(model, prod, invalidate), sync);
     if (doorbell(model, prod) != SMMUQ_OK)
         fail("doorbell", 0);
-    printf("invalidated: 0x%" PRIx64 " after %" PRIu32 " walks\n", translate(model, page_table, 0x3000), model->walks);
+    print_translation(model, "invalidated", page_table);
     print_queue(model);
 
     /* An opcode that nobody knows, and a CMD_SYNC behind it. */

@@ -13,7 +13,7 @@ const CFGI_STE: Words = Words {
 
 /// What a call answered, where that isn't 0.
 #[derive(Debug)]
-struct Refused(#[allow(dead_code)] u32);
+struct Refused(u32);
 
 fn asked(status: u32) -> Result<(), Refused> {
     match status {
@@ -88,8 +88,8 @@ fn send_all(mut sender: Sender) -> Result<Sender, Refused> {
     for wanted in 1..=BATCHES {
         let number = loop {
             match sender.send(&[CFGI_STE]) {
-                Ok(number) => break number,
-                Err(_) => thread::yield_now(),
+                Err(Refused(sys::Q2 | sys::Q3)) => thread::yield_now(),
+                answer => break answer?,
             }
         };
         assert_eq!(number, wanted);
@@ -116,8 +116,10 @@ fn main() -> Result<(), Refused> {
     let taken = thread::scope(|scope| {
         let taker = scope.spawn(move || take_all(engine));
         let threads = senders.map(|sender| scope.spawn(move || send_all(sender)));
-        for thread in threads {
-            thread.join().expect("a sender's thread")?.close()?;
+        // All have sent before one of them closes the ring.
+        let sent = threads.map(|thread| thread.join().expect("a sender's thread"));
+        for sender in sent {
+            sender?.close()?;
         }
         taker.join().expect("the engine's thread")
     })?;

@@ -31,6 +31,10 @@ pub struct RunAnswer {
 }
 
 pub const OK: u32 = 0;
+/// The ring has too little room.
+pub const Q2: u32 = 0x32;
+/// Another changed the ring first.
+pub const Q3: u32 = 0x33;
 pub const RING_EMPTY: u32 = 0x73;
 pub const RING_DRAINED: u32 = 0x74;
 pub const RING_UNWRITTEN: u32 = 0x75;
