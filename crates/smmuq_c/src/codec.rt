@@ -98,7 +98,7 @@ fn write_text(alloc: Global, raw: Raw, buffer: &mut [u8], written: &mut usize) -
 }
 
 /// Copies a text and a 0 behind it, and tells its length.
-fn copy_text(line: &[u8], buffer: &mut [u8], written: &mut usize) -> Status
+pub(crate) fn copy_text(line: &[u8], buffer: &mut [u8], written: &mut usize) -> Status
     ensures { IsCopied line.now buffer.old buffer.new written.new result }
 {
     *written = line.len();

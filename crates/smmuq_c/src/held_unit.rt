@@ -2,11 +2,14 @@
 ghost use Rattle.std.specs.Prelude.{◌≡◌, [], IfOk, OnErr, Err};
 ghost use Rattle.engine.specs.Units.{StaysSettled};
 ghost use Rattle.smmuq_c.specs.Judging.{IsJudgement, took_by, HasJudgedFor};
+ghost use Rattle.std.specs.FinMap as finite;
+ghost use Rattle.smmuq_c.specs.Lists.{IsListed};
 ghost use Rattle.smmuq_c.specs.Entries.{HasFilled, HasEvicted, TellsEntry};
 ghost use Rattle.smmuq_c.specs.Registers.{HasAcknowledged, error_words, count_words};
 ghost use Rattle.smmuq_c.specs.Making.{AreNewCaches, IsNewUnit, IsCapacity};
 
 use crate::answers::{acknowledgement_status, fill_status, tell_entry, verdict_status};
+use crate::listing::{EntryWords, give_entries};
 use crate::status::Status;
 use crate::words::{Errors, Held, Tallies, VerdictWords};
 use caches::{CacheFault, Caches, Tag};
@@ -135,6 +138,17 @@ impl HeldUnit {
         ensures settled { StaysSettled self.now self.now [] }
     {
         tell_entry(self.unit.lookup(tag), told)
+    }
+
+    /// Tells all entries, and how many they are.
+    pub(crate) fn entries(&self, buffer: &mut [EntryWords], count: &mut usize) -> Status
+        ensures listed { IsListed (finite.values self.now.caches.entries) buffer.old buffer.new count.new result }
+        ensures settled { StaysSettled self.now self.now [] }
+    {
+        match self.unit.entries() {
+            Ok(list) => give_entries(list.as_slice(), buffer, count),
+            Err(fault) => Status::Cache(fault),
+        }
     }
 
     pub(crate) fn errors(&self) -> Errors

@@ -10,3 +10,10 @@ pub(crate) enum Object {
     Sender(SeatedSender),
     Engine(SeatedEngine),
 }
+
+fn may_cross_threads<T: Send>(_value: &T) {}
+
+/// A witness that C may hand a handle from one thread to another. It does nothing.
+pub(crate) fn objects_may_cross_threads(object: &Object) {
+    may_cross_threads(object);
+}

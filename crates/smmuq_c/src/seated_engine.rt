@@ -3,11 +3,14 @@ ghost use Rattle.std.specs.Prelude.{◌≡◌};
 ghost use Rattle.std.specs.Arc.{arc_value};
 ghost use Rattle.ring.specs.consumer.Completing.{taken_of};
 ghost use Rattle.engine.specs.Settled.{IsSettled};
+ghost use Rattle.std.specs.FinMap as finite;
+ghost use Rattle.smmuq_c.specs.Lists.{IsListed};
 ghost use Rattle.smmuq_c.specs.Entries.{HasFilled, HasEvicted, TellsEntry};
 ghost use Rattle.smmuq_c.specs.Registers.{HasAcknowledged, error_words, count_words};
 ghost use Rattle.smmuq_c.specs.Runs.{HasRunFor, HasToldRegisters};
 
 use crate::answers::{acknowledgement_status, fill_status, tell_entry};
+use crate::listing::{EntryWords, give_entries};
 use crate::status::Status;
 use crate::words::{Errors, Held, RegisterWords, RunWords, Tallies};
 use caches::Tag;
@@ -85,6 +88,18 @@ impl SeatedEngine {
     {
         self.engine.is_settled();
         tell_entry(self.engine.lookup(tag), told)
+    }
+
+    /// Tells all entries, and how many they are.
+    pub(crate) fn entries(&self, buffer: &mut [EntryWords], count: &mut usize) -> Status
+        ensures listed { IsListed (finite.values self.now.unit.caches.entries) buffer.old buffer.new count.new result }
+        ensures settled { IsSettled self.now.unit.caches.entries (taken_of self.now.consumer.trail) }
+    {
+        self.engine.is_settled();
+        match self.engine.entries() {
+            Ok(list) => give_entries(list.as_slice(), buffer, count),
+            Err(fault) => Status::Cache(fault),
+        }
     }
 
     pub(crate) fn errors(&self) -> Errors

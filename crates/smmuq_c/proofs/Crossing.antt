@@ -1,0 +1,29 @@
+-- What a handle owns may go to another thread.
+use denote.Param.Send.{IsSend, IsSync, sendable}
+use Rattle.std.proofs.Crossing.{crosses, send, sync}
+use Rattle.std.proofs.MapsCrossing as maps
+use Rattle.atomic_table.proofs.shared.Seat.TheSendSync.{the_send as seat_send}
+use Rattle.atomic_table.proofs.shared.Shared.TheSendSync.{the_send as shared_send, the_sync as shared_sync}
+use Rattle.atomic_table.proofs.send_lease.SendLease.TheSendSync.{the_send as lease_send, the_sync as lease_sync}
+use Rattle.ring.proofs.Crossing.{ring_sync}
+use Rattle.ring.specs.contracts.ring.Ring as Ring
+use Rattle.engine.proofs.Crossing.{engine_send}
+use Rattle.smmuq_c.specs.contracts.held_unit.HeldUnit as HeldUnit
+use Rattle.smmuq_c.specs.contracts.seated_sender.SeatedSender as SeatedSender
+use Rattle.smmuq_c.specs.contracts.seated_engine.SeatedEngine as SeatedEngine
+use Rattle.smmuq_c.specs.contracts.object.Object as Object
+
+pub unit_send : IsSend HeldUnit.the_row
+unit_send = search (sendable, crosses, maps.crosses) depth 60 fits 100000
+
+pub ring_send : IsSend Ring.the_row
+ring_send = search (sendable, send, sync, crosses, shared_send, shared_sync, lease_send, lease_sync) depth 60 fits 100000
+
+pub sender_send : IsSend SeatedSender.the_row
+sender_send = search (sendable, crosses, send, sync, seat_send, ring_send, ring_sync) depth 60 fits 100000
+
+pub seated_send : IsSend SeatedEngine.the_row
+seated_send = search (sendable, crosses, send, sync, engine_send, ring_send, ring_sync) depth 60 fits 100000
+
+pub object_send : IsSend Object.the_row
+object_send = search (sendable, unit_send, sender_send, seated_send) depth 20

@@ -1,0 +1,52 @@
+-- The list of entries in a buffer of C.
+use Rattle.std.specs.Prelude.{◌≡◌, ◌*◌, ℕ, List, Option, Some, None, map}
+use Rattle.std.specs.FinMap as finite
+use Rattle.caches.specs.declared.tag.Tag.{Tag}
+use Rattle.caches.specs.declared.tag.Tag.TheVariants.{Ste, Cd, S1, S2, El2, Atc}
+use Rattle.caches.specs.declared.tag.Scope.{Scope}
+use Rattle.caches.specs.declared.tag.Scope.TheVariants.{Global, Of}
+use Rattle.caches.specs.declared.tag.Entry.{Entry}
+use Rattle.caches.specs.declared.fault.CacheFault.TheVariants.{NoMemory}
+use Rattle.engine.specs.Units.{UnitValue}
+use Rattle.smmuq_c.specs.declared.status.Status.{Status}
+use Rattle.smmuq_c.specs.declared.status.Status.TheVariants.{Cache}
+use Rattle.smmuq_c.specs.declared.tags.TagWords.{TagWords}
+use Rattle.smmuq_c.specs.declared.listing.EntryWords.{EntryWords}
+use Rattle.smmuq_c.specs.Batches.{IsGiven}
+use Rattle.smmuq_c.specs.Entries.{entry_words}
+
+-- ---- the words of a tag, 0 where it has no such field
+
+abbrev pub no_tag : TagWords
+no_tag = record { kind = 0; sid = 0; has_ssid = 0; ssid = 0; vmid = 0; has_asid = 0; asid = 0; span = 0; address = 0 }
+
+abbrev pub with_scope : Scope → TagWords → TagWords
+with_scope Global w = w
+with_scope (Of asid) w = record w { has_asid = 1; asid = asid }
+
+abbrev pub with_substream : Option ℕ → TagWords → TagWords
+with_substream None w = w
+with_substream (Some ssid) w = record w { has_ssid = 1; ssid = ssid }
+
+abbrev pub tag_words : Tag → TagWords
+tag_words (Ste sid) = record no_tag { kind = 1; sid = sid }
+tag_words (Cd sid ssid) = record no_tag { kind = 2; sid = sid; ssid = ssid }
+tag_words (S1 vmid scope page span) = with_scope scope (record no_tag { kind = 3; vmid = vmid; address = page * 4096; span = span })
+tag_words (S2 vmid page span) = record no_tag { kind = 4; vmid = vmid; address = page * 4096; span = span }
+tag_words (El2 scope page span) = with_scope scope (record no_tag { kind = 5; address = page * 4096; span = span })
+tag_words (Atc sid ssid page span) = with_substream ssid (record no_tag { kind = 6; sid = sid; address = page * 4096; span = span })
+
+-- ---- an entry, and all of them
+
+abbrev pub listed : Entry → EntryWords
+listed entry = record { tag = tag_words entry.tag; held = entry_words entry }
+
+-- All entries stand first in the buffer, in the order of their tags; or it is too short, or memory ran out, and it stays.
+abbrev pub IsListed : List Entry → List EntryWords → List EntryWords → ℕ → Status → Type 0
+IsListed entries old new told (Cache NoMemory) = new ≡ old
+IsListed entries old new told status = IsGiven (map listed entries) old new told status
+
+-- It told them, and changed nothing.
+pub record HasListed (old_buffer new_buffer : List EntryWords) (told : ℕ) (old new : UnitValue) (status : Status) : Type 0 where
+  pub listed_are : IsListed (finite.values old.caches.entries) old_buffer new_buffer told status
+  pub new_is : new ≡ old

@@ -1,0 +1,63 @@
+-- What each status is called.
+use Rattle.std.specs.Prelude.{◌≡◌, ℕ, List, codes, Option, Some, None, ⊤}
+use Rattle.cmdcodec.specs.declared.ill.Ill.TheVariants.{UnknownOpcode, SecureStream, ReservedSignal, OversizedSpan}
+use Rattle.caches.specs.declared.fault.CacheFault.TheVariants as cache
+use Rattle.batch.specs.declared.fault.BatchFault.TheVariants as batch
+use Rattle.ring.specs.declared.sender.cause.Cause.TheVariants as cause
+use Rattle.ringcore.specs.declared.ring_fault.RingFault.TheVariants as ring
+use Rattle.engine.specs.declared.remedy.AckFault.TheVariants.{NoError, OtherBit}
+use Rattle.smmuq_c.specs.declared.status.Status.{Status}
+use Rattle.smmuq_c.specs.declared.status.Status.TheVariants.{Done, Illegal, Cache, Batch, Refused, Ring, Acknowledgement, EmptyHandle, WrongHandle, BadField, ShortBuffer, NoMemory, NotHeld, StillStopped, OtherCommand, Exhausted, RingEmpty, RingDrained, RingUnwritten, Replaced}
+use Rattle.smmuq_c.specs.Statuses.{number_of}
+use Rattle.smmuq_c.specs.Texts.{IsCopied}
+
+-- its label, if it has one, and what it means
+abbrev pub words_of : Status → List ℕ
+words_of Done = codes "done"
+words_of (Illegal UnknownOpcode) = codes "ILL1: unknown opcode"
+words_of (Illegal SecureStream) = codes "ILL2: a Secure stream"
+words_of (Illegal ReservedSignal) = codes "ILL3: a reserved completion signal"
+words_of (Illegal OversizedSpan) = codes "ILL4: an oversized span"
+words_of (Cache cache.Full) = codes "C1: the caches are full"
+words_of (Cache cache.BadBlock) = codes "C2: the block is not well formed"
+words_of (Cache cache.NoMemory) = codes "C3: out of memory"
+words_of (Cache cache.BadCapacity) = codes "C4: the capacity is not 1 to 65536"
+words_of (Batch batch.Full) = codes "B1: more than 63 commands"
+words_of (Batch batch.SyncInside) = codes "B2: a CMD_SYNC inside"
+words_of (Batch batch.NoPages) = codes "B3: no page"
+words_of (Batch batch.PastEnd) = codes "B4: past the last page"
+words_of (Batch batch.Empty) = codes "B5: no command"
+words_of (Refused cause.Closed) = codes "Q1: the ring is closed"
+words_of (Refused cause.Full) = codes "Q2: too little room"
+words_of (Refused cause.Contended) = codes "Q3: another came first"
+words_of (Refused cause.TooLong) = codes "Q4: more commands than slots"
+words_of (Refused cause.Exhausted) = codes "Q5: no batch left"
+words_of (Ring ring.Size) = codes "N1: the size is not 2^1 to 2^19"
+words_of (Ring ring.Senders) = codes "N2: the senders are not 1 to 256"
+words_of (Ring ring.Batches) = codes "N3: no batch for a sender"
+words_of (Ring (ring.Memory error)) = codes "N4: out of memory"
+words_of (Acknowledgement NoError) = codes "G1: no error is active"
+words_of (Acknowledgement OtherBit) = codes "G2: CMDQ_ERR is another"
+words_of EmptyHandle = codes "the handle is empty"
+words_of WrongHandle = codes "the handle is of another kind"
+words_of BadField = codes "a field is out of range"
+words_of ShortBuffer = codes "the buffer is too short"
+words_of NoMemory = codes "out of memory"
+words_of NotHeld = codes "no entry has this tag"
+words_of StillStopped = codes "consumption is stopped"
+words_of OtherCommand = codes "another command than the one at which it stopped"
+words_of Exhausted = codes "as many commands as may be were taken"
+words_of RingEmpty = codes "nothing is reserved"
+words_of RingDrained = codes "nothing is reserved, and nothing will be"
+words_of RingUnwritten = codes "the command at the head is not handed over"
+words_of Replaced = codes "an illegal command was taken without effect"
+
+-- It is the status of this number, or there is none.
+abbrev pub IsNumbered : ℕ → Option Status → Type 0
+IsNumbered number None = (status : Status) → ¬ (number_of status ≡ number)
+IsNumbered number (Some status) = number_of status ≡ number
+
+-- The words of the status of this number are copied; or there is none, and the buffer stays.
+abbrev pub HasToldStatus : ℕ → List ℕ → List ℕ → ℕ → Status → Type 0
+HasToldStatus number old new told BadField = IsNumbered number None × (new ≡ old)
+HasToldStatus number old new told status = (named : Status) × IsNumbered number (Some named) × IsCopied (words_of named) old new told status

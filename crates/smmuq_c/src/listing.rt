@@ -1,0 +1,191 @@
+//! The list of entries, flat, and the export that tells it.
+ghost use Rattle.std.specs.Prelude.{◌≡◌, ◌*◌, ◌<◌, ◌≤◌, ◌^◌, ◌++◌, length, drop, map};
+ghost use Rattle.std.specs.FinMap as finite;
+ghost use Rattle.smmuq_c.specs.Batches.{IsGiven};
+ghost use Rattle.smmuq_c.specs.Calls.{HasCalled, OfAnyUnit};
+ghost use Rattle.smmuq_c.specs.Lists.{tag_words, listed, HasListed, with_scope, with_substream};
+
+use crate::handle::{Handle, put, take};
+use crate::object::Object;
+use crate::status::Status;
+use crate::tags::TagWords;
+use crate::words::Held;
+use caches::{Entry, Scope, Tag};
+use cmdcodec::{Page, Ssid};
+use std::alloc::Global;
+
+/// An entry: its tag, and what is held under it.
+#[repr(C)]
+#[derive(Clone, Copy)]
+pub struct EntryWords {
+    pub tag: TagWords,
+    pub held: Held,
+}
+
+impl TagWords {
+    const NONE: TagWords = TagWords {
+        kind: 0,
+        sid: 0,
+        has_ssid: 0,
+        ssid: 0,
+        vmid: 0,
+        has_asid: 0,
+        asid: 0,
+        span: 0,
+        address: 0,
+    };
+
+    fn with_scope(self, scope: Scope) -> TagWords
+        ensures { result ≡ with_scope scope self }
+    {
+        match scope {
+            Scope::Global => self,
+            Scope::Of(asid) => TagWords {
+                has_asid: 1,
+                asid: u32::from(asid.get()),
+                ..self
+            },
+        }
+    }
+
+    fn with_substream(self, ssid: Option<Ssid>) -> TagWords
+        ensures { result ≡ with_substream ssid self }
+    {
+        match ssid {
+            None => self,
+            Some(ssid) => TagWords {
+                has_ssid: 1,
+                ssid: ssid.get(),
+                ..self
+            },
+        }
+    }
+
+    fn of_block(page: Page, span: u8) -> TagWords
+        ensures { result ≡ record TagWords.NONE { address = page * 4096; span = span } }
+    {
+        TagWords {
+            address: page.get() << 12,
+            span: u32::from(span),
+            ..TagWords::NONE
+        }
+    }
+
+    fn of(tag: &Tag) -> TagWords
+        ensures { result ≡ tag_words tag.now }
+    {
+        match *tag {
+            Tag::Ste { sid } => TagWords {
+                kind: 1,
+                sid: sid.get(),
+                ..TagWords::NONE
+            },
+            Tag::Cd { sid, ssid } => TagWords {
+                kind: 2,
+                sid: sid.get(),
+                ssid: ssid.get(),
+                ..TagWords::NONE
+            },
+            Tag::S1 {
+                vmid,
+                scope,
+                page,
+                span,
+            } => TagWords {
+                kind: 3,
+                vmid: u32::from(vmid.get()),
+                ..TagWords::of_block(page, span)
+            }
+            .with_scope(scope),
+            Tag::S2 { vmid, page, span } => TagWords {
+                kind: 4,
+                vmid: u32::from(vmid.get()),
+                ..TagWords::of_block(page, span)
+            },
+            Tag::El2 { scope, page, span } => TagWords {
+                kind: 5,
+                ..TagWords::of_block(page, span)
+            }
+            .with_scope(scope),
+            Tag::Atc {
+                sid,
+                ssid,
+                page,
+                span,
+            } => TagWords {
+                kind: 6,
+                sid: sid.get(),
+                ..TagWords::of_block(page, span)
+            }
+            .with_substream(ssid),
+        }
+    }
+}
+
+impl EntryWords {
+    fn of(entry: &Entry) -> EntryWords
+        ensures { result ≡ listed entry.now }
+    {
+        EntryWords {
+            tag: TagWords::of(&entry.tag),
+            held: Held {
+                value: entry.value,
+                born: entry.born,
+            },
+        }
+    }
+}
+
+/// Writes entries to a buffer, and tells how many they are.
+pub(crate) fn give_entries(
+    entries: &[Entry],
+    buffer: &mut [EntryWords],
+    count: &mut usize,
+) -> Status
+    ensures { IsGiven (map listed entries.now) buffer.old buffer.new count.new result }
+{
+    *count = entries.len();
+    if buffer.len() < entries.len() {
+        return Status::ShortBuffer;
+    }
+    write_entries(entries, buffer);
+    Status::Done
+}
+
+fn write_entries(entries: &[Entry], buffer: &mut [EntryWords])
+    requires { length entries.now ≤ length buffer.old }
+    ensures { buffer.new ≡ map listed entries.now ++ drop (length entries.now) buffer.old }
+{
+    for (place, entry) in entries.iter().enumerate() {
+        buffer[place] = EntryWords::of(entry);
+    }
+}
+
+/// Tells all entries that a unit or an engine holds, in the order of their tags, and how many they are. Where the
+/// buffer is too short, the number of entries is told all the same; C3 where memory ran out.
+#[unsafe(no_mangle)]
+pub extern "C" fn smmuq_entries(
+    alloc: Global,
+    handle: &mut Handle,
+    buffer: &mut [EntryWords],
+    count: &mut usize,
+) -> u32
+    ensures { HasCalled (OfAnyUnit (HasListed buffer.old buffer.new count.new)) handle.old.object handle.new.object result }
+{
+    let Some(object) = take(alloc, handle) else {
+        return Status::EmptyHandle.number();
+    };
+    let status = list(object.as_ref(), buffer, count);
+    put(handle, object);
+    status.number()
+}
+
+fn list(object: &Object, buffer: &mut [EntryWords], count: &mut usize) -> Status
+    ensures { OfAnyUnit (HasListed buffer.old buffer.new count.new) object.now object.now result }
+{
+    match object {
+        Object::Unit(unit) => unit.entries(buffer, count),
+        Object::Engine(seated) => seated.entries(buffer, count),
+        Object::Sender(_) => Status::WrongHandle,
+    }
+}

@@ -1,0 +1,126 @@
+//! What each status is called, and the export that tells it.
+ghost use Rattle.std.specs.Prelude.{◌≡◌, ◌<◌};
+ghost use Rattle.smmuq_c.specs.Calls.{Answers};
+ghost use Rattle.smmuq_c.specs.StatusWords.{words_of, IsNumbered, HasToldStatus};
+
+use crate::codec::copy_text;
+use crate::status::Status;
+use batch::BatchFault;
+use caches::CacheFault;
+use cmdcodec::Ill;
+use engine::AckFault;
+use ring::{Cause, RingFault};
+use std::alloc::AllocError;
+
+impl Status {
+    /// Its label, if it has one, and what it means.
+    fn words(self) -> &'static str
+        ensures { result.now ≡ words_of self }
+    {
+        match self {
+            Status::Done => "done",
+            Status::Illegal(Ill::UnknownOpcode) => "ILL1: unknown opcode",
+            Status::Illegal(Ill::SecureStream) => "ILL2: a Secure stream",
+            Status::Illegal(Ill::ReservedSignal) => "ILL3: a reserved completion signal",
+            Status::Illegal(Ill::OversizedSpan) => "ILL4: an oversized span",
+            Status::Cache(CacheFault::Full) => "C1: the caches are full",
+            Status::Cache(CacheFault::BadBlock) => "C2: the block is not well formed",
+            Status::Cache(CacheFault::NoMemory) => "C3: out of memory",
+            Status::Cache(CacheFault::BadCapacity) => "C4: the capacity is not 1 to 65536",
+            Status::Batch(BatchFault::Full) => "B1: more than 63 commands",
+            Status::Batch(BatchFault::SyncInside) => "B2: a CMD_SYNC inside",
+            Status::Batch(BatchFault::NoPages) => "B3: no page",
+            Status::Batch(BatchFault::PastEnd) => "B4: past the last page",
+            Status::Batch(BatchFault::Empty) => "B5: no command",
+            Status::Refused(Cause::Closed) => "Q1: the ring is closed",
+            Status::Refused(Cause::Full) => "Q2: too little room",
+            Status::Refused(Cause::Contended) => "Q3: another came first",
+            Status::Refused(Cause::TooLong) => "Q4: more commands than slots",
+            Status::Refused(Cause::Exhausted) => "Q5: no batch left",
+            Status::Ring(RingFault::Size) => "N1: the size is not 2^1 to 2^19",
+            Status::Ring(RingFault::Senders) => "N2: the senders are not 1 to 256",
+            Status::Ring(RingFault::Batches) => "N3: no batch for a sender",
+            Status::Ring(RingFault::Memory(_)) => "N4: out of memory",
+            Status::Acknowledgement(AckFault::NoError) => "G1: no error is active",
+            Status::Acknowledgement(AckFault::OtherBit) => "G2: CMDQ_ERR is another",
+            Status::EmptyHandle => "the handle is empty",
+            Status::WrongHandle => "the handle is of another kind",
+            Status::BadField => "a field is out of range",
+            Status::ShortBuffer => "the buffer is too short",
+            Status::NoMemory => "out of memory",
+            Status::NotHeld => "no entry has this tag",
+            Status::StillStopped => "consumption is stopped",
+            Status::OtherCommand => "another command than the one at which it stopped",
+            Status::Exhausted => "as many commands as may be were taken",
+            Status::RingEmpty => "nothing is reserved",
+            Status::RingDrained => "nothing is reserved, and nothing will be",
+            Status::RingUnwritten => "the command at the head is not handed over",
+            Status::Replaced => "an illegal command was taken without effect",
+        }
+    }
+}
+
+/// The status of this number.
+fn numbered(number: u32) -> Option<Status>
+    ensures { IsNumbered number result }
+{
+    match number {
+        0 => Some(Status::Done),
+        1 => Some(Status::Illegal(Ill::UnknownOpcode)),
+        2 => Some(Status::Illegal(Ill::SecureStream)),
+        3 => Some(Status::Illegal(Ill::ReservedSignal)),
+        4 => Some(Status::Illegal(Ill::OversizedSpan)),
+        0x11 => Some(Status::Cache(CacheFault::Full)),
+        0x12 => Some(Status::Cache(CacheFault::BadBlock)),
+        0x13 => Some(Status::Cache(CacheFault::NoMemory)),
+        0x14 => Some(Status::Cache(CacheFault::BadCapacity)),
+        0x21 => Some(Status::Batch(BatchFault::Full)),
+        0x22 => Some(Status::Batch(BatchFault::SyncInside)),
+        0x23 => Some(Status::Batch(BatchFault::NoPages)),
+        0x24 => Some(Status::Batch(BatchFault::PastEnd)),
+        0x25 => Some(Status::Batch(BatchFault::Empty)),
+        0x31 => Some(Status::Refused(Cause::Closed)),
+        0x32 => Some(Status::Refused(Cause::Full)),
+        0x33 => Some(Status::Refused(Cause::Contended)),
+        0x34 => Some(Status::Refused(Cause::TooLong)),
+        0x35 => Some(Status::Refused(Cause::Exhausted)),
+        0x41 => Some(Status::Ring(RingFault::Size)),
+        0x42 => Some(Status::Ring(RingFault::Senders)),
+        0x43 => Some(Status::Ring(RingFault::Batches)),
+        0x44 => Some(Status::Ring(RingFault::Memory(AllocError))),
+        0x51 => Some(Status::Acknowledgement(AckFault::NoError)),
+        0x52 => Some(Status::Acknowledgement(AckFault::OtherBit)),
+        0x60 => Some(Status::EmptyHandle),
+        0x61 => Some(Status::WrongHandle),
+        0x62 => Some(Status::BadField),
+        0x63 => Some(Status::ShortBuffer),
+        0x64 => Some(Status::NoMemory),
+        0x65 => Some(Status::NotHeld),
+        0x70 => Some(Status::StillStopped),
+        0x71 => Some(Status::OtherCommand),
+        0x72 => Some(Status::Exhausted),
+        0x73 => Some(Status::RingEmpty),
+        0x74 => Some(Status::RingDrained),
+        0x75 => Some(Status::RingUnwritten),
+        0x76 => Some(Status::Replaced),
+        _ => None,
+    }
+}
+
+/// The words of a status, ended by a 0, and their length without it, as `Q2: too little room`. Where the buffer is too
+/// short, the length that they want is told all the same. `BAD_FIELD` where no status has this number.
+#[unsafe(no_mangle)]
+pub extern "C" fn smmuq_status_text(status: u32, buffer: &mut [u8], written: &mut usize) -> u32
+    ensures { Answers (HasToldStatus status buffer.old buffer.new written.new) result }
+{
+    write_words(status, buffer, written).number()
+}
+
+fn write_words(number: u32, buffer: &mut [u8], written: &mut usize) -> Status
+    ensures { HasToldStatus number buffer.old buffer.new written.new result }
+{
+    match numbered(number) {
+        Some(status) => copy_text(status.words().as_bytes(), buffer, written),
+        None => Status::BadField,
+    }
+}
