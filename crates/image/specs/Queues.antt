@@ -1,10 +1,10 @@
 -- The queue that two registers tell of, and what is at fault in them.
-use Rattle.std.specs.Prelude.{◌≡◌, ◌≤◌, ℕ, ◌-◌, ◌*◌, ◌/◌, ◌%◌, ◌^◌, nat_lt, nat_le, Option, Some, None, Result, Ok, Err, List, ◌++◌, codes, decimal, if◌then◌else◌}
+use Rattle.std.specs.Prelude.{◌≡◌, ◌≤◌, ℕ, ◌-◌, ◌*◌, ◌/◌, ◌%◌, ◌^◌, nat_lt, nat_le, ◌&&◌, Option, Some, None, Result, Ok, Err, List, ◌++◌, codes, decimal, if◌then◌else◌}
 use Rattle.qindex.specs.Positions.{size}
 use Rattle.qindex.specs.Indexes.{distance}
 use Rattle.image.specs.declared.asked.Asked.{Asked}
 use Rattle.image.specs.declared.fault.ImageFault.{ImageFault}
-use Rattle.image.specs.declared.fault.ImageFault.TheVariants.{BadProd, BadCons, BadDistance, BadLength}
+use Rattle.image.specs.declared.fault.ImageFault.TheVariants.{BadLog2, BadProd, BadCons, BadDistance, BadLength}
 use Rattle.image.specs.declared.queue.Queue.{Queue}
 
 -- SMMU_CMDQ_CONS.ERR, bits 30:24
@@ -41,11 +41,16 @@ abbrev pub with_prod : ℕ → Option ℕ → Option ℕ → Result Queue ImageF
 with_prod geometry None cons = Err BadProd
 with_prod geometry (Some prod) cons = if nat_lt prod (2 * size geometry) then with_cons geometry prod cons else Err BadProd
 
+-- A queue has 2^1 to 2^19 slots.
+abbrev pub with_log2 : ℕ → Option ℕ → Option ℕ → Result Queue ImageFault
+with_log2 log2 prod cons = if nat_le 1 log2 && nat_le log2 19 then with_prod log2 prod cons else Err BadLog2
+
 unfoldable pub queue_of : Asked → Result Queue ImageFault
-queue_of asked = with_prod asked.geometry asked.prod asked.cons
+queue_of asked = with_log2 asked.log2 asked.prod asked.cons
 
 -- the one line of a fault
 abbrev pub fault_text : ImageFault → List ℕ
+fault_text BadLog2 = codes "bad log2\n"
 fault_text BadProd = codes "bad prod\n"
 fault_text BadCons = codes "bad cons\n"
 fault_text (BadDistance waiting) = codes "bad distance " ++ decimal waiting ++ codes "\n"

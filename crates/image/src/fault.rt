@@ -8,6 +8,8 @@ use std::fmt::Write;
 /// Why an image is refused.
 #[derive(Clone, Copy, Debug, PartialEq, Eq)]
 pub(crate) enum ImageFault {
+    /// The size isn't 2^1 to 2^19.
+    BadLog2,
     /// PROD has a bit above the wrap bit.
     BadProd,
     /// CONS has a bit above the wrap bit that is none of ERR.
@@ -23,6 +25,7 @@ pub(crate) fn say_fault(fault: ImageFault, text: &mut String) -> Result<(), Allo
     ensures { OnOk result (string_bytes text.new ≡ string_bytes text.old ++ fault_text fault) }
 {
     match fault {
+        ImageFault::BadLog2 => write!(text, "bad log2\n"),
         ImageFault::BadProd => write!(text, "bad prod\n"),
         ImageFault::BadCons => write!(text, "bad cons\n"),
         ImageFault::BadDistance(waiting) => write!(text, "bad distance {waiting}\n"),

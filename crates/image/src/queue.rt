@@ -65,17 +65,27 @@ fn with_cons(geometry: Geometry, prod: Index, cons: Option<u32>) -> Result<Queue
     }
 }
 
-/// The queue, or what is at fault in its registers.
-#[tactic(auto, unfolding(crate::specs::Queues::queue_of))]
-pub(crate) fn queue_of(asked: &Asked) -> Result<Queue, ImageFault>
-    ensures value { result ≡ queue_of asked.now }
+fn with_prod(geometry: Geometry, asked: &Asked) -> Result<Queue, ImageFault>
+    ensures value { result ≡ with_prod geometry asked.now.prod asked.now.cons }
     ensures shown { IfOk result IsShown }
 {
     let Some(number) = asked.prod else {
         return Err(ImageFault::BadProd);
     };
-    match Index::new(asked.geometry, number) {
-        Some(prod) => with_cons(asked.geometry, prod, asked.cons),
+    match Index::new(geometry, number) {
+        Some(prod) => with_cons(geometry, prod, asked.cons),
         None => Err(ImageFault::BadProd),
+    }
+}
+
+/// The queue, or what is at fault in its size and registers.
+#[tactic(auto, unfolding(crate::specs::Queues::queue_of))]
+pub(crate) fn queue_of(asked: &Asked) -> Result<Queue, ImageFault>
+    ensures value { result ≡ queue_of asked.now }
+    ensures shown { IfOk result IsShown }
+{
+    match Geometry::new(asked.log2) {
+        Some(geometry) => with_prod(geometry, asked),
+        None => Err(ImageFault::BadLog2),
     }
 }

@@ -11,6 +11,8 @@ struct Lengths;
 impl Interpreter for Lengths {
     ghost gives = { λ _ _ _ _. Unit {0} };
 
+    ghost knows = { λ _ _. Unit {0} };
+
     fn serve_line(
         &mut self,
         number: u64,
