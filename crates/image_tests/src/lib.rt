@@ -3,6 +3,10 @@
 #![tactic(auto)]
 
 #[cfg(test)]
+mod image_caller;
+#[cfg(test)]
 mod image_tests;
+#[cfg(test)]
+mod words_caller;
 #[cfg(test)]
 mod words_tests;

@@ -1,0 +1,17 @@
+//! The caller that image's README shows.
+use image::{Asked, image};
+use script::Status;
+
+#[test]
+fn empty_queue(rt: HostRuntime) {
+    let asked = Asked {
+        log2: 1,
+        prod: Some(3),
+        cons: Some(3),
+        all: false,
+    };
+    let mut input = [0u8; 32].as_slice();
+    let mut output = Vec::new(rt.alloc());
+    let status = image(rt.alloc(), &asked, &mut input, &mut output);
+    assert_eq!(rt; status, Status::Good);
+}
