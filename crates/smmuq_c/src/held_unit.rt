@@ -12,7 +12,7 @@ use crate::answers::{acknowledgement_status, fill_status, tell_entry, verdict_st
 use crate::listing::{EntryWords, give_entries};
 use crate::status::Status;
 use crate::words::{Errors, Held, Tallies, VerdictWords};
-use caches::{CacheFault, Caches, Tag};
+use caches::{CacheFault, Caches, Entry, Tag};
 use cmdcodec::Raw;
 use engine::{Remedy, Unit, Verdict};
 use std::alloc::Global;
@@ -138,6 +138,20 @@ impl HeldUnit {
         ensures settled { StaysSettled self.now self.now [] }
     {
         tell_entry(self.unit.lookup(tag), told)
+    }
+
+    /// A witness that its entries are settled as they are. It does nothing.
+    pub(crate) fn is_settled(&self)
+        ensures { StaysSettled self.now self.now [] }
+    {
+        let _ = &self.unit;
+    }
+
+    /// The entry of this tag that is held, if one is.
+    pub(crate) fn entry(&self, tag: &Tag) -> Option<Entry>
+        ensures { result ≡ finite.get self.now.caches.entries tag.now }
+    {
+        self.unit.lookup(tag)
     }
 
     /// Tells all entries, and how many they are.

@@ -71,7 +71,7 @@ impl TagWords {
         }
     }
 
-    fn of(tag: &Tag) -> TagWords
+    pub(crate) fn of(tag: &Tag) -> TagWords
         ensures { result ≡ tag_words tag.now }
     {
         match *tag {

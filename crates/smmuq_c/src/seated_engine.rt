@@ -13,7 +13,7 @@ use crate::answers::{acknowledgement_status, fill_status, tell_entry};
 use crate::listing::{EntryWords, give_entries};
 use crate::status::Status;
 use crate::words::{Errors, Held, RegisterWords, RunWords, Tallies};
-use caches::Tag;
+use caches::{Entry, Tag};
 use engine::{Engine, Remedy};
 use ring::Ring;
 use std::marker::Model;
@@ -88,6 +88,20 @@ impl SeatedEngine {
     {
         self.engine.is_settled();
         tell_entry(self.engine.lookup(tag), told)
+    }
+
+    /// A witness that its entries are settled as they are. It does nothing.
+    pub(crate) fn is_settled(&self)
+        ensures { IsSettled self.now.unit.caches.entries (taken_of self.now.consumer.trail) }
+    {
+        self.engine.is_settled();
+    }
+
+    /// The entry of this tag that is held, if one is.
+    pub(crate) fn entry(&self, tag: &Tag) -> Option<Entry>
+        ensures { result ≡ finite.get self.now.unit.caches.entries tag.now }
+    {
+        self.engine.lookup(tag)
     }
 
     /// Tells all entries, and how many they are.
