@@ -3,9 +3,10 @@ use Rattle.std.proofs.Common.{◌≡◌, ◌∙◌, List, Option, Some, None, re
 use Rattle.std.specs.Borrow.{Bor}
 use Rattle.std.proofs.lemmas.Option.{same_Some}
 use Rattle.clap.specs.Words.{Row, Text, first_of}
-use Rattle.command_line.specs.CommandLine.{Reads, ReadsNumbers}
+use Rattle.command_line.specs.CommandLine.{Reads, ReadsImage, ReadsNumbers}
+use Rattle.command_line.specs.declared.image_arguments.ImageArguments.{ImageArguments}
 use Rattle.command_line.specs.declared.stress_numbers.StressNumbers.{StressNumbers}
-use Rattle.command_line.specs.declared.subcommand.Subcommand.TheVariants.{Replay, Schedule, Decode, Stress}
+use Rattle.command_line.specs.declared.subcommand.Subcommand.TheVariants.{Replay, Schedule, Decode, Stress, Words, Image}
 
 abbrev pub name_in : Option (Text × List Row) → Option Text
 name_in = option_map (λ p. p.0)
@@ -26,12 +27,28 @@ pub stressed : (o : Option (Text × List Row)) (rows : List Row) (numbers : Stre
 stressed None rows numbers name has h = cc
 stressed (Some p) rows numbers name has h = (same_Some _ _ name, subst (λ rs. ReadsNumbers rs numbers) (same_Some _ _ (sym has)) h)
 
+pub worded : (o : Option (Text × List Row)) → name_in o ≡ Some (codes "words") → Reads o Words
+worded None name = cc
+worded (Some p) name = same_Some _ _ name
+
+pub imaged : (o : Option (Text × List Row)) (rows : List Row) (asked : ImageArguments) → name_in o ≡ Some (codes "image") → rows_in o ≡ Some rows → ReadsImage rows asked
+    → Reads o (Image asked)
+imaged None rows asked name has h = cc
+imaged (Some p) rows asked name has h = (same_Some _ _ name, subst (λ rs. ReadsImage rs asked) (same_Some _ _ (sym has)) h)
+
 pub decoded : (o : Option (Text × List Row)) (rows : List Row) (word : Bor Text) → name_in o ≡ Some (codes "decode") → rows_in o ≡ Some rows → first_of (codes "HEX") rows ≡ Some word.now
     → Reads o (Decode word)
 decoded None rows word name has h = cc
 decoded (Some p) rows word name has h = (same_Some _ _ name, ap (first_of (codes "HEX")) (same_Some _ _ has) ∙ h)
 
-pub replayed : (o : Option (Text × List Row)) → (name_in o ≡ Some (codes "schedule") → ⊥) → (name_in o ≡ Some (codes "stress") → ⊥)
+pub replayed : (o : Option (Text × List Row)) → (name_in o ≡ Some (codes "schedule") → ⊥) → (name_in o ≡ Some (codes "stress") → ⊥) → (name_in o ≡ Some (codes "words") → ⊥)
+    → (name_in o ≡ Some (codes "image") → ⊥)
     → (name_in o ≡ Some (codes "decode") → (rows : List Row) × (rows_in o ≡ Some rows) × (first_of (codes "HEX") rows ≡ None)) → Reads o Replay
-replayed None schedule stress decode = refl
-replayed (Some p) schedule stress decode = (λ e. schedule (ap Some e), λ e. stress (ap Some e), λ e. let has = decode (ap Some e) in ap (first_of (codes "HEX")) (same_Some _ _ has.1) ∙ has.2)
+replayed None schedule stress words image decode = refl
+replayed (Some p) schedule stress words image decode = (
+  λ e. schedule (ap Some e),
+  λ e. stress (ap Some e),
+  λ e. words (ap Some e),
+  λ e. image (ap Some e),
+  λ e. let has = decode (ap Some e) in ap (first_of (codes "HEX")) (same_Some _ _ has.1) ∙ has.2,
+)

@@ -1,5 +1,5 @@
 -- What a command line may say, and what it asks for.
-use Rattle.std.specs.Prelude.{◌≡◌, ◌≢◌, ◌⊎◌, ◌<◌, ◌≤◌, ◌^◌, ℕ, true, List, ◌∷◌, [], Option, Some, None, Result, MatchResult, codes, pos}
+use Rattle.std.specs.Prelude.{◌≡◌, ◌≢◌, ◌⊎◌, ◌<◌, ◌≤◌, ◌^◌, ℕ, Bool, true, false, List, ◌∷◌, [], Option, Some, None, Result, MatchResult, codes, pos}
 use Rattle.std.specs.Str.Parse.{IsNumeral, digits_value, without_leading_plus}
 use Rattle.clap.specs.Words.{App, Kinds, Row, Rule, first_of, new_app, new_rule, one_of, subcommand_of, with_rule, with_subcommand}
 pub use Rattle.clap.specs.Words.{IsAmong, Text, fault_of}
@@ -8,9 +8,11 @@ use Rattle.clap.specs.declared.builder.value_parser.ValueParser.{ValueParser}
 use Rattle.clap.specs.declared.builder.value_parser.ValueParser.TheVariants.{Signed}
 pub use Rattle.clap.specs.declared.error.kind.ErrorKind.{ErrorKind}
 pub use Rattle.clap.specs.declared.error.kind.ErrorKind.TheVariants.{DisplayHelp, DisplayVersion, OutOfMemory}
+use Rattle.clap.specs.declared.builder.action.ArgAction.TheVariants.{SetTrue}
+use Rattle.command_line.specs.declared.image_arguments.ImageArguments.{ImageArguments}
 use Rattle.command_line.specs.declared.stress_numbers.StressNumbers.{StressNumbers}
 use Rattle.command_line.specs.declared.subcommand.Subcommand.{Subcommand}
-use Rattle.command_line.specs.declared.subcommand.Subcommand.TheVariants.{Replay, Schedule, Decode, Stress}
+use Rattle.command_line.specs.declared.subcommand.Subcommand.TheVariants.{Replay, Schedule, Decode, Stress, Words, Image}
 
 -- ---- what it may say
 
@@ -57,14 +59,34 @@ bare = record (number (codes "bare") (between 0 100000)) { defaults = codes "0" 
 abbrev pub stress : App
 stress = with_rule (with_rule (with_rule (with_rule (with_rule (new_app (codes "stress")) log2) senders) batches) turns) bare
 
+abbrev pub words : App
+words = new_app (codes "words")
+
+-- the option `--name` with its text, which must be given
+abbrev pub wanted_text : Text → Rule
+wanted_text name = record (new_rule name) { long = Some name; value_names = 1; required = true }
+
+abbrev pub prod : Rule
+prod = wanted_text (codes "prod")
+
+abbrev pub cons : Rule
+cons = wanted_text (codes "cons")
+
+-- the option `--all`, which has no text
+abbrev pub all : Rule
+all = record (new_rule (codes "all")) { long = Some (codes "all"); action = Some SetTrue }
+
+abbrev pub image : App
+image = with_rule (with_rule (with_rule (with_rule (new_app (codes "image")) log2) prod) cons) all
+
 -- `smmuq` itself, before its subcommands: it has no word or option of its own, and wants a subcommand
 abbrev pub alone : App
 alone = record (new_app (codes "smmuq")) { top = record (new_app (codes "smmuq")).top { no_binary_name = true; subcommand_required = true } }
 
 abbrev pub smmuq : App
 smmuq =
-    with_subcommand (with_subcommand (with_subcommand (with_subcommand alone
-    replay.top) schedule.top) decode.top) stress.top
+    with_subcommand (with_subcommand (with_subcommand (with_subcommand (with_subcommand (with_subcommand alone
+    replay.top) schedule.top) decode.top) stress.top) words.top) image.top
 
 -- ---- what it asks for
 
@@ -80,12 +102,33 @@ pub record AreNumbers (rows : List Row) (numbers : StressNumbers) : Type 0 where
   pub turns : IsNumber (codes "turns") 1 10000000 rows numbers.turns
   pub bare : IsNumber (codes "bare") 0 100000 rows numbers.bare
 
+-- n is the number of the option `name`, where its text writes one of 32 bits
+abbrev pub ReadsNumber : List Row → Text → ℕ → Type 0
+ReadsNumber rows name n = (text : Text) → one_of name rows ≡ Some text → IsNumeral 10 (without_leading_plus text)
+    → digits_value 10 (without_leading_plus text) < 2 ^ 32 → n ≡ digits_value 10 (without_leading_plus text)
+
+-- The option `name` was given or it wasn't, where a text was found that says so.
+abbrev pub IsFlag : Text → List Row → Bool → Type 0
+IsFlag name rows given = (one_of name rows ≡ Some (codes "true") → given ≡ true) × (one_of name rows ≡ Some (codes "false") → given ≡ false)
+
+-- the text is the first of the option `name`, where one was found
+abbrev pub ReadsText : List Row → Text → Text → Type 0
+ReadsText rows name text = (found : Text) → first_of name rows ≡ Some found → text ≡ found
+
+pub record ReadsImage (rows : List Row) (asked : ImageArguments) : Type 0 where
+  pub log2 : ReadsNumber rows (codes "log2") asked.log2
+  pub prod : ReadsText rows (codes "prod") asked.prod.now
+  pub cons : ReadsText rows (codes "cons") asked.cons.now
+  pub all : IsFlag (codes "all") rows asked.all
+
 -- what a subcommand of this name asks for, with what was found for its arguments
 abbrev pub Asks : Text → List Row → Subcommand → Type 0
 Asks name rows Replay = name ≡ codes "replay"
 Asks name rows Schedule = name ≡ codes "schedule"
 Asks name rows (Decode word) = (name ≡ codes "decode") × (first_of (codes "HEX") rows ≡ Some word.now)
 Asks name rows (Stress numbers) = (name ≡ codes "stress") × AreNumbers rows numbers
+Asks name rows Words = name ≡ codes "words"
+Asks name rows (Image asked) = (name ≡ codes "image") × ReadsImage rows asked
 
 -- The subcommand is what the words ask for: by clap's definition they name one, and give its arguments what is found
 -- for them.
@@ -103,11 +146,6 @@ FailsOnlyBy kinds r = MatchResult r (λ _. kinds ≡ []) (λ why. (why.kind ≡ 
 
 -- ---- what is read of any matches, also of those that no words give
 
--- n is the number of the option `name`, where its text writes one of 32 bits
-abbrev pub ReadsNumber : List Row → Text → ℕ → Type 0
-ReadsNumber rows name n = (text : Text) → one_of name rows ≡ Some text → IsNumeral 10 (without_leading_plus text)
-    → digits_value 10 (without_leading_plus text) < 2 ^ 32 → n ≡ digits_value 10 (without_leading_plus text)
-
 pub record ReadsNumbers (rows : List Row) (numbers : StressNumbers) : Type 0 where
   pub log2 : ReadsNumber rows (codes "log2") numbers.log2
   pub senders : ReadsNumber rows (codes "senders") numbers.senders
@@ -117,10 +155,12 @@ pub record ReadsNumbers (rows : List Row) (numbers : StressNumbers) : Type 0 whe
 
 -- of a subcommand's name and what was found for its arguments
 abbrev pub ReadsOf : Text → List Row → Subcommand → Type 0
-ReadsOf name rows Replay = (name ≢ codes "schedule") × (name ≢ codes "stress") × (name ≡ codes "decode" → first_of (codes "HEX") rows ≡ None)
+ReadsOf name rows Replay = (name ≢ codes "schedule") × (name ≢ codes "stress") × (name ≢ codes "words") × (name ≢ codes "image") × (name ≡ codes "decode" → first_of (codes "HEX") rows ≡ None)
 ReadsOf name rows Schedule = name ≡ codes "schedule"
 ReadsOf name rows (Decode word) = (name ≡ codes "decode") × (first_of (codes "HEX") rows ≡ Some word.now)
 ReadsOf name rows (Stress numbers) = (name ≡ codes "stress") × ReadsNumbers rows numbers
+ReadsOf name rows Words = name ≡ codes "words"
+ReadsOf name rows (Image asked) = (name ≡ codes "image") × ReadsImage rows asked
 
 abbrev pub Reads : Option (Text × List Row) → Subcommand → Type 0
 Reads None subcommand = subcommand ≡ Replay

@@ -1,10 +1,12 @@
 //! The words of a command line, and what they ask for.
 #![tactic(auto)]
 
+mod image_arguments;
 mod misunderstood;
 mod stress_numbers;
 mod subcommand;
 
+pub use image_arguments::ImageArguments;
 pub use misunderstood::Misunderstood;
 pub use stress_numbers::StressNumbers;
 pub use subcommand::{Subcommand, understand};

@@ -9,7 +9,7 @@ use std::alloc::{AllocError, Global};
 /// The subcommand that runs many senders and an engine at the same time.
 pub(crate) const STRESS: &str = "stress";
 
-const LOG2: &str = "log2";
+pub(crate) const LOG2: &str = "log2";
 
 const LOG2_HELP: &str = "The ring has 2^L slots, 1 to 19";
 
@@ -56,7 +56,7 @@ pub struct StressNumbers {
 }
 
 /// An option whose number is from `low` to `high`.
-fn number<'a>(
+pub(crate) fn number<'a>(
     alloc: Global,
     name: &'a str,
     value: &'a str,
@@ -100,7 +100,7 @@ pub(crate) fn stress<'a>(alloc: Global) -> Result<Command<'a>, AllocError>
 }
 
 /// The number of this name that the words gave. Each is wanted or has a default, so none is wanting.
-fn number_in(matches: &ArgMatches<'_>, name: &str) -> u32
+pub(crate) fn number_in(matches: &ArgMatches<'_>, name: &str) -> u32
     ensures { spec.ReadsNumber (rows_of (found_of matches.now)) name.now result }
 {
     matches.get_one::<u32>(name).unwrap_or(0)

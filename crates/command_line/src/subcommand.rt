@@ -4,6 +4,7 @@ ghost use Rattle.clap.specs.Words.{FailsBy, app_of, fault_of, rule_of, subcomman
 ghost use Rattle.clap.specs.Walk.{texts};
 ghost use Rattle.command_line.specs.CommandLine as spec;
 
+use crate::image_arguments::{IMAGE, ImageArguments, arguments_in, image};
 use crate::misunderstood::Misunderstood;
 use crate::stress_numbers::{STRESS, StressNumbers, numbers_in, stress};
 use clap::{Arg, ArgMatches, Command, Error};
@@ -16,6 +17,9 @@ const SCHEDULE: &str = "schedule";
 const DECODE: &str = "decode";
 
 const HEX: &str = "HEX";
+
+/// The subcommand that says what lines of words mean.
+const WORDS: &str = "words";
 
 const REPLAY_HELP: &str = "\
 Reads lines from standard input and writes their answers to standard output,
@@ -45,6 +49,16 @@ Example:
 docs/FORMATS.md describes the words and the line, under 'What smmuq decode HEX
 says'.";
 
+const WORDS_HELP: &str = "\
+Reads lines from standard input, and writes a line for each to standard output,
+as soon as it was read: the command, what is illegal in it, or what is bad. A
+line is one word of 32 hexadecimal digits, or two words of 0x and at most 16
+hexadecimal digits, lo and then hi. A line without words, or whose first begins
+with #, is skipped.
+
+Example:
+    smmuq words < WORDS";
+
 const HELP: &str = "\
 A script is read from standard input, and is answered on standard output.
 
@@ -64,6 +78,10 @@ pub enum Subcommand<'a> {
     Decode(&'a str),
     /// That many senders and an engine run at the same time.
     Stress(StressNumbers),
+    /// That it is said what each line of words means as a command.
+    Words,
+    /// That the memory of a queue is shown.
+    Image(ImageArguments<'a>),
 }
 
 fn replay<'a>(alloc: Global) -> Command<'a>
@@ -104,6 +122,15 @@ fn decode<'a>(alloc: Global) -> Result<Command<'a>, AllocError>
         .arg(hex(alloc))
 }
 
+fn words<'a>(alloc: Global) -> Command<'a>
+    ensures { app_of result ≡ spec.words }
+{
+    Command::new(alloc, WORDS)
+        .about("Says what each line of words means as a command")
+        .override_usage("smmuq words < WORDS")
+        .after_help(WORDS_HELP)
+}
+
 fn command_line<'a>(alloc: Global) -> Result<Command<'a>, AllocError>
     ensures { IfOk result (λ command. app_of command ≡ spec.smmuq) }
 {
@@ -115,7 +142,9 @@ fn command_line<'a>(alloc: Global) -> Result<Command<'a>, AllocError>
         .subcommand(replay(alloc))?
         .subcommand(schedule(alloc))?
         .subcommand(decode(alloc)?)?
-        .subcommand(stress(alloc)?)
+        .subcommand(stress(alloc)?)?
+        .subcommand(words(alloc))?
+        .subcommand(image(alloc)?)
 }
 
 fn subcommand_in<'a>(matches: &ArgMatches<'a>) -> Subcommand<'a>
@@ -126,6 +155,12 @@ fn subcommand_in<'a>(matches: &ArgMatches<'a>) -> Subcommand<'a>
     }
     if let Some(stress) = matches.subcommand_matches(STRESS) {
         return Subcommand::Stress(numbers_in(stress));
+    }
+    if matches.subcommand_matches(WORDS).is_some() {
+        return Subcommand::Words;
+    }
+    if let Some(image) = matches.subcommand_matches(IMAGE) {
+        return Subcommand::Image(arguments_in(image));
     }
     let Some(decode) = matches.subcommand_matches(DECODE) else {
         return Subcommand::Replay;

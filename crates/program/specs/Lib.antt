@@ -1,3 +1,4 @@
+pub mod Images
 pub mod Program
 pub mod Stressing
 pub mod Telling

@@ -3,7 +3,7 @@ use Rattle.std.specs.Prelude.{◌≡◌, ℕ, List, ◌⊎◌, true, false, [], 
 use Rattle.std.specs.Io.KnownBytes.{Keeps}
 use Rattle.command_line.specs.CommandLine.{AskFor, IsAmong, MisunderstoodValue, OutOfMemory, Text, fault_of, smmuq}
 use Rattle.command_line.specs.declared.subcommand.Subcommand.{Subcommand}
-use Rattle.command_line.specs.declared.subcommand.Subcommand.TheVariants.{Replay, Schedule, Decode, Stress}
+use Rattle.command_line.specs.declared.subcommand.Subcommand.TheVariants.{Replay, Schedule, Decode, Stress, Words, Image}
 use Rattle.script.specs.Writing.{no_memory_line}
 use Rattle.script.specs.declared.status.Status.{Status}
 use Rattle.script.specs.declared.status.Status.TheVariants.{Good, Refused, NoMemory, ReadFailed, WriteFailed, Endless}
@@ -11,6 +11,9 @@ use Rattle.script.specs.Statuses.{exit_status}
 use Rattle.schedule.specs.Scheduling.{ExitsAsSchedule}
 use Rattle.replay.specs.Replaying.{ExitsAsReplay}
 use Rattle.decode.specs.DecodeText.{decode_text}
+use Rattle.image.specs.Tellings.{ExitsAsImage}
+use Rattle.words.specs.Tellings.{ExitsAsWords}
+use Rattle.program.specs.Images.{asked_of}
 use Rattle.program.specs.Stressing.{ExitsAsStress, plan_of}
 use Rattle.program.specs.Telling.{ExitsAsTold, line_of}
 use Rattle.program.specs.Watching.{HasFailed, Seen, Tells}
@@ -30,12 +33,14 @@ abbrev pub ExitsAsDecode : ℕ → List ℕ → Seen → Seen → Type 0
 ExitsAsDecode exit word before after = (status : Status) × (exit ≡ exit_status status) × Decodes status word before after
 
 -- It did what was asked for: a script was replayed, or played as a schedule; or nothing was read, and a word was decoded
--- or a stress run made.
+-- or a stress run made; or lines of words were answered, or an image was shown.
 abbrev pub ExitsAs : Subcommand → ℕ → Option (List ℕ) → Option (List ℕ) → Seen → Seen → Type 0
 ExitsAs Replay exit input rest before after = ExitsAsReplay exit input rest before.bytes after.bytes
 ExitsAs Schedule exit input rest before after = ExitsAsSchedule exit input rest before.bytes after.bytes
 ExitsAs (Decode word) exit input rest before after = Keeps input rest × ExitsAsDecode exit word.now before after
 ExitsAs (Stress numbers) exit input rest before after = Keeps input rest × ExitsAsStress exit (plan_of numbers) before after
+ExitsAs Words exit input rest before after = ExitsAsWords exit input rest before.bytes after.bytes
+ExitsAs (Image arguments) exit input rest before after = ExitsAsImage (asked_of arguments) exit input before.bytes after.bytes
 
 -- The words have no fault, nothing was told of any, and it did what they ask for.
 pub record ExitsAsAsked (words : List Text) (exit : ℕ) (input rest : Option (List ℕ)) (before after faults_before faults_after : Seen) : Type 0 where

@@ -1,6 +1,7 @@
 //! The program over any reader and any writers, which smmuq runs on standard input and output.
 #![tactic(auto)]
 
+mod reading;
 mod running;
 mod serving;
 mod stressing;

@@ -5,6 +5,7 @@ ghost use Rattle.schedule.specs.Scheduling.{ExitsAsSchedule};
 ghost use Rattle.replay.specs.Replaying.{ExitsAsReplay};
 ghost use Rattle.program.specs.Program.{Decodes, ExitsAsDecode, ExitsAsProgram};
 
+use crate::reading::{image_to_exit, words_to_exit};
 use crate::serving::{decode_text, replay, schedule};
 use crate::stressing::stress_to_exit;
 use crate::telling::{print_line, tell, tell_of_memory};
@@ -67,6 +68,8 @@ pub fn program<'a, A: Threads + AllocGlobal + Sync, I: Read, O: Write, F: Write>
         Ok(Subcommand::Schedule) => schedule_to_exit(rt.alloc(), input, output),
         Ok(Subcommand::Decode(word)) => decode_to_exit(rt.alloc(), word, output),
         Ok(Subcommand::Stress(numbers)) => stress_to_exit(rt, numbers, output),
+        Ok(Subcommand::Words) => words_to_exit(rt.alloc(), input, output),
+        Ok(Subcommand::Image(arguments)) => image_to_exit(rt.alloc(), &arguments, input, output),
         Err(why) => tell(&why, output, faults),
     }
 }

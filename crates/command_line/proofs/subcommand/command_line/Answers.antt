@@ -25,6 +25,16 @@ returns c =
     let third : app_of c.in_ok-subcommand-3.field-0 ≡ with_subcommand (with_subcommand (with_subcommand spec.alone spec.replay.top) spec.schedule.top) spec.decode.top =
     c.in_ok-subcommand-3.ensures.shape (is_false _ (both _ _ (both _ _ (both _ _ (ap (λ (a : App). a.top.is_plain) decode_is)).1).1).0)
     ∙ ap₂ with_subcommand second (ap (λ (a : App). a.top) decode_is) in
-    IfOk-weaker c.subcommand-4.result _ _ (λ command h.
-    h.shape (is_false _ (both _ _ (both _ _ (both _ _ (ap (λ (a : App). a.top.is_plain) stress_is)).1).1).0)
-    ∙ ap₂ with_subcommand third (ap (λ (a : App). a.top) stress_is)) c.subcommand-4.ensures
+    let words_is : app_of c.words.result ≡ spec.words = c.words.ensures in
+    let image_is : app_of c.in_ok-image.field-0 ≡ spec.image = search rules in
+    let fourth : app_of c.in_ok-subcommand-4.field-0 ≡ with_subcommand (with_subcommand (with_subcommand (with_subcommand spec.alone spec.replay.top) spec.schedule.top) spec.decode.top) spec.stress.top =
+    c.in_ok-subcommand-4.ensures.shape (is_false _ (both _ _ (both _ _ (both _ _ (ap (λ (a : App). a.top.is_plain) stress_is)).1).1).0)
+    ∙ ap₂ with_subcommand third (ap (λ (a : App). a.top) stress_is) in
+    let fifth :
+    app_of c.in_ok-subcommand-5.field-0
+    ≡ with_subcommand (with_subcommand (with_subcommand (with_subcommand (with_subcommand spec.alone spec.replay.top) spec.schedule.top) spec.decode.top) spec.stress.top) spec.words.top =
+    c.in_ok-subcommand-5.ensures.shape (is_false _ (both _ _ (both _ _ (both _ _ (ap (λ (a : App). a.top.is_plain) words_is)).1).1).0)
+    ∙ ap₂ with_subcommand fourth (ap (λ (a : App). a.top) words_is) in
+    IfOk-weaker c.subcommand-6.result _ _ (λ command h.
+    h.shape (is_false _ (both _ _ (both _ _ (both _ _ (ap (λ (a : App). a.top.is_plain) image_is)).1).1).0)
+    ∙ ap₂ with_subcommand fifth (ap (λ (a : App). a.top) image_is)) c.subcommand-6.ensures
