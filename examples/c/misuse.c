@@ -37,6 +37,10 @@ static void misuse_words(void) {
     WANT(smmuq_range(1, 2, 0, 0, room, 8, &count), SMMUQ_B3);
     WANT(smmuq_range(1, 2, 0x10000, 33, room, 1, &count), SMMUQ_SHORT_BUFFER);
     WANT(smmuq_detach(5, room, 2, &count), SMMUQ_SHORT_BUFFER);
+    WANT(smmuq_status_text(SMMUQ_Q2, text, 8, &length), SMMUQ_SHORT_BUFFER);
+    WANT(smmuq_status_text(0x7f, text, sizeof text, &length), SMMUQ_BAD_FIELD);
+    WANT(smmuq_status_text(SMMUQ_Q2, text, sizeof text, &length), SMMUQ_OK);
+    WANT(strcmp((const char *)text, "Q2: too little room"), 0);
 }
 
 static void misuse_a_unit(void) {
@@ -44,6 +48,8 @@ static void misuse_a_unit(void) {
     smmuq_tag tag = {.kind = SMMUQ_S1, .vmid = 1, .has_asid = 1, .asid = 2, .address = 0x1000, .span = 4};
     smmuq_verdict verdict;
     smmuq_held held;
+    smmuq_entry entry;
+    size_t count;
     uint32_t number;
     WANT(smmuq_unit_judge(&unit, 3, 0, &verdict), SMMUQ_EMPTY_HANDLE);
     WANT(smmuq_unit_new(0, &unit), SMMUQ_C4);
@@ -57,6 +63,14 @@ static void misuse_a_unit(void) {
     WANT(smmuq_fill(&unit, &tag, 1), SMMUQ_OK);
     tag.address = 0x2000;
     WANT(smmuq_fill(&unit, &tag, 1), SMMUQ_C1);
+    WANT(smmuq_entries(&unit, &entry, 0, &count), SMMUQ_SHORT_BUFFER);
+    WANT((uint32_t)count, 1);
+    WANT(smmuq_entries(&unit, &entry, 1, &count), SMMUQ_OK);
+    WANT(smmuq_find(&unit, SMMUQ_S1, 1, 2, 0x1234, 1, &tag, &held), SMMUQ_OK);
+    WANT((uint32_t)tag.address, 0x1000);
+    WANT(smmuq_find(&unit, SMMUQ_S1, 1, 3, 0x1234, 1, &tag, &held), SMMUQ_NOT_HELD);
+    WANT(smmuq_find(&unit, SMMUQ_STE, 1, 2, 0x1234, 1, &tag, &held), SMMUQ_BAD_FIELD);
+    tag.address = 0x2000;
     WANT(smmuq_lookup(&unit, &tag, &held), SMMUQ_NOT_HELD);
     WANT(smmuq_evict(&unit, &tag, &held), SMMUQ_NOT_HELD);
     /* An error stop: the words at which it stopped come next, and nothing else. */
@@ -78,6 +92,8 @@ static void misuse_a_ring(void) {
     smmuq_words words[64];
     smmuq_run_answer answer;
     smmuq_verdict verdict;
+    smmuq_queue_control control;
+    smmuq_queue_registers registers;
     uint32_t number;
     size_t i;
     for (i = 0; i < 64; i++)
@@ -92,6 +108,8 @@ static void misuse_a_ring(void) {
     WANT(smmuq_send(&engine, words, 1, 1, &number), SMMUQ_WRONG_HANDLE);
     WANT(smmuq_run(&senders[0], 64, &answer), SMMUQ_WRONG_HANDLE);
     WANT(smmuq_unit_judge(&engine, 3, 0, &verdict), SMMUQ_WRONG_HANDLE);
+    WANT(smmuq_look(&engine, &control), SMMUQ_WRONG_HANDLE);
+    WANT(smmuq_registers(&senders[0], &registers), SMMUQ_WRONG_HANDLE);
     WANT(smmuq_send(&senders[0], words, 0, 1, &number), SMMUQ_B5);
     WANT(smmuq_send(&senders[0], words, 64, 1, &number), SMMUQ_B1);
     WANT(smmuq_send(&senders[0], &CMD_SYNC, 1, 1, &number), SMMUQ_B2);
@@ -99,6 +117,10 @@ static void misuse_a_ring(void) {
     WANT(smmuq_run(&engine, 64, &answer), SMMUQ_RING_EMPTY);
     WANT(smmuq_send(&senders[0], words, 15, 0, &number), SMMUQ_OK); /* no tries count as one */
     WANT(smmuq_send(&senders[1], words, 1, 5, &number), SMMUQ_Q2);
+    WANT(smmuq_look(&senders[1], &control), SMMUQ_OK);
+    WANT(control.prod, 16);
+    WANT(smmuq_registers(&engine, &registers), SMMUQ_OK);
+    WANT(registers.prod - registers.cons, 16);
     WANT(smmuq_run(&engine, 0, &answer), SMMUQ_OK); /* 0 counts as 1, more than 64 as 64 */
     WANT(answer.count, 1);
     WANT(smmuq_run(&engine, 1000, &answer), SMMUQ_OK);
