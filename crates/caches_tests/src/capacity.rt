@@ -68,12 +68,15 @@ fn blocks_are_refused_by_their_form(rt: HostRuntime) {
 }
 
 #[test]
-fn faults_have_their_numbers(rt: HostRuntime) {
+fn faults_say_what_they_mean(rt: HostRuntime) {
     for (fault, text) in [
-        (CacheFault::Full, "C1"),
-        (CacheFault::BadBlock, "C2"),
-        (CacheFault::NoMemory, "C3"),
-        (CacheFault::BadCapacity, "C4"),
+        (CacheFault::Full, "C1: the caches are full"),
+        (CacheFault::BadBlock, "C2: the block isn't well formed"),
+        (CacheFault::NoMemory, "C3: out of memory"),
+        (
+            CacheFault::BadCapacity,
+            "C4: the capacity isn't 1 to 65,536",
+        ),
     ] {
         let told = fault.to_string(rt.alloc()).expect(&rt, "memory");
         assert_eq!(rt; told.as_str(), text);

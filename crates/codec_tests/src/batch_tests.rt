@@ -100,7 +100,7 @@ fn answer(alloc: Global, batch: &mut Batch, call: &str) -> Option<String> {
     }
     match change(batch, name, asked)? {
         Ok(()) => batch.len().to_string(alloc).ok(),
-        Err(fault) => fault.to_string(alloc).ok(),
+        Err(fault) => String::from_str(alloc, fault.label()).ok(),
     }
 }
 

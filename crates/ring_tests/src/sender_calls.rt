@@ -43,14 +43,14 @@ pub fn send_bare(ring: &Ring, sender: Sender, batch: &Batch) -> (Sender, Option<
 fn told_of_number(alloc: Global, sent: Result<u32, Cause>) -> Option<String> {
     match sent {
         Ok(number) => format!(in alloc; "number {number}").ok(),
-        Err(cause) => cause.to_string(alloc).ok(),
+        Err(cause) => String::from_str(alloc, cause.label()).ok(),
     }
 }
 
 fn told_of_cause(alloc: Global, refused: Option<Cause>) -> Option<String> {
     match refused {
         None => String::from_str(alloc, "sent").ok(),
-        Some(cause) => cause.to_string(alloc).ok(),
+        Some(cause) => String::from_str(alloc, cause.label()).ok(),
     }
 }
 

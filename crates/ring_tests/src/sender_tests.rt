@@ -17,10 +17,14 @@ fn expect_fault_named<R: AllocGlobal + Abort>(rt: &R, fault: RingFault, wanted: 
 
 #[test]
 fn faults_of_a_new_ring_have_names(rt: HostRuntime) {
-    expect_fault_named(&rt, RingFault::Size, "N1");
-    expect_fault_named(&rt, RingFault::Senders, "N2");
-    expect_fault_named(&rt, RingFault::Batches, "N3");
-    expect_fault_named(&rt, RingFault::Memory(AllocError), "N4");
+    expect_fault_named(
+        &rt,
+        RingFault::Size,
+        "N1: the ring isn't of 2 to 524,288 slots",
+    );
+    expect_fault_named(&rt, RingFault::Senders, "N2: the senders aren't 1 to 256");
+    expect_fault_named(&rt, RingFault::Batches, "N3: a sender may reserve no batch");
+    expect_fault_named(&rt, RingFault::Memory(AllocError), "N4: out of memory");
 }
 
 fn expect_cause_named<R: AllocGlobal + Abort>(rt: &R, cause: Cause, wanted: &str) {
@@ -30,11 +34,11 @@ fn expect_cause_named<R: AllocGlobal + Abort>(rt: &R, cause: Cause, wanted: &str
 
 #[test]
 fn causes_have_names(rt: HostRuntime) {
-    expect_cause_named(&rt, Cause::Closed, "Q1");
-    expect_cause_named(&rt, Cause::Full, "Q2");
-    expect_cause_named(&rt, Cause::Contended, "Q3");
-    expect_cause_named(&rt, Cause::TooLong, "Q4");
-    expect_cause_named(&rt, Cause::Exhausted, "Q5");
+    expect_cause_named(&rt, Cause::Closed, "Q1: the ring is closed");
+    expect_cause_named(&rt, Cause::Full, "Q2: the ring has too little room");
+    expect_cause_named(&rt, Cause::Contended, "Q3: another changed the ring first");
+    expect_cause_named(&rt, Cause::TooLong, "Q4: the batch is longer than the ring");
+    expect_cause_named(&rt, Cause::Exhausted, "Q5: the sender has no batch left");
 }
 
 #[test]

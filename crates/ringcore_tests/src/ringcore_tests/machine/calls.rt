@@ -86,7 +86,7 @@ fn answer(alloc: Global, core: &mut Core, asked: &str) -> Option<String> {
         Some((name, slots)) if name == "writes" || name == "reads" => all(alloc, core, name, slots),
         Some(_) => match core.apply(step(asked)?) {
             Ok(seen) => told(alloc, seen),
-            Err(fault) => fault.to_string(alloc).ok(),
+            Err(fault) => String::from_str(alloc, fault.label()).ok(),
         },
     }
 }
