@@ -79,9 +79,9 @@ all = record (new_rule (codes "all")) { long = Some (codes "all"); action = Some
 abbrev pub image : App
 image = with_rule (with_rule (with_rule (with_rule (new_app (codes "image")) log2) prod) cons) all
 
--- `smmuq` itself, before its subcommands: it has no word or option of its own, and wants a subcommand
+-- `smmuq` itself, before its subcommands: it has a version, no word or option of its own, and wants a subcommand
 abbrev pub alone : App
-alone = record (new_app (codes "smmuq")) { top = record (new_app (codes "smmuq")).top { no_binary_name = true; subcommand_required = true } }
+alone = record (new_app (codes "smmuq")) { top = record (new_app (codes "smmuq")).top { no_binary_name = true; subcommand_required = true; has_version = true } }
 
 abbrev pub smmuq : App
 smmuq =

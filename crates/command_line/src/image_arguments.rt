@@ -3,6 +3,7 @@ ghost use Rattle.std.specs.Prelude.{◌≡◌, IfOk, false, codes};
 ghost use Rattle.clap.specs.Words.{app_of, found_of, new_app, rows_of, rule_of};
 ghost use Rattle.command_line.specs.CommandLine as spec;
 
+use crate::help;
 use crate::stress_numbers::{LOG2, number, number_in};
 use clap::{Arg, ArgAction, ArgMatches, Command};
 use std::alloc::{AllocError, Global};
@@ -23,14 +24,6 @@ const CONS_HELP: &str = "SMMU_CMDQ_CONS, with ERR, decimal or 0x and hexadecimal
 const ALL: &str = "all";
 
 const ALL_HELP: &str = "Shows all slots, and not those alone that wait";
-
-const IMAGE_HELP: &str = "\
-Reads the memory of a queue from standard input, 16 bytes a slot in the order of
-the slots. Writes five lines to standard output, size, prod, cons, err and
-waiting, and then a line for each command from CONS to PROD.
-
-Example:
-    smmuq image --log2 7 --prod 0x98 --cons 0x85 < QUEUE";
 
 /// What the image of a queue is shown by, as it stands on the command line.
 #[derive(Clone, Copy, Debug, PartialEq, Eq)]
@@ -75,7 +68,7 @@ fn without_options<'a>(alloc: Global) -> Command<'a>
     Command::new(alloc, IMAGE)
         .about("Shows the memory of a queue, by its registers")
         .override_usage("smmuq image --log2 <L> --prod <P> --cons <C> [--all] < QUEUE")
-        .after_help(IMAGE_HELP)
+        .after_help(help::IMAGE)
 }
 
 /// The subcommand, with its options.

@@ -1,6 +1,7 @@
 //! The words of a command line, and what they ask for.
 #![tactic(auto)]
 
+mod help;
 mod image_arguments;
 mod misunderstood;
 mod stress_numbers;

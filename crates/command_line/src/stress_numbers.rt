@@ -3,6 +3,7 @@ ghost use Rattle.std.specs.Prelude.{◌≡◌, IfOk, false, codes};
 ghost use Rattle.clap.specs.Words.{app_of, found_of, new_app, rows_of, rule_of};
 ghost use Rattle.command_line.specs.CommandLine as spec;
 
+use crate::help;
 use clap::{Arg, ArgMatches, Command, value_parser};
 use std::alloc::{AllocError, Global};
 
@@ -28,17 +29,6 @@ const TURNS_HELP: &str = "How many turns each, 1 to 10000000";
 const BARE: &str = "bare";
 
 const BARE_HELP: &str = "Each E-th batch has no CMD_SYNC; 0 for none";
-
-const STRESS_HELP: &str = "\
-Reads no input. Runs each sender and the engine on a thread of its own, all at
-the same time on one ring, then sends and takes what is left, and writes totals
-to standard output, which are the same for every schedule.
-
-Example:
-    smmuq stress --log2 4 --senders 4 --batches 1000 --turns 100000
-
-docs/FORMATS.md describes the batches and the lines, under 'What smmuq stress
-says'.";
 
 /// The numbers of a stress run, as they stand on the command line.
 #[derive(Clone, Copy, Debug, PartialEq, Eq)]
@@ -84,7 +74,7 @@ fn without_options<'a>(alloc: Global) -> Command<'a>
         .override_usage(
             "smmuq stress --log2 <L> --senders <S> --batches <B> --turns <T> [--bare <E>]",
         )
-        .after_help(STRESS_HELP)
+        .after_help(help::STRESS)
 }
 
 /// The subcommand, with its numbers in their ranges.

@@ -4,6 +4,7 @@ ghost use Rattle.clap.specs.Words.{FailsBy, app_of, fault_of, rule_of, subcomman
 ghost use Rattle.clap.specs.Walk.{texts};
 ghost use Rattle.command_line.specs.CommandLine as spec;
 
+use crate::help;
 use crate::image_arguments::{IMAGE, ImageArguments, arguments_in, image};
 use crate::misunderstood::Misunderstood;
 use crate::stress_numbers::{STRESS, StressNumbers, numbers_in, stress};
@@ -20,52 +21,6 @@ const HEX: &str = "HEX";
 
 /// The subcommand that says what lines of words mean.
 const WORDS: &str = "words";
-
-const REPLAY_HELP: &str = "\
-Reads lines from standard input and writes their answers to standard output,
-each as soon as its line was read. A line that is at fault ends the script.
-
-Example:
-    smmuq replay < examples/first-run.script
-
-docs/FORMATS.md describes the lines, under 'A script of smmuq replay'.";
-
-const SCHEDULE_HELP: &str = "\
-Reads lines from standard input and writes their answers to standard output,
-each as soon as its line was read. A line that is at fault ends the script.
-
-Example:
-    smmuq schedule < examples/two-laps.schedule
-
-docs/FORMATS.md describes the lines, under 'A script of smmuq schedule'.";
-
-const DECODE_HELP: &str = "\
-Reads no input, and writes one line to standard output: the command, or what is
-illegal in it.
-
-Example:
-    smmuq decode 12302000010002000004010000000000
-
-docs/FORMATS.md describes the words and the line, under 'What smmuq decode HEX
-says'.";
-
-const WORDS_HELP: &str = "\
-Reads lines from standard input, and writes a line for each to standard output,
-as soon as it was read: the command, what is illegal in it, or what is bad. A
-line is one word of 32 hexadecimal digits, or two words of 0x and at most 16
-hexadecimal digits, lo and then hi. A line without words, or whose first begins
-with #, is skipped.
-
-Example:
-    smmuq words < WORDS";
-
-const HELP: &str = "\
-A script is read from standard input, and is answered on standard output.
-
-Example:
-    smmuq replay < examples/first-run.script
-
-docs/FORMATS.md describes the lines of scripts, the answers and the exit status.";
 
 /// What the words of a command line ask for.
 #[derive(Clone, Copy)]
@@ -90,7 +45,7 @@ fn replay<'a>(alloc: Global) -> Command<'a>
     Command::new(alloc, "replay")
         .about("Serves a script of a ring, its caches and commands")
         .override_usage("smmuq replay < SCRIPT")
-        .after_help(REPLAY_HELP)
+        .after_help(help::REPLAY)
 }
 
 fn schedule<'a>(alloc: Global) -> Command<'a>
@@ -99,7 +54,7 @@ fn schedule<'a>(alloc: Global) -> Command<'a>
     Command::new(alloc, SCHEDULE)
         .about("Plays a script of a ring's atomic steps, in any order")
         .override_usage("smmuq schedule < SCRIPT")
-        .after_help(SCHEDULE_HELP)
+        .after_help(help::SCHEDULE)
 }
 
 /// The word that is decoded.
@@ -118,7 +73,7 @@ fn decode<'a>(alloc: Global) -> Result<Command<'a>, AllocError>
     Command::new(alloc, DECODE)
         .about("Says what 32 hexadecimal digits mean as a command")
         .override_usage("smmuq decode <HEX>")
-        .after_help(DECODE_HELP)
+        .after_help(help::DECODE)
         .arg(hex(alloc))
 }
 
@@ -128,7 +83,7 @@ fn words<'a>(alloc: Global) -> Command<'a>
     Command::new(alloc, WORDS)
         .about("Says what each line of words means as a command")
         .override_usage("smmuq words < WORDS")
-        .after_help(WORDS_HELP)
+        .after_help(help::WORDS)
 }
 
 fn command_line<'a>(alloc: Global) -> Result<Command<'a>, AllocError>
@@ -136,9 +91,10 @@ fn command_line<'a>(alloc: Global) -> Result<Command<'a>, AllocError>
 {
     Command::new(alloc, "smmuq")
         .about("The command queue and the caches of an SMMUv3, as a simulator")
-        .after_help(HELP)
+        .after_help(help::SMMUQ)
         .no_binary_name(true)
         .subcommand_required(true)
+        .version(help::VERSION)
         .subcommand(replay(alloc))?
         .subcommand(schedule(alloc))?
         .subcommand(decode(alloc)?)?

@@ -1,6 +1,8 @@
 use Rattle.std.proofs.Common.{rules, ap, ap₂, ◌≡◌, ◌∙◌, true}
 use Rattle.std.proofs.lemmas.Result.{IfOk-weaker}
-use Rattle.clap.specs.Words.{App, app_of, with_subcommand}
+use Rattle.std.specs.Prelude.{codes}
+use Rattle.clap.specs.Words.{App, app_of, new_app, with_subcommand}
+use Rattle.clap.specs.Simple.{app_of_fields}
 use Rattle.clap.proofs.SimpleLemmas.{is_false}
 use Rattle.clap.proofs.WalkLemmas.{both}
 use Rattle.command_line.specs.CommandLine as spec
@@ -9,9 +11,19 @@ use Rattle.command_line.proofs.subcommand.command_line.Goals as goal
 abbrev top_is_plain : App → Type 0
 top_is_plain a = a.top.is_plain ≡ true
 
+abbrev unversioned : App
+unversioned = record (new_app (codes "smmuq")) { top = record (new_app (codes "smmuq")).top { no_binary_name = true; subcommand_required = true } }
+
 pub returns : goal.returns
 returns c =
-    let alone : app_of c.subcommand_required.result ≡ spec.alone = search rules in
+    let about : app_of c.after_help.result ≡ new_app (codes "smmuq") =
+    ap app_of_fields c.after_help.ensures ∙ ap app_of_fields c.about.ensures ∙ c.new.ensures.app in
+    let nameless : app_of c.no_binary_name.result ≡ record (new_app (codes "smmuq")) { top = record (new_app (codes "smmuq")).top { no_binary_name = true } } =
+    ap app_of_fields c.no_binary_name.ensures ∙ ap (λ (a : App). record a { top = record a.top { no_binary_name = true } }) about in
+    let without : app_of c.subcommand_required.result ≡ unversioned =
+    ap app_of_fields c.subcommand_required.ensures ∙ ap (λ (a : App). record a { top = record a.top { subcommand_required = true } }) nameless in
+    let alone : app_of c.version.result ≡ spec.alone =
+    ap app_of_fields c.version.ensures ∙ ap (λ (a : App). record a { top = record a.top { has_version = true } }) without in
     let replay_is : app_of c.replay.result ≡ spec.replay = c.replay.ensures in
     let schedule_is : app_of c.schedule.result ≡ spec.schedule = c.schedule.ensures in
     let decode_is : app_of c.in_ok-decode.field-0 ≡ spec.decode = search rules in

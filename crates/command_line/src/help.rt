@@ -1,0 +1,212 @@
+//! What help tells of each subcommand beside its options. It stands alone: each line of a script, how its answer begins, and
+//! each label. tools/check-documents compares it with docs/FORMATS.md, which has the whole.
+
+/// The program's version, and the toolchain by which this commit is proved, as `rt version` tells it.
+pub(crate) const VERSION: &str = "0.1.0 (rattle-kit-13f logic dac8208d650f15bf)";
+
+pub(crate) const SMMUQ: &str = "\
+A script is read from standard input, and is answered on standard output.
+'smmuq help SUBCOMMAND' lists the lines, answers and labels of a subcommand.
+
+Example:
+    smmuq replay < examples/first-run.script
+
+Exit status:
+    0  served to its end; each command is legal
+    1  a fault ended it, or a command isn't legal
+    2  the command line isn't understood
+    3  out of memory; the last line is 'no memory'
+    4  a read or a write failed
+
+docs/FORMATS.md has all of it at length.";
+
+pub(crate) const REPLAY: &str = "\
+Reads lines from standard input and writes their answers to standard output,
+each as soon as its line was read. A line that is at fault ends the script.
+
+Example:
+    smmuq replay < examples/first-run.script
+
+Lines, each with the words that its answers begin with:
+    ring LOG2 SENDERS MAXBATCHES CAPACITY   'ring size'
+    fill TAG VALUE                          'filled', 'replaced'
+    evict TAG                               'evicted', 'absent'
+    lookup TAG                              'found', 'absent'
+    send S HEX ..                           'sent'
+    bare S HEX ..                           'sent'; without a CMD_SYNC
+    inval S VMID ASID PAGE PAGES            'sent'; pages from PAGE on
+    detach S SID                            'sent'; a stream's entries
+    open S HEX ..                           'opened'; as send, not written
+    openbare S HEX ..                       'opened'; as bare, not written
+    publish S                               'published'; what is open
+    step                                    the answers below
+    step COUNT                              so many steps, 1 to 1000000
+    ack GERRORN retry                       'acknowledged'
+    ack GERRORN replace                     'acknowledged'; by a CMD_SYNC
+    done S                                  'done'; the last completed
+    look S                                  'control'; PROD and CONS
+    close S                                 'closed'; nothing more is sent
+    dump                                    'prod' to 'end'; entries, counts
+    # ..                                    none, as of an empty line
+
+S is a sender, from 0. HEX is 32 hexadecimal digits, the 16 bytes of a command
+as they lie in the queue. A number is decimal, or 0x and hexadecimal digits.
+
+TAG is a block of 2^SPAN pages from PAGE on, or a configuration:
+    ste SID
+    cd SID SSID
+    s1 VMID ASID PAGE SPAN    g for ASID: global
+    s2 VMID PAGE SPAN
+    el2 ASID PAGE SPAN        g for ASID: global
+    atc SID SSID PAGE SPAN    - for SSID: none
+
+A step answers 'applied', 'replaced', 'stopped' (at an illegal command), 'still
+stopped', 'empty', 'drained' (empty and closed), 'unwritten' (reserved, and not
+handed over yet) or 'exhausted'.
+
+Refusals, 'refused' and a label. The script goes on:
+    B1  more than 63 commands
+    B2  a CMD_SYNC among the commands
+    B3  no page
+    B4  pages past the last one
+    B5  no command
+    Q1  the ring is closed
+    Q2  the ring has too little room
+    Q4  the batch is longer than the ring
+    Q5  the sender has no batch left
+    C1  the caches are full
+    C2  the block isn't well formed
+    C3  out of memory for a new tag
+    G1  no error is active
+    G2  GERRORN isn't that of GERROR
+
+Illegal commands, at which a step stops:
+    ILL1  unknown opcode
+    ILL2  a Secure stream
+    ILL3  a reserved completion signal
+    ILL4  an oversized span
+
+Faults, 'line N: ' and one of these, which end the script:
+    long line        more than 4096 bytes
+    bad line         a word that can't be read, or a wrong number of words
+    no ring          a line ahead of the ring's
+    second ring      a ring line again
+    no sender        a sender that the ring doesn't have
+    sender open      its reservation isn't published
+    sender not open  there is nothing to publish
+    N1  LOG2 isn't 1 to 19
+    N2  SENDERS isn't 1 to 256
+    N3  MAXBATCHES is 0
+    C4  CAPACITY isn't 1 to 65536";
+
+pub(crate) const SCHEDULE: &str = "\
+Reads lines from standard input and writes their answers to standard output,
+each as soon as its line was read. A line that is at fault ends the script.
+
+Example:
+    smmuq schedule < examples/two-laps.schedule
+
+Lines, each one atomic step of a ring, with the words that its answers begin with:
+    ring LOG2 SENDERS     'ring size'; no step
+    look S                'control'; loads the control word
+    look c                'control'; the consumer does
+    reserve S HEX ..      'reserved', 'lost'; exchanges what was looked at
+    bare S HEX ..         'reserved', 'lost'; without a CMD_SYNC
+    write S SLOT HALF     'written'; stores a word of a command
+    flip S SLOT           'flipped'; hands a slot over
+    flip S SLOT COUNT     'flipped'; hands over so many in a row
+    test SLOT             'ready', 'not ready'; loads the head's flags
+    test SLOT COUNT       'ready', 'not ready'; looks at so many at most
+    read SLOT HALF        'word'; loads a word of a command
+    advance               'advanced'; takes a command
+    advance COUNT         'advanced'; takes so many
+    close S               'closed'; nothing more is reserved
+    ack S K               'acknowledged'; stores K in the completion cell
+    ask S                 'done'; loads the completion cell
+    # ..                  none, as of an empty line
+
+S is a sender, from 0; SLOT a place in the ring, from 0; HALF 0 (lo) or 1 (hi);
+COUNT 1 to 64. HEX is 32 hexadecimal digits, the 16 bytes of a command as they
+lie in the queue. A number is decimal, or 0x and hexadecimal digits.
+
+Faults, 'line N: ' and one of these, which end the script:
+    long line    more than 4096 bytes
+    bad line     a word that can't be read, or a wrong number of words
+    no ring      a line ahead of the ring's
+    second ring  a ring line again
+    N1   LOG2 isn't 1 to 19
+    N2   SENDERS isn't 1 to 256
+    F8   no such sender, slot or half
+    F10  a reservation is open, or no batch left
+    F11  no command, too many, or a CMD_SYNC
+    F9   not looked, closed, or no room
+    F2   the slot isn't reserved
+    F1   another sender reserved the slot
+    F3   the slot is flipped
+    F5   not the head's slot, or not tested
+    F6   nothing found, or not so many
+    F4   a half isn't written, or isn't read
+    F7   out of order, or not taken yet";
+
+pub(crate) const DECODE: &str = "\
+Reads no input, and writes one line to standard output: the command, or what is
+illegal in it.
+
+Example:
+    smmuq decode 12302000010002000004010000000000
+
+HEX is 32 hexadecimal digits, the 16 bytes of a command as they lie in the
+queue. What is no command is 'bad hex', 'bad length' and the number of bytes, or
+'illegal' and a label, with exit status 1:
+    ILL1  unknown opcode
+    ILL2  a Secure stream
+    ILL3  a reserved completion signal
+    ILL4  an oversized span";
+
+pub(crate) const STRESS: &str = "\
+Reads no input. Runs each sender and the engine on a thread of its own, all at
+the same time on one ring, then sends and takes what is left, and writes totals
+to standard output, which are the same for every schedule.
+
+A turn of a sender is one try to reserve a batch, which may be refused; a turn of
+the engine is a step of at most 64 commands. A thread stops when its turns are
+used up, or its batches sent.
+
+Example:
+    smmuq stress --log2 4 --senders 4 --batches 1000 --turns 100000
+
+Lines: 'senders', 'batches', 'commands', 'syncs', 'applied', 'replaced',
+'removed', 'entries', 'left' and 'closed', and for each sender 'sender K batches
+B done D'. With exit status 1: 'unfinished', where the run didn't come to its end.";
+
+pub(crate) const WORDS: &str = "\
+Reads lines from standard input, and writes a line for each to standard output,
+as soon as it was read: the command, what is illegal in it, or what is bad. A
+line is one word of 32 hexadecimal digits, or two words of 0x and at most 16
+hexadecimal digits, lo and then hi. A line without words, or whose first begins
+with #, is skipped.
+
+Example:
+    smmuq words < WORDS
+
+What is no command is 'bad hex', 'bad length' and the number of bytes, 'bad line',
+or 'illegal', a label and what it means. One such line makes exit status 1:
+    ILL1  unknown opcode
+    ILL2  a Secure stream
+    ILL3  a reserved completion signal
+    ILL4  an oversized span";
+
+pub(crate) const IMAGE: &str = "\
+Reads the memory of a queue from standard input, 16 bytes a slot in the order of
+the slots. Writes five lines to standard output, size, prod, cons, err and
+waiting, and then a line for each command from CONS to PROD.
+
+Example:
+    smmuq image --log2 7 --prod 0x98 --cons 0x85 < QUEUE
+
+Refused, with exit status 1 and one of these lines alone:
+    bad log2        L isn't 1 to 19
+    bad prod        a bit above the wrap bit, or no number
+    bad cons        a bit above the wrap bit but ERR's, or no number
+    bad distance N  PROD is further ahead than the queue is long
+    bad length N    so many bytes aren't 16 a slot";
