@@ -6,7 +6,7 @@ use Rattle.clap.specs.Words.{Row, Text, first_of}
 use Rattle.command_line.specs.CommandLine.{Reads, ReadsImage, ReadsNumbers}
 use Rattle.command_line.specs.declared.image_arguments.ImageArguments.{ImageArguments}
 use Rattle.command_line.specs.declared.stress_numbers.StressNumbers.{StressNumbers}
-use Rattle.command_line.specs.declared.subcommand.Subcommand.TheVariants.{Replay, Schedule, Decode, Stress, Words, Image}
+use Rattle.command_line.specs.declared.subcommand.Subcommand.TheVariants.{Replay, Schedule, Decode, Stress, Words, Image, Encode}
 
 abbrev pub name_in : Option (Text × List Row) → Option Text
 name_in = option_map (λ p. p.0)
@@ -31,6 +31,10 @@ pub worded : (o : Option (Text × List Row)) → name_in o ≡ Some (codes "word
 worded None name = cc
 worded (Some p) name = same_Some _ _ name
 
+pub encoded : (o : Option (Text × List Row)) → name_in o ≡ Some (codes "encode") → Reads o Encode
+encoded None name = cc
+encoded (Some p) name = same_Some _ _ name
+
 pub imaged : (o : Option (Text × List Row)) (rows : List Row) (asked : ImageArguments) → name_in o ≡ Some (codes "image") → rows_in o ≡ Some rows → ReadsImage rows asked
     → Reads o (Image asked)
 imaged None rows asked name has h = cc
@@ -42,13 +46,14 @@ decoded None rows word name has h = cc
 decoded (Some p) rows word name has h = (same_Some _ _ name, ap (first_of (codes "HEX")) (same_Some _ _ has) ∙ h)
 
 pub replayed : (o : Option (Text × List Row)) → (name_in o ≡ Some (codes "schedule") → ⊥) → (name_in o ≡ Some (codes "stress") → ⊥) → (name_in o ≡ Some (codes "words") → ⊥)
-    → (name_in o ≡ Some (codes "image") → ⊥)
+    → (name_in o ≡ Some (codes "image") → ⊥) → (name_in o ≡ Some (codes "encode") → ⊥)
     → (name_in o ≡ Some (codes "decode") → (rows : List Row) × (rows_in o ≡ Some rows) × (first_of (codes "HEX") rows ≡ None)) → Reads o Replay
-replayed None schedule stress words image decode = refl
-replayed (Some p) schedule stress words image decode = (
+replayed None schedule stress words image encode decode = refl
+replayed (Some p) schedule stress words image encode decode = (
   λ e. schedule (ap Some e),
   λ e. stress (ap Some e),
   λ e. words (ap Some e),
   λ e. image (ap Some e),
+  λ e. encode (ap Some e),
   λ e. let has = decode (ap Some e) in ap (first_of (codes "HEX")) (same_Some _ _ has.1) ∙ has.2,
 )

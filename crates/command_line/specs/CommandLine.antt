@@ -12,7 +12,7 @@ use Rattle.clap.specs.declared.builder.action.ArgAction.TheVariants.{SetTrue}
 use Rattle.command_line.specs.declared.image_arguments.ImageArguments.{ImageArguments}
 use Rattle.command_line.specs.declared.stress_numbers.StressNumbers.{StressNumbers}
 use Rattle.command_line.specs.declared.subcommand.Subcommand.{Subcommand}
-use Rattle.command_line.specs.declared.subcommand.Subcommand.TheVariants.{Replay, Schedule, Decode, Stress, Words, Image}
+use Rattle.command_line.specs.declared.subcommand.Subcommand.TheVariants.{Replay, Schedule, Decode, Stress, Words, Image, Encode}
 
 -- ---- what it may say
 
@@ -79,14 +79,17 @@ all = record (new_rule (codes "all")) { long = Some (codes "all"); action = Some
 abbrev pub image : App
 image = with_rule (with_rule (with_rule (with_rule (new_app (codes "image")) log2) prod) cons) all
 
+abbrev pub encode : App
+encode = new_app (codes "encode")
+
 -- `smmuq` itself, before its subcommands: it has a version, no word or option of its own, and wants a subcommand
 abbrev pub alone : App
 alone = record (new_app (codes "smmuq")) { top = record (new_app (codes "smmuq")).top { no_binary_name = true; subcommand_required = true; has_version = true } }
 
 abbrev pub smmuq : App
 smmuq =
-    with_subcommand (with_subcommand (with_subcommand (with_subcommand (with_subcommand (with_subcommand alone
-    replay.top) schedule.top) decode.top) stress.top) words.top) image.top
+    with_subcommand (with_subcommand (with_subcommand (with_subcommand (with_subcommand (with_subcommand (with_subcommand alone
+    replay.top) schedule.top) decode.top) stress.top) words.top) image.top) encode.top
 
 -- ---- what it asks for
 
@@ -129,6 +132,7 @@ Asks name rows (Decode word) = (name ≡ codes "decode") × (first_of (codes "HE
 Asks name rows (Stress numbers) = (name ≡ codes "stress") × AreNumbers rows numbers
 Asks name rows Words = name ≡ codes "words"
 Asks name rows (Image asked) = (name ≡ codes "image") × ReadsImage rows asked
+Asks name rows Encode = name ≡ codes "encode"
 
 -- The subcommand is what the words ask for: by clap's definition they name one, and give its arguments what is found
 -- for them.
@@ -155,12 +159,15 @@ pub record ReadsNumbers (rows : List Row) (numbers : StressNumbers) : Type 0 whe
 
 -- of a subcommand's name and what was found for its arguments
 abbrev pub ReadsOf : Text → List Row → Subcommand → Type 0
-ReadsOf name rows Replay = (name ≢ codes "schedule") × (name ≢ codes "stress") × (name ≢ codes "words") × (name ≢ codes "image") × (name ≡ codes "decode" → first_of (codes "HEX") rows ≡ None)
+ReadsOf name rows Replay =
+    (name ≢ codes "schedule") × (name ≢ codes "stress") × (name ≢ codes "words") × (name ≢ codes "image") × (name ≢ codes "encode")
+    × (name ≡ codes "decode" → first_of (codes "HEX") rows ≡ None)
 ReadsOf name rows Schedule = name ≡ codes "schedule"
 ReadsOf name rows (Decode word) = (name ≡ codes "decode") × (first_of (codes "HEX") rows ≡ Some word.now)
 ReadsOf name rows (Stress numbers) = (name ≡ codes "stress") × ReadsNumbers rows numbers
 ReadsOf name rows Words = name ≡ codes "words"
 ReadsOf name rows (Image asked) = (name ≡ codes "image") × ReadsImage rows asked
+ReadsOf name rows Encode = name ≡ codes "encode"
 
 abbrev pub Reads : Option (Text × List Row) → Subcommand → Type 0
 Reads None subcommand = subcommand ≡ Replay

@@ -196,6 +196,20 @@ or 'illegal', a label and what it means. One such line makes exit status 1:
     ILL3  a reserved completion signal
     ILL4  an oversized span";
 
+pub(crate) const ENCODE: &str = "\
+Reads lines from standard input, and writes a line for each to standard output,
+as soon as it was read: the 32 hexadecimal digits of the command whose text it
+is, the 16 bytes as they lie in the queue. A line without words, or whose first
+begins with #, is skipped.
+
+Example:
+    echo 'TLBI_NH_ASID vmid=1 asid=2' | smmuq encode
+
+A line is a command as 'smmuq decode' writes it: its name, and its fields in any
+order, each once, decimal or 0x and hexadecimal. Those of a range, tg, num and
+scale, are given all or none. What is no command is 'bad command', with exit
+status 1.";
+
 pub(crate) const IMAGE: &str = "\
 Reads the memory of a queue from standard input, 16 bytes a slot in the order of
 the slots. Writes five lines to standard output, size, prod, cons, err and

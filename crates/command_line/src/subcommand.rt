@@ -22,6 +22,9 @@ const HEX: &str = "HEX";
 /// The subcommand that says what lines of words mean.
 const WORDS: &str = "words";
 
+/// The subcommand that says which words lines of text mean.
+const ENCODE: &str = "encode";
+
 /// What the words of a command line ask for.
 #[derive(Clone, Copy)]
 pub enum Subcommand<'a> {
@@ -37,6 +40,8 @@ pub enum Subcommand<'a> {
     Words,
     /// That the memory of a queue is shown.
     Image(ImageArguments<'a>),
+    /// That it is said which words each line of text means as a command.
+    Encode,
 }
 
 fn replay<'a>(alloc: Global) -> Command<'a>
@@ -86,6 +91,15 @@ fn words<'a>(alloc: Global) -> Command<'a>
         .after_help(help::WORDS)
 }
 
+fn encode<'a>(alloc: Global) -> Command<'a>
+    ensures { app_of result ≡ spec.encode }
+{
+    Command::new(alloc, ENCODE)
+        .about("Says which words each line of text means as a command")
+        .override_usage("smmuq encode < TEXTS")
+        .after_help(help::ENCODE)
+}
+
 fn command_line<'a>(alloc: Global) -> Result<Command<'a>, AllocError>
     ensures { IfOk result (λ command. app_of command ≡ spec.smmuq) }
 {
@@ -100,7 +114,8 @@ fn command_line<'a>(alloc: Global) -> Result<Command<'a>, AllocError>
         .subcommand(decode(alloc)?)?
         .subcommand(stress(alloc)?)?
         .subcommand(words(alloc))?
-        .subcommand(image(alloc)?)
+        .subcommand(image(alloc)?)?
+        .subcommand(encode(alloc))
 }
 
 fn subcommand_in<'a>(matches: &ArgMatches<'a>) -> Subcommand<'a>
@@ -117,6 +132,9 @@ fn subcommand_in<'a>(matches: &ArgMatches<'a>) -> Subcommand<'a>
     }
     if let Some(image) = matches.subcommand_matches(IMAGE) {
         return Subcommand::Image(arguments_in(image));
+    }
+    if matches.subcommand_matches(ENCODE).is_some() {
+        return Subcommand::Encode;
     }
     let Some(decode) = matches.subcommand_matches(DECODE) else {
         return Subcommand::Replay;

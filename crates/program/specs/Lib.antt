@@ -2,4 +2,5 @@ pub mod Images
 pub mod Program
 pub mod Stressing
 pub mod Telling
+pub mod Troubles
 pub mod Watching

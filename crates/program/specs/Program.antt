@@ -16,6 +16,7 @@ use Rattle.words.specs.Tellings.{ExitsAsWords}
 use Rattle.program.specs.Images.{asked_of}
 use Rattle.program.specs.Stressing.{ExitsAsStress, plan_of}
 use Rattle.program.specs.Telling.{ExitsAsTold, line_of}
+use Rattle.program.specs.Troubles.{TellsTrouble}
 use Rattle.program.specs.Watching.{HasFailed, Seen, Tells}
 
 -- What the status of `decode` says: the line that says what the word means was told, and the word is legal or isn't; or
@@ -42,13 +43,13 @@ ExitsAs (Stress numbers) exit input rest before after = Keeps input rest × Exit
 ExitsAs Words exit input rest before after = ExitsAsWords exit input rest before.bytes after.bytes
 ExitsAs (Image arguments) exit input rest before after = ExitsAsImage (asked_of arguments) exit input before.bytes after.bytes
 
--- The words have no fault, nothing was told of any, and it did what they ask for.
+-- The words have no fault, and it did what they ask for; elsewhere it told just of memory, or of a stream that failed.
 pub record ExitsAsAsked (words : List Text) (exit : ℕ) (input rest : Option (List ℕ)) (before after faults_before faults_after : Seen) : Type 0 where
   pub sound : fault_of smmuq words ≡ []
   pub subcommand : Subcommand
   pub asked : AskFor words subcommand
   pub done : ExitsAs subcommand exit input rest before after
-  pub silent : faults_after ≡ faults_before
+  pub troubles : TellsTrouble exit faults_before faults_after
 
 -- Memory ran out over the words, or they ask for help, or they have a fault; nothing was read, and that was told.
 pub record ExitsAsMisunderstood (words : List Text) (exit : ℕ) (input rest : Option (List ℕ)) (before after faults_before faults_after : Seen) : Type 0 where

@@ -6,6 +6,7 @@ mod running;
 mod serving;
 mod stressing;
 mod telling;
+mod troubles;
 mod watched;
 
 pub use running::program;

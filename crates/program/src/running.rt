@@ -3,12 +3,13 @@ ghost use Rattle.std.specs.Prelude.{◌≡◌};
 ghost use Rattle.command_line.specs.CommandLine.{texts};
 ghost use Rattle.schedule.specs.Scheduling.{ExitsAsSchedule};
 ghost use Rattle.replay.specs.Replaying.{ExitsAsReplay};
-ghost use Rattle.program.specs.Program.{Decodes, ExitsAsDecode, ExitsAsProgram};
+ghost use Rattle.program.specs.Program.{Decodes, ExitsAs, ExitsAsDecode, ExitsAsProgram};
 
 use crate::reading::{image_to_exit, words_to_exit};
 use crate::serving::{decode_text, replay, schedule};
 use crate::stressing::stress_to_exit;
 use crate::telling::{print_line, tell, tell_of_memory};
+use crate::troubles::tell_trouble;
 use crate::watched::Watched;
 use command_line::{Subcommand, understand};
 use script::Status;
@@ -48,11 +49,30 @@ fn schedule_to_exit<I: Read, O: Write>(alloc: Global, input: &mut I, output: &mu
     schedule(alloc, input, output).exit_status()
 }
 
+/// Does what is asked for, and answers the exit status.
+fn serve<'a, A: Threads + AllocGlobal + Sync, I: Read, O: Write>(
+    rt: &A,
+    subcommand: Subcommand<'a>,
+    input: &mut I,
+    output: &mut Watched<O>,
+) -> u8
+    ensures { ExitsAs subcommand result (I.remaining input.old) (I.remaining input.new) output.old output.new }
+{
+    match subcommand {
+        Subcommand::Replay => replay_to_exit(rt.alloc(), input, output),
+        Subcommand::Schedule => schedule_to_exit(rt.alloc(), input, output),
+        Subcommand::Decode(word) => decode_to_exit(rt.alloc(), word, output),
+        Subcommand::Stress(numbers) => stress_to_exit(rt, numbers, output),
+        Subcommand::Words => words_to_exit(rt.alloc(), input, output),
+        Subcommand::Image(arguments) => image_to_exit(rt.alloc(), &arguments, input, output),
+    }
+}
+
 /// Does what the words ask, without the program's own name, and answers the exit status: 0 good,
 /// 1 refused input, 2 a command line that isn't understood, 3 out of memory, 4 a failed read or write.
 ///
 /// The command line is judged before any input is read. Answers go to `output`, and what is wrong with
-/// the command line goes to `faults`.
+/// the command line goes to `faults`, with a line for status 3 and 4.
 pub fn program<'a, A: Threads + AllocGlobal + Sync, I: Read, O: Write, F: Write>(
     rt: &A,
     words: &'a [&'a str],
@@ -64,12 +84,11 @@ pub fn program<'a, A: Threads + AllocGlobal + Sync, I: Read, O: Write, F: Write>
     ensures { ExitsAsProgram (texts words.entry.now) result (I.remaining input.old) (I.remaining input.new) output.old output.new faults.old faults.new }
 {
     match understand(rt.alloc(), words) {
-        Ok(Subcommand::Replay) => replay_to_exit(rt.alloc(), input, output),
-        Ok(Subcommand::Schedule) => schedule_to_exit(rt.alloc(), input, output),
-        Ok(Subcommand::Decode(word)) => decode_to_exit(rt.alloc(), word, output),
-        Ok(Subcommand::Stress(numbers)) => stress_to_exit(rt, numbers, output),
-        Ok(Subcommand::Words) => words_to_exit(rt.alloc(), input, output),
-        Ok(Subcommand::Image(arguments)) => image_to_exit(rt.alloc(), &arguments, input, output),
-        Err(why) => tell(&why, output, faults),
+        Ok(subcommand) => {
+            let exit = serve(rt, subcommand, input, output);
+            tell_trouble(rt.alloc(), exit, output, faults);
+            exit
+        }
+        Err(why) => tell(rt.alloc(), &why, output, faults),
     }
 }

@@ -3,11 +3,14 @@ ghost use Rattle.std.specs.Prelude.{◌≡◌, ◌++◌, ◌⊎◌, MatchResult,
 ghost use Rattle.std.specs.IoError.{error_kind};
 ghost use Rattle.script.specs.Writing.{no_memory_line};
 ghost use Rattle.program.specs.Watching.{HasFailed, Tells, TellsWith};
-ghost use Rattle.program.specs.Telling.{ExitsAsTold, ExitsWithoutWords};
+ghost use Rattle.program.specs.Telling.{ExitsAsTold, ExitsWithoutWords, line_of};
+ghost use Rattle.program.specs.Troubles.{TellsTrouble};
 
+use crate::troubles::tell_trouble;
 use crate::watched::Watched;
 use command_line::Misunderstood;
 use script::Status;
+use std::alloc::Global;
 use std::io;
 use std::io::{ErrorKind, Write};
 
@@ -52,8 +55,37 @@ fn tell_line<W: Write>(line: &str, status: u8, output: &mut Watched<W>) -> u8
     }
 }
 
+/// Tells that memory ran out, there and on standard error.
+fn tell_both_of_memory<O: Write, F: Write>(
+    alloc: Global,
+    output: &mut Watched<O>,
+    faults: &mut Watched<F>,
+) -> u8
+    ensures told { TellsWith 3 no_memory_line result output.old output.new }
+    ensures trouble { TellsTrouble result faults.old faults.new }
+{
+    let exit = tell_of_memory(output).exit_status();
+    tell_trouble(alloc, exit, output, faults);
+    exit
+}
+
+fn tell_help<O: Write, F: Write>(
+    alloc: Global,
+    text: &str,
+    output: &mut Watched<O>,
+    faults: &mut Watched<F>,
+) -> u8
+    ensures told { TellsWith 0 (line_of text.now) result output.old output.new }
+    ensures trouble { TellsTrouble result faults.old faults.new }
+{
+    let exit = tell_line(text, Status::Good.exit_status(), output);
+    tell_trouble(alloc, exit, output, faults);
+    exit
+}
+
 /// Tells what is wrong with the words of the command line, or the help that they ask for, and answers the exit status.
 pub(crate) fn tell<O: Write, F: Write>(
+    alloc: Global,
     why: &Misunderstood,
     output: &mut Watched<O>,
     faults: &mut Watched<F>,
@@ -61,18 +93,19 @@ pub(crate) fn tell<O: Write, F: Write>(
     ensures { ExitsAsTold why.now result output.old output.new faults.old faults.new }
 {
     if why.is_out_of_memory() {
-        return tell_of_memory(output).exit_status();
+        return tell_both_of_memory(alloc, output, faults);
     }
     if why.is_fault() {
         tell_line(why.text(), NOT_UNDERSTOOD, faults)
     } else {
-        tell_line(why.text(), Status::Good.exit_status(), output)
+        tell_help(alloc, why.text(), output, faults)
     }
 }
 
 /// Tells why the system hands out no words of the command line: memory ran out, or a word isn't UTF-8. Answers the exit
 /// status.
 pub fn tell_without_words<O: Write, F: Write>(
+    alloc: Global,
     why: &io::Error,
     output: &mut Watched<O>,
     faults: &mut Watched<F>,
@@ -80,7 +113,7 @@ pub fn tell_without_words<O: Write, F: Write>(
     ensures { ExitsWithoutWords (error_kind why.now) result output.old output.new faults.old faults.new }
 {
     if why.kind() == ErrorKind::OutOfMemory {
-        return tell_of_memory(output).exit_status();
+        return tell_both_of_memory(alloc, output, faults);
     }
     let line = "error: a word of the command line isn't UTF-8";
     tell_line(line, NOT_UNDERSTOOD, faults)

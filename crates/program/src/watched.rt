@@ -11,16 +11,18 @@ use std::marker::Model;
 #[derive(Drop)]
 pub struct Watched<W: Write> {
     inner: W,
-    has_failed: bool,
+    /// The newest call that failed, why.
+    failure: Option<io::Error>,
     is_flushed: bool,
 }
 
 impl<W: Write> Model for Watched<W> {
+    ghost use Rattle.std.specs.Prelude.{is_some};
     ghost use Rattle.program.specs.Watching.{Seen};
 
     ghost Value = { Seen };
 
-    ghost view = { λ w. record { bytes = W.contents w.inner; has_failed = w.has_failed; is_flushed = w.is_flushed } };
+    ghost view = { λ w. record { bytes = W.contents w.inner; has_failed = is_some w.failure; is_flushed = w.is_flushed } };
 }
 
 impl<W: Write> Write for Watched<W> {
@@ -63,7 +65,7 @@ impl<W: Write> Watched<W> {
     {
         Watched {
             inner,
-            has_failed: false,
+            failure: None,
             is_flushed: true,
         }
     }
@@ -75,6 +77,11 @@ impl<W: Write> Watched<W> {
         &self.inner
     }
 
+    /// Why the newest call that failed did, if one did.
+    pub(crate) fn failure(&self) -> Option<&io::Error> {
+        self.failure.as_ref()
+    }
+
     /// Notes what a call came to.
     fn note<T>(&mut self, came: io::Result<T>, is_flush: bool) -> io::Result<T>
         ensures same { result ≡ came }
@@ -83,8 +90,16 @@ impl<W: Write> Watched<W> {
     {
         match &came {
             Ok(_) => self.is_flushed = is_flush,
-            Err(_) => self.has_failed = true,
+            Err(why) => self.failure = Some(copied(why)),
         }
         came
+    }
+}
+
+/// The same error once more, by the system's number where it has one.
+fn copied(why: &io::Error) -> io::Error {
+    match why.raw_os_error() {
+        Some(code) => io::Error::from_raw_os_error(code),
+        None => io::Error::from(why.kind()),
     }
 }

@@ -1,0 +1,74 @@
+//! What is told on standard error of a run that memory, a read or a write ended.
+ghost use Rattle.std.specs.Prelude.{◌≡◌, ◌⊎◌, OnErr, OnOk};
+ghost use Rattle.program.specs.Troubles.{IsTried, TellsTrouble, stream_line};
+ghost use Rattle.program.specs.Watching.{HasFailed, Tells};
+
+use crate::telling::{print, print_line};
+use crate::watched::Watched;
+use script::Status;
+use std::alloc::Global;
+use std::io;
+use std::io::{ErrorKind, Write};
+
+fn print_stream<F: Write>(stream: &str, cause: &str, faults: &mut Watched<F>) -> io::Result<()>
+    ensures ok { OnOk result (Tells faults.old faults.new (stream_line stream.now cause.now)) }
+    ensures err { OnErr result (HasFailed faults.new) }
+{
+    print("smmuq: ", faults)?;
+    print(stream, faults)?;
+    print(": ", faults)?;
+    print_line(cause, faults)
+}
+
+/// Tells which stream failed, and why. A write that fails here changes nothing.
+fn try_stream<F: Write>(stream: &str, cause: &str, faults: &mut Watched<F>)
+    ensures { IsTried faults.old faults.new (stream_line stream.now cause.now) }
+{
+    match print_stream(stream, cause, faults) {
+        Ok(()) | Err(_) => {}
+    }
+}
+
+fn try_memory<F: Write>(faults: &mut Watched<F>)
+    ensures { TellsTrouble 3 faults.old faults.new }
+{
+    match print_line("smmuq: out of memory", faults) {
+        Ok(()) | Err(_) => {}
+    }
+}
+
+/// Tells of the stream that failed: of standard output why, but for a pipe that was closed at its other end.
+fn tell_stream<O: Write, F: Write>(
+    alloc: Global,
+    output: &Watched<O>,
+    faults: &mut Watched<F>,
+)
+    ensures { TellsTrouble 4 faults.old faults.new }
+{
+    let Some(why) = output.failure() else {
+        try_stream("standard input", "it couldn't be read", faults);
+        return;
+    };
+    if why.kind() == ErrorKind::BrokenPipe {
+        return;
+    }
+    if let Ok(cause) = format!(in alloc; "{why}") {
+        try_stream("standard output", cause.as_str(), faults);
+    }
+}
+
+/// Tells of a run that ended with this exit status what went wrong with memory, a read or a write.
+pub(crate) fn tell_trouble<O: Write, F: Write>(
+    alloc: Global,
+    exit: u8,
+    output: &Watched<O>,
+    faults: &mut Watched<F>,
+)
+    ensures { TellsTrouble exit faults.old faults.new }
+{
+    if exit == Status::NoMemory.exit_status() {
+        try_memory(faults);
+    } else if exit == Status::WriteFailed.exit_status() {
+        tell_stream(alloc, output, faults);
+    }
+}
