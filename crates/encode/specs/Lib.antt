@@ -1,0 +1,4 @@
+pub mod LineWords
+pub mod Fields
+pub mod Names
+pub mod Values

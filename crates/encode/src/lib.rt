@@ -1,0 +1,11 @@
+//! Commands written as text, back to their words: what `decode` says, read again.
+#![tactic(auto)]
+
+mod fault;
+mod field;
+mod named;
+mod value;
+mod word;
+
+pub use fault::{EncodeFault, FieldFault};
+pub use field::Field;
