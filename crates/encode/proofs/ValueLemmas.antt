@@ -1,5 +1,5 @@
 -- What one word more says of a field.
-use Rattle.std.proofs.Common.{◌≡◌, ℕ, Bool, true, false, cond, List, [], ◌∷◌, drop, length, map, filter, not, eqb, refl, ap, Option, Some, None}
+use Rattle.std.proofs.Common.{◌≡◌, ℕ, Bool, true, false, cond, List, [], ◌∷◌, drop, length, map, filter, not, eqb, refl, ap, Some, None}
 use Rattle.std.specs.List.{starts_with, find}
 use Rattle.encode.specs.declared.field.Field.{Field}
 use Rattle.encode.specs.Values.{behind, is_of, unknown_word}

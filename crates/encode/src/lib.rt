@@ -3,9 +3,12 @@
 
 mod fault;
 mod field;
+mod line;
+mod making;
 mod named;
 mod value;
 mod word;
 
 pub use fault::{EncodeFault, FieldFault};
 pub use field::Field;
+pub use line::encode_line;

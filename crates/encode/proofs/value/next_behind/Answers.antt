@@ -1,4 +1,4 @@
-use Rattle.std.proofs.Common.{◌≡◌, ◌∷◌, length, ap, sym, ◌∙◌}
+use Rattle.std.proofs.Common.{◌∷◌, length, ap, sym, ◌∙◌}
 use Rattle.std.proofs.lemmas.List.{take_rest}
 use Rattle.encode.specs.LineWords.{words_of}
 use Rattle.encode.specs.Values.{behind}
