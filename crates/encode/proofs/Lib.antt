@@ -1,2 +1,4 @@
 pub mod WordLemmas
 pub mod ValueLemmas
+pub mod AnswerLemmas
+pub mod TellingLemmas

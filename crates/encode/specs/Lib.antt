@@ -4,3 +4,7 @@ pub mod Names
 pub mod Values
 pub mod Commands
 pub mod LineEncodings
+pub mod LineAnswers
+pub mod Answering
+pub mod AnsweringLaws
+pub mod Tellings
