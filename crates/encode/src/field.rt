@@ -119,4 +119,19 @@ impl Field {
             Field::Lo | Field::Hi => u64::MAX,
         }
     }
+
+    /// Its name, which stands ahead of `=`.
+    pub(crate) fn name(self) -> &'static str {
+        self.key().trim_end_matches('=')
+    }
+
+    /// The least number that a word may say of it.
+    pub(crate) fn least_number(self) -> u64 {
+        self.least().saturating_mul(self.unit())
+    }
+
+    /// The greatest number that a word may say of it.
+    pub(crate) fn most_number(self) -> u64 {
+        self.most().saturating_mul(self.unit())
+    }
 }
