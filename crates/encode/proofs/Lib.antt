@@ -5,3 +5,8 @@ pub mod TellingLemmas
 pub mod DigitLemmas
 pub mod TextWords
 pub mod Written
+pub mod Reading
+pub mod ReadConfigurations
+pub mod ReadTranslations
+pub mod ReadPages
+pub mod ReadOthers
