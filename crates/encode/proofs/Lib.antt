@@ -10,3 +10,5 @@ pub mod ReadConfigurations
 pub mod ReadTranslations
 pub mod ReadPages
 pub mod ReadOthers
+pub mod SpelledAgain
+pub mod ReadCommands
