@@ -1,0 +1,34 @@
+-- One line after others.
+use Rattle.std.proofs.Common.{◌≡◌, ℕ, ◌+◌, ◌≤◌, ◌&&◌, Bool, true, false, cond, List, [], ◌∷◌, ◌++◌, length, codes, ap, sym, ◌∙◌, subst, refl}
+use Rattle.std.proofs.lemmas.Bool.{le-ltb}
+use Rattle.std.proofs.lemmas.List.Folds.{list_all-append}
+use Rattle.script.specs.Answers.{Answer, with_text, EndsAs}
+use Rattle.script.specs.Outcome.{Continues, fault_line}
+use Rattle.script.proofs.AnswerLemmas.{ends_front}
+use Rattle.encode.specs.LineAnswers.{answer_of}
+use Rattle.encode.specs.Answering.{answers_from, Comes, all_good}
+
+short_line : (number : ℕ) (line : List ℕ) (lines : List (List ℕ)) → length line ≤ 4096
+    → answers_from number (line ∷ lines) ≡ with_text (answer_of line).text (answers_from (number + 1) lines)
+unfolding answers_from
+short_line number line lines short =
+    ap (λ t. cond t (record { text = fault_line number (codes "long line"); is_good = false }) (with_text (answer_of line).text (answers_from (number + 1) lines)))
+    (le-ltb _ _ short)
+
+pub continues : (number : ℕ) (line before after : List ℕ) → length line ≤ 4096 → after ≡ before ++ (answer_of line).text → Continues Comes Comes number line before after
+continues number line before after short text = record {
+  answer = (answer_of line).text;
+  text = text;
+  rest = λ lines outcome comes.
+      subst (λ (a : Answer). EndsAs a ((answer_of line).text ++ outcome.text) outcome.ending) (sym (short_line number line lines short))
+      (ends_front (answer_of line).text (answers_from (number + 1) lines) outcome.text outcome.ending comes);
+}
+
+and_true : (b : Bool) → (b && true) ≡ b
+and_true true = refl
+and_true false = refl
+
+-- one line more that is good or not
+pub one_more : (past : List (List ℕ)) (line : List ℕ) → all_good (past ++ line ∷ []) ≡ (all_good past && (answer_of line).is_good)
+one_more past line =
+    list_all-append (λ l. (answer_of l).is_good) past (line ∷ []) ∙ ap (λ b. all_good past && b) (and_true (answer_of line).is_good)

@@ -1,0 +1,14 @@
+pub mod WordLemmas
+pub mod ValueLemmas
+pub mod AnswerLemmas
+pub mod TellingLemmas
+pub mod DigitLemmas
+pub mod TextWords
+pub mod Written
+pub mod Reading
+pub mod ReadConfigurations
+pub mod ReadTranslations
+pub mod ReadPages
+pub mod ReadOthers
+pub mod SpelledAgain
+pub mod ReadCommands

@@ -1,0 +1,45 @@
+-- A field whose value is written out.
+use Rattle.std.proofs.Common.{◌≡◌, ℕ, ◌*◌, ◌/◌, ◌%◌, ◌^◌, ◌<◌, ◌≤◌, ◌==◌, ◌&&◌, nat_le, Bool, true, cond, List, refl, ap, sym, ◌∙◌, arith, Option, Some, Ok, Err}
+use Rattle.std.specs.Prelude.{Result}
+use Rattle.std.specs.Fmt.{decimal}
+use Rattle.std.proofs.Math.Nat.{mul-one}
+use Rattle.std.proofs.lemmas.Bool.{and_from, eq-eqb, le-leb}
+use Rattle.cmdcodec.specs.Text.{hexadecimal}
+use Rattle.script.specs.Words.{number_of}
+use Rattle.encode.specs.declared.field.Field.{Field}
+use Rattle.encode.specs.declared.fault.FieldFault.{FieldFault}
+use Rattle.encode.specs.declared.fault.FieldFault.TheVariants.{OutOfRange, NoMultiple}
+use Rattle.encode.specs.Fields.{least_of, most_of, unit_of}
+use Rattle.encode.specs.Values.{value_said}
+use Rattle.encode.proofs.DigitLemmas.{is_plain, number_of_decimal, number_of_hexadecimal, plain_decimal, plain_hexadecimal}
+
+-- These digits say this value of the field, and no blank is among them.
+pub record IsWritten (field : Field) (digits : List ℕ) (value : ℕ) : Type 0 where
+  pub said : value_said field (number_of digits) ≡ Ok value
+  pub plain : is_plain digits ≡ true
+
+said : (field : Field) (number value : ℕ) → number % unit_of field ≡ 0 → number / unit_of field ≡ value → least_of field ≤ value → value ≤ most_of field
+    → value_said field (Some number) ≡ Ok value
+said field number value whole units least most =
+    let within : (nat_le (least_of field) value && nat_le value (most_of field)) ≡ true = and_from _ _ (le-leb _ _ least) (le-leb _ _ most) in
+    let P : Bool → ℕ → Result ℕ FieldFault = λ t v.
+    cond t (cond (nat_le (least_of field) v && nat_le v (most_of field)) (Ok v) (Err (OutOfRange field))) (Err (NoMultiple field)) in
+    ap (λ (t : Bool). P t (number / unit_of field)) (eq-eqb _ _ whole) ∙ ap (P true) units
+    ∙ ap (λ (t : Bool). cond t (Ok value) (Err (OutOfRange field))) within
+
+-- a field that is no address, in decimal
+pub in_decimal : (field : Field) (value : ℕ) → unit_of field ≡ 1 → least_of field ≤ value → value ≤ most_of field → value < 2 ^ 64 → IsWritten field (decimal value) value
+in_decimal field value one least most small = record {
+  said =
+      ap (value_said field) (number_of_decimal value small)
+      ∙ said field value value (ap (λ u. value % u) one ∙ omega arith) (ap (λ u. value / u) one ∙ omega arith) least most;
+  plain = plain_decimal value small;
+}
+
+-- a field in hexadecimal
+pub in_hexadecimal : (field : Field) (number value : ℕ) → number % unit_of field ≡ 0 → number / unit_of field ≡ value → least_of field ≤ value → value ≤ most_of field
+    → number < 2 ^ 64 → IsWritten field (hexadecimal number) value
+in_hexadecimal field number value whole units least most small = record {
+  said = ap (value_said field) (number_of_hexadecimal number small) ∙ said field number value whole units least most;
+  plain = plain_hexadecimal number small;
+}

@@ -1,0 +1,10 @@
+pub mod LineWords
+pub mod Fields
+pub mod Names
+pub mod Values
+pub mod Commands
+pub mod LineEncodings
+pub mod LineAnswers
+pub mod Answering
+pub mod AnsweringLaws
+pub mod Tellings

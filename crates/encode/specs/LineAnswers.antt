@@ -1,0 +1,29 @@
+-- What a line that is a command's text is answered with.
+use Rattle.std.specs.Prelude.{ℕ, List, [], ◌++◌, Bool, true, false, Option, Some, None, Result, Ok, Err, codes}
+use Rattle.hex.specs.Hex.{encode_lower}
+use Rattle.cmdcodec.specs.declared.raw.Raw.{Raw}
+use Rattle.cmdcodec.specs.Bytes.{bytes_of}
+use Rattle.encode.specs.LineEncodings.{LineFault, line_encoding}
+
+-- What is written for a line, none for one that is skipped, and whether it is good: a command's text, or skipped.
+pub record LineAnswer : Type 0 where
+  pub text : List ℕ
+  pub is_good : Bool
+
+-- the bytes of the command as they lie in memory, two lower-case hexadecimal digits each
+abbrev pub raw_answer : Raw → LineAnswer
+raw_answer raw = record { text = encode_lower (bytes_of raw) ++ codes "\n"; is_good = true }
+
+abbrev pub skipped : LineAnswer
+skipped = record { text = []; is_good = true }
+
+abbrev pub bad_command : LineAnswer
+bad_command = record { text = codes "bad command\n"; is_good = false }
+
+abbrev pub encoding_answer : Result (Option Raw) LineFault → LineAnswer
+encoding_answer (Ok (Some raw)) = raw_answer raw
+encoding_answer (Ok None) = skipped
+encoding_answer (Err fault) = bad_command
+
+unfoldable pub answer_of : List ℕ → LineAnswer
+answer_of line = encoding_answer (line_encoding line)

@@ -1,0 +1,17 @@
+//! Commands written as text, back to their words: what `decode` says, read again.
+#![tactic(auto)]
+
+mod answering;
+mod fault;
+mod field;
+mod line;
+mod making;
+mod named;
+mod serving;
+mod value;
+mod word;
+
+pub use fault::{EncodeFault, FieldFault};
+pub use field::Field;
+pub use line::encode_line;
+pub use serving::encode;

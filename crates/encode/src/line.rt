@@ -1,0 +1,41 @@
+//! One line.
+ghost use Rattle.std.specs.Prelude.{◌≡◌, IfOk, IfSome, IsOk};
+ghost use Rattle.cmdcodec.specs.Words.{decoding};
+ghost use Rattle.encode.specs.LineWords.{words_of};
+ghost use Rattle.encode.specs.Names.{opcode_called};
+ghost use Rattle.encode.specs.LineEncodings.{as_told, line_encoding, named_encoding};
+
+use crate::fault::EncodeFault;
+use crate::making::command;
+use crate::named::{fields_of, opcode_called};
+use crate::value::unknown_word;
+use crate::word::next_word;
+use cmdcodec::{Raw, encode};
+use script::is_comment;
+
+fn encode_named<'a>(name: &'a [u8], rest: &'a [u8]) -> Result<Option<Raw>, EncodeFault<'a>>
+    ensures { as_told result ≡ named_encoding (opcode_called name.now) name.now (words_of rest.now) }
+{
+    let Some(opcode) = opcode_called(name) else {
+        return Err(EncodeFault::UnknownCommand(name));
+    };
+    if let Some(word) = unknown_word(fields_of(opcode), rest) {
+        return Err(EncodeFault::UnknownField(opcode, word));
+    }
+    match command(opcode, rest) {
+        Ok(command) => Ok(Some(encode(&command))),
+        Err(fault) => Err(EncodeFault::BadField(opcode, fault)),
+    }
+}
+
+/// The words of the command whose text a line is: its name and its fields, in any order. None of a line that is skipped, one
+/// without words or a comment.
+#[tactic(auto, unfolding(crate::specs::LineEncodings::line_encoding))]
+pub fn encode_line(line: &[u8]) -> Result<Option<Raw>, EncodeFault<'_>>
+    ensures { as_told result ≡ line_encoding line.now }
+{
+    match next_word(line) {
+        Some((name, rest)) if !is_comment(name) => encode_named(name, rest),
+        _ => Ok(None),
+    }
+}

@@ -1,0 +1,37 @@
+//! `encode` from any reader to any writer.
+ghost use Rattle.std.specs.Prelude.{◌≡◌};
+ghost use Rattle.encode.specs.Tellings.{TellsOfEncode, judged};
+
+use crate::answering::Answering;
+use script::{Status, serve, status_of};
+use std::alloc::Global;
+use std::io::{Read, Write};
+
+/// Reads lines that are the text of a command each, and writes a line for each that isn't skipped: the 32 lower-case
+/// hexadecimal digits of the command's bytes in memory, or `bad command`. Says how it went; one line at least that is no
+/// command's text is refused.
+///
+/// Each answer is written and flushed before the read that follows its line. A line of more than 4,096 bytes ends the run.
+pub fn encode<R: Read, W: Write>(alloc: Global, input: &mut R, output: &mut W) -> Status
+    ensures { TellsOfEncode result (R.remaining input.old) (R.remaining input.new) (W.contents output.old) (W.contents output.new) }
+{
+    let mut answering = Answering::new(alloc);
+    let served = serve(alloc, &mut answering, input, output);
+    judged(status_of(&served), answering.all_good())
+}
+
+/// The status of a run in which all lines were good, or one at least wasn't.
+fn judged(status: Status, all_good: bool) -> Status
+    ensures { result ≡ judged status all_good }
+{
+    match status {
+        Status::Good => {
+            if all_good {
+                Status::Good
+            } else {
+                Status::Refused
+            }
+        }
+        other => other,
+    }
+}

@@ -1,0 +1,11 @@
+//! Tests of encode. They stand in a crate of their own, since a build of a crate's tests proves the crate once more.
+#![tactic(auto)]
+
+#[cfg(test)]
+mod encode_caller;
+#[cfg(test)]
+mod line_tests;
+#[cfg(test)]
+mod rows;
+#[cfg(test)]
+mod stream_tests;

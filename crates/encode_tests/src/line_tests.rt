@@ -1,0 +1,218 @@
+//! Lines and what they are refused for. Opcodes and fields are those of the command descriptions.
+use crate::rows::ROWS;
+use cmdcodec::Raw;
+use decode::decode_text;
+use encode::{encode, encode_line};
+use script::Status;
+use std::alloc::Global;
+use std::io::{Read, Write};
+use std::process::Abort;
+
+// The theorem of `encode` isn't passed on, since it would be dear in each test.
+fn status_of<R: Read, W: Write>(alloc: Global, input: &mut R, output: &mut W) -> Status {
+    encode(alloc, input, output)
+}
+
+/// Wants the text of a command to give these bytes, and these bytes to give the text.
+fn expect_both_ways<R: AllocGlobal + Abort>(rt: &R, text: &str, digits: &str) {
+    let (told, is_legal) = decode_text(rt.alloc(), digits).expect(rt, "there is memory");
+    assert_eq!(rt; told.as_str(), text);
+    assert!(rt; is_legal);
+    let mut input = text.as_bytes();
+    let mut output = Vec::new(rt.alloc());
+    assert_eq!(rt;
+        status_of(rt.alloc(), &mut input, &mut output),
+        Status::Good
+    );
+    let answer = str::from_utf8(output.as_slice()).unwrap_or("no text");
+    assert_eq!(rt; answer.trim_end(), digits);
+}
+
+#[test]
+fn least_and_greatest_values_of_each_field(rt: HostRuntime) {
+    for (text, digits) in ROWS {
+        expect_both_ways(&rt, text, digits);
+    }
+}
+
+/// Wants a line to be refused in these words.
+fn expect_fault<R: AllocGlobal + Abort>(rt: &R, line: &str, words: &str) {
+    let told = match encode_line(line.as_bytes()) {
+        Ok(_) => String::from_str(rt.alloc(), "no fault"),
+        Err(fault) => fault.to_string(rt.alloc()),
+    };
+    let told = told.expect(rt, "there is memory");
+    assert_eq!(rt; told.as_str(), words, "{line}");
+}
+
+const NH_VA: Raw = Raw {
+    lo: 0x0002_0001_0000_0012,
+    hi: 0x1234_5001,
+};
+
+#[test]
+fn fields_stand_in_any_order_and_base(rt: HostRuntime) {
+    for line in [
+        "TLBI_NH_VA vmid=1 asid=2 leaf=1 addr=0x12345000",
+        "TLBI_NH_VA addr=0x12345000 leaf=1 asid=2 vmid=1",
+        "\tTLBI_NH_VA\tleaf=0x1  asid=0x02 vmid=001 addr=305418240 \r",
+    ] {
+        assert!(rt; encode_line(line.as_bytes()) == Ok(Some(NH_VA)), "{line}");
+    }
+}
+
+#[test]
+fn lines_that_are_skipped(rt: HostRuntime) {
+    for line in ["", " \t\r", "# CFGI_STE sid=5 leaf=1", " #"] {
+        assert!(rt; encode_line(line.as_bytes()) == Ok(None), "{line}");
+    }
+}
+
+#[test]
+fn names_and_fields_that_are_unknown(rt: HostRuntime) {
+    expect_fault(&rt, "CFGI_ST sid=5 leaf=1", "unknown command \"CFGI_ST\"");
+    expect_fault(&rt, "cfgi_ste sid=5 leaf=1", "unknown command \"cfgi_ste\"");
+    expect_fault(&rt, "sid=5\x07", "unknown command \"sid=5\\x07\"");
+    expect_fault(
+        &rt,
+        "CFGI_STE sid=5 leaf=1 ssid=0",
+        "CFGI_STE: unknown field \"ssid=0\"",
+    );
+    expect_fault(
+        &rt,
+        "CFGI_STE sid 5 leaf=1",
+        "CFGI_STE: unknown field \"sid\"",
+    );
+    expect_fault(
+        &rt,
+        "TLBI_NSNH_ALL vmid=0",
+        "TLBI_NSNH_ALL: unknown field \"vmid=0\"",
+    );
+    expect_fault(&rt, "ATC_INV tg=1", "ATC_INV: unknown field \"tg=1\"");
+}
+
+#[test]
+fn fields_that_are_missing_or_stand_twice(rt: HostRuntime) {
+    expect_fault(
+        &rt,
+        "TLBI_NH_VA vmid=1 leaf=0 addr=0",
+        "TLBI_NH_VA: asid is missing",
+    );
+    expect_fault(&rt, "CFGI_STE", "CFGI_STE: sid is missing");
+    expect_fault(
+        &rt,
+        "CFGI_STE sid=5 leaf=1 sid=5",
+        "CFGI_STE: sid: stands twice",
+    );
+    expect_fault(
+        &rt,
+        "TLBI_EL2_VAA leaf=0 addr=0 num=0 scale=0",
+        "TLBI_EL2_VAA: tg is missing",
+    );
+    expect_fault(
+        &rt,
+        "TLBI_EL2_VAA leaf=0 addr=0 tg=1 scale=0",
+        "TLBI_EL2_VAA: num is missing",
+    );
+    expect_fault(
+        &rt,
+        "TLBI_EL2_VAA leaf=0 addr=0 tg=1 num=0",
+        "TLBI_EL2_VAA: scale is missing",
+    );
+    expect_fault(&rt, "RESUME lo=0x44", "RESUME: hi is missing");
+}
+
+#[test]
+fn numbers_out_of_their_ranges(rt: HostRuntime) {
+    expect_fault(
+        &rt,
+        "TLBI_NH_ALL vmid=65536",
+        "TLBI_NH_ALL: vmid: 0 to 65535",
+    );
+    expect_fault(&rt, "TLBI_NH_ALL vmid=", "TLBI_NH_ALL: vmid: 0 to 65535");
+    expect_fault(&rt, "TLBI_NH_ALL vmid=-1", "TLBI_NH_ALL: vmid: 0 to 65535");
+    expect_fault(&rt, "TLBI_NH_ALL vmid=0x", "TLBI_NH_ALL: vmid: 0 to 65535");
+    expect_fault(
+        &rt,
+        "CFGI_STE sid=0x100000000 leaf=0",
+        "CFGI_STE: sid: 0 to 4294967295",
+    );
+    expect_fault(&rt, "CFGI_STE sid=0 leaf=2", "CFGI_STE: leaf: 0 to 1");
+    expect_fault(
+        &rt,
+        "CFGI_CD sid=0 ssid=0x100000 leaf=0",
+        "CFGI_CD: ssid: 0 to 1048575",
+    );
+    expect_fault(
+        &rt,
+        "CFGI_STE_RANGE sid=0 range=32",
+        "CFGI_STE_RANGE: range: 0 to 31",
+    );
+    expect_fault(
+        &rt,
+        "TLBI_EL2_VAA leaf=0 addr=0 tg=0 num=0 scale=0",
+        "TLBI_EL2_VAA: tg: 1 to 3",
+    );
+    expect_fault(
+        &rt,
+        "TLBI_EL2_VAA leaf=0 addr=0 tg=4 num=0 scale=0",
+        "TLBI_EL2_VAA: tg: 1 to 3",
+    );
+    expect_fault(
+        &rt,
+        "CMD_SYNC cs=3 msh=0 attr=0 data=0 addr=0",
+        "CMD_SYNC: cs: 0 to 2",
+    );
+    expect_fault(
+        &rt,
+        "RESUME lo=0x44 hi=0x10000000000000000",
+        "RESUME: hi: 0 to 18446744073709551615",
+    );
+}
+
+#[test]
+fn sizes_and_addresses_out_of_their_ranges(rt: HostRuntime) {
+    expect_fault(
+        &rt,
+        "TLBI_EL2_VAA leaf=0 addr=0x800",
+        "TLBI_EL2_VAA: addr: a multiple of 4096",
+    );
+    expect_fault(
+        &rt,
+        "TLBI_S2_IPA vmid=0 leaf=0 addr=0x10000000000000",
+        "TLBI_S2_IPA: addr: 0 to 4503599627366400",
+    );
+    expect_fault(
+        &rt,
+        "CMD_SYNC cs=0 msh=0 attr=0 data=0 addr=2",
+        "CMD_SYNC: addr: a multiple of 4",
+    );
+    expect_fault(
+        &rt,
+        "CMD_SYNC cs=0 msh=0 attr=0 data=0 addr=0x10000000000000",
+        "CMD_SYNC: addr: 0 to 4503599627370492",
+    );
+    expect_fault(
+        &rt,
+        "ATC_INV sid=0 ssv=0 ssid=0 global=0 size=53 addr=0",
+        "ATC_INV: size: 0 to 52",
+    );
+}
+
+#[test]
+fn low_words_of_other_commands(rt: HostRuntime) {
+    let other = "lo: the word of another command, or of a Secure stream";
+    for line in [
+        "RESUME lo=0x45 hi=0",
+        "PREFETCH_ADDR lo=0x1 hi=0",
+        "PREFETCH_CONFIG lo=0x401 hi=0",
+    ] {
+        let told = match encode_line(line.as_bytes()) {
+            Ok(_) => String::from_str(rt.alloc(), "no fault"),
+            Err(fault) => fault.to_string(rt.alloc()),
+        };
+        let told = told.expect(&rt, "there is memory");
+        assert!(rt; told.as_str().ends_with(other), "{line}");
+    }
+    assert!(rt; encode_line(b"RESUME lo=0x444 hi=0").is_ok());
+}
