@@ -3,7 +3,7 @@ use Rattle.std.specs.Prelude.{◌≡◌, ℕ, List, ◌⊎◌, true, false, [], 
 use Rattle.std.specs.Io.KnownBytes.{Keeps}
 use Rattle.command_line.specs.CommandLine.{AskFor, IsAmong, MisunderstoodValue, OutOfMemory, Text, fault_of, smmuq}
 use Rattle.command_line.specs.declared.subcommand.Subcommand.{Subcommand}
-use Rattle.command_line.specs.declared.subcommand.Subcommand.TheVariants.{Replay, Schedule, Decode, Stress, Words, Image}
+use Rattle.command_line.specs.declared.subcommand.Subcommand.TheVariants.{Replay, Schedule, Decode, Stress, Words, Image, Encode}
 use Rattle.script.specs.Writing.{no_memory_line}
 use Rattle.script.specs.declared.status.Status.{Status}
 use Rattle.script.specs.declared.status.Status.TheVariants.{Good, Refused, NoMemory, ReadFailed, WriteFailed, Endless}
@@ -11,6 +11,7 @@ use Rattle.script.specs.Statuses.{exit_status}
 use Rattle.schedule.specs.Scheduling.{ExitsAsSchedule}
 use Rattle.replay.specs.Replaying.{ExitsAsReplay}
 use Rattle.decode.specs.DecodeText.{decode_text}
+use Rattle.encode.specs.Tellings.{ExitsAsEncode}
 use Rattle.image.specs.Tellings.{ExitsAsImage}
 use Rattle.words.specs.Tellings.{ExitsAsWords}
 use Rattle.program.specs.Images.{asked_of}
@@ -34,7 +35,7 @@ abbrev pub ExitsAsDecode : ℕ → List ℕ → Seen → Seen → Type 0
 ExitsAsDecode exit word before after = (status : Status) × (exit ≡ exit_status status) × Decodes status word before after
 
 -- It did what was asked for: a script was replayed, or played as a schedule; or nothing was read, and a word was decoded
--- or a stress run made; or lines of words were answered, or an image was shown.
+-- or a stress run made; or lines of words or of text were answered, or an image was shown.
 abbrev pub ExitsAs : Subcommand → ℕ → Option (List ℕ) → Option (List ℕ) → Seen → Seen → Type 0
 ExitsAs Replay exit input rest before after = ExitsAsReplay exit input rest before.bytes after.bytes
 ExitsAs Schedule exit input rest before after = ExitsAsSchedule exit input rest before.bytes after.bytes
@@ -42,6 +43,7 @@ ExitsAs (Decode word) exit input rest before after = Keeps input rest × ExitsAs
 ExitsAs (Stress numbers) exit input rest before after = Keeps input rest × ExitsAsStress exit (plan_of numbers) before after
 ExitsAs Words exit input rest before after = ExitsAsWords exit input rest before.bytes after.bytes
 ExitsAs (Image arguments) exit input rest before after = ExitsAsImage (asked_of arguments) exit input before.bytes after.bytes
+ExitsAs Encode exit input rest before after = ExitsAsEncode exit input rest before.bytes after.bytes
 
 -- The words have no fault, and it did what they ask for; elsewhere it told just of memory, or of a stream that failed.
 pub record ExitsAsAsked (words : List Text) (exit : ℕ) (input rest : Option (List ℕ)) (before after faults_before faults_after : Seen) : Type 0 where

@@ -1,10 +1,12 @@
 //! The subcommands that read commands as they are found elsewhere.
 ghost use Rattle.std.specs.Prelude.{◌≡◌};
+ghost use Rattle.encode.specs.Tellings.{ExitsAsEncode};
 ghost use Rattle.image.specs.Tellings.{ExitsAsImage};
 ghost use Rattle.words.specs.Tellings.{ExitsAsWords};
 ghost use Rattle.program.specs.Images.{asked_of};
 
 use command_line::ImageArguments;
+use encode::encode;
 use image::{Asked, image};
 use script::one_number;
 use std::alloc::Global;
@@ -16,6 +18,13 @@ pub(crate) fn words_to_exit<I: Read, O: Write>(alloc: Global, input: &mut I, out
     ensures { ExitsAsWords result (I.remaining input.old) (I.remaining input.new) (O.contents output.old) (O.contents output.new) }
 {
     words(alloc, input, output).exit_status()
+}
+
+/// The exit status of answering lines that are a command's text each.
+pub(crate) fn encode_to_exit<I: Read, O: Write>(alloc: Global, input: &mut I, output: &mut O) -> u8
+    ensures { ExitsAsEncode result (I.remaining input.old) (I.remaining input.new) (O.contents output.old) (O.contents output.new) }
+{
+    encode(alloc, input, output).exit_status()
 }
 
 /// What the command line asks to be shown.

@@ -5,7 +5,7 @@ ghost use Rattle.schedule.specs.Scheduling.{ExitsAsSchedule};
 ghost use Rattle.replay.specs.Replaying.{ExitsAsReplay};
 ghost use Rattle.program.specs.Program.{Decodes, ExitsAs, ExitsAsDecode, ExitsAsProgram};
 
-use crate::reading::{image_to_exit, words_to_exit};
+use crate::reading::{encode_to_exit, image_to_exit, words_to_exit};
 use crate::serving::{decode_text, replay, schedule};
 use crate::stressing::stress_to_exit;
 use crate::telling::{print_line, tell, tell_of_memory};
@@ -65,6 +65,7 @@ fn serve<'a, A: Threads + AllocGlobal + Sync, I: Read, O: Write>(
         Subcommand::Stress(numbers) => stress_to_exit(rt, numbers, output),
         Subcommand::Words => words_to_exit(rt.alloc(), input, output),
         Subcommand::Image(arguments) => image_to_exit(rt.alloc(), &arguments, input, output),
+        Subcommand::Encode => encode_to_exit(rt.alloc(), input, output),
     }
 }
 

@@ -12,7 +12,7 @@ fn a_word_that_is_not_utf8(rt: HostRuntime) {
     let mut output = Watched::new(Sink::new(100, 0, PIPE));
     let mut faults = Watched::new(Sink::new(100, 0, PIPE));
     let why = io::Error::from(ErrorKind::InvalidData);
-    let status = tell_without_words(&why, &mut output, &mut faults);
+    let status = tell_without_words(rt.alloc(), &why, &mut output, &mut faults);
     assert_eq!(rt; status, 2);
     assert_eq!(rt; output.inner().text(), "");
     let text = "error: a word of the command line isn't UTF-8\n";
@@ -24,10 +24,10 @@ fn no_memory_for_the_words(rt: HostRuntime) {
     let mut output = Watched::new(Sink::new(100, 0, PIPE));
     let mut faults = Watched::new(Sink::new(100, 0, PIPE));
     let why = io::Error::from(ErrorKind::OutOfMemory);
-    let status = tell_without_words(&why, &mut output, &mut faults);
+    let status = tell_without_words(rt.alloc(), &why, &mut output, &mut faults);
     assert_eq!(rt; status, 3);
     assert_eq!(rt; output.inner().text(), "no memory\n");
-    assert_eq!(rt; faults.inner().text(), "");
+    assert_eq!(rt; faults.inner().text(), "smmuq: out of memory\n");
 }
 
 #[test]
