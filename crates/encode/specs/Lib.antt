@@ -8,3 +8,4 @@ pub mod LineAnswers
 pub mod Answering
 pub mod AnsweringLaws
 pub mod Tellings
+pub mod ReadingLaws

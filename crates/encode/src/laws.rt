@@ -1,0 +1,11 @@
+//! Laws of the definitions, each the contract of a function that does nothing.
+ghost use Rattle.encode.specs.ReadingLaws.{TextsAreReadBack};
+
+use cmdcodec::legal_words_spell_one_command;
+
+/// The text of each command that words spell, as `decode` says it, is read as words that decode to that command.
+pub fn texts_are_read_back()
+    ensures { TextsAreReadBack }
+{
+    legal_words_spell_one_command();
+}
