@@ -12,3 +12,5 @@ pub mod ReadPages
 pub mod ReadOthers
 pub mod SpelledAgain
 pub mod ReadCommands
+pub mod Telling
+pub mod Encoded

@@ -10,11 +10,11 @@ use Rattle.cmdcodec.specs.Fields.{bit}
 use Rattle.cmdcodec.specs.Spelling.{Spells, granule_number}
 use Rattle.cmdcodec.specs.Words.{encoding}
 
-bit_small : (b : Bool) → bit b < 2
+pub bit_small : (b : Bool) → bit b < 2
 bit_small true = omega arith
 bit_small false = omega arith
 
-granule_small : (tg : Granule) → granule_number tg < 4
+pub granule_small : (tg : Granule) → granule_number tg < 4
 granule_small Kib4 = omega arith
 granule_small Kib16 = omega arith
 granule_small Kib64 = omega arith
