@@ -68,15 +68,6 @@ fields_of PriResp = field.Lo ∷ field.Hi ∷ []
 fields_of Resume = field.Lo ∷ field.Hi ∷ []
 fields_of StallTerm = field.Lo ∷ field.Hi ∷ []
 
--- an invalidation of pages by their address
-abbrev pub is_by_address : Opcode → Bool
-is_by_address TlbiNhVa = true
-is_by_address TlbiNhVaa = true
-is_by_address TlbiEl2Va = true
-is_by_address TlbiEl2Vaa = true
-is_by_address TlbiS2Ipa = true
-is_by_address other = false
-
 -- an invalidation of configurations
 abbrev pub is_configuration : Opcode → Bool
 is_configuration CfgiSte = true
