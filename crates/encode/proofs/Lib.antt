@@ -14,3 +14,4 @@ pub mod SpelledAgain
 pub mod ReadCommands
 pub mod Telling
 pub mod Encoded
+pub mod OrderLemmas

@@ -9,3 +9,4 @@ pub mod Answering
 pub mod AnsweringLaws
 pub mod Tellings
 pub mod ReadingLaws
+pub mod OrderLaws

@@ -1,4 +1,5 @@
 //! Laws of the definitions, each the contract of a function that does nothing.
+ghost use Rattle.encode.specs.OrderLaws.{OrderPlaysNoPart};
 ghost use Rattle.encode.specs.ReadingLaws.{TextsAreReadBack};
 
 use cmdcodec::legal_words_spell_one_command;
@@ -9,3 +10,8 @@ pub fn texts_are_read_back()
 {
     legal_words_spell_one_command();
 }
+
+/// The words of a command's text may stand in any order behind its name.
+pub fn order_plays_no_part()
+    ensures { OrderPlaysNoPart }
+{}

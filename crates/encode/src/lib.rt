@@ -14,6 +14,6 @@ mod word;
 
 pub use fault::{EncodeFault, FieldFault};
 pub use field::Field;
-pub use laws::texts_are_read_back;
+pub use laws::{order_plays_no_part, texts_are_read_back};
 pub use line::encode_line;
 pub use serving::encode;
