@@ -1,11 +1,10 @@
 -- The words of a command are of 64 bits.
-use Rattle.std.proofs.Common.{◌≡◌, ℕ, ◌+◌, ◌-◌, ◌*◌, ◌/◌, ◌%◌, ◌^◌, ◌<◌, ◌≤◌, Bool, arith}
+use Rattle.std.proofs.Common.{◌^◌, ◌<◌, arith}
 use Rattle.cmdcodec.specs.declared.raw.Raw.{Raw}
 use Rattle.cmdcodec.specs.declared.command.Command.{Command}
 use Rattle.cmdcodec.specs.declared.command.Command.TheVariants.{CfgiSte, CfgiSteRange, CfgiCd, CfgiCdAll, TlbiNhAll, TlbiNhAsid, TlbiNhVa, TlbiNhVaa, TlbiEl2All, TlbiEl2Asid, TlbiEl2Va, TlbiEl2Vaa, TlbiS12Vmall, TlbiS2Ipa, TlbiNsnhAll, AtcInv, Kept, CmdSync}
 use Rattle.cmdcodec.specs.declared.reach.Reach.TheVariants.{Page, Range}
-use Rattle.cmdcodec.specs.Fields.{bit}
-use Rattle.cmdcodec.specs.Spelling.{Spells, granule_number}
+use Rattle.cmdcodec.specs.Spelling.{Spells}
 use Rattle.cmdcodec.specs.Words.{encoding}
 use Rattle.encode.proofs.SpelledAgain.{bit_small, granule_small}
 

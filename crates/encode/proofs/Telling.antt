@@ -1,5 +1,5 @@
 -- What is said of the bytes of a command is its text.
-use Rattle.std.proofs.Common.{◌≡◌, ℕ, zero, suc, ◌+◌, ◌-◌, ◌*◌, ◌/◌, ◌%◌, ◌^◌, ◌<◌, Bool, true, List, [], ◌∷◌, ◌++◌, ap, ◌∙◌, arith, Ok}
+use Rattle.std.proofs.Common.{◌≡◌, ℕ, zero, suc, ◌+◌, ◌*◌, ◌/◌, ◌%◌, ◌^◌, ◌<◌, true, List, [], ◌∷◌, ◌++◌, ap, ◌∙◌, arith, Ok}
 use Rattle.std.specs.Int.{byte_at, bytes_low_first}
 use Rattle.hex.specs.Hex.{IsBytes, encode_lower}
 use Rattle.hex.proofs.HexLemmas.{decode_of-encode_lower}
@@ -8,7 +8,7 @@ use Rattle.cmdcodec.specs.declared.command.Command.{Command}
 use Rattle.cmdcodec.specs.Bytes.{bytes_of, raw_of}
 use Rattle.cmdcodec.specs.Text.{text_of}
 use Rattle.cmdcodec.specs.Words.{decoding}
-use Rattle.decode.specs.DecodeText.{command_text, bytes_text, digits_text, decode_text}
+use Rattle.decode.specs.DecodeText.{command_text, digits_text, decode_text}
 
 word_again : (x : ℕ) → x < 2 ^ 64
     → x % 256 + 256 * (x / 256 % 256 + 256 * (x / 65536 % 256 + 256 * (x / 16777216 % 256 + 256 * (x / 4294967296 % 256 + 256 * (x / 1099511627776 % 256 + 256 * (x / 281474976710656 % 256 + 256 * (x / 72057594037927936 % 256 + 256 * 0))))))) ≡ x

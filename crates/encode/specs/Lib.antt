@@ -1,6 +1,7 @@
 pub mod LineWords
 pub mod Fields
 pub mod Names
+pub mod Groups
 pub mod Values
 pub mod Commands
 pub mod LineEncodings

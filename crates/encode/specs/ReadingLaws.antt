@@ -1,12 +1,12 @@
 -- What the texts of commands are read back as.
-use Rattle.std.specs.Prelude.{◌≡◌, ◌<◌, ◌^◌, ℕ, true, Some, Ok}
+use Rattle.std.specs.Prelude.{◌≡◌, ◌<◌, ◌^◌, true, Some, Ok}
 use Rattle.hex.specs.Hex.{encode_lower}
 use Rattle.cmdcodec.specs.declared.raw.Raw.{Raw}
 use Rattle.cmdcodec.specs.declared.command.Command.{Command}
 use Rattle.cmdcodec.specs.Bytes.{bytes_of}
 use Rattle.cmdcodec.specs.Spelling.{Spells}
 use Rattle.cmdcodec.specs.Text.{text_of}
-use Rattle.cmdcodec.specs.Words.{encoding, decoding}
+use Rattle.cmdcodec.specs.Words.{decoding}
 use Rattle.decode.specs.DecodeText.{decode_text}
 use Rattle.encode.specs.LineEncodings.{line_encoding}
 
