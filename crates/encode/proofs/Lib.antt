@@ -12,3 +12,6 @@ pub mod ReadPages
 pub mod ReadOthers
 pub mod SpelledAgain
 pub mod ReadCommands
+pub mod Telling
+pub mod Encoded
+pub mod OrderLemmas

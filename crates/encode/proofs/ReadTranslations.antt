@@ -1,10 +1,9 @@
 -- The texts of invalidations of translations that have no address.
-use Rattle.std.proofs.Common.{◌≡◌, ℕ, ◌+◌, ◌*◌, ◌==◌, ◌&&◌, Bool, true, cond, List, [], ◌∷◌, ◌++◌, refl, ap, ◌∙◌, codes, Some, None, is_none, Ok, Err, append_assoc, append-nil}
+use Rattle.std.proofs.Common.{◌≡◌, ℕ, List, [], ◌∷◌, ◌++◌, refl, codes, Ok, append_assoc}
 use Rattle.std.specs.Fmt.{decimal}
 use Rattle.std.proofs.lemmas.Bool.{and_from}
 use Rattle.cmdcodec.specs.declared.opcode.Opcode.TheVariants as op
 use Rattle.cmdcodec.specs.declared.command.Command.TheVariants.{TlbiNhAll, TlbiNhAsid, TlbiEl2All, TlbiEl2Asid, TlbiS12Vmall, TlbiNsnhAll}
-use Rattle.cmdcodec.specs.Fields.{bit}
 use Rattle.cmdcodec.specs.Text.{text_of}
 use Rattle.encode.specs.declared.field.Field.TheVariants as field
 use Rattle.encode.specs.Names.{opcode_called}

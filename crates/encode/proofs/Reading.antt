@@ -1,5 +1,5 @@
 -- The text of a command is read back: what it takes.
-use Rattle.std.proofs.Common.{◌≡◌, ℕ, ◌+◌, ◌-◌, ◌/◌, ◌%◌, ◌^◌, ◌<◌, ◌≤◌, ◌==◌, ◌||◌, Bool, true, false, cond, List, [], ◌∷◌, refl, ap, ◌∙◌, arith, Some, None, Ok}
+use Rattle.std.proofs.Common.{◌≡◌, ℕ, ◌||◌, Bool, true, false, cond, List, ◌∷◌, ap, ◌∙◌, Some, None, Ok}
 use Rattle.std.specs.List.{list_all}
 use Rattle.cmdcodec.specs.declared.opcode.Opcode.{Opcode}
 use Rattle.cmdcodec.specs.declared.command.Command.{Command}

@@ -1,5 +1,5 @@
 -- The words of a command, with all free bits 0, spell it.
-use Rattle.std.proofs.Common.{◌≡◌, ℕ, ◌+◌, ◌-◌, ◌*◌, ◌/◌, ◌%◌, ◌^◌, ◌<◌, ◌≤◌, Bool, true, false, refl, arith}
+use Rattle.std.proofs.Common.{◌<◌, Bool, true, false, refl, arith}
 use Rattle.cmdcodec.specs.declared.raw.Raw.{Raw}
 use Rattle.cmdcodec.specs.declared.command.Command.{Command}
 use Rattle.cmdcodec.specs.declared.command.Command.TheVariants.{CfgiSte, CfgiSteRange, CfgiCd, CfgiCdAll, TlbiNhAll, TlbiNhAsid, TlbiNhVa, TlbiNhVaa, TlbiEl2All, TlbiEl2Asid, TlbiEl2Va, TlbiEl2Vaa, TlbiS12Vmall, TlbiS2Ipa, TlbiNsnhAll, AtcInv, Kept, CmdSync}
@@ -10,11 +10,11 @@ use Rattle.cmdcodec.specs.Fields.{bit}
 use Rattle.cmdcodec.specs.Spelling.{Spells, granule_number}
 use Rattle.cmdcodec.specs.Words.{encoding}
 
-bit_small : (b : Bool) → bit b < 2
+pub bit_small : (b : Bool) → bit b < 2
 bit_small true = omega arith
 bit_small false = omega arith
 
-granule_small : (tg : Granule) → granule_number tg < 4
+pub granule_small : (tg : Granule) → granule_number tg < 4
 granule_small Kib4 = omega arith
 granule_small Kib16 = omega arith
 granule_small Kib64 = omega arith

@@ -1,8 +1,7 @@
 -- A field whose value is written out.
-use Rattle.std.proofs.Common.{◌≡◌, ℕ, ◌*◌, ◌/◌, ◌%◌, ◌^◌, ◌<◌, ◌≤◌, ◌==◌, ◌&&◌, nat_le, Bool, true, cond, List, refl, ap, sym, ◌∙◌, arith, Option, Some, Ok, Err}
+use Rattle.std.proofs.Common.{◌≡◌, ℕ, ◌/◌, ◌%◌, ◌^◌, ◌<◌, ◌≤◌, ◌&&◌, nat_le, Bool, true, cond, List, ap, ◌∙◌, arith, Some, Ok, Err}
 use Rattle.std.specs.Prelude.{Result}
 use Rattle.std.specs.Fmt.{decimal}
-use Rattle.std.proofs.Math.Nat.{mul-one}
 use Rattle.std.proofs.lemmas.Bool.{and_from, eq-eqb, le-leb}
 use Rattle.cmdcodec.specs.Text.{hexadecimal}
 use Rattle.script.specs.Words.{number_of}

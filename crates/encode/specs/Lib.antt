@@ -1,6 +1,7 @@
 pub mod LineWords
 pub mod Fields
 pub mod Names
+pub mod Groups
 pub mod Values
 pub mod Commands
 pub mod LineEncodings
@@ -8,3 +9,5 @@ pub mod LineAnswers
 pub mod Answering
 pub mod AnsweringLaws
 pub mod Tellings
+pub mod ReadingLaws
+pub mod OrderLaws

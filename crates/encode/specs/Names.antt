@@ -1,5 +1,5 @@
 -- The commands by their names, and the fields of each.
-use Rattle.std.specs.Prelude.{ℕ, List, [], ◌∷◌, Bool, true, false, Option, codes}
+use Rattle.std.specs.Prelude.{ℕ, List, [], ◌∷◌, Option, codes}
 use Rattle.std.specs.List.{find}
 use Rattle.std.specs.Str.{bytes_eq}
 use Rattle.cmdcodec.specs.declared.opcode.Opcode.{Opcode}
@@ -40,7 +40,7 @@ all_opcodes =
 unfoldable pub opcode_called : List ℕ → Option Opcode
 opcode_called name = find (λ opcode. bytes_eq (name_of opcode) name) all_opcodes
 
--- an address space's pages from an address on, and how far
+-- pages from an address on, and how far; the three fields of a range may be left out
 abbrev pub pages : List Field
 pages = field.Leaf ∷ field.Page ∷ field.Tg ∷ field.Num ∷ field.Scale ∷ []
 
@@ -67,30 +67,3 @@ fields_of PrefetchAddr = field.Lo ∷ field.Hi ∷ []
 fields_of PriResp = field.Lo ∷ field.Hi ∷ []
 fields_of Resume = field.Lo ∷ field.Hi ∷ []
 fields_of StallTerm = field.Lo ∷ field.Hi ∷ []
-
--- an invalidation of pages by their address
-abbrev pub is_by_address : Opcode → Bool
-is_by_address TlbiNhVa = true
-is_by_address TlbiNhVaa = true
-is_by_address TlbiEl2Va = true
-is_by_address TlbiEl2Vaa = true
-is_by_address TlbiS2Ipa = true
-is_by_address other = false
-
--- an invalidation of configurations
-abbrev pub is_configuration : Opcode → Bool
-is_configuration CfgiSte = true
-is_configuration CfgiSteRange = true
-is_configuration CfgiCd = true
-is_configuration CfgiCdAll = true
-is_configuration other = false
-
--- an invalidation of translations without an address
-abbrev pub is_of_all_pages : Opcode → Bool
-is_of_all_pages TlbiNhAll = true
-is_of_all_pages TlbiNhAsid = true
-is_of_all_pages TlbiEl2All = true
-is_of_all_pages TlbiEl2Asid = true
-is_of_all_pages TlbiS12Vmall = true
-is_of_all_pages TlbiNsnhAll = true
-is_of_all_pages other = false

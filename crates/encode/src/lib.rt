@@ -4,6 +4,7 @@
 mod answering;
 mod fault;
 mod field;
+mod laws;
 mod line;
 mod making;
 mod named;
@@ -13,5 +14,6 @@ mod word;
 
 pub use fault::{EncodeFault, FieldFault};
 pub use field::Field;
+pub use laws::{order_plays_no_part, texts_are_read_back};
 pub use line::encode_line;
 pub use serving::encode;

@@ -1,5 +1,6 @@
 //! One line.
-ghost use Rattle.std.specs.Prelude.{◌≡◌, IfOk, IfSome, IsOk};
+ghost use Rattle.std.specs.Prelude.{◌≡◌, IfOk, IfSome};
+ghost use Rattle.cmdcodec.specs.declared.command.Command.{Command};
 ghost use Rattle.cmdcodec.specs.Words.{decoding};
 ghost use Rattle.encode.specs.LineWords.{words_of};
 ghost use Rattle.encode.specs.Names.{opcode_called};
@@ -14,7 +15,8 @@ use cmdcodec::{Raw, encode};
 use script::is_comment;
 
 fn encode_named<'a>(name: &'a [u8], rest: &'a [u8]) -> Result<Option<Raw>, EncodeFault<'a>>
-    ensures { as_told result ≡ named_encoding (opcode_called name.now) name.now (words_of rest.now) }
+    ensures value { as_told result ≡ named_encoding (opcode_called name.now) name.now (words_of rest.now) }
+    ensures legal { IfOk result (λ found. IfSome found (λ raw. (command : Command) × (decoding raw ≡ Ok command))) }
 {
     let Some(opcode) = opcode_called(name) else {
         return Err(EncodeFault::UnknownCommand(name));
@@ -28,11 +30,15 @@ fn encode_named<'a>(name: &'a [u8], rest: &'a [u8]) -> Result<Option<Raw>, Encod
     }
 }
 
-/// The words of the command whose text a line is: its name and its fields, in any order. None of a line that is skipped, one
-/// without words or a comment.
+/// The words of the command whose text a line is, with all free bits 0: its name and its fields, in any order. None of a line
+/// that is skipped, one without words or a comment.
+///
+/// Of any other line what is at fault: its name, or else the first word that gives no field of the command, or else the first
+/// field, in the order of the command's text, that has no value.
 #[tactic(auto, unfolding(crate::specs::LineEncodings::line_encoding))]
 pub fn encode_line(line: &[u8]) -> Result<Option<Raw>, EncodeFault<'_>>
-    ensures { as_told result ≡ line_encoding line.now }
+    ensures value { as_told result ≡ line_encoding line.now }
+    ensures legal { IfOk result (λ found. IfSome found (λ raw. (command : Command) × (decoding raw ≡ Ok command))) }
 {
     match next_word(line) {
         Some((name, rest)) if !is_comment(name) => encode_named(name, rest),

@@ -1,8 +1,11 @@
 //! The commands by their names, and the fields of each.
-ghost use Rattle.std.specs.Prelude.{◌≡◌, true};
-ghost use Rattle.encode.specs.Names.{name_of, opcode_called, fields_of, is_by_address};
+ghost use Rattle.std.specs.Prelude.{◌≡◌};
+ghost use Rattle.encode.specs.Names.{name_of, opcode_called, fields_of};
 
-use crate::field::Field;
+use crate::field::Field::{
+    self, Asid, Attr, Cs, Data, Global, Hi, IpaPage, Leaf, Lo, Msh, MsiWord, Num, Page, Range,
+    Scale, Sid, Size, Ssid, Ssv, Tg, Vmid,
+};
 use cmdcodec::Opcode;
 
 const OPCODES: [Opcode; 22] = [
@@ -76,84 +79,25 @@ pub(crate) fn fields_of(opcode: Opcode) -> &'static [Field]
     ensures { result.now ≡ fields_of opcode }
 {
     match opcode {
-        Opcode::CfgiSte => &[Field::Sid, Field::Leaf],
-        Opcode::CfgiSteRange => &[Field::Sid, Field::Range],
-        Opcode::CfgiCd => &[Field::Sid, Field::Ssid, Field::Leaf],
-        Opcode::CfgiCdAll => &[Field::Sid],
-        Opcode::TlbiNhAll | Opcode::TlbiS12Vmall => &[Field::Vmid],
-        Opcode::TlbiNhAsid => &[Field::Vmid, Field::Asid],
-        Opcode::TlbiEl2Asid => &[Field::Asid],
+        Opcode::CfgiSte => &[Sid, Leaf],
+        Opcode::CfgiSteRange => &[Sid, Range],
+        Opcode::CfgiCd => &[Sid, Ssid, Leaf],
+        Opcode::CfgiCdAll => &[Sid],
+        Opcode::TlbiNhAll | Opcode::TlbiS12Vmall => &[Vmid],
+        Opcode::TlbiNhAsid => &[Vmid, Asid],
+        Opcode::TlbiNhVa => &[Vmid, Asid, Leaf, Page, Tg, Num, Scale],
+        Opcode::TlbiNhVaa => &[Vmid, Leaf, Page, Tg, Num, Scale],
+        Opcode::TlbiEl2Asid => &[Asid],
+        Opcode::TlbiEl2Va => &[Asid, Leaf, Page, Tg, Num, Scale],
+        Opcode::TlbiEl2Vaa => &[Leaf, Page, Tg, Num, Scale],
+        Opcode::TlbiS2Ipa => &[Vmid, Leaf, IpaPage, Tg, Num, Scale],
         Opcode::TlbiEl2All | Opcode::TlbiNsnhAll => &[],
-        Opcode::CmdSync => &[
-            Field::Cs,
-            Field::Msh,
-            Field::Attr,
-            Field::Data,
-            Field::MsiWord,
-        ],
-        Opcode::AtcInv => &[
-            Field::Sid,
-            Field::Ssv,
-            Field::Ssid,
-            Field::Global,
-            Field::Size,
-            Field::Page,
-        ],
+        Opcode::AtcInv => &[Sid, Ssv, Ssid, Global, Size, Page],
+        Opcode::CmdSync => &[Cs, Msh, Attr, Data, MsiWord],
         Opcode::PrefetchConfig
         | Opcode::PrefetchAddr
         | Opcode::PriResp
         | Opcode::Resume
-        | Opcode::StallTerm => &[Field::Lo, Field::Hi],
-        _ => fields_by_address(opcode),
-    }
-}
-
-/// The fields of an invalidation by address.
-fn fields_by_address(opcode: Opcode) -> &'static [Field]
-    requires { is_by_address opcode ≡ true }
-    ensures { result.now ≡ fields_of opcode }
-{
-    match opcode {
-        Opcode::TlbiNhVa => &[
-            Field::Vmid,
-            Field::Asid,
-            Field::Leaf,
-            Field::Page,
-            Field::Tg,
-            Field::Num,
-            Field::Scale,
-        ],
-        Opcode::TlbiNhVaa => &[
-            Field::Vmid,
-            Field::Leaf,
-            Field::Page,
-            Field::Tg,
-            Field::Num,
-            Field::Scale,
-        ],
-        Opcode::TlbiEl2Va => &[
-            Field::Asid,
-            Field::Leaf,
-            Field::Page,
-            Field::Tg,
-            Field::Num,
-            Field::Scale,
-        ],
-        Opcode::TlbiEl2Vaa => &[
-            Field::Leaf,
-            Field::Page,
-            Field::Tg,
-            Field::Num,
-            Field::Scale,
-        ],
-        Opcode::TlbiS2Ipa => &[
-            Field::Vmid,
-            Field::Leaf,
-            Field::IpaPage,
-            Field::Tg,
-            Field::Num,
-            Field::Scale,
-        ],
-        _ => unreachable!(),
+        | Opcode::StallTerm => &[Lo, Hi],
     }
 }

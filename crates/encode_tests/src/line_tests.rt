@@ -35,6 +35,37 @@ fn least_and_greatest_values_of_each_field(rt: HostRuntime) {
     }
 }
 
+/// Worked commands, with values between the ends.
+const WORKED: [(&str, &str); 5] = [
+    (
+        "TLBI_NH_VA vmid=1 asid=2 leaf=0 addr=0x10000 tg=1 num=3 scale=2",
+        "12302000010002000004010000000000",
+    ),
+    (
+        "TLBI_NH_VA vmid=1 asid=2 leaf=0 addr=0x13000 tg=2 num=0 scale=0",
+        "12000000010002000038010000000000",
+    ),
+    (
+        "ATC_INV sid=7 ssv=0 ssid=9 global=1 size=0 addr=0x0",
+        "40920000070000000000000000000000",
+    ),
+    (
+        "PRI_RESP lo=0x441 hi=0x1",
+        "41040000000000000100000000000000",
+    ),
+    (
+        "CMD_SYNC cs=1 msh=0 attr=0 data=2 addr=0x40000000",
+        "46100000020000000000004000000000",
+    ),
+];
+
+#[test]
+fn worked_commands(rt: HostRuntime) {
+    for (text, digits) in WORKED {
+        expect_both_ways(&rt, text, digits);
+    }
+}
+
 /// Wants a line to be refused in these words.
 fn expect_fault<R: AllocGlobal + Abort>(rt: &R, line: &str, words: &str) {
     let told = match encode_line(line.as_bytes()) {
