@@ -86,6 +86,42 @@ module _ (held : Entries) (list : List Entry) (own : AreOwn held list) (many : �
         (at_changed (eq_by_cmp tag_cmp tag x.tag) (Some (reborn x)) (finite.get now tag) e (sym (place tag) ∙ there));
   }
 
+-- ---- how many a map has
+
+left : (a b : Bool) → T (a && b) → T a
+left true b p = tt
+left false b p = p
+
+right : (a b : Bool) → T (a && b) → T b
+right true b p = p
+right false b p = absurd p
+
+lt_apart : (r : Ordering) → T (is_lt r) → is_eq r ≡ false
+lt_apart Less p = refl
+lt_apart Equal p = absurd p
+lt_apart Greater p = refl
+
+module _ {K X : Type 0} (R : K → K → Ordering) where
+  apart_below : (x : K) (es : List (K × X)) → T (below_all R x es) → AllByRecursion (λ y. eq_by_cmp R x y ≡ false) (keys_of es)
+  apart_below x [] h = tt
+  apart_below x (e ∷ es) h = (lt_apart (R x e.0) (left _ _ h), apart_below x es (right _ _ h))
+
+  distinct_sorted : (es : List (K × X)) → T (is_sorted R es) → IsDistinct (eq_by_cmp R) (keys_of es)
+  unfolding IsDistinct
+  distinct_sorted [] h = tt
+  distinct_sorted (e ∷ es) h = IsDistinct-cons (eq_by_cmp R) e.0 (keys_of es) (apart_below e.0 es (left _ _ h)) (distinct_sorted es (right _ _ h))
+
+  find_lookup : (q : K) (es : List (K × X)) → find R q es ≡ lookup (eq_by_cmp R q) es
+  find_lookup q [] = refl
+  find_lookup q (e ∷ es) = ap (cond (eq_by_cmp R q e.0) (Some e.1)) (find_lookup q es)
+
+-- a map with fewer keys is shorter
+shorter : {K X : Type 0} {R : K → K → Ordering} (o : IsTotalOrder R) (m n : FinMap R X) → ((q : K) → IsSome (finite.get n q) → IsSome (finite.get m q)) → finite.len n ≤ finite.len m
+shorter {R = R} o m n h =
+    let keys = length-le_from_keys (eq_by_cmp_equiv o) (finite.keys n) (finite.entries m) (distinct_sorted R (finite.entries n) (entries_sorted n))
+    (λ q e. subst IsSome (get-entries m q ∙ find_lookup R q (finite.entries m)) (h q (contains_key-keys n q ∙ e))) in
+    omega (arith, keys, len-entries n, len-entries m, length-keys_of (finite.entries n))
+
 -- ---- all of them
 
 -- What is held is in the list of all.
@@ -124,41 +160,15 @@ module _ (held : Entries) (list : List Entry) (whole : list ≡ finite.values he
   pub own_in : (tag : Tag) → IsUnderItsTag now tag
   own_in tag = own_at tag (finite.get now tag) refl
 
--- ---- how many they are
+  is_still : (old : Option Entry) → IsSome old → IsSome (reborn_if old)
+  is_still None some = absurd (cc)
+  is_still (Some e) some = refl
 
-left : (a b : Bool) → T (a && b) → T a
-left true b p = tt
-left false b p = p
+  -- Where each is under its tag they are as many.
+  pub as_many_in : ((tag : Tag) → IsUnderItsTag held tag) → finite.len held ≤ finite.len now
+  as_many_in own = shorter tag_cmp_total now held (λ tag some. subst IsSome (sym (each_in tag (own tag))) (is_still (finite.get held tag) some))
 
-right : (a b : Bool) → T (a && b) → T b
-right true b p = p
-right false b p = absurd p
-
-lt_apart : (r : Ordering) → T (is_lt r) → is_eq r ≡ false
-lt_apart Less p = refl
-lt_apart Equal p = absurd p
-lt_apart Greater p = refl
-
-module _ {K X : Type 0} (R : K → K → Ordering) where
-  apart_below : (x : K) (es : List (K × X)) → T (below_all R x es) → AllByRecursion (λ y. eq_by_cmp R x y ≡ false) (keys_of es)
-  apart_below x [] h = tt
-  apart_below x (e ∷ es) h = (lt_apart (R x e.0) (left _ _ h), apart_below x es (right _ _ h))
-
-  distinct_sorted : (es : List (K × X)) → T (is_sorted R es) → IsDistinct (eq_by_cmp R) (keys_of es)
-  unfolding IsDistinct
-  distinct_sorted [] h = tt
-  distinct_sorted (e ∷ es) h = IsDistinct-cons (eq_by_cmp R) e.0 (keys_of es) (apart_below e.0 es (left _ _ h)) (distinct_sorted es (right _ _ h))
-
-  find_lookup : (q : K) (es : List (K × X)) → find R q es ≡ lookup (eq_by_cmp R q) es
-  find_lookup q [] = refl
-  find_lookup q (e ∷ es) = ap (cond (eq_by_cmp R q e.0) (Some e.1)) (find_lookup q es)
-
--- a map with fewer keys is shorter
-shorter : {K X : Type 0} {R : K → K → Ordering} (o : IsTotalOrder R) (m n : FinMap R X) → ((q : K) → IsSome (finite.get n q) → IsSome (finite.get m q)) → finite.len n ≤ finite.len m
-shorter {R = R} o m n h =
-    let keys = length-le_from_keys (eq_by_cmp_equiv o) (finite.keys n) (finite.entries m) (distinct_sorted R (finite.entries n) (entries_sorted n))
-    (λ q e. subst IsSome (get-entries m q ∙ find_lookup R q (finite.entries m)) (h q (contains_key-keys n q ∙ e))) in
-    omega (arith, keys, len-entries n, len-entries m, length-keys_of (finite.entries n))
+-- ---- too many
 
 some_is : (o : Option Entry) (e : Entry) → o ≡ Some e → IsSome o
 some_is None e is = absurd (cc)

@@ -1,5 +1,5 @@
 -- Entries that are carried into the caches of a new queue.
-use Rattle.std.specs.Prelude.{◌≡◌, ◌<◌, ℕ, Option, Some, None, IfSome}
+use Rattle.std.specs.Prelude.{◌≡◌, ◌<◌, ◌≤◌, ℕ, Option, Some, None, IfSome}
 use Rattle.std.specs.FinMap as finite
 use Rattle.caches.specs.declared.tag.Tag.{Tag}
 use Rattle.caches.specs.declared.tag.Entry.{Entry}
@@ -23,10 +23,12 @@ reborn_if (Some entry) = Some (reborn entry)
 abbrev pub IsUnderItsTag : Entries → Tag → Type 0
 IsUnderItsTag entries tag = IfSome (finite.get entries tag) (λ entry. entry.tag ≡ tag)
 
--- A unit that has taken nothing holds the entries of another, each reborn, and no others; each is under its own tag.
+-- A unit that has taken nothing holds the entries of another, each reborn, and no others; each is under its own tag, and
+-- there is room for all.
 pub record IsCarried (capacity : ℕ) (old new : UnitValue) : Type 0 where
   pub each : (tag : Tag) → IsUnderItsTag old.caches.entries tag → finite.get new.caches.entries tag ≡ reborn_if (finite.get old.caches.entries tag)
   pub own : (tag : Tag) → IsUnderItsTag new.caches.entries tag
+  pub room : ((tag : Tag) → IsUnderItsTag old.caches.entries tag) → finite.len old.caches.entries ≤ capacity
   pub capacity_is : new.caches.capacity ≡ capacity
   pub stop_is : new.stop ≡ unstopped
   pub counts_are : new.counts ≡ none_counted

@@ -9,7 +9,7 @@ use crate::queue::Queue;
 use engine::Engine;
 use ring::{Ring, Sender};
 
-/// One bit above SMMU_CMDQ_CONS.RD: where ERR begins.
+/// The weight of SMMU_CMDQ_CONS.ERR, bits 30:24.
 const ERR: u32 = 0x0100_0000;
 
 /// Whether a command is reserved that isn't taken.

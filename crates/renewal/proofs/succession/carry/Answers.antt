@@ -11,7 +11,7 @@ loop-entry-init c = record { consumer_is = refl; unit_is = none_filled _ _ _ _ c
 pub loop-entry-preserved : goal.loop-entry-preserved
 loop-entry-preserved c = record {
   consumer_is = c.fill.ensures.consumer ∙ c.loop-entry.invariant.consumer_is;
-  unit_is = one_more_filled _ _ _ (subst (AreOwn c.args.old.now.unit.caches.entries) (sym c.deref-entry-items.ensures.value) (owned _ _ c.in-Ok.ensures.own)) _ _ c.loop-entry.invariant.unit_is c.entry-item.result (slice_get_read _ (length c.deref-entry-items.result.now) _ _ refl c.loop-entry-test.true c.entry-item.is) _ (ap (λ (e : EngineValue). e.unit) c.in-Ok-fill.ensures.ok);
+  unit_is = one_more_filled _ _ _ (subst (AreOwn c.args.old.now.unit.caches.entries) (sym c.deref-entry-items.ensures.value) (owned _ _ c.in-Ok.ensures.own)) _ _ c.loop-entry.invariant.unit_is c.entry-item.result (slice_get_read _ (length c.deref-entry-items.result.now) _ _ refl c.loop-entry-test.true c.entry-item.is) _ _ c.in-Ok-fill.ensures.answer (ap (λ (e : EngineValue). e.unit) c.in-Ok-fill.ensures.ok);
 }
 
 pub returns-in-Err-fill-clause-uncarried : goal.returns-in-Err-fill-clause-uncarried
