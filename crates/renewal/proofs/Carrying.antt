@@ -16,7 +16,7 @@ use Rattle.caches.specs.declared.tag.Tag.{Tag}
 use Rattle.caches.specs.declared.tag.Entry.{Entry}
 use Rattle.caches.specs.TagOrder.{tag_cmp, tag_cmp_total, tag_cmp_exact}
 use Rattle.caches.specs.Held.{Entries}
-use Rattle.renewal.specs.Carried.{reborn, reborn_if, IsUnderItsTag}
+use Rattle.renewal.specs.Carried.{reborn, reborn_if, IsUnderItsTag, IsReborn}
 
 some_same : (a b : Entry) → Some a ≡ Some b → a ≡ b
 some_same a b e = cc
@@ -153,12 +153,10 @@ module _ (held : Entries) (list : List Entry) (whole : list ≡ finite.values he
   pub each_in : (tag : Tag) → IsUnderItsTag held tag → finite.get now tag ≡ reborn_if (finite.get held tag)
   each_in tag own = by_old tag (finite.get held tag) refl own (finite.get now tag) refl
 
-  own_at : (tag : Tag) (new : Option Entry) → finite.get now tag ≡ new → IfSome new (λ entry. entry.tag ≡ tag)
-  own_at tag None is = tt
-  own_at tag (Some e) is = let found = are.only tag e is in ap (λ (t : Entry). t.tag) found.3 ∙ found.2
-
-  pub own_in : (tag : Tag) → IsUnderItsTag now tag
-  own_in tag = own_at tag (finite.get now tag) refl
+  pub only_in : (tag : Tag) (e : Entry) → finite.get now tag ≡ Some e → IsReborn held tag e
+  only_in tag e is =
+      let found = are.only tag e is in
+      record { own = ap (λ (t : Entry). t.tag) found.3 ∙ found.2; was = found.0; held = found.1; entry_is = found.3 }
 
   is_still : (old : Option Entry) → IsSome old → IsSome (reborn_if old)
   is_still None some = absurd (cc)

@@ -17,7 +17,7 @@ use Rattle.engine.specs.Stops.{unstopped}
 use Rattle.engine.specs.Counting.{CountsValue, none_counted, taken}
 use Rattle.engine.specs.Units.{UnitValue, new_unit, filled, with_entries}
 use Rattle.renewal.specs.Carried.{reborn, IsCarried, IsUncarried}
-use Rattle.renewal.proofs.Carrying.{AreIn, AreOwn, none_in, one_more_in, too_many, each_in, own_in, as_many_in}
+use Rattle.renewal.proofs.Carrying.{AreIn, AreOwn, none_in, one_more_in, too_many, each_in, only_in, as_many_in}
 
 pub owned : (old : Entries) (list : List Entry) → All (λ entry. finite.get old entry.tag ≡ Some entry) list → AreOwn old list
 owned old list all k e at =
@@ -90,7 +90,7 @@ all_filled capacity old new list many whole all was =
     let are = subst (λ (n : ℕ). AreIn old.caches.entries list n new.caches.entries) all was.entries in
     record {
       each = each_in old.caches.entries list whole new.caches.entries are;
-      own = own_in old.caches.entries list whole new.caches.entries are;
+      only = only_in old.caches.entries list whole new.caches.entries are;
       room = λ own. let fewer = as_many_in old.caches.entries list whole new.caches.entries are own in let room = was.room in omega (arith, fewer, room);
       capacity_is = was.capacity_is;
       stop_is = was.stop_is;

@@ -23,11 +23,17 @@ reborn_if (Some entry) = Some (reborn entry)
 abbrev pub IsUnderItsTag : Entries → Tag → Type 0
 IsUnderItsTag entries tag = IfSome (finite.get entries tag) (λ entry. entry.tag ≡ tag)
 
--- A unit that has taken nothing holds the entries of another, each reborn, and no others; each is under its own tag, and
--- there is room for all.
+-- It is held under its own tag, and is an entry that these held there, reborn.
+pub record IsReborn (old : Entries) (tag : Tag) (entry : Entry) : Type 0 where
+  pub own : entry.tag ≡ tag
+  pub was : Entry
+  pub held : finite.get old tag ≡ Some was
+  pub entry_is : entry ≡ reborn was
+
+-- A unit that has taken nothing holds the entries of another, each reborn, and no others, and there is room for all.
 pub record IsCarried (capacity : ℕ) (old new : UnitValue) : Type 0 where
   pub each : (tag : Tag) → IsUnderItsTag old.caches.entries tag → finite.get new.caches.entries tag ≡ reborn_if (finite.get old.caches.entries tag)
-  pub own : (tag : Tag) → IsUnderItsTag new.caches.entries tag
+  pub only : (tag : Tag) (entry : Entry) → finite.get new.caches.entries tag ≡ Some entry → IsReborn old.caches.entries tag entry
   pub room : ((tag : Tag) → IsUnderItsTag old.caches.entries tag) → finite.len old.caches.entries ≤ capacity
   pub capacity_is : new.caches.capacity ≡ capacity
   pub stop_is : new.stop ≡ unstopped
