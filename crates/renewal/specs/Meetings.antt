@@ -1,0 +1,27 @@
+-- Senders that have met the engine one after another.
+use Rattle.std.specs.Prelude.{◌≡◌, ◌≤◌, ◌<◌, ℕ, List, Some, length, slice_get}
+use Rattle.qindex.specs.Indexes.{IsGeometry}
+use Rattle.ringcore.specs.declared.world.event.Who.TheVariants.{Sender}
+use Rattle.ring.specs.Rings.{RingValue}
+use Rattle.ring.specs.table.Rule.{IsWithinLimits}
+use Rattle.ring.specs.sender.Senders.{SenderValue}
+use Rattle.engine.specs.Engines.{EngineValue}
+use Rattle.renewal.specs.Queues.{HasInIt, unknowing_senders, unknowing_consumer}
+
+-- what a ring of some sender is known to be
+pub record IsOfSize (ring : RingValue) : Type 0 where
+  pub geometry_is : IsGeometry ring.made_with.geometry
+  pub limits : IsWithinLimits ring.made_with
+
+-- The first so many have met the engine, which knows a run that has their trails. But for what each knows of the run,
+-- nothing has changed.
+pub record FirstHaveMet (many : ℕ) (ring : RingValue) (old_senders senders : List SenderValue) (old new : EngineValue) : Type 0 where
+  pub senders_are : unknowing_senders senders ≡ unknowing_senders old_senders
+  pub unit_is : new.unit ≡ old.unit
+  pub consumer_is : unknowing_consumer new.consumer ≡ unknowing_consumer old.consumer
+  pub known : (k : ℕ) (s : SenderValue) → k < many → slice_get senders k ≡ Some s → HasInIt (Sender k) s.trail new.consumer.history
+  pub size_is : 1 ≤ many → IsOfSize ring
+
+-- All have.
+abbrev pub HaveMet : RingValue → List SenderValue → List SenderValue → EngineValue → EngineValue → Type 0
+HaveMet ring old_senders senders old new = FirstHaveMet (length old_senders) ring old_senders senders old new

@@ -1,0 +1,34 @@
+//! Why a queue isn't renewed.
+ghost use Rattle.std.specs.Prelude.{◌≡◌};
+ghost use Rattle.renewal.specs.FaultNames.{label_of};
+
+use caches::CacheFault;
+use ringcore::RingFault;
+use thiserror::Error;
+
+/// Why a queue isn't renewed. The first that applies is told.
+#[derive(Clone, Copy, Debug, PartialEq, Eq, Error)]
+pub enum RenewalFault {
+    /// W1: a command is reserved that isn't taken yet.
+    #[error("W1: a command waits to be taken")]
+    Waiting,
+    /// N1 to N4: the new ring isn't made.
+    #[error(transparent)]
+    Ring(RingFault),
+    /// C1, C3 and C4: the new caches aren't made, or don't hold the entries.
+    #[error(transparent)]
+    Caches(CacheFault),
+}
+
+impl RenewalFault {
+    /// Its label alone, `W1` or that of the fault within.
+    pub fn label(self) -> &'static str
+        ensures { result.now ≡ label_of self }
+    {
+        match self {
+            RenewalFault::Waiting => "W1",
+            RenewalFault::Ring(fault) => fault.label(),
+            RenewalFault::Caches(fault) => fault.label(),
+        }
+    }
+}

@@ -1,0 +1,39 @@
+//! All senders meet the engine, which then looks.
+ghost use Rattle.std.specs.Prelude.{◌≡◌, ◌↔◌, ◌≤◌, length, false, IsTrue};
+ghost use Rattle.ringcore.specs.world.World.{world, control as control_of};
+ghost use Rattle.ring.specs.Finishing.{AreAll};
+ghost use Rattle.renewal.specs.Queues.{HasLooked, SawWaiting, AreAtOnePlace};
+ghost use Rattle.renewal.specs.Meetings.{HaveMet, IsOfSize};
+
+use crate::queue::Queue;
+use engine::Engine;
+use ring::{Ring, Sender};
+
+/// The weight of SMMU_CMDQ_CONS.ERR, bits 30:24.
+const ERR: u32 = 0x0100_0000;
+
+/// Whether a command is reserved that isn't taken.
+pub fn is_waiting(queue: &mut Queue) -> bool
+    requires senders { AreAll queue.old.ring queue.old.senders.items }
+    requires ring { queue.old.engine.consumer.ring ≡ queue.old.ring }
+    ensures looked { HasLooked queue.old queue.new }
+    ensures waiting { IsTrue result ↔ SawWaiting queue.new.engine.consumer.trail }
+    ensures none { result ≡ false → AreAtOnePlace (control_of queue.old.ring.made_with.geometry (world queue.new.engine.consumer.history)) }
+    ensures size { 1 ≤ length queue.old.senders.items → IsOfSize queue.old.ring }
+{
+    meet_all(&queue.ring, &mut queue.senders, &mut queue.engine);
+    let found = queue.engine.registers(&queue.ring);
+    let (err, _, _) = queue.engine.error();
+    found.prod != found.cons - err * ERR
+}
+
+/// The engine meets each of them in turn.
+fn meet_all(ring: &Ring, senders: &mut Vec<Sender>, engine: &mut Engine)
+    requires senders { AreAll ring.now senders.old.items }
+    requires ring { engine.old.consumer.ring ≡ ring.now }
+    ensures { HaveMet ring.now senders.old.items senders.new.items engine.old engine.new }
+{
+    for sender in senders.iter_mut() {
+        engine.told(ring, sender);
+    }
+}
