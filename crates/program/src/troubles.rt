@@ -38,11 +38,7 @@ fn try_memory<F: Write>(faults: &mut Watched<F>)
 }
 
 /// Tells of the stream that failed: of standard output why, but for a pipe that was closed at its other end.
-fn tell_stream<O: Write, F: Write>(
-    alloc: Global,
-    output: &Watched<O>,
-    faults: &mut Watched<F>,
-)
+fn tell_stream<O: Write, F: Write>(alloc: Global, output: &Watched<O>, faults: &mut Watched<F>)
     ensures { TellsTrouble 4 faults.old faults.new }
 {
     let Some(why) = output.failure() else {

@@ -91,9 +91,21 @@ fn help(rt: HostRuntime) {
     expect_help(&rt, &["decode", "--help"], "Usage: smmuq decode <HEX>");
     expect_help(&rt, &["stress", "--help"], "Usage: smmuq stress --log2 <L>");
     // What a subcommand's help lists, by either way to it.
-    expect_help(&rt, &["help", "replay"], "\n    Q2  the ring has too little room\n");
-    expect_help(&rt, &["help", "schedule"], "\n    F10  a reservation is open, or no batch left\n");
-    expect_help(&rt, &["help", "stress"], "A turn of a sender is one try to reserve a batch");
+    expect_help(
+        &rt,
+        &["help", "replay"],
+        "\n    Q2  the ring has too little room\n",
+    );
+    expect_help(
+        &rt,
+        &["help", "schedule"],
+        "\n    F10  a reservation is open, or no batch left\n",
+    );
+    expect_help(
+        &rt,
+        &["help", "stress"],
+        "A turn of a sender is one try to reserve a batch",
+    );
     expect_help(&rt, &["--version"], "smmuq 0.1.0 (rattle-kit-");
     expect_help(&rt, &["-V"], "smmuq 0.1.0 (rattle-kit-");
 }
