@@ -1,5 +1,5 @@
 -- Where nobody took a step since the look, what it found holds at the end.
-use Rattle.std.proofs.Common.{◌≡◌, ◌<◌, ◌-◌, ℕ, zero, suc, Bool, true, false, cond, List, [], ◌∷◌, ◌++◌, length, Some, refl, sym, ap, ◌∙◌, subst, length-append, eq-eqb, arith}
+use Rattle.std.proofs.Common.{◌≡◌, ◌<◌, ◌-◌, ℕ, zero, suc, Bool, cond, List, [], ◌∷◌, ◌++◌, length, Some, refl, sym, ap, ◌∙◌, subst, length-append, eq-eqb, arith}
 use Rattle.std.specs.Prelude.{slice_get}
 use Rattle.qindex.specs.declared.control.Control.{Control}
 use Rattle.qindex.specs.Positions.{IndexValue, index_of}
@@ -17,17 +17,9 @@ use Rattle.ring.specs.sender.Senders.{SenderValue}
 use Rattle.ring.specs.consumer.Consumers.{ConsumerValue}
 use Rattle.ring.specs.Finishing.{SummaryValue, AreAll, IsEnd}
 use Rattle.renewal.specs.Queues.{HasInIt}
+use Rattle.renewal.proofs.OneMoreMet.{trail-append}
 
 -- ---- what is added to a run
-
-trail-append : (who : Who) (xs ys : Run) → trail_of who (xs ++ ys) ≡ trail_of who xs ++ trail_of who ys
-trail-append who [] ys = refl
-trail-append who (x ∷ xs) ys =
-    let more = trail-append who xs ys in
-    elim (same who x.0) as (λ b. cond b (x.1 ∷ trail_of who (xs ++ ys)) (trail_of who (xs ++ ys)) ≡ cond b (x.1 ∷ trail_of who xs) (trail_of who xs) ++ trail_of who ys) [
-      | true ↦ ap (λ (l : Trail). x.1 ∷ l) more
-      | false ↦ more
-    ]
 
 none_of : (t : Trail) → length t ≡ 0 → t ≡ []
 none_of [] h = refl

@@ -1,10 +1,10 @@
 -- One more sender has met the engine.
-use Rattle.std.proofs.Common.{◌≡◌, ◌<◌, ◌+◌, ℕ, zero, suc, List, [], ◌∷◌, ◌++◌, Some, refl, sym, ap, ◌∙◌, subst, below_more, arith}
+use Rattle.std.proofs.Common.{◌≡◌, ◌<◌, ◌+◌, ℕ, zero, suc, List, [], ◌∷◌, ◌++◌, Some, refl, sym, ap, ◌∙◌, subst, below_more, arith, cond, true, false}
 use Rattle.std.proofs.lemmas.List.{append_assoc}
 use Rattle.std.specs.Prelude.{slice_get, slice_set}
 use Rattle.ringcore.specs.declared.world.event.Who.{Who}
 use Rattle.ringcore.specs.declared.world.event.Who.TheVariants.{Consumer, Sender}
-use Rattle.ringcore.specs.world.Trails.{Run, Trail, trail_of}
+use Rattle.ringcore.specs.world.Trails.{Run, Trail, same, trail_of}
 use Rattle.ring.specs.Rings.{RingValue}
 use Rattle.ring.specs.table.Rule.{WentOn}
 use Rattle.ringcore.specs.declared.world.event.Event.{Event}
@@ -29,6 +29,23 @@ get_set_other (x ∷ xs) (suc i) (suc k) t apart = get_set_other xs i k t (omega
 
 some_same : (a b : SenderValue) → Some a ≡ Some b → a ≡ b
 some_same a b e = cc
+
+pub trail-append : (who : Who) (xs ys : Run) → trail_of who (xs ++ ys) ≡ trail_of who xs ++ trail_of who ys
+trail-append who [] ys = refl
+trail-append who (x ∷ xs) ys =
+    let more = trail-append who xs ys in
+    elim (same who x.0) as (λ b. cond b (x.1 ∷ trail_of who (xs ++ ys)) (trail_of who (xs ++ ys)) ≡ cond b (x.1 ∷ trail_of who xs) (trail_of who xs) ++ trail_of who ys) [
+      | true ↦ ap (λ (l : Trail). x.1 ∷ l) more
+      | false ↦ more
+    ]
+
+-- What went on and went on again went on.
+pub went_on_again : (who : Who) (first second third : Run) → WentOn who first second → WentOn who second third → WentOn who first third
+went_on_again who first second third one two = record {
+  newer = two.newer ++ one.newer;
+  run_is = two.run_is ∙ ap (λ (r : Run). two.newer ++ r) one.run_is ∙ sym (append_assoc two.newer one.newer first);
+  of_others = trail-append who two.newer one.newer ∙ (λ k. two.of_others k ++ one.of_others k);
+}
 
 pub still_in : (who other : Who) (trail : Trail) (older run : Run) → WentOn other older run → HasInIt who trail older → HasInIt who trail run
 still_in who other trail older run on had = record {
@@ -65,6 +82,7 @@ module _ (ring : RingValue) (all senders : List SenderValue) (old now new : Engi
     senders_are = set_same senders i s t at sender ∙ was.senders_are;
     unit_is = unit ∙ was.unit_is;
     consumer_is = consumer ∙ was.consumer_is;
+    went_on = went_on_again Consumer old.consumer.history now.consumer.history new.consumer.history was.went_on on;
     known = λ k u below there. below_more (λ k. (u : SenderValue) → slice_get (slice_set senders i t) k ≡ Some u → HasInIt (Sender k) u.trail new.consumer.history) i
         (λ k before u there. still_in (Sender k) Consumer u.trail now.consumer.history new.consumer.history on (was.known k u before (sym (get_set_other senders i k t before) ∙ there)))
         (λ u there. subst (λ (v : SenderValue). HasInIt (Sender i) v.trail new.consumer.history) (some_same t u (sym (get_set_here senders i s t at) ∙ there)) own)

@@ -1,9 +1,9 @@
 -- Senders that have met the engine one after another.
 use Rattle.std.specs.Prelude.{◌≡◌, ◌≤◌, ◌<◌, ℕ, List, Some, length, slice_get}
 use Rattle.qindex.specs.Indexes.{IsGeometry}
-use Rattle.ringcore.specs.declared.world.event.Who.TheVariants.{Sender}
+use Rattle.ringcore.specs.declared.world.event.Who.TheVariants.{Consumer, Sender}
 use Rattle.ring.specs.Rings.{RingValue}
-use Rattle.ring.specs.table.Rule.{IsWithinLimits}
+use Rattle.ring.specs.table.Rule.{IsWithinLimits, WentOn}
 use Rattle.ring.specs.sender.Senders.{SenderValue}
 use Rattle.engine.specs.Engines.{EngineValue}
 use Rattle.renewal.specs.Queues.{HasInIt, unknowing_senders, unknowing_consumer}
@@ -19,6 +19,7 @@ pub record FirstHaveMet (many : ℕ) (ring : RingValue) (old_senders senders : L
   pub senders_are : unknowing_senders senders ≡ unknowing_senders old_senders
   pub unit_is : new.unit ≡ old.unit
   pub consumer_is : unknowing_consumer new.consumer ≡ unknowing_consumer old.consumer
+  pub went_on : WentOn Consumer old.consumer.history new.consumer.history
   pub known : (k : ℕ) (s : SenderValue) → k < many → slice_get senders k ≡ Some s → HasInIt (Sender k) s.trail new.consumer.history
   pub size_is : 1 ≤ many → IsOfSize ring
 

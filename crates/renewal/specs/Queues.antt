@@ -3,10 +3,11 @@ use Rattle.std.specs.Prelude.{◌≡◌, ℕ, List, [], ◌∷◌, ◌++◌, map
 use Rattle.qindex.specs.declared.control.Control.{Control}
 use Rattle.qindex.specs.Indexes.{IsGeometry}
 use Rattle.ringcore.specs.declared.world.event.Who.{Who}
-use Rattle.ringcore.specs.declared.world.event.Who.TheVariants.{Sender}
+use Rattle.ringcore.specs.declared.world.event.Who.TheVariants.{Consumer, Sender}
 use Rattle.ringcore.specs.declared.world.event.Event.TheVariants.{Look}
 use Rattle.ringcore.specs.world.Trails.{Run, Trail, trail_of, looked}
 use Rattle.ringcore.specs.world.World.{world, control}
+use Rattle.ring.specs.table.Histories.{GrewBy}
 use Rattle.ring.specs.Finishing.{AreAll}
 use Rattle.ring.specs.sender.Senders.{SenderValue}
 use Rattle.ring.specs.consumer.Consumers.{ConsumerValue}
@@ -40,8 +41,8 @@ pub record HasInIt (who : Who) (trail : Trail) (run : Run) : Type 0 where
 
 -- ---- the look
 
--- It looked once, and found this, as it stood in the run that the engine knows from then on. That run has the trails of
--- all senders. But for this look, and for what each knows of the run, the queue is as it was.
+-- It looked once, and found this, as it stood in the run that the engine knows from then on. That run went on from the one
+-- that it knew before, and has the trails of all senders. But for this look, and for what each knows of the run, the queue is as it was.
 pub record HasLooked (old new : Queue) : Type 0 where
   pub found : Control
   pub found_is : found ≡ control old.ring.made_with.geometry (world new.engine.consumer.history)
@@ -49,6 +50,7 @@ pub record HasLooked (old new : Queue) : Type 0 where
   pub senders_are : unknowing_senders new.senders.items ≡ unknowing_senders old.senders.items
   pub unit_is : new.engine.unit ≡ old.engine.unit
   pub consumer_is : unknowing_consumer new.engine.consumer ≡ with_trail (unknowing_consumer old.engine.consumer) (Look found ∷ old.engine.consumer.trail)
+  pub grew : GrewBy Consumer (Look found) old.engine.consumer.history new.engine.consumer.history
   pub known : (k : ℕ) (s : SenderValue) → slice_get new.senders.items k ≡ Some s → HasInIt (Sender k) s.trail new.engine.consumer.history
 
 -- PROD and CONS stand at one place.

@@ -1,7 +1,6 @@
 //! A new queue with the entries of an old engine.
-ghost use Rattle.std.specs.Prelude.{◌≡◌, ◌≤◌, ◌<◌, ◌↔◌, [], ◌^◌, length, IfOk, IfErr, OnOk, Some, None};
+ghost use Rattle.std.specs.Prelude.{◌≡◌, ◌≤◌, [], length, IfOk, IfErr, OnOk};
 ghost use Rattle.caches.specs.Held.{held};
-ghost use Rattle.ringcore.specs.RingFaults.{IsNotMade, number_fault};
 ghost use Rattle.ring.specs.NewRings.{IsNewRing};
 ghost use Rattle.engine.specs.Units.{new_unit};
 ghost use Rattle.renewal.specs.Carried.{IsCarried, IsUncarried};

@@ -1,5 +1,5 @@
 //! Queues of two senders, in their parts.
-ghost use Rattle.std.specs.Prelude.{◌≡◌, IfOk, IfSome};
+ghost use Rattle.std.specs.Prelude.{IfOk, IfSome};
 ghost use Rattle.renewal.specs.Queues.{IsWhole};
 ghost use Rattle.renewal_tests.specs.Pairs.{ArePaired};
 

@@ -1,5 +1,4 @@
 //! A queue that isn't renewed goes on.
-ghost use Rattle.std.specs.Prelude.{◌≡◌, IfOk, MatchResult};
 ghost use Rattle.renewal_tests.specs.Pairs.{ArePaired};
 
 use crate::pairs::{Pair, fill, held, invalidation, new_pair, pair_of, queue_of, send_first, step};
@@ -67,7 +66,7 @@ fn a_command_that_stopped_the_engine_waits(rt: HostRuntime) -> Result<(), RingFa
     assert!(rt; matches!(step(&mut pair), RunAnswer::Stopped(_)));
     let (mut pair, label) = renewed(&rt, rt.alloc(), pair, SIZES);
     assert_eq!(rt; label, "W1");
-    // It is replaced, and so is the stop's error once the queue is renewed.
+    // Once it is replaced the queue is renewed, and the registers of its error begin anew.
     assert!(rt; pair.engine.acknowledge(1, Remedy::Replace).is_ok());
     assert!(rt; matches!(step(&mut pair), RunAnswer::Replaced(_)));
     let _ = step(&mut pair);

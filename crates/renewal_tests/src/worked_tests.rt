@@ -1,6 +1,4 @@
 //! A queue goes on in a new ring.
-ghost use Rattle.std.specs.Prelude.{◌≡◌};
-
 use crate::pairs::{fill, held, invalidation, new_pair, pair_of, queue_of, send_first, step};
 use engine::RunAnswer;
 use renewal::{Sizes, renew};
