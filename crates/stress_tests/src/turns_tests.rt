@@ -5,7 +5,7 @@ use std::thread::Threads;
 use stress::{Gate, Plan, run_all};
 
 /// How often something is looked at before it counts as never so.
-const LOOKS: u32 = 100_000_000;
+const LOOKS: u32 = 2_000_000_000;
 
 /// Waits a bounded time, and says whether it came to be so.
 fn comes_to_be(number: &AtomicU32, wanted: u32) -> bool {
