@@ -4,7 +4,7 @@ use std::sync::atomic::{AtomicBool, Ordering};
 use stress::{Gate, Plan, run_all};
 
 /// How often a flag is looked at before it counts as never set.
-const LOOKS: u32 = 100_000_000;
+const LOOKS: u32 = 2_000_000_000;
 
 /// The second batch of each of two senders waits, a bounded time, until the other has begun its second and the engine
 /// its second turn; the engine's first turn waits for both senders.
