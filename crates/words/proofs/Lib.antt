@@ -1,2 +1,0 @@
-pub mod AnswerLemmas
-pub mod TellingLemmas
