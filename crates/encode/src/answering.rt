@@ -1,7 +1,7 @@
 //! Lines that are commands' texts, as a kind of lines.
 ghost use Rattle.std.specs.Prelude.{◌≡◌, ◌++◌, ◌∷◌, [], IfOk, OnOk, string_bytes, codes};
 ghost use Rattle.hex.specs.Hex.{encode_lower};
-ghost use Rattle.encode.specs.LineAnswers.{answer_of, bad_command, raw_answer};
+ghost use Rattle.encode.specs.LineAnswers.{bad_command, raw_answer};
 
 use crate::line::encode_line;
 use cmdcodec::{Raw, to_bytes};
@@ -40,19 +40,6 @@ fn say_bad_command(reply: &mut String) -> Result<bool, AllocError>
     Ok(false)
 }
 
-/// Answers a line, and says whether it is a command's text or skipped.
-#[tactic(auto, unfolding(crate::specs::LineAnswers::answer_of))]
-fn say_line(alloc: Global, line: &[u8], reply: &mut String) -> Result<bool, AllocError>
-    ensures text { OnOk result (string_bytes reply.new ≡ string_bytes reply.old ++ (answer_of line.now).text) }
-    ensures good { IfOk result (λ is_good. is_good ≡ (answer_of line.now).is_good) }
-{
-    match encode_line(line) {
-        Ok(Some(raw)) => say_raw(alloc, raw, reply),
-        Ok(None) => Ok(true),
-        Err(_) => say_bad_command(reply),
-    }
-}
-
 /// Answers lines that are the text of a command each.
 #[derive(Drop)]
 pub(crate) struct TextLines {
@@ -70,7 +57,12 @@ impl AnswersLines for TextLines {
 
     ghost answer_of = { answer_of };
 
+    #[tactic(auto, unfolding(crate::specs::LineAnswers::answer_of))]
     fn say_line(&mut self, line: &[u8], reply: &mut String) -> Result<bool, AllocError> {
-        say_line(self.alloc, line, reply)
+        match encode_line(line) {
+            Ok(Some(raw)) => say_raw(self.alloc, raw, reply),
+            Ok(None) => Ok(true),
+            Err(_) => say_bad_command(reply),
+        }
     }
 }
