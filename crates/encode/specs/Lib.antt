@@ -6,8 +6,6 @@ pub mod Values
 pub mod Commands
 pub mod LineEncodings
 pub mod LineAnswers
-pub mod Answering
-pub mod AnsweringLaws
 pub mod Tellings
 pub mod ReadingLaws
 pub mod OrderLaws

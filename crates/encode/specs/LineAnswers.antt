@@ -1,21 +1,14 @@
--- What a line that is a command's text is answered with.
-use Rattle.std.specs.Prelude.{ℕ, List, [], ◌++◌, Bool, true, false, Option, Some, None, Result, Ok, Err, codes}
+-- What a line that is a command's text is answered with. The line is good where it is a command's text, or skipped.
+use Rattle.std.specs.Prelude.{ℕ, List, ◌++◌, true, false, Option, Some, None, Result, Ok, Err, codes}
 use Rattle.hex.specs.Hex.{encode_lower}
 use Rattle.cmdcodec.specs.declared.raw.Raw.{Raw}
 use Rattle.cmdcodec.specs.Bytes.{bytes_of}
+use Rattle.line_answers.specs.LineAnswers.{LineAnswer, skipped}
 use Rattle.encode.specs.LineEncodings.{LineFault, line_encoding}
-
--- What is written for a line, none for one that is skipped, and whether it is good: a command's text, or skipped.
-pub record LineAnswer : Type 0 where
-  pub text : List ℕ
-  pub is_good : Bool
 
 -- the bytes of the command as they lie in memory, two lower-case hexadecimal digits each
 abbrev pub raw_answer : Raw → LineAnswer
 raw_answer raw = record { text = encode_lower (bytes_of raw) ++ codes "\n"; is_good = true }
-
-abbrev pub skipped : LineAnswer
-skipped = record { text = []; is_good = true }
 
 abbrev pub bad_command : LineAnswer
 bad_command = record { text = codes "bad command\n"; is_good = false }

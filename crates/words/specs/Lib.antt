@@ -1,4 +1,2 @@
 pub mod LineAnswers
-pub mod Answering
-pub mod AnsweringLaws
 pub mod Tellings

@@ -1,22 +1,15 @@
--- What a line that brings a command is answered with.
-use Rattle.std.specs.Prelude.{ℕ, List, [], ◌∷◌, ◌++◌, ◌==◌, ◌||◌, Bool, true, false, Option, Some, None, codes, map, if◌then◌else◌}
+-- What a line that brings a command is answered with. The line is good where it is a legal command, or skipped.
+use Rattle.std.specs.Prelude.{ℕ, List, [], ◌∷◌, ◌++◌, ◌==◌, ◌||◌, Bool, false, Option, Some, None, codes, map, if◌then◌else◌}
 use Rattle.cmdcodec.specs.declared.raw.Raw.{Raw}
 use Rattle.script.specs.Words.{words_of, is_hex, number_of}
 use Rattle.script.specs.Fields.{is_comment, hex_of}
+use Rattle.line_answers.specs.LineAnswers.{LineAnswer, skipped}
 use Rattle.decode.specs.CommandText.{words_text}
 use Rattle.decode.specs.DecodeText.{decode_text}
-
--- What is written for a line, none for one that is skipped, and whether it is good: a legal command, or skipped.
-pub record LineAnswer : Type 0 where
-  pub text : List ℕ
-  pub is_good : Bool
 
 -- a text on a line of its own
 abbrev pub told : List ℕ × Bool → LineAnswer
 told said = record { text = said.0 ++ codes "\n"; is_good = said.1 }
-
-abbrev pub skipped : LineAnswer
-skipped = record { text = []; is_good = true }
 
 abbrev pub bad_line : LineAnswer
 bad_line = told (codes "bad line", false)

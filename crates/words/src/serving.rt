@@ -1,9 +1,9 @@
 //! `words` from any reader to any writer.
-ghost use Rattle.std.specs.Prelude.{◌≡◌};
-ghost use Rattle.words.specs.Tellings.{TellsOfWords, judged};
+ghost use Rattle.words.specs.Tellings.{TellsOfWords};
 
-use crate::answering::Answering;
-use script::{Status, serve, status_of};
+use crate::answering::WordLines;
+use line_answers::answer_lines;
+use script::Status;
 use std::alloc::Global;
 use std::io::{Read, Write};
 
@@ -14,23 +14,5 @@ use std::io::{Read, Write};
 pub fn words<R: Read, W: Write>(alloc: Global, input: &mut R, output: &mut W) -> Status
     ensures { TellsOfWords result (R.remaining input.old) (R.remaining input.new) (W.contents output.old) (W.contents output.new) }
 {
-    let mut answering = Answering::new(alloc);
-    let served = serve(alloc, &mut answering, input, output);
-    judged(status_of(&served), answering.all_good())
-}
-
-/// The status of a run in which all lines were good, or one at least wasn't.
-fn judged(status: Status, all_good: bool) -> Status
-    ensures { result ≡ judged status all_good }
-{
-    match status {
-        Status::Good => {
-            if all_good {
-                Status::Good
-            } else {
-                Status::Refused
-            }
-        }
-        other => other,
-    }
+    answer_lines(alloc, WordLines::new(alloc), input, output)
 }

@@ -1,0 +1,4 @@
+pub mod LineAnswers
+pub mod Answering
+pub mod AnsweringLaws
+pub mod Tellings

@@ -1,0 +1,35 @@
+-- What the status of a run says. `answer_of` says what a line is answered with.
+use Rattle.std.specs.Prelude.{◌≡◌, ℕ, List, Bool, true, false, if◌then◌else◌, Option, IfSome, ◌⊎◌}
+use Rattle.script.specs.declared.status.Status.{Status}
+use Rattle.script.specs.declared.status.Status.TheVariants.{Good, Refused, NoMemory, ReadFailed, WriteFailed, Endless}
+use Rattle.script.specs.Lines.{lines_of}
+use Rattle.script.specs.Statuses.{Tells, exit_status}
+use Rattle.line_answers.specs.LineAnswers.{LineAnswer}
+use Rattle.line_answers.specs.Answering.{Comes, all_good}
+
+-- It is refused where one line at least isn't good.
+abbrev pub judged : Status → Bool → Status
+judged Good all_good = if all_good then Good else Refused
+judged Refused all_good = Refused
+judged NoMemory all_good = NoMemory
+judged ReadFailed all_good = ReadFailed
+judged WriteFailed all_good = WriteFailed
+judged Endless all_good = Endless
+
+-- Of a reader that had this input and has `rest` left, and a writer that held `before` and holds `after`. Where all lines
+-- were served, it is good that each of them was; one line at least that wasn't is refused, and so is a line that ended the
+-- run.
+abbrev pub TellsOfLines : (List ℕ → LineAnswer) → Status → Option (List ℕ) → Option (List ℕ) → Option (List ℕ) → Option (List ℕ) → Type 0
+TellsOfLines answer_of Good input rest before after =
+    Tells (Comes answer_of) Good input rest before after × IfSome input (λ bytes. all_good answer_of (lines_of bytes) ≡ true)
+TellsOfLines answer_of Refused input rest before after =
+    (Tells (Comes answer_of) Good input rest before after × IfSome input (λ bytes. all_good answer_of (lines_of bytes) ≡ false))
+    ⊎ Tells (Comes answer_of) Refused input rest before after
+TellsOfLines answer_of NoMemory input rest before after = Tells (Comes answer_of) NoMemory input rest before after
+TellsOfLines answer_of ReadFailed input rest before after = Tells (Comes answer_of) ReadFailed input rest before after
+TellsOfLines answer_of WriteFailed input rest before after = Tells (Comes answer_of) WriteFailed input rest before after
+TellsOfLines answer_of Endless input rest before after = Tells (Comes answer_of) Endless input rest before after
+
+-- It ended with the exit status of a run.
+abbrev pub ExitsAsLines : (List ℕ → LineAnswer) → ℕ → Option (List ℕ) → Option (List ℕ) → Option (List ℕ) → Option (List ℕ) → Type 0
+ExitsAsLines answer_of exit input rest before after = (status : Status) × (exit ≡ exit_status status) × TellsOfLines answer_of status input rest before after

@@ -1,0 +1,59 @@
+//! What answers lines of a kind, one after another.
+ghost use Rattle.std.specs.Prelude.{◌≡◌, true};
+
+use crate::kind::AnswersLines;
+use script::Interpreter;
+use std::alloc::AllocError;
+
+/// Answers lines, and keeps whether all were good.
+#[derive(Drop)]
+pub(crate) struct Answering<K: AnswersLines> {
+    kind: K,
+    all_good: bool,
+}
+
+impl<K: AnswersLines> Answering<K> {
+    pub(crate) fn new(kind: K) -> Answering<K>
+        ensures { result.all_good ≡ true }
+    {
+        Answering {
+            kind,
+            all_good: true,
+        }
+    }
+
+    /// Whether each line so far was good.
+    pub(crate) fn all_good(&self) -> bool
+        ensures { result ≡ self.now.all_good }
+    {
+        self.all_good
+    }
+}
+
+impl<K: AnswersLines> Interpreter for Answering<K> {
+    ghost use Rattle.line_answers.specs.Answering.{Comes, all_good};
+    ghost use Rattle.line_answers.specs.AnsweringLaws as laws;
+
+    ghost gives = { λ answering number lines outcome. Comes K.answer_of number lines outcome };
+
+    ghost knows = { λ answering lines. answering.all_good ≡ all_good K.answer_of lines };
+
+    ghost nothing_left = { λ answering n. laws.nothing_left K.answer_of n };
+
+    ghost long_line = { λ answering n line lines long. laws.long_line K.answer_of n line lines long };
+
+    ghost begins = { λ answering n lines. laws.begins K.answer_of n lines };
+
+    ghost cut = { λ answering n lines outcome front rest comes split. laws.cut K.answer_of n lines outcome front rest comes split };
+
+    fn serve_line(
+        &mut self,
+        number: u64,
+        line: &[u8],
+        reply: &mut String,
+    ) -> Result<bool, AllocError> {
+        let is_good = self.kind.say_line(line, reply)?;
+        self.all_good = self.all_good && is_good;
+        Ok(true)
+    }
+}

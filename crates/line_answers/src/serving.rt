@@ -1,0 +1,41 @@
+//! Lines of a kind, answered from any reader to any writer.
+ghost use Rattle.std.specs.Prelude.{◌≡◌};
+ghost use Rattle.line_answers.specs.Tellings.{TellsOfLines, judged};
+
+use crate::answering::Answering;
+use crate::kind::AnswersLines;
+use script::{Status, serve, status_of};
+use std::alloc::Global;
+use std::io::{Read, Write};
+
+/// Reads lines and writes the answer to each. Says how it went; one line at least that isn't good is refused.
+///
+/// Each answer is written and flushed before the read that follows its line. A line of more than 4,096 bytes ends the run.
+pub fn answer_lines<K: AnswersLines, R: Read, W: Write>(
+    alloc: Global,
+    kind: K,
+    input: &mut R,
+    output: &mut W,
+) -> Status
+    ensures { TellsOfLines K.answer_of result (R.remaining input.old) (R.remaining input.new) (W.contents output.old) (W.contents output.new) }
+{
+    let mut answering = Answering::new(kind);
+    let served = serve(alloc, &mut answering, input, output);
+    judged(status_of(&served), answering.all_good())
+}
+
+/// The status of a run in which all lines were good, or one at least wasn't.
+fn judged(status: Status, all_good: bool) -> Status
+    ensures { result ≡ judged status all_good }
+{
+    match status {
+        Status::Good => {
+            if all_good {
+                Status::Good
+            } else {
+                Status::Refused
+            }
+        }
+        other => other,
+    }
+}
