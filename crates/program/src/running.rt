@@ -56,7 +56,7 @@ fn serve<'a, A: Threads + AllocGlobal + Sync, I: Read, O: Write>(
     input: &mut I,
     output: &mut Watched<O>,
 ) -> u8
-    ensures { ExitsAs subcommand result (I.remaining input.old) (I.remaining input.new) output.old output.new }
+    ensures { ExitsAs subcommand.entry result (I.remaining input.old) (I.remaining input.new) output.old output.new }
 {
     match subcommand {
         Subcommand::Replay => replay_to_exit(rt.alloc(), input, output),

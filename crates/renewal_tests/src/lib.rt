@@ -3,7 +3,6 @@
 
 #[cfg(test)]
 mod memory_tests;
-#[cfg(test)]
 mod pairs;
 #[cfg(test)]
 mod refusal_tests;
