@@ -1,11 +1,13 @@
 -- What is told of a stress run.
-use Rattle.std.specs.Prelude.{◌≡◌, ℕ, List, Result, Ok, Err, IfOk, IsOk, ◌⊎◌, codes}
+use Rattle.std.specs.Prelude.{◌≡◌, ℕ, List, Result, Ok, Err, IfOk, IsOk, ◌⊎◌, codes, ⊤}
 use Rattle.command_line.specs.declared.stress_numbers.StressNumbers.{StressNumbers}
+use Rattle.command_line.specs.declared.subcommand.Subcommand.{Subcommand}
+use Rattle.command_line.specs.declared.subcommand.Subcommand.TheVariants.{Stress}
 use Rattle.script.specs.Writing.{no_memory_line}
 use Rattle.script.specs.declared.status.Status.{Status}
 use Rattle.script.specs.declared.status.Status.TheVariants.{Good, Refused, NoMemory, ReadFailed, WriteFailed, Endless}
 use Rattle.script.specs.Statuses.{exit_status}
-use Rattle.stress.specs.Plans.{PlanValue}
+use Rattle.stress.specs.Plans.{IsPlan, PlanValue}
 use Rattle.stress.specs.Reports.{ReportValue, IsAsPlanned, IsOfARun, IsUnfinished}
 use Rattle.stress.specs.ReportText.{report_text}
 use Rattle.stress.specs.declared.fault.StressFault.{StressFault}
@@ -15,6 +17,11 @@ use Rattle.program.specs.Watching.{HasFailed, Seen, Tells}
 -- what these numbers plan
 abbrev pub plan_of : StressNumbers → PlanValue
 plan_of numbers = record { log2 = numbers.log2; senders = numbers.senders; batches = numbers.batches; turns = numbers.turns; every = numbers.bare }
+
+-- Where a stress run is asked for, its numbers are those of a plan.
+abbrev pub HasPlan : Subcommand → Type 0
+HasPlan (Stress numbers) = IsPlan (plan_of numbers)
+HasPlan other = ⊤
 
 -- A report has the numbers of the plan, and is that of a run of a ring with an engine.
 abbrev pub IsOfPlan : PlanValue → Result ReportValue StressFault → Type 0

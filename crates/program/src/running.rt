@@ -3,6 +3,7 @@ ghost use Rattle.std.specs.Prelude.{◌≡◌};
 ghost use Rattle.command_line.specs.CommandLine.{texts};
 ghost use Rattle.schedule.specs.Scheduling.{ExitsAsSchedule};
 ghost use Rattle.replay.specs.Replaying.{ExitsAsReplay};
+ghost use Rattle.program.specs.Stressing.{HasPlan};
 ghost use Rattle.program.specs.Program.{Decodes, ExitsAs, ExitsAsDecode, ExitsAsProgram};
 
 use crate::reading::{encode_to_exit, image_to_exit, words_to_exit};
@@ -56,6 +57,7 @@ fn serve<'a, A: Threads + AllocGlobal + Sync, I: Read, O: Write>(
     input: &mut I,
     output: &mut Watched<O>,
 ) -> u8
+    requires { HasPlan subcommand }
     ensures { ExitsAs subcommand.entry result (I.remaining input.old) (I.remaining input.new) output.old output.new }
 {
     match subcommand {
@@ -74,6 +76,7 @@ fn serve<'a, A: Threads + AllocGlobal + Sync, I: Read, O: Write>(
 ///
 /// The command line is judged before any input is read. Answers go to `output`, and what is wrong with
 /// the command line goes to `faults`, with a line for status 3 and 4.
+#[tactic(auto, using(crate::proofs::Plans::has_plan))]
 pub fn program<'a, A: Threads + AllocGlobal + Sync, I: Read, O: Write, F: Write>(
     rt: &A,
     words: &'a [&'a str],

@@ -1,4 +1,4 @@
-use Rattle.std.proofs.Common.{◌≡◌, inl, inr, refl, arith, codes}
+use Rattle.std.proofs.Common.{inr, refl, arith, codes}
 use Rattle.program.proofs.troubles.tell_stream.Goals as goal
 
 pub returns-in_default : goal.returns-in_default
