@@ -110,25 +110,26 @@ fn help(rt: HostRuntime) {
     expect_help(&rt, &["-V"], "smmuq 0.1.0 (rattle-kit-");
 }
 
-/// Runs the program on one word, where the read and the write of these numbers fail, and wants this status.
+/// Runs the program on one word, where the read and the write of these numbers fail, and wants this status, and what is
+/// told on standard error.
 fn expect_status<R: Threads + AllocGlobal + Abort + Sync>(
     rt: &R,
     word: &str,
     script: &str,
     bad: (usize, usize),
-    wanted: u8,
+    wanted: (u8, &str),
 ) {
     let ran = run(rt, &[word], script, bad);
-    let (status, _, is_silent) = ran.told();
-    assert_eq!(rt; (status, is_silent), (wanted, true), "{script}");
+    assert_eq!(rt; (ran.status, ran.faults.inner().text()), wanted, "{script}");
 }
 
 #[test]
 fn exit_statuses(rt: HostRuntime) {
-    expect_status(&rt, "replay", "ring 3 1 4 4\n", (0, 0), 0);
-    // A script that is refused, a read that fails, a write that fails, and help that can't be written.
-    expect_status(&rt, "replay", "dump\n", (0, 0), 1);
-    expect_status(&rt, "replay", "ring 3 1 4 4\n", (1, 0), 4);
-    expect_status(&rt, "replay", "ring 3 1 4 4\n", (0, 1), 4);
-    expect_status(&rt, "--help", "", (0, 1), 4);
+    expect_status(&rt, "replay", "ring 3 1 4 4\n", (0, 0), (0, ""));
+    // A script that is refused, a read that fails, a pipe that is closed, and help that goes to one.
+    expect_status(&rt, "replay", "dump\n", (0, 0), (1, ""));
+    let unread = "smmuq: standard input: it couldn't be read\n";
+    expect_status(&rt, "replay", "ring 3 1 4 4\n", (1, 0), (4, unread));
+    expect_status(&rt, "replay", "ring 3 1 4 4\n", (0, 1), (4, ""));
+    expect_status(&rt, "--help", "", (0, 1), (4, ""));
 }

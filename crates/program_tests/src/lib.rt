@@ -14,6 +14,8 @@ mod decoding_tests;
 #[cfg(test)]
 mod program_caller;
 #[cfg(test)]
+mod reading_tests;
+#[cfg(test)]
 mod replaying_tests;
 #[cfg(test)]
 mod running;

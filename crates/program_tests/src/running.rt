@@ -34,7 +34,7 @@ impl Ran {
 }
 
 // The theorem isn't passed on, since it would be dear in each test.
-fn status_of<'a, A: Threads + AllocGlobal + Sync, I: Read, O: Write, F: Write>(
+pub fn status_of<'a, A: Threads + AllocGlobal + Sync, I: Read, O: Write, F: Write>(
     rt: &A,
     words: &'a [&'a str],
     input: &mut I,

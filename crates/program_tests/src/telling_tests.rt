@@ -1,5 +1,5 @@
 //! What is told where nothing is asked for, and that what is told is flushed.
-use crate::running::{PIPE, run};
+use crate::running::{PIPE, run, status_of};
 use fake_streams::Sink;
 use program::{Watched, tell_of_memory, tell_without_words};
 use std::io;
@@ -74,4 +74,27 @@ fn a_watched_writer_hands_on_what_it_is_given(rt: HostRuntime) {
     assert_eq!(rt; output.inner().flushes, 0);
     assert!(rt; output.flush().is_ok());
     assert_eq!(rt; output.inner().flushes, 1);
+}
+
+/// A write that fails is told of elsewhere, with the system's text.
+#[test]
+fn a_write_that_fails_is_told(rt: HostRuntime) {
+    let mut input = "ring 3 1 4 4\n".as_bytes();
+    let mut output = Watched::new(Sink::new(100, 1, ErrorKind::PermissionDenied));
+    let mut faults = Watched::new(Sink::new(100, 0, PIPE));
+    let status = status_of(&rt, &["replay"], &mut input, &mut output, &mut faults);
+    assert_eq!(rt; status, 4);
+    let told = faults.inner().text();
+    assert!(rt; told.starts_with("smmuq: standard output: "), "{told}");
+    assert!(rt; told.ends_with("\n") && told.len() > 30, "{told}");
+}
+
+/// And where that can't be told, the status is the same.
+#[test]
+fn a_write_that_fails_where_nobody_listens(rt: HostRuntime) {
+    let mut input = "ring 3 1 4 4\n".as_bytes();
+    let mut output = Watched::new(Sink::new(100, 1, ErrorKind::PermissionDenied));
+    let mut faults = Watched::new(Sink::new(100, 1, PIPE));
+    let status = status_of(&rt, &["replay"], &mut input, &mut output, &mut faults);
+    assert_eq!(rt; status, 4);
 }

@@ -1,59 +1,49 @@
 //! Allocations that fail.
-ghost use Rattle.renewal.specs.Queues.{IsWhole};
-
-use crate::pairs::{fill, held, new_pair, pair_of, queue_of};
+use crate::pairs::{Pair, fill, held, new_pair, renewed};
 use caches::CacheFault;
-use renewal::{Queue, Refused, RenewalFault, Sizes, renew};
+use renewal::{RenewalFault, Sizes};
 use ring::RingFault;
 use std::alloc::Global;
 use std::process::Abort;
 
-/// Whether the queue holds the three entries, each born 0.
-fn holds_all(queue: Queue) -> bool
-    requires { IsWhole queue }
-{
-    let Some(pair) = pair_of(queue) else {
-        return false;
-    };
+/// Whether the three entries are held, each born 0.
+fn holds_all(pair: &Pair) -> bool {
     (5..8u32).all(|page| held(&pair.engine, page) == Some((u64::from(page), 0)))
 }
 
-fn told_if(right: bool, outcome: &'static str) -> &'static str {
-    if right { outcome } else { "wrong" }
-}
+const SIZES: Sizes = Sizes {
+    log2: 3,
+    max_batches: 5,
+    capacity: 3,
+};
 
-/// Renews a queue that came back as memory ran out, and says how it went.
-fn again(alloc: Global, refused: Refused, sizes: Sizes) -> &'static str
-    requires { IsWhole refused.queue }
-{
-    match refused.fault {
-        RenewalFault::Ring(RingFault::Memory(_)) | RenewalFault::Caches(CacheFault::NoMemory) => {
-            match renew(alloc, refused.queue, sizes) {
-                Ok(renewed) => told_if(holds_all(renewed.queue), "refused"),
-                Err(_) => "wrong",
-            }
-        }
-        _ => "wrong",
-    }
+fn is_memory(fault: RenewalFault) -> bool {
+    matches!(
+        fault,
+        RenewalFault::Ring(RingFault::Memory(_)) | RenewalFault::Caches(CacheFault::NoMemory)
+    )
 }
 
 /// Renews a queue of three entries and says how it went. Where memory runs out the queue comes back, and is renewed then.
 fn outcome(rt: &impl Abort, alloc: Global) -> &'static str {
-    let sizes = Sizes {
-        log2: 3,
-        max_batches: 5,
-        capacity: 3,
-    };
     let Ok(mut pair) = new_pair(alloc, 100) else {
         return "refused";
     };
     if !(fill(&mut pair, 5, 5) && fill(&mut pair, 6, 6) && fill(&mut pair, 7, 7)) {
         return "refused";
     }
-    let queue = queue_of(pair).expect(rt, "room for both");
-    match renew(alloc, queue, sizes) {
-        Ok(renewed) => told_if(holds_all(renewed.queue), "whole"),
-        Err(refused) => again(alloc, refused, sizes),
+    let (pair, told) = renewed(alloc, pair, SIZES).expect(rt, "room for both");
+    match told {
+        Ok(_) if holds_all(&pair) => "whole",
+        Err(fault) if is_memory(fault) => {
+            let (pair, told) = renewed(alloc, pair, SIZES).expect(rt, "room for both");
+            if told.is_ok() && holds_all(&pair) {
+                "refused"
+            } else {
+                "wrong"
+            }
+        }
+        _ => "wrong",
     }
 }
 

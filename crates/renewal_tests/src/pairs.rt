@@ -6,8 +6,8 @@ ghost use Rattle.renewal_tests.specs.Pairs.{ArePaired};
 use batch::Batch;
 use caches::{Caches, Entry, Scope, Tag};
 use cmdcodec::{Asid, Page, Vmid};
-use engine::{Engine, RunAnswer};
-use renewal::Queue;
+use engine::{Engine, Finished, RunAnswer};
+use renewal::{Queue, RenewalFault, Sizes, renew};
 use ring::{Receipt, Ring, RingFault, Sender};
 use std::alloc::{AllocError, Global};
 
@@ -59,7 +59,7 @@ pub fn new_pair(alloc: Global, max_batches: u32) -> Result<Pair, RingFault>
 }
 
 /// The queue of these parts.
-pub fn queue_of(pair: Pair) -> Result<Queue, AllocError>
+fn queue_of(pair: Pair) -> Result<Queue, AllocError>
     requires { ArePaired pair }
     ensures { IfOk result IsWhole }
 {
@@ -80,7 +80,7 @@ pub fn queue_of(pair: Pair) -> Result<Queue, AllocError>
 }
 
 /// The parts of a queue, where it has two senders.
-pub fn pair_of(queue: Queue) -> Option<Pair>
+fn pair_of(queue: Queue) -> Option<Pair>
     requires { IsWhole queue }
     ensures { IfSome result ArePaired }
 {
@@ -101,6 +101,26 @@ pub fn pair_of(queue: Queue) -> Option<Pair>
         spare: senders,
         engine,
     })
+}
+
+/// What became of a queue of two: what is left of the old one, or why it isn't renewed, and the parts of the one that
+/// goes on. None where there was no memory to hand it in.
+pub fn renewed(
+    alloc: Global,
+    pair: Pair,
+    sizes: Sizes,
+) -> Option<(Pair, Result<Finished, RenewalFault>)>
+    requires { ArePaired pair }
+    ensures { IfSome result (λ r. ArePaired r.0) }
+{
+    let Ok(queue) = queue_of(pair) else {
+        return None;
+    };
+    // The theorem isn't passed on, since it would be dear in each test.
+    match renew(alloc, queue, sizes) {
+        Ok(renewed) => Some((pair_of(renewed.queue)?, Ok(renewed.old))),
+        Err(refused) => Some((pair_of(refused.queue)?, Err(refused.fault))),
+    }
 }
 
 /// The first sender sends a batch: its receipt, or the label of the refusal.

@@ -1,12 +1,12 @@
 //! A queue that isn't renewed goes on.
 ghost use Rattle.renewal_tests.specs.Pairs.{ArePaired};
 
-use crate::pairs::{Pair, fill, held, invalidation, new_pair, pair_of, queue_of, send_first, step};
+use crate::pairs::{Pair, fill, held, invalidation, new_pair, renewed, send_first, step};
 use batch::Batch;
 use caches::CacheFault;
 use cmdcodec::Raw;
 use engine::{Remedy, RunAnswer};
-use renewal::{RenewalFault, Sizes, renew};
+use renewal::{RenewalFault, Sizes};
 use ring::RingFault;
 use std::alloc::Global;
 use std::process::Abort;
@@ -19,17 +19,14 @@ const SIZES: Sizes = Sizes {
 };
 
 /// Renews a queue of two: its parts, and the label of the refusal, or none.
-fn renewed(rt: &impl Abort, alloc: Global, pair: Pair, sizes: Sizes) -> (Pair, &'static str)
+fn label_of(rt: &impl Abort, alloc: Global, pair: Pair, sizes: Sizes) -> (Pair, &'static str)
     requires { ArePaired pair }
     ensures { ArePaired result.0 }
 {
-    let queue = queue_of(pair).expect(rt, "memory");
-    match renew(alloc, queue, sizes) {
-        Ok(renewed) => (pair_of(renewed.queue).expect(rt, "two senders"), "none"),
-        Err(refused) => {
-            let label = refused.fault.label();
-            (pair_of(refused.queue).expect(rt, "two senders"), label)
-        }
+    let (pair, told) = renewed(alloc, pair, sizes).expect(rt, "two senders");
+    match told {
+        Ok(_) => (pair, "none"),
+        Err(fault) => (pair, fault.label()),
     }
 }
 
@@ -40,7 +37,7 @@ fn a_batch_that_is_not_taken_waits(rt: HostRuntime) -> Result<(), RingFault> {
     let batch = invalidation(5).expect(&rt, "a batch");
     let (pair, told) = send_first(pair, &batch);
     assert!(rt; told.is_ok());
-    let (mut pair, label) = renewed(&rt, rt.alloc(), pair, SIZES);
+    let (mut pair, label) = label_of(&rt, rt.alloc(), pair, SIZES);
     assert_eq!(rt; label, "W1");
     // The queue works on: what was sent is taken, and its sender is told.
     assert!(rt; pair.first.done_up_to(&pair.ring) == 0);
@@ -50,7 +47,7 @@ fn a_batch_that_is_not_taken_waits(rt: HostRuntime) -> Result<(), RingFault> {
     };
     assert_eq!(rt; step(&mut pair), applied);
     assert!(rt; pair.first.done_up_to(&pair.ring) == 1);
-    let (pair, label) = renewed(&rt, rt.alloc(), pair, SIZES);
+    let (pair, label) = label_of(&rt, rt.alloc(), pair, SIZES);
     assert_eq!(rt; label, "none");
     assert!(rt; held(&pair.engine, 5).is_none() && held(&pair.engine, 6).is_some());
     Ok(())
@@ -64,14 +61,14 @@ fn a_command_that_stopped_the_engine_waits(rt: HostRuntime) -> Result<(), RingFa
     let (mut pair, told) = send_first(pair, &batch);
     assert!(rt; told.is_ok());
     assert!(rt; matches!(step(&mut pair), RunAnswer::Stopped(_)));
-    let (mut pair, label) = renewed(&rt, rt.alloc(), pair, SIZES);
+    let (mut pair, label) = label_of(&rt, rt.alloc(), pair, SIZES);
     assert_eq!(rt; label, "W1");
     // Once it is replaced the queue is renewed, and the registers of its error begin anew.
     assert!(rt; pair.engine.acknowledge(1, Remedy::Replace).is_ok());
     assert!(rt; matches!(step(&mut pair), RunAnswer::Replaced(_)));
     let _ = step(&mut pair);
     assert_eq!(rt; pair.engine.error(), (0, 1, 1));
-    let (pair, label) = renewed(&rt, rt.alloc(), pair, SIZES);
+    let (pair, label) = label_of(&rt, rt.alloc(), pair, SIZES);
     assert_eq!(rt; (label, pair.engine.error()), ("none", (0, 0, 0)));
     Ok(())
 }
@@ -99,7 +96,7 @@ fn sizes_that_do_not_serve(rt: HostRuntime) -> Result<(), RingFault> {
             max_batches,
             capacity,
         };
-        let (after, label) = renewed(&rt, rt.alloc(), pair, sizes);
+        let (after, label) = label_of(&rt, rt.alloc(), pair, sizes);
         pair = after;
         assert_eq!(rt; label, wanted, "{log2} {max_batches} {capacity}");
         for (page, value) in [(5, 70), (6, 71), (7, 72)] {

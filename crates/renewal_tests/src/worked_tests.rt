@@ -1,7 +1,7 @@
 //! A queue goes on in a new ring.
-use crate::pairs::{fill, held, invalidation, new_pair, pair_of, queue_of, send_first, step};
+use crate::pairs::{fill, held, invalidation, new_pair, renewed, send_first, step};
 use engine::RunAnswer;
-use renewal::{Sizes, renew};
+use renewal::Sizes;
 use ring::RingFault;
 
 #[test]
@@ -19,20 +19,16 @@ fn entries_live_on_and_numbers_begin_anew(rt: HostRuntime) -> Result<(), RingFau
     assert_eq!(rt; step(&mut pair), applied);
     assert!(rt; fill(&mut pair, 7, 72));
     assert_eq!(rt; held(&pair.engine, 7), Some((72, 2)));
-    let queue = queue_of(pair).expect(&rt, "memory");
     // A smaller ring and smaller caches serve too.
     let sizes = Sizes {
         log2: 3,
         max_batches: 2,
         capacity: 3,
     };
-    let Ok(renewed) = renew(rt.alloc(), queue, sizes) else {
-        panic!(rt; "nothing waits");
-    };
-    let old = renewed.old;
+    let (mut pair, old) = renewed(rt.alloc(), pair, sizes).expect(&rt, "two senders");
+    let old = old.expect(&rt, "nothing waits");
     assert_eq!(rt; (old.summary.reserved(), old.summary.taken()), (2, 2));
     assert_eq!(rt; (old.counts.applied(), old.caches.len()), (2, 3));
-    let mut pair = pair_of(renewed.queue).expect(&rt, "two senders");
     assert_eq!(rt; pair.engine.counts().taken(), 0);
     for (page, value) in [(5, 70), (6, 71), (7, 72)] {
         assert_eq!(rt; held(&pair.engine, page), Some((value, 0)));
@@ -72,11 +68,9 @@ fn a_sender_goes_on_past_its_last_batch(rt: HostRuntime) -> Result<(), RingFault
         let (mut sent, told) = send_first(sent, &batch);
         assert_eq!(rt; told.map(|receipt| receipt.number()), Err("Q5"));
         let _ = step(&mut sent);
-        let queue = queue_of(sent).expect(&rt, "memory");
-        let Ok(renewed) = renew(rt.alloc(), queue, sizes) else {
-            panic!(rt; "nothing waits");
-        };
-        pair = pair_of(renewed.queue).expect(&rt, "two senders");
+        let (next, old) = renewed(rt.alloc(), sent, sizes).expect(&rt, "two senders");
+        assert!(rt; old.is_ok());
+        pair = next;
         assert_eq!(rt; held(&pair.engine, 9), Some((value, 0)));
     }
     Ok(())

@@ -1,0 +1,30 @@
+//! Lines and images that are read, from the command line on.
+use crate::running::run;
+
+#[test]
+fn lines_of_words(rt: HostRuntime) {
+    let lines = "12302000010002000004010000000000\n0x2800000008 0x0\n";
+    let ran = run(&rt, &["words"], lines, (0, 0));
+    let text = "TLBI_NH_VA vmid=1 asid=2 leaf=0 addr=0x10000 tg=1 num=3 scale=2\n\
+                illegal ILL1: unknown opcode\n";
+    assert_eq!(rt; ran.told(), (1, text, true));
+}
+
+#[test]
+fn lines_of_text(rt: HostRuntime) {
+    let lines = "TLBI_NH_ASID asid=2 vmid=1\n# nothing\nTLBI_NH_ASID vmid=1\n";
+    let ran = run(&rt, &["encode"], lines, (0, 0));
+    let text = "11000000010002000000000000000000\nbad command\n";
+    assert_eq!(rt; ran.told(), (1, text, true));
+}
+
+#[test]
+fn the_memory_of_a_queue(rt: HostRuntime) {
+    let command = "\x03\0\0\0\x05\0\0\0\x01\0\0\0\0\0\0\0";
+    let memory = format!(in rt.alloc(); "{command}{command}").expect(&rt, "memory");
+    let words = ["image", "--log2", "1", "--prod", "1", "--cons", "0"];
+    let ran = run(&rt, &words, memory.as_str(), (0, 0));
+    let text = "size 2\nprod 0x00000001\ncons 0x00000000\nerr 0\nwaiting 1\n\
+                slot 0 wrap 0 CFGI_STE sid=5 leaf=1\n";
+    assert_eq!(rt; ran.told(), (0, text, true));
+}
