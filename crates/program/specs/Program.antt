@@ -51,7 +51,7 @@ pub record ExitsAsAsked (words : List Text) (exit : ℕ) (input rest : Option (L
   pub subcommand : Subcommand
   pub asked : AskFor words subcommand
   pub done : ExitsAs subcommand exit input rest before after
-  pub troubles : TellsTrouble exit faults_before faults_after
+  pub troubles : TellsTrouble exit after faults_before faults_after
 
 -- Memory ran out over the words, or they ask for help, or they have a fault; nothing was read, and that was told.
 pub record ExitsAsMisunderstood (words : List Text) (exit : ℕ) (input rest : Option (List ℕ)) (before after faults_before faults_after : Seen) : Type 0 where

@@ -17,8 +17,8 @@ IsHelp kind = (kind ≡ DisplayHelp) ⊎ (kind ≡ DisplayVersion)
 -- Why words ask for nothing was told: that memory ran out by its line, help among the answers, and a fault elsewhere, with
 -- status 2. Of memory, and of a write that failed, there is a line elsewhere too.
 pub record ExitsAsTold (why : MisunderstoodValue) (exit : ℕ) (before after faults_before faults_after : Seen) : Type 0 where
-  pub memory : why.kind ≡ OutOfMemory → TellsWith 3 no_memory_line exit before after × TellsTrouble exit faults_before faults_after
-  pub help : IsHelp why.kind → TellsWith 0 (line_of why.text) exit before after × TellsTrouble exit faults_before faults_after
+  pub memory : why.kind ≡ OutOfMemory → TellsWith 3 no_memory_line exit before after × TellsTrouble exit after faults_before faults_after
+  pub help : IsHelp why.kind → TellsWith 0 (line_of why.text) exit before after × TellsTrouble exit after faults_before faults_after
   pub fault : why.kind ≢ OutOfMemory → ¬ IsHelp why.kind → TellsWith 2 (line_of why.text) exit faults_before faults_after × (after ≡ before)
 
 -- what is told of a word that is no text
@@ -27,5 +27,5 @@ not_utf8_line = codes "error: a word of the command line isn't UTF-8\n"
 
 -- Why there are no words was told: that memory ran out, or else that one of them is no text.
 pub record ExitsWithoutWords (why : IoErrorKind) (exit : ℕ) (before after faults_before faults_after : Seen) : Type 0 where
-  pub memory : why ≡ IoOutOfMemory → TellsWith 3 no_memory_line exit before after × TellsTrouble exit faults_before faults_after
+  pub memory : why ≡ IoOutOfMemory → TellsWith 3 no_memory_line exit before after × TellsTrouble exit after faults_before faults_after
   pub fault : why ≢ IoOutOfMemory → TellsWith 2 not_utf8_line exit faults_before faults_after × (after ≡ before)

@@ -1,5 +1,5 @@
 -- What is told on standard error of a run that memory, a read or a write ended.
-use Rattle.std.specs.Prelude.{◌≡◌, ◌≢◌, ℕ, List, ◌++◌, ◌⊎◌, codes}
+use Rattle.std.specs.Prelude.{◌≡◌, ◌≢◌, ℕ, List, ◌++◌, ◌⊎◌, codes, true, false}
 use Rattle.program.specs.Watching.{HasFailed, Seen, Tells}
 
 -- The line was told there, or a call of the writer failed, which changes no status.
@@ -13,9 +13,19 @@ out_of_memory_line = codes "smmuq: out of memory\n"
 abbrev pub stream_line : List ℕ → List ℕ → List ℕ
 stream_line stream cause = codes "smmuq: " ++ stream ++ codes ": " ++ cause ++ codes "\n"
 
--- By the exit status of the run: that memory ran out; or which stream failed and why, but nothing of a pipe that was closed,
--- or where there is no memory for that text; and nothing of any other status.
-pub record TellsTrouble (exit : ℕ) (before after : Seen) : Type 0 where
+abbrev pub unread_line : List ℕ
+unread_line = stream_line (codes "standard input") (codes "it couldn't be read")
+
+-- Why standard output failed was told, or there was no memory for the system's text.
+abbrev pub IsToldOfOutput : Seen → Seen → Type 0
+IsToldOfOutput before after =
+    (after ≡ before) ⊎ ((cause : List ℕ) × IsTried before after (stream_line (codes "standard output") cause))
+
+-- By the exit status of a run, and by what its output came to: that memory ran out; that the input wasn't read, where no
+-- write failed; why a write failed, but nothing of a pipe that was closed at its other end; and nothing of any other status.
+pub record TellsTrouble (exit : ℕ) (output before after : Seen) : Type 0 where
   pub memory : exit ≡ 3 → IsTried before after out_of_memory_line
-  pub stream : exit ≡ 4 → (after ≡ before) ⊎ ((name : List ℕ) × (cause : List ℕ) × IsTried before after (stream_line name cause))
+  pub unread : exit ≡ 4 → output.has_failed ≡ false → IsTried before after unread_line
+  pub unwritten : exit ≡ 4 → output.has_failed ≡ true → output.is_closed ≡ false → IsToldOfOutput before after
+  pub closed : exit ≡ 4 → output.has_failed ≡ true → output.is_closed ≡ true → after ≡ before
   pub silent : exit ≢ 3 → exit ≢ 4 → after ≡ before

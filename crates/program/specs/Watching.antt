@@ -1,18 +1,27 @@
 -- What is seen of a writer, and of what was told by it.
-use Rattle.std.specs.Prelude.{◌≡◌, ℕ, Bool, true, List, ◌⊎◌, Option, Result, MatchResult}
+use Rattle.std.specs.Prelude.{◌≡◌, ◌↔◌, ℕ, Bool, true, List, ◌⊎◌, Option, Result, MatchResult}
 use Rattle.std.specs.Io.KnownBytes.{Appends}
+use Rattle.std.specs.IoError.{error_kind}
+use Rattle.std.specs.declared.io.Error.{Error}
+use Rattle.std.specs.declared.io.ErrorKind.TheVariants.{BrokenPipe}
 
--- the bytes that it holds, where they are known, whether a call of it failed, and whether it was flushed since it was
--- last written to
+-- the bytes that it holds, where they are known, whether a call of it failed, whether the newest that failed did so since
+-- the other end was closed, and whether it was flushed since it was last written to
 pub record Seen : Type 0 where
   pub bytes : Option (List ℕ)
   pub has_failed : Bool
+  pub is_closed : Bool
   pub is_flushed : Bool
 
--- A call that fails is noted, and else whether it leaves the writer flushed.
-abbrev pub Notes : {T E : Type 0} → Bool → Seen → Seen → Result T E → Type 0
+abbrev pub NotesFailure : Seen → Error → Type 0
+NotesFailure after why = (after.has_failed ≡ true) × ((after.is_closed ≡ true) ↔ (error_kind why ≡ BrokenPipe))
+
+-- A call that fails is noted with its kind, and else whether it leaves the writer flushed.
+abbrev pub Notes : {T : Type 0} → Bool → Seen → Seen → Result T Error → Type 0
 Notes flushed before after result =
-    MatchResult result (λ _. (after.has_failed ≡ before.has_failed) × (after.is_flushed ≡ flushed)) (λ _. after.has_failed ≡ true)
+    MatchResult result
+    (λ _. (after.has_failed ≡ before.has_failed) × (after.is_closed ≡ before.is_closed) × (after.is_flushed ≡ flushed))
+    (NotesFailure after)
 
 -- The text was written, and flushed.
 abbrev pub Tells : Seen → Seen → List ℕ → Type 0

@@ -62,7 +62,7 @@ fn tell_both_of_memory<O: Write, F: Write>(
     faults: &mut Watched<F>,
 ) -> u8
     ensures told { TellsWith 3 no_memory_line result output.old output.new }
-    ensures trouble { TellsTrouble result faults.old faults.new }
+    ensures trouble { TellsTrouble result output.new faults.old faults.new }
 {
     let exit = tell_of_memory(output).exit_status();
     tell_trouble(alloc, exit, output, faults);
@@ -76,7 +76,7 @@ fn tell_help<O: Write, F: Write>(
     faults: &mut Watched<F>,
 ) -> u8
     ensures told { TellsWith 0 (line_of text.now) result output.old output.new }
-    ensures trouble { TellsTrouble result faults.old faults.new }
+    ensures trouble { TellsTrouble result output.new faults.old faults.new }
 {
     let exit = tell_line(text, Status::Good.exit_status(), output);
     tell_trouble(alloc, exit, output, faults);

@@ -1,6 +1,6 @@
 //! What is told on standard error of a run that memory, a read or a write ended.
-ghost use Rattle.std.specs.Prelude.{◌≡◌, ◌⊎◌, OnErr, OnOk};
-ghost use Rattle.program.specs.Troubles.{IsTried, TellsTrouble, stream_line};
+ghost use Rattle.std.specs.Prelude.{OnErr, OnOk};
+ghost use Rattle.program.specs.Troubles.{IsToldOfOutput, IsTried, TellsTrouble, out_of_memory_line, stream_line};
 ghost use Rattle.program.specs.Watching.{HasFailed, Tells};
 
 use crate::telling::{print, print_line};
@@ -8,7 +8,7 @@ use crate::watched::Watched;
 use script::Status;
 use std::alloc::Global;
 use std::io;
-use std::io::{ErrorKind, Write};
+use std::io::Write;
 
 fn print_stream<F: Write>(stream: &str, cause: &str, faults: &mut Watched<F>) -> io::Result<()>
     ensures ok { OnOk result (Tells faults.old faults.new (stream_line stream.now cause.now)) }
@@ -29,27 +29,35 @@ fn try_stream<F: Write>(stream: &str, cause: &str, faults: &mut Watched<F>)
     }
 }
 
+/// Tells that memory ran out.
 fn try_memory<F: Write>(faults: &mut Watched<F>)
-    ensures { TellsTrouble 3 faults.old faults.new }
+    ensures { IsTried faults.old faults.new out_of_memory_line }
 {
     match print_line("smmuq: out of memory", faults) {
         Ok(()) | Err(_) => {}
     }
 }
 
-/// Tells of the stream that failed: of standard output why, but for a pipe that was closed at its other end.
-fn tell_stream<O: Write, F: Write>(alloc: Global, output: &Watched<O>, faults: &mut Watched<F>)
-    ensures { TellsTrouble 4 faults.old faults.new }
+/// Tells why standard output failed, where there is memory for the system's text.
+fn try_output<F: Write>(alloc: Global, why: &io::Error, faults: &mut Watched<F>)
+    ensures { IsToldOfOutput faults.old faults.new }
 {
-    let Some(why) = output.failure() else {
-        try_stream("standard input", "it couldn't be read", faults);
-        return;
-    };
-    if why.kind() == ErrorKind::BrokenPipe {
-        return;
-    }
     if let Ok(cause) = format!(in alloc; "{why}") {
         try_stream("standard output", cause.as_str(), faults);
+    }
+}
+
+/// Tells of the stream that failed: of standard output why, but for a pipe that was closed at its other end.
+fn tell_stream<O: Write, F: Write>(alloc: Global, output: &Watched<O>, faults: &mut Watched<F>)
+    ensures { TellsTrouble 4 output.now faults.old faults.new }
+{
+    match output.failure() {
+        None => try_stream("standard input", "it couldn't be read", faults),
+        Some(why) => {
+            if !output.is_closed() {
+                try_output(alloc, why, faults);
+            }
+        }
     }
 }
 
@@ -60,7 +68,7 @@ pub(crate) fn tell_trouble<O: Write, F: Write>(
     output: &Watched<O>,
     faults: &mut Watched<F>,
 )
-    ensures { TellsTrouble exit faults.old faults.new }
+    ensures { TellsTrouble exit output.now faults.old faults.new }
 {
     if exit == Status::NoMemory.exit_status() {
         try_memory(faults);

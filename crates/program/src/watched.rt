@@ -1,9 +1,9 @@
 //! A writer that notes what its calls came to.
-ghost use Rattle.std.specs.Prelude.{◌≡◌, false, true};
+ghost use Rattle.std.specs.Prelude.{◌≡◌, false, is_some, true};
 ghost use Rattle.program.specs.Watching.{Notes};
 
 use std::io;
-use std::io::Write;
+use std::io::{ErrorKind, Write};
 use std::marker::Model;
 
 /// Hands what it is given on to another writer. It notes whether a call of that failed, and whether it was flushed since
@@ -13,6 +13,8 @@ pub struct Watched<W: Write> {
     inner: W,
     /// The newest call that failed, why.
     failure: Option<io::Error>,
+    /// Whether that was since the other end was closed.
+    is_closed: bool,
     is_flushed: bool,
 }
 
@@ -22,7 +24,7 @@ impl<W: Write> Model for Watched<W> {
 
     ghost Value = { Seen };
 
-    ghost view = { λ w. record { bytes = W.contents w.inner; has_failed = is_some w.failure; is_flushed = w.is_flushed } };
+    ghost view = { λ w. record { bytes = W.contents w.inner; has_failed = is_some w.failure; is_closed = w.is_closed; is_flushed = w.is_flushed } };
 }
 
 impl<W: Write> Write for Watched<W> {
@@ -61,11 +63,12 @@ impl<W: Write> Write for Watched<W> {
 impl<W: Write> Watched<W> {
     /// Watches a writer from now on.
     pub fn new(inner: W) -> Watched<W>
-        ensures { result ≡ record { bytes = W.contents inner; has_failed = false; is_flushed = true } }
+        ensures { result ≡ record { bytes = W.contents inner; has_failed = false; is_closed = false; is_flushed = true } }
     {
         Watched {
             inner,
             failure: None,
+            is_closed: false,
             is_flushed: true,
         }
     }
@@ -78,8 +81,17 @@ impl<W: Write> Watched<W> {
     }
 
     /// Why the newest call that failed did, if one did.
-    pub(crate) fn failure(&self) -> Option<&io::Error> {
+    pub(crate) fn failure(&self) -> Option<&io::Error>
+        ensures { is_some result ≡ self.now.has_failed }
+    {
         self.failure.as_ref()
+    }
+
+    /// Whether the newest call that failed did so since the other end was closed.
+    pub(crate) fn is_closed(&self) -> bool
+        ensures { result ≡ self.now.is_closed }
+    {
+        self.is_closed
     }
 
     /// Notes what a call came to.
@@ -90,7 +102,10 @@ impl<W: Write> Watched<W> {
     {
         match &came {
             Ok(_) => self.is_flushed = is_flush,
-            Err(why) => self.failure = Some(copied(why)),
+            Err(why) => {
+                self.is_closed = why.kind() == ErrorKind::BrokenPipe;
+                self.failure = Some(copied(why));
+            }
         }
         came
     }

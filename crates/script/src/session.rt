@@ -12,6 +12,7 @@ use crate::fields::{is_comment, is_text};
 use crate::first::First;
 use crate::interpreter::Interpreter;
 use crate::kind::ScriptKind;
+use crate::last_line::LastLine;
 use crate::serving::serve;
 use crate::telling::{say_fault, say_ring};
 use crate::words::next_word;
@@ -49,13 +50,19 @@ struct Session<K: ScriptKind> {
     alloc: Global,
     /// What is kept, once a line made the ring.
     kept: Option<K::Kept>,
+    /// The line that ended the run, where there was memory to keep it.
+    last: Option<LastLine>,
 }
 
 impl<K: ScriptKind> Session<K> {
     fn new(alloc: Global) -> Session<K>
         ensures { result.kept ≡ None }
     {
-        Session { alloc, kept: None }
+        Session {
+            alloc,
+            kept: None,
+            last: None,
+        }
     }
 
     // Serves a request where no ring is made yet.
@@ -151,14 +158,31 @@ impl<K: ScriptKind> Interpreter for Session<K> {
     ) -> Result<bool, AllocError> {
         let goes_on = self.serve_text(number, line, reply)?;
         self.holds();
+        if !goes_on {
+            self.last = LastLine::new(self.alloc, number, line, reply.as_bytes()).ok();
+        }
         Ok(goes_on)
     }
 }
 
-/// Reads a script of this kind, serves its lines in order, and writes their answers.
+/// Reads a script of this kind, serves its lines in order, and writes their answers. Tells the line that ended the run too:
+/// none where no line did, where it was longer than a line may be, or where there is no memory to keep it.
 ///
 /// Each answer is written and flushed before the read that follows its line. A `write` may take any
 /// count from 1 on, and an interrupted call is made again.
+pub fn serve_to_last_line<K: ScriptKind, R: Read, W: Write>(
+    alloc: Global,
+    input: &mut R,
+    output: &mut W,
+) -> (Result<Ending, ServeError>, Option<LastLine>)
+    ensures { Serves (MayAnswer K.kind) result.0 (R.remaining input.old) (R.remaining input.new) (W.contents output.old) (W.contents output.new) }
+{
+    let mut session = Session::<K>::new(alloc);
+    let served = serve(alloc, &mut session, input, output);
+    (served, session.last)
+}
+
+/// The same, without the line that ended the run.
 pub fn serve_script<K: ScriptKind, R: Read, W: Write>(
     alloc: Global,
     input: &mut R,
@@ -166,6 +190,5 @@ pub fn serve_script<K: ScriptKind, R: Read, W: Write>(
 ) -> Result<Ending, ServeError>
     ensures { Serves (MayAnswer K.kind) result (R.remaining input.old) (R.remaining input.new) (W.contents output.old) (W.contents output.new) }
 {
-    let mut session = Session::<K>::new(alloc);
-    serve(alloc, &mut session, input, output)
+    serve_to_last_line::<K, R, W>(alloc, input, output).0
 }

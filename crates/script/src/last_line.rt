@@ -1,0 +1,33 @@
+//! The line that ended the run of a script.
+use std::alloc::{AllocError, Global};
+
+/// How many bytes of an answer are kept, the last ones.
+const KEPT_OF_ANSWER: usize = 64;
+
+/// The line that ended the run of a script, as it stands there.
+#[derive(Debug, Drop)]
+pub struct LastLine {
+    /// Its number, counted from 1.
+    pub number: u64,
+    /// Its bytes without its end, at most 4,096.
+    pub text: Vec<u8>,
+    /// The last bytes of what it was answered with, at most 64.
+    pub answer: Vec<u8>,
+}
+
+impl LastLine {
+    /// Keeps a line with the answer to it.
+    pub(crate) fn new(
+        alloc: Global,
+        number: u64,
+        text: &[u8],
+        answer: &[u8],
+    ) -> Result<LastLine, AllocError> {
+        let from = answer.len().saturating_sub(KEPT_OF_ANSWER);
+        Ok(LastLine {
+            number,
+            text: Vec::from_slice(alloc, text)?,
+            answer: Vec::from_slice(alloc, &answer[from..])?,
+        })
+    }
+}
