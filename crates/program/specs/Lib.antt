@@ -1,3 +1,4 @@
+pub mod Explaining
 pub mod Images
 pub mod Program
 pub mod Stressing

@@ -14,6 +14,7 @@ use Rattle.decode.specs.DecodeText.{decode_text}
 use Rattle.encode.specs.Tellings.{ExitsAsEncode}
 use Rattle.image.specs.Tellings.{ExitsAsImage}
 use Rattle.words.specs.Tellings.{ExitsAsWords}
+use Rattle.program.specs.Explaining.{Explains}
 use Rattle.program.specs.Images.{asked_of}
 use Rattle.program.specs.Stressing.{ExitsAsStress, plan_of}
 use Rattle.program.specs.Telling.{ExitsAsTold, line_of}
@@ -45,13 +46,16 @@ ExitsAs Words exit input rest before after = ExitsAsWords exit input rest before
 ExitsAs (Image arguments) exit input rest before after = ExitsAsImage (asked_of arguments) exit input before.bytes after.bytes
 ExitsAs Encode exit input rest before after = ExitsAsEncode exit input rest before.bytes after.bytes
 
--- The words have no fault, and it did what they ask for; elsewhere it told just of memory, or of a stream that failed.
+-- The words have no fault, and it did what they ask for; elsewhere it told first why a line of a script was refused, and then
+-- just of memory, or of a stream that failed.
 pub record ExitsAsAsked (words : List Text) (exit : ℕ) (input rest : Option (List ℕ)) (before after faults_before faults_after : Seen) : Type 0 where
   pub sound : fault_of smmuq words ≡ []
   pub subcommand : Subcommand
   pub asked : AskFor words subcommand
   pub done : ExitsAs subcommand exit input rest before after
-  pub troubles : TellsTrouble exit after faults_before faults_after
+  pub faults_between : Seen
+  pub explained : Explains subcommand exit faults_before faults_between
+  pub troubles : TellsTrouble exit after faults_between faults_after
 
 -- Memory ran out over the words, or they ask for help, or they have a fault; nothing was read, and that was told.
 pub record ExitsAsMisunderstood (words : List Text) (exit : ℕ) (input rest : Option (List ℕ)) (before after faults_before faults_after : Seen) : Type 0 where

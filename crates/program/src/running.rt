@@ -3,16 +3,21 @@ ghost use Rattle.std.specs.Prelude.{◌≡◌};
 ghost use Rattle.command_line.specs.CommandLine.{texts};
 ghost use Rattle.schedule.specs.Scheduling.{ExitsAsSchedule};
 ghost use Rattle.replay.specs.Replaying.{ExitsAsReplay};
+ghost use Rattle.program.specs.Explaining.{Explains, TellsOfRefusal};
 ghost use Rattle.program.specs.Stressing.{HasPlan};
 ghost use Rattle.program.specs.Program.{Decodes, ExitsAs, ExitsAsDecode, ExitsAsProgram};
 
+use crate::explaining::tell_last_line;
 use crate::reading::{encode_to_exit, image_to_exit, words_to_exit};
-use crate::serving::{decode_text, replay, schedule};
+use crate::serving::decode_text;
 use crate::stressing::stress_to_exit;
 use crate::telling::{print_line, tell, tell_of_memory};
 use crate::troubles::tell_trouble;
 use crate::watched::Watched;
 use command_line::{Subcommand, understand};
+use explanations::Script;
+use replay::replay_to_last_line;
+use schedule::schedule_to_last_line;
 use script::Status;
 use std::alloc::{AllocError, Global};
 use std::io::{Read, Write};
@@ -38,31 +43,51 @@ fn decode_to_exit<W: Write>(alloc: Global, word: &str, output: &mut Watched<W>) 
     decode(alloc, word, output).exit_status()
 }
 
-fn replay_to_exit<I: Read, O: Write>(alloc: Global, input: &mut I, output: &mut O) -> u8
-    ensures { ExitsAsReplay result (I.remaining input.old) (I.remaining input.new) (O.contents output.old) (O.contents output.new) }
+/// The exit status of a replay, of which it is told why a line ended it.
+fn replay_to_exit<I: Read, O: Write, F: Write>(
+    alloc: Global,
+    input: &mut I,
+    output: &mut O,
+    faults: &mut Watched<F>,
+) -> u8
+    ensures done { ExitsAsReplay result (I.remaining input.old) (I.remaining input.new) (O.contents output.old) (O.contents output.new) }
+    ensures explained { TellsOfRefusal result faults.old faults.new }
 {
-    replay(alloc, input, output).exit_status()
+    let (status, last) = replay_to_last_line(alloc, input, output);
+    tell_last_line(alloc, Script::Replay, status, last, faults);
+    status.exit_status()
 }
 
-fn schedule_to_exit<I: Read, O: Write>(alloc: Global, input: &mut I, output: &mut O) -> u8
-    ensures { ExitsAsSchedule result (I.remaining input.old) (I.remaining input.new) (O.contents output.old) (O.contents output.new) }
+/// The exit status of a schedule, of which it is told why a line ended it.
+fn schedule_to_exit<I: Read, O: Write, F: Write>(
+    alloc: Global,
+    input: &mut I,
+    output: &mut O,
+    faults: &mut Watched<F>,
+) -> u8
+    ensures done { ExitsAsSchedule result (I.remaining input.old) (I.remaining input.new) (O.contents output.old) (O.contents output.new) }
+    ensures explained { TellsOfRefusal result faults.old faults.new }
 {
-    schedule(alloc, input, output).exit_status()
+    let (status, last) = schedule_to_last_line(alloc, input, output);
+    tell_last_line(alloc, Script::Schedule, status, last, faults);
+    status.exit_status()
 }
 
 /// Does what is asked for, and answers the exit status.
-fn serve<'a, A: Threads + AllocGlobal + Sync, I: Read, O: Write>(
+fn serve<'a, A: Threads + AllocGlobal + Sync, I: Read, O: Write, F: Write>(
     rt: &A,
     subcommand: Subcommand<'a>,
     input: &mut I,
     output: &mut Watched<O>,
+    faults: &mut Watched<F>,
 ) -> u8
     requires { HasPlan subcommand }
-    ensures { ExitsAs subcommand.entry result (I.remaining input.old) (I.remaining input.new) output.old output.new }
+    ensures explained { Explains subcommand.entry result faults.old faults.new }
+    ensures done { ExitsAs subcommand.entry result (I.remaining input.old) (I.remaining input.new) output.old output.new }
 {
     match subcommand {
-        Subcommand::Replay => replay_to_exit(rt.alloc(), input, output),
-        Subcommand::Schedule => schedule_to_exit(rt.alloc(), input, output),
+        Subcommand::Replay => replay_to_exit(rt.alloc(), input, output, faults),
+        Subcommand::Schedule => schedule_to_exit(rt.alloc(), input, output, faults),
         Subcommand::Decode(word) => decode_to_exit(rt.alloc(), word, output),
         Subcommand::Stress(numbers) => stress_to_exit(rt, numbers, output),
         Subcommand::Words => words_to_exit(rt.alloc(), input, output),
@@ -89,7 +114,7 @@ pub fn program<'a, A: Threads + AllocGlobal + Sync, I: Read, O: Write, F: Write>
 {
     match understand(rt.alloc(), words) {
         Ok(subcommand) => {
-            let exit = serve(rt, subcommand, input, output);
+            let exit = serve(rt, subcommand, input, output, faults);
             tell_trouble(rt.alloc(), exit, output, faults);
             exit
         }

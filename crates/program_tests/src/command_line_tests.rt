@@ -51,7 +51,9 @@ fn a_whole_schedule(rt: HostRuntime) {
                 reserved 0 number 1\n\
                 lost 2 0 open\n\
                 line 6: F5\n";
-    assert_eq!(rt; ran.told(), (1, text, true));
+    assert_eq!(rt; ran.told(), (1, text, false));
+    let why = "line 6: F5: a slot that isn't at the head\n";
+    assert_eq!(rt; ran.faults.inner().text(), why);
 }
 
 /// Runs the program on some words, with an input that fails when it is read.
@@ -127,7 +129,10 @@ fn expect_status<R: Threads + AllocGlobal + Abort + Sync>(
 fn exit_statuses(rt: HostRuntime) {
     expect_status(&rt, "replay", "ring 3 1 4 4\n", (0, 0), (0, ""));
     // A script that is refused, a read that fails, a pipe that is closed, and help that goes to one.
-    expect_status(&rt, "replay", "dump\n", (0, 0), (1, ""));
+    let no_ring = "line 1: a ring line was expected ahead of any other\n";
+    expect_status(&rt, "replay", "dump\n", (0, 0), (1, no_ring));
+    let no_name = "line 1: word 1: the name of a line was expected, found \"fill\"\n";
+    expect_status(&rt, "schedule", "fill\n", (0, 0), (1, no_name));
     let unread = "smmuq: standard input: it couldn't be read\n";
     expect_status(&rt, "replay", "ring 3 1 4 4\n", (1, 0), (4, unread));
     expect_status(&rt, "replay", "ring 3 1 4 4\n", (0, 1), (4, ""));

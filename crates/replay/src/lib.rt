@@ -11,4 +11,4 @@ mod serving;
 mod telling;
 
 pub use laws::memory_is_told_of;
-pub use serving::{replay, serve};
+pub use serving::{replay, replay_to_last_line, serve};

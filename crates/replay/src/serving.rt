@@ -5,7 +5,7 @@ ghost use Rattle.replay.specs.ReplayText.{replays};
 ghost use Rattle.replay.specs.Replaying.{Replays};
 
 use crate::kind::Replay;
-use script::{Ending, ServeError, Status, serve_script, status_of};
+use script::{Ending, LastLine, ServeError, Status, serve_script, serve_to_last_line, status_of};
 use std::alloc::Global;
 use std::io::{Read, Write};
 
@@ -23,10 +23,22 @@ pub fn serve<R: Read, W: Write>(
     serve_script::<Replay, R, W>(alloc, input, output)
 }
 
+/// Reads a script and writes its answers, the line `no memory` among them, and says how it went. Tells the line that ended
+/// the run too: none where no line did, where it was longer than a line may be, or where there is no memory to keep it.
+pub fn replay_to_last_line<R: Read, W: Write>(
+    alloc: Global,
+    input: &mut R,
+    output: &mut W,
+) -> (Status, Option<LastLine>)
+    ensures { Replays result.0 (R.remaining input.old) (R.remaining input.new) (W.contents output.old) (W.contents output.new) }
+{
+    let (served, last) = serve_to_last_line::<Replay, R, W>(alloc, input, output);
+    (status_of(&served), last)
+}
+
 /// Reads a script and writes its answers, the line `no memory` among them, and says how it went.
 pub fn replay<R: Read, W: Write>(alloc: Global, input: &mut R, output: &mut W) -> Status
     ensures { Replays result (R.remaining input.old) (R.remaining input.new) (W.contents output.old) (W.contents output.new) }
 {
-    let served = serve(alloc, input, output);
-    status_of(&served)
+    replay_to_last_line(alloc, input, output).0
 }

@@ -11,4 +11,4 @@ mod telling;
 pub use body::Body;
 pub use parsing::parse;
 pub use request::{Asked, Request};
-pub use serving::{schedule, serve};
+pub use serving::{schedule, schedule_to_last_line, serve};

@@ -5,9 +5,20 @@ ghost use Rattle.schedule.specs.ScheduleText.{schedules};
 ghost use Rattle.schedule.specs.Scheduling.{Schedules};
 
 use crate::kind::Schedule;
-use script::{Ending, ServeError, Status, serve_script, status_of};
+use script::{Ending, LastLine, ServeError, Status, serve_to_last_line, status_of};
 use std::alloc::Global;
 use std::io::{Read, Write};
+
+/// Plays a script as `serve` does. Tells the line that ended the run too.
+fn play<R: Read, W: Write>(
+    alloc: Global,
+    input: &mut R,
+    output: &mut W,
+) -> (Result<Ending, ServeError>, Option<LastLine>)
+    ensures { Serves (Answers schedules) result.0 (R.remaining input.old) (R.remaining input.new) (W.contents output.old) (W.contents output.new) }
+{
+    serve_to_last_line::<Schedule, R, W>(alloc, input, output)
+}
 
 /// Reads a script, plays its lines in order, and writes their answers.
 ///
@@ -20,7 +31,21 @@ pub fn serve<R: Read, W: Write>(
 ) -> Result<Ending, ServeError>
     ensures { Serves (Answers schedules) result (R.remaining input.old) (R.remaining input.new) (W.contents output.old) (W.contents output.new) }
 {
-    serve_script::<Schedule, R, W>(alloc, input, output)
+    play(alloc, input, output).0
+}
+
+/// Reads a script, plays it as a schedule of a ring's steps, and writes its answers, the line `no memory`
+/// among them. Says how it went. Tells the line that ended the run too: none where no line did, where it was longer than a
+/// line may be, or where there is no memory to keep it.
+pub fn schedule_to_last_line<R: Read, W: Write>(
+    alloc: Global,
+    input: &mut R,
+    output: &mut W,
+) -> (Status, Option<LastLine>)
+    ensures { Schedules result.0 (R.remaining input.old) (R.remaining input.new) (W.contents output.old) (W.contents output.new) }
+{
+    let (served, last) = play(alloc, input, output);
+    (status_of(&served), last)
 }
 
 /// Reads a script, plays it as a schedule of a ring's steps, and writes its answers, the line `no memory`
@@ -28,6 +53,5 @@ pub fn serve<R: Read, W: Write>(
 pub fn schedule<R: Read, W: Write>(alloc: Global, input: &mut R, output: &mut W) -> Status
     ensures { Schedules result (R.remaining input.old) (R.remaining input.new) (W.contents output.old) (W.contents output.new) }
 {
-    let served = serve(alloc, input, output);
-    status_of(&served)
+    schedule_to_last_line(alloc, input, output).0
 }

@@ -156,10 +156,12 @@ impl<K: ScriptKind> Interpreter for Session<K> {
         line: &[u8],
         reply: &mut String,
     ) -> Result<bool, AllocError> {
+        let from = reply.len();
         let goes_on = self.serve_text(number, line, reply)?;
         self.holds();
         if !goes_on {
-            self.last = LastLine::new(self.alloc, number, line, reply.as_bytes()).ok();
+            let answer = reply.as_bytes().get(from..).unwrap_or_default();
+            self.last = LastLine::new(self.alloc, number, line, answer).ok();
         }
         Ok(goes_on)
     }

@@ -1,0 +1,106 @@
+//! What a word of a line has to be.
+use script::{number, raw};
+use std::fmt;
+
+/// What a word of a line has to be.
+#[derive(Clone, Copy, Debug, PartialEq, Eq)]
+pub(crate) enum Expected {
+    /// What the line is called.
+    Name,
+    /// A number of this range, both ends in it.
+    Number { least: u64, most: u64 },
+    /// An address space of 16 bits, or `g` for all of them.
+    Scope,
+    /// A substream of 20 bits, or `-` for none.
+    Substream,
+    /// A sender, or `c` for the consumer.
+    Looker,
+    /// The 16 bytes of a command.
+    Command,
+    /// The kind of a tag.
+    TagKind,
+    /// What is done with the command that stopped the queue.
+    Remedy,
+    /// No word.
+    End,
+}
+
+/// A number of 8 bits.
+pub(crate) const EIGHT_BITS: Expected = Expected::Number {
+    least: 0,
+    most: 0xff,
+};
+/// A number of 16 bits.
+pub(crate) const SIXTEEN_BITS: Expected = Expected::Number {
+    least: 0,
+    most: 0xffff,
+};
+/// A number of 20 bits.
+pub(crate) const TWENTY_BITS: Expected = Expected::Number {
+    least: 0,
+    most: 0xf_ffff,
+};
+/// A number of 32 bits.
+pub(crate) const THIRTY_TWO_BITS: Expected = Expected::Number {
+    least: 0,
+    most: 0xffff_ffff,
+};
+/// A number of 52 bits.
+pub(crate) const FIFTY_TWO_BITS: Expected = Expected::Number {
+    least: 0,
+    most: 0xf_ffff_ffff_ffff,
+};
+/// A number of 64 bits.
+pub(crate) const SIXTY_FOUR_BITS: Expected = Expected::Number {
+    least: 0,
+    most: u64::MAX,
+};
+
+/// Whether a word says a number from the first to the second.
+fn is_number(least: u64, most: u64, word: &[u8]) -> bool {
+    match number(word) {
+        Some(said) => least <= said && said <= most,
+        None => false,
+    }
+}
+
+/// Whether a word is a kind of tag.
+fn is_tag_kind(word: &[u8]) -> bool {
+    matches!(
+        str::from_utf8(word),
+        Ok("ste" | "cd" | "s1" | "s2" | "el2" | "atc")
+    )
+}
+
+impl Expected {
+    /// Whether a word is as expected. None is the empty word.
+    pub(crate) fn is_met_by(self, word: &[u8]) -> bool {
+        match self {
+            Expected::Name => !word.is_empty(),
+            Expected::Number { least, most } => is_number(least, most, word),
+            Expected::Scope => word == b"g".as_slice() || SIXTEEN_BITS.is_met_by(word),
+            Expected::Substream => word == b"-".as_slice() || TWENTY_BITS.is_met_by(word),
+            Expected::Looker => word == b"c".as_slice() || THIRTY_TWO_BITS.is_met_by(word),
+            Expected::Command => raw(word).is_some(),
+            Expected::TagKind => is_tag_kind(word),
+            Expected::Remedy => word == b"retry".as_slice() || word == b"replace".as_slice(),
+            Expected::End => word.is_empty(),
+        }
+    }
+}
+
+impl fmt::Display for Expected {
+    fn fmt<W: fmt::Write>(&self, f: &mut fmt::Formatter<W>) -> fmt::Result {
+        match *self {
+            Expected::Name => f.write_str("the name of a line"),
+            Expected::Number { least, most } => write!(f, "a number from {least} to {most}"),
+            Expected::Scope => f.write_str("a number from 0 to 65535, or g,"),
+            Expected::Substream => f.write_str("a number from 0 to 1048575, or -,"),
+            Expected::Looker => f.write_str("a number from 0 to 4294967295, or c,"),
+            Expected::Command => f.write_str("a command of 32 hexadecimal digits"),
+            Expected::TagKind => f.write_str("ste, cd, s1, s2, el2 or atc"),
+            Expected::Remedy => f.write_str("retry or replace"),
+            Expected::End => f.write_str("nothing more"),
+        }
+    }
+}

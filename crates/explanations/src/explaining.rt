@@ -1,0 +1,118 @@
+//! What is said of a line.
+ghost use Rattle.std.specs.Prelude.{IfOk, IfSome, string_bytes};
+ghost use Rattle.explanations.specs.Explaining.{IsSaidOf};
+
+use crate::expected::Expected;
+use crate::fault::{fault_in, meaning, step_fault};
+use crate::form::Form;
+use crate::misread::Misread;
+use crate::stray::Stray;
+use crate::words::Words;
+use crate::{replay_forms, schedule_forms};
+use ringcore::StepFault;
+use script::LastLine;
+use std::alloc::{AllocError, Global};
+use std::fmt;
+
+/// Which lines a script has.
+#[derive(Clone, Copy, Debug, PartialEq, Eq)]
+pub enum Script {
+    /// Those of `smmuq replay`.
+    Replay,
+    /// Those of `smmuq schedule`.
+    Schedule,
+}
+
+impl Script {
+    /// The words of a line of this name.
+    fn form_of(self, name: &str) -> Option<Form> {
+        match self {
+            Script::Replay => replay_forms::form_of(name),
+            Script::Schedule => schedule_forms::form_of(name),
+        }
+    }
+
+    /// The words of a line that makes a ring which can be made.
+    fn ring_form(self) -> Form {
+        match self {
+            Script::Replay => replay_forms::ring_form(),
+            Script::Schedule => schedule_forms::ring_form(),
+        }
+    }
+}
+
+/// What a line is at fault in.
+#[derive(Drop)]
+enum Why<'a> {
+    Stray(Stray),
+    Misread(Misread<'a>),
+    Step(StepFault),
+    Line(&'static str),
+}
+
+impl fmt::Display for Why<'_> {
+    fn fmt<W: fmt::Write>(&self, f: &mut fmt::Formatter<W>) -> fmt::Result {
+        match self {
+            Why::Stray(stray) => write!(f, "{stray}"),
+            Why::Misread(misread) => write!(f, "{misread}"),
+            Why::Step(fault) => write!(f, "{fault}"),
+            Why::Line(meaning) => f.write_str(meaning),
+        }
+    }
+}
+
+/// The first word of a line that can't be read.
+fn misread_in(script: Script, line: &[u8]) -> Result<(), Misread<'_>> {
+    let mut words = Words::of(line);
+    let name = words.expect(Expected::Name)?;
+    match script.form_of(str::from_utf8(name).unwrap_or_default()) {
+        Some(form) => words.expect_form(form),
+        None => Err(words.misread(Expected::Name, name)),
+    }
+}
+
+/// The first number of a ring line that no ring can have.
+fn bad_number(script: Script, line: &[u8]) -> Result<(), Misread<'_>> {
+    let mut words = Words::of(line);
+    words.expect(Expected::Name)?;
+    words.expect_form(script.ring_form())
+}
+
+/// What a line is at fault in that was answered with this fault.
+fn why<'a>(script: Script, fault: &str, line: &'a [u8]) -> Option<Why<'a>> {
+    match fault {
+        "bad line" => match Stray::first_of(line) {
+            Some(stray) => Some(Why::Stray(stray)),
+            None => misread_in(script, line).err().map(Why::Misread),
+        },
+        "N1" | "N2" | "N3" | "C4" => bad_number(script, line).err().map(Why::Misread),
+        other => match step_fault(other) {
+            Some(fault) => Some(Why::Step(fault)),
+            None => meaning(other).map(Why::Line),
+        },
+    }
+}
+
+/// What is said of the line of this number.
+fn said(alloc: Global, number: u64, why: &Why<'_>) -> Result<String, AllocError>
+    ensures { IfOk result (λ said. IsSaidOf number (string_bytes said)) }
+{
+    let why = format!(in alloc; "{why}")?;
+    let mut said = format!(in alloc; "line {number}: ")?;
+    said.push_str(why.as_str())?;
+    Ok(said)
+}
+
+/// What is said of the line that ended the run of a script: its number, which word of it is at fault and what was expected
+/// there, or what is at fault with all of it. One line of text without its end; none of an answer that is no fault.
+pub fn explain(alloc: Global, script: Script, last: &LastLine) -> Result<Option<String>, AllocError>
+    ensures line { IfOk result (λ told. IfSome told (λ said. IsSaidOf last.now.number (string_bytes said))) }
+{
+    let Some(fault) = fault_in(last.answer.as_slice()) else {
+        return Ok(None);
+    };
+    let Some(why) = why(script, fault, last.text.as_slice()) else {
+        return Ok(None);
+    };
+    Ok(Some(said(alloc, last.number, &why)?))
+}

@@ -1,0 +1,41 @@
+//! Faults of lines that can be read.
+use ringcore::StepFault;
+
+/// All that a step of a schedule may be refused for.
+const STEP_FAULTS: [StepFault; 11] = [
+    StepFault::AnotherSenders,
+    StepFault::NotReserved,
+    StepFault::Flipped,
+    StepFault::HalfMissing,
+    StepFault::NotTheHead,
+    StepFault::NotSeenReady,
+    StepFault::NotNext,
+    StepFault::NoSuchPlace,
+    StepFault::NoRoom,
+    StepFault::NotSettled,
+    StepFault::BadBody,
+];
+
+/// The refusal of a step that has this label.
+pub(crate) fn step_fault(label: &str) -> Option<StepFault> {
+    STEP_FAULTS.into_iter().find(|fault| fault.label() == label)
+}
+
+/// What a fault of the line as a whole means.
+pub(crate) fn meaning(fault: &str) -> Option<&'static str> {
+    let means = match fault {
+        "no ring" => "a ring line was expected ahead of any other",
+        "second ring" => "the ring was made by an earlier line",
+        "no sender" => "word 2: the ring has no sender of this number",
+        "sender open" => "word 2: this sender has a reservation that isn't published",
+        "sender not open" => "word 2: this sender has no reservation to publish",
+        _ => return None,
+    };
+    Some(means)
+}
+
+/// The name of the fault in an answer, which is `line N: ` and the name.
+pub(crate) fn fault_in(answer: &[u8]) -> Option<&str> {
+    let (_, name) = str::from_utf8(answer).ok()?.trim_end().split_once(": ")?;
+    Some(name)
+}

@@ -1,0 +1,53 @@
+//! What the words of a line have to be, from its second on.
+use crate::expected::Expected;
+
+/// What may stand behind the words that a line always has.
+#[derive(Clone, Copy, Debug, PartialEq, Eq)]
+pub(crate) enum Rest {
+    /// Nothing.
+    Nothing,
+    /// Any number of commands.
+    Commands,
+    /// One more word.
+    Optional(Expected),
+}
+
+/// What the words of a line have to be, from its second on.
+#[derive(Clone, Copy, Debug)]
+pub(crate) struct Form {
+    /// Whether the second word is the kind of a tag, which says what the tag's words are.
+    pub has_tag: bool,
+    /// The words that it always has, behind those of a tag.
+    pub words: &'static [Expected],
+    /// What may stand behind these.
+    pub rest: Rest,
+}
+
+impl Form {
+    /// Of just these words.
+    pub(crate) fn of(words: &'static [Expected]) -> Form {
+        Form {
+            has_tag: false,
+            words,
+            rest: Rest::Nothing,
+        }
+    }
+
+    /// Of a tag and these words.
+    pub(crate) fn with_tag(words: &'static [Expected]) -> Form {
+        Form {
+            has_tag: true,
+            words,
+            rest: Rest::Nothing,
+        }
+    }
+
+    /// Of these words and then others.
+    pub(crate) fn and(words: &'static [Expected], rest: Rest) -> Form {
+        Form {
+            has_tag: false,
+            words,
+            rest,
+        }
+    }
+}

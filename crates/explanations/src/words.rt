@@ -1,0 +1,88 @@
+//! The words of a line, as they are looked at one after another.
+use crate::expected::Expected;
+use crate::form::{Form, Rest};
+use crate::misread::Misread;
+use crate::replay_forms::tag_words;
+use script::{LONGEST_LINE, is_end, next_word};
+
+/// The words of a line that are left, and how many were passed.
+#[derive(Drop)]
+pub(crate) struct Words<'a> {
+    left: &'a [u8],
+    passed: u64,
+}
+
+impl<'a> Words<'a> {
+    pub(crate) fn of(line: &'a [u8]) -> Words<'a> {
+        Words {
+            left: line,
+            passed: 0,
+        }
+    }
+
+    /// Passes the next word, which has to be as expected.
+    pub(crate) fn expect(&mut self, expected: Expected) -> Result<&'a [u8], Misread<'a>> {
+        let (found, left) = next_word(self.left).unwrap_or((b"", b""));
+        self.left = left;
+        self.passed = self.passed.saturating_add(1);
+        if expected.is_met_by(found) {
+            Ok(found)
+        } else {
+            Err(self.misread(expected, found))
+        }
+    }
+
+    /// The word passed last isn't as expected.
+    pub(crate) fn misread(&self, expected: Expected, found: &'a [u8]) -> Misread<'a> {
+        Misread {
+            word: self.passed,
+            expected,
+            found,
+        }
+    }
+
+    /// Passes the next words, each of which has to be as expected.
+    fn expect_each(&mut self, expected: &[Expected]) -> Result<(), Misread<'a>> {
+        for each in expected {
+            self.expect(*each)?;
+        }
+        Ok(())
+    }
+
+    /// Passes a tag.
+    fn expect_tag(&mut self) -> Result<(), Misread<'a>> {
+        let kind = self.expect(Expected::TagKind)?;
+        self.expect_each(tag_words(str::from_utf8(kind).unwrap_or_default()))
+    }
+
+    /// Passes commands to the line's end.
+    fn expect_commands(&mut self) -> Result<(), Misread<'a>> {
+        // A line has fewer words than this.
+        for _ in 0..LONGEST_LINE {
+            if is_end(self.left) {
+                return Ok(());
+            }
+            self.expect(Expected::Command)?;
+        }
+        Ok(())
+    }
+
+    /// Passes all that is left, which has to be of this form.
+    pub(crate) fn expect_form(&mut self, form: Form) -> Result<(), Misread<'a>> {
+        if form.has_tag {
+            self.expect_tag()?;
+        }
+        self.expect_each(form.words)?;
+        match form.rest {
+            Rest::Nothing => {}
+            Rest::Commands => self.expect_commands()?,
+            Rest::Optional(word) => {
+                if !is_end(self.left) {
+                    self.expect(word)?;
+                }
+            }
+        }
+        self.expect(Expected::End)?;
+        Ok(())
+    }
+}

@@ -1,0 +1,7 @@
+//! Tests of explanations. They stand in a crate of their own, since a build of a crate's tests proves the crate once more.
+#![tactic(auto)]
+
+#[cfg(test)]
+mod explanations_caller;
+#[cfg(test)]
+mod lines;

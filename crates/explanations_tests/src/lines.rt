@@ -1,0 +1,258 @@
+//! Lines, and what is said of them.
+use explanations::{Script, explain};
+use script::LastLine;
+use std::alloc::AllocError;
+use std::process::Abort;
+
+/// Lines that can't be read, each with what is said of it behind `line 7: `.
+const BAD_LINES_OF_REPLAY: [(&str, &str); 24] = [
+    (
+        "rng 1 2",
+        "word 1: the name of a line was expected, found \"rng\"",
+    ),
+    (
+        "ring 1 2 3",
+        "word 5: a number from 0 to 4294967295 was expected, found the end of the line",
+    ),
+    (
+        "ring 1 2 3 4 5",
+        "word 6: nothing more was expected, found \"5\"",
+    ),
+    (
+        "ring 1 2 4294967296 4",
+        "word 4: a number from 0 to 4294967295 was expected, found \"4294967296\"",
+    ),
+    (
+        "fill",
+        "word 2: ste, cd, s1, s2, el2 or atc was expected, found the end of the line",
+    ),
+    (
+        "fill sid 5 1",
+        "word 2: ste, cd, s1, s2, el2 or atc was expected, found \"sid\"",
+    ),
+    (
+        "fill ste 5",
+        "word 4: a number from 0 to 18446744073709551615 was expected, found the end of the line",
+    ),
+    (
+        "fill cd 5 1048576 1",
+        "word 4: a number from 0 to 1048575 was expected, found \"1048576\"",
+    ),
+    (
+        "evict s1 1 G 0 0",
+        "word 4: a number from 0 to 65535, or g, was expected, found \"G\"",
+    ),
+    (
+        "lookup s2 65536 0 0",
+        "word 3: a number from 0 to 65535 was expected, found \"65536\"",
+    ),
+    (
+        "lookup el2 g 4503599627370496 0",
+        "word 4: a number from 0 to 4503599627370495 was expected, found \"4503599627370496\"",
+    ),
+    (
+        "lookup atc 1 none 0 0",
+        "word 4: a number from 0 to 1048575, or -, was expected, found \"none\"",
+    ),
+    (
+        "lookup atc 1 - 0 256",
+        "word 6: a number from 0 to 255 was expected, found \"256\"",
+    ),
+    (
+        "send 0 03",
+        "word 3: a command of 32 hexadecimal digits was expected, found \"03\"",
+    ),
+    (
+        "openbare 0x 03",
+        "word 2: a number from 0 to 4294967295 was expected, found \"0x\"",
+    ),
+    (
+        "detach 1",
+        "word 3: a number from 0 to 4294967295 was expected, found the end of the line",
+    ),
+    (
+        "step 0",
+        "word 2: a number from 1 to 1000000 was expected, found \"0\"",
+    ),
+    ("step 1 1", "word 3: nothing more was expected, found \"1\""),
+    (
+        "ack 1",
+        "word 3: retry or replace was expected, found the end of the line",
+    ),
+    (
+        "ack 1 again",
+        "word 3: retry or replace was expected, found \"again\"",
+    ),
+    (
+        "dump all",
+        "word 2: nothing more was expected, found \"all\"",
+    ),
+    (
+        "dump\r",
+        "byte 5: a carriage return, where a line feed alone ends a line",
+    ),
+    ("step\t2", "byte 5: a tab, where spaces part words"),
+    (
+        "\u{feff}ring 1 1 1 1",
+        "byte 1: a byte order mark, which no script has",
+    ),
+];
+
+const BAD_LINES_OF_SCHEDULE: [(&str, &str); 8] = [
+    (
+        "ring 3",
+        "word 3: a number from 0 to 4294967295 was expected, found the end of the line",
+    ),
+    (
+        "look d",
+        "word 2: a number from 0 to 4294967295, or c, was expected, found \"d\"",
+    ),
+    (
+        "reserve 0 zz",
+        "word 3: a command of 32 hexadecimal digits was expected, found \"zz\"",
+    ),
+    (
+        "flip 0 0 65",
+        "word 4: a number from 1 to 64 was expected, found \"65\"",
+    ),
+    (
+        "advance 0",
+        "word 2: a number from 1 to 64 was expected, found \"0\"",
+    ),
+    (
+        "write 0 0",
+        "word 4: a number from 0 to 4294967295 was expected, found the end of the line",
+    ),
+    (
+        "fill ste 5 70",
+        "word 1: the name of a line was expected, found \"fill\"",
+    ),
+    (
+        "ask \u{e9}",
+        "byte 5: 0xc3, which is no printable ASCII character",
+    ),
+];
+
+/// Lines that can be read, with their fault.
+const OTHER_FAULTS: [(Script, &str, &str, &str); 11] = [
+    (
+        Script::Replay,
+        "dump",
+        "no ring",
+        "a ring line was expected ahead of any other",
+    ),
+    (
+        Script::Replay,
+        "ring 1 1 1 1",
+        "second ring",
+        "the ring was made by an earlier line",
+    ),
+    (
+        Script::Replay,
+        "look 7",
+        "no sender",
+        "word 2: the ring has no sender of this number",
+    ),
+    (
+        Script::Replay,
+        "done 0",
+        "sender open",
+        "word 2: this sender has a reservation that isn't published",
+    ),
+    (
+        Script::Replay,
+        "publish 0",
+        "sender not open",
+        "word 2: this sender has no reservation to publish",
+    ),
+    (
+        Script::Replay,
+        "ring 20 1 1 1",
+        "N1",
+        "word 2: a number from 1 to 19 was expected, found \"20\"",
+    ),
+    (
+        Script::Replay,
+        "ring 3 0 1 1",
+        "N2",
+        "word 3: a number from 1 to 256 was expected, found \"0\"",
+    ),
+    (
+        Script::Replay,
+        "ring 3 1 0 1",
+        "N3",
+        "word 4: a number from 1 to 4294967295 was expected, found \"0\"",
+    ),
+    (
+        Script::Replay,
+        "ring 3 1 1 65537",
+        "C4",
+        "word 5: a number from 1 to 65536 was expected, found \"65537\"",
+    ),
+    (
+        Script::Schedule,
+        "ring 3 257",
+        "N2",
+        "word 3: a number from 1 to 256 was expected, found \"257\"",
+    ),
+    (
+        Script::Schedule,
+        "test 1",
+        "F5",
+        "F5: a slot that isn't at the head",
+    ),
+];
+
+/// What is said of a line of this fault.
+fn told<R: AllocGlobal>(
+    rt: &R,
+    script: Script,
+    line: &str,
+    fault: &str,
+) -> Result<Option<String>, AllocError> {
+    let answer = format!(in rt.alloc(); "line 7: {fault}\n")?;
+    let last = LastLine {
+        number: 7,
+        text: Vec::from_slice(rt.alloc(), line.as_bytes())?,
+        answer: Vec::from_slice(rt.alloc(), answer.as_bytes())?,
+    };
+    explain(rt.alloc(), script, &last)
+}
+
+/// Wants this to be said of a line, behind its number.
+fn expect<R: AllocGlobal + Abort>(rt: &R, script: Script, line: &str, fault: &str, wanted: &str) {
+    let told = told(rt, script, line, fault).expect(rt, "there is memory");
+    let told = told.unwrap_or(String::new(rt.alloc()));
+    assert_eq!(rt;
+        told.as_str().split_once(": "),
+        Some(("line 7", wanted)),
+        "{line}"
+    );
+}
+
+#[test]
+fn lines_of_replay(rt: HostRuntime) {
+    for (line, wanted) in BAD_LINES_OF_REPLAY {
+        expect(&rt, Script::Replay, line, "bad line", wanted);
+    }
+}
+
+#[test]
+fn lines_of_schedule(rt: HostRuntime) {
+    for (line, wanted) in BAD_LINES_OF_SCHEDULE {
+        expect(&rt, Script::Schedule, line, "bad line", wanted);
+    }
+}
+
+#[test]
+fn other_faults(rt: HostRuntime) {
+    for (script, line, fault, wanted) in OTHER_FAULTS {
+        expect(&rt, script, line, fault, wanted);
+    }
+}
+
+#[test]
+fn a_line_that_can_be_read_is_not_said_to_be_bad(rt: HostRuntime) {
+    let told = told(&rt, Script::Replay, "ring 1 1 1 1", "bad line");
+    assert!(rt; told.expect(&rt, "there is memory").is_none());
+}

@@ -1,7 +1,0 @@
-use Rattle.script.specs.Giving.{MayAnswer}
-use Rattle.script.proofs.ServesLemmas.{tells}
-use Rattle.replay.specs.ReplayText.{replays}
-use Rattle.replay.proofs.serving.replay.Goals as goal
-
-pub returns : goal.returns
-returns g c = tells (MayAnswer replays) c.serve-served.result c.status_of.result _ _ _ _ c.status_of.ensures c.serve-served.ensures

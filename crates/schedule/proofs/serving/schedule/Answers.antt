@@ -1,7 +1,0 @@
-use Rattle.script.specs.Giving.{Answers}
-use Rattle.script.proofs.ServesLemmas.{tells}
-use Rattle.schedule.specs.ScheduleText.{schedules}
-use Rattle.schedule.proofs.serving.schedule.Goals as goal
-
-pub returns : goal.returns
-returns g c = tells (Answers schedules) c.serve-served.result c.status_of.result _ _ _ _ c.status_of.ensures c.serve-served.ensures
