@@ -11,7 +11,8 @@ use borrow.Author.Tests.{ne_eqb, eq-eqb}
 use Rattle.cmdcodec.specs.Text.{hexadecimal}
 use Rattle.script.specs.Words.{all_digits, is_hex, number_of}
 use Rattle.script.proofs.NumberLemmas.{number_in-some, number_of-hex, number_of-decimal}
-use Rattle.encode.specs.LineWords.{is_blank}
+use Rattle.line_answers.specs.LineWords.{is_blank}
+use Rattle.line_answers.proofs.TextWords.{is_plain}
 
 all_digits_from : (radix : ℕ) (ds : List ℕ) → AllDigits radix ds → all_digits radix ds ≡ true
 all_digits_from radix [] h = refl
@@ -73,10 +74,6 @@ no_blank radix c high small =
     let no_tab : c == 9 ≡ false = ne_eqb c 9 (λ e. let no : digit_value 9 < radix = subst (λ (b : ℕ). digit_value b < radix) e small in omega arith) in
     let no_return : c == 13 ≡ false = ne_eqb c 13 (λ e. let no : digit_value 13 < radix = subst (λ (b : ℕ). digit_value b < radix) e small in omega arith) in
     ap (λ (t : Bool). t || c == 9 || c == 13) no_space ∙ ap (λ (t : Bool). t || c == 13) no_tab ∙ no_return
-
--- no byte is a blank
-abbrev pub is_plain : List ℕ → Bool
-is_plain bytes = list_all (λ b. not (is_blank b)) bytes
 
 plain_digits : (radix : ℕ) (ds : List ℕ) → radix ≤ 36 → AllDigits radix ds → is_plain ds ≡ true
 plain_digits radix [] high h = refl

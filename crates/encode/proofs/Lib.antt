@@ -1,7 +1,5 @@
-pub mod WordLemmas
 pub mod ValueLemmas
 pub mod DigitLemmas
-pub mod TextWords
 pub mod Written
 pub mod Reading
 pub mod ReadConfigurations

@@ -13,13 +13,12 @@ use Rattle.script.specs.Fields.{is_comment}
 use Rattle.script.specs.Words.{is_word}
 use Rattle.encode.specs.declared.field.Field.{Field}
 use Rattle.encode.specs.declared.field.Field.TheVariants as field
-use Rattle.encode.specs.LineWords.{words_of}
+use Rattle.line_answers.specs.LineWords.{words_of}
 use Rattle.encode.specs.Names.{opcode_called, fields_of}
 use Rattle.encode.specs.Values.{value_of, is_given, unknown_word}
 use Rattle.encode.specs.Commands.{flag_of, range_of, reach_of, command_of}
 use Rattle.encode.specs.LineEncodings.{line_encoding, words_encoding, named_encoding, known_encoding, encoding_of}
-use Rattle.encode.proofs.DigitLemmas.{is_plain}
-use Rattle.encode.proofs.TextWords.{spaced, words_of-spaced}
+use Rattle.line_answers.proofs.TextWords.{is_plain, spaced, words_of-spaced}
 
 -- A line is the name of an opcode and the words of its command, one space between two of them.
 pub record IsTextOf (line : List ℕ) (command : Command) : Type 0 where

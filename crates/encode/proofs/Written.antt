@@ -10,7 +10,8 @@ use Rattle.encode.specs.declared.fault.FieldFault.{FieldFault}
 use Rattle.encode.specs.declared.fault.FieldFault.TheVariants.{OutOfRange, NoMultiple}
 use Rattle.encode.specs.Fields.{least_of, most_of, unit_of}
 use Rattle.encode.specs.Values.{value_said}
-use Rattle.encode.proofs.DigitLemmas.{is_plain, number_of_decimal, number_of_hexadecimal, plain_decimal, plain_hexadecimal}
+use Rattle.line_answers.proofs.TextWords.{is_plain}
+use Rattle.encode.proofs.DigitLemmas.{number_of_decimal, number_of_hexadecimal, plain_decimal, plain_hexadecimal}
 
 -- These digits say this value of the field, and no blank is among them.
 pub record IsWritten (field : Field) (digits : List ℕ) (value : ℕ) : Type 0 where

@@ -1,4 +1,3 @@
-pub mod LineWords
 pub mod Fields
 pub mod Names
 pub mod Groups

@@ -8,7 +8,7 @@ use Rattle.script.specs.Fields.{is_comment}
 use Rattle.encode.specs.declared.fault.FieldFault.{FieldFault}
 use Rattle.encode.specs.declared.fault.EncodeFault.{EncodeFault}
 use Rattle.encode.specs.declared.fault.EncodeFault.TheVariants as declared
-use Rattle.encode.specs.LineWords.{words_of}
+use Rattle.line_answers.specs.LineWords.{words_of}
 use Rattle.encode.specs.Names.{opcode_called, fields_of}
 use Rattle.encode.specs.Values.{unknown_word}
 use Rattle.encode.specs.Commands.{command_of}

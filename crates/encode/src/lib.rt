@@ -10,7 +10,6 @@ mod making;
 mod named;
 mod serving;
 mod value;
-mod word;
 
 pub use fault::{EncodeFault, FieldFault};
 pub use field::Field;

@@ -2,7 +2,7 @@
 ghost use Rattle.std.specs.Prelude.{◌≡◌, IfOk, IfSome};
 ghost use Rattle.cmdcodec.specs.declared.command.Command.{Command};
 ghost use Rattle.cmdcodec.specs.Words.{decoding};
-ghost use Rattle.encode.specs.LineWords.{words_of};
+ghost use Rattle.line_answers.specs.LineWords.{words_of};
 ghost use Rattle.encode.specs.Names.{opcode_called};
 ghost use Rattle.encode.specs.LineEncodings.{as_told, line_encoding, named_encoding};
 
@@ -10,8 +10,8 @@ use crate::fault::EncodeFault;
 use crate::making::command;
 use crate::named::{fields_of, opcode_called};
 use crate::value::unknown_word;
-use crate::word::next_word;
 use cmdcodec::{Raw, encode};
+use line_answers::next_word;
 use script::is_comment;
 
 fn encode_named<'a>(name: &'a [u8], rest: &'a [u8]) -> Result<Option<Raw>, EncodeFault<'a>>

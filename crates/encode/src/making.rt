@@ -1,6 +1,6 @@
 //! The command of the values that words give its fields.
 ghost use Rattle.std.specs.Prelude.{◌≡◌, true};
-ghost use Rattle.encode.specs.LineWords.{words_of};
+ghost use Rattle.line_answers.specs.LineWords.{words_of};
 ghost use Rattle.encode.specs.Groups.{is_configuration, is_of_all_pages};
 ghost use Rattle.encode.specs.Values.{value_of};
 ghost use Rattle.encode.specs.Commands.{command_of, flag_of, kept_of, kept_raw, range_of, reach_of};

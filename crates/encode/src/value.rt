@@ -1,12 +1,12 @@
 //! What the words of a line say of a field.
 ghost use Rattle.std.specs.Prelude.{◌≡◌, ◌≤◌, ◌<◌, [], ◌∷◌, MatchOption, IfOk, Some, None, length};
 ghost use Rattle.encode.specs.Fields.{least_of, most_of};
-ghost use Rattle.encode.specs.LineWords.{words_of};
+ghost use Rattle.line_answers.specs.LineWords.{words_of};
 ghost use Rattle.encode.specs.Values.{behind, value_said, value_of, is_given, is_of, unknown_word};
 
 use crate::fault::FieldFault;
 use crate::field::Field;
-use crate::word::next_word;
+use line_answers::next_word;
 use script::number;
 
 /// What stands behind the key in the first word that begins with it, and the text after that word.

@@ -1,2 +1,4 @@
+pub mod WordLemmas
+pub mod TextWords
 pub mod AnswerLemmas
 pub mod TellingLemmas

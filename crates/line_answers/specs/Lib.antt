@@ -1,3 +1,4 @@
+pub mod LineWords
 pub mod LineAnswers
 pub mod Answering
 pub mod AnsweringLaws

@@ -1,9 +1,11 @@
-//! Lines that are each answered on their own, from any reader to any writer.
+//! Lines that are each answered on their own, from any reader to any writer, and the words of a line.
 #![tactic(auto)]
 
 mod answering;
 mod kind;
 mod serving;
+mod word;
 
 pub use kind::AnswersLines;
 pub use serving::answer_lines;
+pub use word::next_word;

@@ -1,9 +1,10 @@
 -- What a line that brings a command is answered with. The line is good where it is a legal command, or skipped.
-use Rattle.std.specs.Prelude.{ℕ, List, [], ◌∷◌, ◌++◌, ◌==◌, ◌||◌, Bool, false, Option, Some, None, codes, map, if◌then◌else◌}
+use Rattle.std.specs.Prelude.{ℕ, List, [], ◌∷◌, ◌++◌, Bool, false, Option, Some, None, codes, if◌then◌else◌}
 use Rattle.cmdcodec.specs.declared.raw.Raw.{Raw}
-use Rattle.script.specs.Words.{words_of, is_hex, number_of}
+use Rattle.script.specs.Words.{is_hex, number_of}
 use Rattle.script.specs.Fields.{is_comment, hex_of}
 use Rattle.line_answers.specs.LineAnswers.{LineAnswer, skipped}
+use Rattle.line_answers.specs.LineWords.{words_of}
 use Rattle.decode.specs.CommandText.{words_text}
 use Rattle.decode.specs.DecodeText.{decode_text}
 
@@ -13,15 +14,6 @@ told said = record { text = said.0 ++ codes "\n"; is_good = said.1 }
 
 abbrev pub bad_line : LineAnswer
 bad_line = told (codes "bad line", false)
-
--- ---- the words of a line
-
--- A tab and a carriage return part words as a space does.
-abbrev pub blanked : ℕ → ℕ
-blanked b = if b == 9 || b == 13 then 32 else b
-
-unfoldable pub parted : List ℕ → List (List ℕ)
-parted line = words_of (map blanked line)
 
 -- ---- one word
 
@@ -60,4 +52,4 @@ words_answer [] = skipped
 words_answer (word ∷ words) = if is_comment word then skipped else command_answer word words
 
 unfoldable pub answer_of : List ℕ → LineAnswer
-answer_of line = words_answer (parted line)
+answer_of line = words_answer (words_of line)

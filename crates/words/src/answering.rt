@@ -7,15 +7,11 @@ use std::alloc::{AllocError, Global};
 #[derive(Drop)]
 pub(crate) struct WordLines {
     alloc: Global,
-    buffer: Vec<u8>,
 }
 
 impl WordLines {
     pub(crate) fn new(alloc: Global) -> WordLines {
-        WordLines {
-            alloc,
-            buffer: Vec::new(alloc),
-        }
+        WordLines { alloc }
     }
 }
 
@@ -25,6 +21,6 @@ impl AnswersLines for WordLines {
     ghost answer_of = { answer_of };
 
     fn say_line(&mut self, line: &[u8], reply: &mut String) -> Result<bool, AllocError> {
-        say_line(self.alloc, line, &mut self.buffer, reply)
+        say_line(self.alloc, line, reply)
     }
 }

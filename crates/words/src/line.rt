@@ -1,35 +1,16 @@
 //! What one line is answered with.
-ghost use Rattle.std.specs.Prelude.{◌≡◌, ◌++◌, ◌∷◌, IfOk, OnOk, [], map, string_bytes};
-ghost use Rattle.script.specs.Words.{words_of, is_hex};
+ghost use Rattle.std.specs.Prelude.{◌≡◌, ◌++◌, ◌∷◌, IfOk, OnOk, [], string_bytes};
+ghost use Rattle.script.specs.Words.{is_hex};
+ghost use Rattle.line_answers.specs.LineWords.{words_of};
 ghost use Rattle.decode.specs.CommandText.{words_text};
 ghost use Rattle.decode.specs.DecodeText.{decode_text};
-ghost use Rattle.words.specs.LineAnswers.{answer_of, bad_line, blanked, command_answer, hex_number, one_word, told, two_words, words_answer};
+ghost use Rattle.words.specs.LineAnswers.{answer_of, bad_line, command_answer, hex_number, one_word, told, two_words};
 
 use cmdcodec::Raw;
 use decode::{decode_bytes, say_command};
-use script::{is_comment, is_end, next_word, number, raw};
+use line_answers::next_word;
+use script::{is_comment, number, raw};
 use std::alloc::{AllocError, Global};
-
-/// A tab and a carriage return part words as a space does.
-fn blanked(byte: u8) -> u8
-    ensures { result ≡ blanked byte }
-{
-    match byte {
-        b'\t' | b'\r' => b' ',
-        other => other,
-    }
-}
-
-/// Puts the line into a buffer, with its blanks as spaces.
-fn blank(line: &[u8], buffer: &mut Vec<u8>) -> Result<(), AllocError>
-    ensures { OnOk result (buffer.new.items ≡ map blanked line.now) }
-{
-    buffer.clear();
-    for byte in line {
-        buffer.push(blanked(*byte))?;
-    }
-    Ok(())
-}
 
 fn end_line(reply: &mut String) -> Result<(), AllocError>
     ensures { OnOk result (string_bytes reply.new ≡ string_bytes reply.old ++ 10 ∷ []) }
@@ -115,37 +96,21 @@ fn say_named(
 {
     match next_word(rest) {
         None => say_word(alloc, word, reply),
-        Some((other, rest)) => {
-            if is_end(rest) {
-                say_pair(word, other, reply)
-            } else {
-                say_bad_line(reply)
-            }
-        }
+        Some((other, rest)) => match next_word(rest) {
+            None => say_pair(word, other, reply),
+            Some(_) => say_bad_line(reply),
+        },
     }
 }
 
-fn say_blanked(alloc: Global, line: &[u8], reply: &mut String) -> Result<bool, AllocError>
-    ensures text { OnOk result (string_bytes reply.new ≡ string_bytes reply.old ++ (words_answer (words_of line.now)).text) }
-    ensures good { IfOk result (λ is_good. is_good ≡ (words_answer (words_of line.now)).is_good) }
+/// Answers a line, and says whether it is a legal command or skipped.
+#[tactic(auto, unfolding(crate::specs::LineAnswers::answer_of))]
+pub(crate) fn say_line(alloc: Global, line: &[u8], reply: &mut String) -> Result<bool, AllocError>
+    ensures text { OnOk result (string_bytes reply.new ≡ string_bytes reply.old ++ (answer_of line.now).text) }
+    ensures good { IfOk result (λ is_good. is_good ≡ (answer_of line.now).is_good) }
 {
     match next_word(line) {
         Some((word, rest)) if !is_comment(word) => say_named(alloc, word, rest, reply),
         _ => Ok(true),
     }
-}
-
-/// Answers a line, and says whether it is a legal command or skipped. The buffer is of no use to the caller.
-#[tactic(auto, unfolding(crate::specs::LineAnswers::answer_of, crate::specs::LineAnswers::parted))]
-pub(crate) fn say_line(
-    alloc: Global,
-    line: &[u8],
-    buffer: &mut Vec<u8>,
-    reply: &mut String,
-) -> Result<bool, AllocError>
-    ensures text { OnOk result (string_bytes reply.new ≡ string_bytes reply.old ++ (answer_of line.now).text) }
-    ensures good { IfOk result (λ is_good. is_good ≡ (answer_of line.now).is_good) }
-{
-    blank(line, buffer)?;
-    say_blanked(alloc, buffer.as_slice(), reply)
 }

@@ -1,6 +1,6 @@
 use Rattle.std.proofs.Common.{◌∷◌, length, ap, sym, ◌∙◌}
 use Rattle.std.proofs.lemmas.List.{take_rest}
-use Rattle.encode.specs.LineWords.{words_of}
+use Rattle.line_answers.specs.LineWords.{words_of}
 use Rattle.encode.specs.Values.{behind}
 use Rattle.encode.proofs.ValueLemmas.{behind_nothing, behind_its_key, behind_another}
 use Rattle.encode.proofs.value.next_behind.Goals as goal

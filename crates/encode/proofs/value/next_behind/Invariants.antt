@@ -1,5 +1,5 @@
 use Rattle.std.proofs.Common.{◌≡◌, length}
-use Rattle.encode.specs.LineWords.{words_of}
+use Rattle.line_answers.specs.LineWords.{words_of}
 use Rattle.encode.specs.Values.{behind}
 use Rattle.encode.proofs.value.next_behind.Given as goal
 

@@ -1,5 +1,5 @@
 use Rattle.std.proofs.Common.{ap, sym, ◌∙◌}
-use Rattle.encode.specs.LineWords.{words_of}
+use Rattle.line_answers.specs.LineWords.{words_of}
 use Rattle.encode.specs.Values.{unknown_word}
 use Rattle.encode.proofs.ValueLemmas.{unknown_in_nothing, unknown_here, unknown_behind}
 use Rattle.encode.proofs.value.unknown_word.Goals as goal

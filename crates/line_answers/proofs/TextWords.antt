@@ -3,8 +3,11 @@ use Rattle.std.proofs.Common.{◌≡◌, ℕ, ◌&&◌, Bool, true, false, cond,
 use Rattle.std.specs.List.{list_all}
 use Rattle.script.specs.Lines.{onto_first}
 use Rattle.script.specs.Words.{is_word}
-use Rattle.encode.specs.LineWords.{is_blank, between_blanks, words_of}
-use Rattle.encode.proofs.DigitLemmas.{is_plain}
+use Rattle.line_answers.specs.LineWords.{is_blank, between_blanks, words_of}
+
+-- no byte is a blank
+abbrev pub is_plain : List ℕ → Bool
+is_plain bytes = list_all (λ b. not (is_blank b)) bytes
 
 -- words with one space between two of them
 abbrev pub spaced : List ℕ → List (List ℕ) → List ℕ

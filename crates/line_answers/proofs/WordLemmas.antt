@@ -4,7 +4,7 @@ use Rattle.std.specs.List.{between}
 use Rattle.std.proofs.lemmas.List.{take_rest}
 use Rattle.script.specs.Lines.{onto_first}
 use Rattle.script.specs.Words.{is_word}
-use Rattle.encode.specs.LineWords.{is_blank, between_blanks, words_of}
+use Rattle.line_answers.specs.LineWords.{is_blank, between_blanks, words_of}
 
 pub words_of-nothing : words_of [] ≡ []
 unfolding words_of between_blanks

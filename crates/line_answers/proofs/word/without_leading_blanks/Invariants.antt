@@ -1,6 +1,6 @@
 use Rattle.std.proofs.Common.{◌≡◌, ◌≤◌, length}
-use Rattle.encode.specs.LineWords.{words_of}
-use Rattle.encode.proofs.word.without_leading_blanks.Given as goal
+use Rattle.line_answers.specs.LineWords.{words_of}
+use Rattle.line_answers.proofs.word.without_leading_blanks.Given as goal
 
 abbrev pub invariant-blanks : goal.invariant-blanks
 invariant-blanks l = record {

@@ -1,9 +1,9 @@
 use Rattle.std.proofs.Common.{◌≡◌, ◌<◌, length, arith, ◌∙◌, sym, ap}
 use Rattle.std.proofs.lemmas.Bool.Decides.{nat_tests}
 use Rattle.std.proofs.lemmas.List.{nil_from_length}
-use Rattle.encode.specs.LineWords.{words_of}
-use Rattle.encode.proofs.WordLemmas.{words_of-first, words_of-nothing}
-use Rattle.encode.proofs.word.next_word.Goals as goal
+use Rattle.line_answers.specs.LineWords.{words_of}
+use Rattle.line_answers.proofs.WordLemmas.{words_of-first, words_of-nothing}
+use Rattle.line_answers.proofs.word.next_word.Goals as goal
 
 pub returns-then-is_empty-clause-words : goal.returns-then-is_empty-clause-words
 returns-then-is_empty-clause-words c =

@@ -1,6 +1,6 @@
 //! The words of a line.
-ghost use Rattle.std.specs.Prelude.{◌≡◌, ◌<◌, ◌≤◌, ℕ, [], ◌∷◌, length, slice_index, MatchOption, true, false};
-ghost use Rattle.encode.specs.LineWords.{is_blank, words_of};
+ghost use Rattle.std.specs.Prelude.{◌≡◌, ◌<◌, ◌≤◌, ℕ, [], ◌∷◌, length, slice_index, IfSome, MatchOption, true, false};
+ghost use Rattle.line_answers.specs.LineWords.{is_blank, words_of};
 
 /// A space, a tab or a carriage return.
 fn is_blank(byte: u8) -> bool
@@ -9,10 +9,12 @@ fn is_blank(byte: u8) -> bool
     byte == b' ' || byte == b'\t' || byte == b'\r'
 }
 
-/// The first word of a text, and the rest of the text after it.
-pub(crate) fn next_word(text: &[u8]) -> Option<(&[u8], &[u8])>
+/// The first word of a text, and the rest of the text after it; none where the text has no word.
+///
+/// Spaces, tabs and carriage returns part words. That is this project's choice.
+pub fn next_word(text: &[u8]) -> Option<(&[u8], &[u8])>
     ensures words { MatchOption result (words_of text.now ≡ []) (λ found. words_of text.now ≡ found.0.now ∷ words_of found.1.now) }
-    ensures shorter { MatchOption result (Unit {0}) (λ found. length found.1.now < length text.now) }
+    ensures shorter { IfSome result (λ found. length found.1.now < length text.now) }
 {
     let text = without_leading_blanks(text);
     if text.is_empty() {

@@ -2,8 +2,8 @@ use Rattle.std.proofs.Common.{◌≡◌, ◌<◌, length, drop, arith, ap, sym, 
 use Rattle.std.specs.List.{between}
 use Rattle.std.proofs.lemmas.Bool.Decides.{nat_tests}
 use Rattle.std.proofs.lemmas.List.{take_rest}
-use Rattle.encode.proofs.WordLemmas.{words_of-after_blank}
-use Rattle.encode.proofs.word.without_leading_blanks.Goals as goal
+use Rattle.line_answers.proofs.WordLemmas.{words_of-after_blank}
+use Rattle.line_answers.proofs.word.without_leading_blanks.Goals as goal
 
 pub blanks-preserved : goal.blanks-preserved
 blanks-preserved c =
