@@ -123,6 +123,31 @@ impl<K: ScriptKind> Session<K> {
 }
 
 impl<K: ScriptKind> Session<K> {
+    /// Keeps the line that ended the run, where there is memory for it.
+    fn keep(&mut self, number: u64, line: &[u8], answer: &[u8])
+        ensures { self.new.kept ≡ self.old.kept }
+    {
+        self.last = LastLine::new(self.alloc, number, line, answer).ok();
+    }
+
+    fn serve_and_keep(
+        &mut self,
+        number: u64,
+        line: &[u8],
+        reply: &mut String,
+    ) -> Result<bool, AllocError>
+        requires { length line.now ≤ 4096 }
+        ensures { IfOk result (λ goes_on. ActsAt K.stands (λ wanting state. line_effect K.kind number wanting line.now state) self.old.kept self.new.kept (string_bytes reply.old) (string_bytes reply.new) goes_on) }
+    {
+        let from = reply.len();
+        let goes_on = self.serve_text(number, line, reply)?;
+        if !goes_on {
+            let answer = reply.as_bytes().get(from..).unwrap_or_default();
+            self.keep(number, line, answer);
+        }
+        Ok(goes_on)
+    }
+
     /// A witness that what the kind says of each state holds of the one that is kept. It does nothing.
     fn holds(&self)
         ensures { Holds K.kind K.stands self.now.kept }
@@ -156,13 +181,8 @@ impl<K: ScriptKind> Interpreter for Session<K> {
         line: &[u8],
         reply: &mut String,
     ) -> Result<bool, AllocError> {
-        let from = reply.len();
-        let goes_on = self.serve_text(number, line, reply)?;
+        let goes_on = self.serve_and_keep(number, line, reply)?;
         self.holds();
-        if !goes_on {
-            let answer = reply.as_bytes().get(from..).unwrap_or_default();
-            self.last = LastLine::new(self.alloc, number, line, answer).ok();
-        }
         Ok(goes_on)
     }
 }
