@@ -7,6 +7,7 @@ use crate::line::encode_line;
 use cmdcodec::{Raw, to_bytes};
 use line_answers::AnswersLines;
 use std::alloc::{AllocError, Global};
+use std::fmt::Write;
 
 fn end_line(reply: &mut String) -> Result<(), AllocError>
     ensures { OnOk result (string_bytes reply.new ≡ string_bytes reply.old ++ 10 ∷ []) }
@@ -63,6 +64,13 @@ impl AnswersLines for TextLines {
             Ok(Some(raw)) => say_raw(self.alloc, raw, reply),
             Ok(None) => Ok(true),
             Err(_) => say_bad_command(reply),
+        }
+    }
+
+    fn say_fault(&self, line: &[u8], said: &mut String) -> Result<(), AllocError> {
+        match encode_line(line) {
+            Ok(_) => Ok(()),
+            Err(fault) => write!(said, "{fault}"),
         }
     }
 }

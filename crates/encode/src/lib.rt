@@ -15,4 +15,4 @@ pub use fault::{EncodeFault, FieldFault};
 pub use field::Field;
 pub use laws::{order_plays_no_part, texts_are_read_back};
 pub use line::encode_line;
-pub use serving::encode;
+pub use serving::{encode, encode_with_notes};

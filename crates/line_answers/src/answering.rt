@@ -1,32 +1,47 @@
 //! What answers lines of a kind, one after another.
-ghost use Rattle.std.specs.Prelude.{◌≡◌, true};
+ghost use Rattle.std.specs.Prelude.{◌≡◌, ◌&&◌, true};
 
 use crate::kind::AnswersLines;
+use crate::notes::Notes;
 use script::Interpreter;
-use std::alloc::AllocError;
+use std::alloc::{AllocError, Global};
 
 /// Answers lines, and keeps whether all were good.
 #[derive(Drop)]
 pub(crate) struct Answering<K: AnswersLines> {
+    alloc: Global,
     kind: K,
     all_good: bool,
+    notes: Notes,
 }
 
 impl<K: AnswersLines> Answering<K> {
-    pub(crate) fn new(kind: K) -> Answering<K>
+    pub(crate) fn new(alloc: Global, kind: K) -> Answering<K>
         ensures { result.all_good ≡ true }
     {
         Answering {
+            alloc,
             kind,
             all_good: true,
+            notes: Notes::new(alloc),
         }
     }
 
-    /// Whether each line so far was good.
-    pub(crate) fn all_good(&self) -> bool
-        ensures { result ≡ self.now.all_good }
+    /// Whether each line was good, and what is said of those that weren't.
+    pub(crate) fn ended(self) -> (bool, Notes)
+        ensures { result.0 ≡ self.all_good }
     {
-        self.all_good
+        (self.all_good, self.notes)
+    }
+
+    /// Keeps whether a line was good, and notes why it wasn't.
+    fn judge(&mut self, is_good: bool, number: u64, line: &[u8])
+        ensures { self.new.all_good ≡ (self.old.all_good && is_good) }
+    {
+        if !is_good {
+            self.all_good = false;
+            self.notes.add(self.alloc, &self.kind, number, line);
+        }
     }
 }
 
@@ -53,7 +68,7 @@ impl<K: AnswersLines> Interpreter for Answering<K> {
         reply: &mut String,
     ) -> Result<bool, AllocError> {
         let is_good = self.kind.say_line(line, reply)?;
-        self.all_good = self.all_good && is_good;
+        self.judge(is_good, number, line);
         Ok(true)
     }
 }

@@ -14,4 +14,8 @@ pub trait AnswersLines: Drop {
     fn say_line(&mut self, line: &[u8], reply: &mut String) -> Result<bool, AllocError>
         ensures text { OnOk result (string_bytes reply.new ≡ string_bytes reply.old ++ (answer_of line.now).text) }
         ensures good { IfOk result (λ is_good. is_good ≡ (answer_of line.now).is_good) };
+
+    /// Appends why a line isn't good, as an engineer would say it; nothing where its answer says so. What it says no clause
+    /// says, since it is told beside the answer.
+    fn say_fault(&self, line: &[u8], said: &mut String) -> Result<(), AllocError>;
 }

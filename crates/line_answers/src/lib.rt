@@ -3,9 +3,11 @@
 
 mod answering;
 mod kind;
+mod notes;
 mod serving;
 mod word;
 
 pub use kind::AnswersLines;
-pub use serving::answer_lines;
+pub use notes::Notes;
+pub use serving::{answer_lines, answer_lines_with_notes};
 pub use word::next_word;

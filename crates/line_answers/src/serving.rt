@@ -4,13 +4,30 @@ ghost use Rattle.line_answers.specs.Tellings.{TellsOfLines, judged};
 
 use crate::answering::Answering;
 use crate::kind::AnswersLines;
+use crate::notes::Notes;
 use script::{Status, serve, status_of};
 use std::alloc::Global;
 use std::io::{Read, Write};
 
-/// Reads lines and writes the answer to each. Says how it went; one line at least that isn't good is refused.
+/// Reads lines and writes the answer to each. Says how it went; one line at least that isn't good is refused. Notes why each
+/// line wasn't good.
 ///
 /// Each answer is written and flushed before the read that follows its line. A line of more than 4,096 bytes ends the run.
+pub fn answer_lines_with_notes<K: AnswersLines, R: Read, W: Write>(
+    alloc: Global,
+    kind: K,
+    input: &mut R,
+    output: &mut W,
+) -> (Status, Notes)
+    ensures { TellsOfLines K.answer_of result.0 (R.remaining input.old) (R.remaining input.new) (W.contents output.old) (W.contents output.new) }
+{
+    let mut answering = Answering::new(alloc, kind);
+    let served = serve(alloc, &mut answering, input, output);
+    let (all_good, notes) = answering.ended();
+    (judged(status_of(&served), all_good), notes)
+}
+
+/// The same without the notes.
 pub fn answer_lines<K: AnswersLines, R: Read, W: Write>(
     alloc: Global,
     kind: K,
@@ -19,9 +36,7 @@ pub fn answer_lines<K: AnswersLines, R: Read, W: Write>(
 ) -> Status
     ensures { TellsOfLines K.answer_of result (R.remaining input.old) (R.remaining input.new) (W.contents output.old) (W.contents output.new) }
 {
-    let mut answering = Answering::new(kind);
-    let served = serve(alloc, &mut answering, input, output);
-    judged(status_of(&served), answering.all_good())
+    answer_lines_with_notes(alloc, kind, input, output).0
 }
 
 /// The status of a run in which all lines were good, or one at least wasn't.

@@ -1,10 +1,11 @@
-//! What is told on standard error of a line that ended the run of a script.
+//! What is told on standard error of lines that can't be served.
 ghost use Rattle.program.specs.Explaining.{MayBeTold, TellsOfRefusal};
 ghost use Rattle.script.specs.Statuses.{exit_status};
 
-use crate::telling::print_line;
+use crate::telling::{print, print_line};
 use crate::watched::Watched;
 use explanations::{Script, explain};
+use line_answers::Notes;
 use script::{LastLine, Status};
 use std::alloc::Global;
 use std::io::Write;
@@ -37,5 +38,37 @@ pub(crate) fn tell_last_line<F: Write>(
 {
     if let (Status::Refused, Some(last)) = (status, last) {
         try_explanation(alloc, script, &last, faults);
+    }
+}
+
+/// Tells what was noted of lines, and of how many lines nothing was. A write that fails here changes nothing.
+fn try_notes<F: Write>(alloc: Global, notes: &Notes, faults: &mut Watched<F>)
+    ensures { MayBeTold faults.old faults.new }
+{
+    let left_out = notes.left_out();
+    let text = notes.text();
+    let told = if left_out == 0 {
+        format!(in alloc; "{text}")
+    } else {
+        format!(in alloc; "{text}and {left_out} lines more\n")
+    };
+    if let Ok(told) = told {
+        match print(told.as_str(), faults) {
+            Ok(()) | Err(_) => {}
+        }
+    }
+}
+
+/// Tells of a run that was refused why its lines were.
+pub(crate) fn tell_notes<F: Write>(
+    alloc: Global,
+    status: Status,
+    notes: &Notes,
+    faults: &mut Watched<F>,
+)
+    ensures { TellsOfRefusal (exit_status status) faults.old faults.new }
+{
+    if status == Status::Refused {
+        try_notes(alloc, notes, faults);
     }
 }

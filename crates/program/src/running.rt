@@ -90,9 +90,9 @@ fn serve<'a, A: Threads + AllocGlobal + Sync, I: Read, O: Write, F: Write>(
         Subcommand::Schedule => schedule_to_exit(rt.alloc(), input, output, faults),
         Subcommand::Decode(word) => decode_to_exit(rt.alloc(), word, output),
         Subcommand::Stress(numbers) => stress_to_exit(rt, numbers, output),
-        Subcommand::Words => words_to_exit(rt.alloc(), input, output),
+        Subcommand::Words => words_to_exit(rt.alloc(), input, output, faults),
         Subcommand::Image(arguments) => image_to_exit(rt.alloc(), &arguments, input, output),
-        Subcommand::Encode => encode_to_exit(rt.alloc(), input, output),
+        Subcommand::Encode => encode_to_exit(rt.alloc(), input, output, faults),
     }
 }
 

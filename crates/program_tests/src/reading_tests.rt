@@ -3,19 +3,25 @@ use crate::running::run;
 
 #[test]
 fn lines_of_words(rt: HostRuntime) {
-    let lines = "12302000010002000004010000000000\n0x2800000008 0x0\n";
+    let lines = "12302000010002000004010000000000\n0x2800000008 0x0\n0x1 zz\n0x1 0 0\n";
     let ran = run(&rt, &["words"], lines, (0, 0));
     let text = "TLBI_NH_VA vmid=1 asid=2 leaf=0 addr=0x10000 tg=1 num=3 scale=2\n\
-                illegal ILL1: unknown opcode\n";
-    assert_eq!(rt; ran.told(), (1, text, true));
+                illegal ILL1: unknown opcode\nbad line\nbad line\n";
+    assert_eq!(rt; ran.told(), (1, text, false));
+    let why = "line 3: word 2: 0x and 1 to 16 hexadecimal digits were expected, found \"zz\"\n\
+               line 4: word 3: nothing more was expected, found \"0\"\n";
+    assert_eq!(rt; ran.faults.inner().text(), why);
 }
 
 #[test]
 fn lines_of_text(rt: HostRuntime) {
-    let lines = "TLBI_NH_ASID asid=2 vmid=1\n# nothing\nTLBI_NH_ASID vmid=1\n";
+    let lines = "TLBI_NH_ASID asid=2 vmid=1\n# nothing\nTLBI_NH_ASID vmid=1\nTLBI\n";
     let ran = run(&rt, &["encode"], lines, (0, 0));
-    let text = "11000000010002000000000000000000\nbad command\n";
-    assert_eq!(rt; ran.told(), (1, text, true));
+    let text = "11000000010002000000000000000000\nbad command\nbad command\n";
+    assert_eq!(rt; ran.told(), (1, text, false));
+    let why = "line 3: TLBI_NH_ASID: asid is missing\n\
+               line 4: unknown command \"TLBI\"\n";
+    assert_eq!(rt; ran.faults.inner().text(), why);
 }
 
 #[test]

@@ -1,7 +1,9 @@
 //! Lines that bring commands, as a kind of lines.
+use crate::fault::fault_of;
 use crate::line::say_line;
 use line_answers::AnswersLines;
 use std::alloc::{AllocError, Global};
+use std::fmt::Write;
 
 /// Answers lines that bring a command each.
 #[derive(Drop)]
@@ -22,5 +24,12 @@ impl AnswersLines for WordLines {
 
     fn say_line(&mut self, line: &[u8], reply: &mut String) -> Result<bool, AllocError> {
         say_line(self.alloc, line, reply)
+    }
+
+    fn say_fault(&self, line: &[u8], said: &mut String) -> Result<(), AllocError> {
+        match fault_of(line) {
+            Some(fault) => write!(said, "{fault}"),
+            None => Ok(()),
+        }
     }
 }

@@ -2,7 +2,8 @@
 #![tactic(auto)]
 
 mod answering;
+mod fault;
 mod line;
 mod serving;
 
-pub use serving::words;
+pub use serving::{words, words_with_notes};

@@ -1,7 +1,6 @@
-use Rattle.std.proofs.Common.{◌≡◌, ap, sym, ◌∙◌, ◌&&◌, string_bytes}
+use Rattle.std.proofs.Common.{ap, sym, ◌∙◌, ◌&&◌, string_bytes}
 use Rattle.line_answers.proofs.AnswerLemmas.{continues, one_more}
 use Rattle.line_answers.proofs.answering.AnsweringInterpreter.serve_line.Goals as goal
-use Rattle.line_answers.proofs.answering.AnsweringInterpreter.serve_line.Goals.{then-self, else-self}
 
 pub returns-clause-goes_on : goal.returns-clause-goes_on
 returns-clause-goes_on g c _ =
@@ -11,11 +10,5 @@ returns-clause-goes_on g c _ =
 pub returns-clause-learns : goal.returns-clause-learns
 returns-clause-learns g c _ past known =
     let answer_of = g.K.AnswersLines.answer_of in
-    let joined : c.if-self.self ≡ (c.args.self.now.all_good && c.in_ok-is_good.is_good) =
-    elim c.if-self.branch [
-      | then-self w ↦ w.self-is ∙ ap (λ b. b && c.in_ok-is_good.is_good) (sym w.if-self.true)
-      | else-self w ↦ w.self-is ∙ w.if-self.false ∙ ap (λ b. b && c.in_ok-is_good.is_good) (sym w.if-self.false)
-    ] in
-    let good : c.in_ok-is_good.is_good ≡ (answer_of c.args.line.now).is_good = c.in_ok-is_good.ensures.good in
-    joined ∙ ap (λ b. c.args.self.now.all_good && b) good ∙ ap (λ b. b && (answer_of c.args.line.now).is_good) known
+    c.judge.ensures ∙ ap (λ b. c.args.self.now.all_good && b) c.in_ok-is_good.ensures.good ∙ ap (λ b. b && (answer_of c.args.line.now).is_good) known
     ∙ sym (one_more answer_of past c.args.line.now)

@@ -5,7 +5,7 @@ use Rattle.line_answers.specs.LineAnswers.{LineAnswer}
 use Rattle.line_answers.specs.Answering.{Comes, all_good}
 use Rattle.line_answers.specs.Tellings.{TellsOfLines, judged}
 use Rattle.line_answers.proofs.TellingLemmas.{AreGood, finished, tells_of_lines}
-use Rattle.line_answers.proofs.serving.answer_lines.Goals as goal
+use Rattle.line_answers.proofs.serving.answer_lines_with_notes.Goals as goal
 
 -- what was learned from the first line on
 learned : (answer_of : List ℕ → LineAnswer) (old new : Bool) (input : Option (List ℕ)) → old ≡ true
@@ -22,7 +22,7 @@ returns g c =
     let rest = g.R.Read.remaining c.serve-served.new.input in
     let before = g.W.Write.contents c.args.output.now in
     let after = g.W.Write.contents c.serve-served.new.output in
-    let is : c.judged.result ≡ judged c.status_of.result new.all_good = c.judged.ensures ∙ ap (judged c.status_of.result) c.all_good.ensures in
+    let is : c.judged.result ≡ judged c.status_of.result new.all_good = c.judged.ensures ∙ ap (judged c.status_of.result) c.ended.ensures in
     subst (λ status. TellsOfLines answer_of status input rest before after) (sym is)
     (tells_of_lines answer_of c.status_of.result new.all_good input rest before after
     (tells (Comes answer_of) c.serve-served.result c.status_of.result _ _ _ _ c.status_of.ensures (record {

@@ -1,0 +1,62 @@
+//! What is said of lines that aren't good.
+use crate::kind::AnswersLines;
+use std::alloc::{AllocError, Global};
+
+/// How many bytes of notes are kept, but for the last note.
+const MOST: usize = 65_536;
+
+/// What is said of lines that aren't good, a line each with its number, in the order in which they came. Of a run with very
+/// many of them the first 65,536 bytes are kept (this project's choice).
+#[derive(Drop)]
+pub struct Notes {
+    text: String,
+    left_out: u64,
+}
+
+impl Notes {
+    pub(crate) fn new(alloc: Global) -> Notes {
+        Notes {
+            text: String::new(alloc),
+            left_out: 0,
+        }
+    }
+
+    /// All that is kept, each line with its end.
+    pub fn text(&self) -> &str {
+        self.text.as_str()
+    }
+
+    /// How many lines aren't told of, for want of room or memory.
+    pub fn left_out(&self) -> u64 {
+        self.left_out
+    }
+
+    /// Notes what its kind says of a line that isn't good.
+    pub(crate) fn add<K: AnswersLines>(
+        &mut self,
+        alloc: Global,
+        kind: &K,
+        number: u64,
+        line: &[u8],
+    ) {
+        if self.text.len() >= MOST || self.push_note(alloc, kind, number, line).is_err() {
+            self.left_out = self.left_out.saturating_add(1);
+        }
+    }
+
+    fn push_note<K: AnswersLines>(
+        &mut self,
+        alloc: Global,
+        kind: &K,
+        number: u64,
+        line: &[u8],
+    ) -> Result<(), AllocError> {
+        let mut why = String::new(alloc);
+        kind.say_fault(line, &mut why)?;
+        if !why.is_empty() {
+            let note = format!(in alloc; "line {number}: {why}\n")?;
+            self.text.push_str(note.as_str())?;
+        }
+        Ok(())
+    }
+}
