@@ -22,7 +22,7 @@ returns g c =
     let rest = g.R.Read.remaining c.serve-served.new.input in
     let before = g.W.Write.contents c.args.output.now in
     let after = g.W.Write.contents c.serve-served.new.output in
-    let is : c.judged.result ≡ judged c.status_of.result new.all_good = c.judged.ensures ∙ ap (judged c.status_of.result) c.ended.ensures in
+    let is : c.judged.result ≡ judged c.status_of.result new.all_good = c.judged.ensures ∙ ap (judged c.status_of.result) c.ended-all_good.ensures in
     subst (λ status. TellsOfLines answer_of status input rest before after) (sym is)
     (tells_of_lines answer_of c.status_of.result new.all_good input rest before after
     (tells (Comes answer_of) c.serve-served.result c.status_of.result _ _ _ _ c.status_of.ensures (record {
