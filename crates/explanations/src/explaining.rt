@@ -79,7 +79,7 @@ fn bad_number(script: Script, line: &[u8]) -> Result<(), Misread<'_>> {
 }
 
 /// What a line is at fault in that was answered with this fault.
-fn why<'a>(script: Script, fault: &str, line: &'a [u8]) -> Option<Why<'a>> {
+fn reason<'a>(script: Script, fault: &str, line: &'a [u8]) -> Option<Why<'a>> {
     match fault {
         "bad line" => match Stray::first_of(line) {
             Some(stray) => Some(Why::Stray(stray)),
@@ -111,7 +111,7 @@ pub fn explain(alloc: Global, script: Script, last: &LastLine) -> Result<Option<
     let Some(fault) = fault_in(last.answer.as_slice()) else {
         return Ok(None);
     };
-    let Some(why) = why(script, fault, last.text.as_slice()) else {
+    let Some(why) = reason(script, fault, last.text.as_slice()) else {
         return Ok(None);
     };
     Ok(Some(said(alloc, last.number, &why)?))
