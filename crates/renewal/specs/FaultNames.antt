@@ -6,6 +6,6 @@ use Rattle.renewal.specs.declared.fault.RenewalFault.{RenewalFault}
 use Rattle.renewal.specs.declared.fault.RenewalFault.TheVariants.{Waiting, Ring, Caches}
 
 abbrev pub label_of : RenewalFault → List ℕ
-label_of Waiting = codes "W1"
+label_of Waiting = codes "Q6"
 label_of (Ring fault) = fault_label fault
 label_of (Caches fault) = caches.label_of fault

@@ -9,8 +9,8 @@ use thiserror::Error;
 /// Why a queue isn't renewed. The first that applies is told.
 #[derive(Clone, Copy, Debug, PartialEq, Eq, Error)]
 pub enum RenewalFault {
-    /// W1: a command is reserved that isn't taken yet.
-    #[error("W1: a command waits to be taken")]
+    /// Q6: a command is reserved that isn't taken yet.
+    #[error("Q6: a command waits to be taken")]
     Waiting,
     /// N1 to N4: the new ring isn't made.
     #[error(transparent)]
@@ -21,12 +21,12 @@ pub enum RenewalFault {
 }
 
 impl RenewalFault {
-    /// Its label alone, `W1` or that of the fault within.
+    /// Its label alone, `Q6` or that of the fault within.
     pub fn label(self) -> &'static str
         ensures { result.now ≡ label_of self }
     {
         match self {
-            RenewalFault::Waiting => "W1",
+            RenewalFault::Waiting => "Q6",
             RenewalFault::Ring(fault) => fault.label(),
             RenewalFault::Caches(fault) => fault.label(),
         }

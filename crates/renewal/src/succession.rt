@@ -31,7 +31,7 @@ pub fn successor(alloc: Global, old: &Queue, sizes: Sizes) -> Result<Queue, Rene
         Err(fault) => return Err(RenewalFault::Ring(fault)),
     };
     let mut engine = Engine::new(consumer, caches);
-    match carry(&old.engine, &mut engine) {
+    match carry(&old.engine, &mut engine, sizes.capacity) {
         Ok(()) => Ok(Queue {
             ring,
             senders,
@@ -41,17 +41,21 @@ pub fn successor(alloc: Global, old: &Queue, sizes: Sizes) -> Result<Queue, Rene
     }
 }
 
-/// Puts the entries of one engine into another that has taken nothing and holds nothing. There each is born 0.
-fn carry(old: &Engine, new: &mut Engine) -> Result<(), CacheFault>
-    requires { new.old.unit ≡ new_unit (record { capacity = new.old.unit.caches.capacity; entries = held [] }) }
-    ensures carried { OnOk result (IsCarried new.old.unit.caches.capacity old.now.unit new.new.unit) }
-    ensures uncarried { IfErr result (λ fault. IsUncarried new.old.unit.caches.capacity old.now.unit.caches.entries fault) }
+/// Puts the entries of one engine into another that has taken nothing, and holds nothing yet but may hold so many. There
+/// each is born 0.
+fn carry(old: &Engine, new: &mut Engine, capacity: u32) -> Result<(), CacheFault>
+    requires { new.old.unit ≡ new_unit (record { capacity = capacity; entries = held [] }) }
+    ensures carried { OnOk result (IsCarried capacity old.now.unit new.new.unit) }
+    ensures uncarried { IfErr result (λ fault. IsUncarried capacity old.now.unit.caches.entries fault) }
     ensures consumer { new.new.consumer ≡ new.old.consumer }
 {
     let list = match old.entries() {
         Ok(list) => list,
         Err(fault) => return Err(fault),
     };
+    if list.len() > capacity as usize {
+        return Err(CacheFault::Full);
+    }
     for entry in &list {
         match new.fill(entry.tag, entry.value) {
             Ok(_) => {}

@@ -38,7 +38,7 @@ fn a_batch_that_is_not_taken_waits(rt: HostRuntime) -> Result<(), RingFault> {
     let (pair, told) = send_first(pair, &batch);
     assert!(rt; told.is_ok());
     let (mut pair, label) = label_of(&rt, rt.alloc(), pair, SIZES);
-    assert_eq!(rt; label, "W1");
+    assert_eq!(rt; label, "Q6");
     // The queue works on: what was sent is taken, and its sender is told.
     assert!(rt; pair.first.done_up_to(&pair.ring) == 0);
     let applied = RunAnswer::Applied {
@@ -62,7 +62,7 @@ fn a_command_that_stopped_the_engine_waits(rt: HostRuntime) -> Result<(), RingFa
     assert!(rt; told.is_ok());
     assert!(rt; matches!(step(&mut pair), RunAnswer::Stopped(_)));
     let (mut pair, label) = label_of(&rt, rt.alloc(), pair, SIZES);
-    assert_eq!(rt; label, "W1");
+    assert_eq!(rt; label, "Q6");
     // Once it is replaced the queue is renewed, and the registers of its error begin anew.
     assert!(rt; pair.engine.acknowledge(1, Remedy::Replace).is_ok());
     assert!(rt; matches!(step(&mut pair), RunAnswer::Replaced(_)));
@@ -110,7 +110,7 @@ fn sizes_that_do_not_serve(rt: HostRuntime) -> Result<(), RingFault> {
 #[test]
 fn a_refusal_is_displayed_with_its_label(rt: HostRuntime) {
     let cases = [
-        (RenewalFault::Waiting, "W1: a command waits to be taken"),
+        (RenewalFault::Waiting, "Q6: a command waits to be taken"),
         (
             RenewalFault::Ring(RingFault::Size),
             "N1: the ring isn't of 2 to 524,288 slots",
