@@ -1,15 +1,14 @@
 -- The text of a command that words spell is read back.
-use Rattle.std.proofs.Common.{◌≡◌, ℕ, ◌+◌, ◌-◌, ◌*◌, ◌/◌, ◌%◌, ◌^◌, ◌<◌, ◌≤◌, ◌==◌, ◌||◌, ◌⊎◌, Bool, true, false, refl, ap, ◌∙◌, arith, lit<, lit≤, inl, inr, None}
-use Rattle.std.specs.Fmt.{decimal}
+use Rattle.std.proofs.Common.{◌≡◌, ℕ, ◌+◌, ◌-◌, ◌*◌, ◌/◌, ◌%◌, ◌^◌, ◌<◌, ◌≤◌, ◌==◌, Bool, true, false, refl, ap, ◌∙◌, arith, lit<, lit≤, inl, inr, None}
 use Rattle.std.proofs.Math.Nat.{mod-lt}
-use Rattle.std.proofs.lemmas.Bool.{eqb-true}
+use Rattle.std.proofs.lemmas.Bool.{eqb-true, or_cases}
+use Rattle.cmdcodec.specs.declared.opcode.Opcode.TheVariants as op
 use Rattle.cmdcodec.specs.declared.raw.Raw.{Raw}
 use Rattle.cmdcodec.specs.declared.command.Command.{Command}
 use Rattle.cmdcodec.specs.declared.command.Command.TheVariants.{CfgiSte, CfgiSteRange, CfgiCd, CfgiCdAll, TlbiNhAll, TlbiNhAsid, TlbiNhVa, TlbiNhVaa, TlbiEl2All, TlbiEl2Asid, TlbiEl2Va, TlbiEl2Vaa, TlbiS12Vmall, TlbiS2Ipa, TlbiNsnhAll, AtcInv, Kept, CmdSync}
 use Rattle.cmdcodec.specs.declared.reach.Granule.{Granule}
 use Rattle.cmdcodec.specs.declared.reach.Granule.TheVariants.{Kib4, Kib16, Kib64}
 use Rattle.cmdcodec.specs.declared.reach.Reach.TheVariants.{Page, Range}
-use Rattle.cmdcodec.specs.Fields.{bit}
 use Rattle.cmdcodec.specs.Legality.{first_ill}
 use Rattle.cmdcodec.specs.Opcodes.{opcode_of, is_kept}
 use Rattle.cmdcodec.specs.Spelling.{Spells, granule_number}
@@ -17,23 +16,23 @@ use Rattle.cmdcodec.specs.Text.{hexadecimal, text_of}
 use Rattle.encode.specs.declared.field.Field.{Field}
 use Rattle.encode.specs.declared.field.Field.TheVariants as field
 use Rattle.encode.specs.Fields.{least_of, most_of, unit_of}
-use Rattle.encode.proofs.Written.{IsWritten, in_decimal, in_hexadecimal}
+use Rattle.encode.proofs.Written.{IsWritten, IsInDecimal, IsFlag, IsInBytes, in_decimal, in_hexadecimal}
 use Rattle.encode.proofs.Reading.{IsTextOf}
 use Rattle.encode.proofs.ReadConfigurations.{cfgi_ste, cfgi_ste_range, cfgi_cd, cfgi_cd_all}
 use Rattle.encode.proofs.ReadTranslations.{tlbi_nh_all, tlbi_nh_asid, tlbi_el2_all, tlbi_el2_asid, tlbi_s12_vmall, tlbi_nsnh_all}
-use Rattle.encode.proofs.ReadPages as pages
-use Rattle.encode.proofs.ReadOthers.{atc_inv, cmd_sync, prefetch_config, prefetch_addr, pri_resp, resume, stall_term}
+use Rattle.encode.proofs.ReadPages.{tlbi_nh_va, tlbi_nh_vaa, tlbi_el2_va, tlbi_el2_vaa, tlbi_s2_ipa}
+use Rattle.encode.proofs.ReadOthers.{atc_inv, cmd_sync, kept}
 
 -- ---- a field of a word is in its range
 
 -- so many bits of a word, by what is left of it below
 bits : (f : Field) (rest limit value : ℕ) → rest % limit ≡ value → 0 < limit → unit_of f ≡ 1 → least_of f ≡ 0 → limit ≤ most_of f + 1 → limit ≤ 2 ^ 64
-    → IsWritten f (decimal value) value
+    → IsInDecimal f value
 bits f rest limit value at some unit least fits small =
     let below : rest % limit < limit = mod-lt rest some in
     in_decimal f value unit (omega arith) (omega arith) (omega arith)
 
-flag : (f : Field) (b : Bool) → unit_of f ≡ 1 → least_of f ≡ 0 → most_of f ≡ 1 → IsWritten f (decimal (bit b)) (bit b)
+flag : (f : Field) (b : Bool) → unit_of f ≡ 1 → least_of f ≡ 0 → most_of f ≡ 1 → IsFlag f b
 flag f true unit least most = in_decimal f 1 unit (omega arith) (omega arith) (omega arith)
 flag f false unit least most = in_decimal f 0 unit (omega arith) (omega arith) (omega arith)
 
@@ -43,60 +42,56 @@ address f rest limit page at some unit least fits small =
     let below : rest % limit < limit = mod-lt rest some in
     in_hexadecimal f (page * 4096) page (ap (λ u. page * 4096 % u) unit ∙ omega arith) (ap (λ u. page * 4096 / u) unit ∙ omega arith) (omega arith) (omega arith) (omega arith)
 
-msi_word : (rest word : ℕ) → rest % 2 ^ 50 ≡ word → IsWritten field.MsiWord (hexadecimal (word * 4)) word
+msi_word : (rest word : ℕ) → rest % 2 ^ 50 ≡ word → IsInBytes field.MsiWord word
 msi_word rest word at = in_hexadecimal field.MsiWord (word * 4) word (omega arith) (omega arith) (omega arith) (omega arith) (omega arith)
 
-granule : (tg : Granule) → IsWritten field.Tg (decimal (granule_number tg)) (granule_number tg)
+granule : (tg : Granule) → IsInDecimal field.Tg (granule_number tg)
 granule Kib4 = in_decimal field.Tg 1 refl (omega arith) (omega arith) (omega arith)
 granule Kib16 = in_decimal field.Tg 2 refl (omega arith) (omega arith) (omega arith)
 granule Kib64 = in_decimal field.Tg 3 refl (omega arith) (omega arith) (omega arith)
 
-sid_in : (lo sid : ℕ) → lo / 2 ^ 32 % 2 ^ 32 ≡ sid → IsWritten field.Sid (decimal sid) sid
+sid_in : (lo sid : ℕ) → lo / 2 ^ 32 % 2 ^ 32 ≡ sid → IsInDecimal field.Sid sid
 sid_in lo sid at = bits field.Sid (lo / 2 ^ 32) (2 ^ 32) sid at (lit< tt) refl refl (lit≤ tt) (lit≤ tt)
 
-ssid_in : (lo ssid : ℕ) → lo / 2 ^ 12 % 2 ^ 20 ≡ ssid → IsWritten field.Ssid (decimal ssid) ssid
+ssid_in : (lo ssid : ℕ) → lo / 2 ^ 12 % 2 ^ 20 ≡ ssid → IsInDecimal field.Ssid ssid
 ssid_in lo ssid at = bits field.Ssid (lo / 2 ^ 12) (2 ^ 20) ssid at (lit< tt) refl refl (lit≤ tt) (lit≤ tt)
 
-vmid_in : (lo vmid : ℕ) → lo / 2 ^ 32 % 2 ^ 16 ≡ vmid → IsWritten field.Vmid (decimal vmid) vmid
+vmid_in : (lo vmid : ℕ) → lo / 2 ^ 32 % 2 ^ 16 ≡ vmid → IsInDecimal field.Vmid vmid
 vmid_in lo vmid at = bits field.Vmid (lo / 2 ^ 32) (2 ^ 16) vmid at (lit< tt) refl refl (lit≤ tt) (lit≤ tt)
 
-asid_in : (lo asid : ℕ) → lo / 2 ^ 48 % 2 ^ 16 ≡ asid → IsWritten field.Asid (decimal asid) asid
+asid_in : (lo asid : ℕ) → lo / 2 ^ 48 % 2 ^ 16 ≡ asid → IsInDecimal field.Asid asid
 asid_in lo asid at = bits field.Asid (lo / 2 ^ 48) (2 ^ 16) asid at (lit< tt) refl refl (lit≤ tt) (lit≤ tt)
 
-page_in : (hi page : ℕ) → hi / 2 ^ 12 % 2 ^ 52 ≡ page → IsWritten field.Page (hexadecimal (page * 4096)) page
+page_in : (hi page : ℕ) → hi / 2 ^ 12 % 2 ^ 52 ≡ page → IsInBytes field.Page page
 page_in hi page at = address field.Page (hi / 2 ^ 12) (2 ^ 52) page at (lit< tt) refl refl (lit≤ tt) (lit≤ tt)
 
-ipa_in : (hi page : ℕ) → hi / 2 ^ 12 % 2 ^ 40 ≡ page → IsWritten field.IpaPage (hexadecimal (page * 4096)) page
+ipa_in : (hi page : ℕ) → hi / 2 ^ 12 % 2 ^ 40 ≡ page → IsInBytes field.IpaPage page
 ipa_in hi page at = address field.IpaPage (hi / 2 ^ 12) (2 ^ 40) page at (lit< tt) refl refl (lit≤ tt) (lit≤ tt)
 
-leaf_in : (leaf : Bool) → IsWritten field.Leaf (decimal (bit leaf)) (bit leaf)
+leaf_in : (leaf : Bool) → IsFlag field.Leaf leaf
 leaf_in leaf = flag field.Leaf leaf refl refl refl
 
-num_in : (lo num : ℕ) → lo / 2 ^ 12 % 2 ^ 5 ≡ num → IsWritten field.Num (decimal num) num
+num_in : (lo num : ℕ) → lo / 2 ^ 12 % 2 ^ 5 ≡ num → IsInDecimal field.Num num
 num_in lo num at = bits field.Num (lo / 2 ^ 12) (2 ^ 5) num at (lit< tt) refl refl (lit≤ tt) (lit≤ tt)
 
-scale_in : (lo scale : ℕ) → lo / 2 ^ 20 % 2 ^ 5 ≡ scale → IsWritten field.Scale (decimal scale) scale
+scale_in : (lo scale : ℕ) → lo / 2 ^ 20 % 2 ^ 5 ≡ scale → IsInDecimal field.Scale scale
 scale_in lo scale at = bits field.Scale (lo / 2 ^ 20) (2 ^ 5) scale at (lit< tt) refl refl (lit≤ tt) (lit≤ tt)
 
 -- ---- a command that is kept
 
-either : (a b : Bool) → (a || b) ≡ true → (a ≡ true) ⊎ (b ≡ true)
-either true b h = inl refl
-either false b h = inr h
-
 kept_text : (raw : Raw) → is_kept (opcode_of raw) ≡ true → first_ill raw ≡ None → IsWritten field.Lo (hexadecimal raw.lo) raw.lo → IsWritten field.Hi (hexadecimal raw.hi) raw.hi
     → IsTextOf (text_of (Kept raw)) (Kept raw)
-kept_text raw kept legal lo hi =
+kept_text raw is legal lo hi =
     let n = opcode_of raw in
-    elim (either _ (n == 0x45) kept) as (λ _. IsTextOf (text_of (Kept raw)) (Kept raw)) [
-      | inr h ↦ stall_term raw (eqb-true n 0x45 h) legal lo hi
-      | inl four ↦ elim (either _ (n == 0x44) four) as (λ _. IsTextOf (text_of (Kept raw)) (Kept raw)) [
-        | inr h ↦ resume raw (eqb-true n 0x44 h) legal lo hi
-        | inl three ↦ elim (either _ (n == 0x41) three) as (λ _. IsTextOf (text_of (Kept raw)) (Kept raw)) [
-          | inr h ↦ pri_resp raw (eqb-true n 0x41 h) legal lo hi
-          | inl two ↦ elim (either (n == 0x01) (n == 0x02) two) as (λ _. IsTextOf (text_of (Kept raw)) (Kept raw)) [
-            | inr h ↦ prefetch_addr raw (eqb-true n 0x02 h) legal lo hi
-            | inl h ↦ prefetch_config raw (eqb-true n 0x01 h) legal lo hi
+    elim (or_cases _ (n == 0x45) is) as (λ _. IsTextOf (text_of (Kept raw)) (Kept raw)) [
+      | inr h ↦ kept op.StallTerm raw refl (eqb-true n 0x45 h) legal lo hi
+      | inl four ↦ elim (or_cases _ (n == 0x44) four) as (λ _. IsTextOf (text_of (Kept raw)) (Kept raw)) [
+        | inr h ↦ kept op.Resume raw refl (eqb-true n 0x44 h) legal lo hi
+        | inl three ↦ elim (or_cases _ (n == 0x41) three) as (λ _. IsTextOf (text_of (Kept raw)) (Kept raw)) [
+          | inr h ↦ kept op.PriResp raw refl (eqb-true n 0x41 h) legal lo hi
+          | inl two ↦ elim (or_cases (n == 0x01) (n == 0x02) two) as (λ _. IsTextOf (text_of (Kept raw)) (Kept raw)) [
+            | inr h ↦ kept op.PrefetchAddr raw refl (eqb-true n 0x02 h) legal lo hi
+            | inl h ↦ kept op.PrefetchConfig raw refl (eqb-true n 0x01 h) legal lo hi
           ]
         ]
       ]
@@ -117,31 +112,31 @@ text_of_spelled raw (CfgiCdAll sid) low high ((o, secure, s), hi) = cfgi_cd_all 
 text_of_spelled raw (TlbiNhAll vmid) low high ((o, v), hi) = tlbi_nh_all vmid (vmid_in raw.lo vmid v)
 text_of_spelled raw (TlbiNhAsid vmid asid) low high ((o, v, a), hi) = tlbi_nh_asid vmid asid (vmid_in raw.lo vmid v) (asid_in raw.lo asid a)
 text_of_spelled raw (TlbiNhVa vmid asid leaf page Page) low high ((o, v, a, steps), (l, g, p)) =
-    pages.tlbi_nh_va_of_a_page vmid asid leaf page (vmid_in raw.lo vmid v) (asid_in raw.lo asid a) (leaf_in leaf) (page_in raw.hi page p)
+    tlbi_nh_va vmid asid leaf page Page (vmid_in raw.lo vmid v) (asid_in raw.lo asid a) (leaf_in leaf) (page_in raw.hi page p) tt
 text_of_spelled raw (TlbiNhVa vmid asid leaf page (Range tg num scale)) low high ((o, v, a, (n, c)), (l, g, p)) =
-    pages.tlbi_nh_va_of_a_range vmid asid leaf page tg num scale (vmid_in raw.lo vmid v) (asid_in raw.lo asid a) (leaf_in leaf) (page_in raw.hi page p)
-    (granule tg) (num_in raw.lo num n) (scale_in raw.lo scale c)
+    tlbi_nh_va vmid asid leaf page (Range tg num scale) (vmid_in raw.lo vmid v) (asid_in raw.lo asid a) (leaf_in leaf) (page_in raw.hi page p)
+    (granule tg, num_in raw.lo num n, scale_in raw.lo scale c)
 text_of_spelled raw (TlbiNhVaa vmid leaf page Page) low high ((o, v, steps), (l, g, p)) =
-    pages.tlbi_nh_vaa_of_a_page vmid leaf page (vmid_in raw.lo vmid v) (leaf_in leaf) (page_in raw.hi page p)
+    tlbi_nh_vaa vmid leaf page Page (vmid_in raw.lo vmid v) (leaf_in leaf) (page_in raw.hi page p) tt
 text_of_spelled raw (TlbiNhVaa vmid leaf page (Range tg num scale)) low high ((o, v, (n, c)), (l, g, p)) =
-    pages.tlbi_nh_vaa_of_a_range vmid leaf page tg num scale (vmid_in raw.lo vmid v) (leaf_in leaf) (page_in raw.hi page p)
-    (granule tg) (num_in raw.lo num n) (scale_in raw.lo scale c)
+    tlbi_nh_vaa vmid leaf page (Range tg num scale) (vmid_in raw.lo vmid v) (leaf_in leaf) (page_in raw.hi page p)
+    (granule tg, num_in raw.lo num n, scale_in raw.lo scale c)
 text_of_spelled raw TlbiEl2All low high (o, hi) = tlbi_el2_all
 text_of_spelled raw (TlbiEl2Asid asid) low high ((o, a), hi) = tlbi_el2_asid asid (asid_in raw.lo asid a)
 text_of_spelled raw (TlbiEl2Va asid leaf page Page) low high ((o, a, steps), (l, g, p)) =
-    pages.tlbi_el2_va_of_a_page asid leaf page (asid_in raw.lo asid a) (leaf_in leaf) (page_in raw.hi page p)
+    tlbi_el2_va asid leaf page Page (asid_in raw.lo asid a) (leaf_in leaf) (page_in raw.hi page p) tt
 text_of_spelled raw (TlbiEl2Va asid leaf page (Range tg num scale)) low high ((o, a, (n, c)), (l, g, p)) =
-    pages.tlbi_el2_va_of_a_range asid leaf page tg num scale (asid_in raw.lo asid a) (leaf_in leaf) (page_in raw.hi page p)
-    (granule tg) (num_in raw.lo num n) (scale_in raw.lo scale c)
-text_of_spelled raw (TlbiEl2Vaa leaf page Page) low high ((o, steps), (l, g, p)) = pages.tlbi_el2_vaa_of_a_page leaf page (leaf_in leaf) (page_in raw.hi page p)
+    tlbi_el2_va asid leaf page (Range tg num scale) (asid_in raw.lo asid a) (leaf_in leaf) (page_in raw.hi page p)
+    (granule tg, num_in raw.lo num n, scale_in raw.lo scale c)
+text_of_spelled raw (TlbiEl2Vaa leaf page Page) low high ((o, steps), (l, g, p)) = tlbi_el2_vaa leaf page Page (leaf_in leaf) (page_in raw.hi page p) tt
 text_of_spelled raw (TlbiEl2Vaa leaf page (Range tg num scale)) low high ((o, (n, c)), (l, g, p)) =
-    pages.tlbi_el2_vaa_of_a_range leaf page tg num scale (leaf_in leaf) (page_in raw.hi page p) (granule tg) (num_in raw.lo num n) (scale_in raw.lo scale c)
+    tlbi_el2_vaa leaf page (Range tg num scale) (leaf_in leaf) (page_in raw.hi page p) (granule tg, num_in raw.lo num n, scale_in raw.lo scale c)
 text_of_spelled raw (TlbiS12Vmall vmid) low high ((o, v), hi) = tlbi_s12_vmall vmid (vmid_in raw.lo vmid v)
 text_of_spelled raw (TlbiS2Ipa vmid leaf page Page) low high ((o, v, steps), (l, g, p)) =
-    pages.tlbi_s2_ipa_of_a_page vmid leaf page (vmid_in raw.lo vmid v) (leaf_in leaf) (ipa_in raw.hi page p)
+    tlbi_s2_ipa vmid leaf page Page (vmid_in raw.lo vmid v) (leaf_in leaf) (ipa_in raw.hi page p) tt
 text_of_spelled raw (TlbiS2Ipa vmid leaf page (Range tg num scale)) low high ((o, v, (n, c)), (l, g, p)) =
-    pages.tlbi_s2_ipa_of_a_range vmid leaf page tg num scale (vmid_in raw.lo vmid v) (leaf_in leaf) (ipa_in raw.hi page p)
-    (granule tg) (num_in raw.lo num n) (scale_in raw.lo scale c)
+    tlbi_s2_ipa vmid leaf page (Range tg num scale) (vmid_in raw.lo vmid v) (leaf_in leaf) (ipa_in raw.hi page p)
+    (granule tg, num_in raw.lo num n, scale_in raw.lo scale c)
 text_of_spelled raw TlbiNsnhAll low high (o, hi) = tlbi_nsnh_all
 text_of_spelled raw (AtcInv sid ssv ssid global size page) low high ((o, secure, g, v, ss, s), (z, most, p)) =
     atc_inv sid ssv ssid global size page (sid_in raw.lo sid s) (flag field.Ssv ssv refl refl refl) (ssid_in raw.lo ssid ss) (flag field.Global global refl refl refl)

@@ -1,15 +1,20 @@
 -- A field whose value is written out.
-use Rattle.std.proofs.Common.{◌≡◌, ℕ, ◌/◌, ◌%◌, ◌^◌, ◌<◌, ◌≤◌, ◌&&◌, nat_le, Bool, true, cond, List, ap, ◌∙◌, arith, Some, Ok, Err}
+use Rattle.std.proofs.Common.{◌≡◌, ℕ, ◌*◌, ◌/◌, ◌%◌, ◌^◌, ◌<◌, ◌≤◌, ◌&&◌, nat_le, Bool, true, cond, not, List, [], ◌∷◌, ◌++◌, map, ap, ◌∙◌, refl, arith, Some, Ok, Err}
 use Rattle.std.specs.Prelude.{Result}
 use Rattle.std.specs.Fmt.{decimal}
+use Rattle.std.specs.List.{list_all}
+use Rattle.std.proofs.lemmas.List.Folds.{list_all-append}
 use Rattle.std.proofs.lemmas.Bool.{and_from, eq-eqb, le-leb}
+use Rattle.cmdcodec.specs.Fields.{bit}
 use Rattle.cmdcodec.specs.Text.{hexadecimal}
-use Rattle.script.specs.Words.{number_of}
+use Rattle.script.specs.Words.{is_word, number_of}
 use Rattle.encode.specs.declared.field.Field.{Field}
+use Rattle.encode.specs.declared.field.Field.TheVariants as field
 use Rattle.encode.specs.declared.fault.FieldFault.{FieldFault}
 use Rattle.encode.specs.declared.fault.FieldFault.TheVariants.{OutOfRange, NoMultiple}
-use Rattle.encode.specs.Fields.{least_of, most_of, unit_of}
+use Rattle.encode.specs.Fields.{key_of, least_of, most_of, unit_of}
 use Rattle.encode.specs.Values.{value_said}
+use Rattle.line_answers.specs.LineWords.{is_blank}
 use Rattle.line_answers.proofs.TextWords.{is_plain}
 use Rattle.encode.proofs.DigitLemmas.{number_of_decimal, number_of_hexadecimal, plain_decimal, plain_hexadecimal}
 
@@ -17,6 +22,53 @@ use Rattle.encode.proofs.DigitLemmas.{number_of_decimal, number_of_hexadecimal, 
 pub record IsWritten (field : Field) (digits : List ℕ) (value : ℕ) : Type 0 where
   pub said : value_said field (number_of digits) ≡ Ok value
   pub plain : is_plain digits ≡ true
+
+-- in decimal digits
+abbrev pub IsInDecimal : Field → ℕ → Type 0
+IsInDecimal field value = IsWritten field (decimal value) value
+
+-- a field of one bit
+abbrev pub IsFlag : Field → Bool → Type 0
+IsFlag field flag = IsInDecimal field (bit flag)
+
+-- an address, in bytes
+abbrev pub IsInBytes : Field → ℕ → Type 0
+IsInBytes field value = IsWritten field (hexadecimal (value * unit_of field)) value
+
+-- ---- words that give fields
+
+-- A field with the digits of its value.
+pub record Given : Type 0 where
+  pub which : Field
+  pub digits : List ℕ
+  pub plain : is_plain digits ≡ true
+
+-- the field that is written out so
+abbrev pub given : {field : Field} {digits : List ℕ} {value : ℕ} → IsWritten field digits value → Given
+given {field = field} {digits = digits} written = record { which = field; digits = digits; plain = written.plain }
+
+-- the word that gives it
+abbrev pub word_of : Given → List ℕ
+word_of given = key_of given.which ++ given.digits
+
+plain_key : (f : Field) → is_plain (key_of f) ≡ true
+plain_key field.Sid = refl
+plain_key other = refl
+
+some_word : (f : Field) (digits : List ℕ) → is_word (key_of f ++ digits) ≡ true
+some_word field.Sid digits = refl
+some_word other digits = refl
+
+pub all_plain : (fields : List Given) → list_all is_plain (map word_of fields) ≡ true
+all_plain [] = refl
+all_plain (one ∷ others) =
+    and_from _ _ (list_all-append (λ b. not (is_blank b)) (key_of one.which) one.digits ∙ and_from _ _ (plain_key one.which) one.plain) (all_plain others)
+
+pub all_words : (fields : List Given) → list_all is_word (map word_of fields) ≡ true
+all_words [] = refl
+all_words (one ∷ others) = and_from _ _ (some_word one.which one.digits) (all_words others)
+
+-- ---- how a value is written
 
 said : (field : Field) (number value : ℕ) → number % unit_of field ≡ 0 → number / unit_of field ≡ value → least_of field ≤ value → value ≤ most_of field
     → value_said field (Some number) ≡ Ok value

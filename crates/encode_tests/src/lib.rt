@@ -1,6 +1,9 @@
-//! Tests of encode. They stand in a crate of their own, since a build of a crate's tests proves the crate once more.
+//! Tests of encode and of words. They stand in a crate of their own, since a build of a crate's tests proves the crate once
+//! more.
 #![tactic(auto)]
 
+#[cfg(test)]
+mod answered;
 #[cfg(test)]
 mod encode_caller;
 #[cfg(test)]
@@ -9,3 +12,7 @@ mod line_tests;
 mod rows;
 #[cfg(test)]
 mod stream_tests;
+#[cfg(test)]
+mod words_caller;
+#[cfg(test)]
+mod words_tests;

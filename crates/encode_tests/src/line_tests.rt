@@ -1,17 +1,11 @@
 //! Lines and what they are refused for. Opcodes and fields are those of the command descriptions.
+use crate::answered::{Kind, expect_lines};
 use crate::rows::ROWS;
 use cmdcodec::Raw;
 use decode::decode_text;
-use encode::{encode, encode_line};
+use encode::encode_line;
 use script::Status;
-use std::alloc::Global;
-use std::io::{Read, Write};
 use std::process::Abort;
-
-// The theorem of `encode` isn't passed on, since it would be dear in each test.
-fn status_of<R: Read, W: Write>(alloc: Global, input: &mut R, output: &mut W) -> Status {
-    encode(alloc, input, output)
-}
 
 /// Wants the text of a command to give these bytes, and these bytes to give the text.
 fn expect_both_ways<R: AllocGlobal + Abort>(rt: &R, text: &str, digits: &str) {
@@ -21,7 +15,7 @@ fn expect_both_ways<R: AllocGlobal + Abort>(rt: &R, text: &str, digits: &str) {
     let mut input = text.as_bytes();
     let mut output = Vec::new(rt.alloc());
     assert_eq!(rt;
-        status_of(rt.alloc(), &mut input, &mut output),
+        Kind::Texts.status_of(rt.alloc(), &mut input, &mut output),
         Status::Good
     );
     let answer = str::from_utf8(output.as_slice()).unwrap_or("no text");
@@ -97,6 +91,23 @@ fn lines_that_are_skipped(rt: HostRuntime) {
     for line in ["", " \t\r", "# CFGI_STE sid=5 leaf=1", " #"] {
         assert!(rt; encode_line(line.as_bytes()) == Ok(None), "{line}");
     }
+}
+
+const STE: &str = "03000000050000000100000000000000\n";
+
+#[test]
+fn skipped_lines_are_not_answered(rt: HostRuntime) {
+    expect_lines(&rt, Kind::Texts, "", "", Status::Good);
+    let lines = "# a log\n\n \t\r\n\t#CFGI_STE\nCFGI_STE sid=5 leaf=1";
+    expect_lines(&rt, Kind::Texts, lines, STE, Status::Good);
+}
+
+#[test]
+fn what_is_bad_is_told_and_the_run_goes_on(rt: HostRuntime) {
+    let lines = "CFGI_STE sid=5\nCFGI_STE sid=5 leaf=1\r\n";
+    let text = "bad command\n03000000050000000100000000000000\n";
+    expect_lines(&rt, Kind::Texts, lines, text, Status::Refused);
+    expect_lines(&rt, Kind::Texts, STE, "bad command\n", Status::Refused);
 }
 
 #[test]

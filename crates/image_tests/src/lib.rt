@@ -1,12 +1,7 @@
-//! Tests of words and of image. They stand in a crate of their own, since a build of a crate's tests proves the crate once
-//! more.
+//! Tests of image. They stand in a crate of their own, since a build of a crate's tests proves the crate once more.
 #![tactic(auto)]
 
 #[cfg(test)]
 mod image_caller;
 #[cfg(test)]
 mod image_tests;
-#[cfg(test)]
-mod words_caller;
-#[cfg(test)]
-mod words_tests;

@@ -1,0 +1,57 @@
+//! What lines are answered with, by their kind.
+use encode::encode;
+use script::Status;
+use std::alloc::Global;
+use std::io::{Read, Write};
+use std::process::Abort;
+use words::words;
+
+/// A kind of lines that are each answered on their own.
+#[derive(Clone, Copy)]
+pub enum Kind {
+    /// Texts of commands, which `encode` answers.
+    Texts,
+    /// Words of commands, which `words` answers.
+    Words,
+}
+
+impl Kind {
+    // The theorems of `encode` and `words` aren't passed on, since they would be dear in each test.
+    pub fn status_of<R: Read, W: Write>(
+        self,
+        alloc: Global,
+        input: &mut R,
+        output: &mut W,
+    ) -> Status {
+        match self {
+            Kind::Texts => encode(alloc, input, output),
+            Kind::Words => words(alloc, input, output),
+        }
+    }
+}
+
+/// Answers what a reader gives, and wants this text and this status of it.
+pub fn expect_answer<A: AllocGlobal + Abort, R: Read>(
+    rt: &A,
+    kind: Kind,
+    input: &mut R,
+    text: &str,
+    status: Status,
+) {
+    let mut output = Vec::new(rt.alloc());
+    let ended = kind.status_of(rt.alloc(), input, &mut output);
+    let answer = str::from_utf8(output.as_slice()).unwrap_or("no text");
+    assert_eq!(rt; answer, text);
+    assert_eq!(rt; ended, status);
+}
+
+/// Answers lines, and wants this text and this status of it.
+pub fn expect_lines<A: AllocGlobal + Abort>(
+    rt: &A,
+    kind: Kind,
+    lines: &str,
+    text: &str,
+    status: Status,
+) {
+    expect_answer(rt, kind, &mut lines.as_bytes(), text, status);
+}
