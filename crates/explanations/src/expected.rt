@@ -78,9 +78,9 @@ impl Expected {
         match self {
             Expected::Name => !word.is_empty(),
             Expected::Number { least, most } => is_number(least, most, word),
-            Expected::Scope => word == b"g".as_slice() || SIXTEEN_BITS.is_met_by(word),
-            Expected::Substream => word == b"-".as_slice() || TWENTY_BITS.is_met_by(word),
-            Expected::Looker => word == b"c".as_slice() || THIRTY_TWO_BITS.is_met_by(word),
+            Expected::Scope => word == b"g".as_slice() || is_number(0, 0xffff, word),
+            Expected::Substream => word == b"-".as_slice() || is_number(0, 0xf_ffff, word),
+            Expected::Looker => word == b"c".as_slice() || is_number(0, 0xffff_ffff, word),
             Expected::Command => raw(word).is_some(),
             Expected::TagKind => is_tag_kind(word),
             Expected::Remedy => word == b"retry".as_slice() || word == b"replace".as_slice(),
