@@ -78,18 +78,34 @@ fn bad_number(script: Script, line: &[u8]) -> Result<(), Misread<'_>> {
     words.expect_form(script.ring_form())
 }
 
+/// What a line is at fault in by its words, if one isn't as expected.
+fn by_word<'a>(checked: Result<(), Misread<'a>>) -> Option<Why<'a>> {
+    match checked {
+        Ok(()) => None,
+        Err(misread) => Some(Why::Misread(misread)),
+    }
+}
+
+/// What a line is at fault in that can be read.
+fn by_fault<'a>(fault: &str) -> Option<Why<'a>> {
+    if let Some(fault) = step_fault(fault) {
+        return Some(Why::Step(fault));
+    }
+    match meaning(fault) {
+        Some(meaning) => Some(Why::Line(meaning)),
+        None => None,
+    }
+}
+
 /// What a line is at fault in that was answered with this fault.
 fn reason<'a>(script: Script, fault: &str, line: &'a [u8]) -> Option<Why<'a>> {
     match fault {
         "bad line" => match Stray::first_of(line) {
             Some(stray) => Some(Why::Stray(stray)),
-            None => misread_in(script, line).err().map(Why::Misread),
+            None => by_word(misread_in(script, line)),
         },
-        "N1" | "N2" | "N3" | "C4" => bad_number(script, line).err().map(Why::Misread),
-        other => match step_fault(other) {
-            Some(fault) => Some(Why::Step(fault)),
-            None => meaning(other).map(Why::Line),
-        },
+        "N1" | "N2" | "N3" | "C4" => by_word(bad_number(script, line)),
+        other => by_fault(other),
     }
 }
 
