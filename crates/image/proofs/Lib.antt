@@ -1,2 +1,3 @@
 pub mod ShownLemmas
 pub mod ViewLemmas
+pub mod WaitingLemmas

@@ -2,3 +2,4 @@ pub mod Queues
 pub mod Views
 pub mod Showings
 pub mod Tellings
+pub mod WaitingLaws

@@ -3,6 +3,7 @@
 
 mod asked;
 mod fault;
+mod laws;
 mod lines;
 mod queue;
 mod reading;
@@ -10,4 +11,5 @@ mod showing;
 mod viewing;
 
 pub use asked::Asked;
+pub use laws::slots_wait_by_position;
 pub use viewing::image;
