@@ -1,21 +1,51 @@
 //! Allocations that fail.
-use crate::pairs::{Pair, fill, held, new_pair, renewed};
+ghost use Rattle.std.specs.Prelude.{◌≡◌};
+
+use crate::pairs::{Pair, new_pair, renewed, translation};
 use caches::CacheFault;
+use engine::Engine;
 use renewal::{RenewalFault, Sizes};
 use ring::RingFault;
 use std::alloc::Global;
 use std::process::Abort;
-
-/// Whether the three entries are held, each born 0.
-fn holds_all(pair: &Pair) -> bool {
-    (5..8u32).all(|page| held(&pair.engine, page) == Some((u64::from(page), 0)))
-}
 
 const SIZES: Sizes = Sizes {
     log2: 3,
     max_batches: 5,
     capacity: 3,
 };
+
+fn fill(engine: &mut Engine, page: u64) -> bool
+    ensures { engine.new.consumer ≡ engine.old.consumer }
+{
+    let Some(tag) = translation(page) else {
+        return false;
+    };
+    engine.fill(tag, page).is_ok()
+}
+
+/// A queue that holds three entries.
+fn filled(alloc: Global) -> Option<Pair> {
+    let mut pair = new_pair(alloc, 100).ok()?;
+    let filled = fill(&mut pair.engine, 5)
+        && fill(&mut pair.engine, 6)
+        && fill(&mut pair.engine, 7);
+    if filled { Some(pair) } else { None }
+}
+
+/// Whether the three entries are held, each born 0.
+fn holds_all(pair: &Pair) -> bool {
+    for page in 5..8u64 {
+        let Some(tag) = translation(page) else {
+            return false;
+        };
+        match pair.engine.lookup(&tag) {
+            Some(entry) if entry.value == page && entry.born == 0 => {}
+            _ => return false,
+        }
+    }
+    true
+}
 
 fn is_memory(fault: RenewalFault) -> bool {
     matches!(
@@ -26,25 +56,18 @@ fn is_memory(fault: RenewalFault) -> bool {
 
 /// Renews a queue of three entries and says how it went. Where memory runs out the queue comes back, and is renewed then.
 fn outcome(rt: &impl Abort, alloc: Global) -> &'static str {
-    let Ok(mut pair) = new_pair(alloc, 100) else {
+    let Some(mut pair) = filled(alloc) else {
         return "refused";
     };
-    if !(fill(&mut pair, 5, 5) && fill(&mut pair, 6, 6) && fill(&mut pair, 7, 7)) {
-        return "refused";
-    }
-    let (pair, told) = renewed(alloc, pair, SIZES).expect(rt, "room for both");
-    match told {
-        Ok(_) if holds_all(&pair) => "whole",
-        Err(fault) if is_memory(fault) => {
-            let (pair, told) = renewed(alloc, pair, SIZES).expect(rt, "room for both");
-            if told.is_ok() && holds_all(&pair) {
-                "refused"
-            } else {
-                "wrong"
-            }
+    for outcome in ["whole", "refused"] {
+        let (again, told) = renewed(alloc, pair, SIZES).expect(rt, "room for both");
+        match told {
+            Ok(_) if holds_all(&again) => return outcome,
+            Err(fault) if is_memory(fault) => pair = again,
+            _ => return "wrong",
         }
-        _ => "wrong",
     }
+    "wrong"
 }
 
 // Nothing but the queues allocates here, so that each of their allocations can be made to fail.
