@@ -11,43 +11,19 @@ use Rattle.encode.proofs.Written.{IsInDecimal, given}
 
 pub tlbi_nh_all : (vmid : ℕ) → IsInDecimal field.Vmid vmid → IsTextOf (text_of (TlbiNhAll vmid)) (TlbiNhAll vmid)
 unfolding text_of unknown_word value_of behind command_of
-tlbi_nh_all vmid v = record {
-  opcode = op.TlbiNhAll;
-  fields = given v ∷ [];
-  text = refl;
-  known = refl;
-  made = rw v.said;
-}
+tlbi_nh_all vmid v = record { opcode = op.TlbiNhAll; fields = given v ∷ []; text = refl; known = refl; made = rw v.said }
 
 pub tlbi_nh_asid : (vmid asid : ℕ) → IsInDecimal field.Vmid vmid → IsInDecimal field.Asid asid → IsTextOf (text_of (TlbiNhAsid vmid asid)) (TlbiNhAsid vmid asid)
 unfolding text_of unknown_word value_of behind command_of
-tlbi_nh_asid vmid asid v a = record {
-  opcode = op.TlbiNhAsid;
-  fields = given v ∷ given a ∷ [];
-  text = simp append_assoc;
-  known = refl;
-  made = rw (v.said, a.said);
-}
+tlbi_nh_asid vmid asid v a = record { opcode = op.TlbiNhAsid; fields = given v ∷ given a ∷ []; text = simp append_assoc; known = refl; made = rw (v.said, a.said) }
 
 pub tlbi_el2_asid : (asid : ℕ) → IsInDecimal field.Asid asid → IsTextOf (text_of (TlbiEl2Asid asid)) (TlbiEl2Asid asid)
 unfolding text_of unknown_word value_of behind command_of
-tlbi_el2_asid asid a = record {
-  opcode = op.TlbiEl2Asid;
-  fields = given a ∷ [];
-  text = refl;
-  known = refl;
-  made = rw a.said;
-}
+tlbi_el2_asid asid a = record { opcode = op.TlbiEl2Asid; fields = given a ∷ []; text = refl; known = refl; made = rw a.said }
 
 pub tlbi_s12_vmall : (vmid : ℕ) → IsInDecimal field.Vmid vmid → IsTextOf (text_of (TlbiS12Vmall vmid)) (TlbiS12Vmall vmid)
 unfolding text_of unknown_word value_of behind command_of
-tlbi_s12_vmall vmid v = record {
-  opcode = op.TlbiS12Vmall;
-  fields = given v ∷ [];
-  text = refl;
-  known = refl;
-  made = rw v.said;
-}
+tlbi_s12_vmall vmid v = record { opcode = op.TlbiS12Vmall; fields = given v ∷ []; text = refl; known = refl; made = rw v.said }
 
 pub tlbi_el2_all : IsTextOf (text_of TlbiEl2All) TlbiEl2All
 unfolding text_of unknown_word command_of

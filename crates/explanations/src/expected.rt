@@ -7,8 +7,10 @@ use std::fmt;
 pub(crate) enum Expected {
     /// What the line is called.
     Name,
-    /// A number of this range, both ends in it.
-    Number { least: u64, most: u64 },
+    /// A number from 0 to this.
+    UpTo(u64),
+    /// A number from 1 to this.
+    Count(u64),
     /// An address space of 16 bits, or `g` for all of them.
     Scope,
     /// A substream of 20 bits, or `-` for none.
@@ -25,36 +27,17 @@ pub(crate) enum Expected {
     End,
 }
 
-/// A number of 8 bits.
-pub(crate) const EIGHT_BITS: Expected = Expected::Number {
-    least: 0,
-    most: 0xff,
-};
-/// A number of 16 bits.
-pub(crate) const SIXTEEN_BITS: Expected = Expected::Number {
-    least: 0,
-    most: 0xffff,
-};
-/// A number of 20 bits.
-pub(crate) const TWENTY_BITS: Expected = Expected::Number {
-    least: 0,
-    most: 0xf_ffff,
-};
-/// A number of 32 bits.
-pub(crate) const THIRTY_TWO_BITS: Expected = Expected::Number {
-    least: 0,
-    most: 0xffff_ffff,
-};
-/// A number of 52 bits.
-pub(crate) const FIFTY_TWO_BITS: Expected = Expected::Number {
-    least: 0,
-    most: 0xf_ffff_ffff_ffff,
-};
-/// A number of 64 bits.
-pub(crate) const SIXTY_FOUR_BITS: Expected = Expected::Number {
-    least: 0,
-    most: u64::MAX,
-};
+pub(crate) const EIGHT_BITS: Expected = Expected::UpTo(0xff);
+
+pub(crate) const SIXTEEN_BITS: Expected = Expected::UpTo(0xffff);
+
+pub(crate) const TWENTY_BITS: Expected = Expected::UpTo(0xf_ffff);
+
+pub(crate) const THIRTY_TWO_BITS: Expected = Expected::UpTo(0xffff_ffff);
+
+pub(crate) const FIFTY_TWO_BITS: Expected = Expected::UpTo(0xf_ffff_ffff_ffff);
+
+pub(crate) const SIXTY_FOUR_BITS: Expected = Expected::UpTo(u64::MAX);
 
 /// Whether a word says a number from the first to the second.
 fn is_number(least: u64, most: u64, word: &[u8]) -> bool {
@@ -77,7 +60,8 @@ impl Expected {
     pub(crate) fn is_met_by(self, word: &[u8]) -> bool {
         match self {
             Expected::Name => !word.is_empty(),
-            Expected::Number { least, most } => is_number(least, most, word),
+            Expected::UpTo(most) => is_number(0, most, word),
+            Expected::Count(most) => is_number(1, most, word),
             Expected::Scope => word == b"g".as_slice() || is_number(0, 0xffff, word),
             Expected::Substream => word == b"-".as_slice() || is_number(0, 0xf_ffff, word),
             Expected::Looker => word == b"c".as_slice() || is_number(0, 0xffff_ffff, word),
@@ -93,7 +77,8 @@ impl fmt::Display for Expected {
     fn fmt<W: fmt::Write>(&self, f: &mut fmt::Formatter<W>) -> fmt::Result {
         match *self {
             Expected::Name => f.write_str("the name of a line"),
-            Expected::Number { least, most } => write!(f, "a number from {least} to {most}"),
+            Expected::UpTo(most) => write!(f, "a number from 0 to {most}"),
+            Expected::Count(most) => write!(f, "a number from 1 to {most}"),
             Expected::Scope => f.write_str("a number from 0 to 65535, or g,"),
             Expected::Substream => f.write_str("a number from 0 to 1048575, or -,"),
             Expected::Looker => f.write_str("a number from 0 to 4294967295, or c,"),

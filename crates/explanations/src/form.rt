@@ -1,6 +1,11 @@
 //! What the words of a line have to be, from its second on.
 use crate::expected::Expected;
 
+/// The base-2 logarithm of the slots of a ring that can be made.
+pub(crate) const LOG2: Expected = Expected::Count(19);
+/// How many senders a ring that can be made has.
+pub(crate) const SENDERS: Expected = Expected::Count(256);
+
 /// What may stand behind the words that a line always has.
 #[derive(Clone, Copy, Debug, PartialEq, Eq)]
 pub(crate) enum Rest {
@@ -24,30 +29,25 @@ pub(crate) struct Form {
 }
 
 impl Form {
-    /// Of just these words.
-    pub(crate) fn of(words: &'static [Expected]) -> Form {
-        Form {
-            has_tag: false,
-            words,
-            rest: Rest::Nothing,
-        }
-    }
-
-    /// Of a tag and these words.
-    pub(crate) fn with_tag(words: &'static [Expected]) -> Form {
-        Form {
-            has_tag: true,
-            words,
-            rest: Rest::Nothing,
-        }
-    }
-
     /// Of these words and then others.
     pub(crate) fn and(words: &'static [Expected], rest: Rest) -> Form {
         Form {
             has_tag: false,
             words,
             rest,
+        }
+    }
+
+    /// Of just these words.
+    pub(crate) fn of(words: &'static [Expected]) -> Form {
+        Form::and(words, Rest::Nothing)
+    }
+
+    /// Of a tag and these words.
+    pub(crate) fn with_tag(words: &'static [Expected]) -> Form {
+        Form {
+            has_tag: true,
+            ..Form::of(words)
         }
     }
 }

@@ -3,13 +3,10 @@ use crate::expected::{
     EIGHT_BITS, Expected, FIFTY_TWO_BITS, SIXTEEN_BITS, SIXTY_FOUR_BITS, THIRTY_TWO_BITS,
     TWENTY_BITS,
 };
-use crate::form::{Form, Rest};
+use crate::form::{Form, LOG2, Rest, SENDERS};
 
 /// How many steps a line may ask for.
-const STEPS: Expected = Expected::Number {
-    least: 1,
-    most: 1_000_000,
-};
+const STEPS: Rest = Rest::Optional(Expected::Count(1_000_000));
 
 /// The words of a line of this name.
 pub(crate) fn form_of(name: &str) -> Option<Form> {
@@ -32,7 +29,7 @@ pub(crate) fn form_of(name: &str) -> Option<Form> {
         ]),
         "detach" => Form::of(&[THIRTY_TWO_BITS, THIRTY_TWO_BITS]),
         "publish" | "done" | "look" | "close" => Form::of(&[THIRTY_TWO_BITS]),
-        "step" => Form::and(&[], Rest::Optional(STEPS)),
+        "step" => Form::and(&[], STEPS),
         "ack" => Form::of(&[THIRTY_TWO_BITS, Expected::Remedy]),
         "dump" => Form::of(&[]),
         _ => return None,
@@ -60,18 +57,9 @@ pub(crate) fn tag_words(kind: &str) -> &'static [Expected] {
 /// The words of a line that makes a ring which can be made.
 pub(crate) fn ring_form() -> Form {
     Form::of(&[
-        Expected::Number { least: 1, most: 19 },
-        Expected::Number {
-            least: 1,
-            most: 256,
-        },
-        Expected::Number {
-            least: 1,
-            most: 0xffff_ffff,
-        },
-        Expected::Number {
-            least: 1,
-            most: 65_536,
-        },
+        LOG2,
+        SENDERS,
+        Expected::Count(0xffff_ffff),
+        Expected::Count(65_536),
     ])
 }

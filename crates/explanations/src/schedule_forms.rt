@@ -1,9 +1,9 @@
 //! The lines of a schedule.
 use crate::expected::{Expected, THIRTY_TWO_BITS};
-use crate::form::{Form, Rest};
+use crate::form::{Form, LOG2, Rest, SENDERS};
 
 /// How many flags a step may go over.
-const FLAGS: Rest = Rest::Optional(Expected::Number { least: 1, most: 64 });
+const FLAGS: Rest = Rest::Optional(Expected::Count(64));
 
 /// The words of a line of this name.
 pub(crate) fn form_of(name: &str) -> Option<Form> {
@@ -23,11 +23,5 @@ pub(crate) fn form_of(name: &str) -> Option<Form> {
 
 /// The words of a line that makes a ring which can be made.
 pub(crate) fn ring_form() -> Form {
-    Form::of(&[
-        Expected::Number { least: 1, most: 19 },
-        Expected::Number {
-            least: 1,
-            most: 256,
-        },
-    ])
+    Form::of(&[LOG2, SENDERS])
 }

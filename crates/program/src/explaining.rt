@@ -1,8 +1,9 @@
 //! What is told on standard error of lines that can't be served.
+ghost use Rattle.std.specs.Prelude.{◌≡◌};
 ghost use Rattle.program.specs.Explaining.{MayBeTold, TellsOfRefusal};
 ghost use Rattle.script.specs.Statuses.{exit_status};
 
-use crate::telling::{print, print_line};
+use crate::telling::{try_line, try_text};
 use crate::watched::Watched;
 use explanations::{Script, explain};
 use line_answers::Notes;
@@ -10,7 +11,7 @@ use script::{LastLine, Status};
 use std::alloc::Global;
 use std::io::Write;
 
-/// Tells why a line was refused, where there is memory for that. A write that fails here changes nothing.
+/// Tells why a line was refused, where there is memory for that.
 fn try_explanation<F: Write>(
     alloc: Global,
     script: Script,
@@ -20,28 +21,28 @@ fn try_explanation<F: Write>(
     ensures { MayBeTold faults.old faults.new }
 {
     if let Ok(Some(text)) = explain(alloc, script, last) {
-        match print_line(text.as_str(), faults) {
-            Ok(()) | Err(_) => {}
-        }
+        try_line(text.as_str(), faults);
     }
 }
 
-/// Tells of a run that was refused why the line was that ended it, if one is kept.
-pub(crate) fn tell_last_line<F: Write>(
+/// The exit status of a script's run. Of one that was refused it is told why the line was that ended it, if one is kept.
+pub(crate) fn exit_of_script<F: Write>(
     alloc: Global,
     script: Script,
     status: Status,
     last: Option<LastLine>,
     faults: &mut Watched<F>,
-)
-    ensures { TellsOfRefusal (exit_status status) faults.old faults.new }
+) -> u8
+    ensures exit { result ≡ exit_status status }
+    ensures explained { TellsOfRefusal result faults.old faults.new }
 {
     if let (Status::Refused, Some(last)) = (status, last) {
         try_explanation(alloc, script, &last, faults);
     }
+    status.exit_status()
 }
 
-/// Tells what was noted of lines, and of how many lines nothing was. A write that fails here changes nothing.
+/// Tells what was noted of lines, and of how many lines nothing was.
 fn try_notes<F: Write>(alloc: Global, notes: &Notes, faults: &mut Watched<F>)
     ensures { MayBeTold faults.old faults.new }
 {
@@ -53,22 +54,22 @@ fn try_notes<F: Write>(alloc: Global, notes: &Notes, faults: &mut Watched<F>)
         format!(in alloc; "{text}and {left_out} lines more\n")
     };
     if let Ok(told) = told {
-        match print(told.as_str(), faults) {
-            Ok(()) | Err(_) => {}
-        }
+        try_text(told.as_str(), faults);
     }
 }
 
-/// Tells of a run that was refused why its lines were.
-pub(crate) fn tell_notes<F: Write>(
+/// The exit status of lines that were answered. Of a run that was refused it is told why its lines were.
+pub(crate) fn exit_of_lines<F: Write>(
     alloc: Global,
     status: Status,
     notes: &Notes,
     faults: &mut Watched<F>,
-)
-    ensures { TellsOfRefusal (exit_status status) faults.old faults.new }
+) -> u8
+    ensures exit { result ≡ exit_status status }
+    ensures explained { TellsOfRefusal result faults.old faults.new }
 {
     if status == Status::Refused {
         try_notes(alloc, notes, faults);
     }
+    status.exit_status()
 }

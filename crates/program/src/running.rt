@@ -1,20 +1,19 @@
 //! The program, over any reader and writers: what it does, and what it ends with.
 ghost use Rattle.std.specs.Prelude.{◌≡◌};
 ghost use Rattle.command_line.specs.CommandLine.{texts};
-ghost use Rattle.schedule.specs.Scheduling.{ExitsAsSchedule};
-ghost use Rattle.replay.specs.Replaying.{ExitsAsReplay};
-ghost use Rattle.program.specs.Explaining.{Explains, TellsOfRefusal};
+ghost use Rattle.program.specs.Explaining.{Explains};
 ghost use Rattle.program.specs.Stressing.{HasPlan};
 ghost use Rattle.program.specs.Program.{Decodes, ExitsAs, ExitsAsDecode, ExitsAsProgram};
 
-use crate::explaining::tell_last_line;
-use crate::reading::{encode_to_exit, image_to_exit, words_to_exit};
+use crate::explaining::{exit_of_lines, exit_of_script};
+use crate::reading::image_to_exit;
 use crate::serving::decode_text;
 use crate::stressing::stress_to_exit;
 use crate::telling::{print_line, tell, tell_of_memory};
 use crate::troubles::tell_trouble;
 use crate::watched::Watched;
 use command_line::{Subcommand, understand};
+use encode::encode_with_notes;
 use explanations::Script;
 use replay::replay_to_last_line;
 use schedule::schedule_to_last_line;
@@ -22,6 +21,7 @@ use script::Status;
 use std::alloc::{AllocError, Global};
 use std::io::{Read, Write};
 use std::thread::Threads;
+use words::words_with_notes;
 
 /// Says on a line what a word means as a command.
 fn decode<W: Write>(alloc: Global, word: &str, output: &mut Watched<W>) -> Status
@@ -43,36 +43,6 @@ fn decode_to_exit<W: Write>(alloc: Global, word: &str, output: &mut Watched<W>) 
     decode(alloc, word, output).exit_status()
 }
 
-/// The exit status of a replay, of which it is told why a line ended it.
-fn replay_to_exit<I: Read, O: Write, F: Write>(
-    alloc: Global,
-    input: &mut I,
-    output: &mut O,
-    faults: &mut Watched<F>,
-) -> u8
-    ensures done { ExitsAsReplay result (I.remaining input.old) (I.remaining input.new) (O.contents output.old) (O.contents output.new) }
-    ensures explained { TellsOfRefusal result faults.old faults.new }
-{
-    let (status, last) = replay_to_last_line(alloc, input, output);
-    tell_last_line(alloc, Script::Replay, status, last, faults);
-    status.exit_status()
-}
-
-/// The exit status of a schedule, of which it is told why a line ended it.
-fn schedule_to_exit<I: Read, O: Write, F: Write>(
-    alloc: Global,
-    input: &mut I,
-    output: &mut O,
-    faults: &mut Watched<F>,
-) -> u8
-    ensures done { ExitsAsSchedule result (I.remaining input.old) (I.remaining input.new) (O.contents output.old) (O.contents output.new) }
-    ensures explained { TellsOfRefusal result faults.old faults.new }
-{
-    let (status, last) = schedule_to_last_line(alloc, input, output);
-    tell_last_line(alloc, Script::Schedule, status, last, faults);
-    status.exit_status()
-}
-
 /// Does what is asked for, and answers the exit status.
 fn serve<'a, A: Threads + AllocGlobal + Sync, I: Read, O: Write, F: Write>(
     rt: &A,
@@ -86,13 +56,25 @@ fn serve<'a, A: Threads + AllocGlobal + Sync, I: Read, O: Write, F: Write>(
     ensures done { ExitsAs subcommand.entry result (I.remaining input.old) (I.remaining input.new) output.old output.new }
 {
     match subcommand {
-        Subcommand::Replay => replay_to_exit(rt.alloc(), input, output, faults),
-        Subcommand::Schedule => schedule_to_exit(rt.alloc(), input, output, faults),
+        Subcommand::Replay => {
+            let (status, last) = replay_to_last_line(rt.alloc(), input, output);
+            exit_of_script(rt.alloc(), Script::Replay, status, last, faults)
+        }
+        Subcommand::Schedule => {
+            let (status, last) = schedule_to_last_line(rt.alloc(), input, output);
+            exit_of_script(rt.alloc(), Script::Schedule, status, last, faults)
+        }
         Subcommand::Decode(word) => decode_to_exit(rt.alloc(), word, output),
         Subcommand::Stress(numbers) => stress_to_exit(rt, numbers, output),
-        Subcommand::Words => words_to_exit(rt.alloc(), input, output, faults),
+        Subcommand::Words => {
+            let (status, notes) = words_with_notes(rt.alloc(), input, output);
+            exit_of_lines(rt.alloc(), status, &notes, faults)
+        }
         Subcommand::Image(arguments) => image_to_exit(rt.alloc(), &arguments, input, output),
-        Subcommand::Encode => encode_to_exit(rt.alloc(), input, output, faults),
+        Subcommand::Encode => {
+            let (status, notes) = encode_with_notes(rt.alloc(), input, output);
+            exit_of_lines(rt.alloc(), status, &notes, faults)
+        }
     }
 }
 

@@ -4,7 +4,7 @@ ghost use Rattle.std.specs.IoError.{error_kind};
 ghost use Rattle.script.specs.Writing.{no_memory_line};
 ghost use Rattle.program.specs.Watching.{HasFailed, Tells, TellsWith};
 ghost use Rattle.program.specs.Telling.{ExitsAsTold, ExitsWithoutWords, line_of};
-ghost use Rattle.program.specs.Troubles.{TellsTrouble};
+ghost use Rattle.program.specs.Troubles.{IsTried, TellsTrouble};
 
 use crate::troubles::tell_trouble;
 use crate::watched::Watched;
@@ -31,6 +31,24 @@ pub(crate) fn print_line<W: Write>(line: &str, output: &mut Watched<W>) -> io::R
 {
     output.write_all(line.as_bytes())?;
     print("\n", output)
+}
+
+/// Prints a text. A write that fails here changes nothing.
+pub(crate) fn try_text<W: Write>(text: &str, output: &mut Watched<W>)
+    ensures { IsTried output.old output.new text.now }
+{
+    match print(text, output) {
+        Ok(()) | Err(_) => {}
+    }
+}
+
+/// Prints a line. A write that fails here changes nothing.
+pub(crate) fn try_line<W: Write>(line: &str, output: &mut Watched<W>)
+    ensures { IsTried output.old output.new (line_of line.now) }
+{
+    match print_line(line, output) {
+        Ok(()) | Err(_) => {}
+    }
 }
 
 /// Tells that memory ran out.

@@ -1,9 +1,9 @@
 //! What is told on standard error of a run that memory, a read or a write ended.
 ghost use Rattle.std.specs.Prelude.{OnErr, OnOk};
-ghost use Rattle.program.specs.Troubles.{IsToldOfOutput, IsTried, TellsTrouble, out_of_memory_line, stream_line};
+ghost use Rattle.program.specs.Troubles.{IsToldOfOutput, IsTried, TellsTrouble, stream_line};
 ghost use Rattle.program.specs.Watching.{HasFailed, Tells};
 
-use crate::telling::{print, print_line};
+use crate::telling::{print, print_line, try_line};
 use crate::watched::Watched;
 use script::Status;
 use std::alloc::Global;
@@ -25,15 +25,6 @@ fn try_stream<F: Write>(stream: &str, cause: &str, faults: &mut Watched<F>)
     ensures { IsTried faults.old faults.new (stream_line stream.now cause.now) }
 {
     match print_stream(stream, cause, faults) {
-        Ok(()) | Err(_) => {}
-    }
-}
-
-/// Tells that memory ran out.
-fn try_memory<F: Write>(faults: &mut Watched<F>)
-    ensures { IsTried faults.old faults.new out_of_memory_line }
-{
-    match print_line("smmuq: out of memory", faults) {
         Ok(()) | Err(_) => {}
     }
 }
@@ -71,7 +62,7 @@ pub(crate) fn tell_trouble<O: Write, F: Write>(
     ensures { TellsTrouble exit output.now faults.old faults.new }
 {
     if exit == Status::NoMemory.exit_status() {
-        try_memory(faults);
+        try_line("smmuq: out of memory", faults);
     } else if exit == Status::WriteFailed.exit_status() {
         tell_stream(alloc, output, faults);
     }

@@ -42,12 +42,20 @@ fn replace(engine: &mut Engine) -> &'static str
     }
 }
 
-/// The entry of a page's translation, `held PAGE`.
-fn held(alloc: Global, engine: &Engine, page: &str) -> Option<String> {
-    let Some(tag) = translation(page.parse().ok()?) else {
-        return None;
-    };
-    answers::held(alloc, engine.lookup(&tag))
+/// The entries of the translations of pages, `held PAGE ..`.
+fn held(alloc: Global, engine: &Engine, pages: &str) -> Option<String> {
+    let mut told = String::new(alloc);
+    for page in pages.split(" ") {
+        let Some(tag) = translation(page.parse().ok()?) else {
+            return None;
+        };
+        let entry = answers::held(alloc, engine.lookup(&tag))?;
+        if !told.is_empty() {
+            told.push_str(", ").ok()?;
+        }
+        told.push_str(entry.as_str()).ok()?;
+    }
+    Some(told)
 }
 
 /// What is told of an engine without a step.

@@ -17,16 +17,12 @@ fn entries_live_on_and_numbers_begin_anew(rt: HostRuntime) {
          held 7 = 72 born 2\n\
          renew 3 2 3 = reserved 2 taken 2 applied 2 held 3\n\
          taken = 0\n\
-         held 5 = 70 born 0\n\
-         held 6 = 71 born 0\n\
-         held 7 = 72 born 0\n\
+         held 5 6 7 = 70 born 0, 71 born 0, 72 born 0\n\
          fill 8 73 = C1\n\
          send 6 = sender 0 number 1\n\
          run = applied 2 removed 1\n\
          done = 1\n\
-         held 5 = 70 born 0\n\
-         held 6 = none\n\
-         held 7 = 72 born 0",
+         held 5 6 7 = 70 born 0, none, 72 born 0",
     );
 }
 
