@@ -1,0 +1,217 @@
+// Calls of the C library with each allocation failing in turn: a call that takes memory is refused by the status that the
+// header names, and all handles are as they were. Those that take none say so. tools/check-c links it with
+// --wrap=malloc,--wrap=realloc.
+#include "smmuq.h"
+
+#include <stdbool.h>
+#include <stdio.h>
+#include <stdlib.h>
+#include <string.h>
+
+// The allocations that serve before one fails, and how many were asked for.
+static size_t serving = SIZE_MAX, asked;
+
+void *__real_malloc(size_t size);
+void *__real_realloc(void *block, size_t size);
+void *__wrap_malloc(size_t size);
+void *__wrap_realloc(void *block, size_t size);
+
+static bool fails(void) { return asked++ == serving; }
+
+void *__wrap_malloc(size_t size) { return fails() ? NULL : __real_malloc(size); }
+
+void *__wrap_realloc(void *block, size_t size) { return fails() ? NULL : __real_realloc(block, size); }
+
+static void fail(const char *why, const char *call) {
+    printf("%s: %s\n", call, why);
+    exit(1);
+}
+
+// A unit, a ring of two senders with its engine, and handles that hold nothing.
+struct handles {
+    smmuq_handle unit, senders[2], engine, empty[3];
+};
+
+#define HANDLES 7
+
+static const smmuq_tag FILLED = {.kind = SMMUQ_S1, .vmid = 1, .has_asid = 1, .asid = 2, .address = 0x1000};
+static const smmuq_tag OTHER = {.kind = SMMUQ_S1, .vmid = 1, .has_asid = 1, .asid = 2, .address = 0x2000};
+static const smmuq_words TLBI_NSNH_ALL = {0x30, 0}, UNKNOWN = {0xff, 0};
+
+static struct handles made(void) {
+    struct handles handles = {SMMUQ_EMPTY, {SMMUQ_EMPTY, SMMUQ_EMPTY}, SMMUQ_EMPTY, {SMMUQ_EMPTY, SMMUQ_EMPTY, SMMUQ_EMPTY}};
+    smmuq_verdict verdict;
+    uint32_t number;
+    if (smmuq_unit_new(4, &handles.unit) || smmuq_fill(&handles.unit, &FILLED, 7) ||
+        smmuq_unit_judge(&handles.unit, UNKNOWN.lo, UNKNOWN.hi, &verdict) != SMMUQ_ILL1 ||
+        smmuq_ring_new(4, 9, 4, handles.senders, 2, &handles.engine) || smmuq_fill(&handles.engine, &FILLED, 8) ||
+        smmuq_send(&handles.senders[0], &TLBI_NSNH_ALL, 1, 1, &number))
+        fail("refused", "what comes before");
+    return handles;
+}
+
+static smmuq_handle *nth(struct handles *handles, size_t n) {
+    smmuq_handle *all[HANDLES] = {&handles->unit,     &handles->senders[0], &handles->senders[1], &handles->engine,
+                                  &handles->empty[0], &handles->empty[1],   &handles->empty[2]};
+    return all[n];
+}
+
+static void freed(struct handles *handles) {
+    for (size_t n = 0; n < HANDLES; n++)
+        smmuq_free(nth(handles, n));
+}
+
+// All that calls tell of a handle.
+static size_t describe(smmuq_handle *handle, char *text, size_t room) {
+    smmuq_errors errors = {0};
+    smmuq_tallies tallies = {0};
+    smmuq_queue_registers registers = {0};
+    smmuq_queue_control control = {0};
+    smmuq_entry entries[8];
+    size_t count = 0;
+    uint32_t number = 0;
+    smmuq_held held[2] = {{0}};
+    uint32_t state = smmuq_state(handle, &errors, &tallies), listed = smmuq_entries(handle, entries, 8, &count);
+    uint32_t first = smmuq_lookup(handle, &FILLED, &held[0]), second = smmuq_lookup(handle, &OTHER, &held[1]);
+    uint32_t engine = smmuq_registers(handle, &registers), looked = smmuq_look(handle, &control);
+    uint32_t told = smmuq_done_up_to(handle, &number);
+    return (size_t)snprintf(text, room, "kind %u; %u %u %u %u %llu %llu; %u %zu; %u %llu %u %llu; %u %x %x; %u %x %x %u; %u %u\n",
+                            smmuq_kind(handle), state, errors.err, errors.gerror, errors.gerrorn,
+                            (unsigned long long)tallies.applied, (unsigned long long)tallies.replaced, listed, count, first,
+                            (unsigned long long)held[0].value, second, (unsigned long long)held[1].value, engine,
+                            registers.prod, registers.cons, looked, control.prod, control.cons, control.closed, told, number);
+}
+
+static void describe_all(struct handles *handles, char *text, size_t room) {
+    size_t written = 0;
+    for (size_t n = 0; n < HANDLES && written < room; n++)
+        written += describe(nth(handles, n), text + written, room - written);
+}
+
+// The calls.
+
+static uint32_t unit_new(struct handles *handles) { return smmuq_unit_new(4, &handles->empty[0]); }
+static uint32_t unit_reset(struct handles *handles) { return smmuq_unit_new(4, &handles->unit); }
+static uint32_t ring_new(struct handles *handles) { return smmuq_ring_new(5, 9, 4, handles->empty, 2, &handles->empty[2]); }
+static uint32_t ring_again(struct handles *handles) {
+    return smmuq_ring_new(5, 9, 4, handles->senders, 2, &handles->engine);
+}
+static uint32_t fill_unit(struct handles *handles) { return smmuq_fill(&handles->unit, &OTHER, 9); }
+static uint32_t fill_engine(struct handles *handles) { return smmuq_fill(&handles->engine, &OTHER, 9); }
+static uint32_t fill_in_place(struct handles *handles) { return smmuq_fill(&handles->unit, &FILLED, 9); }
+
+static uint32_t entries_of(smmuq_handle *handle) {
+    smmuq_entry entries[8];
+    size_t count;
+    return smmuq_entries(handle, entries, 8, &count);
+}
+static uint32_t entries_of_unit(struct handles *handles) { return entries_of(&handles->unit); }
+static uint32_t entries_of_engine(struct handles *handles) { return entries_of(&handles->engine); }
+
+static uint32_t text(struct handles *handles) {
+    uint8_t room[160];
+    size_t length;
+    (void)handles;
+    return smmuq_text(TLBI_NSNH_ALL.lo, TLBI_NSNH_ALL.hi, room, sizeof room, &length);
+}
+
+static uint32_t status_text(struct handles *handles) {
+    uint8_t room[80];
+    size_t length;
+    (void)handles;
+    return smmuq_status_text(SMMUQ_Q2, room, sizeof room, &length);
+}
+
+static uint32_t find(struct handles *handles) {
+    smmuq_tag tag;
+    smmuq_held held;
+    return smmuq_find(&handles->unit, SMMUQ_S1, 1, 2, 0x1234, 1, &tag, &held);
+}
+
+static uint32_t evict(struct handles *handles) {
+    smmuq_held held;
+    return smmuq_evict(&handles->unit, &FILLED, &held);
+}
+
+static uint32_t acknowledge_and_judge(struct handles *handles) {
+    smmuq_verdict verdict;
+    uint32_t status = smmuq_acknowledge(&handles->unit, 1, 1);
+    return status ? status : smmuq_unit_judge(&handles->unit, UNKNOWN.lo, UNKNOWN.hi, &verdict);
+}
+
+static uint32_t send_of_63(struct handles *handles) {
+    smmuq_words batch[63];
+    uint32_t number;
+    for (size_t n = 0; n < 63; n++)
+        batch[n] = TLBI_NSNH_ALL;
+    return smmuq_send(&handles->senders[1], batch, 63, 1, &number);
+}
+
+static uint32_t send(struct handles *handles) {
+    uint32_t number;
+    return smmuq_send(&handles->senders[1], &TLBI_NSNH_ALL, 1, 1, &number);
+}
+
+static uint32_t run(struct handles *handles) {
+    smmuq_run_answer answer;
+    return smmuq_run(&handles->engine, 64, &answer);
+}
+
+static const struct {
+    const char *name;
+    uint32_t (*call)(struct handles *handles);
+    // What it answers where memory serves, and where it doesn't.
+    uint32_t status, refused;
+} CALLS[] = {
+    {"smmuq_unit_new", unit_new, SMMUQ_OK, SMMUQ_NO_MEMORY},
+    {"smmuq_unit_new over a unit", unit_reset, SMMUQ_OK, SMMUQ_NO_MEMORY},
+    {"smmuq_ring_new", ring_new, SMMUQ_OK, SMMUQ_N4},
+    {"smmuq_ring_new over a ring", ring_again, SMMUQ_OK, SMMUQ_N4},
+    {"smmuq_fill of a unit", fill_unit, SMMUQ_OK, SMMUQ_C3},
+    {"smmuq_fill of an engine", fill_engine, SMMUQ_OK, SMMUQ_C3},
+    {"smmuq_fill in place", fill_in_place, SMMUQ_OK, SMMUQ_C3},
+    {"smmuq_entries of a unit", entries_of_unit, SMMUQ_OK, SMMUQ_C3},
+    {"smmuq_entries of an engine", entries_of_engine, SMMUQ_OK, SMMUQ_C3},
+    {"smmuq_text", text, SMMUQ_OK, SMMUQ_NO_MEMORY},
+    {"smmuq_status_text", status_text, SMMUQ_OK, SMMUQ_NO_MEMORY},
+    {"smmuq_find", find, SMMUQ_OK, SMMUQ_C3},
+    {"smmuq_evict", evict, SMMUQ_OK, SMMUQ_C3},
+    {"smmuq_acknowledge and smmuq_unit_judge", acknowledge_and_judge, SMMUQ_REPLACED, SMMUQ_C3},
+    {"smmuq_send", send, SMMUQ_OK, SMMUQ_NO_MEMORY},
+    {"smmuq_send of 63 commands", send_of_63, SMMUQ_Q4, SMMUQ_NO_MEMORY},
+    {"smmuq_run", run, SMMUQ_OK, SMMUQ_C3},
+};
+
+// Makes a call with this allocation failing, and says whether it came to that.
+static bool was_refused(size_t which, size_t failing) {
+    struct handles handles = made();
+    char before[4096], after[4096];
+    describe_all(&handles, before, sizeof before);
+    serving = failing;
+    asked = 0;
+    uint32_t status = CALLS[which].call(&handles);
+    serving = SIZE_MAX;
+    bool refused = failing < asked;
+    if (refused) {
+        describe_all(&handles, after, sizeof after);
+        if (strcmp(before, after) != 0)
+            fail("a handle isn't as it was", CALLS[which].name);
+        bool is_of_memory = status == CALLS[which].refused || status == SMMUQ_NO_MEMORY;
+        if (!is_of_memory)
+            fail("another status than that of memory", CALLS[which].name);
+    } else if (status != CALLS[which].status) {
+        fail("refused where memory serves", CALLS[which].name);
+    }
+    freed(&handles);
+    return refused;
+}
+
+int main(void) {
+    for (size_t which = 0; which < sizeof CALLS / sizeof *CALLS; which++) {
+        size_t failing = 0;
+        while (was_refused(which, failing))
+            failing++;
+        printf("%s: %s\n", CALLS[which].name, failing == 0 ? "takes no memory" : "is refused where memory is wanting");
+    }
+    return 0;
+}
