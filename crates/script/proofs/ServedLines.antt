@@ -6,6 +6,7 @@ use Rattle.script.specs.declared.ending.Ending.TheVariants.{Finished, Refused}
 use Rattle.script.specs.Lines.{lines_of}
 use Rattle.script.specs.Outcome.{Outcome, Continues, Ends, with_front, fault, fault_line}
 use Rattle.script.specs.Knowing.{Learns, Leads}
+use Rattle.script.specs.Endings.{EndsAtLine, EndsKnown}
 use Rattle.script.specs.Serving.{RunGives, Advances, Stops, Halts, Closes}
 use Rattle.script.proofs.Searches.{NoneBefore}
 use Rattle.script.proofs.LineLemmas.{EndsAt, IsWhole-append, lines_of-nothing, lines_of-at, lines_of-ended, lines_of-front, lines_of-last}
@@ -14,9 +15,9 @@ use Rattle.script.proofs.LineLemmas.{EndsAt, IsWhole-append, lines_of-nothing, l
 abbrev pub EndsWithNothing : (ℕ → List (List ℕ) → Outcome → Type 0) → Type 0
 EndsWithNothing may = (n : ℕ) → may n [] (record { text = []; ending = Some Finished })
 
--- a line that is too long ends a run
-abbrev pub RefusesLongLines : (ℕ → List (List ℕ) → Outcome → Type 0) → Type 0
-RefusesLongLines may = (n : ℕ) (line : List ℕ) (lines : List (List ℕ)) → 4096 < length line → may n (line ∷ lines) (fault n (codes "long line"))
+-- a line of this number that is too long ends a run
+abbrev pub RefusesLongLine : (ℕ → List (List ℕ) → Outcome → Type 0) → ℕ → Type 0
+RefusesLongLine may n = (line : List ℕ) (lines : List (List ℕ)) → 4096 < length line → may n (line ∷ lines) (fault n (codes "long line"))
 
 pub with_front-with_front : (a b : List ℕ) (outcome : Outcome) → with_front a (with_front b outcome) ≡ with_front (a ++ b) outcome
 with_front-with_front a b outcome = ap (λ t. record { text = t; ending = outcome.ending }) (sym (append_assoc a b outcome.text))
@@ -60,20 +61,20 @@ stops_line before old new k found line more =
     gives_last_answer before old new (old.pending ++ more) (take k old.pending) line.answer _ (lines_of-at old.pending more k found) (line.rest _) line.text
 
 -- a line that is too long, with its end
-pub stops_long : (before : ℕ → List (List ℕ) → Outcome → Type 0) (old new : Run) (k : ℕ) → RefusesLongLines before → EndsAt old.pending k → 4096 < k
+pub stops_long : (before : ℕ → List (List ℕ) → Outcome → Type 0) (old new : Run) (k : ℕ) → RefusesLongLine before (old.lines + 1) → EndsAt old.pending k → 4096 < k
     → string_bytes new.text ≡ string_bytes old.text ++ fault_line (old.lines + 1) (codes "long line") → Stops before old new
 stops_long before old new k refuses found long text more =
     let inside = found.inside in
     gives_last_answer before old new (old.pending ++ more) (take k old.pending) (fault_line (old.lines + 1) (codes "long line")) _ (lines_of-at old.pending more k found)
-    (refuses _ _ _ (omega (arith, length-take k old.pending))) text
+    (refuses _ _ (omega (arith, length-take k old.pending))) text
 
 -- a line that is too long before its end
-pub stops_long_front : (before : ℕ → List (List ℕ) → Outcome → Type 0) (old new : Run) → RefusesLongLines before → NoneBefore 10 old.pending (length old.pending)
+pub stops_long_front : (before : ℕ → List (List ℕ) → Outcome → Type 0) (old new : Run) → RefusesLongLine before (old.lines + 1) → NoneBefore 10 old.pending (length old.pending)
     → 4096 < length old.pending → string_bytes new.text ≡ string_bytes old.text ++ fault_line (old.lines + 1) (codes "long line") → Stops before old new
 stops_long_front before old new refuses none long text more =
     let front = lines_of-front old.pending more none (omega arith) in
     gives_last_answer before old new (old.pending ++ more) (old.pending ++ front.0) (fault_line (old.lines + 1) (codes "long line")) front.1 front.2
-    (refuses _ _ _ (omega (arith, length-append old.pending front.0))) text
+    (refuses _ _ (omega (arith, length-append old.pending front.0))) text
 
 -- nothing is pending
 pub closes_nothing : (before : ℕ → List (List ℕ) → Outcome → Type 0) (old new : Run) → EndsWithNothing before → old.pending ≡ [] → string_bytes new.text ≡ string_bytes old.text
@@ -108,6 +109,54 @@ leads_line knows before after last old new number line told now answered learns 
   text = answered.text;
   rest = λ lines outcome leads past known. subst (knows last) (append_assoc past (line ∷ []) lines) (leads (past ++ line ∷ []) (learns past known));
 }
+
+-- ---- which line ends a run
+
+-- none that was answered
+pub passes_line : (is_last : ℕ → List ℕ → Type 0) (before after : ℕ → List (List ℕ) → Outcome → Type 0) (number : ℕ) (line told now : List ℕ) → Continues before after number line told now
+    → Continues (EndsKnown before is_last) (EndsKnown after is_last) number line told now
+passes_line is_last before after number line told now answered = record {
+  answer = answered.answer;
+  text = answered.text;
+  rest = λ lines outcome known refused.
+      let at = known refused in
+      record {
+        before = line ∷ at.before;
+        line = at.line;
+        after = at.after;
+        split = ap (λ behind. line ∷ behind) at.split;
+        ends = λ more. answered.rest (at.before ++ at.line ∷ more) outcome (at.ends more);
+        last = subst (λ n. is_last n at.line) (omega arith) at.last;
+      };
+}
+
+-- the first, of which that is known
+ends_first : (is_last : ℕ → List ℕ → Type 0) (before : ℕ → List (List ℕ) → Outcome → Type 0) (number : ℕ) (line : List ℕ) (lines : List (List ℕ)) (outcome : Outcome)
+    → ((more : List (List ℕ)) → before number (line ∷ more) outcome) → is_last number line → EndsAtLine before is_last number (line ∷ lines) outcome
+ends_first is_last before number line lines outcome ends known = record {
+  before = [];
+  line = line;
+  after = lines;
+  split = refl;
+  ends = ends;
+  last = subst (λ n. is_last n line) (omega arith) known;
+}
+
+pub ends_line : (is_last : ℕ → List ℕ → Type 0) (before : ℕ → List (List ℕ) → Outcome → Type 0) (number : ℕ) (line told now : List ℕ) → Ends before number line told now → is_last number line
+    → Ends (EndsKnown before is_last) number line told now
+ends_line is_last before number line told now ended known = record {
+  answer = ended.answer;
+  text = ended.text;
+  rest = λ lines _. ends_first is_last before number line lines _ ended.rest known;
+}
+
+pub ends_long : (is_last : ℕ → List ℕ → Type 0) (before : ℕ → List (List ℕ) → Outcome → Type 0) (number : ℕ) → RefusesLongLine before number
+    → ((line : List ℕ) → 4096 < length line → is_last number line) → RefusesLongLine (EndsKnown before is_last) number
+ends_long is_last before number refuses known line lines long _ = ends_first is_last before number line lines _ (λ more. refuses line more long) (known line long)
+
+-- and none where no line is left
+pub ends_nowhere : (is_last : ℕ → List ℕ → Type 0) (before : ℕ → List (List ℕ) → Outcome → Type 0) → EndsWithNothing (EndsKnown before is_last)
+ends_nowhere is_last before n refused = absurd (cc refused)
 
 -- ---- lines after lines
 

@@ -45,6 +45,10 @@ has_read_part input mid rest turns made s t u part h taken same more read enough
       counted = omega (arith, length-append t.pending part, length-append h.bytes part);
     }
 
+-- Lines were served, which took a byte away.
+pub has_read_less : (input rest : Option (List ℕ)) (turns : ℕ) (s t : Run) → HasRead input rest turns s → TakesBytes s t → length t.pending < length s.pending → HasRead input rest (turns + 1) t
+has_read_less input rest turns s t h taken shorter = record { bytes = h.bytes; read = h.read; lines = omega arith; counted = omega arith }
+
 -- where a line fits no number any more
 pub endless_lines : (input rest : Option (List ℕ)) (turns number : ℕ) (s : Run) (e : ServeError) → HasRead input rest turns s → number ≤ s.lines + length s.pending + 1
     → (is_write e ≡ true) ⊎ WantsMemoryOrNumber e number → is_endless e ≡ true → ReadsAtLeast (2 ^ 63) input rest

@@ -2,6 +2,7 @@ pub mod Lines
 pub mod Words
 pub mod Outcome
 pub mod Knowing
+pub mod Endings
 pub mod Errors
 pub mod Writing
 pub mod Serving
@@ -15,3 +16,4 @@ pub mod Standing
 pub mod Giving
 pub mod GivingLaws
 pub mod Serves
+pub mod LastLines

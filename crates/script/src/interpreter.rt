@@ -17,6 +17,9 @@ pub trait Interpreter {
     /// What it knows of the lines that it served, all of them: whatever its author wants to be told once all are served.
     ghost knows: { Self → List (List ℕ) → Type 0 };
 
+    /// What it knows of the line that ended the run, by its number.
+    ghost ended_at: { Self → ℕ → List ℕ → Type 0 };
+
     /// Serves the line of this number, appends its answer to `reply`, and says whether the run goes on.
     /// Where memory ran out the run is over, and neither `self` nor `reply` is of use.
     fn serve_line(
@@ -30,7 +33,12 @@ pub trait Interpreter {
             → Continues (gives self.old) (gives self.new) number line.now (string_bytes reply.old) (string_bytes reply.new)) }
         ensures ends { IfOk result (λ goes_on. goes_on ≡ false
             → Ends (gives self.old) number line.now (string_bytes reply.old) (string_bytes reply.new)) }
+        ensures last { IfOk result (λ goes_on. goes_on ≡ false → ended_at self.new number line.now) }
         ensures learns { IfOk result (λ goes_on. goes_on ≡ true → Learns knows self.old self.new (line.now ∷ [])) };
+
+    /// Hears that the line of this number is too long, which ends the run, and what it was answered with.
+    fn hear_of_long_line(&mut self, number: u64, reply: &str)
+        ensures { (line : List ℕ) → 4096 < length line → ended_at self.new number line };
 
     /// Where no line is left the run is at its end.
     ghost nothing_left: { (s : Self) (n : ℕ) → gives s n [] (record { text = []; ending = Some Finished }) };

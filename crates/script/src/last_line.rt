@@ -1,4 +1,6 @@
 //! The line that ended the run of a script.
+ghost use Rattle.std.specs.Prelude.{◌≡◌, IfOk};
+
 use std::alloc::{AllocError, Global};
 
 /// How many bytes of an answer are kept, the last ones.
@@ -9,7 +11,7 @@ const KEPT_OF_ANSWER: usize = 64;
 pub struct LastLine {
     /// Its number, counted from 1.
     pub number: u64,
-    /// Its bytes without its end, at most 4,096.
+    /// Its bytes without its end; none where they are more than 4,096.
     pub text: Vec<u8>,
     /// The last bytes of what it was answered with, at most 64.
     pub answer: Vec<u8>,
@@ -22,7 +24,10 @@ impl LastLine {
         number: u64,
         text: &[u8],
         answer: &[u8],
-    ) -> Result<LastLine, AllocError> {
+    ) -> Result<LastLine, AllocError>
+        ensures number { IfOk result (λ last. last.number ≡ number) }
+        ensures text { IfOk result (λ last. last.text.items ≡ text.now) }
+    {
         let from = answer.len().saturating_sub(KEPT_OF_ANSWER);
         Ok(LastLine {
             number,

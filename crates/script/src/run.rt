@@ -5,6 +5,7 @@ ghost use Rattle.memchr.specs.Find.{IsFirstByte, is_byte};
 ghost use Rattle.script.specs.Lines.{HasNoEnd, lines_of};
 ghost use Rattle.script.specs.Outcome.{Continues, Ends, fault_line};
 ghost use Rattle.script.specs.Knowing.{Learns, Leads};
+ghost use Rattle.script.specs.Endings.{EndsKnown};
 ghost use Rattle.script.specs.Errors.{is_read, is_memory, is_write, WantsMemoryOrNumber};
 ghost use Rattle.script.specs.Writing.{no_memory_line};
 
@@ -85,6 +86,7 @@ impl Run {
             → Continues (I.gives interpreter.old) (I.gives interpreter.new) (self.old.lines + 1) (take end self.old.pending) (string_bytes self.old.text) (string_bytes self.new.text)) }
         ensures ends { IfOk result (λ goes_on. goes_on ≡ false
             → Ends (I.gives interpreter.old) (self.old.lines + 1) (take end self.old.pending) (string_bytes self.old.text) (string_bytes self.new.text)) }
+        ensures last { IfOk result (λ goes_on. goes_on ≡ false → I.ended_at interpreter.new (self.old.lines + 1) (take end self.old.pending)) }
         ensures learns { IfOk result (λ goes_on. goes_on ≡ true → Learns I.knows interpreter.old interpreter.new (take end self.old.pending ∷ [])) }
         ensures err { OnErr result (string_bytes self.new.text ≡ string_bytes self.old.text) }
         ensures error { IfErr result (λ e. WantsMemoryOrNumber e (self.old.lines + 1)) }
@@ -104,7 +106,8 @@ impl Run {
     }
 
     // Answers a line that is too long, whatever it says.
-    fn refuse_long_line(&mut self) -> Result<(), ServeError>
+    fn refuse_long_line<I: Interpreter>(&mut self, interpreter: &mut I) -> Result<(), ServeError>
+        ensures last { OnOk result ((line : List ℕ) → 4096 < length line → I.ended_at interpreter.new (self.old.lines + 1) line) }
         ensures same { SameButText self.old self.new }
         ensures text { OnOk result (string_bytes self.new.text ≡ string_bytes self.old.text ++ fault_line (self.old.lines + 1) (codes "long line")) }
         ensures err { OnErr result (string_bytes self.new.text ≡ string_bytes self.old.text) }
@@ -117,6 +120,7 @@ impl Run {
         if let Err(e) = write!(self.reply, "line {number}: long line\n") {
             return Err(ServeError::Memory(e));
         }
+        interpreter.hear_of_long_line(number, self.reply.as_str());
         self.gather()
     }
 
@@ -132,12 +136,16 @@ impl Run {
             → Advances (Leads I.knows last interpreter.old) (Leads I.knows last interpreter.new) self.old self.new) }
         ensures lines { IfOk result (λ goes_on. goes_on ≡ true → self.new.lines ≡ self.old.lines + 1) }
         ensures shorter { IfOk result (λ goes_on. goes_on ≡ true → length self.new.pending < length self.old.pending) }
+        ensures passes { IfOk result (λ goes_on. goes_on ≡ true → (last : I)
+            → Advances (EndsKnown (I.gives interpreter.old) (I.ended_at last)) (EndsKnown (I.gives interpreter.new) (I.ended_at last)) self.old self.new) }
         ensures stops { IfOk result (λ goes_on. goes_on ≡ false → Stops (I.gives interpreter.old) self.old self.new) }
+        ensures last { IfOk result (λ goes_on. goes_on ≡ false
+            → Stops (EndsKnown (I.gives interpreter.old) (I.ended_at interpreter.new)) self.old self.new) }
         ensures err { OnErr result (string_bytes self.new.text ≡ string_bytes self.old.text) }
         ensures error { IfErr result (λ e. WantsMemoryOrNumber e (self.old.lines + 1)) }
     {
         if end > LONGEST_LINE {
-            self.refuse_long_line()?;
+            self.refuse_long_line(interpreter)?;
             return Ok(false);
         }
         if !self.answer_line(interpreter, end)? {
@@ -155,7 +163,11 @@ impl Run {
         ensures takes { IfOk result (λ pause. pause ≢ Pause.Ended → TakesBytes self.old self.new) }
         ensures full { IfOk result (λ pause. pause ≡ Pause.Full → length self.new.pending < length self.old.pending) }
         ensures drained { IfOk result (λ pause. pause ≡ Pause.Drained → HasNoEnd self.new.pending × (length self.new.pending ≤ 4096)) }
+        ensures passes { IfOk result (λ pause. pause ≢ Pause.Ended → (last : I)
+            → Advances (EndsKnown (I.gives interpreter.old) (I.ended_at last)) (EndsKnown (I.gives interpreter.new) (I.ended_at last)) self.old self.new) }
         ensures stops { IfOk result (λ pause. pause ≡ Pause.Ended → Stops (I.gives interpreter.old) self.old self.new) }
+        ensures last { IfOk result (λ pause. pause ≡ Pause.Ended
+            → Stops (EndsKnown (I.gives interpreter.old) (I.ended_at interpreter.new)) self.old self.new) }
         ensures halts { OnErr result (Halts (I.gives interpreter.old) self.old self.new) }
         ensures error { IfErr result (λ e. WantsMemoryOrNumber e (self.old.lines + length self.old.pending + 1)) }
     {
@@ -169,7 +181,7 @@ impl Run {
         }
         if self.pending.as_slice().len() > LONGEST_LINE {
             // The line is too long already, wherever its end is.
-            self.refuse_long_line()?;
+            self.refuse_long_line(interpreter)?;
             return Ok(Pause::Ended);
         }
         Ok(Pause::Drained)
@@ -180,6 +192,7 @@ impl Run {
         requires no_end { HasNoEnd self.old.pending }
         requires short { length self.old.pending ≤ 4096 }
         ensures closes { IfOk result (Closes (I.gives interpreter.old) self.old self.new) }
+        ensures last { IfOk result (Closes (EndsKnown (I.gives interpreter.old) (I.ended_at interpreter.new)) self.old self.new) }
         ensures learns { IfOk result (λ ending. ending ≡ Ending.Finished → Learns I.knows interpreter.old interpreter.new (lines_of self.old.pending)) }
         ensures halts { OnErr result (Halts (I.gives interpreter.old) self.old self.new) }
         ensures error { IfErr result (λ e. WantsMemoryOrNumber e (self.old.lines + 1)) }
@@ -250,12 +263,18 @@ impl Run {
             → KeepsWay (I.gives first) (I.gives interpreter.old) (I.gives interpreter.new) rest rest (W.contents output.old) (W.contents output.new) self.old self.new) }
         ensures learns { IfOk result (λ pause. pause ≢ Pause.Ended → (first : I) (last : I) (rest : Option (List ℕ))
             → KeepsWay (Leads I.knows last first) (Leads I.knows last interpreter.old) (Leads I.knows last interpreter.new) rest rest (W.contents output.old) (W.contents output.new) self.old self.new) }
+        ensures passes { IfOk result (λ pause. pause ≢ Pause.Ended → (first : I) (last : I) (rest : Option (List ℕ))
+            → KeepsWay (EndsKnown (I.gives first) (I.ended_at last)) (EndsKnown (I.gives interpreter.old) (I.ended_at last)) (EndsKnown (I.gives interpreter.new) (I.ended_at last))
+            rest rest (W.contents output.old) (W.contents output.new) self.old self.new) }
         ensures takes { IfOk result (λ pause. pause ≢ Pause.Ended → TakesBytes self.old self.new) }
         ensures full { IfOk result (λ pause. pause ≡ Pause.Full → length self.new.pending < length self.old.pending) }
         ensures drained { IfOk result (λ pause. pause ≡ Pause.Drained
             → HasNoEnd self.new.pending × (length self.new.pending ≤ 4096) × (string_bytes self.new.text ≡ [])) }
         ensures ended { IfOk result (λ pause. pause ≡ Pause.Ended → (first : I) (rest : Option (List ℕ))
             → GivesAnswer (I.gives first) (I.gives interpreter.old) rest (W.contents output.old) (W.contents output.new) self.old Ending.Refused) }
+        ensures last { IfOk result (λ pause. pause ≡ Pause.Ended → (first : I) (rest : Option (List ℕ))
+            → GivesAnswer (EndsKnown (I.gives first) (I.ended_at interpreter.new)) (EndsKnown (I.gives interpreter.old) (I.ended_at interpreter.new))
+            rest (W.contents output.old) (W.contents output.new) self.old Ending.Refused) }
         ensures memory { IfErr result (λ e. is_memory e ≡ true → (first : I) (rest : Option (List ℕ))
             → GivesNoMemory (I.gives first) (I.gives interpreter.old) rest (W.contents output.old) (W.contents output.new) self.old) }
         ensures err { OnErr result ((first : I) (rest : Option (List ℕ))
@@ -281,6 +300,9 @@ impl Run {
         requires short { length self.old.pending ≤ 4096 }
         ensures answer { IfOk result (λ ending. (first : I) (rest : Option (List ℕ)) → IsAtEnd rest
             → GivesAnswer (I.gives first) (I.gives interpreter.old) rest (W.contents output.old) (W.contents output.new) self.old ending) }
+        ensures last { IfOk result (λ ending. (first : I) (rest : Option (List ℕ)) → IsAtEnd rest
+            → GivesAnswer (EndsKnown (I.gives first) (I.ended_at interpreter.new)) (EndsKnown (I.gives interpreter.old) (I.ended_at interpreter.new))
+            rest (W.contents output.old) (W.contents output.new) self.old ending) }
         ensures learns { IfOk result (λ ending. ending ≡ Ending.Finished → Learns I.knows interpreter.old interpreter.new (lines_of self.old.pending)) }
         ensures memory { IfErr result (λ e. is_memory e ≡ true → (first : I) (rest : Option (List ℕ))
             → GivesNoMemory (I.gives first) (I.gives interpreter.old) rest (W.contents output.old) (W.contents output.new) self.old) }

@@ -2,6 +2,7 @@
 ghost use Rattle.std.specs.Prelude.{◌≡◌, ◌^◌, IfOk, IfErr, IfSome, OnErr, true};
 ghost use Rattle.std.specs.Io.KnownBytes.{IsAtEnd};
 ghost use Rattle.script.specs.Errors.{is_read, is_memory, is_endless};
+ghost use Rattle.script.specs.Endings.{EndsKnown};
 ghost use Rattle.script.specs.Knowing.{Learns};
 ghost use Rattle.script.specs.Lines.{lines_of};
 ghost use Rattle.script.specs.Writing.{WritesAnswer, WritesNoMemory, WritesBeginning, AnswersWholeLines, ReadsAtLeast};
@@ -25,6 +26,10 @@ pub fn serve<I: Interpreter, R: Read, W: Write>(
     // Where nothing failed, what was written is what the script comes to, and nothing else.
     ensures answer { IfOk result (λ ending. WritesAnswer (I.gives interpreter.old) (R.remaining input.old) (W.contents output.old) (W.contents output.new) ending) }
     ensures end { IfOk result (λ ending. ending ≡ Ending.Finished → IsAtEnd (R.remaining input.new)) }
+
+    // Where a line ended the run, the interpreter knows which.
+    ensures last { IfOk result (λ ending. WritesAnswer (EndsKnown (I.gives interpreter.old) (I.ended_at interpreter.new))
+        (R.remaining input.old) (W.contents output.old) (W.contents output.new) ending) }
 
     // Where the script was served to its end, the interpreter has learned of all of its lines.
     ensures learns { IfOk result (λ ending. ending ≡ Ending.Finished

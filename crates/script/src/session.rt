@@ -1,7 +1,8 @@
 //! The lines of a script of any kind, one after another.
-ghost use Rattle.std.specs.Prelude.{◌≡◌, ◌≤◌, IfOk, None, length, string_bytes};
+ghost use Rattle.std.specs.Prelude.{◌≡◌, ◌≤◌, [], IfOk, IfSome, None, false, length, string_bytes};
 ghost use Rattle.script.specs.Giving.{MayAnswer, Holds};
 ghost use Rattle.script.specs.Kinds.{request_from, request_of, request_effect, line_effect};
+ghost use Rattle.script.specs.LastLines.{EndedBy, IsLine};
 ghost use Rattle.script.specs.Serves.{Serves};
 ghost use Rattle.script.specs.Standing.{ActsAt};
 ghost use Rattle.script.specs.Words.{words_of};
@@ -125,7 +126,9 @@ impl<K: ScriptKind> Session<K> {
 impl<K: ScriptKind> Session<K> {
     /// Keeps the line that ended the run, where there is memory for it.
     fn keep(&mut self, number: u64, line: &[u8], answer: &[u8])
-        ensures { self.new.kept ≡ self.old.kept }
+        ensures kept { self.new.kept ≡ self.old.kept }
+        ensures number { IfSome self.new.last (λ last. last.number ≡ number) }
+        ensures text { IfSome self.new.last (λ last. last.text.items ≡ line.now) }
     {
         self.last = LastLine::new(self.alloc, number, line, answer).ok();
     }
@@ -137,7 +140,8 @@ impl<K: ScriptKind> Session<K> {
         reply: &mut String,
     ) -> Result<bool, AllocError>
         requires { length line.now ≤ 4096 }
-        ensures { IfOk result (λ goes_on. ActsAt K.stands (λ wanting state. line_effect K.kind number wanting line.now state) self.old.kept self.new.kept (string_bytes reply.old) (string_bytes reply.new) goes_on) }
+        ensures acts { IfOk result (λ goes_on. ActsAt K.stands (λ wanting state. line_effect K.kind number wanting line.now state) self.old.kept self.new.kept (string_bytes reply.old) (string_bytes reply.new) goes_on) }
+        ensures last { IfOk result (λ goes_on. goes_on ≡ false → IfSome self.new.last (λ last. IsLine last number line.now)) }
     {
         let from = reply.len();
         let goes_on = self.serve_text(number, line, reply)?;
@@ -167,6 +171,8 @@ impl<K: ScriptKind> Interpreter for Session<K> {
 
     ghost knows = { λ session lines. ⊤ };
 
+    ghost ended_at = { λ session number line. IfSome session.last (λ last. IsLine last number line) };
+
     ghost nothing_left = { λ session n. laws.nothing_left K.kind K.stands session.kept n };
 
     ghost long_line = { λ session n line lines long. laws.long_line K.kind K.stands session.kept n line lines long };
@@ -185,10 +191,14 @@ impl<K: ScriptKind> Interpreter for Session<K> {
         self.holds();
         Ok(goes_on)
     }
+
+    fn hear_of_long_line(&mut self, number: u64, reply: &str) {
+        self.keep(number, b"", reply.as_bytes());
+    }
 }
 
 /// Reads a script of this kind, serves its lines in order, and writes their answers. Tells the line that ended the run too:
-/// none where no line did, where it was longer than a line may be, or where there is no memory to keep it.
+/// none where no line did, or where there is no memory to keep it.
 ///
 /// Each answer is written and flushed before the read that follows its line. A `write` may take any
 /// count from 1 on, and an interrupted call is made again.
@@ -197,7 +207,9 @@ pub fn serve_to_last_line<K: ScriptKind, R: Read, W: Write>(
     input: &mut R,
     output: &mut W,
 ) -> (Result<Ending, ServeError>, Option<LastLine>)
-    ensures { Serves (MayAnswer K.kind) result.0 (R.remaining input.old) (R.remaining input.new) (W.contents output.old) (W.contents output.new) }
+    ensures serves { Serves (MayAnswer K.kind) result.0 (R.remaining input.old) (R.remaining input.new) (W.contents output.old) (W.contents output.new) }
+    ensures last { IfOk result.0 (λ ending. ending ≡ Ending.Refused
+        → IfSome result.1 (λ last. EndedBy (MayAnswer K.kind) last (R.remaining input.old) (W.contents output.old) (W.contents output.new))) }
 {
     let mut session = Session::<K>::new(alloc);
     let served = serve(alloc, &mut session, input, output);

@@ -1,9 +1,10 @@
 use Rattle.std.proofs.Common.{◌+◌, length, ap, arith}
 use Rattle.std.proofs.lemmas.Result.{err_from_is_err_and, IfOk-weaker, IfErr-weaker, on_err_weaker}
+use Rattle.script.specs.Endings.{EndsKnown}
 use Rattle.script.specs.Knowing.{Leads}
-use Rattle.script.proofs.Pauses.{drained_is_not_ended}
+use Rattle.script.proofs.Pauses.{drained_is_not_ended, full_is_not_ended}
 use Rattle.script.proofs.UnderWay.{under_way_begins, under_way_kept, under_way_read, under_way_read_failed, under_way_learned, no_memory_at_once, no_memory_part_at_once}
-use Rattle.script.proofs.TakenBytes.{has_read_part, endless_lines}
+use Rattle.script.proofs.TakenBytes.{has_read_less, has_read_part, endless_lines}
 use Rattle.script.proofs.serving.serve.Goals as goal
 
 pub returns-in-Err-clause-memory : goal.returns-in-Err-clause-memory
@@ -92,6 +93,18 @@ returns-then-not-branch-clause-endless g c =
     c.read_more.ensures.same part.1 part.2 (omega arith) in
     IfErr-weaker c.finish.result _ _ (λ e wants. endless_lines _ _ _ (last.lines + 1) last e read (omega arith) wants) c.finish.ensures.error
 
+pub turns-preserved-in-Full : goal.turns-preserved-in-Full
+turns-preserved-in-Full g c =
+    let first = c.args.interpreter.now in
+    let full = full_is_not_ended _ c.in-Full.is in
+    let delivered = c.in_ok-deliver.ensures in
+    record {
+      under_way = delivered.goes_on full first _ _ _ c.turns.invariant.under_way;
+      leads = λ last. delivered.learns full first last _ _ _ (c.turns.invariant.leads last);
+      passes = λ last. delivered.passes full first last _ _ _ (c.turns.invariant.passes last);
+      has_read = has_read_less _ _ _ c.turns.run c.deliver.new.self c.turns.invariant.has_read (delivered.takes full) (delivered.full c.in-Full.is);
+    }
+
 pub turns-preserved : goal.turns-preserved
 turns-preserved g c =
     let drained = drained_is_not_ended _ c.in-Drained.is in
@@ -103,6 +116,12 @@ turns-preserved g c =
       leads = λ last.
           under_way_read (Leads knows last c.args.interpreter.now) (Leads knows last c.deliver.new.interpreter) _ _ _ _ _ c.deliver.new.self c.read_more.new.self
           part.0 (c.in_ok-deliver.ensures.learns drained c.args.interpreter.now last _ _ _ (c.turns.invariant.leads last)) c.read_more.ensures.same part.1 part.2;
+      passes = λ last.
+          let is_last = g.I.Interpreter.ended_at last in
+          let may = EndsKnown (g.I.Interpreter.gives c.args.interpreter.now) is_last in
+          let then_may = EndsKnown (g.I.Interpreter.gives c.deliver.new.interpreter) is_last in
+          under_way_read may then_may _ _ _ _ _ c.deliver.new.self c.read_more.new.self
+          part.0 (c.in_ok-deliver.ensures.passes drained c.args.interpreter.now last _ _ _ (c.turns.invariant.passes last)) c.read_more.ensures.same part.1 part.2;
       under_way =
           under_way_read (g.I.Interpreter.gives c.args.interpreter.now) (g.I.Interpreter.gives c.deliver.new.interpreter) _ _ _ _ _ c.deliver.new.self c.read_more.new.self
           part.0 delivered c.read_more.ensures.same part.1 part.2;
@@ -115,3 +134,19 @@ pub returns-clause-beginning : goal.returns-clause-beginning
 returns-clause-beginning g c =
     under_way_begins (g.I.Interpreter.gives c.args.interpreter.now) (g.I.Interpreter.gives c.turns.interpreter) _ _ _ _ c.turns.run
     (g.met.I.Interpreter.cut c.args.interpreter.now) (g.met.I.Interpreter.begins c.turns.interpreter) c.turns.invariant.under_way
+
+pub returns-in-Ended-clause-last : goal.returns-in-Ended-clause-last
+returns-in-Ended-clause-last g c =
+    c.in_ok-deliver.ensures.last c.in-Ended.is c.args.interpreter.now _ _ _ (c.turns.invariant.passes c.deliver.new.interpreter)
+
+pub returns-then-not-branch-clause-last : goal.returns-then-not-branch-clause-last
+returns-then-not-branch-clause-last g c =
+    let last = c.finish.new.interpreter in
+    let is_last = g.I.Interpreter.ended_at last in
+    let may = EndsKnown (g.I.Interpreter.gives c.args.interpreter.now) is_last in
+    let then_may = EndsKnown (g.I.Interpreter.gives c.deliver.new.interpreter) is_last in
+    let delivered = c.in_ok-deliver.ensures.passes (drained_is_not_ended _ c.in-Drained.is) c.args.interpreter.now last _ _ _ (c.turns.invariant.passes last) in
+    let part = c.in_ok-read_more.ensures.part in
+    let end = (c.in_ok-read_more.ensures.end c.if-not-branch.true).1 in
+    let read = under_way_read may then_may _ _ _ _ _ c.deliver.new.self c.read_more.new.self part.0 delivered c.read_more.ensures.same part.1 part.2 in
+    IfOk-weaker c.finish.result _ _ (λ ending written. written c.args.interpreter.now _ end _ _ read) c.finish.ensures.last

@@ -1,6 +1,7 @@
 use Rattle.std.proofs.Common.{string_bytes, inl, inr}
 use Rattle.std.proofs.lemmas.Result.{err_from_is_err_and}
 use Rattle.script.specs.declared.ending.Ending.TheVariants.{Refused}
+use Rattle.script.specs.Endings.{EndsKnown}
 use Rattle.script.specs.Knowing.{Leads}
 use Rattle.script.proofs.Pauses.{ended_or_not}
 use Rattle.script.proofs.UnderWay.{under_way_lines, under_way_sent, under_way_part, under_way_stops, under_way_no_memory, under_way_no_memory_part, told_part}
@@ -54,3 +55,14 @@ returns-in_ok-send_text-in-Ok-clause-learns g c on first last rest input before 
     let sent = c.in_ok-send_text-in-Ok.ensures in
     under_way_sent (Leads knows last first) then_may _ _ _ _ _ served c.send_text.new.self
     (under_way_lines (Leads knows last first) may then_may _ _ _ _ c.args.self.now served u (c.in-Ok.ensures.learns on last)) sent.same sent.ok.0 sent.ok.1
+
+pub returns-in_ok-send_text-in-Ok-clause-passes : goal.returns-in_ok-send_text-in-Ok-clause-passes
+returns-in_ok-send_text-in-Ok-clause-passes g c on first last rest input before u =
+    let is_last = g.I.Interpreter.ended_at last in
+    let may = EndsKnown (g.I.Interpreter.gives first) is_last in
+    let old_may = EndsKnown (g.I.Interpreter.gives c.args.interpreter.now) is_last in
+    let then_may = EndsKnown (g.I.Interpreter.gives c.serve_lines.new.interpreter) is_last in
+    let served = c.serve_lines.new.self in
+    let sent = c.in_ok-send_text-in-Ok.ensures in
+    under_way_sent may then_may _ _ _ _ _ served c.send_text.new.self
+    (under_way_lines may old_may then_may _ _ _ _ c.args.self.now served u (c.in-Ok.ensures.passes on last)) sent.same sent.ok.0 sent.ok.1

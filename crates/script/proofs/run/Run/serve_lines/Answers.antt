@@ -1,8 +1,9 @@
-use Rattle.std.proofs.Common.{length, ap, arith}
+use Rattle.std.proofs.Common.{◌+◌, length, ap, arith}
 use Rattle.std.proofs.lemmas.Result.{err_from_is_err_and}
+use Rattle.script.specs.Endings.{EndsKnown}
 use Rattle.script.specs.Knowing.{Leads}
 use Rattle.script.proofs.LineLemmas.{found_none}
-use Rattle.script.proofs.ServedLines.{advances_refl, advances_trans, stops_after, stops_long_front, halts_after}
+use Rattle.script.proofs.ServedLines.{advances_refl, advances_trans, ends_long, stops_after, stops_long_front, halts_after}
 use Rattle.script.proofs.TakenBytes.{takes_line}
 use Rattle.script.proofs.run.Run.serve_lines.Goals as goal
 
@@ -27,6 +28,7 @@ pub lines-init : goal.lines-init
 lines-init g c = record {
   advances = advances_refl (g.I.Interpreter.gives c.args.interpreter.now) c.args.self.now;
   leads = λ last. advances_refl (Leads g.I.Interpreter.knows last c.args.interpreter.now) c.args.self.now;
+  passes = λ last. advances_refl (EndsKnown (g.I.Interpreter.gives c.args.interpreter.now) (g.I.Interpreter.ended_at last)) c.args.self.now;
   takes = record { lines = omega arith; bytes = omega arith };
 }
 
@@ -48,6 +50,11 @@ lines-preserved g c =
       advances =
           advances_trans (g.I.Interpreter.gives c.args.interpreter.now) (g.I.Interpreter.gives c.lines.interpreter) (g.I.Interpreter.gives c.serve_next.new.interpreter)
           c.args.self.now c.lines.self next c.lines.invariant.advances (served.goes_on c.if-not-branch.false);
+      passes = λ last.
+          let is_last = g.I.Interpreter.ended_at last in
+          advances_trans (EndsKnown (g.I.Interpreter.gives c.args.interpreter.now) is_last) (EndsKnown (g.I.Interpreter.gives c.lines.interpreter) is_last)
+          (EndsKnown (g.I.Interpreter.gives c.serve_next.new.interpreter) is_last)
+          c.args.self.now c.lines.self next (c.lines.invariant.passes last) (served.passes c.if-not-branch.false last);
       takes = takes_line c.args.self.now c.lines.self next c.lines.invariant.takes (served.lines c.if-not-branch.false) (served.shorter c.if-not-branch.false);
     }
 
@@ -64,5 +71,32 @@ returns-then-as_slice-gt-LONGEST_LINE-clause-stops g c _ =
     let same = ap length c.as_slice-2.ensures.value in
     let none = found_none c.lines.self.pending (rw c.as_slice.ensures.value at c.in_default.ensures) in
     stops_after (g.I.Interpreter.gives c.args.interpreter.now) (g.I.Interpreter.gives c.lines.interpreter) c.args.self.now c.lines.self c.refuse_long_line.new.self c.lines.invariant.advances
-    (stops_long_front (g.I.Interpreter.gives c.lines.interpreter) c.lines.self c.refuse_long_line.new.self (g.met.I.Interpreter.long_line c.lines.interpreter) none (omega arith)
+    (stops_long_front (g.I.Interpreter.gives c.lines.interpreter) c.lines.self c.refuse_long_line.new.self (g.met.I.Interpreter.long_line c.lines.interpreter (c.lines.self.lines + 1)) none (omega arith)
+    c.in_ok-refuse_long_line.ensures.text)
+
+pub returns-then-not-branch-clause-last : goal.returns-then-not-branch-clause-last
+returns-then-not-branch-clause-last g c _ =
+    let last = c.serve_next.new.interpreter in
+    let is_last = g.I.Interpreter.ended_at last in
+    stops_after (EndsKnown (g.I.Interpreter.gives c.args.interpreter.now) is_last) (EndsKnown (g.I.Interpreter.gives c.lines.interpreter) is_last)
+    c.args.self.now c.lines.self c.serve_next.new.self (c.lines.invariant.passes last) (c.in_ok-serve_next.ensures.last c.if-not-branch.true)
+
+pub returns-then-len-gt-LONG_TEXT-clause-passes : goal.returns-then-len-gt-LONG_TEXT-clause-passes
+returns-then-len-gt-LONG_TEXT-clause-passes g c _ last =
+    let is_last = g.I.Interpreter.ended_at last in
+    advances_trans (EndsKnown (g.I.Interpreter.gives c.args.interpreter.now) is_last) (EndsKnown (g.I.Interpreter.gives c.lines.interpreter) is_last)
+    (EndsKnown (g.I.Interpreter.gives c.serve_next.new.interpreter) is_last)
+    c.args.self.now c.lines.self c.serve_next.new.self (c.lines.invariant.passes last) (c.in_ok-serve_next.ensures.passes c.if-not-branch.false last)
+
+pub returns-then-as_slice-gt-LONGEST_LINE-clause-last : goal.returns-then-as_slice-gt-LONGEST_LINE-clause-last
+returns-then-as_slice-gt-LONGEST_LINE-clause-last g c _ =
+    let same = ap length c.as_slice-2.ensures.value in
+    let none = found_none c.lines.self.pending (rw c.as_slice.ensures.value at c.in_default.ensures) in
+    let last = c.refuse_long_line.new.interpreter in
+    let is_last = g.I.Interpreter.ended_at last in
+    let may = g.I.Interpreter.gives c.lines.interpreter in
+    let number = c.lines.self.lines + 1 in
+    stops_after (EndsKnown (g.I.Interpreter.gives c.args.interpreter.now) is_last) (EndsKnown may is_last) c.args.self.now c.lines.self c.refuse_long_line.new.self (c.lines.invariant.passes last)
+    (stops_long_front (EndsKnown may is_last) c.lines.self c.refuse_long_line.new.self
+    (ends_long is_last may number (g.met.I.Interpreter.long_line c.lines.interpreter number) c.in_ok-refuse_long_line.ensures.last) none (omega arith)
     c.in_ok-refuse_long_line.ensures.text)
