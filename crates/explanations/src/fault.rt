@@ -1,5 +1,6 @@
 //! Faults of lines that can be read.
 use ringcore::StepFault;
+use script::LONG_LINE_MEANS;
 
 /// All that a step of a schedule may be refused for.
 const STEP_FAULTS: [StepFault; 11] = [
@@ -24,6 +25,7 @@ pub(crate) fn step_fault(label: &str) -> Option<StepFault> {
 /// What a fault of the line as a whole means.
 pub(crate) fn meaning(fault: &str) -> Option<&'static str> {
     let means = match fault {
+        "long line" => LONG_LINE_MEANS,
         "no ring" => "a ring line was expected ahead of any other",
         "second ring" => "the ring was made by an earlier line",
         "no sender" => "word 2: the ring has no sender of this number",

@@ -43,6 +43,7 @@ const BAD_LINES_OF_SCHEDULE: &str = "\
 
 /// Lines that can be read, each with its fault and what is said of it.
 const FAULTS_OF_REPLAY: &str = "\
+    dump => long line => a line of at most 4096 bytes was expected\n\
     dump => no ring => a ring line was expected ahead of any other\n\
     ring 1 1 1 1 => second ring => the ring was made by an earlier line\n\
     look 7 => no sender => word 2: the ring has no sender of this number\n\

@@ -48,10 +48,13 @@ impl<K: AnswersLines> Answering<K> {
 impl<K: AnswersLines> Interpreter for Answering<K> {
     ghost use Rattle.line_answers.specs.Answering.{Comes, all_good};
     ghost use Rattle.line_answers.specs.AnsweringLaws as laws;
+    ghost use Rattle.std.specs.Prelude.{⊤};
 
     ghost gives = { λ answering number lines outcome. Comes K.answer_of number lines outcome };
 
     ghost knows = { λ answering lines. answering.all_good ≡ all_good K.answer_of lines };
+
+    ghost ended_at = { λ answering number line. ⊤ };
 
     ghost nothing_left = { λ answering n. laws.nothing_left K.answer_of n };
 
@@ -70,5 +73,9 @@ impl<K: AnswersLines> Interpreter for Answering<K> {
         let is_good = self.kind.say_line(line, reply)?;
         self.judge(is_good, number, line);
         Ok(true)
+    }
+
+    fn hear_of_long_line(&mut self, number: u64, _reply: &str) {
+        self.notes.add_long_line(self.alloc, number);
     }
 }

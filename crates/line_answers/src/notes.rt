@@ -1,5 +1,6 @@
 //! What is said of lines that aren't good.
 use crate::kind::AnswersLines;
+use script::LONG_LINE_MEANS;
 use std::alloc::{AllocError, Global};
 
 /// How many bytes of notes are kept, but for the last note.
@@ -39,12 +40,27 @@ impl Notes {
         number: u64,
         line: &[u8],
     ) {
-        if self.text.len() >= MOST || self.push_note(alloc, kind, number, line).is_err() {
-            self.left_out = self.left_out.saturating_add(1);
+        if self.is_full() || self.push_fault(alloc, kind, number, line).is_err() {
+            self.leave_out();
         }
     }
 
-    fn push_note<K: AnswersLines>(
+    /// Notes that a line is too long.
+    pub(crate) fn add_long_line(&mut self, alloc: Global, number: u64) {
+        if self.is_full() || self.push_note(alloc, number, LONG_LINE_MEANS).is_err() {
+            self.leave_out();
+        }
+    }
+
+    fn is_full(&self) -> bool {
+        self.text.len() >= MOST
+    }
+
+    fn leave_out(&mut self) {
+        self.left_out = self.left_out.saturating_add(1);
+    }
+
+    fn push_fault<K: AnswersLines>(
         &mut self,
         alloc: Global,
         kind: &K,
@@ -53,10 +69,14 @@ impl Notes {
     ) -> Result<(), AllocError> {
         let mut why = String::new(alloc);
         kind.say_fault(line, &mut why)?;
-        if !why.is_empty() {
-            let note = format!(in alloc; "line {number}: {why}\n")?;
-            self.text.push_str(note.as_str())?;
+        if why.is_empty() {
+            return Ok(());
         }
-        Ok(())
+        self.push_note(alloc, number, why.as_str())
+    }
+
+    fn push_note(&mut self, alloc: Global, number: u64, why: &str) -> Result<(), AllocError> {
+        let note = format!(in alloc; "line {number}: {why}\n")?;
+        self.text.push_str(note.as_str())
     }
 }

@@ -1,23 +1,48 @@
 -- What is told on standard error of lines that can't be served.
-use Rattle.std.specs.Prelude.{◌≡◌, ◌≢◌, ℕ, List, ◌⊎◌}
+use Rattle.std.specs.Prelude.{◌≡◌, ◌≢◌, ℕ, List, ◌⊎◌, Option, Some}
 use Rattle.command_line.specs.declared.subcommand.Subcommand.{Subcommand}
 use Rattle.command_line.specs.declared.subcommand.Subcommand.TheVariants.{Encode, Replay, Schedule, Words}
+use Rattle.explanations.specs.Explaining.{IsSaidOf}
+use Rattle.replay.specs.ReplayText.{replays}
+use Rattle.schedule.specs.ScheduleText.{schedules}
+use Rattle.script.specs.declared.last_line.LastLine.{LastLine}
+use Rattle.script.specs.Giving.{Answers, MayAnswer}
+use Rattle.script.specs.LastLines.{EndedBy}
+use Rattle.script.specs.Outcome.{Outcome}
+use Rattle.program.specs.Telling.{line_of}
 use Rattle.program.specs.Troubles.{IsTried}
 use Rattle.program.specs.Watching.{Seen}
+
+-- Something was told of a line, by its number.
+pub record TellsOfLine (last : LastLine) (before after : Seen) : Type 0 where
+  pub said : List ℕ
+  pub numbered : IsSaidOf last.number said
+  pub told : IsTried before after (line_of said)
+
+-- By the exit status of the run: why the line was refused that is kept, if one is and there was memory for it, and nothing of
+-- any other status.
+pub record TellsOfLast (exit : ℕ) (last : Option LastLine) (before after : Seen) : Type 0 where
+  pub refused : exit ≡ 1 → (after ≡ before) ⊎ ((kept : LastLine) × (last ≡ Some kept) × TellsOfLine kept before after)
+  pub silent : exit ≢ 1 → after ≡ before
+
+-- The same of the line that ended the run of a script, which had this input and whose writer held `output` and holds `written`.
+pub record TellsOfScript (may : ℕ → List (List ℕ) → Outcome → Type 0) (exit : ℕ) (input output written : Option (List ℕ)) (before after : Seen) : Type 0 where
+  pub refused : exit ≡ 1 → (after ≡ before) ⊎ ((last : LastLine) × EndedBy may last input output written × TellsOfLine last before after)
+  pub silent : exit ≢ 1 → after ≡ before
 
 -- Some text was told, or there was no memory for it.
 abbrev pub MayBeTold : Seen → Seen → Type 0
 MayBeTold before after = (after ≡ before) ⊎ ((text : List ℕ) × IsTried before after text)
 
--- By the exit status of the run: why a line was refused, or each of them, and nothing of any other status.
+-- By the exit status of the run: why lines were refused, and nothing of any other status.
 pub record TellsOfRefusal (exit : ℕ) (before after : Seen) : Type 0 where
   pub refused : exit ≡ 1 → MayBeTold before after
   pub silent : exit ≢ 1 → after ≡ before
 
 -- Of scripts, and of lines that bring a command each.
-abbrev pub Explains : Subcommand → ℕ → Seen → Seen → Type 0
-Explains Replay exit before after = TellsOfRefusal exit before after
-Explains Schedule exit before after = TellsOfRefusal exit before after
-Explains Words exit before after = TellsOfRefusal exit before after
-Explains Encode exit before after = TellsOfRefusal exit before after
-Explains other exit before after = after ≡ before
+abbrev pub Explains : Subcommand → ℕ → Option (List ℕ) → Seen → Seen → Seen → Seen → Type 0
+Explains Replay exit input output written before after = TellsOfScript (MayAnswer replays) exit input output.bytes written.bytes before after
+Explains Schedule exit input output written before after = TellsOfScript (Answers schedules) exit input output.bytes written.bytes before after
+Explains Words exit input output written before after = TellsOfRefusal exit before after
+Explains Encode exit input output written before after = TellsOfRefusal exit before after
+Explains other exit input output written before after = after ≡ before

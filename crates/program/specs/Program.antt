@@ -46,15 +46,15 @@ ExitsAs Words exit input rest before after = ExitsAsWords exit input rest before
 ExitsAs (Image arguments) exit input rest before after = ExitsAsImage (asked_of arguments) exit input before.bytes after.bytes
 ExitsAs Encode exit input rest before after = ExitsAsEncode exit input rest before.bytes after.bytes
 
--- The words have no fault, and it did what they ask for; elsewhere it told first why a line of a script was refused, and then
--- just of memory, or of a stream that failed.
+-- The words have no fault, and it did what they ask for; elsewhere it told first of the line that ended a script, or why lines
+-- were refused, and then just of memory, or of a stream that failed.
 pub record ExitsAsAsked (words : List Text) (exit : ℕ) (input rest : Option (List ℕ)) (before after faults_before faults_after : Seen) : Type 0 where
   pub sound : fault_of smmuq words ≡ []
   pub subcommand : Subcommand
   pub asked : AskFor words subcommand
   pub done : ExitsAs subcommand exit input rest before after
   pub faults_between : Seen
-  pub explained : Explains subcommand exit faults_before faults_between
+  pub explained : Explains subcommand exit input before after faults_before faults_between
   pub troubles : TellsTrouble exit after faults_between faults_after
 
 -- Memory ran out over the words, or they ask for help, or they have a fault; nothing was read, and that was told.

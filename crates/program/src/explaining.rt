@@ -1,6 +1,6 @@
 //! What is told on standard error of lines that can't be served.
-ghost use Rattle.std.specs.Prelude.{◌≡◌};
-ghost use Rattle.program.specs.Explaining.{MayBeTold, TellsOfRefusal};
+ghost use Rattle.std.specs.Prelude.{◌≡◌, ◌⊎◌};
+ghost use Rattle.program.specs.Explaining.{MayBeTold, TellsOfLast, TellsOfLine, TellsOfRefusal};
 ghost use Rattle.script.specs.Statuses.{exit_status};
 
 use crate::telling::{try_line, try_text};
@@ -18,7 +18,7 @@ fn try_explanation<F: Write>(
     last: &LastLine,
     faults: &mut Watched<F>,
 )
-    ensures { MayBeTold faults.old faults.new }
+    ensures { (faults.new ≡ faults.old) ⊎ TellsOfLine last.now faults.old faults.new }
 {
     if let Ok(Some(text)) = explain(alloc, script, last) {
         try_line(text.as_str(), faults);
@@ -34,7 +34,7 @@ pub(crate) fn exit_of_script<F: Write>(
     faults: &mut Watched<F>,
 ) -> u8
     ensures exit { result ≡ exit_status status }
-    ensures explained { TellsOfRefusal result faults.old faults.new }
+    ensures explained { TellsOfLast result last faults.old faults.new }
 {
     if let (Status::Refused, Some(last)) = (status, last) {
         try_explanation(alloc, script, &last, faults);

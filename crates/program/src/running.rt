@@ -52,7 +52,7 @@ fn serve<'a, A: Threads + AllocGlobal + Sync, I: Read, O: Write, F: Write>(
     faults: &mut Watched<F>,
 ) -> u8
     requires { HasPlan subcommand }
-    ensures explained { Explains subcommand.entry result faults.old faults.new }
+    ensures explained { Explains subcommand.entry result (I.remaining input.old) output.old output.new faults.old faults.new }
     ensures done { ExitsAs subcommand.entry result (I.remaining input.old) (I.remaining input.new) output.old output.new }
 {
     match subcommand {

@@ -24,6 +24,20 @@ fn lines_of_text(rt: HostRuntime) {
     assert_eq!(rt; ran.faults.inner().text(), why);
 }
 
+/// A line that is too long ends a script, and lines of words or text too.
+#[test]
+fn long_lines(rt: HostRuntime) {
+    let spaces = " ".repeat(rt.alloc(), 4097).expect(&rt, "memory");
+    for word in ["replay", "schedule", "words", "encode"] {
+        let lines = format!(in rt.alloc(); "# nothing\n{spaces}\n").expect(&rt, "memory");
+        let words = [word];
+        let ran = run(&rt, &words, lines.as_str(), (0, 0));
+        assert_eq!(rt; ran.told(), (1, "line 2: long line\n", false), "{word}");
+        let why = "line 2: a line of at most 4096 bytes was expected\n";
+        assert_eq!(rt; ran.faults.inner().text(), why, "{word}");
+    }
+}
+
 #[test]
 fn the_memory_of_a_queue(rt: HostRuntime) {
     let command = "\x03\0\0\0\x05\0\0\0\x01\0\0\0\0\0\0\0";

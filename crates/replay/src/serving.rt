@@ -1,5 +1,7 @@
 //! `replay` from any reader to any writer.
+ghost use Rattle.std.specs.Prelude.{◌≡◌, IfSome};
 ghost use Rattle.script.specs.Giving.{MayAnswer};
+ghost use Rattle.script.specs.LastLines.{EndedBy};
 ghost use Rattle.script.specs.Serves.{Serves};
 ghost use Rattle.replay.specs.ReplayText.{replays};
 ghost use Rattle.replay.specs.Replaying.{Replays};
@@ -24,13 +26,15 @@ pub fn serve<R: Read, W: Write>(
 }
 
 /// Reads a script and writes its answers, the line `no memory` among them, and says how it went. Tells the line that ended
-/// the run too: none where no line did, where it was longer than a line may be, or where there is no memory to keep it.
+/// the run too: none where no line did, or where there is no memory to keep it.
 pub fn replay_to_last_line<R: Read, W: Write>(
     alloc: Global,
     input: &mut R,
     output: &mut W,
 ) -> (Status, Option<LastLine>)
-    ensures { Replays result.0 (R.remaining input.old) (R.remaining input.new) (W.contents output.old) (W.contents output.new) }
+    ensures replays { Replays result.0 (R.remaining input.old) (R.remaining input.new) (W.contents output.old) (W.contents output.new) }
+    ensures last { result.0 ≡ Status.Refused
+        → IfSome result.1 (λ last. EndedBy (MayAnswer replays) last (R.remaining input.old) (W.contents output.old) (W.contents output.new)) }
 {
     let (served, last) = serve_to_last_line::<Replay, R, W>(alloc, input, output);
     (status_of(&served), last)

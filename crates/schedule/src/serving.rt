@@ -1,5 +1,7 @@
 //! `schedule` from any reader to any writer.
+ghost use Rattle.std.specs.Prelude.{◌≡◌, IfOk, IfSome};
 ghost use Rattle.script.specs.Giving.{Answers};
+ghost use Rattle.script.specs.LastLines.{EndedBy};
 ghost use Rattle.script.specs.Serves.{Serves};
 ghost use Rattle.schedule.specs.ScheduleText.{schedules};
 ghost use Rattle.schedule.specs.Scheduling.{Schedules};
@@ -15,7 +17,9 @@ fn play<R: Read, W: Write>(
     input: &mut R,
     output: &mut W,
 ) -> (Result<Ending, ServeError>, Option<LastLine>)
-    ensures { Serves (Answers schedules) result.0 (R.remaining input.old) (R.remaining input.new) (W.contents output.old) (W.contents output.new) }
+    ensures serves { Serves (Answers schedules) result.0 (R.remaining input.old) (R.remaining input.new) (W.contents output.old) (W.contents output.new) }
+    ensures last { IfOk result.0 (λ ending. ending ≡ Ending.Refused
+        → IfSome result.1 (λ last. EndedBy (Answers schedules) last (R.remaining input.old) (W.contents output.old) (W.contents output.new))) }
 {
     serve_to_last_line::<Schedule, R, W>(alloc, input, output)
 }
@@ -35,14 +39,16 @@ pub fn serve<R: Read, W: Write>(
 }
 
 /// Reads a script, plays it as a schedule of a ring's steps, and writes its answers, the line `no memory`
-/// among them. Says how it went. Tells the line that ended the run too: none where no line did, where it was longer than a
-/// line may be, or where there is no memory to keep it.
+/// among them. Says how it went. Tells the line that ended the run too: none where no line did, or where there is no memory to
+/// keep it.
 pub fn schedule_to_last_line<R: Read, W: Write>(
     alloc: Global,
     input: &mut R,
     output: &mut W,
 ) -> (Status, Option<LastLine>)
-    ensures { Schedules result.0 (R.remaining input.old) (R.remaining input.new) (W.contents output.old) (W.contents output.new) }
+    ensures schedules { Schedules result.0 (R.remaining input.old) (R.remaining input.new) (W.contents output.old) (W.contents output.new) }
+    ensures last { result.0 ≡ Status.Refused
+        → IfSome result.1 (λ last. EndedBy (Answers schedules) last (R.remaining input.old) (W.contents output.old) (W.contents output.new)) }
 {
     let (served, last) = play(alloc, input, output);
     (status_of(&served), last)

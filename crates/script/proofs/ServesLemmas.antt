@@ -1,12 +1,13 @@
 -- What was served by one account was served by another, and what the status of it says.
 use Rattle.std.proofs.Common.{◌≡◌, ℕ, List, Option, Some, None, Ok, Err, refl, sym, subst}
-use Rattle.std.specs.Prelude.{IfSome, Result}
+use Rattle.std.specs.Prelude.{IfOk, IfSome, Result}
 use Rattle.std.proofs.lemmas.Result.{IfOk-weaker, IfErr-weaker, on_err_weaker}
 use Rattle.script.specs.declared.ending.Ending.{Ending}
 use Rattle.script.specs.declared.ending.Ending.TheVariants.{Finished, Refused}
 use Rattle.script.specs.declared.error.ServeError.{ServeError}
 use Rattle.script.specs.declared.error.ServeError.TheVariants.{Memory, Read, Write, Endless}
 use Rattle.script.specs.declared.status.Status.{Status}
+use Rattle.script.specs.declared.status.Status.TheVariants as is
 use Rattle.script.specs.declared.last_line.LastLine.{LastLine}
 use Rattle.script.specs.Endings.{EndsKnown}
 use Rattle.script.specs.LastLines.{EndedBy, IsLine}
@@ -48,7 +49,22 @@ ended_by may other implies (Some l) input before after ending refused written =
     answer_comes (EndsKnown may (IsLine l)) (EndsKnown other (IsLine l)) (ends_comes may other implies (IsLine l)) input before after Refused
     (subst (λ is. WritesAnswer (EndsKnown may (IsLine l)) input before after is) refused written)
 
+pub ended_comes : (may other : ℕ → List (List ℕ) → Outcome → Type 0) → Implies may other → (last : Option LastLine) (input before after : Option (List ℕ))
+    → IfSome last (λ l. EndedBy may l input before after) → IfSome last (λ l. EndedBy other l input before after)
+ended_comes may other implies None input before after ended = tt
+ended_comes may other implies (Some l) input before after ended =
+    answer_comes (EndsKnown may (IsLine l)) (EndsKnown other (IsLine l)) (ends_comes may other implies (IsLine l)) input before after Refused ended
+
 -- ---- its status
+
+-- What is so where a line ended the run is so where the status says that.
+pub refused_by : {X : Type 0} → (result : Result Ending ServeError) (status : Status) → status ≡ status_of result → IfOk result (λ ending. ending ≡ Refused → X) → status ≡ is.Refused → X
+refused_by (Ok Refused) status of by refused = by refl
+refused_by (Ok Finished) status of by refused = absurd cc
+refused_by (Err (Memory e)) status of by refused = absurd cc
+refused_by (Err (Read e)) status of by refused = absurd cc
+refused_by (Err (Write e)) status of by refused = absurd cc
+refused_by (Err Endless) status of by refused = absurd cc
 
 ended : (may : ℕ → List (List ℕ) → Outcome → Type 0) (result : Result Ending ServeError) (input rest before after : Option (List ℕ)) → Serves may result input rest before after
     → Tells may (status_of result) input rest before after

@@ -9,6 +9,9 @@ use std::alloc::AllocError;
 /// How many bytes a line has at most, without its end.
 pub const LONGEST_LINE: usize = 4096;
 
+/// What an engineer is told of a longer line.
+pub const LONG_LINE_MEANS: &str = "a line of at most 4096 bytes was expected";
+
 /// What serves the lines of a script, one after another.
 pub trait Interpreter {
     /// What lines may come to that are served from here on, the first of them having this number.

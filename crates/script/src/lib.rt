@@ -24,7 +24,7 @@ pub use fields::{
     one_number, raw,
 };
 pub use first::First;
-pub use interpreter::{Interpreter, LONGEST_LINE};
+pub use interpreter::{Interpreter, LONG_LINE_MEANS, LONGEST_LINE};
 pub use kind::ScriptKind;
 pub use last_line::LastLine;
 pub use pending::read_once;

@@ -13,6 +13,8 @@ impl Interpreter for Lengths {
 
     ghost knows = { λ _ _. Unit {0} };
 
+    ghost ended_at = { λ _ _ _. Unit {0} };
+
     fn serve_line(
         &mut self,
         number: u64,
@@ -27,6 +29,8 @@ impl Interpreter for Lengths {
         write!(reply, "{number}: {length}\n")?;
         Ok(true)
     }
+
+    fn hear_of_long_line(&mut self, _number: u64, _reply: &str) {}
 
     ghost nothing_left = { λ _ _. tt };
 
