@@ -1,5 +1,5 @@
 -- What is told on standard error of lines that can't be served.
-use Rattle.std.specs.Prelude.{◌≡◌, ◌≢◌, ℕ, List, ◌⊎◌, Option, Some}
+use Rattle.std.specs.Prelude.{◌≡◌, ◌≢◌, ℕ, List, ◌⊎◌, Option, None, Some}
 use Rattle.command_line.specs.declared.subcommand.Subcommand.{Subcommand}
 use Rattle.command_line.specs.declared.subcommand.Subcommand.TheVariants.{Encode, Replay, Schedule, Words}
 use Rattle.explanations.specs.Explaining.{IsSaidOf}
@@ -19,10 +19,14 @@ pub record TellsOfLine (last : LastLine) (before after : Seen) : Type 0 where
   pub numbered : IsSaidOf last.number said
   pub told : IsTried before after (line_of said)
 
--- By the exit status of the run: why the line was refused that is kept, if one is and there was memory for it, and nothing of
--- any other status.
+-- It was told of the line that is kept, if one is, or there was no memory for that.
+abbrev pub MayTellOf : Option LastLine → Seen → Seen → Type 0
+MayTellOf None before after = after ≡ before
+MayTellOf (Some last) before after = (after ≡ before) ⊎ TellsOfLine last before after
+
+-- By the exit status of the run: of the line that is kept, and nothing of any other status.
 pub record TellsOfLast (exit : ℕ) (last : Option LastLine) (before after : Seen) : Type 0 where
-  pub refused : exit ≡ 1 → (after ≡ before) ⊎ ((kept : LastLine) × (last ≡ Some kept) × TellsOfLine kept before after)
+  pub refused : exit ≡ 1 → MayTellOf last before after
   pub silent : exit ≢ 1 → after ≡ before
 
 -- The same of the line that ended the run of a script, which had this input and whose writer held `output` and holds `written`.

@@ -1,6 +1,6 @@
 //! What is told on standard error of lines that can't be served.
 ghost use Rattle.std.specs.Prelude.{◌≡◌, ◌⊎◌};
-ghost use Rattle.program.specs.Explaining.{MayBeTold, TellsOfLast, TellsOfLine, TellsOfRefusal};
+ghost use Rattle.program.specs.Explaining.{MayBeTold, MayTellOf, TellsOfLast, TellsOfLine, TellsOfRefusal};
 ghost use Rattle.script.specs.Statuses.{exit_status};
 
 use crate::telling::{try_line, try_text};
@@ -25,19 +25,32 @@ fn try_explanation<F: Write>(
     }
 }
 
+fn try_last_line<F: Write>(
+    alloc: Global,
+    script: Script,
+    last: &Option<LastLine>,
+    faults: &mut Watched<F>,
+)
+    ensures { MayTellOf last.now faults.old faults.new }
+{
+    if let Some(last) = last {
+        try_explanation(alloc, script, last, faults);
+    }
+}
+
 /// The exit status of a script's run. Of one that was refused it is told why the line was that ended it, if one is kept.
 pub(crate) fn exit_of_script<F: Write>(
     alloc: Global,
     script: Script,
     status: Status,
-    last: Option<LastLine>,
+    last: &Option<LastLine>,
     faults: &mut Watched<F>,
 ) -> u8
     ensures exit { result ≡ exit_status status }
-    ensures explained { TellsOfLast result last faults.old faults.new }
+    ensures explained { TellsOfLast result last.now faults.old faults.new }
 {
-    if let (Status::Refused, Some(last)) = (status, last) {
-        try_explanation(alloc, script, &last, faults);
+    if status == Status::Refused {
+        try_last_line(alloc, script, last, faults);
     }
     status.exit_status()
 }

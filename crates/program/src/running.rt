@@ -58,11 +58,11 @@ fn serve<'a, A: Threads + AllocGlobal + Sync, I: Read, O: Write, F: Write>(
     match subcommand {
         Subcommand::Replay => {
             let (status, last) = replay_to_last_line(rt.alloc(), input, output);
-            exit_of_script(rt.alloc(), Script::Replay, status, last, faults)
+            exit_of_script(rt.alloc(), Script::Replay, status, &last, faults)
         }
         Subcommand::Schedule => {
             let (status, last) = schedule_to_last_line(rt.alloc(), input, output);
-            exit_of_script(rt.alloc(), Script::Schedule, status, last, faults)
+            exit_of_script(rt.alloc(), Script::Schedule, status, &last, faults)
         }
         Subcommand::Decode(word) => decode_to_exit(rt.alloc(), word, output),
         Subcommand::Stress(numbers) => stress_to_exit(rt, numbers, output),
