@@ -1,0 +1,7 @@
+use Rattle.smmuq_c.proofs.Held.{settled_shown}
+use Rattle.engine.specs.Units.{took}
+use Rattle.smmuq_c.proofs.held_unit.HeldUnit.judge_now.Goals as goal
+
+pub returns-clause-settled : goal.returns-clause-settled
+returns-clause-settled c =
+    settled_shown c.args.self.now c.self.inside.rereads c.self.inside.unit c.judge-verdict.new.self (took c.args.raw c.judge-verdict.result) c.self.view_is c.judge-verdict.ensures.settled
