@@ -13,6 +13,7 @@
 #include <string.h>
 
 enum { MOST_SLOTS = 1 << 19, TEXT_ROOM = 160 };
+enum { MOST_ENTRIES = 8 }; /* few, so that the guest that is played fills them */
 
 /* What the model has of one SMMU. Indexes have the wrap bit above those of the slot. */
 struct model {
@@ -72,6 +73,15 @@ static uint32_t write_gerrorn(struct model *model, uint32_t gerrorn) {
     return serve(model);
 }
 
+/* The caches are full: all translations are thrown out, and what is used of them is walked for again. */
+static void make_room(struct model *model) {
+    const uint32_t translations = 1u << (SMMUQ_S1 - 1) | 1u << (SMMUQ_S2 - 1) | 1u << (SMMUQ_EL2 - 1) | 1u << (SMMUQ_ATC - 1);
+    size_t count;
+    uint32_t status = smmuq_evict_all(&model->unit, translations, &count);
+    if (status != SMMUQ_OK)
+        fail("evict_all", status);
+}
+
 /* The value for a page of an address space: the one that is held, or that of a walk, which is held from then on. */
 static uint64_t translate(struct model *model, const uint64_t *page_table, uint64_t address) {
     const smmuq_tag tag = {.kind = SMMUQ_S1, .vmid = 1, .has_asid = 1, .asid = 2, .address = address};
@@ -83,7 +93,12 @@ static uint64_t translate(struct model *model, const uint64_t *page_table, uint6
         fail("lookup", status);
     model->walks++;
     held.value = page_table[address >> 12];
-    if ((status = smmuq_fill(&model->unit, &tag, held.value)) != SMMUQ_OK)
+    status = smmuq_fill(&model->unit, &tag, held.value);
+    if (status == SMMUQ_C1) {
+        make_room(model);
+        status = smmuq_fill(&model->unit, &tag, held.value);
+    }
+    if (status != SMMUQ_OK)
         fail("fill", status);
     return held.value;
 }
@@ -129,6 +144,7 @@ static void play_a_guest(struct model *model) {
     uint64_t page_table[16] = {0};
     const smmuq_fields invalidate = {.opcode = 0x12, .vmid = 1, .asid = 2, .leaf = 1, .address = 0x3000};
     const smmuq_fields sync = {.opcode = 0x46};
+    uint64_t address;
     uint32_t prod = 0;
 
     page_table[3] = 0x1000;
@@ -154,6 +170,11 @@ static void play_a_guest(struct model *model) {
     put(model, model->cons, sync);
     printf("acknowledged: status 0x%02" PRIx32 "\n", write_gerrorn(model, 1));
     print_queue(model);
+
+    /* Each page is used, and there is less room than that. */
+    for (address = 0; address < 0x10000; address += 0x1000)
+        translate(model, page_table, address);
+    print_translation(model, "used once all others were", page_table);
 }
 
 static void serve_image(struct model *model, const char *path, uint32_t prod, uint32_t cons) {
@@ -177,7 +198,7 @@ int main(int argc, char **argv) {
         model.log2 = (uint32_t)strtoul(argv[2], NULL, 0);
     if (model.log2 > 19 || !(model.queue = calloc(MOST_SLOTS, sizeof *model.queue)))
         return 2;
-    if ((status = smmuq_unit_new(4096, &model.unit)) != SMMUQ_OK)
+    if ((status = smmuq_unit_new(MOST_ENTRIES, &model.unit)) != SMMUQ_OK)
         fail("unit_new", status);
     if (argc == 5)
         serve_image(&model, argv[1], (uint32_t)strtoul(argv[3], NULL, 0), (uint32_t)strtoul(argv[4], NULL, 0));

@@ -1,13 +1,16 @@
 -- A unit that a handle holds stays settled, as the one below it does.
-use Rattle.std.proofs.Common.{◌≡◌, ◌+◌, ℕ, Bool, true, false, List, [], ◌++◌, length, length-append, append_assoc, ◌≢◌, not, ◌==◌, ◌&&◌, rules, tests, refl, sym, ap, subst, ◌∙◌, arith}
+use Rattle.std.proofs.Common.{◌≡◌, ◌+◌, ℕ, Bool, true, false, List, [], ◌++◌, length, length-append, append_assoc, ◌≢◌, not, ◌==◌, ◌&&◌, Option, rules, tests, refl, sym, ap, subst, ◌∙◌, arith}
 use Rattle.cmdcodec.specs.declared.raw.Raw.{Raw}
 use Rattle.ringcore.specs.world.World.{Taken}
 use Rattle.caches.specs.Stored.{Stored}
 use Rattle.engine.specs.declared.remedy.Remedy.TheVariants.{Retry}
-use Rattle.engine.specs.Stops.{told}
+use Rattle.engine.specs.Stops.{IsStopped, StopValue, told}
 use Rattle.engine.specs.Counting.{taken}
 use Rattle.engine.specs.Settled.{IsSettled}
 use Rattle.engine.specs.Units.{UnitValue, StaysSettled}
+use Rattle.smmuq_c.specs.declared.evicting.Kinds.{Kinds}
+use Rattle.smmuq_c.specs.Evicting.{HasLost}
+use Rattle.smmuq_c.specs.Own.{AreOwn}
 use Rattle.smmuq_c.specs.HeldUnits.{HeldValue, shown}
 use Rattle.smmuq_c.specs.Judging.{HasReplaced, took_old}
 use Rattle.smmuq_c.proofs.Unchanged.{stays}
@@ -52,3 +55,16 @@ told_retry old rereads below is set =
 -- Words that are compared unequal.
 pub differs : (a b : Raw) (r : Bool) → r ≡ not ((a.lo == b.lo) && (a.hi == b.hi)) → r ≡ true → a ≢ b
 differs a b r is holds same = search (rules, tests)
+
+-- What a unit keeps that a handle holds, where its stop stays.
+pub keeps : (old new : UnitValue) (rereads : Bool) (awaited : Option Raw) → new.stop ≡ old.stop
+    → (old.stop.next ≡ awaited) × (rereads ≡ true → IsStopped old.stop.mode) × AreOwn old.caches.entries → AreOwn new.caches.entries
+    → (new.stop.next ≡ awaited) × (rereads ≡ true → IsStopped new.stop.mode) × AreOwn new.caches.entries
+keeps old new rereads awaited same kept own =
+    (ap (λ (s : StopValue). s.next) same ∙ kept.0, λ set. subst (λ (s : StopValue). IsStopped s.mode) (sym same) (kept.1 set), own)
+
+-- Entries are lost of a unit as it is shown, as they are of the one below.
+pub lost_shown : (kinds : Kinds) (count : ℕ) (old : HeldValue) (rereads : Bool) (below after : UnitValue) → record { unit = shown rereads below; rereads = rereads } ≡ old
+    → HasLost kinds count below after → HasLost kinds count old.unit (shown rereads after)
+lost_shown kinds count old rereads below after is lost =
+    subst (λ (h : HeldValue). HasLost kinds count h.unit (shown rereads after)) is (record { new_is = ap (shown rereads) lost.new_is; count_is = lost.count_is })

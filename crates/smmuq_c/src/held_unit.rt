@@ -9,8 +9,11 @@ ghost use Rattle.smmuq_c.specs.Lists.{IsListed};
 ghost use Rattle.smmuq_c.specs.Entries.{HasFilled, HasEvicted, TellsEntry};
 ghost use Rattle.smmuq_c.specs.Registers.{HasAcknowledgedHeld, error_words, count_words};
 ghost use Rattle.smmuq_c.specs.Making.{AreNewCaches, IsNewUnit, IsCapacity};
+ghost use Rattle.smmuq_c.specs.Evicting.{HasLost, HasEvictedAll};
+ghost use Rattle.smmuq_c.specs.Own.{AreOwn};
 
 use crate::answers::{fill_status, tell_entry, verdict_status};
+use crate::evicting::Kinds;
 use crate::listing::{EntryWords, give_entries};
 use crate::status::Status;
 use crate::stop_remedy::StopRemedy;
@@ -36,6 +39,7 @@ impl Model for HeldUnit {
     ghost use Rattle.caches.specs.Stored.{stored_code};
     ghost use Rattle.engine.specs.Stops.{IsStopped};
     ghost use Rattle.smmuq_c.specs.HeldUnits.{HeldValue, shown};
+    ghost use Rattle.smmuq_c.specs.Own.{AreOwn};
 
     ghost Value = { HeldValue };
 
@@ -43,7 +47,7 @@ impl Model for HeldUnit {
 
     ghost view = { λ h. record { unit = shown h.rereads h.unit; rereads = h.rereads } };
 
-    ghost invariant = { λ h. (h.unit.stop.next ≡ h.awaited) × (h.rereads ≡ true → IsStopped h.unit.stop.mode) };
+    ghost invariant = { λ h. (h.unit.stop.next ≡ h.awaited) × (h.rereads ≡ true → IsStopped h.unit.stop.mode) × AreOwn h.unit.caches.entries };
 }
 
 /// Why a command isn't judged, and nothing is done: what `Unit::judge` requires of its callers.
@@ -70,6 +74,22 @@ pub(crate) fn new_caches(alloc: Global, capacity: u32) -> Result<Caches, Status>
         Ok(caches) => Ok(caches),
         Err(fault) => Err(Status::Cache(fault)),
     }
+}
+
+/// Evicts the entries of these kinds from a unit, all of whose entries are listed: how many they were.
+fn evict_kinds(unit: &mut Unit, all: &[Entry], kinds: Kinds) -> usize
+    requires listed { all.now ≡ finite.values unit.old.caches.entries }
+    requires own { AreOwn unit.old.caches.entries }
+    ensures { HasLost kinds result unit.old unit.new }
+{
+    let mut gone = 0;
+    for entry in all {
+        if kinds.has(&entry.tag) {
+            let was = unit.evict(&entry.tag);
+            gone += usize::from(was.is_some());
+        }
+    }
+    gone
 }
 
 impl HeldUnit {
@@ -215,6 +235,21 @@ impl HeldUnit {
         ensures settled { StaysSettled self.old.unit self.new.unit [] }
     {
         tell_entry(self.unit.evict(tag), told)
+    }
+
+    /// Throws out the entries of these kinds, and tells how many they were.
+    pub(crate) fn evict_all(&mut self, kinds: Kinds, count: &mut usize) -> Status
+        ensures evicted { HasEvictedAll kinds count.new self.old.unit self.new.unit result }
+        ensures rereads { self.new ≡ record self.old { unit = self.new.unit } }
+        ensures settled { StaysSettled self.old.unit self.new.unit [] }
+    {
+        match self.unit.entries() {
+            Ok(list) => {
+                *count = evict_kinds(&mut self.unit, list.as_slice(), kinds);
+                Status::Done
+            }
+            Err(_) => Status::NoMemory,
+        }
     }
 
     pub(crate) fn lookup(&self, tag: &Tag, told: &mut Held) -> Status
