@@ -20,9 +20,8 @@ struct model {
     smmuq_handle unit;
     smmuq_words *queue; /* the guest's memory: 2^log2 commands */
     uint32_t log2;
-    uint32_t prod;          /* SMMU_CMDQ_PROD */
-    uint32_t cons;          /* SMMU_CMDQ_CONS without ERR */
-    smmuq_words stopped_at; /* the illegal command, where the queue is stopped */
+    uint32_t prod; /* SMMU_CMDQ_PROD */
+    uint32_t cons; /* SMMU_CMDQ_CONS without ERR */
     uint32_t walks;
 };
 
@@ -41,8 +40,6 @@ static uint32_t serve(struct model *model) {
         const smmuq_words command = *slot(model, model->cons);
         smmuq_verdict verdict;
         uint32_t status = smmuq_unit_judge(&model->unit, command.lo, command.hi, &verdict);
-        if (status >= SMMUQ_ILL1 && status <= SMMUQ_ILL4)
-            model->stopped_at = command;
         if (status != SMMUQ_OK && status != SMMUQ_REPLACED)
             return status;
         model->cons = (model->cons + 1) & ((2u << model->log2) - 1);
@@ -56,21 +53,11 @@ static uint32_t doorbell(struct model *model, uint32_t prod) {
     return serve(model);
 }
 
-/* The guest acknowledges the error by SMMU_GERRORN. Linux has written a CMD_SYNC over the illegal command by then, so what
- * stood there is given up, and the slot is read anew; where the slot is as it was, its command is judged again. */
+/* The guest acknowledges the error by SMMU_GERRORN. Linux has written a CMD_SYNC over the illegal command by then: what the
+ * slot holds now says whether the old one is judged again, or was given up. */
 static uint32_t write_gerrorn(struct model *model, uint32_t gerrorn) {
-    const smmuq_words *now = slot(model, model->cons);
-    const uint32_t replaced = now->lo != model->stopped_at.lo || now->hi != model->stopped_at.hi;
-    uint32_t status = smmuq_acknowledge(&model->unit, gerrorn, replaced);
-    smmuq_verdict verdict;
-    if (status != SMMUQ_OK)
-        return status;
-    if (replaced) {
-        status = smmuq_unit_judge(&model->unit, model->stopped_at.lo, model->stopped_at.hi, &verdict);
-        if (status != SMMUQ_REPLACED)
-            return status;
-    }
-    return serve(model);
+    uint32_t status = smmuq_acknowledge(&model->unit, gerrorn, SMMUQ_REREAD);
+    return status == SMMUQ_OK ? serve(model) : status;
 }
 
 /* The caches are full: all translations are thrown out, and what is used of them is walked for again. */

@@ -75,7 +75,7 @@ static void misuse_a_unit(void) {
     WANT(smmuq_lookup(&unit, &tag, &held), SMMUQ_NOT_HELD);
     WANT(smmuq_evict(&unit, &tag, &held), SMMUQ_NOT_HELD);
     /* An error stop: the words at which it stopped come next, and nothing else. */
-    WANT(smmuq_acknowledge(&unit, 1, 0), SMMUQ_G1);
+    WANT(smmuq_acknowledge(&unit, 1, SMMUQ_RETRY), SMMUQ_G1);
     WANT(smmuq_unit_judge(&unit, UNKNOWN.lo, UNKNOWN.hi, &verdict), SMMUQ_ILL1);
     WANT(smmuq_unit_judge(&unit, CMD_SYNC.lo, CMD_SYNC.hi, &verdict), SMMUQ_STILL_STOPPED);
     /* Entries may go while it is stopped, too. */
@@ -84,9 +84,9 @@ static void misuse_a_unit(void) {
     WANT(smmuq_evict_all(&unit, 1u << (SMMUQ_S1 - 1), &count), SMMUQ_OK);
     WANT((uint32_t)count, 1);
     WANT(smmuq_fill(&unit, &tag, 1), SMMUQ_OK);
-    WANT(smmuq_acknowledge(&unit, 0, 0), SMMUQ_G2);
+    WANT(smmuq_acknowledge(&unit, 0, SMMUQ_RETRY), SMMUQ_G2);
     WANT(smmuq_acknowledge(&unit, 1, 7), SMMUQ_BAD_FIELD);
-    WANT(smmuq_acknowledge(&unit, 1, 1), SMMUQ_OK);
+    WANT(smmuq_acknowledge(&unit, 1, SMMUQ_REPLACE), SMMUQ_OK);
     WANT(smmuq_unit_judge(&unit, CMD_SYNC.lo, CMD_SYNC.hi, &verdict), SMMUQ_OTHER_COMMAND);
     WANT(smmuq_unit_judge(&unit, UNKNOWN.lo, UNKNOWN.hi, &verdict), SMMUQ_REPLACED);
     smmuq_free(&unit);

@@ -133,9 +133,14 @@ static uint32_t evict(struct handles *handles) {
     return smmuq_evict(&handles->unit, &FILLED, &held);
 }
 
+static uint32_t evict_all(struct handles *handles) {
+    size_t count;
+    return smmuq_evict_all(&handles->engine, 0x3f, &count);
+}
+
 static uint32_t acknowledge_and_judge(struct handles *handles) {
     smmuq_verdict verdict;
-    uint32_t status = smmuq_acknowledge(&handles->unit, 1, 1);
+    uint32_t status = smmuq_acknowledge(&handles->unit, 1, SMMUQ_REPLACE);
     return status ? status : smmuq_unit_judge(&handles->unit, UNKNOWN.lo, UNKNOWN.hi, &verdict);
 }
 
@@ -176,6 +181,7 @@ static const struct {
     {"smmuq_status_text", status_text, SMMUQ_OK, SMMUQ_NO_MEMORY},
     {"smmuq_find", find, SMMUQ_OK, SMMUQ_C3},
     {"smmuq_evict", evict, SMMUQ_OK, SMMUQ_C3},
+    {"smmuq_evict_all", evict_all, SMMUQ_OK, SMMUQ_NO_MEMORY},
     {"smmuq_acknowledge and smmuq_unit_judge", acknowledge_and_judge, SMMUQ_REPLACED, SMMUQ_C3},
     {"smmuq_send", send, SMMUQ_OK, SMMUQ_NO_MEMORY},
     {"smmuq_send of 63 commands", send_of_63, SMMUQ_Q4, SMMUQ_NO_MEMORY},
