@@ -24,7 +24,7 @@ private:
     uint32_t status_;
 };
 
-const smmuq_words sync = {0x46, 0}, unknown = {0xff, 0};
+const smmuq_words CMD_SYNC = {0x46, 0}, UNKNOWN = {0xff, 0};
 
 // A unit stops at an illegal command, and software says that the next words decide: how it stands before and after these.
 bool rereads(smmuq_words next, uint32_t wanted, smmuq_errors stands, uint64_t replaced, uint64_t syncs) {
@@ -32,7 +32,7 @@ bool rereads(smmuq_words next, uint32_t wanted, smmuq_errors stands, uint64_t re
     smmuq_verdict verdict;
     smmuq_errors errors;
     smmuq_tallies tallies;
-    return unit.judge(unknown, verdict) == SMMUQ_ILL1 && unit.acknowledge(0, SMMUQ_REREAD) == SMMUQ_G2
+    return unit.judge(UNKNOWN, verdict) == SMMUQ_ILL1 && unit.acknowledge(0, SMMUQ_REREAD) == SMMUQ_G2
         && unit.acknowledge(1, SMMUQ_REREAD) == SMMUQ_OK && unit.acknowledge(1, SMMUQ_REPLACE) == SMMUQ_G1
         && unit.state(errors, tallies) == SMMUQ_OK && errors.err == 0 && errors.gerror == 1 && errors.gerrorn == 1
         && tallies.replaced == 0 && unit.judge(next, verdict) == wanted && verdict.ill == wanted
@@ -44,10 +44,10 @@ int main() {
     Unit made(16);
     Unit moved(std::move(made));
     smmuq_verdict verdict;
-    const bool right = moved.judge(sync, verdict) == SMMUQ_OK && made.judge(sync, verdict) == SMMUQ_EMPTY_HANDLE
+    const bool right = moved.judge(CMD_SYNC, verdict) == SMMUQ_OK && made.judge(CMD_SYNC, verdict) == SMMUQ_EMPTY_HANDLE
         && smmuq_version() == SMMUQ_VERSION;
     // The same words stop it once more, and those of a CMD_SYNC stand in place of the illegal ones.
-    const bool reread = rereads(unknown, SMMUQ_ILL1, {1, 0, 1}, 0, 0) && rereads(sync, SMMUQ_OK, {0, 1, 1}, 1, 1);
+    const bool reread = rereads(UNKNOWN, SMMUQ_ILL1, {1, 0, 1}, 0, 0) && rereads(CMD_SYNC, SMMUQ_OK, {0, 1, 1}, 1, 1);
     std::puts(right ? "C++: one unit, moved" : "C++: wrong");
     std::puts(reread ? "C++: an illegal command reread, as it was and written over" : "C++: wrong");
     return right && reread ? 0 : 1;
