@@ -13,15 +13,15 @@
 #include <string.h>
 
 enum { MOST_SLOTS = 1 << 19, TEXT_ROOM = 160 };
+enum { MOST_ENTRIES = 8 }; /* few, so that the guest that is played fills them */
 
 /* What the model has of one SMMU. Indexes have the wrap bit above those of the slot. */
 struct model {
     smmuq_handle unit;
     smmuq_words *queue; /* the guest's memory: 2^log2 commands */
     uint32_t log2;
-    uint32_t prod;          /* SMMU_CMDQ_PROD */
-    uint32_t cons;          /* SMMU_CMDQ_CONS without ERR */
-    smmuq_words stopped_at; /* the illegal command, where the queue is stopped */
+    uint32_t prod; /* SMMU_CMDQ_PROD */
+    uint32_t cons; /* SMMU_CMDQ_CONS without ERR */
     uint32_t walks;
 };
 
@@ -40,8 +40,6 @@ static uint32_t serve(struct model *model) {
         const smmuq_words command = *slot(model, model->cons);
         smmuq_verdict verdict;
         uint32_t status = smmuq_unit_judge(&model->unit, command.lo, command.hi, &verdict);
-        if (status >= SMMUQ_ILL1 && status <= SMMUQ_ILL4)
-            model->stopped_at = command;
         if (status != SMMUQ_OK && status != SMMUQ_REPLACED)
             return status;
         model->cons = (model->cons + 1) & ((2u << model->log2) - 1);
@@ -55,21 +53,20 @@ static uint32_t doorbell(struct model *model, uint32_t prod) {
     return serve(model);
 }
 
-/* The guest acknowledges the error by SMMU_GERRORN. Linux has written a CMD_SYNC over the illegal command by then, so what
- * stood there is given up, and the slot is read anew; where the slot is as it was, its command is judged again. */
+/* The guest acknowledges the error by SMMU_GERRORN. Linux has written a CMD_SYNC over the illegal command by then: what the
+ * slot holds now says whether the old one is judged again, or was given up. */
 static uint32_t write_gerrorn(struct model *model, uint32_t gerrorn) {
-    const smmuq_words *now = slot(model, model->cons);
-    const uint32_t replaced = now->lo != model->stopped_at.lo || now->hi != model->stopped_at.hi;
-    uint32_t status = smmuq_acknowledge(&model->unit, gerrorn, replaced);
-    smmuq_verdict verdict;
+    uint32_t status = smmuq_acknowledge(&model->unit, gerrorn, SMMUQ_REREAD);
+    return status == SMMUQ_OK ? serve(model) : status;
+}
+
+/* The caches are full: all translations are thrown out, and what is used of them is walked for again. */
+static void make_room(struct model *model) {
+    const uint32_t translations = 1u << (SMMUQ_S1 - 1) | 1u << (SMMUQ_S2 - 1) | 1u << (SMMUQ_EL2 - 1) | 1u << (SMMUQ_ATC - 1);
+    size_t count;
+    uint32_t status = smmuq_evict_all(&model->unit, translations, &count);
     if (status != SMMUQ_OK)
-        return status;
-    if (replaced) {
-        status = smmuq_unit_judge(&model->unit, model->stopped_at.lo, model->stopped_at.hi, &verdict);
-        if (status != SMMUQ_REPLACED)
-            return status;
-    }
-    return serve(model);
+        fail("evict_all", status);
 }
 
 /* The value for a page of an address space: the one that is held, or that of a walk, which is held from then on. */
@@ -83,7 +80,12 @@ static uint64_t translate(struct model *model, const uint64_t *page_table, uint6
         fail("lookup", status);
     model->walks++;
     held.value = page_table[address >> 12];
-    if ((status = smmuq_fill(&model->unit, &tag, held.value)) != SMMUQ_OK)
+    status = smmuq_fill(&model->unit, &tag, held.value);
+    if (status == SMMUQ_C1) {
+        make_room(model);
+        status = smmuq_fill(&model->unit, &tag, held.value);
+    }
+    if (status != SMMUQ_OK)
         fail("fill", status);
     return held.value;
 }
@@ -129,6 +131,7 @@ static void play_a_guest(struct model *model) {
     uint64_t page_table[16] = {0};
     const smmuq_fields invalidate = {.opcode = 0x12, .vmid = 1, .asid = 2, .leaf = 1, .address = 0x3000};
     const smmuq_fields sync = {.opcode = 0x46};
+    uint64_t address;
     uint32_t prod = 0;
 
     page_table[3] = 0x1000;
@@ -154,6 +157,11 @@ static void play_a_guest(struct model *model) {
     put(model, model->cons, sync);
     printf("acknowledged: status 0x%02" PRIx32 "\n", write_gerrorn(model, 1));
     print_queue(model);
+
+    /* Each page is used, and there is less room than that. */
+    for (address = 0; address < 0x10000; address += 0x1000)
+        translate(model, page_table, address);
+    print_translation(model, "used once all others were", page_table);
 }
 
 static void serve_image(struct model *model, const char *path, uint32_t prod, uint32_t cons) {
@@ -177,7 +185,7 @@ int main(int argc, char **argv) {
         model.log2 = (uint32_t)strtoul(argv[2], NULL, 0);
     if (model.log2 > 19 || !(model.queue = calloc(MOST_SLOTS, sizeof *model.queue)))
         return 2;
-    if ((status = smmuq_unit_new(4096, &model.unit)) != SMMUQ_OK)
+    if ((status = smmuq_unit_new(MOST_ENTRIES, &model.unit)) != SMMUQ_OK)
         fail("unit_new", status);
     if (argc == 5)
         serve_image(&model, argv[1], (uint32_t)strtoul(argv[3], NULL, 0), (uint32_t)strtoul(argv[4], NULL, 0));

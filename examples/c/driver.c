@@ -105,7 +105,7 @@ static void *acknowledge(void *argument) {
         smmuq_errors errors;
         smmuq_tallies tallies;
         if (device.stopped && smmuq_state(&device.engine, &errors, &tallies) == SMMUQ_OK
-            && smmuq_acknowledge(&device.engine, errors.gerror, 1) == SMMUQ_OK) {
+            && smmuq_acknowledge(&device.engine, errors.gerror, SMMUQ_REPLACE) == SMMUQ_OK) {
             device.stopped = 0;
             device.acknowledged++;
         }

@@ -63,6 +63,7 @@ static void misuse_a_unit(void) {
     WANT(smmuq_fill(&unit, &tag, 1), SMMUQ_OK);
     tag.address = 0x2000;
     WANT(smmuq_fill(&unit, &tag, 1), SMMUQ_C1);
+    WANT(smmuq_evict_all(&unit, 1u << SMMUQ_ATC, &count), SMMUQ_BAD_FIELD); /* bit 6 is that of no kind */
     WANT(smmuq_entries(&unit, &entry, 0, &count), SMMUQ_SHORT_BUFFER);
     WANT((uint32_t)count, 1);
     WANT(smmuq_entries(&unit, &entry, 1, &count), SMMUQ_OK);
@@ -74,17 +75,24 @@ static void misuse_a_unit(void) {
     WANT(smmuq_lookup(&unit, &tag, &held), SMMUQ_NOT_HELD);
     WANT(smmuq_evict(&unit, &tag, &held), SMMUQ_NOT_HELD);
     /* An error stop: the words at which it stopped come next, and nothing else. */
-    WANT(smmuq_acknowledge(&unit, 1, 0), SMMUQ_G1);
+    WANT(smmuq_acknowledge(&unit, 1, SMMUQ_RETRY), SMMUQ_G1);
     WANT(smmuq_unit_judge(&unit, UNKNOWN.lo, UNKNOWN.hi, &verdict), SMMUQ_ILL1);
     WANT(smmuq_unit_judge(&unit, CMD_SYNC.lo, CMD_SYNC.hi, &verdict), SMMUQ_STILL_STOPPED);
-    WANT(smmuq_acknowledge(&unit, 0, 0), SMMUQ_G2);
+    /* Entries may go while it is stopped, too. */
+    WANT(smmuq_evict_all(&unit, 1u << (SMMUQ_S2 - 1), &count), SMMUQ_OK);
+    WANT((uint32_t)count, 0);
+    WANT(smmuq_evict_all(&unit, 1u << (SMMUQ_S1 - 1), &count), SMMUQ_OK);
+    WANT((uint32_t)count, 1);
+    WANT(smmuq_fill(&unit, &tag, 1), SMMUQ_OK);
+    WANT(smmuq_acknowledge(&unit, 0, SMMUQ_RETRY), SMMUQ_G2);
     WANT(smmuq_acknowledge(&unit, 1, 7), SMMUQ_BAD_FIELD);
-    WANT(smmuq_acknowledge(&unit, 1, 1), SMMUQ_OK);
+    WANT(smmuq_acknowledge(&unit, 1, SMMUQ_REPLACE), SMMUQ_OK);
     WANT(smmuq_unit_judge(&unit, CMD_SYNC.lo, CMD_SYNC.hi, &verdict), SMMUQ_OTHER_COMMAND);
     WANT(smmuq_unit_judge(&unit, UNKNOWN.lo, UNKNOWN.hi, &verdict), SMMUQ_REPLACED);
     smmuq_free(&unit);
     smmuq_free(&unit);
     WANT(smmuq_lookup(&unit, &tag, &held), SMMUQ_EMPTY_HANDLE);
+    WANT(smmuq_evict_all(&unit, 0x3f, &count), SMMUQ_EMPTY_HANDLE);
 }
 
 static void misuse_a_ring(void) {
@@ -95,7 +103,7 @@ static void misuse_a_ring(void) {
     smmuq_queue_control control;
     smmuq_queue_registers registers;
     uint32_t number;
-    size_t i;
+    size_t i, count;
     for (i = 0; i < 64; i++)
         words[i] = CFGI_STE;
     WANT(smmuq_ring_new(0, 10, 16, senders, 2, &engine), SMMUQ_N1);
@@ -110,6 +118,7 @@ static void misuse_a_ring(void) {
     WANT(smmuq_unit_judge(&engine, 3, 0, &verdict), SMMUQ_WRONG_HANDLE);
     WANT(smmuq_look(&engine, &control), SMMUQ_WRONG_HANDLE);
     WANT(smmuq_registers(&senders[0], &registers), SMMUQ_WRONG_HANDLE);
+    WANT(smmuq_evict_all(&senders[0], 0x3f, &count), SMMUQ_WRONG_HANDLE);
     WANT(smmuq_send(&senders[0], words, 0, 1, &number), SMMUQ_B5);
     WANT(smmuq_send(&senders[0], words, 64, 1, &number), SMMUQ_B1);
     WANT(smmuq_send(&senders[0], &CMD_SYNC, 1, 1, &number), SMMUQ_B2);

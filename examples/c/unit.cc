@@ -16,19 +16,39 @@ public:
     uint32_t judge(smmuq_words command, smmuq_verdict &verdict) {
         return status_ == SMMUQ_OK ? smmuq_unit_judge(&handle_, command.lo, command.hi, &verdict) : status_;
     }
+    uint32_t acknowledge(uint32_t gerrorn, smmuq_remedy remedy) { return smmuq_acknowledge(&handle_, gerrorn, remedy); }
+    uint32_t state(smmuq_errors &errors, smmuq_tallies &tallies) { return smmuq_state(&handle_, &errors, &tallies); }
 
 private:
     smmuq_handle handle_ SMMUQ_EMPTY;
     uint32_t status_;
 };
 
+const smmuq_words CMD_SYNC = {0x46, 0}, UNKNOWN = {0xff, 0};
+
+// A unit stops at an illegal command, and software says that the next words decide: how it stands before and after these.
+bool rereads(smmuq_words next, uint32_t wanted, smmuq_errors stands, uint64_t replaced, uint64_t syncs) {
+    Unit unit(16);
+    smmuq_verdict verdict;
+    smmuq_errors errors;
+    smmuq_tallies tallies;
+    return unit.judge(UNKNOWN, verdict) == SMMUQ_ILL1 && unit.acknowledge(0, SMMUQ_REREAD) == SMMUQ_G2
+        && unit.acknowledge(1, SMMUQ_REREAD) == SMMUQ_OK && unit.acknowledge(1, SMMUQ_REPLACE) == SMMUQ_G1
+        && unit.state(errors, tallies) == SMMUQ_OK && errors.err == 0 && errors.gerror == 1 && errors.gerrorn == 1
+        && tallies.replaced == 0 && unit.judge(next, verdict) == wanted && verdict.ill == wanted
+        && unit.state(errors, tallies) == SMMUQ_OK && errors.err == stands.err && errors.gerror == stands.gerror
+        && errors.gerrorn == stands.gerrorn && tallies.replaced == replaced && tallies.syncs == syncs;
+}
+
 int main() {
     Unit made(16);
     Unit moved(std::move(made));
     smmuq_verdict verdict;
-    const smmuq_words sync = {0x46, 0};
-    const bool right = moved.judge(sync, verdict) == SMMUQ_OK && made.judge(sync, verdict) == SMMUQ_EMPTY_HANDLE
+    const bool right = moved.judge(CMD_SYNC, verdict) == SMMUQ_OK && made.judge(CMD_SYNC, verdict) == SMMUQ_EMPTY_HANDLE
         && smmuq_version() == SMMUQ_VERSION;
+    // The same words stop it once more, and those of a CMD_SYNC stand in place of the illegal ones.
+    const bool reread = rereads(UNKNOWN, SMMUQ_ILL1, {1, 0, 1}, 0, 0) && rereads(CMD_SYNC, SMMUQ_OK, {0, 1, 1}, 1, 1);
     std::puts(right ? "C++: one unit, moved" : "C++: wrong");
-    return right ? 0 : 1;
+    std::puts(reread ? "C++: an illegal command reread, as it was and written over" : "C++: wrong");
+    return right && reread ? 0 : 1;
 }

@@ -1,5 +1,5 @@
-// Calls of the C library with each allocation failing in turn: a call that takes memory is refused by the status that the
-// header names, and all handles are as they were. Those that take none say so. tools/check-c links it with
+// Calls of the C library with each allocation failing in turn, alone and with all behind it. Where memory is wanting a call
+// is refused by the status that the header names, and all handles are as they were. tools/check-c links it with
 // --wrap=malloc,--wrap=realloc.
 #include "smmuq.h"
 
@@ -8,15 +8,19 @@
 #include <stdlib.h>
 #include <string.h>
 
-// The allocations that serve before one fails, and how many were asked for.
+// The allocations that serve before one fails, whether all behind it fail too, and how many were asked for.
 static size_t serving = SIZE_MAX, asked;
+static bool all_behind;
 
 void *__real_malloc(size_t size);
 void *__real_realloc(void *block, size_t size);
 void *__wrap_malloc(size_t size);
 void *__wrap_realloc(void *block, size_t size);
 
-static bool fails(void) { return asked++ == serving; }
+static bool fails(void) {
+    size_t before = asked++;
+    return all_behind ? before >= serving : before == serving;
+}
 
 void *__wrap_malloc(size_t size) { return fails() ? NULL : __real_malloc(size); }
 
@@ -27,32 +31,34 @@ static void fail(const char *why, const char *call) {
     exit(1);
 }
 
-// A unit, a ring of two senders with its engine, and handles that hold nothing.
+// A unit that is stopped and holds an entry, one that holds none, a ring of two senders with its engine, and handles that
+// hold nothing.
 struct handles {
-    smmuq_handle unit, senders[2], engine, empty[3];
+    smmuq_handle unit, unused, senders[2], engine, empty[3];
 };
 
-#define HANDLES 7
+#define HANDLES 8
 
 static const smmuq_tag FILLED = {.kind = SMMUQ_S1, .vmid = 1, .has_asid = 1, .asid = 2, .address = 0x1000};
 static const smmuq_tag OTHER = {.kind = SMMUQ_S1, .vmid = 1, .has_asid = 1, .asid = 2, .address = 0x2000};
 static const smmuq_words TLBI_NSNH_ALL = {0x30, 0}, UNKNOWN = {0xff, 0};
 
 static struct handles made(void) {
-    struct handles handles = {SMMUQ_EMPTY, {SMMUQ_EMPTY, SMMUQ_EMPTY}, SMMUQ_EMPTY, {SMMUQ_EMPTY, SMMUQ_EMPTY, SMMUQ_EMPTY}};
+    struct handles handles = {
+        SMMUQ_EMPTY, SMMUQ_EMPTY, {SMMUQ_EMPTY, SMMUQ_EMPTY}, SMMUQ_EMPTY, {SMMUQ_EMPTY, SMMUQ_EMPTY, SMMUQ_EMPTY}};
     smmuq_verdict verdict;
     uint32_t number;
-    if (smmuq_unit_new(4, &handles.unit) || smmuq_fill(&handles.unit, &FILLED, 7) ||
+    if (smmuq_unit_new(4, &handles.unused) || smmuq_unit_new(4, &handles.unit) || smmuq_fill(&handles.unit, &FILLED, 7) ||
         smmuq_unit_judge(&handles.unit, UNKNOWN.lo, UNKNOWN.hi, &verdict) != SMMUQ_ILL1 ||
-        smmuq_ring_new(4, 9, 4, handles.senders, 2, &handles.engine) || smmuq_fill(&handles.engine, &FILLED, 8) ||
+        smmuq_ring_new(7, 9, 4, handles.senders, 2, &handles.engine) ||
         smmuq_send(&handles.senders[0], &TLBI_NSNH_ALL, 1, 1, &number))
         fail("refused", "what comes before");
     return handles;
 }
 
 static smmuq_handle *nth(struct handles *handles, size_t n) {
-    smmuq_handle *all[HANDLES] = {&handles->unit,     &handles->senders[0], &handles->senders[1], &handles->engine,
-                                  &handles->empty[0], &handles->empty[1],   &handles->empty[2]};
+    smmuq_handle *all[HANDLES] = {&handles->unit,   &handles->unused,   &handles->senders[0], &handles->senders[1],
+                                  &handles->engine, &handles->empty[0], &handles->empty[1],   &handles->empty[2]};
     return all[n];
 }
 
@@ -96,17 +102,15 @@ static uint32_t ring_new(struct handles *handles) { return smmuq_ring_new(5, 9, 
 static uint32_t ring_again(struct handles *handles) {
     return smmuq_ring_new(5, 9, 4, handles->senders, 2, &handles->engine);
 }
-static uint32_t fill_unit(struct handles *handles) { return smmuq_fill(&handles->unit, &OTHER, 9); }
+static uint32_t fill_unit(struct handles *handles) { return smmuq_fill(&handles->unused, &OTHER, 9); }
 static uint32_t fill_engine(struct handles *handles) { return smmuq_fill(&handles->engine, &OTHER, 9); }
 static uint32_t fill_in_place(struct handles *handles) { return smmuq_fill(&handles->unit, &FILLED, 9); }
 
-static uint32_t entries_of(smmuq_handle *handle) {
-    smmuq_entry entries[8];
+static uint32_t entries(struct handles *handles) {
+    smmuq_entry buffer[8];
     size_t count;
-    return smmuq_entries(handle, entries, 8, &count);
+    return smmuq_entries(&handles->unit, buffer, 8, &count);
 }
-static uint32_t entries_of_unit(struct handles *handles) { return entries_of(&handles->unit); }
-static uint32_t entries_of_engine(struct handles *handles) { return entries_of(&handles->engine); }
 
 static uint32_t text(struct handles *handles) {
     uint8_t room[160];
@@ -133,9 +137,14 @@ static uint32_t evict(struct handles *handles) {
     return smmuq_evict(&handles->unit, &FILLED, &held);
 }
 
+static uint32_t evict_all(struct handles *handles) {
+    size_t count;
+    return smmuq_evict_all(&handles->unit, 0x3f, &count);
+}
+
 static uint32_t acknowledge_and_judge(struct handles *handles) {
     smmuq_verdict verdict;
-    uint32_t status = smmuq_acknowledge(&handles->unit, 1, 1);
+    uint32_t status = smmuq_acknowledge(&handles->unit, 1, SMMUQ_REPLACE);
     return status ? status : smmuq_unit_judge(&handles->unit, UNKNOWN.lo, UNKNOWN.hi, &verdict);
 }
 
@@ -170,20 +179,20 @@ static const struct {
     {"smmuq_fill of a unit", fill_unit, SMMUQ_OK, SMMUQ_C3},
     {"smmuq_fill of an engine", fill_engine, SMMUQ_OK, SMMUQ_C3},
     {"smmuq_fill in place", fill_in_place, SMMUQ_OK, SMMUQ_C3},
-    {"smmuq_entries of a unit", entries_of_unit, SMMUQ_OK, SMMUQ_C3},
-    {"smmuq_entries of an engine", entries_of_engine, SMMUQ_OK, SMMUQ_C3},
+    {"smmuq_entries", entries, SMMUQ_OK, SMMUQ_C3},
     {"smmuq_text", text, SMMUQ_OK, SMMUQ_NO_MEMORY},
     {"smmuq_status_text", status_text, SMMUQ_OK, SMMUQ_NO_MEMORY},
     {"smmuq_find", find, SMMUQ_OK, SMMUQ_C3},
     {"smmuq_evict", evict, SMMUQ_OK, SMMUQ_C3},
+    {"smmuq_evict_all", evict_all, SMMUQ_OK, SMMUQ_NO_MEMORY},
     {"smmuq_acknowledge and smmuq_unit_judge", acknowledge_and_judge, SMMUQ_REPLACED, SMMUQ_C3},
     {"smmuq_send", send, SMMUQ_OK, SMMUQ_NO_MEMORY},
-    {"smmuq_send of 63 commands", send_of_63, SMMUQ_Q4, SMMUQ_NO_MEMORY},
+    {"smmuq_send of 63 commands", send_of_63, SMMUQ_OK, SMMUQ_NO_MEMORY},
     {"smmuq_run", run, SMMUQ_OK, SMMUQ_C3},
 };
 
 // Makes a call with this allocation failing, and says whether it came to that.
-static bool was_refused(size_t which, size_t failing) {
+static bool came_to(size_t which, size_t failing) {
     struct handles handles = made();
     char before[4096], after[4096];
     describe_all(&handles, before, sizeof before);
@@ -191,26 +200,29 @@ static bool was_refused(size_t which, size_t failing) {
     asked = 0;
     uint32_t status = CALLS[which].call(&handles);
     serving = SIZE_MAX;
-    bool refused = failing < asked;
-    if (refused) {
+    bool failed = failing < asked;
+    // Where the memory of a handle itself is wanting it is NO_MEMORY.
+    bool is_refused = status == CALLS[which].refused || status == SMMUQ_NO_MEMORY;
+    if (failed && is_refused) {
         describe_all(&handles, after, sizeof after);
         if (strcmp(before, after) != 0)
             fail("a handle isn't as it was", CALLS[which].name);
-        bool is_of_memory = status == CALLS[which].refused || status == SMMUQ_NO_MEMORY;
-        if (!is_of_memory)
-            fail("another status than that of memory", CALLS[which].name);
-    } else if (status != CALLS[which].status) {
-        fail("refused where memory serves", CALLS[which].name);
+    } else if (status != CALLS[which].status || (failed && all_behind)) {
+        // With one alone failing it may ask for less, and serve.
+        fail("answered otherwise than it should be", CALLS[which].name);
     }
     freed(&handles);
-    return refused;
+    return failed;
 }
 
 int main(void) {
     for (size_t which = 0; which < sizeof CALLS / sizeof *CALLS; which++) {
+        size_t allocations = 0;
+        for (all_behind = false; came_to(which, allocations); allocations++)
+            continue;
         size_t failing = 0;
-        while (was_refused(which, failing))
-            failing++;
+        for (all_behind = true; came_to(which, failing); failing++)
+            continue;
         printf("%s: %s\n", CALLS[which].name, failing == 0 ? "takes no memory" : "is refused where memory is wanting");
     }
     return 0;

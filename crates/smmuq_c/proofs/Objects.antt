@@ -1,17 +1,21 @@
 -- What a call does to a unit, a sender or an engine, it does to the object that it is.
-use Rattle.std.proofs.Common.{◌≡◌, ℕ, [], refl, sym, ap, subst, Option, None, Some}
+use Rattle.std.proofs.Common.{◌≡◌, ℕ, [], refl, sym, ap, subst, Option, Some}
 use Rattle.ringcore.specs.world.Trails.{Trail}
 use Rattle.ring.specs.consumer.Completing.{taken_of}
 use Rattle.ring.specs.sender.Senders.{SenderValue}
+use Rattle.engine.specs.declared.remedy.Remedy.{Remedy}
 use Rattle.engine.specs.Settled.{IsSettled}
 use Rattle.engine.specs.Units.{UnitValue, StaysSettled}
 use Rattle.engine.specs.Engines.{EngineValue}
+use Rattle.smmuq_c.specs.HeldUnits.{HeldValue}
 use Rattle.smmuq_c.specs.declared.status.Status.{Status}
+use Rattle.smmuq_c.specs.declared.stop_remedy.StopRemedy.{StopRemedy}
 use Rattle.smmuq_c.specs.declared.object.Object.{Object}
 use Rattle.smmuq_c.specs.declared.object.Object.TheVariants.{Unit as UnitOf, Sender as SenderOf, Engine as EngineOf}
-use Rattle.smmuq_c.specs.Calls.{OfUnit, OfSender, OfEngine, OfAnyUnit, OfSaid}
+use Rattle.smmuq_c.specs.Registers.{HasAcknowledged, HasAcknowledgedHeld, IsRemedyOf, remedy_for}
+use Rattle.smmuq_c.specs.Calls.{OfUnit, OfSender, OfEngine, OfAnyUnit, OfStop, BySaid, OfSaid}
 
-pub of_unit : (does : UnitValue → UnitValue → Status → Type 0) {object : Object} {old new : UnitValue} {status : Status}
+pub of_unit : (does : HeldValue → HeldValue → Status → Type 0) {object : Object} {old new : HeldValue} {status : Status}
     → object ≡ UnitOf old → does old new status → OfUnit does object (UnitOf new) status
 of_unit does {object} {old} {new} {status} is done = subst (λ (o : Object). OfUnit does o (UnitOf new) status) (sym is) (new, refl, done)
 
@@ -23,10 +27,11 @@ pub of_engine : (does : EngineValue → EngineValue → Status → Type 0) {obje
     → object ≡ EngineOf old → does old new status → OfEngine does object (EngineOf new) status
 of_engine does {object} {old} {new} {status} is done = subst (λ (o : Object). OfEngine does o (EngineOf new) status) (sym is) (new, refl, done)
 
-pub any_unit : (does : UnitValue → UnitValue → Status → Type 0) {object : Object} {old new : UnitValue} {status : Status}
-    → object ≡ UnitOf old → StaysSettled old new [] → does old new status → OfAnyUnit does object (UnitOf new) status
-any_unit does {object} {old} {new} {status} is settled done =
-    subst (λ (o : Object). OfAnyUnit does o (UnitOf new) status) (sym is) (new, refl, settled, done)
+pub any_unit : (does : UnitValue → UnitValue → Status → Type 0) {object : Object} {old new : HeldValue} {status : Status}
+    → object ≡ UnitOf old → new ≡ record old { unit = new.unit } → StaysSettled old.unit new.unit [] → does old.unit new.unit status
+    → OfAnyUnit does object (UnitOf new) status
+any_unit does {object} {old} {new} {status} is same settled done =
+    subst (λ (o : Object). OfAnyUnit does o (UnitOf new) status) (sym is) (new.unit, ap UnitOf same, settled, done)
 
 pub any_engine : (does : UnitValue → UnitValue → Status → Type 0) {object : Object} {old new : EngineValue} {status : Status}
     → object ≡ EngineOf old → new ≡ record old { unit = new.unit } → IsSettled new.unit.caches.entries (taken_of new.consumer.trail)
@@ -37,21 +42,41 @@ any_engine does {object} {old} {new} {status} is same settled done =
 
 -- ---- by what its words say
 
-pub said_unit : {X : Type 0} (said : Option X → Type 0) (does : X → UnitValue → UnitValue → Status → Type 0) {object : Object} {old new : UnitValue} {status : Status} (x : X)
-    → said (Some x) → object ≡ UnitOf old → StaysSettled old new [] → does x old new status → OfSaid said does object (UnitOf new) status
-said_unit said does x says is settled done = (Some x, says, any_unit (does x) is settled done)
+pub said_unit : {X : Type 0} (said : Option X → Type 0) (does : X → UnitValue → UnitValue → Status → Type 0) {object : Object} {old new : HeldValue} {status : Status} (x : X)
+    → said (Some x) → object ≡ UnitOf old → new ≡ record old { unit = new.unit } → StaysSettled old.unit new.unit []
+    → does x old.unit new.unit status → OfSaid said does object (UnitOf new) status
+said_unit said does x says is same settled done = (Some x, says, any_unit (does x) is same settled done)
 
 pub said_engine : {X : Type 0} (said : Option X → Type 0) (does : X → UnitValue → UnitValue → Status → Type 0) {object : Object} {old new : EngineValue} {status : Status} (x : X)
     → said (Some x) → object ≡ EngineOf old → new ≡ record old { unit = new.unit } → IsSettled new.unit.caches.entries (taken_of new.consumer.trail)
     → does x old.unit new.unit status → OfSaid said does object (EngineOf new) status
 said_engine said does x says is same settled done = (Some x, says, any_engine (does x) is same settled done)
 
+-- ---- a stop that is acknowledged
+
+pub stop_of_unit : {number gerrorn : ℕ} {object : Object} {old new : HeldValue} {status : Status} (remedy : StopRemedy)
+    → IsRemedyOf number (Some remedy) → object ≡ UnitOf old → StaysSettled old.unit new.unit [] → HasAcknowledgedHeld gerrorn remedy old new status
+    → BySaid (IsRemedyOf number) (OfStop gerrorn) object (UnitOf new) status
+stop_of_unit {gerrorn = gerrorn} {new = new} {status = status} remedy says is settled done =
+    (Some remedy, says, subst (λ (o : Object). OfStop gerrorn remedy o (UnitOf new) status) (sym is) (new, refl, settled, done))
+
+pub stop_of_engine : {number gerrorn : ℕ} {object : Object} {old new : EngineValue} {status : Status} (remedy : StopRemedy) {told : Remedy}
+    → IsRemedyOf number (Some remedy) → told ≡ remedy_for remedy → object ≡ EngineOf old → new ≡ record old { unit = new.unit }
+    → IsSettled new.unit.caches.entries (taken_of new.consumer.trail) → HasAcknowledged gerrorn told old.unit new.unit status
+    → BySaid (IsRemedyOf number) (OfStop gerrorn) object (EngineOf new) status
+stop_of_engine {gerrorn = gerrorn} {old = old} {new = new} {status = status} remedy says which is same settled done = (
+  Some remedy,
+  says,
+  subst (λ (o : Object). OfStop gerrorn remedy o (EngineOf new) status) (sym is)
+      (any_engine (HasAcknowledged gerrorn (remedy_for remedy)) refl same settled (subst (λ (r : Remedy). HasAcknowledged gerrorn r old.unit new.unit status) which done)),
+)
+
 -- ---- where nothing is changed
 
-pub read_unit : (does : UnitValue → UnitValue → Status → Type 0) {object : Object} {unit : UnitValue} {status : Status}
-    → object ≡ UnitOf unit → StaysSettled unit unit [] → does unit unit status → OfAnyUnit does object object status
-read_unit does {object} {unit} {status} is settled done =
-    subst (λ (o : Object). OfAnyUnit does o o status) (sym is) (unit, refl, settled, done)
+pub read_unit : (does : UnitValue → UnitValue → Status → Type 0) {object : Object} {held : HeldValue} {status : Status}
+    → object ≡ UnitOf held → StaysSettled held.unit held.unit [] → does held.unit held.unit status → OfAnyUnit does object object status
+read_unit does {object} {held} {status} is settled done =
+    subst (λ (o : Object). OfAnyUnit does o o status) (sym is) (held.unit, refl, settled, done)
 
 pub read_engine : (does : UnitValue → UnitValue → Status → Type 0) {object : Object} {engine : EngineValue} {status : Status}
     → object ≡ EngineOf engine → IsSettled engine.unit.caches.entries (taken_of engine.consumer.trail)
@@ -59,8 +84,8 @@ pub read_engine : (does : UnitValue → UnitValue → Status → Type 0) {object
 read_engine does {object} {engine} {status} is settled done =
     subst (λ (o : Object). OfAnyUnit does o o status) (sym is) (engine.unit, refl, settled, done)
 
-pub said_read_unit : {X : Type 0} (said : Option X → Type 0) (does : X → UnitValue → UnitValue → Status → Type 0) {object : Object} {unit : UnitValue} {status : Status} (x : X)
-    → said (Some x) → object ≡ UnitOf unit → StaysSettled unit unit [] → does x unit unit status → OfSaid said does object object status
+pub said_read_unit : {X : Type 0} (said : Option X → Type 0) (does : X → UnitValue → UnitValue → Status → Type 0) {object : Object} {held : HeldValue} {status : Status} (x : X)
+    → said (Some x) → object ≡ UnitOf held → StaysSettled held.unit held.unit [] → does x held.unit held.unit status → OfSaid said does object object status
 said_read_unit said does x says is settled done = (Some x, says, read_unit (does x) is settled done)
 
 pub said_read_engine : {X : Type 0} (said : Option X → Type 0) (does : X → UnitValue → UnitValue → Status → Type 0) {object : Object} {engine : EngineValue} {status : Status} (x : X)

@@ -5,9 +5,12 @@ use Rattle.ring.specs.consumer.Completing.{taken_of}
 use Rattle.engine.specs.Settled.{IsSettled}
 use Rattle.engine.specs.Units.{UnitValue, StaysSettled}
 use Rattle.engine.specs.Engines.{EngineValue}
+use Rattle.smmuq_c.specs.HeldUnits.{HeldValue}
+use Rattle.smmuq_c.specs.Registers.{HasAcknowledged, HasAcknowledgedHeld, remedy_for}
 use Rattle.smmuq_c.specs.Statuses.{number_of}
 use Rattle.smmuq_c.specs.declared.status.Status.{Status}
 use Rattle.smmuq_c.specs.declared.status.Status.TheVariants.{EmptyHandle, WrongHandle, BadField}
+use Rattle.smmuq_c.specs.declared.stop_remedy.StopRemedy.{StopRemedy}
 use Rattle.smmuq_c.specs.declared.object.Object.{Object}
 use Rattle.smmuq_c.specs.declared.object.Object.TheVariants.{Unit as UnitOf, Sender as SenderOf, Engine as EngineOf}
 
@@ -22,8 +25,8 @@ HasCalled does (Some old) new number = (after : Object) × (new ≡ Some after) 
 
 -- ---- an object of one kind is changed, and one of another kind refused
 
-abbrev pub OfUnit : (UnitValue → UnitValue → Status → Type 0) → Object → Object → Status → Type 0
-OfUnit does (UnitOf old) new status = (after : UnitValue) × (new ≡ UnitOf after) × does old after status
+abbrev pub OfUnit : (HeldValue → HeldValue → Status → Type 0) → Object → Object → Status → Type 0
+OfUnit does (UnitOf old) new status = (after : HeldValue) × (new ≡ UnitOf after) × does old after status
 OfUnit does (SenderOf s) new status = (new ≡ SenderOf s) × (status ≡ WrongHandle)
 OfUnit does (EngineOf e) new status = (new ≡ EngineOf e) × (status ≡ WrongHandle)
 
@@ -39,12 +42,22 @@ OfEngine does (EngineOf old) new status = (after : EngineValue) × (new ≡ Engi
 
 -- Of a unit, also of that of an engine, whose consumer stays. Entries that were settled are.
 abbrev pub OfAnyUnit : (UnitValue → UnitValue → Status → Type 0) → Object → Object → Status → Type 0
-OfAnyUnit does (UnitOf old) new status = (after : UnitValue) × (new ≡ UnitOf after) × StaysSettled old after [] × does old after status
+OfAnyUnit does (UnitOf h) new status =
+    (after : UnitValue) × (new ≡ UnitOf (record h { unit = after })) × StaysSettled h.unit after [] × does h.unit after status
 OfAnyUnit does (SenderOf s) new status = (new ≡ SenderOf s) × (status ≡ WrongHandle)
 OfAnyUnit does (EngineOf e) new status =
     (after : UnitValue) × (new ≡ EngineOf (record e { unit = after })) × IsSettled after.caches.entries (taken_of e.consumer.trail) × does e.unit after status
 
+-- Its stop is acknowledged. Nothing rewrites what was handed over in an engine's ring: there Reread is Retry.
+abbrev pub OfStop : ℕ → StopRemedy → Object → Object → Status → Type 0
+OfStop gerrorn remedy (UnitOf old) new status =
+    (after : HeldValue) × (new ≡ UnitOf after) × StaysSettled old.unit after.unit [] × HasAcknowledgedHeld gerrorn remedy old after status
+OfStop gerrorn remedy other new status = OfAnyUnit (HasAcknowledged gerrorn (remedy_for remedy)) other new status
+
 -- It did this with what its words say; where they say nothing, it did nothing.
+abbrev pub BySaid : {X : Type 0} → (Option X → Type 0) → (X → Object → Object → Status → Type 0) → Object → Object → Status → Type 0
+BySaid {X} said does old new status =
+    (found : Option X) × said found × MatchOption found ((new ≡ old) × (status ≡ BadField)) (λ x. does x old new status)
+
 abbrev pub OfSaid : {X : Type 0} → (Option X → Type 0) → (X → UnitValue → UnitValue → Status → Type 0) → Object → Object → Status → Type 0
-OfSaid {X} said does old new status =
-    (found : Option X) × said found × MatchOption found ((new ≡ old) × (status ≡ BadField)) (λ x. OfAnyUnit (does x) old new status)
+OfSaid said does old new status = BySaid said (λ x. OfAnyUnit (does x)) old new status

@@ -87,6 +87,6 @@ pub record HasFound (page spans : ℕ) (told_tag : TagWords) (told : Held) (owne
 -- ---- in between
 
 abbrev pub entries_of : Object → Entries
-entries_of (UnitOf u) = u.caches.entries
+entries_of (UnitOf u) = u.unit.caches.entries
 entries_of (SenderOf s) = finite.empty
 entries_of (EngineOf e) = e.unit.caches.entries

@@ -1,20 +1,26 @@
 //! A unit that tests what its contract asks of callers.
-ghost use Rattle.std.specs.Prelude.{◌≡◌, [], IfOk, OnErr, Err};
-ghost use Rattle.engine.specs.Units.{StaysSettled};
-ghost use Rattle.smmuq_c.specs.Judging.{IsJudgement, took_by, HasJudgedFor};
+ghost use Rattle.std.specs.Prelude.{◌≡◌, ◌<◌, ◌^◌, true, false, [], IfOk, OnOk, OnErr, Err};
+ghost use Rattle.engine.specs.Stops.{IsStopped, MayComeNext, IsAcknowledgementAnswer, told};
+ghost use Rattle.engine.specs.Counting.{taken};
+ghost use Rattle.engine.specs.Units.{HasJudged, StaysSettled, took};
+ghost use Rattle.smmuq_c.specs.Judging.{IsJudgement, took_by, took_old, HasReplaced, IsRereading, IsHeldJudgement, HasJudgedFor};
 ghost use Rattle.std.specs.FinMap as finite;
 ghost use Rattle.smmuq_c.specs.Lists.{IsListed};
 ghost use Rattle.smmuq_c.specs.Entries.{HasFilled, HasEvicted, TellsEntry};
-ghost use Rattle.smmuq_c.specs.Registers.{HasAcknowledged, error_words, count_words};
+ghost use Rattle.smmuq_c.specs.Registers.{HasAcknowledgedHeld, error_words, count_words};
 ghost use Rattle.smmuq_c.specs.Making.{AreNewCaches, IsNewUnit, IsCapacity};
+ghost use Rattle.smmuq_c.specs.Evicting.{HasLost, HasEvictedAll};
+ghost use Rattle.smmuq_c.specs.Own.{AreOwn};
 
-use crate::answers::{acknowledgement_status, fill_status, tell_entry, verdict_status};
+use crate::answers::{fill_status, tell_entry, verdict_status};
+use crate::evicting::Kinds;
 use crate::listing::{EntryWords, give_entries};
 use crate::status::Status;
+use crate::stop_remedy::StopRemedy;
 use crate::words::{Errors, Held, Tallies, VerdictWords};
 use caches::{CacheFault, Caches, Entry, Tag};
 use cmdcodec::Raw;
-use engine::{Remedy, Unit, Verdict};
+use engine::{AckFault, Remedy, Unit, Verdict};
 use std::alloc::Global;
 use std::marker::Model;
 
@@ -23,21 +29,25 @@ use std::marker::Model;
 pub(crate) struct HeldUnit {
     unit: Unit,
     awaited: Option<Raw>,
+    /// Whether the next words decide what becomes of these. The unit is stopped until they come.
+    rereads: bool,
 }
 
 impl Model for HeldUnit {
-    ghost use Rattle.std.specs.Prelude.{◌≡◌};
+    ghost use Rattle.std.specs.Prelude.{◌≡◌, true};
     ghost use Rattle.std.specs.Coded.{codes};
     ghost use Rattle.caches.specs.Stored.{stored_code};
-    ghost use Rattle.engine.specs.Units.{UnitValue};
+    ghost use Rattle.engine.specs.Stops.{IsStopped};
+    ghost use Rattle.smmuq_c.specs.HeldUnits.{HeldValue, shown};
+    ghost use Rattle.smmuq_c.specs.Own.{AreOwn};
 
-    ghost Value = { UnitValue };
+    ghost Value = { HeldValue };
 
     ghost coded = { Prim.hlevel (codes, stored_code) };
 
-    ghost view = { λ h. h.unit };
+    ghost view = { λ h. record { unit = shown h.rereads h.unit; rereads = h.rereads } };
 
-    ghost invariant = { λ h. h.unit.stop.next ≡ h.awaited };
+    ghost invariant = { λ h. (h.unit.stop.next ≡ h.awaited) × (h.rereads ≡ true → IsStopped h.unit.stop.mode) × AreOwn h.unit.caches.entries };
 }
 
 /// Why a command isn't judged, and nothing is done: what `Unit::judge` requires of its callers.
@@ -66,10 +76,27 @@ pub(crate) fn new_caches(alloc: Global, capacity: u32) -> Result<Caches, Status>
     }
 }
 
+/// Evicts the entries of these kinds from a unit, all of whose entries are listed: how many they were.
+fn evict_kinds(unit: &mut Unit, all: &[Entry], kinds: Kinds) -> usize
+    requires listed { all.now ≡ finite.values unit.old.caches.entries }
+    requires own { AreOwn unit.old.caches.entries }
+    ensures { HasLost kinds result unit.old unit.new }
+{
+    let mut gone = 0;
+    for entry in all {
+        if kinds.has(&entry.tag) {
+            let was = unit.evict(&entry.tag);
+            gone += usize::from(was.is_some());
+        }
+    }
+    gone
+}
+
 impl HeldUnit {
     /// A unit with empty caches for so many entries, 1 to 65,536: C4 refuses another number.
     pub(crate) fn new(alloc: Global, capacity: u32) -> Result<HeldUnit, Status>
-        ensures ok { IfOk result (λ unit. IsNewUnit capacity unit) }
+        ensures ok { IfOk result (λ held. IsNewUnit capacity held.unit) }
+        ensures told { IfOk result (λ held. held.rereads ≡ false) }
         ensures err { OnErr result (result ≡ Err (Status.Cache CacheFault.BadCapacity)) }
         ensures refused { OnErr result (¬ IsCapacity capacity) }
     {
@@ -77,13 +104,34 @@ impl HeldUnit {
         Ok(HeldUnit {
             unit: Unit::new(caches),
             awaited: None,
+            rereads: false,
         })
+    }
+
+    /// Judges a command that may come next.
+    fn judge_now(&mut self, raw: Raw) -> Verdict
+        requires decided { self.old.rereads ≡ false }
+        requires running { ¬ IsStopped self.old.unit.stop.mode }
+        requires next { MayComeNext raw self.old.unit.stop }
+        requires few { taken self.old.unit.counts < 2 ^ 46 }
+        ensures judged { HasJudged raw self.old.unit self.new.unit result }
+        ensures settled { StaysSettled self.old.unit self.new.unit (took raw result) }
+        ensures decided { self.new.rereads ≡ false }
+    {
+        let verdict = self.unit.judge(raw);
+        self.awaited = match verdict {
+            Verdict::Stopped(_) => Some(raw),
+            Verdict::Applied { .. } | Verdict::Replaced(_) => None,
+        };
+        verdict
     }
 
     /// Judges a command, where it is one that may come next.
     fn judge_next(&mut self, raw: Raw) -> Result<Verdict, Refusal>
-        ensures judged { IsJudgement raw self.old self.new result }
-        ensures settled { StaysSettled self.old self.new (took_by raw result) }
+        requires decided { self.old.rereads ≡ false }
+        ensures judged { IsJudgement raw self.old.unit self.new.unit result }
+        ensures settled { StaysSettled self.old.unit self.new.unit (took_by raw result) }
+        ensures decided { self.new.rereads ≡ false }
     {
         if self.unit.stopped() {
             return Err(Refusal::StillStopped);
@@ -96,18 +144,72 @@ impl HeldUnit {
                 return Err(Refusal::OtherCommand);
             }
         }
-        let verdict = self.unit.judge(raw);
-        self.awaited = match verdict {
-            Verdict::Stopped(_) => Some(raw),
-            Verdict::Applied { .. } | Verdict::Replaced(_) => None,
-        };
-        Ok(verdict)
+        Ok(self.judge_now(raw))
+    }
+
+    /// The unit, which is stopped, is told what becomes of the words at which it stopped.
+    fn decide(&mut self, remedy: Remedy)
+        requires undecided { self.old.rereads ≡ true }
+        ensures { self.new ≡ record { unit = record self.old.unit { stop = told remedy self.old.unit.stop }; rereads = false } }
+    {
+        let (_, gerror, _) = self.unit.error();
+        // CMDQ_ERR of this word is that of SMMU_GERROR: it isn't refused.
+        let _ = self.unit.acknowledge(gerror, remedy);
+        self.rereads = false;
+    }
+
+    /// Takes the words at which the unit stopped without effect.
+    fn replace(&mut self, awaited: Raw)
+        requires undecided { self.old.rereads ≡ true }
+        requires next { self.old.unit.stop.next ≡ Some awaited }
+        requires few { taken self.old.unit.counts < 2 ^ 46 }
+        ensures replaced { HasReplaced awaited self.old.unit self.new.unit }
+        ensures settled { StaysSettled self.old.unit self.new.unit (took_old awaited) }
+        ensures decided { self.new.rereads ≡ false }
+    {
+        self.decide(Remedy::Replace);
+        self.judge_now(awaited);
+    }
+
+    /// Judges the words that decide what becomes of those at which the unit stopped.
+    fn judge_deciding(&mut self, raw: Raw) -> Result<Verdict, Refusal>
+        requires undecided { self.old.rereads ≡ true }
+        ensures judged { IsRereading raw self.old.unit self.new.unit result }
+        ensures ok { OnOk result (self.new.rereads ≡ false) }
+        ensures err { OnErr result (self.new ≡ self.old) }
+    {
+        let taken = self.unit.counts().taken();
+        if let Some(awaited) = self.awaited {
+            if raw != awaited {
+                if taken + 1 >= MOST_COMMANDS {
+                    return Err(Refusal::Exhausted);
+                }
+                self.replace(awaited);
+                return Ok(self.judge_now(raw));
+            }
+        }
+        if taken >= MOST_COMMANDS {
+            return Err(Refusal::Exhausted);
+        }
+        self.decide(Remedy::Retry);
+        Ok(self.judge_now(raw))
+    }
+
+    /// Judges the next words.
+    fn judge_words(&mut self, raw: Raw) -> Result<Verdict, Refusal>
+        ensures { IsHeldJudgement raw self.old self.new result }
+    {
+        if self.rereads {
+            self.judge_deciding(raw)
+        } else {
+            self.judge_next(raw)
+        }
     }
 
     pub(crate) fn judge(&mut self, raw: Raw, told: &mut VerdictWords) -> Status
         ensures { HasJudgedFor raw told.new self.old self.new result }
     {
-        match self.judge_next(raw) {
+        match self.judge_words(raw) {
             Ok(verdict) => {
                 *told = VerdictWords::of(&verdict);
                 verdict_status(&verdict)
@@ -120,44 +222,61 @@ impl HeldUnit {
     }
 
     pub(crate) fn fill(&mut self, tag: Tag, value: u64) -> Status
-        ensures filled { HasFilled tag value self.old self.new result }
-        ensures settled { StaysSettled self.old self.new [] }
+        ensures filled { HasFilled tag value self.old.unit self.new.unit result }
+        ensures rereads { self.new ≡ record self.old { unit = self.new.unit } }
+        ensures settled { StaysSettled self.old.unit self.new.unit [] }
     {
         fill_status(self.unit.fill(tag, value))
     }
 
     pub(crate) fn evict(&mut self, tag: &Tag, told: &mut Held) -> Status
-        ensures evicted { HasEvicted tag.now told.new self.old self.new result }
-        ensures settled { StaysSettled self.old self.new [] }
+        ensures evicted { HasEvicted tag.now told.new self.old.unit self.new.unit result }
+        ensures rereads { self.new ≡ record self.old { unit = self.new.unit } }
+        ensures settled { StaysSettled self.old.unit self.new.unit [] }
     {
         tell_entry(self.unit.evict(tag), told)
     }
 
+    /// Throws out the entries of these kinds, and tells how many they were.
+    pub(crate) fn evict_all(&mut self, kinds: Kinds, count: &mut usize) -> Status
+        ensures evicted { HasEvictedAll kinds count.new self.old.unit self.new.unit result }
+        ensures rereads { self.new ≡ record self.old { unit = self.new.unit } }
+        ensures settled { StaysSettled self.old.unit self.new.unit [] }
+    {
+        match self.unit.entries() {
+            Ok(list) => {
+                *count = evict_kinds(&mut self.unit, list.as_slice(), kinds);
+                Status::Done
+            }
+            Err(_) => Status::NoMemory,
+        }
+    }
+
     pub(crate) fn lookup(&self, tag: &Tag, told: &mut Held) -> Status
-        ensures tells { TellsEntry tag.now told.new self.now result }
-        ensures settled { StaysSettled self.now self.now [] }
+        ensures tells { TellsEntry tag.now told.new self.now.unit result }
+        ensures settled { StaysSettled self.now.unit self.now.unit [] }
     {
         tell_entry(self.unit.lookup(tag), told)
     }
 
     /// A witness that its entries are settled as they are. It does nothing.
     pub(crate) fn is_settled(&self)
-        ensures { StaysSettled self.now self.now [] }
+        ensures { StaysSettled self.now.unit self.now.unit [] }
     {
         let _ = &self.unit;
     }
 
     /// The entry of this tag that is held, if one is.
     pub(crate) fn entry(&self, tag: &Tag) -> Option<Entry>
-        ensures { result ≡ finite.get self.now.caches.entries tag.now }
+        ensures { result ≡ finite.get self.now.unit.caches.entries tag.now }
     {
         self.unit.lookup(tag)
     }
 
     /// Tells all entries, and how many they are.
     pub(crate) fn entries(&self, buffer: &mut [EntryWords], count: &mut usize) -> Status
-        ensures listed { IsListed (finite.values self.now.caches.entries) buffer.old buffer.new count.new result }
-        ensures settled { StaysSettled self.now self.now [] }
+        ensures listed { IsListed (finite.values self.now.unit.caches.entries) buffer.old buffer.new count.new result }
+        ensures settled { StaysSettled self.now.unit self.now.unit [] }
     {
         match self.unit.entries() {
             Ok(list) => give_entries(list.as_slice(), buffer, count),
@@ -166,10 +285,17 @@ impl HeldUnit {
     }
 
     pub(crate) fn errors(&self) -> Errors
-        ensures errors { result ≡ error_words self.now.stop }
-        ensures settled { StaysSettled self.now self.now [] }
+        ensures errors { result ≡ error_words self.now.unit.stop }
+        ensures settled { StaysSettled self.now.unit self.now.unit [] }
     {
         let (err, gerror, gerrorn) = self.unit.error();
+        if self.rereads {
+            return Errors {
+                err: 0,
+                gerror,
+                gerrorn: gerror,
+            };
+        }
         Errors {
             err,
             gerror,
@@ -178,15 +304,39 @@ impl HeldUnit {
     }
 
     pub(crate) fn tallies(&self) -> Tallies
-        ensures { result ≡ count_words self.now.counts }
+        ensures { result ≡ count_words self.now.unit.counts }
     {
         Tallies::from(self.unit.counts())
     }
 
-    pub(crate) fn acknowledge(&mut self, gerrorn: u32, remedy: Remedy) -> Status
-        ensures acknowledged { HasAcknowledged gerrorn remedy self.old self.new result }
-        ensures settled { StaysSettled self.old self.new [] }
+    /// What an acknowledgement with this word is answered.
+    fn acknowledgement(&self, gerrorn: u32) -> Result<(), AckFault>
+        ensures { IsAcknowledgementAnswer self.now.unit.stop gerrorn result }
     {
-        acknowledgement_status(self.unit.acknowledge(gerrorn, remedy))
+        if self.rereads || !self.unit.stopped() {
+            return Err(AckFault::NoError);
+        }
+        let (_, gerror, _) = self.unit.error();
+        if gerrorn % 2 != gerror {
+            return Err(AckFault::OtherBit);
+        }
+        Ok(())
+    }
+
+    pub(crate) fn acknowledge(&mut self, gerrorn: u32, remedy: StopRemedy) -> Status
+        ensures acknowledged { HasAcknowledgedHeld gerrorn remedy self.old self.new result }
+        ensures settled { StaysSettled self.old.unit self.new.unit [] }
+    {
+        if let Err(fault) = self.acknowledgement(gerrorn) {
+            return Status::Acknowledgement(fault);
+        }
+        // The unit is told now, or by the next words.
+        self.rereads = true;
+        match remedy {
+            StopRemedy::Retry => self.decide(Remedy::Retry),
+            StopRemedy::Replace => self.decide(Remedy::Replace),
+            StopRemedy::Reread => (),
+        }
+        Status::Done
     }
 }

@@ -8,8 +8,11 @@ ghost use Rattle.smmuq_c.specs.Lists.{IsListed};
 ghost use Rattle.smmuq_c.specs.Entries.{HasFilled, HasEvicted, TellsEntry};
 ghost use Rattle.smmuq_c.specs.Registers.{HasAcknowledged, error_words, count_words};
 ghost use Rattle.smmuq_c.specs.Runs.{HasRunFor, HasToldRegisters};
+ghost use Rattle.smmuq_c.specs.Evicting.{HasLost, HasEvictedAll};
+ghost use Rattle.smmuq_c.specs.Own.{AreOwn};
 
 use crate::answers::{acknowledgement_status, fill_status, tell_entry};
+use crate::evicting::Kinds;
 use crate::listing::{EntryWords, give_entries};
 use crate::status::Status;
 use crate::words::{Errors, Held, RegisterWords, RunWords, Tallies};
@@ -32,6 +35,7 @@ impl Model for SeatedEngine {
     ghost use Rattle.std.specs.Arc.{arc_value};
     ghost use Rattle.caches.specs.Stored.{stored_code};
     ghost use Rattle.engine.specs.Engines.{EngineValue};
+    ghost use Rattle.smmuq_c.specs.Own.{AreOwn};
 
     ghost Value = { EngineValue };
 
@@ -39,12 +43,32 @@ impl Model for SeatedEngine {
 
     ghost view = { λ e. e.engine };
 
-    ghost invariant = { λ e. e.engine.consumer.ring ≡ arc_value e.ring };
+    ghost invariant = { λ e. (e.engine.consumer.ring ≡ arc_value e.ring) × AreOwn e.engine.unit.caches.entries };
+}
+
+/// Evicts the entries of these kinds from an engine, all of whose entries are listed: how many they were.
+fn evict_kinds(engine: &mut Engine, all: &[Entry], kinds: Kinds) -> usize
+    requires listed { all.now ≡ finite.values engine.old.unit.caches.entries }
+    requires own { AreOwn engine.old.unit.caches.entries }
+    ensures lost { HasLost kinds result engine.old.unit engine.new.unit }
+    ensures consumer { engine.new ≡ record engine.old { unit = engine.new.unit } }
+    ensures settled { IsSettled engine.new.unit.caches.entries (taken_of engine.new.consumer.trail) }
+{
+    let mut gone = 0;
+    for entry in all {
+        if kinds.has(&entry.tag) {
+            let was = engine.evict(&entry.tag);
+            gone += usize::from(was.is_some());
+        }
+    }
+    engine.is_settled();
+    gone
 }
 
 impl SeatedEngine {
     pub(crate) fn new(ring: Arc<Ring>, engine: Engine) -> SeatedEngine
-        requires { engine.consumer.ring ≡ arc_value ring }
+        requires ring { engine.consumer.ring ≡ arc_value ring }
+        requires own { AreOwn engine.unit.caches.entries }
         ensures { result ≡ engine }
     {
         SeatedEngine { ring, engine }
@@ -80,6 +104,22 @@ impl SeatedEngine {
         ensures settled { IsSettled self.new.unit.caches.entries (taken_of self.new.consumer.trail) }
     {
         tell_entry(self.engine.evict(tag), told)
+    }
+
+    /// Throws out the entries of these kinds, and tells how many they were.
+    pub(crate) fn evict_all(&mut self, kinds: Kinds, count: &mut usize) -> Status
+        ensures evicted { HasEvictedAll kinds count.new self.old.unit self.new.unit result }
+        ensures consumer { self.new ≡ record self.old { unit = self.new.unit } }
+        ensures settled { IsSettled self.new.unit.caches.entries (taken_of self.new.consumer.trail) }
+    {
+        self.engine.is_settled();
+        match self.engine.entries() {
+            Ok(list) => {
+                *count = evict_kinds(&mut self.engine, list.as_slice(), kinds);
+                Status::Done
+            }
+            Err(_) => Status::NoMemory,
+        }
     }
 
     pub(crate) fn lookup(&self, tag: &Tag, told: &mut Held) -> Status

@@ -1,15 +1,16 @@
 //! The exports of the error stop and the counts, of a unit or of an engine.
-ghost use Rattle.smmuq_c.specs.Calls.{HasCalled, OfAnyUnit, OfSaid};
-ghost use Rattle.smmuq_c.specs.Registers.{IsRemedyOf, HasAcknowledged, HasToldState};
+ghost use Rattle.smmuq_c.specs.Calls.{HasCalled, OfAnyUnit, OfStop, BySaid};
+ghost use Rattle.smmuq_c.specs.Registers.{IsRemedyOf, HasToldState};
 
 use crate::handle::{Handle, put, take};
 use crate::object::Object;
 use crate::status::Status;
+use crate::stop_remedy::StopRemedy;
 use crate::words::{Errors, Tallies};
-use engine::Remedy;
 use std::alloc::Global;
 
-/// Software writes SMMU_GERRORN. `remedy` 0 has the illegal command come again, 1 has it replaced. G1 where no error is
+/// Software writes SMMU_GERRORN. `remedy` 0 has the illegal command come again, 1 has it replaced, 2 leaves that to the
+/// words that come next: the same ones come again, and others replace it. Of an engine 2 is 0. G1 where no error is
 /// active, G2 where CMDQ_ERR of the word isn't that of SMMU_GERROR, `BAD_FIELD` where the remedy isn't one.
 #[unsafe(no_mangle)]
 pub extern "C" fn smmuq_acknowledge(
@@ -18,7 +19,7 @@ pub extern "C" fn smmuq_acknowledge(
     gerrorn: u32,
     remedy: u32,
 ) -> u32
-    ensures { HasCalled (OfSaid (IsRemedyOf remedy) (HasAcknowledged gerrorn)) handle.old.object handle.new.object result }
+    ensures { HasCalled (BySaid (IsRemedyOf remedy) (OfStop gerrorn)) handle.old.object handle.new.object result }
 {
     let Some(mut object) = take(alloc, handle) else {
         return Status::EmptyHandle.number();
@@ -28,25 +29,26 @@ pub extern "C" fn smmuq_acknowledge(
     status.number()
 }
 
-fn remedy_of(number: u32) -> Option<Remedy>
+fn remedy_of(number: u32) -> Option<StopRemedy>
     ensures { IsRemedyOf number result }
 {
     match number {
-        0 => Some(Remedy::Retry),
-        1 => Some(Remedy::Replace),
+        0 => Some(StopRemedy::Retry),
+        1 => Some(StopRemedy::Replace),
+        2 => Some(StopRemedy::Reread),
         _ => None,
     }
 }
 
 fn acknowledge(object: &mut Object, gerrorn: u32, remedy: u32) -> Status
-    ensures { OfSaid (IsRemedyOf remedy) (HasAcknowledged gerrorn) object.old object.new result }
+    ensures { BySaid (IsRemedyOf remedy) (OfStop gerrorn) object.old object.new result }
 {
     let Some(remedy) = remedy_of(remedy) else {
         return Status::BadField;
     };
     match object {
         Object::Unit(unit) => unit.acknowledge(gerrorn, remedy),
-        Object::Engine(seated) => seated.acknowledge(gerrorn, remedy),
+        Object::Engine(seated) => seated.acknowledge(gerrorn, remedy.remedy()),
         Object::Sender(_) => Status::WrongHandle,
     }
 }

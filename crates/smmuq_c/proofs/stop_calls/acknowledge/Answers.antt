@@ -1,9 +1,9 @@
-use Rattle.smmuq_c.proofs.Objects.{said_unit, said_engine}
+use Rattle.smmuq_c.proofs.Objects.{stop_of_unit, stop_of_engine}
 use Rattle.smmuq_c.proofs.stop_calls.acknowledge.Goals as goal
 
 pub returns-in-Unit : goal.returns-in-Unit
-returns-in-Unit c = said_unit _ _ c.in-Some.remedy c.in-Some.ensures c.in-Unit.is c.acknowledge.ensures.settled c.acknowledge.ensures.acknowledged
+returns-in-Unit c = stop_of_unit c.in-Some.remedy c.in-Some.ensures c.in-Unit.is c.acknowledge.ensures.settled c.acknowledge.ensures.acknowledged
 
 pub returns-in-Engine : goal.returns-in-Engine
 returns-in-Engine c =
-    let e = c.acknowledge-in-Engine.ensures in said_engine _ _ c.in-Some.remedy c.in-Some.ensures c.in-Engine.is e.consumer e.settled e.acknowledged
+    let e = c.acknowledge-in-Engine.ensures in stop_of_engine c.in-Some.remedy c.in-Some.ensures c.remedy.ensures c.in-Engine.is e.consumer e.settled e.acknowledged

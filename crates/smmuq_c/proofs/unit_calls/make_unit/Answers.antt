@@ -2,4 +2,4 @@ use Rattle.std.proofs.Common.{Some, ap, ◌∙◌}
 use Rattle.smmuq_c.proofs.unit_calls.make_unit.Goals as goal
 
 pub returns-in-Ok-new : goal.returns-in-Ok-new
-returns-in-Ok-new c = (c.in-Ok.held, c.in-Ok.ensures.ok, c.put.ensures ∙ ap Some c.in-Ok-new.ensures.ok)
+returns-in-Ok-new c = (c.in-Ok.held, c.in-Ok.ensures.ok, c.in-Ok.ensures.told, c.put.ensures ∙ ap Some c.in-Ok-new.ensures.ok)

@@ -1,0 +1,71 @@
+//! Throwing entries out by their kinds, and the export that does it.
+ghost use Rattle.std.specs.Prelude.{◌≡◌};
+ghost use Rattle.smmuq_c.specs.Calls.{HasCalled, OfSaid};
+ghost use Rattle.smmuq_c.specs.Evicting.{AreKindsOf, has_kind, HasEvictedAll};
+
+use crate::handle::{Handle, put, take};
+use crate::object::Object;
+use crate::status::Status;
+use crate::tags::TagWords;
+use caches::Tag;
+use std::alloc::Global;
+
+/// Kinds of tags: bit `kind - 1` of the mask for each.
+#[derive(Clone, Copy)]
+pub(crate) struct Kinds {
+    mask: u32,
+}
+
+impl Kinds {
+    /// Those of a mask, where it has no other bit.
+    fn of(mask: u32) -> Option<Kinds>
+        ensures { AreKindsOf mask result }
+    {
+        if mask < 1 << 6 {
+            Some(Kinds { mask })
+        } else {
+            None
+        }
+    }
+
+    /// Whether the tag is of one of them.
+    pub(crate) fn has(&self, tag: &Tag) -> bool
+        ensures { result ≡ has_kind self.now tag.now }
+    {
+        let kind = TagWords::of(tag).kind;
+        (self.mask >> (kind - 1)) % 2 == 1
+    }
+}
+
+/// Throws out all entries of a unit or an engine whose tags are of some kinds, and tells how many they were. Bit
+/// `kind - 1` of `kinds` stands for each of the kinds 1 to 6: 0x3f throws out all entries, 0 none. `BAD_FIELD` where
+/// another bit is set, `NO_MEMORY`: then nothing changed.
+#[unsafe(no_mangle)]
+pub extern "C" fn smmuq_evict_all(
+    alloc: Global,
+    handle: &mut Handle,
+    kinds: u32,
+    count: &mut usize,
+) -> u32
+    ensures { HasCalled (OfSaid (AreKindsOf kinds) (λ k. HasEvictedAll k count.new)) handle.old.object handle.new.object result }
+{
+    let Some(mut object) = take(alloc, handle) else {
+        return Status::EmptyHandle.number();
+    };
+    let status = evict_all(object.as_mut(), kinds, count);
+    put(handle, object);
+    status.number()
+}
+
+fn evict_all(object: &mut Object, kinds: u32, count: &mut usize) -> Status
+    ensures { OfSaid (AreKindsOf kinds) (λ k. HasEvictedAll k count.new) object.old object.new result }
+{
+    let Some(kinds) = Kinds::of(kinds) else {
+        return Status::BadField;
+    };
+    match object {
+        Object::Unit(unit) => unit.evict_all(kinds, count),
+        Object::Engine(seated) => seated.evict_all(kinds, count),
+        Object::Sender(_) => Status::WrongHandle,
+    }
+}
