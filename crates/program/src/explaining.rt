@@ -64,7 +64,7 @@ fn try_notes<F: Write>(alloc: Global, notes: &Notes, faults: &mut Watched<F>)
     let told = if left_out == 0 {
         format!(in alloc; "{text}")
     } else {
-        format!(in alloc; "{text}and {left_out} lines more\n")
+        format!(in alloc; "{text}lines left out: {left_out}\n")
     };
     if let Ok(told) = told {
         try_text(told.as_str(), faults);
