@@ -126,6 +126,46 @@ static uint32_t status_text(struct handles *handles) {
     return smmuq_status_text(SMMUQ_Q2, room, sizeof room, &length);
 }
 
+// The rest of the codec, which has no handle.
+static uint32_t codec(struct handles *handles) {
+    smmuq_fields fields;
+    smmuq_words words, room[63];
+    size_t count;
+    (void)handles;
+    uint32_t status = smmuq_check(TLBI_NSNH_ALL.lo, TLBI_NSNH_ALL.hi);
+    status |= smmuq_decode(TLBI_NSNH_ALL.lo, TLBI_NSNH_ALL.hi, &fields);
+    status |= smmuq_encode(&fields, &words);
+    status |= smmuq_range(1, 2, 0x1000, 33, room, 63, &count);
+    status |= smmuq_detach(5, room, 63, &count);
+    return status;
+}
+
+static uint32_t lookup(struct handles *handles) {
+    smmuq_held held;
+    return smmuq_lookup(&handles->unit, &FILLED, &held);
+}
+
+// All that tells of a unit, a sender or an engine without a change.
+static uint32_t tell(struct handles *handles) {
+    smmuq_errors errors;
+    smmuq_tallies tallies;
+    smmuq_queue_registers registers;
+    smmuq_queue_control control;
+    uint32_t number, status = smmuq_state(&handles->unit, &errors, &tallies);
+    status |= smmuq_state(&handles->engine, &errors, &tallies);
+    status |= smmuq_registers(&handles->engine, &registers);
+    status |= smmuq_look(&handles->senders[0], &control);
+    status |= smmuq_done_up_to(&handles->senders[0], &number);
+    return status | (smmuq_kind(&handles->unit) != 1) | (smmuq_version() != SMMUQ_VERSION);
+}
+
+static uint32_t close_and_free(struct handles *handles) {
+    uint32_t status = smmuq_close(&handles->senders[0]);
+    for (size_t n = 0; n < HANDLES; n++)
+        smmuq_free(nth(handles, n));
+    return status;
+}
+
 static uint32_t find(struct handles *handles) {
     smmuq_tag tag;
     smmuq_held held;
@@ -161,6 +201,10 @@ static uint32_t send(struct handles *handles) {
     return smmuq_send(&handles->senders[1], &TLBI_NSNH_ALL, 1, 1, &number);
 }
 
+static uint32_t send_bare(struct handles *handles) {
+    return smmuq_send_bare(&handles->senders[1], &TLBI_NSNH_ALL, 1, 1);
+}
+
 static uint32_t run(struct handles *handles) {
     smmuq_run_answer answer;
     return smmuq_run(&handles->engine, 64, &answer);
@@ -169,26 +213,31 @@ static uint32_t run(struct handles *handles) {
 static const struct {
     const char *name;
     uint32_t (*call)(struct handles *handles);
-    // What it answers where memory serves, and where it doesn't.
-    uint32_t status, refused;
+    // What it answers where memory serves, and where it doesn't: 0 where it takes none.
+    uint32_t status, refused[2];
 } CALLS[] = {
-    {"smmuq_unit_new", unit_new, SMMUQ_OK, SMMUQ_NO_MEMORY},
-    {"smmuq_unit_new over a unit", unit_reset, SMMUQ_OK, SMMUQ_NO_MEMORY},
-    {"smmuq_ring_new", ring_new, SMMUQ_OK, SMMUQ_N4},
-    {"smmuq_ring_new over a ring", ring_again, SMMUQ_OK, SMMUQ_N4},
-    {"smmuq_fill of a unit", fill_unit, SMMUQ_OK, SMMUQ_C3},
-    {"smmuq_fill of an engine", fill_engine, SMMUQ_OK, SMMUQ_C3},
-    {"smmuq_fill in place", fill_in_place, SMMUQ_OK, SMMUQ_C3},
-    {"smmuq_entries", entries, SMMUQ_OK, SMMUQ_C3},
-    {"smmuq_text", text, SMMUQ_OK, SMMUQ_NO_MEMORY},
-    {"smmuq_status_text", status_text, SMMUQ_OK, SMMUQ_NO_MEMORY},
-    {"smmuq_find", find, SMMUQ_OK, SMMUQ_C3},
-    {"smmuq_evict", evict, SMMUQ_OK, SMMUQ_C3},
-    {"smmuq_evict_all", evict_all, SMMUQ_OK, SMMUQ_NO_MEMORY},
-    {"smmuq_acknowledge and smmuq_unit_judge", acknowledge_and_judge, SMMUQ_REPLACED, SMMUQ_C3},
-    {"smmuq_send", send, SMMUQ_OK, SMMUQ_NO_MEMORY},
-    {"smmuq_send of 63 commands", send_of_63, SMMUQ_OK, SMMUQ_NO_MEMORY},
-    {"smmuq_run", run, SMMUQ_OK, SMMUQ_C3},
+    {"smmuq_unit_new", unit_new, SMMUQ_OK, {SMMUQ_NO_MEMORY}},
+    {"smmuq_unit_new over a unit", unit_reset, SMMUQ_OK, {SMMUQ_NO_MEMORY}},
+    {"smmuq_ring_new", ring_new, SMMUQ_OK, {SMMUQ_N4, SMMUQ_NO_MEMORY}},
+    {"smmuq_ring_new over a ring", ring_again, SMMUQ_OK, {SMMUQ_N4, SMMUQ_NO_MEMORY}},
+    {"smmuq_fill of a unit", fill_unit, SMMUQ_OK, {SMMUQ_C3}},
+    {"smmuq_fill of an engine", fill_engine, SMMUQ_OK, {SMMUQ_C3}},
+    {"smmuq_fill in place", fill_in_place, SMMUQ_OK, {0}},
+    {"smmuq_entries", entries, SMMUQ_OK, {SMMUQ_C3}},
+    {"smmuq_evict_all", evict_all, SMMUQ_OK, {SMMUQ_C3}},
+    {"smmuq_text", text, SMMUQ_OK, {SMMUQ_NO_MEMORY}},
+    {"smmuq_status_text", status_text, SMMUQ_OK, {0}},
+    {"the rest of the codec", codec, SMMUQ_OK, {0}},
+    {"smmuq_lookup", lookup, SMMUQ_OK, {0}},
+    {"smmuq_find", find, SMMUQ_OK, {0}},
+    {"smmuq_evict", evict, SMMUQ_OK, {0}},
+    {"smmuq_acknowledge and smmuq_unit_judge", acknowledge_and_judge, SMMUQ_REPLACED, {0}},
+    {"smmuq_send", send, SMMUQ_OK, {0}},
+    {"smmuq_send of 63 commands", send_of_63, SMMUQ_OK, {0}},
+    {"smmuq_send_bare", send_bare, SMMUQ_OK, {0}},
+    {"smmuq_run", run, SMMUQ_OK, {0}},
+    {"what tells without a change", tell, SMMUQ_OK, {0}},
+    {"smmuq_close and smmuq_free", close_and_free, SMMUQ_OK, {0}},
 };
 
 // Makes a call with this allocation failing, and says whether it came to that.
@@ -201,8 +250,7 @@ static bool came_to(size_t which, size_t failing) {
     uint32_t status = CALLS[which].call(&handles);
     serving = SIZE_MAX;
     bool failed = failing < asked;
-    // Where the memory of a handle itself is wanting it is NO_MEMORY.
-    bool is_refused = status == CALLS[which].refused || status == SMMUQ_NO_MEMORY;
+    bool is_refused = status != SMMUQ_OK && (status == CALLS[which].refused[0] || status == CALLS[which].refused[1]);
     if (failed && is_refused) {
         describe_all(&handles, after, sizeof after);
         if (strcmp(before, after) != 0)

@@ -1,12 +1,13 @@
 -- Throwing out all entries whose tags are of some kinds.
 use Rattle.std.specs.Prelude.{◌≡◌, ◌<◌, ◌+◌, ◌-◌, ◌/◌, ◌%◌, ◌^◌, ◌==◌, ℕ, Bool, not, Option, None, Some}
 use Rattle.std.specs.FinMap as finite
+use Rattle.caches.specs.declared.fault.CacheFault.TheVariants.{NoMemory}
 use Rattle.caches.specs.declared.tag.Tag.{Tag}
 use Rattle.caches.specs.Held.{Entries}
 use Rattle.engine.specs.Units.{UnitValue, with_entries}
 use Rattle.smmuq_c.specs.declared.evicting.Kinds.{Kinds}
 use Rattle.smmuq_c.specs.declared.status.Status.{Status}
-use Rattle.smmuq_c.specs.declared.status.Status.TheVariants.{Done, NoMemory}
+use Rattle.smmuq_c.specs.declared.status.Status.TheVariants.{Done, Cache}
 use Rattle.smmuq_c.specs.Lists.{tag_words}
 
 -- The mask has no bit but those of the six kinds, and says these; or it has another.
@@ -30,5 +31,5 @@ pub record HasLost (kinds : Kinds) (count : ℕ) (old new : UnitValue) : Type 0 
 -- They are gone, and their number is told; or memory ran out, and nothing changed.
 abbrev pub HasEvictedAll : Kinds → ℕ → UnitValue → UnitValue → Status → Type 0
 HasEvictedAll kinds told old new Done = HasLost kinds told old new
-HasEvictedAll kinds told old new NoMemory = new ≡ old
+HasEvictedAll kinds told old new (Cache NoMemory) = new ≡ old
 HasEvictedAll kinds told old new other = ⊥

@@ -73,7 +73,7 @@ IsRereading raw old new (Err refusal) = IsRereadRefusal raw old refusal
 
 -- ---- of a unit that a handle holds
 
--- whether the next words decide so
+-- by whether the next words decide what becomes of those at which it stopped
 abbrev pub IsJudgementBy : Bool → Raw → UnitValue → UnitValue → Result Verdict Refusal → Type 0
 IsJudgementBy false raw old new answer = IsJudgement raw old new answer × StaysSettled old new (took_by raw answer)
 IsJudgementBy true raw old new answer = IsRereading raw old new answer

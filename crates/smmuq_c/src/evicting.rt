@@ -39,7 +39,7 @@ impl Kinds {
 
 /// Throws out all entries of a unit or an engine whose tags are of some kinds, and tells how many they were. Bit
 /// `kind - 1` of `kinds` stands for each of the kinds 1 to 6: 0x3f throws out all entries, 0 none. `BAD_FIELD` where
-/// another bit is set, `NO_MEMORY`: then nothing changed.
+/// another bit is set, C3 where memory is wanting: then nothing changed.
 #[unsafe(no_mangle)]
 pub extern "C" fn smmuq_evict_all(
     alloc: Global,

@@ -248,7 +248,7 @@ impl HeldUnit {
                 *count = evict_kinds(&mut self.unit, list.as_slice(), kinds);
                 Status::Done
             }
-            Err(_) => Status::NoMemory,
+            Err(fault) => Status::Cache(fault),
         }
     }
 
@@ -330,7 +330,7 @@ impl HeldUnit {
         if let Err(fault) = self.acknowledgement(gerrorn) {
             return Status::Acknowledgement(fault);
         }
-        // The unit is told now, or by the next words.
+        // Retry and Replace are told to the unit at once, Reread once the next words are there.
         self.rereads = true;
         match remedy {
             StopRemedy::Retry => self.decide(Remedy::Retry),

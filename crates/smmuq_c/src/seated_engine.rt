@@ -118,7 +118,7 @@ impl SeatedEngine {
                 *count = evict_kinds(&mut self.engine, list.as_slice(), kinds);
                 Status::Done
             }
-            Err(_) => Status::NoMemory,
+            Err(fault) => Status::Cache(fault),
         }
     }
 
