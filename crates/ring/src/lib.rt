@@ -32,7 +32,7 @@ pub use ring::Ring;
 pub use ringcore::{Outcome, RingFault};
 pub use sender::{
     Bare, BareReservation, BatchKind, Cause, Closing, OpenReservation, Receipt, Refused,
-    Reservation, Sender,
+    Reservation, Sender, UnboundReservation,
 };
 pub use summary::Summary;
 pub use table::{growth_adds_up, run_is_one};

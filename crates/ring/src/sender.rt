@@ -1,5 +1,5 @@
 //! One who reserves slots for batches, writes them and hands them over.
-ghost use Rattle.std.specs.Prelude.{◌≡◌, ◌≢◌, ◌∷◌, ◌<◌, ◌≤◌, true, false, IfOk, IfErr, MatchResult, []};
+ghost use Rattle.std.specs.Prelude.{◌≡◌, ◌≢◌, ◌∷◌, ◌+◌, ◌<◌, ◌≤◌, true, false, IfOk, IfErr, MatchResult, []};
 ghost use Rattle.cmdcodec.specs.Bodies.{IsBody};
 ghost use Rattle.qindex.specs.ControlWord.{IsControl};
 ghost use Rattle.qindex.specs.Positions.{size};
@@ -21,6 +21,7 @@ mod open_reservation;
 mod receipt;
 mod sending;
 mod tally;
+mod unbound_reservation;
 
 use crate::ring::Ring;
 use crate::sender::batch_length::batch_length;
@@ -36,6 +37,7 @@ use ringcore::laws::newest_event;
 use ringcore::world_law;
 use std::marker::{Brand, Model, PhantomData};
 pub use tally::Tally;
+pub use unbound_reservation::UnboundReservation;
 
 /// One of a ring's senders, which may be moved to a thread of its own.
 #[derive(Drop)]
@@ -123,6 +125,14 @@ impl Sender {
         ensures id { self.new.number ≡ self.old.number }
     {
         receipt.number() <= self.done_up_to(ring)
+    }
+
+    /// How many batches it may still reserve in the ring's life, of either kind.
+    pub fn batches_left(&self, ring: &Ring) -> u32
+        requires { self.now.ring ≡ ring.now }
+        ensures { result + batches_made self.now.trail ≡ self.now.ring.made_with.max_batches }
+    {
+        ring.max_batches() - self.tally.batches
     }
 
     /// Reserves the next slots for a whole batch and its closing CMD_SYNC, by one look and one exchange.
