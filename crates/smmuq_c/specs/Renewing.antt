@@ -22,8 +22,8 @@ use Rattle.smmuq_c.specs.Own.{AreOwn}
 
 abbrev pub renewal_status : RenewalFault → Status
 renewal_status fault.Waiting = Waiting
-renewal_status (fault.Ring fault) = Ring fault
-renewal_status (fault.Caches fault) = Cache fault
+renewal_status (fault.Ring why) = Ring why
+renewal_status (fault.Caches why) = Cache why
 
 -- The old engine looked, and PROD and CONS stood at one place; it was settled for all that it took. The new one serves a new
 -- ring, whose senders stand in these handles, and holds the entries of the old, each born 0, and no others.
@@ -41,8 +41,8 @@ pub record IsRenewed (sizes : Sizes) (senders : List Handle) (old new : EngineVa
 
 -- why it isn't renewed, where nothing waits
 abbrev pub IsNotRenewed : Sizes → ℕ → EngineValue → Status → Type 0
-IsNotRenewed sizes senders old (Ring fault) = IsUnmade sizes senders old.unit.caches.entries (fault.Ring fault)
-IsNotRenewed sizes senders old (Cache fault) = IsUnmade sizes senders old.unit.caches.entries (fault.Caches fault)
+IsNotRenewed sizes senders old (Ring why) = IsUnmade sizes senders old.unit.caches.entries (fault.Ring why)
+IsNotRenewed sizes senders old (Cache why) = IsUnmade sizes senders old.unit.caches.entries (fault.Caches why)
 IsNotRenewed sizes senders old NoMemory = ⊤
 IsNotRenewed sizes senders old other = ⊥
 
