@@ -111,6 +111,7 @@ static void misuse_a_ring(void) {
     WANT(smmuq_ring_new(4, 10, 16, senders, 0, &engine), SMMUQ_N2);
     WANT(smmuq_ring_new(4, 0, 16, senders, 2, &engine), SMMUQ_N3);
     WANT(smmuq_ring_new(4, 10, 0, senders, 2, &engine), SMMUQ_C4);
+    WANT(smmuq_renew(4, 10, 16, senders, 2, &engine), SMMUQ_EMPTY_HANDLE);
     WANT(smmuq_send(&senders[0], words, 1, 1, &number), SMMUQ_EMPTY_HANDLE);
     WANT(smmuq_ring_new(4, 10, 16, senders, 2, &engine), SMMUQ_OK);
     WANT(smmuq_send(&engine, words, 1, 1, &number), SMMUQ_WRONG_HANDLE);
@@ -135,6 +136,18 @@ static void misuse_a_ring(void) {
     WANT(smmuq_run(&engine, 1000, &answer), SMMUQ_OK);
     WANT(smmuq_done_up_to(&senders[0], &number), SMMUQ_OK);
     WANT(number, 1);
+    WANT(smmuq_send_bare(&senders[1], words, 1, 1), SMMUQ_OK);
+    WANT(smmuq_renew(4, 10, 16, senders, 2, &engine), SMMUQ_Q6);
+    WANT(smmuq_run(&engine, 64, &answer), SMMUQ_OK);
+    WANT(smmuq_renew(4, 10, 16, senders, 2, &senders[0]), SMMUQ_WRONG_HANDLE);
+    WANT(smmuq_renew(20, 10, 16, senders, 2, &engine), SMMUQ_N1);
+    WANT(smmuq_renew(4, 10, 16, senders, 0, &engine), SMMUQ_N2);
+    WANT(smmuq_renew(4, 10, 0, senders, 2, &engine), SMMUQ_C4);
+    WANT(smmuq_done_up_to(&senders[0], &number), SMMUQ_OK); /* nothing has changed */
+    WANT(number, 1);
+    WANT(smmuq_renew(4, 10, 16, senders, 2, &engine), SMMUQ_OK);
+    WANT(smmuq_done_up_to(&senders[0], &number), SMMUQ_OK);
+    WANT(number, 0);
     WANT(smmuq_close(&senders[1]), SMMUQ_OK);
     WANT(smmuq_send(&senders[0], words, 1, 1, &number), SMMUQ_Q1);
     WANT(smmuq_run(&engine, 64, &answer), SMMUQ_RING_DRAINED);

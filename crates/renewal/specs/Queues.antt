@@ -13,6 +13,9 @@ use Rattle.ring.specs.sender.Senders.{SenderValue}
 use Rattle.ring.specs.consumer.Consumers.{ConsumerValue}
 use Rattle.ring.specs.consumer.Taking.{with_trail}
 use Rattle.engine.specs.Units.{UnitValue}
+use Rattle.engine.specs.declared.answer.Registers.{Registers}
+use Rattle.engine.specs.Engines.{EngineValue}
+use Rattle.engine.specs.Engines as engine
 use Rattle.renewal.specs.declared.queue.Queue.{Queue}
 
 -- It has all senders of its ring, and its engine serves that ring.
@@ -40,6 +43,10 @@ pub record HasInIt (who : Who) (trail : Trail) (run : Run) : Type 0 where
   pub trail_is : trail_of who older ≡ trail
 
 -- ---- the look
+
+-- An engine looked once, as `Engine::registers` does.
+abbrev pub EngineHasLooked : EngineValue → EngineValue → Type 0
+EngineHasLooked old new = (found : Registers) × engine.HasLooked old new found
 
 -- It looked once, and found this, as it stood in the run that the engine knows from then on. That run went on from the one
 -- that it knew before, and has the trails of all senders. But for this look, and for what each knows of the run, the queue is as it was.

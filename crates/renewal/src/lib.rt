@@ -18,5 +18,7 @@ mod renewing;
 mod succession;
 
 pub use fault::RenewalFault;
+pub use meeting::sees_waiting;
 pub use queue::{Queue, Refused, Renewed, Sizes};
 pub use renewing::renew;
+pub use succession::successor;

@@ -2,7 +2,7 @@
 ghost use Rattle.std.specs.Prelude.{◌≡◌, ◌↔◌, ◌≤◌, length, false, IsTrue};
 ghost use Rattle.ringcore.specs.world.World.{world, control as control_of};
 ghost use Rattle.ring.specs.Finishing.{AreAll};
-ghost use Rattle.renewal.specs.Queues.{HasLooked, SawWaiting, AreAtOnePlace};
+ghost use Rattle.renewal.specs.Queues.{HasLooked, EngineHasLooked, SawWaiting, AreAtOnePlace};
 ghost use Rattle.renewal.specs.Meetings.{HaveMet, IsOfSize};
 
 use crate::queue::Queue;
@@ -22,8 +22,20 @@ pub fn is_waiting(queue: &mut Queue) -> bool
     ensures size { 1 ≤ length queue.old.senders.items → IsOfSize queue.old.ring }
 {
     meet_all(&queue.ring, &mut queue.senders, &mut queue.engine);
-    let found = queue.engine.registers(&queue.ring);
-    let (err, _, _) = queue.engine.error();
+    sees_waiting(&mut queue.engine, &queue.ring)
+}
+
+/// An engine looks: whether a command is reserved that it hasn't taken. Senders that it hasn't met may have reserved, and
+/// may go on to.
+pub fn sees_waiting(engine: &mut Engine, ring: &Ring) -> bool
+    requires { engine.old.consumer.ring ≡ ring.now }
+    ensures looked { EngineHasLooked engine.old engine.new }
+    ensures waiting { IsTrue result ↔ SawWaiting engine.new.consumer.trail }
+    ensures none { result ≡ false → AreAtOnePlace (control_of ring.now.made_with.geometry (world engine.new.consumer.history)) }
+    ensures ring { engine.new.consumer.ring ≡ engine.old.consumer.ring }
+{
+    let found = engine.registers(ring);
+    let (err, _, _) = engine.error();
     found.prod != found.cons - err * ERR
 }
 

@@ -37,7 +37,8 @@ pub fn renew(alloc: Global, queue: Queue, sizes: Sizes) -> Result<Renewed, Refus
         let fault = RenewalFault::Waiting;
         return Err(Refused { fault, queue });
     }
-    match successor(alloc, &queue, sizes) {
+    let many = queue.senders.len() as u32;
+    match successor(alloc, &queue.engine, many, sizes) {
         Ok(next) => {
             let old = join(queue);
             Ok(Renewed { old, queue: next })

@@ -1,8 +1,9 @@
 //! A new queue with the entries of an old engine.
-ghost use Rattle.std.specs.Prelude.{◌≡◌, ◌≤◌, [], length, IfOk, IfErr, OnOk};
+ghost use Rattle.std.specs.Prelude.{◌≡◌, [], IfOk, IfErr, OnOk};
 ghost use Rattle.caches.specs.Held.{held};
 ghost use Rattle.ring.specs.NewRings.{IsNewRing};
 ghost use Rattle.engine.specs.Units.{new_unit};
+ghost use Rattle.renewal.specs.Queues.{IsWhole};
 ghost use Rattle.renewal.specs.Carried.{IsCarried, IsUncarried};
 ghost use Rattle.renewal.specs.Renewing.{IsCapacity, IsUnmade};
 
@@ -13,28 +14,35 @@ use engine::Engine;
 use ring::Ring;
 use std::alloc::Global;
 
-/// A new queue of these sizes, with as many senders as the old one has and the entries of its engine.
-pub fn successor(alloc: Global, old: &Queue, sizes: Sizes) -> Result<Queue, RenewalFault>
-    requires few { length old.now.senders.items ≤ 256 }
-    ensures unused { IfOk result (λ q. IsNewRing sizes.log2 (length old.now.senders.items) sizes.max_batches q.ring q.senders.items q.engine.consumer) }
-    ensures entries { IfOk result (λ q. IsCarried sizes.capacity old.now.engine.unit q.engine.unit) }
+/// A new queue of these sizes, with so many senders and the entries of this engine, each born 0. The engine stays as it is.
+///
+/// Errors, in this order: C4, N1, N2 and N3 where the numbers aren't in range; N4 or C3 when out of memory for the ring or
+/// for a list of the entries; C1 where more entries are held than the new caches may hold; C3 when out of memory for them.
+pub fn successor(
+    alloc: Global,
+    old: &Engine,
+    senders: u32,
+    sizes: Sizes,
+) -> Result<Queue, RenewalFault>
+    ensures unused { IfOk result (λ q. IsNewRing sizes.log2 senders sizes.max_batches q.ring q.senders.items q.engine.consumer) }
+    ensures entries { IfOk result (λ q. IsCarried sizes.capacity old.now.unit q.engine.unit) }
     ensures sizes { OnOk result (IsCapacity sizes.capacity) }
-    ensures unmade { IfErr result (λ fault. IsUnmade sizes (length old.now.senders.items) old.now.engine.unit.caches.entries fault) }
+    ensures unmade { IfErr result (λ fault. IsUnmade sizes senders old.now.unit.caches.entries fault) }
+    ensures whole { IfOk result IsWhole }
 {
     let caches = match Caches::new(alloc, sizes.capacity) {
         Ok(caches) => caches,
         Err(fault) => return Err(RenewalFault::Caches(fault)),
     };
-    let many = old.senders.len() as u32;
-    let (ring, senders, consumer) = match Ring::new(alloc, sizes.log2, many, sizes.max_batches) {
+    let (ring, all, consumer) = match Ring::new(alloc, sizes.log2, senders, sizes.max_batches) {
         Ok(parts) => parts,
         Err(fault) => return Err(RenewalFault::Ring(fault)),
     };
     let mut engine = Engine::new(consumer, caches);
-    match carry(&old.engine, &mut engine, sizes.capacity) {
+    match carry(old, &mut engine, sizes.capacity) {
         Ok(()) => Ok(Queue {
             ring,
-            senders,
+            senders: all,
             engine,
         }),
         Err(fault) => Err(RenewalFault::Caches(fault)),

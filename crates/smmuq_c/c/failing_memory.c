@@ -31,13 +31,13 @@ static void fail(const char *why, const char *call) {
     exit(1);
 }
 
-// A unit that is stopped and holds an entry, one that holds none, a ring of two senders with its engine, and handles that
-// hold nothing.
+// A unit that is stopped and holds an entry, one that holds none, a ring of two senders with its engine, one in which nothing
+// waits and whose engine holds an entry, and handles that hold nothing.
 struct handles {
-    smmuq_handle unit, unused, senders[2], engine, empty[3];
+    smmuq_handle unit, unused, senders[2], engine, idle_sender, idle_engine, empty[3];
 };
 
-#define HANDLES 8
+#define HANDLES 10
 
 static const smmuq_tag FILLED = {.kind = SMMUQ_S1, .vmid = 1, .has_asid = 1, .asid = 2, .address = 0x1000};
 static const smmuq_tag OTHER = {.kind = SMMUQ_S1, .vmid = 1, .has_asid = 1, .asid = 2, .address = 0x2000};
@@ -45,20 +45,24 @@ static const smmuq_words TLBI_NSNH_ALL = {0x30, 0}, UNKNOWN = {0xff, 0};
 
 static struct handles made(void) {
     struct handles handles = {
-        SMMUQ_EMPTY, SMMUQ_EMPTY, {SMMUQ_EMPTY, SMMUQ_EMPTY}, SMMUQ_EMPTY, {SMMUQ_EMPTY, SMMUQ_EMPTY, SMMUQ_EMPTY}};
+        SMMUQ_EMPTY, SMMUQ_EMPTY, {SMMUQ_EMPTY, SMMUQ_EMPTY}, SMMUQ_EMPTY, SMMUQ_EMPTY, SMMUQ_EMPTY,
+        {SMMUQ_EMPTY, SMMUQ_EMPTY, SMMUQ_EMPTY}};
     smmuq_verdict verdict;
     uint32_t number;
     if (smmuq_unit_new(4, &handles.unused) || smmuq_unit_new(4, &handles.unit) || smmuq_fill(&handles.unit, &FILLED, 7) ||
         smmuq_unit_judge(&handles.unit, UNKNOWN.lo, UNKNOWN.hi, &verdict) != SMMUQ_ILL1 ||
         smmuq_ring_new(7, 9, 4, handles.senders, 2, &handles.engine) ||
+        smmuq_ring_new(4, 9, 4, &handles.idle_sender, 1, &handles.idle_engine) ||
+        smmuq_fill(&handles.idle_engine, &FILLED, 7) ||
         smmuq_send(&handles.senders[0], &TLBI_NSNH_ALL, 1, 1, &number))
         fail("refused", "what comes before");
     return handles;
 }
 
 static smmuq_handle *nth(struct handles *handles, size_t n) {
-    smmuq_handle *all[HANDLES] = {&handles->unit,   &handles->unused,   &handles->senders[0], &handles->senders[1],
-                                  &handles->engine, &handles->empty[0], &handles->empty[1],   &handles->empty[2]};
+    smmuq_handle *all[HANDLES] = {&handles->unit,        &handles->unused,      &handles->senders[0], &handles->senders[1],
+                                  &handles->engine,      &handles->idle_sender, &handles->idle_engine,
+                                  &handles->empty[0],    &handles->empty[1],    &handles->empty[2]};
     return all[n];
 }
 
@@ -101,6 +105,12 @@ static uint32_t unit_reset(struct handles *handles) { return smmuq_unit_new(4, &
 static uint32_t ring_new(struct handles *handles) { return smmuq_ring_new(5, 9, 4, handles->empty, 2, &handles->empty[2]); }
 static uint32_t ring_again(struct handles *handles) {
     return smmuq_ring_new(5, 9, 4, handles->senders, 2, &handles->engine);
+}
+static uint32_t renew(struct handles *handles) {
+    return smmuq_renew(5, 9, 4, &handles->idle_sender, 1, &handles->idle_engine);
+}
+static uint32_t renew_too_early(struct handles *handles) {
+    return smmuq_renew(5, 9, 4, handles->senders, 2, &handles->engine);
 }
 static uint32_t fill_unit(struct handles *handles) { return smmuq_fill(&handles->unused, &OTHER, 9); }
 static uint32_t fill_engine(struct handles *handles) { return smmuq_fill(&handles->engine, &OTHER, 9); }
@@ -214,12 +224,14 @@ static const struct {
     const char *name;
     uint32_t (*call)(struct handles *handles);
     // What it answers where memory serves, and where it doesn't: 0 where it takes none.
-    uint32_t status, refused[2];
+    uint32_t status, refused[3];
 } CALLS[] = {
     {"smmuq_unit_new", unit_new, SMMUQ_OK, {SMMUQ_NO_MEMORY}},
     {"smmuq_unit_new over a unit", unit_reset, SMMUQ_OK, {SMMUQ_NO_MEMORY}},
     {"smmuq_ring_new", ring_new, SMMUQ_OK, {SMMUQ_N4, SMMUQ_NO_MEMORY}},
     {"smmuq_ring_new over a ring", ring_again, SMMUQ_OK, {SMMUQ_N4, SMMUQ_NO_MEMORY}},
+    {"smmuq_renew", renew, SMMUQ_OK, {SMMUQ_N4, SMMUQ_C3, SMMUQ_NO_MEMORY}},
+    {"smmuq_renew where a command waits", renew_too_early, SMMUQ_Q6, {0}},
     {"smmuq_fill of a unit", fill_unit, SMMUQ_OK, {SMMUQ_C3}},
     {"smmuq_fill of an engine", fill_engine, SMMUQ_OK, {SMMUQ_C3}},
     {"smmuq_fill in place", fill_in_place, SMMUQ_OK, {0}},
@@ -250,7 +262,9 @@ static bool came_to(size_t which, size_t failing) {
     uint32_t status = CALLS[which].call(&handles);
     serving = SIZE_MAX;
     bool failed = failing < asked;
-    bool is_refused = status != SMMUQ_OK && (status == CALLS[which].refused[0] || status == CALLS[which].refused[1]);
+    bool is_refused = false;
+    for (size_t n = 0; n < 3; n++)
+        is_refused |= status != SMMUQ_OK && status == CALLS[which].refused[n];
     if (failed && is_refused) {
         describe_all(&handles, after, sizeof after);
         if (strcmp(before, after) != 0)

@@ -7,7 +7,7 @@ use Rattle.ring.specs.declared.sender.cause.Cause.TheVariants as cause
 use Rattle.ringcore.specs.declared.ring_fault.RingFault.TheVariants as ring
 use Rattle.engine.specs.declared.remedy.AckFault.TheVariants.{NoError, OtherBit}
 use Rattle.smmuq_c.specs.declared.status.Status.{Status}
-use Rattle.smmuq_c.specs.declared.status.Status.TheVariants.{Done, Illegal, Cache, Batch, Refused, Ring, Acknowledgement, EmptyHandle, WrongHandle, BadField, ShortBuffer, NoMemory, NotHeld, StillStopped, OtherCommand, Exhausted, RingEmpty, RingDrained, RingUnwritten, Replaced}
+use Rattle.smmuq_c.specs.declared.status.Status.TheVariants.{Done, Illegal, Cache, Batch, Refused, Waiting, Ring, Acknowledgement, EmptyHandle, WrongHandle, BadField, ShortBuffer, NoMemory, NotHeld, StillStopped, OtherCommand, Exhausted, RingEmpty, RingDrained, RingUnwritten, Replaced}
 use Rattle.smmuq_c.specs.Statuses.{number_of}
 use Rattle.smmuq_c.specs.Texts.{IsCopied}
 
@@ -32,6 +32,7 @@ words_of (Refused cause.Full) = codes "Q2: too little room"
 words_of (Refused cause.Contended) = codes "Q3: another changed the ring first"
 words_of (Refused cause.TooLong) = codes "Q4: the batch is longer than the ring"
 words_of (Refused cause.Exhausted) = codes "Q5: the sender has no batch left"
+words_of Waiting = codes "Q6: a command waits to be taken"
 words_of (Ring ring.Size) = codes "N1: the ring isn't of 2 to 524,288 slots"
 words_of (Ring ring.Senders) = codes "N2: the senders aren't 1 to 256"
 words_of (Ring ring.Batches) = codes "N3: a sender may reserve no batch"

@@ -13,7 +13,7 @@ use Rattle.ringcore.specs.declared.ring_fault.RingFault.TheVariants as ring
 use Rattle.engine.specs.declared.remedy.AckFault.{AckFault}
 use Rattle.engine.specs.declared.remedy.AckFault.TheVariants.{NoError, OtherBit}
 use Rattle.smmuq_c.specs.declared.status.Status.{Status}
-use Rattle.smmuq_c.specs.declared.status.Status.TheVariants.{Done, Illegal, Cache, Batch, Refused, Ring, Acknowledgement, EmptyHandle, WrongHandle, BadField, ShortBuffer, NoMemory, NotHeld, StillStopped, OtherCommand, Exhausted, RingEmpty, RingDrained, RingUnwritten, Replaced}
+use Rattle.smmuq_c.specs.declared.status.Status.TheVariants.{Done, Illegal, Cache, Batch, Refused, Waiting, Ring, Acknowledgement, EmptyHandle, WrongHandle, BadField, ShortBuffer, NoMemory, NotHeld, StillStopped, OtherCommand, Exhausted, RingEmpty, RingDrained, RingUnwritten, Replaced}
 
 abbrev pub ill_number : Ill → ℕ
 ill_number UnknownOpcode = 1
@@ -57,6 +57,7 @@ number_of (Illegal ill) = ill_number ill
 number_of (Cache fault) = cache_number fault
 number_of (Batch fault) = batch_number fault
 number_of (Refused cause) = cause_number cause
+number_of Waiting = 0x36
 number_of (Ring fault) = ring_number fault
 number_of (Acknowledgement fault) = acknowledgement_number fault
 number_of EmptyHandle = 0x60

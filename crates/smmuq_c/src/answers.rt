@@ -4,12 +4,14 @@ ghost use Rattle.smmuq_c.specs.Judging.{verdict_status, refusal_status};
 ghost use Rattle.smmuq_c.specs.Entries.{fill_status, entry_status, entry_words};
 ghost use Rattle.smmuq_c.specs.Registers.{acknowledgement_status};
 ghost use Rattle.smmuq_c.specs.Runs.{run_status};
+ghost use Rattle.smmuq_c.specs.Renewing.{renewal_status};
 
 use crate::held_unit::Refusal;
 use crate::status::Status;
 use crate::words::Held;
 use caches::{CacheFault, Entry};
 use engine::{AckFault, RunAnswer, Verdict};
+use renewal::RenewalFault;
 
 pub(crate) fn verdict_status(verdict: &Verdict) -> Status
     ensures { result ≡ verdict_status verdict.now }
@@ -46,6 +48,18 @@ impl From<RunAnswer> for Status {
             RunAnswer::Replaced(_) => Status::Replaced,
             RunAnswer::StillStopped => Status::StillStopped,
             RunAnswer::Exhausted => Status::Exhausted,
+        }
+    }
+}
+
+impl From<RenewalFault> for Status {
+    fn from(fault: RenewalFault) -> Status
+        ensures { result ≡ renewal_status fault }
+    {
+        match fault {
+            RenewalFault::Waiting => Status::Waiting,
+            RenewalFault::Ring(fault) => Status::Ring(fault),
+            RenewalFault::Caches(fault) => Status::Cache(fault),
         }
     }
 }

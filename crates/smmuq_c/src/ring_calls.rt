@@ -102,7 +102,7 @@ fn new_seats(
 }
 
 /// A seat for each sender, the last first.
-fn seat_all(
+pub(crate) fn seat_all(
     alloc: Global,
     ring: &Arc<Ring>,
     all: Vec<Sender>,
@@ -121,7 +121,7 @@ fn seat_all(
 }
 
 /// Fills the handles, the first from the last seat.
-fn fill_all(handles: &mut [Handle], seats: Vec<Box<Object>>)
+pub(crate) fn fill_all(handles: &mut [Handle], seats: Vec<Box<Object>>)
     requires { length seats.items ≡ length handles.old }
     ensures objects { objects_in handles.new ≡ map Some (boxed seats.items) }
     ensures many { length handles.new ≡ length handles.old }

@@ -1,5 +1,5 @@
 //! An engine with its share of its own ring.
-ghost use Rattle.std.specs.Prelude.{◌≡◌};
+ghost use Rattle.std.specs.Prelude.{◌≡◌, ◌⊎◌};
 ghost use Rattle.std.specs.Arc.{arc_value};
 ghost use Rattle.ring.specs.consumer.Completing.{taken_of};
 ghost use Rattle.engine.specs.Settled.{IsSettled};
@@ -10,15 +10,20 @@ ghost use Rattle.smmuq_c.specs.Registers.{HasAcknowledged, error_words, count_wo
 ghost use Rattle.smmuq_c.specs.Runs.{HasRunFor, HasToldRegisters};
 ghost use Rattle.smmuq_c.specs.Evicting.{HasLost, HasEvictedAll};
 ghost use Rattle.smmuq_c.specs.Own.{AreOwn};
+ghost use Rattle.smmuq_c.specs.Renewing.{HasRenewed};
 
 use crate::answers::{acknowledgement_status, fill_status, tell_entry};
 use crate::evicting::Kinds;
+use crate::handle::Handle;
 use crate::listing::{EntryWords, give_entries};
+use crate::ring_calls::{fill_all, seat_all};
 use crate::status::Status;
 use crate::words::{Errors, Held, RegisterWords, RunWords, Tallies};
 use caches::{Entry, Tag};
 use engine::{Engine, Remedy};
+use renewal::{Queue, Sizes, sees_waiting, successor};
 use ring::Ring;
+use std::alloc::Global;
 use std::marker::Model;
 use std::sync::Arc;
 
@@ -87,6 +92,35 @@ impl SeatedEngine {
         ensures { HasToldRegisters told.new self.old self.new result }
     {
         *told = RegisterWords::from(self.engine.registers(&self.ring));
+        Status::Done
+    }
+
+    /// Goes on in a new ring of these sizes, and fills the handles with its senders.
+    pub(crate) fn renew(&mut self, alloc: Global, sizes: Sizes, senders: &mut [Handle]) -> Status
+        ensures renewed { HasRenewed sizes senders.old senders.new self.old self.new result }
+        ensures senders { (result ≡ Status.Done) ⊎ (senders.new ≡ senders.old) }
+    {
+        self.engine.is_settled();
+        if sees_waiting(&mut self.engine, &self.ring) {
+            return Status::Waiting;
+        }
+        let count = senders.len().min(u32::MAX as usize) as u32;
+        let Queue {
+            ring,
+            senders: all,
+            engine,
+        } = match successor(alloc, &self.engine, count, sizes) {
+            Ok(queue) => queue,
+            Err(fault) => return Status::from(fault),
+        };
+        let Ok(ring) = Arc::new(alloc, ring) else {
+            return Status::NoMemory;
+        };
+        let Ok(seats) = seat_all(alloc, &ring, all) else {
+            return Status::NoMemory;
+        };
+        fill_all(senders, seats);
+        *self = SeatedEngine::new(ring, engine);
         Status::Done
     }
 

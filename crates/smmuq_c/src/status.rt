@@ -19,6 +19,8 @@ pub(crate) enum Status {
     Batch(BatchFault),
     /// Nothing was reserved.
     Refused(Cause),
+    /// A command waits to be taken, so that nothing was renewed.
+    Waiting,
     /// No ring was made.
     Ring(RingFault),
     Acknowledgement(AckFault),
@@ -61,6 +63,7 @@ impl Status {
             Status::Cache(fault) => cache_number(fault),
             Status::Batch(fault) => batch_number(fault),
             Status::Refused(cause) => cause_number(cause),
+            Status::Waiting => 0x36,
             Status::Ring(fault) => ring_number(fault),
             Status::Acknowledgement(fault) => acknowledgement_number(fault),
             Status::EmptyHandle => 0x60,

@@ -13,11 +13,11 @@ use Rattle.renewal.proofs.meeting.is_waiting.Goals as goal
 
 pub returns-clause-looked : goal.returns-clause-looked
 returns-clause-looked c =
-    let l = c.registers-found.ensures.looked in
+    let l = c.sees_waiting.ensures.looked.1 in
     let met = c.meet_all.ensures in
     record {
       found = l.control;
-      found_is = l.control_is ∙ ap (λ (r : RingValue). control r.made_with.geometry (world c.registers-found.new.self.consumer.history)) (ap (λ (d : ConsumerValue UnitValue). d.ring) met.consumer_is ∙ c.requires.ring);
+      found_is = l.control_is ∙ ap (λ (r : RingValue). control r.made_with.geometry (world c.sees_waiting.new.engine.consumer.history)) (ap (λ (d : ConsumerValue UnitValue). d.ring) met.consumer_is ∙ c.requires.ring);
       ring_is = refl;
       senders_are = met.senders_are;
       unit_is = l.unit_is ∙ met.unit_is;

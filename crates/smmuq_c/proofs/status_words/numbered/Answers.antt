@@ -6,7 +6,7 @@ use Rattle.ring.specs.declared.sender.cause.Cause.TheVariants as cause
 use Rattle.ringcore.specs.declared.ring_fault.RingFault.TheVariants as ring
 use Rattle.engine.specs.declared.remedy.AckFault.TheVariants.{NoError, OtherBit}
 use Rattle.smmuq_c.specs.declared.status.Status.{Status}
-use Rattle.smmuq_c.specs.declared.status.Status.TheVariants.{Done, Illegal, Cache, Batch, Refused, Ring, Acknowledgement, EmptyHandle, WrongHandle, BadField, ShortBuffer, NoMemory, NotHeld, StillStopped, OtherCommand, Exhausted, RingEmpty, RingDrained, RingUnwritten, Replaced}
+use Rattle.smmuq_c.specs.declared.status.Status.TheVariants.{Done, Illegal, Cache, Batch, Refused, Waiting, Ring, Acknowledgement, EmptyHandle, WrongHandle, BadField, ShortBuffer, NoMemory, NotHeld, StillStopped, OtherCommand, Exhausted, RingEmpty, RingDrained, RingUnwritten, Replaced}
 use Rattle.smmuq_c.proofs.status_words.numbered.Goals as goal
 
 pub returns-in_default : goal.returns-in_default
@@ -29,6 +29,7 @@ returns-in_default c (Refused cause.Full) is = omega arith
 returns-in_default c (Refused cause.Contended) is = omega arith
 returns-in_default c (Refused cause.TooLong) is = omega arith
 returns-in_default c (Refused cause.Exhausted) is = omega arith
+returns-in_default c Waiting is = omega arith
 returns-in_default c (Ring ring.Size) is = omega arith
 returns-in_default c (Ring ring.Senders) is = omega arith
 returns-in_default c (Ring ring.Batches) is = omega arith
