@@ -1,9 +1,9 @@
-use Rattle.std.proofs.Common.{◌≡◌, ◌+◌, ◌++◌, List, length, map, take, Some}
+use Rattle.std.proofs.Common.{◌≡◌, ◌+◌, ◌++◌, length, map, take, Some}
 use Rattle.smmuq_c.specs.MakingRings.{boxed, objects_in}
 use Rattle.smmuq_c.proofs.ring_calls.fill_all.Given as goal
 
 abbrev pub invariant-loop-handle : goal.invariant-loop-handle
 invariant-loop-handle l = record {
-  many : length l.seats.items + l.handle-index ≡ length l.handles;
-  done : objects_in (take l.handle-index l.handles) ++ map Some (boxed l.seats.items) ≡ map Some (boxed l.initial.seats.items);
+  many : length l.senders.items + l.handle-index ≡ length l.handles;
+  done : objects_in (take l.handle-index l.handles) ++ map Some (boxed l.senders.items) ≡ map Some (boxed l.initial.senders.items);
 }
