@@ -161,6 +161,90 @@ static void misuse_a_ring(void) {
     smmuq_free(&senders[1]);
 }
 
+static void misuse_a_consumer(void) {
+    smmuq_handle sender = SMMUQ_EMPTY, consumer = SMMUQ_EMPTY;
+    smmuq_words run[65] = {{0, 0}}, words[3] = {CFGI_STE, UNKNOWN, CFGI_STE};
+    smmuq_tag tag = {.kind = SMMUQ_STE, .sid = 7};
+    smmuq_run_answer answer;
+    smmuq_verdict verdict;
+    smmuq_errors errors;
+    smmuq_tallies tallies;
+    smmuq_queue_control control;
+    smmuq_queue_registers registers;
+    uint32_t number;
+    size_t count;
+    WANT(smmuq_take_run(&consumer, run, 64, &count), SMMUQ_EMPTY_HANDLE);
+    WANT(smmuq_complete(&consumer, 1), SMMUQ_EMPTY_HANDLE);
+    WANT(smmuq_consumer_ring_new(20, 10, &sender, 1, &consumer), SMMUQ_N1);
+    WANT(smmuq_consumer_ring_new(4, 10, &sender, 0, &consumer), SMMUQ_N2);
+    WANT(smmuq_consumer_ring_new(4, 0, &sender, 1, &consumer), SMMUQ_N3);
+    WANT(smmuq_kind(&consumer), 0);
+    WANT(smmuq_consumer_ring_new(4, 10, &sender, 1, &consumer), SMMUQ_OK);
+    WANT(smmuq_kind(&sender), 2);
+    WANT(smmuq_kind(&consumer), 4);
+    WANT(smmuq_run(&consumer, 64, &answer), SMMUQ_WRONG_HANDLE);
+    WANT(smmuq_registers(&consumer, &registers), SMMUQ_WRONG_HANDLE);
+    WANT(smmuq_state(&consumer, &errors, &tallies), SMMUQ_WRONG_HANDLE);
+    WANT(smmuq_fill(&consumer, &tag, 1), SMMUQ_WRONG_HANDLE);
+    WANT(smmuq_acknowledge(&consumer, 1, SMMUQ_RETRY), SMMUQ_WRONG_HANDLE);
+    WANT(smmuq_unit_judge(&consumer, 3, 0, &verdict), SMMUQ_WRONG_HANDLE);
+    WANT(smmuq_look(&consumer, &control), SMMUQ_WRONG_HANDLE);
+    WANT(smmuq_send(&consumer, words, 1, 1, &number), SMMUQ_WRONG_HANDLE);
+    WANT(smmuq_take_run(&sender, run, 64, &count), SMMUQ_WRONG_HANDLE);
+    WANT(smmuq_complete(&sender, 1), SMMUQ_WRONG_HANDLE);
+    WANT(smmuq_take_run(&consumer, run, 64, &count), SMMUQ_RING_EMPTY);
+    WANT((uint32_t)count, 0);
+    WANT(smmuq_send(&sender, words, 3, 1, &number), SMMUQ_OK);
+    WANT(smmuq_complete(&consumer, 1), SMMUQ_BAD_FIELD); /* nothing was told */
+    WANT(smmuq_take_run(&consumer, run, 0, &count), SMMUQ_SHORT_BUFFER);
+    WANT(smmuq_take_run(&consumer, run, 2, &count), SMMUQ_OK);
+    WANT((uint32_t)count, 2);
+    WANT((uint32_t)run[2].lo, 0); /* what stands behind the run stays */
+    WANT(smmuq_take_run(&consumer, run, 65, &count), SMMUQ_OK);
+    WANT((uint32_t)count, 4);
+    WANT(run[0].lo != CFGI_STE.lo || run[1].lo != UNKNOWN.lo, 0);
+    WANT(smmuq_complete(&consumer, 0), SMMUQ_BAD_FIELD);
+    WANT(smmuq_complete(&consumer, 5), SMMUQ_BAD_FIELD);
+    WANT(smmuq_complete(&consumer, 4), SMMUQ_ILL1); /* the second is illegal: one ahead of it, and then it alone */
+    WANT(smmuq_complete(&consumer, 1), SMMUQ_OK);
+    WANT(smmuq_complete(&consumer, 1), SMMUQ_BAD_FIELD); /* the rest is taken again first */
+    WANT(smmuq_take_run(&consumer, run, 64, &count), SMMUQ_OK);
+    WANT(smmuq_complete(&consumer, 1), SMMUQ_REPLACED);
+    WANT(smmuq_take_run(&consumer, run, 64, &count), SMMUQ_OK);
+    WANT((uint32_t)count, 2);
+    WANT(smmuq_done_up_to(&sender, &number), SMMUQ_OK);
+    WANT(number, 0);
+    WANT(smmuq_complete(&consumer, 2), SMMUQ_OK);
+    WANT(smmuq_done_up_to(&sender, &number), SMMUQ_OK);
+    WANT(number, 1);
+    WANT(smmuq_send(&sender, words, 1, 1, &number), SMMUQ_OK);
+    WANT(smmuq_close(&sender), SMMUQ_OK);
+    WANT(smmuq_take_run(&consumer, run, 64, &count), SMMUQ_OK);
+    WANT(smmuq_complete(&consumer, count), SMMUQ_OK);
+    WANT(smmuq_take_run(&consumer, run, 64, &count), SMMUQ_RING_DRAINED);
+    smmuq_free(&consumer);
+    WANT(smmuq_complete(&consumer, 1), SMMUQ_EMPTY_HANDLE);
+    smmuq_free(&sender);
+}
+
+/* What was told and not completed stays in the ring when the consumer is freed. */
+static void free_a_consumer_midway(void) {
+    smmuq_handle sender = SMMUQ_EMPTY, consumer = SMMUQ_EMPTY;
+    smmuq_words run[64];
+    smmuq_queue_control control;
+    uint32_t number;
+    size_t count;
+    WANT(smmuq_consumer_ring_new(4, 10, &sender, 1, &consumer), SMMUQ_OK);
+    WANT(smmuq_send(&sender, &CFGI_STE, 1, 1, &number), SMMUQ_OK);
+    WANT(smmuq_take_run(&consumer, run, 64, &count), SMMUQ_OK);
+    smmuq_free(&consumer);
+    WANT(smmuq_look(&sender, &control), SMMUQ_OK);
+    WANT(control.prod - control.cons, 2);
+    WANT(smmuq_done_up_to(&sender, &number), SMMUQ_OK);
+    WANT(number, 0);
+    smmuq_free(&sender);
+}
+
 static smmuq_guarded shared;
 
 static void *send_on_shared(void *sent) {
@@ -203,6 +287,8 @@ int main(void) {
     misuse_words();
     misuse_a_unit();
     misuse_a_ring();
+    misuse_a_consumer();
+    free_a_consumer_midway();
     share_a_guarded_handle();
     puts("misuse: all told");
     return 0;

@@ -31,13 +31,13 @@ static void fail(const char *why, const char *call) {
     exit(1);
 }
 
-// A unit that is stopped and holds an entry, one that holds none, a ring of two senders with its engine, one in which nothing
-// waits and whose engine holds an entry, and handles that hold nothing.
+// A unit that is stopped and holds an entry, one that holds none, a ring of two senders with its engine, one of a sender
+// with its consumer, one in which nothing waits and whose engine holds an entry, and handles that hold nothing.
 struct handles {
-    smmuq_handle unit, unused, senders[2], engine, idle_sender, idle_engine, empty[3];
+    smmuq_handle unit, unused, senders[2], engine, forwarded, consumer, idle_sender, idle_engine, empty[3];
 };
 
-#define HANDLES 10
+#define HANDLES 12
 
 static const smmuq_tag FILLED = {.kind = SMMUQ_S1, .vmid = 1, .has_asid = 1, .asid = 2, .address = 0x1000};
 static const smmuq_tag OTHER = {.kind = SMMUQ_S1, .vmid = 1, .has_asid = 1, .asid = 2, .address = 0x2000};
@@ -45,7 +45,7 @@ static const smmuq_words TLBI_NSNH_ALL = {0x30, 0}, UNKNOWN = {0xff, 0};
 
 static struct handles made(void) {
     struct handles handles = {
-        SMMUQ_EMPTY, SMMUQ_EMPTY, {SMMUQ_EMPTY, SMMUQ_EMPTY}, SMMUQ_EMPTY, SMMUQ_EMPTY, SMMUQ_EMPTY,
+        SMMUQ_EMPTY, SMMUQ_EMPTY, {SMMUQ_EMPTY, SMMUQ_EMPTY}, SMMUQ_EMPTY, SMMUQ_EMPTY, SMMUQ_EMPTY, SMMUQ_EMPTY, SMMUQ_EMPTY,
         {SMMUQ_EMPTY, SMMUQ_EMPTY, SMMUQ_EMPTY}};
     smmuq_verdict verdict;
     uint32_t number;
@@ -54,15 +54,17 @@ static struct handles made(void) {
         smmuq_ring_new(7, 9, 4, handles.senders, 2, &handles.engine) ||
         smmuq_ring_new(4, 9, 4, &handles.idle_sender, 1, &handles.idle_engine) ||
         smmuq_fill(&handles.idle_engine, &FILLED, 7) ||
-        smmuq_send(&handles.senders[0], &TLBI_NSNH_ALL, 1, 1, &number))
+        smmuq_send(&handles.senders[0], &TLBI_NSNH_ALL, 1, 1, &number) ||
+        smmuq_consumer_ring_new(7, 9, &handles.forwarded, 1, &handles.consumer) ||
+        smmuq_send(&handles.forwarded, &TLBI_NSNH_ALL, 1, 1, &number))
         fail("refused", "what comes before");
     return handles;
 }
 
 static smmuq_handle *nth(struct handles *handles, size_t n) {
-    smmuq_handle *all[HANDLES] = {&handles->unit,        &handles->unused,      &handles->senders[0], &handles->senders[1],
-                                  &handles->engine,      &handles->idle_sender, &handles->idle_engine,
-                                  &handles->empty[0],    &handles->empty[1],    &handles->empty[2]};
+    smmuq_handle *all[HANDLES] = {&handles->unit,        &handles->unused,     &handles->senders[0],  &handles->senders[1],
+                                  &handles->engine,      &handles->forwarded,  &handles->consumer,    &handles->idle_sender,
+                                  &handles->idle_engine, &handles->empty[0],   &handles->empty[1],    &handles->empty[2]};
     return all[n];
 }
 
@@ -78,18 +80,20 @@ static size_t describe(smmuq_handle *handle, char *text, size_t room) {
     smmuq_queue_registers registers = {0};
     smmuq_queue_control control = {0};
     smmuq_entry entries[8];
-    size_t count = 0;
+    smmuq_words run[8] = {{0}};
+    size_t count = 0, ready = 0;
     uint32_t number = 0;
     smmuq_held held[2] = {{0}};
     uint32_t state = smmuq_state(handle, &errors, &tallies), listed = smmuq_entries(handle, entries, 8, &count);
     uint32_t first = smmuq_lookup(handle, &FILLED, &held[0]), second = smmuq_lookup(handle, &OTHER, &held[1]);
     uint32_t engine = smmuq_registers(handle, &registers), looked = smmuq_look(handle, &control);
-    uint32_t told = smmuq_done_up_to(handle, &number);
-    return (size_t)snprintf(text, room, "kind %u; %u %u %u %u %llu %llu; %u %zu; %u %llu %u %llu; %u %x %x; %u %x %x %u; %u %u\n",
+    uint32_t told = smmuq_done_up_to(handle, &number), taken = smmuq_take_run(handle, run, 8, &ready);
+    return (size_t)snprintf(text, room, "kind %u; %u %u %u %u %llu %llu; %u %zu; %u %llu %u %llu; %u %x %x; %u %x %x %u; %u %u; %u %zu %llx\n",
                             smmuq_kind(handle), state, errors.err, errors.gerror, errors.gerrorn,
                             (unsigned long long)tallies.applied, (unsigned long long)tallies.replaced, listed, count, first,
                             (unsigned long long)held[0].value, second, (unsigned long long)held[1].value, engine,
-                            registers.prod, registers.cons, looked, control.prod, control.cons, control.closed, told, number);
+                            registers.prod, registers.cons, looked, control.prod, control.cons, control.closed, told, number, taken,
+                            ready, (unsigned long long)run[0].lo);
 }
 
 static void describe_all(struct handles *handles, char *text, size_t room) {
@@ -111,6 +115,12 @@ static uint32_t renew(struct handles *handles) {
 }
 static uint32_t renew_too_early(struct handles *handles) {
     return smmuq_renew(5, 9, 4, handles->senders, 2, &handles->engine);
+}
+static uint32_t consumer_ring_new(struct handles *handles) {
+    return smmuq_consumer_ring_new(5, 9, handles->empty, 2, &handles->empty[2]);
+}
+static uint32_t consumer_ring_again(struct handles *handles) {
+    return smmuq_consumer_ring_new(5, 9, &handles->forwarded, 1, &handles->consumer);
 }
 static uint32_t fill_unit(struct handles *handles) { return smmuq_fill(&handles->unused, &OTHER, 9); }
 static uint32_t fill_engine(struct handles *handles) { return smmuq_fill(&handles->engine, &OTHER, 9); }
@@ -220,6 +230,13 @@ static uint32_t run(struct handles *handles) {
     return smmuq_run(&handles->engine, 64, &answer);
 }
 
+static uint32_t take_and_complete(struct handles *handles) {
+    smmuq_words words[8];
+    size_t count;
+    uint32_t status = smmuq_take_run(&handles->consumer, words, 8, &count);
+    return status ? status : smmuq_complete(&handles->consumer, count);
+}
+
 static const struct {
     const char *name;
     uint32_t (*call)(struct handles *handles);
@@ -230,6 +247,8 @@ static const struct {
     {"smmuq_unit_new over a unit", unit_reset, SMMUQ_OK, {SMMUQ_NO_MEMORY}},
     {"smmuq_ring_new", ring_new, SMMUQ_OK, {SMMUQ_N4, SMMUQ_NO_MEMORY}},
     {"smmuq_ring_new over a ring", ring_again, SMMUQ_OK, {SMMUQ_N4, SMMUQ_NO_MEMORY}},
+    {"smmuq_consumer_ring_new", consumer_ring_new, SMMUQ_OK, {SMMUQ_N4, SMMUQ_NO_MEMORY}},
+    {"smmuq_consumer_ring_new over a ring", consumer_ring_again, SMMUQ_OK, {SMMUQ_N4, SMMUQ_NO_MEMORY}},
     {"smmuq_renew", renew, SMMUQ_OK, {SMMUQ_N4, SMMUQ_C3, SMMUQ_NO_MEMORY}},
     {"smmuq_renew where a command waits", renew_too_early, SMMUQ_Q6, {0}},
     {"smmuq_fill of a unit", fill_unit, SMMUQ_OK, {SMMUQ_C3}},
@@ -248,6 +267,7 @@ static const struct {
     {"smmuq_send of 63 commands", send_of_63, SMMUQ_OK, {0}},
     {"smmuq_send_bare", send_bare, SMMUQ_OK, {0}},
     {"smmuq_run", run, SMMUQ_OK, {0}},
+    {"smmuq_take_run and smmuq_complete", take_and_complete, SMMUQ_OK, {0}},
     {"what tells without a change", tell, SMMUQ_OK, {0}},
     {"smmuq_close and smmuq_free", close_and_free, SMMUQ_OK, {0}},
 };

@@ -1,16 +1,17 @@
 -- What a handle owns may go to another thread.
-use denote.Param.Send.{IsSend, IsSync, sendable}
+use denote.Param.Send.{IsSend, sendable}
 use Rattle.std.proofs.Crossing.{crosses, send, sync}
 use Rattle.std.proofs.MapsCrossing as maps
 use Rattle.atomic_table.proofs.shared.Seat.TheSendSync.{the_send as seat_send}
 use Rattle.atomic_table.proofs.shared.Shared.TheSendSync.{the_send as shared_send, the_sync as shared_sync}
 use Rattle.atomic_table.proofs.send_lease.SendLease.TheSendSync.{the_send as lease_send, the_sync as lease_sync}
-use Rattle.ring.proofs.Crossing.{ring_sync}
+use Rattle.ring.proofs.Crossing.{consumer_send, ring_sync}
 use Rattle.ring.specs.contracts.ring.Ring as Ring
 use Rattle.engine.proofs.Crossing.{engine_send}
 use Rattle.smmuq_c.specs.contracts.held_unit.HeldUnit as HeldUnit
 use Rattle.smmuq_c.specs.contracts.seated_sender.SeatedSender as SeatedSender
 use Rattle.smmuq_c.specs.contracts.seated_engine.SeatedEngine as SeatedEngine
+use Rattle.smmuq_c.specs.contracts.seated_consumer.SeatedConsumer as SeatedConsumer
 use Rattle.smmuq_c.specs.contracts.object.Object as Object
 
 pub unit_send : IsSend HeldUnit.the_row
@@ -25,5 +26,8 @@ sender_send = search (sendable, crosses, send, sync, seat_send, ring_send, ring_
 pub seated_send : IsSend SeatedEngine.the_row
 seated_send = search (sendable, crosses, send, sync, engine_send, ring_send, ring_sync) depth 60 fits 100000
 
+pub taker_send : IsSend SeatedConsumer.the_row
+taker_send = search (sendable, crosses, send, sync, consumer_send, seat_send, ring_send, ring_sync) depth 60 fits 100000
+
 pub object_send : IsSend Object.the_row
-object_send = search (sendable, unit_send, sender_send, seated_send) depth 20
+object_send = search (sendable, unit_send, sender_send, seated_send, taker_send) depth 20

@@ -1,4 +1,4 @@
--- What a call does to a unit, a sender or an engine, it does to the object that it is.
+-- What a call does to a unit, a sender, an engine or a consumer, it does to the object that it is.
 use Rattle.std.proofs.Common.{◌≡◌, ℕ, [], refl, sym, ap, subst, Option, Some}
 use Rattle.ringcore.specs.world.Trails.{Trail}
 use Rattle.ring.specs.consumer.Completing.{taken_of}
@@ -8,12 +8,13 @@ use Rattle.engine.specs.Settled.{IsSettled}
 use Rattle.engine.specs.Units.{UnitValue, StaysSettled}
 use Rattle.engine.specs.Engines.{EngineValue}
 use Rattle.smmuq_c.specs.HeldUnits.{HeldValue}
+use Rattle.smmuq_c.specs.HeldConsumers.{HeldConsumer}
 use Rattle.smmuq_c.specs.declared.status.Status.{Status}
 use Rattle.smmuq_c.specs.declared.stop_remedy.StopRemedy.{StopRemedy}
 use Rattle.smmuq_c.specs.declared.object.Object.{Object}
-use Rattle.smmuq_c.specs.declared.object.Object.TheVariants.{Unit as UnitOf, Sender as SenderOf, Engine as EngineOf}
+use Rattle.smmuq_c.specs.declared.object.Object.TheVariants.{Unit as UnitOf, Sender as SenderOf, Engine as EngineOf, Consumer as ConsumerOf}
 use Rattle.smmuq_c.specs.Registers.{HasAcknowledged, HasAcknowledgedHeld, IsRemedyOf, remedy_for}
-use Rattle.smmuq_c.specs.Calls.{OfUnit, OfSender, OfEngine, OfAnyUnit, OfStop, BySaid, OfSaid}
+use Rattle.smmuq_c.specs.Calls.{OfUnit, OfSender, OfEngine, OfConsumer, OfAnyUnit, OfStop, BySaid, OfSaid}
 
 pub of_unit : (does : HeldValue → HeldValue → Status → Type 0) {object : Object} {old new : HeldValue} {status : Status}
     → object ≡ UnitOf old → does old new status → OfUnit does object (UnitOf new) status
@@ -26,6 +27,10 @@ of_sender does {object} {old} {new} {status} is done = subst (λ (o : Object). O
 pub of_engine : (does : EngineValue → EngineValue → Status → Type 0) {object : Object} {old new : EngineValue} {status : Status}
     → object ≡ EngineOf old → does old new status → OfEngine does object (EngineOf new) status
 of_engine does {object} {old} {new} {status} is done = subst (λ (o : Object). OfEngine does o (EngineOf new) status) (sym is) (new, refl, done)
+
+pub of_consumer : (does : HeldConsumer → HeldConsumer → Status → Type 0) {object : Object} {old new : HeldConsumer} {status : Status}
+    → object ≡ ConsumerOf old → does old new status → OfConsumer does object (ConsumerOf new) status
+of_consumer does {object} {old} {new} {status} is done = subst (λ (o : Object). OfConsumer does o (ConsumerOf new) status) (sym is) (new, refl, done)
 
 pub any_unit : (does : UnitValue → UnitValue → Status → Type 0) {object : Object} {old new : HeldValue} {status : Status}
     → object ≡ UnitOf old → new ≡ record old { unit = new.unit } → StaysSettled old.unit new.unit [] → does old.unit new.unit status

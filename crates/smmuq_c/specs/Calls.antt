@@ -6,13 +6,14 @@ use Rattle.engine.specs.Settled.{IsSettled}
 use Rattle.engine.specs.Units.{UnitValue, StaysSettled}
 use Rattle.engine.specs.Engines.{EngineValue}
 use Rattle.smmuq_c.specs.HeldUnits.{HeldValue}
+use Rattle.smmuq_c.specs.HeldConsumers.{HeldConsumer}
 use Rattle.smmuq_c.specs.Registers.{HasAcknowledged, HasAcknowledgedHeld, remedy_for}
 use Rattle.smmuq_c.specs.Statuses.{number_of}
 use Rattle.smmuq_c.specs.declared.status.Status.{Status}
 use Rattle.smmuq_c.specs.declared.status.Status.TheVariants.{EmptyHandle, WrongHandle, BadField}
 use Rattle.smmuq_c.specs.declared.stop_remedy.StopRemedy.{StopRemedy}
 use Rattle.smmuq_c.specs.declared.object.Object.{Object}
-use Rattle.smmuq_c.specs.declared.object.Object.TheVariants.{Unit as UnitOf, Sender as SenderOf, Engine as EngineOf}
+use Rattle.smmuq_c.specs.declared.object.Object.TheVariants.{Unit as UnitOf, Sender as SenderOf, Engine as EngineOf, Consumer as ConsumerOf}
 
 -- A status has this number, and this is so of it.
 abbrev pub Answers : (Status → Type 0) → ℕ → Type 0
@@ -27,26 +28,27 @@ HasCalled does (Some old) new number = (after : Object) × (new ≡ Some after) 
 
 abbrev pub OfUnit : (HeldValue → HeldValue → Status → Type 0) → Object → Object → Status → Type 0
 OfUnit does (UnitOf old) new status = (after : HeldValue) × (new ≡ UnitOf after) × does old after status
-OfUnit does (SenderOf s) new status = (new ≡ SenderOf s) × (status ≡ WrongHandle)
-OfUnit does (EngineOf e) new status = (new ≡ EngineOf e) × (status ≡ WrongHandle)
+OfUnit does other new status = (new ≡ other) × (status ≡ WrongHandle)
 
 abbrev pub OfSender : (SenderValue → SenderValue → Status → Type 0) → Object → Object → Status → Type 0
-OfSender does (UnitOf u) new status = (new ≡ UnitOf u) × (status ≡ WrongHandle)
 OfSender does (SenderOf old) new status = (after : SenderValue) × (new ≡ SenderOf after) × does old after status
-OfSender does (EngineOf e) new status = (new ≡ EngineOf e) × (status ≡ WrongHandle)
+OfSender does other new status = (new ≡ other) × (status ≡ WrongHandle)
 
 abbrev pub OfEngine : (EngineValue → EngineValue → Status → Type 0) → Object → Object → Status → Type 0
-OfEngine does (UnitOf u) new status = (new ≡ UnitOf u) × (status ≡ WrongHandle)
-OfEngine does (SenderOf s) new status = (new ≡ SenderOf s) × (status ≡ WrongHandle)
 OfEngine does (EngineOf old) new status = (after : EngineValue) × (new ≡ EngineOf after) × does old after status
+OfEngine does other new status = (new ≡ other) × (status ≡ WrongHandle)
+
+abbrev pub OfConsumer : (HeldConsumer → HeldConsumer → Status → Type 0) → Object → Object → Status → Type 0
+OfConsumer does (ConsumerOf old) new status = (after : HeldConsumer) × (new ≡ ConsumerOf after) × does old after status
+OfConsumer does other new status = (new ≡ other) × (status ≡ WrongHandle)
 
 -- Of a unit, also of that of an engine, whose consumer stays. Entries that were settled are.
 abbrev pub OfAnyUnit : (UnitValue → UnitValue → Status → Type 0) → Object → Object → Status → Type 0
 OfAnyUnit does (UnitOf h) new status =
     (after : UnitValue) × (new ≡ UnitOf (record h { unit = after })) × StaysSettled h.unit after [] × does h.unit after status
-OfAnyUnit does (SenderOf s) new status = (new ≡ SenderOf s) × (status ≡ WrongHandle)
 OfAnyUnit does (EngineOf e) new status =
     (after : UnitValue) × (new ≡ EngineOf (record e { unit = after })) × IsSettled after.caches.entries (taken_of e.consumer.trail) × does e.unit after status
+OfAnyUnit does other new status = (new ≡ other) × (status ≡ WrongHandle)
 
 -- Its stop is acknowledged. Nothing rewrites what was handed over in an engine's ring: there Reread is Retry.
 abbrev pub OfStop : ℕ → StopRemedy → Object → Object → Status → Type 0

@@ -11,27 +11,32 @@ use Rattle.engine.specs.Units.{UnitValue}
 use Rattle.smmuq_c.specs.declared.status.Status.{Status}
 use Rattle.smmuq_c.specs.declared.status.Status.TheVariants.{Done, Cache, Ring, NoMemory}
 use Rattle.smmuq_c.specs.declared.object.Object.{Object}
-use Rattle.smmuq_c.specs.declared.object.Object.TheVariants.{Sender as SenderOf, Engine as EngineOf}
+use Rattle.smmuq_c.specs.declared.object.Object.TheVariants.{Sender as SenderOf, Engine as EngineOf, Consumer as ConsumerOf}
+use Rattle.smmuq_c.specs.declared.seated_consumer.CallersDevice.{CallersDevice}
 use Rattle.smmuq_c.specs.declared.handle.Handle.{Handle}
+use Rattle.smmuq_c.specs.HeldConsumers.{with_none}
 use Rattle.smmuq_c.specs.Making.{IsCapacity, IsNewUnit}
 
--- A new ring's senders in the order of their numbers, and its engine, with empty caches.
-pub record AreNewSeats (log2 senders max_batches capacity : ℕ) (seats : List Object) (engine : Object) : Type 0 where
+-- ---- what takes a new ring's commands
+
+-- an engine with empty caches for so many entries
+abbrev pub IsNewEngine : ℕ → ConsumerValue UnitValue → Object → Type 0
+IsNewEngine capacity consumer object = (unit : UnitValue) × IsNewUnit capacity unit × (object ≡ EngineOf (record { consumer = consumer; unit = unit }))
+
+-- the consumer alone, of which nothing is pending
+abbrev pub IsNewConsumer : ConsumerValue CallersDevice → Object → Type 0
+IsNewConsumer consumer object = object ≡ ConsumerOf (with_none consumer)
+
+-- ---- a ring
+
+-- A new ring's senders in the order of their numbers, and what takes its commands.
+pub record AreNewSeats {D : Type 0} (is_taker : ConsumerValue D → Object → Type 0) (log2 senders max_batches : ℕ) (seats : List Object) (taker : Object) : Type 0 where
   pub ring : RingValue
   pub all : List SenderValue
-  pub consumer : ConsumerValue UnitValue
-  pub unit : UnitValue
+  pub consumer : ConsumerValue D
   pub new_ring : IsNewRing log2 senders max_batches ring all consumer
-  pub new_unit : IsNewUnit capacity unit
   pub seats_are : seats ≡ map SenderOf all
-  pub engine_is : engine ≡ EngineOf (record { consumer = consumer; unit = unit })
-
--- why none is made
-abbrev pub IsNoRing : ℕ → ℕ → ℕ → ℕ → Status → Type 0
-IsNoRing log2 senders max_batches capacity (Cache BadCapacity) = ¬ IsCapacity capacity
-IsNoRing log2 senders max_batches capacity (Ring fault) = IsNotMade (number_fault log2 senders max_batches) fault
-IsNoRing log2 senders max_batches capacity NoMemory = ⊤
-IsNoRing log2 senders max_batches capacity other = ⊥
+  pub taker_is : is_taker consumer taker
 
 abbrev pub objects_in : List Handle → List (Option Object)
 objects_in handles = map (λ (h : Handle). h.object) handles
@@ -41,16 +46,34 @@ abbrev pub sender_count : List Handle → ℕ
 sender_count handles = min (length handles) (2 ^ 32 - 1)
 
 -- They stand in the handles, the first sender in the first one.
-abbrev pub IsRing : ℕ → ℕ → ℕ → List Handle → Option Object → Type 0
-IsRing log2 max_batches capacity senders engine =
-    (seats : List Object) × (seat : Object) × AreNewSeats log2 (length senders) max_batches capacity seats seat
-    × (objects_in senders ≡ map Some seats) × (engine ≡ Some seat)
+abbrev pub IsRing : {D : Type 0} → (ConsumerValue D → Object → Type 0) → ℕ → ℕ → List Handle → Option Object → Type 0
+IsRing is_taker log2 max_batches senders taker =
+    (seats : List Object) × (seat : Object) × AreNewSeats is_taker log2 (length senders) max_batches seats seat
+    × (objects_in senders ≡ map Some seats) × (taker ≡ Some seat)
 
--- All handles hold what they are for; or all are as before.
+-- why none is made
+abbrev pub IsNoRing : ℕ → ℕ → ℕ → Status → Type 0
+IsNoRing log2 senders max_batches (Ring fault) = IsNotMade (number_fault log2 senders max_batches) fault
+IsNoRing log2 senders max_batches NoMemory = ⊤
+IsNoRing log2 senders max_batches other = ⊥
+
+-- why none is made with an engine
+abbrev pub IsNoEngineRing : ℕ → ℕ → ℕ → ℕ → Status → Type 0
+IsNoEngineRing log2 senders max_batches capacity (Cache BadCapacity) = ¬ IsCapacity capacity
+IsNoEngineRing log2 senders max_batches capacity other = IsNoRing log2 senders max_batches other
+
+-- All handles hold what they are for; or all are as before, and this is why.
+abbrev pub HasMade : (List Handle → Option Object → Type 0) → (Status → Type 0) → List Handle → List Handle → Option Object → Option Object → Status → Type 0
+HasMade is_made is_none old new old_taker new_taker Done = is_made new new_taker
+HasMade is_made is_none old new old_taker new_taker status = is_none status × (new ≡ old) × (new_taker ≡ old_taker)
+
 abbrev pub HasMadeRing : ℕ → ℕ → ℕ → List Handle → List Handle → Option Object → Option Object → Status → Type 0
-HasMadeRing log2 max_batches capacity old new old_engine new_engine Done = IsRing log2 max_batches capacity new new_engine
 HasMadeRing log2 max_batches capacity old new old_engine new_engine status =
-    IsNoRing log2 (sender_count old) max_batches capacity status × (new ≡ old) × (new_engine ≡ old_engine)
+    HasMade (IsRing (IsNewEngine capacity) log2 max_batches) (IsNoEngineRing log2 (sender_count old) max_batches capacity) old new old_engine new_engine status
+
+abbrev pub HasMadeConsumerRing : ℕ → ℕ → List Handle → List Handle → Option Object → Option Object → Status → Type 0
+HasMadeConsumerRing log2 max_batches old new old_consumer new_consumer status =
+    HasMade (IsRing IsNewConsumer log2 max_batches) (IsNoRing log2 (sender_count old) max_batches) old new old_consumer new_consumer status
 
 -- ---- in between
 

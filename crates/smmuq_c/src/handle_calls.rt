@@ -14,7 +14,7 @@ pub extern "C" fn smmuq_free(alloc: Global, handle: &mut Handle)
     let _gone = take(alloc, handle);
 }
 
-/// 0 for an empty handle, 1 for a unit, 2 for a sender, 3 for an engine.
+/// 0 for an empty handle, 1 for a unit, 2 for a sender, 3 for an engine, 4 for a consumer.
 #[unsafe(no_mangle)]
 pub extern "C" fn smmuq_kind(alloc: Global, handle: &mut Handle) -> u32
     ensures kind { result ≡ kind_in handle.old.object }
@@ -35,5 +35,6 @@ fn kind_of(object: &Object) -> u32
         Object::Unit(_) => 1,
         Object::Sender(_) => 2,
         Object::Engine(_) => 3,
+        Object::Consumer(_) => 4,
     }
 }

@@ -1,5 +1,6 @@
 //! What a handle owns.
 use crate::held_unit::HeldUnit;
+use crate::seated_consumer::SeatedConsumer;
 use crate::seated_engine::SeatedEngine;
 use crate::seated_sender::SeatedSender;
 
@@ -9,6 +10,7 @@ pub(crate) enum Object {
     Unit(HeldUnit),
     Sender(SeatedSender),
     Engine(SeatedEngine),
+    Consumer(SeatedConsumer),
 }
 
 fn may_cross_threads<T: Send>(_value: &T) {}

@@ -44,6 +44,6 @@ fn renew(alloc: Global, object: &mut Object, sizes: Sizes, senders: &mut [Handle
 {
     match object {
         Object::Engine(engine) => engine.renew(alloc, sizes, senders),
-        Object::Unit(_) | Object::Sender(_) => Status::WrongHandle,
+        Object::Unit(_) | Object::Sender(_) | Object::Consumer(_) => Status::WrongHandle,
     }
 }

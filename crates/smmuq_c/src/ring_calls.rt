@@ -1,14 +1,16 @@
-//! The export that makes a ring: a handle for each sender and one for the engine, each for a thread of its own.
+//! The exports that make a ring: a handle for each sender and one for what takes the commands, each for a thread of its
+//! own.
 ghost use Rattle.std.specs.Prelude.{◌≡◌, ◌≤◌, Some, IfOk, IfErr, OnOk, length, map};
 ghost use Rattle.std.specs.List.{All};
 ghost use Rattle.std.specs.Arc.{arc_value};
 ghost use Rattle.smmuq_c.specs.declared.object.Object.TheVariants.{Sender as SenderOf};
 ghost use Rattle.smmuq_c.specs.Calls.{Answers};
-ghost use Rattle.smmuq_c.specs.MakingRings.{HasMadeRing, AreNewSeats, IsNoRing, objects_in, boxed};
+ghost use Rattle.smmuq_c.specs.MakingRings.{HasMadeRing, HasMadeConsumerRing, AreNewSeats, IsNewEngine, IsNewConsumer, IsNoEngineRing, IsNoRing, objects_in, sender_count, boxed};
 
 use crate::handle::{Handle, put};
 use crate::held_unit::new_caches;
 use crate::object::Object;
+use crate::seated_consumer::{CallersDevice, SeatedConsumer};
 use crate::seated_engine::SeatedEngine;
 use crate::seated_sender::SeatedSender;
 use crate::status::Status;
@@ -21,7 +23,8 @@ use std::sync::Arc;
 #[derive(Drop)]
 struct Seats {
     senders: Vec<Box<Object>>,
-    engine: Box<Object>,
+    /// What takes the commands.
+    taker: Box<Object>,
 }
 
 /// Makes a ring of `2^log2` slots, and fills a handle for each sender, in the order of their numbers, and one for its
@@ -51,32 +54,64 @@ fn make_ring(
 ) -> Status
     ensures { HasMadeRing log2 max_batches capacity senders.old senders.new engine.old.object engine.new.object result }
 {
-    let count = senders.len().min(u32::MAX as usize) as u32;
-    match new_seats(alloc, log2, count, max_batches, capacity) {
-        Ok(
-            Seats {
-                senders: seats,
-                engine: seat,
-            },
-        ) => {
-            fill_all(senders, seats);
-            put(engine, seat);
+    match engine_seats(alloc, log2, count_of(senders), max_batches, capacity) {
+        Ok(seats) => {
+            fill_all(senders, engine, seats);
             Status::Done
         }
         Err(status) => status,
     }
 }
 
-/// All that a ring takes memory for.
-fn new_seats(
+/// The same with a consumer's handle in place of the engine's: who has it takes the commands himself. N1, N2, N3, N4 or
+/// `NO_MEMORY` where none is made: then all handles are as before.
+#[unsafe(no_mangle)]
+pub extern "C" fn smmuq_consumer_ring_new(
+    alloc: Global,
+    log2: u32,
+    max_batches: u32,
+    senders: &mut [Handle],
+    consumer: &mut Handle,
+) -> u32
+    ensures { Answers (HasMadeConsumerRing log2 max_batches senders.old senders.new consumer.old.object consumer.new.object) result }
+{
+    make_consumer_ring(alloc, log2, max_batches, senders, consumer).number()
+}
+
+fn make_consumer_ring(
+    alloc: Global,
+    log2: u32,
+    max_batches: u32,
+    senders: &mut [Handle],
+    consumer: &mut Handle,
+) -> Status
+    ensures { HasMadeConsumerRing log2 max_batches senders.old senders.new consumer.old.object consumer.new.object result }
+{
+    match consumer_seats(alloc, log2, count_of(senders), max_batches) {
+        Ok(seats) => {
+            fill_all(senders, consumer, seats);
+            Status::Done
+        }
+        Err(status) => status,
+    }
+}
+
+pub(crate) fn count_of(handles: &[Handle]) -> u32
+    ensures { result ≡ sender_count handles.now }
+{
+    handles.len().min(u32::MAX as usize) as u32
+}
+
+/// All that a ring with an engine takes memory for.
+fn engine_seats(
     alloc: Global,
     log2: u32,
     senders: u32,
     max_batches: u32,
     capacity: u32,
 ) -> Result<Seats, Status>
-    ensures made { IfOk result (λ s. AreNewSeats log2 senders max_batches capacity (boxed s.senders.items) s.engine.value) }
-    ensures refused { IfErr result (λ status. IsNoRing log2 senders max_batches capacity status) }
+    ensures made { IfOk result (λ s. AreNewSeats (IsNewEngine capacity) log2 senders max_batches (boxed s.senders.items) s.taker.value) }
+    ensures refused { IfErr result (λ status. IsNoEngineRing log2 senders max_batches capacity status) }
     ensures count { IfOk result (λ s. length s.senders.items ≡ senders) }
     ensures few { OnOk result (senders ≤ 256) }
 {
@@ -88,21 +123,59 @@ fn new_seats(
         Ok(parts) => parts,
         Err(fault) => return Err(Status::Ring(fault)),
     };
-    let Ok(ring) = Arc::new(alloc, ring) else {
-        return Err(Status::NoMemory);
-    };
-    let Ok(senders) = seat_all(alloc, &ring, all) else {
+    let Ok((ring, senders)) = share(alloc, ring, all) else {
         return Err(Status::NoMemory);
     };
     let seated = SeatedEngine::new(ring, Engine::new(consumer, caches));
     match Box::new(alloc, Object::Engine(seated)) {
-        Ok(engine) => Ok(Seats { senders, engine }),
+        Ok(taker) => Ok(Seats { senders, taker }),
         Err(_) => Err(Status::NoMemory),
     }
 }
 
+/// All that a ring without one takes memory for.
+fn consumer_seats(alloc: Global, log2: u32, senders: u32, max_batches: u32) -> Result<Seats, Status>
+    ensures made { IfOk result (λ s. AreNewSeats IsNewConsumer log2 senders max_batches (boxed s.senders.items) s.taker.value) }
+    ensures refused { IfErr result (λ status. IsNoRing log2 senders max_batches status) }
+    ensures count { IfOk result (λ s. length s.senders.items ≡ senders) }
+    ensures few { OnOk result (senders ≤ 256) }
+{
+    let (ring, all, consumer) = match Ring::new::<CallersDevice>(
+        alloc,
+        log2,
+        senders,
+        max_batches,
+    ) {
+        Ok(parts) => parts,
+        Err(fault) => return Err(Status::Ring(fault)),
+    };
+    let Ok((ring, senders)) = share(alloc, ring, all) else {
+        return Err(Status::NoMemory);
+    };
+    let seated = SeatedConsumer::new(ring, consumer);
+    match Box::new(alloc, Object::Consumer(seated)) {
+        Ok(taker) => Ok(Seats { senders, taker }),
+        Err(_) => Err(Status::NoMemory),
+    }
+}
+
+/// The ring for all of its seats, and a seat for each sender.
+pub(crate) fn share(
+    alloc: Global,
+    ring: Ring,
+    all: Vec<Sender>,
+) -> Result<(Arc<Ring>, Vec<Box<Object>>), AllocError>
+    requires { All (λ s. s.ring ≡ ring) all.items }
+    ensures ring { IfOk result (λ r. arc_value r.0 ≡ ring) }
+    ensures seats { IfOk result (λ r. boxed r.1.items ≡ map SenderOf all.items) }
+{
+    let ring = Arc::new(alloc, ring)?;
+    let seats = seat_all(alloc, &ring, all)?;
+    Ok((ring, seats))
+}
+
 /// A seat for each sender, the last first.
-pub(crate) fn seat_all(
+fn seat_all(
     alloc: Global,
     ring: &Arc<Ring>,
     all: Vec<Sender>,
@@ -120,8 +193,23 @@ pub(crate) fn seat_all(
     Ok(seats)
 }
 
-/// Fills the handles, the first from the last seat.
-pub(crate) fn fill_all(handles: &mut [Handle], seats: Vec<Box<Object>>)
+/// Fills the handles of all seats.
+fn fill_all(handles: &mut [Handle], taker: &mut Handle, seats: Seats)
+    requires { length seats.senders.items ≡ length handles.old }
+    ensures objects { objects_in handles.new ≡ map Some (boxed seats.senders.items) }
+    ensures many { length handles.new ≡ length handles.old }
+    ensures taker { taker.new.object ≡ Some seats.taker.value }
+{
+    let Seats {
+        senders,
+        taker: seat,
+    } = seats;
+    fill_senders(handles, senders);
+    put(taker, seat);
+}
+
+/// Fills the handles of the senders, the first from the last seat.
+pub(crate) fn fill_senders(handles: &mut [Handle], seats: Vec<Box<Object>>)
     requires { length seats.items ≡ length handles.old }
     ensures objects { objects_in handles.new ≡ map Some (boxed seats.items) }
     ensures many { length handles.new ≡ length handles.old }

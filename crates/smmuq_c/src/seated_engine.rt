@@ -16,7 +16,7 @@ use crate::answers::{acknowledgement_status, fill_status, tell_entry};
 use crate::evicting::Kinds;
 use crate::handle::Handle;
 use crate::listing::{EntryWords, give_entries};
-use crate::ring_calls::{fill_all, seat_all};
+use crate::ring_calls::{count_of, fill_senders, share};
 use crate::status::Status;
 use crate::words::{Errors, Held, RegisterWords, RunWords, Tallies};
 use caches::{Entry, Tag};
@@ -104,22 +104,18 @@ impl SeatedEngine {
         if sees_waiting(&mut self.engine, &self.ring) {
             return Status::Waiting;
         }
-        let count = senders.len().min(u32::MAX as usize) as u32;
         let Queue {
             ring,
             senders: all,
             engine,
-        } = match successor(alloc, &self.engine, count, sizes) {
+        } = match successor(alloc, &self.engine, count_of(senders), sizes) {
             Ok(queue) => queue,
             Err(fault) => return Status::from(fault),
         };
-        let Ok(ring) = Arc::new(alloc, ring) else {
+        let Ok((ring, seats)) = share(alloc, ring, all) else {
             return Status::NoMemory;
         };
-        let Ok(seats) = seat_all(alloc, &ring, all) else {
-            return Status::NoMemory;
-        };
-        fill_all(senders, seats);
+        fill_senders(senders, seats);
         *self = SeatedEngine::new(ring, engine);
         Status::Done
     }

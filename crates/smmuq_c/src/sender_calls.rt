@@ -35,7 +35,7 @@ fn send(object: &mut Object, commands: &[Raw], tries: u32, number: &mut u32) -> 
 {
     match object {
         Object::Sender(sender) => sender.send(commands, tries, number),
-        Object::Unit(_) | Object::Engine(_) => Status::WrongHandle,
+        Object::Unit(_) | Object::Engine(_) | Object::Consumer(_) => Status::WrongHandle,
     }
 }
 
@@ -62,7 +62,7 @@ fn send_bare(object: &mut Object, commands: &[Raw], tries: u32) -> Status
 {
     match object {
         Object::Sender(sender) => sender.send_bare(commands, tries),
-        Object::Unit(_) | Object::Engine(_) => Status::WrongHandle,
+        Object::Unit(_) | Object::Engine(_) | Object::Consumer(_) => Status::WrongHandle,
     }
 }
 
@@ -84,7 +84,7 @@ fn done_up_to(object: &mut Object, number: &mut u32) -> Status
 {
     match object {
         Object::Sender(sender) => sender.done_up_to(number),
-        Object::Unit(_) | Object::Engine(_) => Status::WrongHandle,
+        Object::Unit(_) | Object::Engine(_) | Object::Consumer(_) => Status::WrongHandle,
     }
 }
 
@@ -106,7 +106,7 @@ fn close(object: &mut Object) -> Status
 {
     match object {
         Object::Sender(sender) => sender.close(),
-        Object::Unit(_) | Object::Engine(_) => Status::WrongHandle,
+        Object::Unit(_) | Object::Engine(_) | Object::Consumer(_) => Status::WrongHandle,
     }
 }
 
@@ -128,6 +128,6 @@ fn look(object: &mut Object, told: &mut ControlWords) -> Status
 {
     match object {
         Object::Sender(sender) => sender.look(told),
-        Object::Unit(_) | Object::Engine(_) => Status::WrongHandle,
+        Object::Unit(_) | Object::Engine(_) | Object::Consumer(_) => Status::WrongHandle,
     }
 }

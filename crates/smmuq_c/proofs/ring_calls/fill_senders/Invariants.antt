@@ -1,6 +1,6 @@
 use Rattle.std.proofs.Common.{◌≡◌, ◌+◌, ◌++◌, List, length, map, take, Some}
 use Rattle.smmuq_c.specs.MakingRings.{boxed, objects_in}
-use Rattle.smmuq_c.proofs.ring_calls.fill_all.Given as goal
+use Rattle.smmuq_c.proofs.ring_calls.fill_senders.Given as goal
 
 abbrev pub invariant-loop-handle : goal.invariant-loop-handle
 invariant-loop-handle l = record {

@@ -1,0 +1,5 @@
+use Rattle.smmuq_c.proofs.Objects.{of_consumer}
+use Rattle.smmuq_c.proofs.consumer_calls.complete.Goals as goal
+
+pub returns-in-Consumer : goal.returns-in-Consumer
+returns-in-Consumer c = of_consumer _ c.in-Consumer.is c.complete.ensures

@@ -1,0 +1,63 @@
+//! The exports of a consumer of the caller's own.
+ghost use Rattle.smmuq_c.specs.Calls.{HasCalled, OfConsumer};
+ghost use Rattle.smmuq_c.specs.Taking.{HasTakenRun, HasCompletedFor};
+
+use crate::handle::{Handle, put, take};
+use crate::object::Object;
+use crate::status::Status;
+use cmdcodec::Raw;
+use std::alloc::Global;
+
+/// Tells the words of the commands that are ready from the ring's head on, as many as the buffer has room for, up to 64,
+/// and how many they are. They stay in the ring until they are completed, and the next take finds them again.
+/// `SHORT_BUFFER` where there is no room; `RING_EMPTY`, `RING_DRAINED` or `RING_UNWRITTEN` where no command is ready.
+#[unsafe(no_mangle)]
+pub extern "C" fn smmuq_take_run(
+    alloc: Global,
+    consumer: &mut Handle,
+    buffer: &mut [Raw],
+    count: &mut usize,
+) -> u32
+    ensures { HasCalled (OfConsumer (HasTakenRun buffer.old buffer.new count.new)) consumer.old.object consumer.new.object result }
+{
+    let Some(mut object) = take(alloc, consumer) else {
+        return Status::EmptyHandle.number();
+    };
+    let status = take_run(object.as_mut(), buffer, count);
+    put(consumer, object);
+    status.number()
+}
+
+fn take_run(object: &mut Object, buffer: &mut [Raw], count: &mut usize) -> Status
+    ensures { OfConsumer (HasTakenRun buffer.old buffer.new count.new) object.old object.new result }
+{
+    match object {
+        Object::Consumer(consumer) => consumer.take_run(buffer, count),
+        Object::Unit(_) | Object::Sender(_) | Object::Engine(_) => Status::WrongHandle,
+    }
+}
+
+/// Completes the first `count` of the commands that the last take told: they leave the ring, and then each CMD_SYNC among
+/// them is acknowledged to its sender. The caller has given them their effect before. `REPLACED` where it is a single
+/// illegal one, which had none; 1 to 4 where an illegal one is among several, `BAD_FIELD` where `count` is 0 or more than
+/// were told: then none is completed.
+#[unsafe(no_mangle)]
+pub extern "C" fn smmuq_complete(alloc: Global, consumer: &mut Handle, count: usize) -> u32
+    ensures { HasCalled (OfConsumer (HasCompletedFor count)) consumer.old.object consumer.new.object result }
+{
+    let Some(mut object) = take(alloc, consumer) else {
+        return Status::EmptyHandle.number();
+    };
+    let status = complete(object.as_mut(), count);
+    put(consumer, object);
+    status.number()
+}
+
+fn complete(object: &mut Object, count: usize) -> Status
+    ensures { OfConsumer (HasCompletedFor count) object.old object.new result }
+{
+    match object {
+        Object::Consumer(consumer) => consumer.complete(count),
+        Object::Unit(_) | Object::Sender(_) | Object::Engine(_) => Status::WrongHandle,
+    }
+}
