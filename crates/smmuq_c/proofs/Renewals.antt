@@ -1,11 +1,10 @@
 -- An engine goes on in a new ring.
-use Rattle.std.proofs.Common.{◌≡◌, ℕ, List, length, map, refl, sym, ap, subst, ◌∙◌}
+use Rattle.std.proofs.Common.{◌≡◌, ℕ, List, length, map, refl, sym, subst}
 use Rattle.std.specs.Prelude.{Some}
 use Rattle.ringcore.specs.world.World.{world, control}
 use Rattle.ring.specs.Rings.{RingValue}
 use Rattle.ring.specs.NewRings.{IsNewRing}
 use Rattle.ring.specs.sender.Senders.{SenderValue}
-use Rattle.ring.specs.consumer.Consumers.{ConsumerValue}
 use Rattle.ring.specs.consumer.Completing.{taken_of}
 use Rattle.engine.specs.Settled.{IsSettled}
 use Rattle.engine.specs.Units.{UnitValue}
@@ -14,7 +13,7 @@ use Rattle.renewal.specs.declared.queue.Sizes.{Sizes}
 use Rattle.renewal.specs.Queues.{EngineHasLooked, AreAtOnePlace}
 use Rattle.renewal.specs.Carried.{IsCarried}
 use Rattle.smmuq_c.specs.declared.object.Object.{Object}
-use Rattle.smmuq_c.specs.declared.object.Object.TheVariants.{Sender as SenderOf}
+use Rattle.smmuq_c.specs.declared.object.Object.TheVariants.{Sender as SenderOf, Engine as EngineOf}
 use Rattle.smmuq_c.specs.declared.handle.Handle.{Handle}
 use Rattle.smmuq_c.specs.MakingRings.{objects_in}
 use Rattle.smmuq_c.specs.Own.{AreOwn}
@@ -32,9 +31,12 @@ renewed sizes many senders old last new ring all seats looked none settled own u
   none_waits = none;
   settled = settled;
   own = own;
-  ring = ring;
-  all = all;
-  unused = subst (λ (n : ℕ). IsNewRing sizes.log2 n sizes.max_batches ring all new.consumer) (sym as_many) unused;
-  carried = subst (λ (u : UnitValue). IsCarried sizes.capacity u new.unit) looked.1.unit_is carried;
-  senders_are = filled ∙ ap (λ (l : List Object). map Some l) seats_are;
+  goes_on = (seats, EngineOf new, record {
+      ring = ring;
+      all = all;
+      consumer = new.consumer;
+      new_ring = subst (λ (n : ℕ). IsNewRing sizes.log2 n sizes.max_batches ring all new.consumer) (sym as_many) unused;
+      seats_are = seats_are;
+      taker_is = (new.unit, subst (λ (u : UnitValue). IsCarried sizes.capacity u new.unit) looked.1.unit_is carried, refl);
+    }, filled, refl);
 }

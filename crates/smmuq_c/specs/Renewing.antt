@@ -1,11 +1,10 @@
 -- What a renewal of a ring does to its engine, and to the handles of its senders.
-use Rattle.std.specs.Prelude.{◌≡◌, ℕ, List, length, map, Some, ⊤}
+use Rattle.std.specs.Prelude.{◌≡◌, ℕ, List, Some, ⊤}
 use Rattle.ringcore.specs.world.World.{world, control}
-use Rattle.ring.specs.Rings.{RingValue}
-use Rattle.ring.specs.NewRings.{IsNewRing}
-use Rattle.ring.specs.sender.Senders.{SenderValue}
+use Rattle.ring.specs.consumer.Consumers.{ConsumerValue}
 use Rattle.ring.specs.consumer.Completing.{taken_of}
 use Rattle.engine.specs.Settled.{IsSettled}
+use Rattle.engine.specs.Units.{UnitValue}
 use Rattle.engine.specs.Engines.{EngineValue}
 use Rattle.renewal.specs.declared.fault.RenewalFault.{RenewalFault}
 use Rattle.renewal.specs.declared.fault.RenewalFault.TheVariants as fault
@@ -15,9 +14,10 @@ use Rattle.renewal.specs.Carried.{IsCarried}
 use Rattle.renewal.specs.Renewing.{IsUnmade}
 use Rattle.smmuq_c.specs.declared.status.Status.{Status}
 use Rattle.smmuq_c.specs.declared.status.Status.TheVariants.{Done, Cache, Ring, Waiting, NoMemory}
-use Rattle.smmuq_c.specs.declared.object.Object.TheVariants.{Sender as SenderOf}
+use Rattle.smmuq_c.specs.declared.object.Object.{Object}
+use Rattle.smmuq_c.specs.declared.object.Object.TheVariants.{Engine as EngineOf}
 use Rattle.smmuq_c.specs.declared.handle.Handle.{Handle}
-use Rattle.smmuq_c.specs.MakingRings.{objects_in, sender_count}
+use Rattle.smmuq_c.specs.MakingRings.{IsRing, sender_count}
 use Rattle.smmuq_c.specs.Own.{AreOwn}
 
 abbrev pub renewal_status : RenewalFault → Status
@@ -25,19 +25,19 @@ renewal_status fault.Waiting = Waiting
 renewal_status (fault.Ring why) = Ring why
 renewal_status (fault.Caches why) = Cache why
 
--- The old engine looked, and PROD and CONS stood at one place; it was settled for all that it took. The new one serves a new
--- ring, whose senders stand in these handles, and holds the entries of the old, each born 0, and no others.
+-- an engine of this consumer that holds what a unit held, each entry born 0, and no others
+abbrev pub GoesOnFrom : UnitValue → ℕ → ConsumerValue UnitValue → Object → Type 0
+GoesOnFrom old capacity consumer object = (unit : UnitValue) × IsCarried capacity old unit × (object ≡ EngineOf (record { consumer = consumer; unit = unit }))
+
+-- The old engine looked, and PROD and CONS stood at one place; it was settled for all that it took. The new one goes on from
+-- it in a new ring, whose senders stand in these handles.
 pub record IsRenewed (sizes : Sizes) (senders : List Handle) (old new : EngineValue) : Type 0 where
   pub last : EngineValue
   pub looked : EngineHasLooked old last
   pub none_waits : AreAtOnePlace (control old.consumer.ring.made_with.geometry (world last.consumer.history))
   pub settled : IsSettled old.unit.caches.entries (taken_of old.consumer.trail)
   pub own : AreOwn old.unit.caches.entries
-  pub ring : RingValue
-  pub all : List SenderValue
-  pub unused : IsNewRing sizes.log2 (length senders) sizes.max_batches ring all new.consumer
-  pub carried : IsCarried sizes.capacity old.unit new.unit
-  pub senders_are : objects_in senders ≡ map Some (map SenderOf all)
+  pub goes_on : IsRing (GoesOnFrom old.unit sizes.capacity) sizes.log2 sizes.max_batches senders (Some (EngineOf new))
 
 -- why it isn't renewed, where nothing waits
 abbrev pub IsNotRenewed : Sizes → ℕ → EngineValue → Status → Type 0
