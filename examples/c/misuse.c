@@ -126,6 +126,9 @@ static void misuse_a_ring(void) {
     WANT(smmuq_send(&senders[0], words, 16, 1, &number), SMMUQ_Q4);
     WANT(smmuq_run(&engine, 64, &answer), SMMUQ_RING_EMPTY);
     WANT(smmuq_send(&senders[0], words, 15, 0, &number), SMMUQ_OK); /* no tries count as one */
+    WANT(smmuq_left(&engine, &number), SMMUQ_WRONG_HANDLE);
+    WANT(smmuq_left(&senders[0], &number), SMMUQ_OK);
+    WANT(number, 9);
     WANT(smmuq_send(&senders[1], words, 1, 5, &number), SMMUQ_Q2);
     WANT(smmuq_look(&senders[1], &control), SMMUQ_OK);
     WANT(control.prod, 16);

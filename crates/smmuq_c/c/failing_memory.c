@@ -176,6 +176,7 @@ static uint32_t tell(struct handles *handles) {
     status |= smmuq_registers(&handles->engine, &registers);
     status |= smmuq_look(&handles->senders[0], &control);
     status |= smmuq_done_up_to(&handles->senders[0], &number);
+    status |= smmuq_left(&handles->senders[0], &number);
     return status | (smmuq_kind(&handles->unit) != 1) | (smmuq_version() != SMMUQ_VERSION);
 }
 

@@ -31,12 +31,18 @@ renewed sizes many senders old last new ring all seats looked none settled own u
   none_waits = none;
   settled = settled;
   own = own;
-  goes_on = (seats, EngineOf new, record {
+  goes_on = (
+    seats,
+    EngineOf new,
+    record {
       ring = ring;
       all = all;
       consumer = new.consumer;
       new_ring = subst (λ (n : ℕ). IsNewRing sizes.log2 n sizes.max_batches ring all new.consumer) (sym as_many) unused;
       seats_are = seats_are;
       taker_is = (new.unit, subst (λ (u : UnitValue). IsCarried sizes.capacity u new.unit) looked.1.unit_is carried, refl);
-    }, filled, refl);
+    },
+    filled,
+    refl,
+  );
 }

@@ -1,5 +1,5 @@
 -- What the calls of a sender do to it, and what C gets of them.
-use Rattle.std.specs.Prelude.{◌≡◌, ◌≤◌, ℕ, max, true, false, List, [], ◌∷◌, Option, None, Some}
+use Rattle.std.specs.Prelude.{◌≡◌, ◌+◌, ◌≤◌, ℕ, max, true, false, List, [], ◌∷◌, Option, None, Some}
 use Rattle.cmdcodec.specs.declared.raw.Raw.{Raw}
 use Rattle.cmdcodec.specs.Fields.{bit}
 use Rattle.qindex.specs.declared.control.Control.{Control}
@@ -7,6 +7,7 @@ use Rattle.batch.specs.Refusals.{list_refusal}
 use Rattle.ringcore.specs.declared.world.event.Who.TheVariants.{Sender as SenderOf}
 use Rattle.ringcore.specs.declared.world.event.Event.{Event}
 use Rattle.ringcore.specs.declared.world.event.Event.TheVariants.{Look, Ask, Close}
+use Rattle.ringcore.specs.world.Trails.{batches_made}
 use Rattle.ringcore.specs.world.World.{world, control as control_of}
 use Rattle.ring.specs.table.Histories.{Grew, GrewBy, AreApplied}
 use Rattle.ring.specs.sender.Senders.{SenderValue, ReceiptValue}
@@ -60,6 +61,12 @@ pub record HasTold (told : ℕ) (old new : SenderValue) (status : Status) : Type
   pub asked : HasStepped (Ask told) old new
   pub few : told ≤ old.ring.made_with.max_batches
   pub applied : AreApplied new.history old.number told
+  pub status_is : status ≡ Done
+
+-- It may still reserve so many batches, and is as it was.
+pub record HasToldLeft (told : ℕ) (old new : SenderValue) (status : Status) : Type 0 where
+  pub left : told + batches_made old.trail ≡ old.ring.made_with.max_batches
+  pub new_is : new ≡ old
   pub status_is : status ≡ Done
 
 pub record HasClosed (old new : SenderValue) (status : Status) : Type 0 where

@@ -1,7 +1,7 @@
 //! A sender with its share of its own ring.
 ghost use Rattle.std.specs.Prelude.{◌≡◌};
 ghost use Rattle.std.specs.Arc.{arc_value};
-ghost use Rattle.smmuq_c.specs.Sends.{HasSent, HasSentBare, HasTold, HasClosed, HasLookedFor};
+ghost use Rattle.smmuq_c.specs.Sends.{HasSent, HasSentBare, HasTold, HasToldLeft, HasClosed, HasLookedFor};
 
 use crate::status::Status;
 use crate::words::ControlWords;
@@ -90,6 +90,16 @@ impl SeatedSender {
     {
         let mut sender = self.sender.take().unwrap();
         *number = sender.done_up_to(&self.ring);
+        self.sender = Some(sender);
+        Status::Done
+    }
+
+    /// How many batches it may still reserve.
+    pub(crate) fn left(&mut self, batches: &mut u32) -> Status
+        ensures { HasToldLeft batches.new self.old self.new result }
+    {
+        let sender = self.sender.take().unwrap();
+        *batches = sender.batches_left(&self.ring);
         self.sender = Some(sender);
         Status::Done
     }

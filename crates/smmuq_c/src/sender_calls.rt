@@ -1,6 +1,6 @@
 //! The exports of a sender.
 ghost use Rattle.smmuq_c.specs.Calls.{HasCalled, OfSender};
-ghost use Rattle.smmuq_c.specs.Sends.{HasSent, HasSentBare, HasTold, HasClosed, HasLookedFor};
+ghost use Rattle.smmuq_c.specs.Sends.{HasSent, HasSentBare, HasTold, HasToldLeft, HasClosed, HasLookedFor};
 
 use crate::handle::{Handle, put, take};
 use crate::object::Object;
@@ -84,6 +84,28 @@ fn done_up_to(object: &mut Object, number: &mut u32) -> Status
 {
     match object {
         Object::Sender(sender) => sender.done_up_to(number),
+        Object::Unit(_) | Object::Engine(_) | Object::Consumer(_) => Status::WrongHandle,
+    }
+}
+
+/// Tells how many batches the sender may still reserve, with a CMD_SYNC or without. Behind the last it is answered Q5.
+#[unsafe(no_mangle)]
+pub extern "C" fn smmuq_left(alloc: Global, sender: &mut Handle, batches: &mut u32) -> u32
+    ensures { HasCalled (OfSender (HasToldLeft batches.new)) sender.old.object sender.new.object result }
+{
+    let Some(mut object) = take(alloc, sender) else {
+        return Status::EmptyHandle.number();
+    };
+    let status = left(object.as_mut(), batches);
+    put(sender, object);
+    status.number()
+}
+
+fn left(object: &mut Object, batches: &mut u32) -> Status
+    ensures { OfSender (HasToldLeft batches.new) object.old object.new result }
+{
+    match object {
+        Object::Sender(sender) => sender.left(batches),
         Object::Unit(_) | Object::Engine(_) | Object::Consumer(_) => Status::WrongHandle,
     }
 }
