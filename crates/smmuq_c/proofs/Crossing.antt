@@ -10,6 +10,7 @@ use Rattle.ring.specs.contracts.ring.Ring as Ring
 use Rattle.engine.proofs.Crossing.{engine_send}
 use Rattle.smmuq_c.specs.contracts.held_unit.HeldUnit as HeldUnit
 use Rattle.smmuq_c.specs.contracts.seated_sender.SeatedSender as SeatedSender
+use Rattle.smmuq_c.specs.contracts.seated_reservation.SeatedReservation as SeatedReservation
 use Rattle.smmuq_c.specs.contracts.seated_engine.SeatedEngine as SeatedEngine
 use Rattle.smmuq_c.specs.contracts.seated_consumer.SeatedConsumer as SeatedConsumer
 use Rattle.smmuq_c.specs.contracts.object.Object as Object
@@ -23,6 +24,9 @@ ring_send = search (sendable, send, sync, crosses, shared_send, shared_sync, lea
 pub sender_send : IsSend SeatedSender.the_row
 sender_send = search (sendable, crosses, send, sync, seat_send, ring_send, ring_sync) depth 60 fits 100000
 
+pub reservation_send : IsSend SeatedReservation.the_row
+reservation_send = search (sendable, crosses, send, sync, seat_send, ring_send, ring_sync) depth 60 fits 100000
+
 pub seated_send : IsSend SeatedEngine.the_row
 seated_send = search (sendable, crosses, send, sync, engine_send, ring_send, ring_sync) depth 60 fits 100000
 
@@ -30,4 +34,4 @@ pub taker_send : IsSend SeatedConsumer.the_row
 taker_send = search (sendable, crosses, send, sync, consumer_send, seat_send, ring_send, ring_sync) depth 60 fits 100000
 
 pub object_send : IsSend Object.the_row
-object_send = search (sendable, unit_send, sender_send, seated_send, taker_send) depth 20
+object_send = search (sendable, unit_send, sender_send, reservation_send, seated_send, taker_send) depth 20

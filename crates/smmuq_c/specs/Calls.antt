@@ -10,10 +10,10 @@ use Rattle.smmuq_c.specs.HeldConsumers.{HeldConsumer}
 use Rattle.smmuq_c.specs.Registers.{HasAcknowledged, HasAcknowledgedHeld, remedy_for}
 use Rattle.smmuq_c.specs.Statuses.{number_of}
 use Rattle.smmuq_c.specs.declared.status.Status.{Status}
-use Rattle.smmuq_c.specs.declared.status.Status.TheVariants.{EmptyHandle, WrongHandle, BadField}
+use Rattle.smmuq_c.specs.declared.status.Status.TheVariants.{EmptyHandle, WrongHandle, BadField, OpenReservation}
 use Rattle.smmuq_c.specs.declared.stop_remedy.StopRemedy.{StopRemedy}
 use Rattle.smmuq_c.specs.declared.object.Object.{Object}
-use Rattle.smmuq_c.specs.declared.object.Object.TheVariants.{Unit as UnitOf, Sender as SenderOf, Engine as EngineOf, Consumer as ConsumerOf}
+use Rattle.smmuq_c.specs.declared.object.Object.TheVariants.{Unit as UnitOf, Sender as SenderOf, Reservation as ReservationOf, Engine as EngineOf, Consumer as ConsumerOf}
 
 -- A status has this number, and this is so of it.
 abbrev pub Answers : (Status → Type 0) → ℕ → Type 0
@@ -32,6 +32,7 @@ OfUnit does other new status = (new ≡ other) × (status ≡ WrongHandle)
 
 abbrev pub OfSender : (SenderValue → SenderValue → Status → Type 0) → Object → Object → Status → Type 0
 OfSender does (SenderOf old) new status = (after : SenderValue) × (new ≡ SenderOf after) × does old after status
+OfSender does (ReservationOf r) new status = (new ≡ ReservationOf r) × (status ≡ OpenReservation)
 OfSender does other new status = (new ≡ other) × (status ≡ WrongHandle)
 
 abbrev pub OfEngine : (EngineValue → EngineValue → Status → Type 0) → Object → Object → Status → Type 0

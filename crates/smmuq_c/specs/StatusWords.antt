@@ -7,7 +7,7 @@ use Rattle.ring.specs.declared.sender.cause.Cause.TheVariants as cause
 use Rattle.ringcore.specs.declared.ring_fault.RingFault.TheVariants as ring
 use Rattle.engine.specs.declared.remedy.AckFault.TheVariants.{NoError, OtherBit}
 use Rattle.smmuq_c.specs.declared.status.Status.{Status}
-use Rattle.smmuq_c.specs.declared.status.Status.TheVariants.{Done, Illegal, Cache, Batch, Refused, Waiting, Ring, Acknowledgement, EmptyHandle, WrongHandle, BadField, ShortBuffer, NoMemory, NotHeld, StillStopped, OtherCommand, Exhausted, RingEmpty, RingDrained, RingUnwritten, Replaced}
+use Rattle.smmuq_c.specs.declared.status.Status.TheVariants.{Done, Illegal, Cache, Batch, Refused, Waiting, Ring, Acknowledgement, EmptyHandle, WrongHandle, BadField, ShortBuffer, NoMemory, NotHeld, OpenReservation, NoReservation, StillStopped, OtherCommand, Exhausted, RingEmpty, RingDrained, RingUnwritten, Replaced}
 use Rattle.smmuq_c.specs.Statuses.{number_of}
 use Rattle.smmuq_c.specs.Texts.{IsCopied}
 
@@ -45,6 +45,8 @@ words_of BadField = codes "a field is out of range"
 words_of ShortBuffer = codes "the buffer is too short"
 words_of NoMemory = codes "out of memory"
 words_of NotHeld = codes "no entry has this tag"
+words_of OpenReservation = codes "the sender's reservation is open"
+words_of NoReservation = codes "the sender has no open reservation"
 words_of StillStopped = codes "consumption is stopped"
 words_of OtherCommand = codes "another command than the one at which it stopped"
 words_of Exhausted = codes "as many commands as may be were taken"

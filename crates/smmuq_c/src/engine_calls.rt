@@ -33,7 +33,8 @@ fn run(object: &mut Object, most: u32, answer: &mut RunWords) -> Status
 {
     match object {
         Object::Engine(engine) => engine.run(most, answer),
-        Object::Unit(_) | Object::Sender(_) | Object::Consumer(_) => Status::WrongHandle,
+        Object::Unit(_) | Object::Sender(_) | Object::Reservation(_) | Object::Consumer(_) =>
+            Status::WrongHandle,
     }
 }
 
@@ -59,6 +60,7 @@ fn tell_registers(object: &mut Object, told: &mut RegisterWords) -> Status
 {
     match object {
         Object::Engine(engine) => engine.registers(told),
-        Object::Unit(_) | Object::Sender(_) | Object::Consumer(_) => Status::WrongHandle,
+        Object::Unit(_) | Object::Sender(_) | Object::Reservation(_) | Object::Consumer(_) =>
+            Status::WrongHandle,
     }
 }

@@ -33,7 +33,7 @@ fn fill(object: &mut Object, tag: &TagWords, value: u64) -> Status
     match object {
         Object::Unit(held) => held.fill(tag, value),
         Object::Engine(seated) => seated.fill(tag, value),
-        Object::Sender(_) | Object::Consumer(_) => Status::WrongHandle,
+        Object::Sender(_) | Object::Reservation(_) | Object::Consumer(_) => Status::WrongHandle,
     }
 }
 
@@ -65,7 +65,7 @@ fn lookup(object: &Object, tag: &TagWords, held: &mut Held) -> Status
     match object {
         Object::Unit(unit) => unit.lookup(&tag, held),
         Object::Engine(seated) => seated.lookup(&tag, held),
-        Object::Sender(_) | Object::Consumer(_) => Status::WrongHandle,
+        Object::Sender(_) | Object::Reservation(_) | Object::Consumer(_) => Status::WrongHandle,
     }
 }
 
@@ -97,6 +97,6 @@ fn evict(object: &mut Object, tag: &TagWords, held: &mut Held) -> Status
     match object {
         Object::Unit(unit) => unit.evict(&tag, held),
         Object::Engine(seated) => seated.evict(&tag, held),
-        Object::Sender(_) | Object::Consumer(_) => Status::WrongHandle,
+        Object::Sender(_) | Object::Reservation(_) | Object::Consumer(_) => Status::WrongHandle,
     }
 }

@@ -66,6 +66,6 @@ fn evict_all(object: &mut Object, kinds: u32, count: &mut usize) -> Status
     match object {
         Object::Unit(unit) => unit.evict_all(kinds, count),
         Object::Engine(seated) => seated.evict_all(kinds, count),
-        Object::Sender(_) | Object::Consumer(_) => Status::WrongHandle,
+        Object::Sender(_) | Object::Reservation(_) | Object::Consumer(_) => Status::WrongHandle,
     }
 }

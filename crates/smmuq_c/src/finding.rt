@@ -124,7 +124,7 @@ fn held_under(object: &Object, tag: &Tag) -> Option<Entry>
     match object {
         Object::Unit(unit) => unit.entry(tag),
         Object::Engine(seated) => seated.entry(tag),
-        Object::Sender(_) | Object::Consumer(_) => None,
+        Object::Sender(_) | Object::Reservation(_) | Object::Consumer(_) => None,
     }
 }
 
@@ -242,6 +242,6 @@ fn find(object: &Object, sought: Sought, tag: &mut TagWords, held: &mut Held) ->
             seated.is_settled();
             status
         }
-        Object::Sender(_) | Object::Consumer(_) => Status::WrongHandle,
+        Object::Sender(_) | Object::Reservation(_) | Object::Consumer(_) => Status::WrongHandle,
     }
 }

@@ -1,17 +1,34 @@
 //! The exports of a handle of any kind.
-ghost use Rattle.std.specs.Prelude.{◌≡◌, None};
-ghost use Rattle.smmuq_c.specs.Kinds.{kind_in, kind_of};
+ghost use Rattle.std.specs.Prelude.{◌≡◌};
+ghost use Rattle.smmuq_c.specs.Calls.{Answers};
+ghost use Rattle.smmuq_c.specs.Kinds.{kind_in, kind_of, is_reservation, HasFreed};
 
 use crate::handle::{Handle, put, take};
 use crate::object::Object;
+use crate::status::Status;
 use std::alloc::Global;
 
-/// Frees what a handle of any kind owns, and leaves it empty. An empty one stays so.
+/// Frees what a handle of any kind owns, and leaves it empty. An empty one stays so. `OPEN_RESERVATION` of a sender that has
+/// one: then nothing is freed.
 #[unsafe(no_mangle)]
-pub extern "C" fn smmuq_free(alloc: Global, handle: &mut Handle)
-    ensures { handle.new.object ≡ None }
+pub extern "C" fn smmuq_free(alloc: Global, handle: &mut Handle) -> u32
+    ensures { Answers (HasFreed handle.old.object handle.new.object) result }
 {
-    let _gone = take(alloc, handle);
+    let Some(object) = take(alloc, handle) else {
+        return Status::Done.number();
+    };
+    if is_reservation(object.as_ref()) {
+        put(handle, object);
+        return Status::OpenReservation.number();
+    }
+    drop(object);
+    Status::Done.number()
+}
+
+fn is_reservation(object: &Object) -> bool
+    ensures { result ≡ is_reservation object.now }
+{
+    matches!(object, Object::Reservation(_))
 }
 
 /// 0 for an empty handle, 1 for a unit, 2 for a sender, 3 for an engine, 4 for a consumer.
@@ -33,7 +50,7 @@ fn kind_of(object: &Object) -> u32
 {
     match object {
         Object::Unit(_) => 1,
-        Object::Sender(_) => 2,
+        Object::Sender(_) | Object::Reservation(_) => 2,
         Object::Engine(_) => 3,
         Object::Consumer(_) => 4,
     }

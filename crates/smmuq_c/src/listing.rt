@@ -186,6 +186,6 @@ fn list(object: &Object, buffer: &mut [EntryWords], count: &mut usize) -> Status
     match object {
         Object::Unit(unit) => unit.entries(buffer, count),
         Object::Engine(seated) => seated.entries(buffer, count),
-        Object::Sender(_) | Object::Consumer(_) => Status::WrongHandle,
+        Object::Sender(_) | Object::Reservation(_) | Object::Consumer(_) => Status::WrongHandle,
     }
 }

@@ -2,6 +2,7 @@
 use crate::held_unit::HeldUnit;
 use crate::seated_consumer::SeatedConsumer;
 use crate::seated_engine::SeatedEngine;
+use crate::seated_reservation::SeatedReservation;
 use crate::seated_sender::SeatedSender;
 
 /// The kinds of things that a handle may own.
@@ -9,6 +10,8 @@ use crate::seated_sender::SeatedSender;
 pub(crate) enum Object {
     Unit(HeldUnit),
     Sender(SeatedSender),
+    /// A sender that has an open reservation.
+    Reservation(SeatedReservation),
     Engine(SeatedEngine),
     Consumer(SeatedConsumer),
 }

@@ -1,13 +1,15 @@
 //! A sender with its share of its own ring.
-ghost use Rattle.std.specs.Prelude.{◌≡◌};
+ghost use Rattle.std.specs.Prelude.{◌≡◌, IfOk, IfErr};
 ghost use Rattle.std.specs.Arc.{arc_value};
+ghost use Rattle.smmuq_c.specs.Reserving.{IsOpened, IsUnreserved};
 ghost use Rattle.smmuq_c.specs.Sends.{HasSent, HasSentBare, HasTold, HasToldLeft, HasClosed, HasLookedFor};
 
+use crate::seated_reservation::SeatedReservation;
 use crate::status::Status;
 use crate::words::ControlWords;
 use batch::{Batch, BatchFault};
 use cmdcodec::Raw;
-use ring::{Cause, Receipt, Ring, Sender};
+use ring::{Cause, Receipt, Refused, Ring, Sender};
 use std::marker::Model;
 use std::sync::Arc;
 
@@ -39,6 +41,30 @@ impl SeatedSender {
         SeatedSender {
             ring,
             sender: Some(sender),
+        }
+    }
+
+    /// Reserves a batch of these commands with its closing CMD_SYNC, by one try.
+    pub(crate) fn reserve(
+        self,
+        commands: &[Raw],
+    ) -> Result<SeatedReservation, (SeatedSender, Status)>
+        ensures opened { IfOk result (λ open. IsOpened commands.now self open) }
+        ensures refused { IfErr result (λ e. IsUnreserved commands.now self e.0 e.1) }
+    {
+        let batch = match Batch::from_raws(commands) {
+            Ok(batch) => batch,
+            Err(fault) => return Err((self, Status::Batch(fault))),
+        };
+        let SeatedSender { ring, sender } = self;
+        match sender.unwrap().reserve(&ring, &batch) {
+            Ok(reservation) => {
+                let unbound = reservation.unbind();
+                Ok(SeatedReservation::new(ring, batch, unbound))
+            }
+            Err(Refused { sender, cause }) => {
+                Err((SeatedSender::new(ring, sender), Status::Refused(cause)))
+            }
         }
     }
 

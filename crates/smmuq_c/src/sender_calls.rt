@@ -35,6 +35,7 @@ fn send(object: &mut Object, commands: &[Raw], tries: u32, number: &mut u32) -> 
 {
     match object {
         Object::Sender(sender) => sender.send(commands, tries, number),
+        Object::Reservation(_) => Status::OpenReservation,
         Object::Unit(_) | Object::Engine(_) | Object::Consumer(_) => Status::WrongHandle,
     }
 }
@@ -62,6 +63,7 @@ fn send_bare(object: &mut Object, commands: &[Raw], tries: u32) -> Status
 {
     match object {
         Object::Sender(sender) => sender.send_bare(commands, tries),
+        Object::Reservation(_) => Status::OpenReservation,
         Object::Unit(_) | Object::Engine(_) | Object::Consumer(_) => Status::WrongHandle,
     }
 }
@@ -84,6 +86,7 @@ fn done_up_to(object: &mut Object, number: &mut u32) -> Status
 {
     match object {
         Object::Sender(sender) => sender.done_up_to(number),
+        Object::Reservation(_) => Status::OpenReservation,
         Object::Unit(_) | Object::Engine(_) | Object::Consumer(_) => Status::WrongHandle,
     }
 }
@@ -106,6 +109,7 @@ fn left(object: &mut Object, batches: &mut u32) -> Status
 {
     match object {
         Object::Sender(sender) => sender.left(batches),
+        Object::Reservation(_) => Status::OpenReservation,
         Object::Unit(_) | Object::Engine(_) | Object::Consumer(_) => Status::WrongHandle,
     }
 }
@@ -128,6 +132,7 @@ fn close(object: &mut Object) -> Status
 {
     match object {
         Object::Sender(sender) => sender.close(),
+        Object::Reservation(_) => Status::OpenReservation,
         Object::Unit(_) | Object::Engine(_) | Object::Consumer(_) => Status::WrongHandle,
     }
 }
@@ -150,6 +155,7 @@ fn look(object: &mut Object, told: &mut ControlWords) -> Status
 {
     match object {
         Object::Sender(sender) => sender.look(told),
+        Object::Reservation(_) => Status::OpenReservation,
         Object::Unit(_) | Object::Engine(_) | Object::Consumer(_) => Status::WrongHandle,
     }
 }

@@ -36,6 +36,10 @@ pub(crate) enum Status {
     NoMemory,
     /// No entry has this tag.
     NotHeld,
+    /// The sender has an open reservation, which comes first.
+    OpenReservation,
+    /// The sender has no open reservation.
+    NoReservation,
     /// Consumption is stopped, and nothing was done.
     StillStopped,
     /// Behind a stop another command was handed in than the one at which it stopped.
@@ -72,6 +76,8 @@ impl Status {
             Status::ShortBuffer => 0x63,
             Status::NoMemory => 0x64,
             Status::NotHeld => 0x65,
+            Status::OpenReservation => 0x66,
+            Status::NoReservation => 0x67,
             Status::StillStopped => 0x70,
             Status::OtherCommand => 0x71,
             Status::Exhausted => 0x72,

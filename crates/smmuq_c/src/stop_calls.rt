@@ -49,7 +49,7 @@ fn acknowledge(object: &mut Object, gerrorn: u32, remedy: u32) -> Status
     match object {
         Object::Unit(unit) => unit.acknowledge(gerrorn, remedy),
         Object::Engine(seated) => seated.acknowledge(gerrorn, remedy.remedy()),
-        Object::Sender(_) | Object::Consumer(_) => Status::WrongHandle,
+        Object::Sender(_) | Object::Reservation(_) | Object::Consumer(_) => Status::WrongHandle,
     }
 }
 
@@ -85,6 +85,6 @@ fn tell_state(object: &Object, errors: &mut Errors, tallies: &mut Tallies) -> St
             *tallies = seated.tallies();
             Status::Done
         }
-        Object::Sender(_) | Object::Consumer(_) => Status::WrongHandle,
+        Object::Sender(_) | Object::Reservation(_) | Object::Consumer(_) => Status::WrongHandle,
     }
 }

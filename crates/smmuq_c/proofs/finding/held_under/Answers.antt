@@ -6,7 +6,7 @@ use Rattle.caches.specs.declared.tag.Entry.{Entry}
 use Rattle.caches.specs.Held.{Entries}
 use Rattle.caches.specs.TagOrder.{tag_cmp}
 use Rattle.smmuq_c.specs.declared.object.Object.{Object}
-use Rattle.smmuq_c.specs.declared.object.Object.TheVariants.{Sender as SenderOf, Consumer as ConsumerOf}
+use Rattle.smmuq_c.specs.declared.object.Object.TheVariants.{Sender as SenderOf, Reservation as ReservationOf, Consumer as ConsumerOf}
 use Rattle.smmuq_c.specs.Finding.{entries_of}
 use Rattle.smmuq_c.proofs.finding.held_under.Goals as goal
 
@@ -18,5 +18,6 @@ none_held object what tag is empty =
 pub returns-in-Sender : goal.returns-in-Sender
 returns-in-Sender c =
     ⊎_elim (λ sender. none_held c.args.object.now (SenderOf sender.0) c.args.tag.now sender.1 refl)
-    (λ consumer. none_held c.args.object.now (ConsumerOf consumer.0) c.args.tag.now consumer.1 refl)
+    (⊎_elim (λ open. none_held c.args.object.now (ReservationOf open.0) c.args.tag.now open.1 refl)
+    (λ consumer. none_held c.args.object.now (ConsumerOf consumer.0) c.args.tag.now consumer.1 refl))
     c.in-Sender.is

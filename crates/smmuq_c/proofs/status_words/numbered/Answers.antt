@@ -6,7 +6,7 @@ use Rattle.ring.specs.declared.sender.cause.Cause.TheVariants as cause
 use Rattle.ringcore.specs.declared.ring_fault.RingFault.TheVariants as ring
 use Rattle.engine.specs.declared.remedy.AckFault.TheVariants.{NoError, OtherBit}
 use Rattle.smmuq_c.specs.declared.status.Status.{Status}
-use Rattle.smmuq_c.specs.declared.status.Status.TheVariants.{Done, Illegal, Cache, Batch, Refused, Waiting, Ring, Acknowledgement, EmptyHandle, WrongHandle, BadField, ShortBuffer, NoMemory, NotHeld, StillStopped, OtherCommand, Exhausted, RingEmpty, RingDrained, RingUnwritten, Replaced}
+use Rattle.smmuq_c.specs.declared.status.Status.TheVariants.{Done, Illegal, Cache, Batch, Refused, Waiting, Ring, Acknowledgement, EmptyHandle, WrongHandle, BadField, ShortBuffer, NoMemory, NotHeld, OpenReservation, NoReservation, StillStopped, OtherCommand, Exhausted, RingEmpty, RingDrained, RingUnwritten, Replaced}
 use Rattle.smmuq_c.proofs.status_words.numbered.Goals as goal
 
 pub returns-in_default : goal.returns-in_default
@@ -42,6 +42,8 @@ returns-in_default c BadField is = omega arith
 returns-in_default c ShortBuffer is = omega arith
 returns-in_default c NoMemory is = omega arith
 returns-in_default c NotHeld is = omega arith
+returns-in_default c OpenReservation is = omega arith
+returns-in_default c NoReservation is = omega arith
 returns-in_default c StillStopped is = omega arith
 returns-in_default c OtherCommand is = omega arith
 returns-in_default c Exhausted is = omega arith

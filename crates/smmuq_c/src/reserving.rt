@@ -1,0 +1,74 @@
+//! The exports that reserve a batch and publish it by a later call.
+ghost use Rattle.std.specs.Prelude.{◌≡◌, ℕ, IfOk, IfErr};
+ghost use Rattle.smmuq_c.specs.declared.status.Status.TheVariants.{Done};
+ghost use Rattle.smmuq_c.specs.Calls.{HasCalled};
+ghost use Rattle.smmuq_c.specs.Reserving.{HasReserved, HasPublished};
+
+use crate::handle::{Handle, put, take};
+use crate::object::Object;
+use crate::status::Status;
+use cmdcodec::Raw;
+use core::mem::replace_with;
+use std::alloc::Global;
+
+/// Reserves the slots of a batch of 1 to 63 commands and its closing CMD_SYNC, by one try, and keeps the commands: nothing of
+/// it is written until it is published. B5, B1 or B2 where the commands are no batch; Q1 to Q5; `OPEN_RESERVATION` where the
+/// sender has one already.
+#[unsafe(no_mangle)]
+pub extern "C" fn smmuq_reserve(alloc: Global, sender: &mut Handle, commands: &[Raw]) -> u32
+    ensures { HasCalled (HasReserved commands.now) sender.old.object sender.new.object result }
+{
+    let Some(mut object) = take(alloc, sender) else {
+        return Status::EmptyHandle.number();
+    };
+    let status = replace_with(object.as_mut(), commands, reserve);
+    put(sender, object);
+    status.number()
+}
+
+fn reserve(object: Object, commands: &[Raw]) -> (Object, Status)
+    ensures { HasReserved commands.now object result.0 result.1 }
+{
+    match object {
+        Object::Sender(sender) => match sender.reserve(commands) {
+            Ok(reservation) => (Object::Reservation(reservation), Status::Done),
+            Err((sender, status)) => (Object::Sender(sender), status),
+        },
+        Object::Reservation(open) => (Object::Reservation(open), Status::OpenReservation),
+        other => (other, Status::WrongHandle),
+    }
+}
+
+/// Writes what the sender reserved and hands it over, and tells the number of its CMD_SYNC. `NO_RESERVATION` where nothing
+/// is reserved.
+#[unsafe(no_mangle)]
+pub extern "C" fn smmuq_publish(alloc: Global, sender: &mut Handle, number: &mut u32) -> u32
+    ensures { HasCalled (HasPublished number.new) sender.old.object sender.new.object result }
+{
+    let Some(mut object) = take(alloc, sender) else {
+        return Status::EmptyHandle.number();
+    };
+    let published = replace_with(object.as_mut(), (), publish);
+    put(sender, object);
+    match published {
+        Ok(told) => {
+            *number = told;
+            Status::Done.number()
+        }
+        Err(status) => status.number(),
+    }
+}
+
+fn publish(object: Object, _nothing: ()) -> (Object, Result<u32, Status>)
+    ensures published { IfOk result.1 (λ told. HasPublished told object result.0 Done) }
+    ensures refused { IfErr result.1 (λ status. (told : ℕ) → HasPublished told object result.0 status) }
+{
+    match object {
+        Object::Reservation(open) => {
+            let (sender, number) = open.publish();
+            (Object::Sender(sender), Ok(number))
+        }
+        Object::Sender(sender) => (Object::Sender(sender), Err(Status::NoReservation)),
+        other => (other, Err(Status::WrongHandle)),
+    }
+}

@@ -1,0 +1,66 @@
+//! A sender that has an open reservation, with its batch and its share of its own ring.
+ghost use Rattle.std.specs.Prelude.{◌≡◌};
+ghost use Rattle.std.specs.Arc.{arc_value};
+ghost use Rattle.smmuq_c.specs.Reserving.{IsPublished};
+
+use crate::seated_sender::SeatedSender;
+use batch::Batch;
+use ring::{Closing, Ring, UnboundReservation};
+use std::marker::Model;
+use std::sync::Arc;
+
+/// An open reservation with its batch and its ring. Where it is dropped it is handed over first, so that nothing is lost.
+pub(crate) struct SeatedReservation {
+    ring: Arc<Ring>,
+    batch: Batch,
+    reservation: UnboundReservation<Closing>,
+}
+
+impl Model for SeatedReservation {
+    ghost use Rattle.std.specs.Prelude.{◌≡◌};
+    ghost use Rattle.std.specs.Arc.{arc_value};
+    ghost use Rattle.ring.specs.sender.Reservations.{ReservationValue};
+
+    ghost Value = { ReservationValue };
+
+    ghost view = { λ s. s.reservation };
+
+    ghost invariant = { λ s. (s.reservation.ring ≡ arc_value s.ring) × (s.batch ≡ s.reservation.body) };
+}
+
+impl SeatedReservation {
+    pub(crate) fn new(
+        ring: Arc<Ring>,
+        batch: Batch,
+        reservation: UnboundReservation<Closing>,
+    ) -> SeatedReservation
+        requires ring { reservation.ring ≡ arc_value ring }
+        requires batch { batch ≡ reservation.body }
+        ensures { result ≡ reservation }
+    {
+        SeatedReservation {
+            ring,
+            batch,
+            reservation,
+        }
+    }
+
+    /// Writes the batch and hands it over: the sender, and the number of its CMD_SYNC.
+    pub(crate) fn publish(self) -> (SeatedSender, u32)
+        ensures { IsPublished result.1 self result.0 }
+    {
+        let SeatedReservation {
+            ring,
+            batch,
+            reservation,
+        } = self;
+        let (sender, receipt) = reservation.bind(&batch).publish(&ring);
+        (SeatedSender::new(ring, sender), receipt.number())
+    }
+}
+
+impl Drop for SeatedReservation {
+    fn drop(self) {
+        drop(self.publish());
+    }
+}
