@@ -151,6 +151,23 @@ static void misuse_a_ring(void) {
     WANT(smmuq_renew(4, 10, 16, senders, 2, &engine), SMMUQ_OK);
     WANT(smmuq_done_up_to(&senders[0], &number), SMMUQ_OK);
     WANT(number, 0);
+    WANT(smmuq_publish(&senders[0], &number), SMMUQ_NO_RESERVATION);
+    WANT(smmuq_publish(&engine, &number), SMMUQ_WRONG_HANDLE);
+    WANT(smmuq_reserve(&engine, words, 1), SMMUQ_WRONG_HANDLE);
+    WANT(smmuq_reserve(&senders[0], words, 0), SMMUQ_B5);
+    WANT(smmuq_reserve(&senders[0], words, 16), SMMUQ_Q4);
+    WANT(smmuq_reserve(&senders[0], words, 1), SMMUQ_OK);
+    WANT(smmuq_reserve(&senders[0], words, 1), SMMUQ_OPEN_RESERVATION);
+    WANT(smmuq_send(&senders[0], words, 1, 1, &number), SMMUQ_OPEN_RESERVATION);
+    WANT(smmuq_done_up_to(&senders[0], &number), SMMUQ_OPEN_RESERVATION);
+    WANT(smmuq_free(&senders[0]), SMMUQ_OPEN_RESERVATION);
+    WANT(smmuq_kind(&senders[0]), 2);
+    WANT(smmuq_send(&senders[1], words, 1, 1, &number), SMMUQ_OK); /* others go on, and are taken up to there */
+    WANT(smmuq_run(&engine, 64, &answer), SMMUQ_RING_UNWRITTEN);
+    WANT(smmuq_publish(&senders[0], &number), SMMUQ_OK);
+    WANT(number, 1);
+    WANT(smmuq_run(&engine, 64, &answer), SMMUQ_OK);
+    WANT(answer.count, 4);
     WANT(smmuq_close(&senders[1]), SMMUQ_OK);
     WANT(smmuq_send(&senders[0], words, 1, 1, &number), SMMUQ_Q1);
     WANT(smmuq_run(&engine, 64, &answer), SMMUQ_RING_DRAINED);

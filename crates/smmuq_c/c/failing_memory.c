@@ -226,6 +226,11 @@ static uint32_t send_bare(struct handles *handles) {
     return smmuq_send_bare(&handles->senders[1], &TLBI_NSNH_ALL, 1, 1);
 }
 
+static uint32_t reserve_and_publish(struct handles *handles) {
+    uint32_t number, status = smmuq_reserve(&handles->senders[1], &TLBI_NSNH_ALL, 1);
+    return status | smmuq_publish(&handles->senders[1], &number);
+}
+
 static uint32_t run(struct handles *handles) {
     smmuq_run_answer answer;
     return smmuq_run(&handles->engine, 64, &answer);
@@ -267,6 +272,7 @@ static const struct {
     {"smmuq_send", send, SMMUQ_OK, {0}},
     {"smmuq_send of 63 commands", send_of_63, SMMUQ_OK, {0}},
     {"smmuq_send_bare", send_bare, SMMUQ_OK, {0}},
+    {"smmuq_reserve and smmuq_publish", reserve_and_publish, SMMUQ_OK, {0}},
     {"smmuq_run", run, SMMUQ_OK, {0}},
     {"smmuq_take_run and smmuq_complete", take_and_complete, SMMUQ_OK, {0}},
     {"what tells without a change", tell, SMMUQ_OK, {0}},

@@ -9,7 +9,7 @@ use Rattle.caches.specs.Held.{Entries}
 use Rattle.engine.specs.Units.{UnitValue}
 use Rattle.smmuq_c.specs.declared.status.Status.{Status}
 use Rattle.smmuq_c.specs.declared.object.Object.{Object}
-use Rattle.smmuq_c.specs.declared.object.Object.TheVariants.{Unit as UnitOf, Sender as SenderOf, Engine as EngineOf, Consumer as ConsumerOf}
+use Rattle.smmuq_c.specs.declared.object.Object.TheVariants.{Unit as UnitOf, Sender as SenderOf, Reservation as ReservationOf, Engine as EngineOf, Consumer as ConsumerOf}
 use Rattle.smmuq_c.specs.declared.finding.Owner.{Owner}
 use Rattle.smmuq_c.specs.declared.finding.Owner.TheVariants.{S1, S2, El2, Atc}
 use Rattle.smmuq_c.specs.declared.tags.TagWords.{TagWords}
@@ -90,4 +90,5 @@ abbrev pub entries_of : Object → Entries
 entries_of (UnitOf u) = u.unit.caches.entries
 entries_of (SenderOf s) = finite.empty
 entries_of (EngineOf e) = e.unit.caches.entries
+entries_of (ReservationOf r) = finite.empty
 entries_of (ConsumerOf c) = finite.empty

@@ -34,7 +34,7 @@ fn reserve(object: Object, commands: &[Raw]) -> (Object, Status)
             Ok(reservation) => (Object::Reservation(reservation), Status::Done),
             Err((sender, status)) => (Object::Sender(sender), status),
         },
-        Object::Reservation(open) => (Object::Reservation(open), Status::OpenReservation),
+        Object::Reservation(seat) => (Object::Reservation(seat), Status::OpenReservation),
         other => (other, Status::WrongHandle),
     }
 }
@@ -64,8 +64,8 @@ fn publish(object: Object, _nothing: ()) -> (Object, Result<u32, Status>)
     ensures refused { IfErr result.1 (λ status. (told : ℕ) → HasPublished told object result.0 status) }
 {
     match object {
-        Object::Reservation(open) => {
-            let (sender, number) = open.publish();
+        Object::Reservation(seat) => {
+            let (sender, number) = seat.publish();
             (Object::Sender(sender), Ok(number))
         }
         Object::Sender(sender) => (Object::Sender(sender), Err(Status::NoReservation)),

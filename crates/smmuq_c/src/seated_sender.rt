@@ -49,7 +49,7 @@ impl SeatedSender {
         self,
         commands: &[Raw],
     ) -> Result<SeatedReservation, (SeatedSender, Status)>
-        ensures opened { IfOk result (λ open. IsOpened commands.now self open) }
+        ensures opened { IfOk result (λ reservation. IsOpened commands.now self reservation) }
         ensures refused { IfErr result (λ e. IsUnreserved commands.now self e.0 e.1) }
     {
         let batch = match Batch::from_raws(commands) {

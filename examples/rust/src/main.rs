@@ -30,7 +30,7 @@ unsafe impl Send for Owned {}
 
 impl Drop for Owned {
     fn drop(&mut self) {
-        unsafe { sys::smmuq_free(&mut self.0) }
+        let _ = unsafe { sys::smmuq_free(&mut self.0) };
     }
 }
 

@@ -40,7 +40,7 @@ pub const RING_DRAINED: u32 = 0x74;
 pub const RING_UNWRITTEN: u32 = 0x75;
 
 unsafe extern "C" {
-    pub fn smmuq_free(handle: *mut Handle);
+    pub fn smmuq_free(handle: *mut Handle) -> u32;
     pub fn smmuq_ring_new(
         log2: u32,
         max_batches: u32,

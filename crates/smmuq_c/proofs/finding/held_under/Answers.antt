@@ -18,6 +18,6 @@ none_held object what tag is empty =
 pub returns-in-Sender : goal.returns-in-Sender
 returns-in-Sender c =
     ⊎_elim (λ sender. none_held c.args.object.now (SenderOf sender.0) c.args.tag.now sender.1 refl)
-    (⊎_elim (λ open. none_held c.args.object.now (ReservationOf open.0) c.args.tag.now open.1 refl)
+    (⊎_elim (λ seat. none_held c.args.object.now (ReservationOf seat.0) c.args.tag.now seat.1 refl)
     (λ consumer. none_held c.args.object.now (ConsumerOf consumer.0) c.args.tag.now consumer.1 refl))
     c.in-Sender.is
