@@ -45,7 +45,8 @@ static const smmuq_words TLBI_NSNH_ALL = {0x30, 0}, UNKNOWN = {0xff, 0};
 
 static struct handles made(void) {
     struct handles handles = {
-        SMMUQ_EMPTY, SMMUQ_EMPTY, {SMMUQ_EMPTY, SMMUQ_EMPTY}, SMMUQ_EMPTY, SMMUQ_EMPTY, SMMUQ_EMPTY, {SMMUQ_EMPTY, SMMUQ_EMPTY, SMMUQ_EMPTY}};
+        SMMUQ_EMPTY, SMMUQ_EMPTY, {SMMUQ_EMPTY, SMMUQ_EMPTY}, SMMUQ_EMPTY, SMMUQ_EMPTY, SMMUQ_EMPTY,
+        {SMMUQ_EMPTY, SMMUQ_EMPTY, SMMUQ_EMPTY}};
     smmuq_verdict verdict;
     uint32_t number;
     if (smmuq_unit_new(4, &handles.unused) || smmuq_unit_new(4, &handles.unit) || smmuq_fill(&handles.unit, &FILLED, 7) ||
@@ -59,8 +60,9 @@ static struct handles made(void) {
 }
 
 static smmuq_handle *nth(struct handles *handles, size_t n) {
-    smmuq_handle *all[HANDLES] = {&handles->unit,     &handles->unused,   &handles->senders[0], &handles->senders[1], &handles->engine,
-                                  &handles->forwarded, &handles->consumer, &handles->empty[0],   &handles->empty[1],   &handles->empty[2]};
+    smmuq_handle *all[HANDLES] = {&handles->unit,     &handles->unused,    &handles->senders[0], &handles->senders[1],
+                                  &handles->engine,   &handles->forwarded, &handles->consumer,   &handles->empty[0],
+                                  &handles->empty[1], &handles->empty[2]};
     return all[n];
 }
 
@@ -84,12 +86,13 @@ static size_t describe(smmuq_handle *handle, char *text, size_t room) {
     uint32_t first = smmuq_lookup(handle, &FILLED, &held[0]), second = smmuq_lookup(handle, &OTHER, &held[1]);
     uint32_t engine = smmuq_registers(handle, &registers), looked = smmuq_look(handle, &control);
     uint32_t told = smmuq_done_up_to(handle, &number), taken = smmuq_take_run(handle, run, 8, &ready);
-    return (size_t)snprintf(text, room, "kind %u; %u %u %u %u %llu %llu; %u %zu; %u %llu %u %llu; %u %x %x; %u %x %x %u; %u %u; %u %zu %llx\n",
+    return (size_t)snprintf(text, room,
+                            "kind %u; %u %u %u %u %llu %llu; %u %zu; %u %llu %u %llu; %u %x %x; %u %x %x %u; %u %u; %u %zu %llx\n",
                             smmuq_kind(handle), state, errors.err, errors.gerror, errors.gerrorn,
                             (unsigned long long)tallies.applied, (unsigned long long)tallies.replaced, listed, count, first,
                             (unsigned long long)held[0].value, second, (unsigned long long)held[1].value, engine,
-                            registers.prod, registers.cons, looked, control.prod, control.cons, control.closed, told, number, taken,
-                            ready, (unsigned long long)run[0].lo);
+                            registers.prod, registers.cons, looked, control.prod, control.cons, control.closed, told, number,
+                            taken, ready, (unsigned long long)run[0].lo);
 }
 
 static void describe_all(struct handles *handles, char *text, size_t room) {
