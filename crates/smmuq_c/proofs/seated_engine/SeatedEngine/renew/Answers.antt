@@ -10,9 +10,9 @@ use Rattle.smmuq_c.proofs.seated_engine.SeatedEngine.renew.Goals as goal
 pub returns-clause-renewed : goal.returns-clause-renewed
 returns-clause-renewed c =
     let last = c.sees_waiting.new.engine in
-    let filled = c.fill_all.new.handles in
+    let filled = c.fill_senders.new.handles in
     subst (λ (old : EngineValue). IsRenewed c.args.sizes filled old c.drop-2.inside.engine) c.self.view_is
-    (subst (λ (new : EngineValue). IsRenewed c.args.sizes filled c.self.inside.engine new) (sym (c.drop-2.view_is ∙ c.new-2.ensures))
+    (subst (λ (new : EngineValue). IsRenewed c.args.sizes filled c.self.inside.engine new) (sym (c.drop-2.view_is ∙ c.new.ensures))
     (renewed c.args.sizes _ filled _ last _ c.in-Ok.queue.ring c.in-Ok.queue.senders.items _ c.sees_waiting.ensures.looked
     (subst (λ (r : RingValue). AreAtOnePlace (control r.made_with.geometry (world last.consumer.history))) (c.deref.ensures ∙ sym c.self.invariant.0) (c.if-sees_waiting.ensures.none refl))
-    c.is_settled.ensures.settled c.self.invariant.1 c.in-Ok.ensures.unused c.in-Ok.ensures.entries (search rules) c.fill_all.ensures.objects c.in-Ok-seat_all.ensures))
+    c.is_settled.ensures.settled c.self.invariant.1 c.in-Ok.ensures.unused c.in-Ok.ensures.entries (search rules) c.fill_senders.ensures.objects c.in-Ok-share.ensures.seats))
