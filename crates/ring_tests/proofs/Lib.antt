@@ -2,3 +2,4 @@ pub mod Legal
 pub mod WorkedRefusals
 pub mod WorkedTellings
 pub mod Kept
+pub mod Crossing

@@ -28,3 +28,5 @@ mod sender_tests;
 mod steps;
 #[cfg(test)]
 mod thread_tests;
+#[cfg(test)]
+mod unbound_tests;

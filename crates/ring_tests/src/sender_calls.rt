@@ -1,5 +1,5 @@
 //! Calls of a sender as words of a text, and what they answer: `send N` and, without a closing CMD_SYNC, `bare N` of a
-//! batch of N commands, `look`, `close` and `done`.
+//! batch of N commands, `look`, `close`, `done`, and `left`, how many batches it may still reserve.
 ghost use Rattle.std.specs.Prelude.{◌≡◌};
 
 use crate::batches::batch_of;
@@ -98,6 +98,10 @@ pub fn sender_answer(
         "done" => {
             let number = sender.done_up_to(ring);
             (sender, number.to_string(alloc).ok())
+        }
+        "left" => {
+            let left = sender.batches_left(ring);
+            (sender, left.to_string(alloc).ok())
         }
         "close" => {
             sender.close(ring);

@@ -55,6 +55,23 @@ fn as_many_batches_as_it_may(rt: HostRuntime) {
 }
 
 #[test]
+fn batches_left_with_a_bare_one(rt: HostRuntime) {
+    expect_answers(
+        &rt,
+        3,
+        2,
+        "left = 2\n\
+         bare 1 = sent\n\
+         left = 1\n\
+         send 1 = number 1\n\
+         left = 0\n\
+         send 1 = Q5\n\
+         bare 1 = Q5\n\
+         left = 0",
+    );
+}
+
+#[test]
 fn a_closed_ring_is_told_ahead_of_a_full_one(rt: HostRuntime) {
     expect_answers(
         &rt,
