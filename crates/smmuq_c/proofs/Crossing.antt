@@ -1,5 +1,4 @@
 -- What a handle owns may go to another thread.
-use denote.RattleType.{RattleType}
 use denote.Param.Send.{IsSend, sendable}
 use Rattle.std.proofs.Crossing.{crosses, send, sync}
 use Rattle.std.proofs.MapsCrossing as maps
@@ -7,8 +6,6 @@ use Rattle.atomic_table.proofs.shared.Seat.TheSendSync.{the_send as seat_send}
 use Rattle.atomic_table.proofs.shared.Shared.TheSendSync.{the_send as shared_send, the_sync as shared_sync}
 use Rattle.atomic_table.proofs.send_lease.SendLease.TheSendSync.{the_send as lease_send, the_sync as lease_sync}
 use Rattle.ring.proofs.Crossing.{consumer_send, ring_sync}
-use Rattle.ring.specs.declared.sender.batch_kind.BatchKind as kind
-use Rattle.ring.specs.contracts.sender.unbound_reservation.UnboundReservation as UnboundReservation
 use Rattle.ring.specs.contracts.ring.Ring as Ring
 use Rattle.engine.proofs.Crossing.{engine_send}
 use Rattle.smmuq_c.specs.contracts.held_unit.HeldUnit as HeldUnit
@@ -27,11 +24,8 @@ ring_send = search (sendable, send, sync, crosses, shared_send, shared_sync, lea
 pub sender_send : IsSend SeatedSender.the_row
 sender_send = search (sendable, crosses, send, sync, seat_send, ring_send, ring_sync) depth 60 fits 100000
 
-pub unbound_send : (K : RattleType) (g : kind.Ghosts K.Denot) → IsSend (UnboundReservation.the_row K g)
-unbound_send K g = search (sendable, crosses, seat_send) depth 60
-
 pub reservation_send : IsSend SeatedReservation.the_row
-reservation_send = search (sendable, crosses, send, sync, unbound_send, ring_send, ring_sync) depth 60 fits 100000
+reservation_send = search (sendable, crosses, send, sync, seat_send, ring_send, ring_sync) depth 60 fits 100000
 
 pub seated_send : IsSend SeatedEngine.the_row
 seated_send = search (sendable, crosses, send, sync, engine_send, ring_send, ring_sync) depth 60 fits 100000

@@ -7,9 +7,13 @@ use Rattle.ringcore.specs.declared.world.event.Who.TheVariants.{Sender as Sender
 use Rattle.ring.specs.table.Histories.{Grew}
 use Rattle.ring.specs.sender.Senders.{SenderValue, ReceiptValue}
 use Rattle.ring.specs.sender.Sending.{IsSent, IsSentBare}
-use Rattle.smmuq_c.specs.declared.status.Status.TheVariants.{Done}
+use Rattle.ring.specs.declared.sender.cause.Cause.{Cause}
+use Rattle.ring.specs.sender.Reservations.{ReservationValue}
+use Rattle.ring.specs.sender.Reserving.{IsReserved, IsRefused}
+use Rattle.smmuq_c.specs.declared.status.Status.TheVariants.{Done, Refused}
 use Rattle.smmuq_c.specs.Seats.{sender_in}
 use Rattle.smmuq_c.specs.Sends.{HasSent, HasSentBare, HasGrown, tries_of}
+use Rattle.smmuq_c.specs.Reserving.{IsOpened, IsUnreserved}
 
 pub unrefused : (refusal : Option BatchFault) (batch commands : List Raw) → Ok batch ≡ unless refusal commands → refusal ≡ None
 unrefused None batch commands e = cc
@@ -52,3 +56,30 @@ sent_bare commands tries {batch} {most} {sender} {own} {new} made most_is same i
   ),
   grew,
 )
+
+-- ---- a reservation that is kept
+
+pub opened : (commands : List Raw) {batch : List Raw} {sender own : SenderValue} {reservation new : ReservationValue}
+    → Ok batch ≡ unless (list_refusal commands) commands → sender ≡ own → new ≡ reservation → IsReserved batch true sender reservation
+    → Grew (SenderOf sender.number) sender.trail reservation.trail sender.history reservation.history → reservation.ring ≡ sender.ring
+    → reservation.sender ≡ sender.number → IsOpened commands own new
+opened commands {batch} {sender} {own} {reservation} {new} made same new_is reserved history ring number =
+    subst (λ (r : ReservationValue). IsOpened commands own r) (sym new_is) (subst (λ (s : SenderValue). IsOpened commands s reservation) same (record {
+      batch = unrefused (list_refusal commands) batch commands made;
+      reserved = subst (λ (b : List Raw). IsReserved b true sender reservation) (is_batch (list_refusal commands) batch commands made) reserved;
+      history = history;
+      ring_is = ring;
+      sender_is = number;
+    }))
+
+pub unreserved : (commands : List Raw) {batch : List Raw} {sender own back new : SenderValue} {cause : Cause}
+    → Ok batch ≡ unless (list_refusal commands) commands → sender ≡ own → new ≡ back → IsRefused batch true sender cause back → HasGrown own back
+    → IsUnreserved commands own new (Refused cause)
+unreserved commands {batch} {sender} {own} {back} {new} {cause} made same new_is refused grew =
+    subst (λ (s : SenderValue). IsUnreserved commands own s (Refused cause)) (sym new_is)
+    (
+      unrefused (list_refusal commands) batch commands made,
+      subst (λ (b : List Raw). IsRefused b true own cause back) (is_batch (list_refusal commands) batch commands made)
+          (subst (λ (s : SenderValue). IsRefused batch true s cause back) same refused),
+      grew,
+    )
