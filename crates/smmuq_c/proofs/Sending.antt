@@ -72,12 +72,11 @@ opened commands {batch} {sender} {own} {reservation} {new} made same new_is rese
       sender_is = number;
     }))
 
-pub unreserved : (commands : List Raw) {batch : List Raw} {sender own back new : SenderValue} {cause : Cause}
+pub unreserved : (commands : List Raw) (cause : Cause) {batch : List Raw} {sender own back new : SenderValue}
     → Ok batch ≡ unless (list_refusal commands) commands → sender ≡ own → new ≡ back → IsRefused batch true sender cause back → HasGrown own back
     → IsUnreserved commands own new (Refused cause)
-unreserved commands {batch} {sender} {own} {back} {new} {cause} made same new_is refused grew =
-    subst (λ (s : SenderValue). IsUnreserved commands own s (Refused cause)) (sym new_is)
-    (
+unreserved commands cause {batch} {sender} {own} {back} {new} made same new_is refused grew =
+    subst (λ (s : SenderValue). IsUnreserved commands own s (Refused cause)) (sym new_is) (
       unrefused (list_refusal commands) batch commands made,
       subst (λ (b : List Raw). IsRefused b true own cause back) (is_batch (list_refusal commands) batch commands made)
           (subst (λ (s : SenderValue). IsRefused batch true s cause back) same refused),

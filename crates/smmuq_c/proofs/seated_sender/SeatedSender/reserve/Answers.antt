@@ -11,4 +11,4 @@ pub returns-in-Err-reserve-clause-refused : goal.returns-in-Err-reserve-clause-r
 returns-in-Err-reserve-clause-refused c =
     let same : c.unwrap.result ≡ c.args.self = lent c.unwrap.ensures c.self.view_is in
     let e = c.in-Err-reserve.ensures in
-    unreserved c.args.commands.now c.in-Ok.ensures same c.new-in-Err-reserve.ensures e.refused (grown same e.history e.ring e.id)
+    unreserved c.args.commands.now c.in-Err-reserve.field-0.cause c.in-Ok.ensures same c.new-in-Err-reserve.ensures e.refused (grown same e.history e.ring e.id)
