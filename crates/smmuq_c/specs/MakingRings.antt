@@ -1,5 +1,5 @@
 -- A ring that is made: what stands in its handles.
-use Rattle.std.specs.Prelude.{◌≡◌, ◌-◌, ◌^◌, ℕ, min, List, length, map, reverse, Option, Some, ⊤}
+use Rattle.std.specs.Prelude.{◌≡◌, ◌-◌, ◌^◌, ℕ, min, List, length, map, reverse, Option, Some, None}
 use Rattle.std.specs.Global.{Box}
 use Rattle.caches.specs.declared.fault.CacheFault.TheVariants.{BadCapacity}
 use Rattle.ringcore.specs.RingFaults.{number_fault, IsNotMade}
@@ -54,13 +54,13 @@ IsRing is_taker log2 max_batches senders taker =
 -- why none is made
 abbrev pub IsNoRing : ℕ → ℕ → ℕ → Status → Type 0
 IsNoRing log2 senders max_batches (Ring fault) = IsNotMade (number_fault log2 senders max_batches) fault
-IsNoRing log2 senders max_batches NoMemory = ⊤
+IsNoRing log2 senders max_batches NoMemory = number_fault log2 senders max_batches ≡ None
 IsNoRing log2 senders max_batches other = ⊥
 
 -- why none is made with an engine
 abbrev pub IsNoEngineRing : ℕ → ℕ → ℕ → ℕ → Status → Type 0
 IsNoEngineRing log2 senders max_batches capacity (Cache BadCapacity) = ¬ IsCapacity capacity
-IsNoEngineRing log2 senders max_batches capacity other = IsNoRing log2 senders max_batches other
+IsNoEngineRing log2 senders max_batches capacity other = IsCapacity capacity × IsNoRing log2 senders max_batches other
 
 -- All handles hold what they are for; or all are as before, and this is why.
 abbrev pub HasMade : (List Handle → Option Object → Type 0) → (Status → Type 0) → List Handle → List Handle → Option Object → Option Object → Status → Type 0

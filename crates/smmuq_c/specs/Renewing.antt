@@ -1,5 +1,7 @@
 -- What a renewal of a ring does to its engine, and to the handles of its senders.
-use Rattle.std.specs.Prelude.{◌≡◌, ℕ, List, Some, ⊤}
+use Rattle.std.specs.Prelude.{◌≡◌, ◌≤◌, ℕ, List, Some, None}
+use Rattle.std.specs.FinMap as finite
+use Rattle.ringcore.specs.RingFaults.{number_fault}
 use Rattle.ringcore.specs.world.World.{world, control}
 use Rattle.ring.specs.consumer.Consumers.{ConsumerValue}
 use Rattle.ring.specs.consumer.Completing.{taken_of}
@@ -11,7 +13,7 @@ use Rattle.renewal.specs.declared.fault.RenewalFault.TheVariants as fault
 use Rattle.renewal.specs.declared.queue.Sizes.{Sizes}
 use Rattle.renewal.specs.Queues.{EngineHasLooked, AreAtOnePlace, SawWaiting}
 use Rattle.renewal.specs.Carried.{IsCarried}
-use Rattle.renewal.specs.Renewing.{IsUnmade}
+use Rattle.renewal.specs.Renewing.{IsCapacity, IsUnmade}
 use Rattle.smmuq_c.specs.declared.status.Status.{Status}
 use Rattle.smmuq_c.specs.declared.status.Status.TheVariants.{Done, Cache, Ring, Waiting, NoMemory}
 use Rattle.smmuq_c.specs.declared.object.Object.{Object}
@@ -43,7 +45,8 @@ pub record IsRenewed (sizes : Sizes) (senders : List Handle) (old new : EngineVa
 abbrev pub IsNotRenewed : Sizes → ℕ → EngineValue → Status → Type 0
 IsNotRenewed sizes senders old (Ring why) = IsUnmade sizes senders old.unit.caches.entries (fault.Ring why)
 IsNotRenewed sizes senders old (Cache why) = IsUnmade sizes senders old.unit.caches.entries (fault.Caches why)
-IsNotRenewed sizes senders old NoMemory = ⊤
+IsNotRenewed sizes senders old NoMemory =
+    IsCapacity sizes.capacity × (number_fault sizes.log2 senders sizes.max_batches ≡ None) × (finite.len old.unit.caches.entries ≤ sizes.capacity)
 IsNotRenewed sizes senders old other = ⊥
 
 -- It is renewed; or the engine has looked and goes on, and all handles are as before: since a command waits, by that look, or
@@ -52,4 +55,4 @@ abbrev pub HasRenewed : Sizes → List Handle → List Handle → EngineValue �
 HasRenewed sizes old_senders senders old new Done = IsRenewed sizes senders old new
 HasRenewed sizes old_senders senders old new Waiting = EngineHasLooked old new × SawWaiting new.consumer.trail × (senders ≡ old_senders)
 HasRenewed sizes old_senders senders old new status =
-    EngineHasLooked old new × IsNotRenewed sizes (sender_count old_senders) old status × (senders ≡ old_senders)
+    EngineHasLooked old new × (¬ SawWaiting new.consumer.trail) × IsNotRenewed sizes (sender_count old_senders) old status × (senders ≡ old_senders)
