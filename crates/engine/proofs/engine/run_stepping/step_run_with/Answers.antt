@@ -9,8 +9,11 @@ use Rattle.engine.specs.Stops.{StopValue}
 use Rattle.engine.specs.Units.{UnitValue, IsSettledUnit, AreApplied}
 use Rattle.engine.proofs.Counted.{StaysCounted, run_counted, replaced_counted, run_removes, stopped_removes, replaced_removes}
 use Rattle.engine.proofs.Stepping.{still_none, still_unwritten, taken_before, taken_settled, taken_unit, taken_together, stopped_together, applied_more, replaced_more}
-use Rattle.engine.proofs.Running.{all_applied, all_legal, all_settled, all_counted, none_kept, first_is, first_and_rest, take_first, first_replaced, get_behind_first, length_behind_first}
+use Rattle.engine.proofs.Running.{all_applied, all_legal, all_settled, all_counted, none_kept, has_first, first_is, first_and_rest, take_first, first_replaced, get_behind_first, length_behind_first}
 use Rattle.engine.proofs.engine.run_stepping.step_run_with.Goals as goal
+
+pub unwrap-requires : goal.unwrap-requires
+unwrap-requires c = has_first c.in-Ready.run'.raws _ c.get.ensures c.in-Ready.ensures.taken.some
 
 pub judge-requires-clause-next : goal.judge-requires-clause-next
 judge-requires-clause-next c awaited is =
