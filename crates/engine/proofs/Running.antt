@@ -1,5 +1,5 @@
 -- What commands that are applied one after another leave.
-use Rattle.std.proofs.Common.{◌≡◌, ◌+◌, ◌≤◌, ℕ, zero, suc, List, [], ◌∷◌, ◌++◌, length, Some, None, refl, sym, ap, subst, ◌∙◌, arith, length-append}
+use Rattle.std.proofs.Common.{◌≡◌, ◌+◌, ◌≤◌, ℕ, zero, suc, List, [], ◌∷◌, ◌++◌, length, Option, Some, None, IsSome, refl, sym, ap, subst, ◌∙◌, arith, length-append}
 use Rattle.std.proofs.lemmas.List.{append_assoc}
 use Rattle.std.proofs.lemmas.Option.{slice_get_within}
 use Rattle.std.specs.Prelude.{slice_get, take, drop}
@@ -101,6 +101,10 @@ pub none_behind : {A P : Type 0} (xs : List A) (n : ℕ) (x : A) → n ≡ lengt
 none_behind xs n x end at = let low = slice_get_within xs n x at in absurd (omega (arith, low, end))
 
 -- ---- the first of a list
+
+pub has_first : {A : Type 0} (xs : List A) (o : Option A) → o ≡ slice_get xs 0 → 1 ≤ length xs → IsSome o
+has_first [] o is some = absurd (omega (arith, some))
+has_first (x ∷ xs) o is some = subst IsSome (sym is) refl
 
 pub first_and_rest : {A : Type 0} (xs : List A) (x : A) → slice_get xs 0 ≡ Some x → xs ≡ x ∷ drop 1 xs
 first_and_rest [] x at = absurd (cc)

@@ -9,8 +9,11 @@ use Rattle.engine.specs.Stops.{StopValue}
 use Rattle.engine.specs.Units.{UnitValue, IsSettledUnit, AreApplied}
 use Rattle.engine.proofs.Counted.{StaysCounted, run_counted, replaced_counted, run_removes, stopped_removes, replaced_removes}
 use Rattle.engine.proofs.Stepping.{still_none, still_unwritten, taken_before, taken_settled, taken_unit, taken_together, stopped_together, applied_more, replaced_more}
-use Rattle.engine.proofs.Running.{all_applied, all_legal, all_settled, all_counted, none_kept, first_is, first_and_rest, take_first, first_replaced, get_behind_first, length_behind_first}
+use Rattle.engine.proofs.Running.{all_applied, all_legal, all_settled, all_counted, none_kept, has_first, first_is, first_and_rest, take_first, first_replaced, get_behind_first, length_behind_first}
 use Rattle.engine.proofs.engine.run_stepping.step_run_with.Goals as goal
+
+pub unwrap-requires : goal.unwrap-requires
+unwrap-requires c = has_first c.in-Ready.run'.raws _ c.get.ensures c.in-Ready.ensures.taken.some
 
 pub judge-requires-clause-next : goal.judge-requires-clause-next
 judge-requires-clause-next c awaited is =
@@ -31,6 +34,12 @@ applied : (c : goal.After-apply_rest-more)
 applied c =
     all_applied c.in-Ready.run'.raws c.unwrap.result _ _ _ _ _ _ _ (sym c.get.ensures ∙ c.unwrap.ensures) c.in-Applied.ensures.judged c.apply_rest-more.ensures.applied
 
+pub complete_run-requires-clause-most : goal.complete_run-requires-clause-most
+complete_run-requires-clause-most c =
+    let inside = c.apply_rest-more.ensures.within in
+    let behind = length_behind_first c.in-Ready.run'.raws c.in-Ready.ensures.taken.some in
+    omega (arith, inside, behind)
+
 pub complete_run-requires-clause-outcome : goal.complete_run-requires-clause-outcome
 complete_run-requires-clause-outcome c = all_legal _ _ _ _ (applied c)
 
@@ -43,10 +52,7 @@ returns-in-Applied-clause-stepped c = record {
   pending = c.in-Ready.run';
   read = c.in-Ready.ensures.taken;
   some = omega arith;
-  within =
-      let inside = c.apply_rest-more.ensures.within in
-      let behind = length_behind_first c.in-Ready.run'.raws c.in-Ready.ensures.taken.some in
-      omega (arith, inside, behind);
+  within = complete_run-requires-clause-most c.before;
   applied = applied c.before;
   longest = λ raw at. c.apply_rest-more.ensures.longest raw (sym (get_behind_first c.in-Ready.run'.raws c.apply_rest-more.result.0) ∙ at);
   completed_are = c.complete_run.ensures.consumer;
@@ -61,7 +67,13 @@ returns-in-Applied-clause-together c =
     (run_counted _ _ _ _ (applied c.before))
     (none_kept _ _ _ _ c.apply_rest-more.ensures.applied (ap (λ (s : StopValue). s.next) c.in-Applied.ensures.judged.stop))
 
+pub returns-in-Applied-clause-history : goal.returns-in-Applied-clause-history
+returns-in-Applied-clause-history c = c.growth_adds_up.ensures.sum _ _ _ _ _ _ _ c.in-Ready.ensures.taken.grew c.complete_run.ensures.history
+
 -- ---- the first was replaced
+
+pub complete_run-requires-in-Replaced-clause-most : goal.complete_run-requires-in-Replaced-clause-most
+complete_run-requires-in-Replaced-clause-most c = c.in-Ready.ensures.taken.some
 
 pub complete_run-requires-in-Replaced-clause-outcome : goal.complete_run-requires-in-Replaced-clause-outcome
 complete_run-requires-in-Replaced-clause-outcome c = first_replaced c.in-Ready.run'.raws c.unwrap.result _ (sym c.get.ensures ∙ c.unwrap.ensures) c.in-Replaced.ensures.judged.first
@@ -75,6 +87,11 @@ replaced c =
 pub complete_run-requires-in-Replaced-clause-settled : goal.complete_run-requires-in-Replaced-clause-settled
 complete_run-requires-in-Replaced-clause-settled c = replaced c
 
+pub returns-in-Replaced-clause-stepped : goal.returns-in-Replaced-clause-stepped
+returns-in-Replaced-clause-stepped c =
+    let raws = first_and_rest c.in-Ready.run'.raws c.unwrap.result (sym c.get.ensures ∙ c.unwrap.ensures) in
+    (c.in-Ready.run', c.unwrap.result, record { read = c.in-Ready.ensures.taken; rest = drop 1 c.in-Ready.run'.raws; raws_are = raws }, c.in-Replaced.ensures.judged, c.complete_run-in-Replaced.ensures.consumer)
+
 pub returns-in-Replaced-clause-together : goal.returns-in-Replaced-clause-together
 returns-in-Replaced-clause-together c =
     let raws : List Raw = take 1 c.in-Ready.run'.raws in
@@ -87,6 +104,9 @@ returns-in-Replaced-clause-together c =
     (subst (λ (xs : List Raw). StaysCounted c.args.unit.now c.judge.new.self (map (with_outcome Replaced) xs)) (sym (take_first c.in-Ready.run'.raws c.unwrap.result (sym c.get.ensures ∙ c.unwrap.ensures)))
     (replaced_counted _ _ _ _ c.in-Replaced.ensures.judged))
     (ap (λ (u : UnitValue). u.stop.next) c.in-Replaced.ensures.judged.new_is)
+
+pub returns-in-Replaced-clause-history : goal.returns-in-Replaced-clause-history
+returns-in-Replaced-clause-history c = c.growth_adds_up.ensures.sum _ _ _ _ _ _ _ c.in-Ready.ensures.taken.grew c.complete_run-in-Replaced.ensures.history
 
 -- ---- it stopped at the first
 

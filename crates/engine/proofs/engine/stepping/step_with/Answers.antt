@@ -43,6 +43,12 @@ pub returns-in-Stopped-clause-together : goal.returns-in-Stopped-clause-together
 returns-in-Stopped-clause-together c =
     stopped_together _ _ c.requires.together 1 _ c.in-Ready.ensures.taken _ _ _ _ _ c.raw.ensures c.put_back.ensures.consumer c.put_back.ensures.seen c.in-Stopped.ensures.judged
 
+pub returns-in-Applied-clause-history : goal.returns-in-Applied-clause-history
+returns-in-Applied-clause-history c = c.growth_adds_up.ensures.sum _ _ _ _ _ _ _ c.in-Ready.ensures.taken.grew c.complete.ensures.history
+
+pub returns-in-Replaced-clause-history : goal.returns-in-Replaced-clause-history
+returns-in-Replaced-clause-history c = c.growth_adds_up.ensures.sum _ _ _ _ _ _ _ c.in-Ready.ensures.taken.grew c.complete-in-Replaced.ensures.history
+
 pub returns-in-Applied-clause-removes : goal.returns-in-Applied-clause-removes
 returns-in-Applied-clause-removes c = applied_removes _ _ _ _ _ c.in-Applied.ensures.judged
 
