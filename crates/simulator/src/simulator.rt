@@ -106,6 +106,7 @@ impl Simulator {
         ensures opened { OnOk result (HasOpen self.new sender true) }
         ensures ring { ring_in self.new.queue ≡ ring_in self.old.queue }
     {
+        // For its clause `body`: a batch has a command.
         batch.len();
         self.queue.reserve(sender, batch, closes)
     }

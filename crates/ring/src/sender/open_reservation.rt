@@ -141,6 +141,7 @@ impl<'b, K: BatchKind> OpenReservation<'b, K> {
         ensures id { result.number ≡ self.entry.sender }
         ensures batches { ReservesNone self.entry.trail result.trail }
     {
+        // For its clauses `few` and `fits`: two flag words hold all flags of a batch.
         self.len();
         let mut reservation = self.write_left(ring);
         reservation.flip_left(ring);

@@ -39,8 +39,8 @@ module _ (ring : Ring) (run : Run) (words : List ℕ) (is : AreAfter ring run wo
   i = sound ring run is.run_is
 
   -- an event that leaves the world as it was
-  pub quiet : (who : Who) (e : Event) → Allowed ring w (trail_of who run) who e → IsShadow ring words (after w who e) → AreAfter ring ((who, e) ∷ run) words
-  quiet who e a shadow = record { geometry_is = is.geometry_is; flags_are = is.flags_are; run_is = (is.run_is, a); shadow = shadow }
+  pub words_unmoved_by_others : (who : Who) (e : Event) → Allowed ring w (trail_of who run) who e → IsShadow ring words (after w who e) → AreAfter ring ((who, e) ∷ run) words
+  words_unmoved_by_others who e a shadow = record { geometry_is = is.geometry_is; flags_are = is.flags_are; run_is = (is.run_is, a); shadow = shadow }
 
   same : IsShadow ring words w
   same = is.shadow
@@ -54,11 +54,11 @@ module _ (ring : Ring) (run : Run) (words : List ℕ) (is : AreAfter ring run wo
       subst (IsControlWord g) (sym is.shadow.control_is) (said g (control g w) (is_control queue ring is.geometry_is run is.run_is)).is_control_word
 
   pub look : WordsSayTheirControl → QueuesHaveAControl → (who : Who) → AreAfter ring ((who, Look (control_in g (slice_index words control_word))) ∷ run) words
-  look said queue Consumer = quiet Consumer (Look (control_in g (slice_index words control_word))) (found_is said queue) same
-  look said queue (Sender s) = quiet (Sender s) (Look (control_in g (slice_index words control_word))) (found_is said queue) same
+  look said queue Consumer = words_unmoved_by_others Consumer (Look (control_in g (slice_index words control_word))) (found_is said queue) same
+  look said queue (Sender s) = words_unmoved_by_others (Sender s) (Look (control_in g (slice_index words control_word))) (found_is said queue) same
 
   pub ask : (s : ℕ) → s < ring.senders → AreAfter ring ((Sender s, Ask (slice_index words (cell g s))) ∷ run) words
-  ask s there = quiet (Sender s) (Ask (slice_index words (cell g s))) (is.shadow.cells s there) same
+  ask s there = words_unmoved_by_others (Sender s) (Ask (slice_index words (cell g s))) (is.shadow.cells s there) same
 
   pub start : StartsWhereItLooked ring run words
   start = starts_there ring run is.run_is
@@ -125,7 +125,7 @@ module _ (ring : Ring) (run : Run) (words : List ℕ) (is : AreAfter ring run wo
         tries = a;
         found_is = found_is said queue;
         other = λ e. other (is.shadow.control_is ∙ ap packed (sym (found_is said queue) ∙ e));
-      } in quiet (Sender s) (Lost body closes found) may same
+      } in words_unmoved_by_others (Sender s) (Lost body closes found) may same
 
   pub close : QueuesHaveAControl → OrCloses → (s : ℕ)
       → AreAfter ring ((Sender s, Close) ∷ run) (slice_set words control_word (bit_or (slice_index words control_word) close_mask))

@@ -58,8 +58,8 @@ acknowledged_more w sender number a i t k some up = by_sender (t == sender) refl
         ]
 
 -- An event that leaves what is reserved, taken and acknowledged leaves this.
-quiet : (w v : World) → v.reserved ≡ w.reserved → v.taken ≡ w.taken → v.acknowledged ≡ w.acknowledged → AllTaken w → AllTaken v
-quiet w v r t a i s k some up =
+all_taken_unmoved_by_others : (w v : World) → v.reserved ≡ w.reserved → v.taken ≡ w.taken → v.acknowledged ≡ w.acknowledged → AllTaken w → AllTaken v
+all_taken_unmoved_by_others w v r t a i s k some up =
     let was = i s k some (subst (λ (f : ℕ → ℕ). k ≤ f s) a up) in record {
       position = was.position;
       place = was.place;
@@ -67,30 +67,30 @@ quiet w v r t a i s k some up =
       there = ap (λ l. slice_get l was.position) r ∙ was.there;
     }
 
-grows : (ring : Ring) (w : World) (mine : Trail) (who : Who) (e : Event) → Allowed ring w mine who e → AllTaken w → AllTaken (after w who e)
-grows ring w mine Consumer (Look found) a i = quiet w (after w Consumer (Look found)) refl refl refl i
-grows ring w mine Consumer (Won body number) a i = absurd a
-grows ring w mine Consumer (Lost body closes found) a i = absurd a
-grows ring w mine Consumer (Write offset half) a i = absurd a
-grows ring w mine Consumer (Flip offset count) a i = absurd a
-grows ring w mine Consumer (Test limit found) a i = quiet w (after w Consumer (Test limit found)) refl refl refl i
-grows ring w mine Consumer (Read offset half word) a i = quiet w (after w Consumer (Read offset half word)) refl refl refl i
-grows ring w mine Consumer (Advance raws) a i = taken_more w raws i
-grows ring w mine Consumer Close a i = absurd a
-grows ring w mine Consumer (Acknowledge sender number) a i = acknowledged_more w sender number a i
-grows ring w mine Consumer (Ask found) a i = absurd a
-grows ring w mine (Sender s) (Look found) a i = quiet w (after w (Sender s) (Look found)) refl refl refl i
-grows ring w mine (Sender s) (Won body number) a i = reserved_more w s body number i
-grows ring w mine (Sender s) (Lost body closes found) a i = quiet w (after w (Sender s) (Lost body closes found)) refl refl refl i
-grows ring w mine (Sender s) (Write offset half) a i = quiet w (after w (Sender s) (Write offset half)) refl refl refl i
-grows ring w mine (Sender s) (Flip offset count) a i = quiet w (after w (Sender s) (Flip offset count)) refl refl refl i
-grows ring w mine (Sender s) (Test limit found) a i = absurd a
-grows ring w mine (Sender s) (Read offset half word) a i = absurd a
-grows ring w mine (Sender s) (Advance raws) a i = absurd a
-grows ring w mine (Sender s) Close a i = quiet w (after w (Sender s) Close) refl refl refl i
-grows ring w mine (Sender s) (Acknowledge sender number) a i = absurd a
-grows ring w mine (Sender s) (Ask found) a i = quiet w (after w (Sender s) (Ask found)) refl refl refl i
+all_taken_after_event : (ring : Ring) (w : World) (mine : Trail) (who : Who) (e : Event) → Allowed ring w mine who e → AllTaken w → AllTaken (after w who e)
+all_taken_after_event ring w mine Consumer (Look found) a i = all_taken_unmoved_by_others w (after w Consumer (Look found)) refl refl refl i
+all_taken_after_event ring w mine Consumer (Won body number) a i = absurd a
+all_taken_after_event ring w mine Consumer (Lost body closes found) a i = absurd a
+all_taken_after_event ring w mine Consumer (Write offset half) a i = absurd a
+all_taken_after_event ring w mine Consumer (Flip offset count) a i = absurd a
+all_taken_after_event ring w mine Consumer (Test limit found) a i = all_taken_unmoved_by_others w (after w Consumer (Test limit found)) refl refl refl i
+all_taken_after_event ring w mine Consumer (Read offset half word) a i = all_taken_unmoved_by_others w (after w Consumer (Read offset half word)) refl refl refl i
+all_taken_after_event ring w mine Consumer (Advance raws) a i = taken_more w raws i
+all_taken_after_event ring w mine Consumer Close a i = absurd a
+all_taken_after_event ring w mine Consumer (Acknowledge sender number) a i = acknowledged_more w sender number a i
+all_taken_after_event ring w mine Consumer (Ask found) a i = absurd a
+all_taken_after_event ring w mine (Sender s) (Look found) a i = all_taken_unmoved_by_others w (after w (Sender s) (Look found)) refl refl refl i
+all_taken_after_event ring w mine (Sender s) (Won body number) a i = reserved_more w s body number i
+all_taken_after_event ring w mine (Sender s) (Lost body closes found) a i = all_taken_unmoved_by_others w (after w (Sender s) (Lost body closes found)) refl refl refl i
+all_taken_after_event ring w mine (Sender s) (Write offset half) a i = all_taken_unmoved_by_others w (after w (Sender s) (Write offset half)) refl refl refl i
+all_taken_after_event ring w mine (Sender s) (Flip offset count) a i = all_taken_unmoved_by_others w (after w (Sender s) (Flip offset count)) refl refl refl i
+all_taken_after_event ring w mine (Sender s) (Test limit found) a i = absurd a
+all_taken_after_event ring w mine (Sender s) (Read offset half word) a i = absurd a
+all_taken_after_event ring w mine (Sender s) (Advance raws) a i = absurd a
+all_taken_after_event ring w mine (Sender s) Close a i = all_taken_unmoved_by_others w (after w (Sender s) Close) refl refl refl i
+all_taken_after_event ring w mine (Sender s) (Acknowledge sender number) a i = absurd a
+all_taken_after_event ring w mine (Sender s) (Ask found) a i = all_taken_unmoved_by_others w (after w (Sender s) (Ask found)) refl refl refl i
 
 pub acknowledged : (ring : Ring) (run : Run) → IsRun ring run → AcknowledgedAreTaken run
 acknowledged ring [] ok = λ s k some up. absurd (omega (arith, some, up))
-acknowledged ring (x ∷ xs) ok = grows ring (world xs) (trail_of x.0 xs) x.0 x.1 ok.1 (acknowledged ring xs ok.0)
+acknowledged ring (x ∷ xs) ok = all_taken_after_event ring (world xs) (trail_of x.0 xs) x.0 x.1 ok.1 (acknowledged ring xs ok.0)

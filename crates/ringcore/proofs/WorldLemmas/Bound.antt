@@ -63,10 +63,10 @@ same_made : (v : Bool) (e : Event) (t : Trail) → batches_made (e ∷ t) ≡ ba
 same_made true e t is = is
 same_made false e t is = refl
 
-quiet : (ring : Ring) (senders : ℕ) (who : Who) (e : Event) (xs : Run) → tail (world ((who, e) ∷ xs)) ≡ tail (world xs)
+bound_unmoved_by_others : (ring : Ring) (senders : ℕ) (who : Who) (e : Event) (xs : Run) → tail (world ((who, e) ∷ xs)) ≡ tail (world xs)
     → ((t : Trail) → batches_made (e ∷ t) ≡ batches_made t) → IsBound ring senders xs → IsBound ring senders ((who, e) ∷ xs)
 unfolding made
-quiet ring senders who e xs same_tail same_count i =
+bound_unmoved_by_others ring senders who e xs same_tail same_count i =
     let each : (s : ℕ) → made ((who, e) ∷ xs) s ≡ made xs s = (λ s. same_made (same (Sender s) who) e (trail_of (Sender s) xs) (same_count (trail_of (Sender s) xs))) in
     let all = i.all in
     let sum = total_same senders (made ((who, e) ∷ xs)) (made xs) (λ s less. each s) in
@@ -97,35 +97,35 @@ reserves ring senders s body number xs one a i =
       all = omega (arith, sum, fits, grown, many, all);
     }
 
-grows : (ring : Ring) (senders : ℕ) (who : Who) (e : Event) (xs : Run) → IsOne senders who → Allowed ring (world xs) (trail_of who xs) who e
+bound_after_event : (ring : Ring) (senders : ℕ) (who : Who) (e : Event) (xs : Run) → IsOne senders who → Allowed ring (world xs) (trail_of who xs) who e
     → IsBound ring senders xs → IsBound ring senders ((who, e) ∷ xs)
-grows ring senders Consumer (Look found) xs one a i = quiet ring senders Consumer (Look found) xs refl (λ t. refl) i
-grows ring senders Consumer (Won body number) xs one a i = absurd a
-grows ring senders Consumer (Lost body closes found) xs one a i = absurd a
-grows ring senders Consumer (Write offset half) xs one a i = absurd a
-grows ring senders Consumer (Flip offset count) xs one a i = absurd a
-grows ring senders Consumer (Test limit found) xs one a i = quiet ring senders Consumer (Test limit found) xs refl (λ t. refl) i
-grows ring senders Consumer (Read offset half word) xs one a i = quiet ring senders Consumer (Read offset half word) xs refl (λ t. refl) i
-grows ring senders Consumer (Advance raws) xs one a i = quiet ring senders Consumer (Advance raws) xs refl (λ t. refl) i
-grows ring senders Consumer Close xs one a i = absurd a
-grows ring senders Consumer (Acknowledge sender number) xs one a i = quiet ring senders Consumer (Acknowledge sender number) xs refl (λ t. refl) i
-grows ring senders Consumer (Ask found) xs one a i = absurd a
-grows ring senders (Sender s) (Look found) xs one a i = quiet ring senders (Sender s) (Look found) xs refl (λ t. refl) i
-grows ring senders (Sender s) (Won body number) xs one a i = reserves ring senders s body number xs one a i
-grows ring senders (Sender s) (Lost body closes found) xs one a i = quiet ring senders (Sender s) (Lost body closes found) xs refl (λ t. refl) i
-grows ring senders (Sender s) (Write offset half) xs one a i = quiet ring senders (Sender s) (Write offset half) xs refl (λ t. refl) i
-grows ring senders (Sender s) (Flip offset count) xs one a i = quiet ring senders (Sender s) (Flip offset count) xs refl (λ t. refl) i
-grows ring senders (Sender s) (Test limit found) xs one a i = absurd a
-grows ring senders (Sender s) (Read offset half word) xs one a i = absurd a
-grows ring senders (Sender s) (Advance raws) xs one a i = absurd a
-grows ring senders (Sender s) Close xs one a i = quiet ring senders (Sender s) Close xs refl (λ t. refl) i
-grows ring senders (Sender s) (Acknowledge sender number) xs one a i = absurd a
-grows ring senders (Sender s) (Ask found) xs one a i = quiet ring senders (Sender s) (Ask found) xs refl (λ t. refl) i
+bound_after_event ring senders Consumer (Look found) xs one a i = bound_unmoved_by_others ring senders Consumer (Look found) xs refl (λ t. refl) i
+bound_after_event ring senders Consumer (Won body number) xs one a i = absurd a
+bound_after_event ring senders Consumer (Lost body closes found) xs one a i = absurd a
+bound_after_event ring senders Consumer (Write offset half) xs one a i = absurd a
+bound_after_event ring senders Consumer (Flip offset count) xs one a i = absurd a
+bound_after_event ring senders Consumer (Test limit found) xs one a i = bound_unmoved_by_others ring senders Consumer (Test limit found) xs refl (λ t. refl) i
+bound_after_event ring senders Consumer (Read offset half word) xs one a i = bound_unmoved_by_others ring senders Consumer (Read offset half word) xs refl (λ t. refl) i
+bound_after_event ring senders Consumer (Advance raws) xs one a i = bound_unmoved_by_others ring senders Consumer (Advance raws) xs refl (λ t. refl) i
+bound_after_event ring senders Consumer Close xs one a i = absurd a
+bound_after_event ring senders Consumer (Acknowledge sender number) xs one a i = bound_unmoved_by_others ring senders Consumer (Acknowledge sender number) xs refl (λ t. refl) i
+bound_after_event ring senders Consumer (Ask found) xs one a i = absurd a
+bound_after_event ring senders (Sender s) (Look found) xs one a i = bound_unmoved_by_others ring senders (Sender s) (Look found) xs refl (λ t. refl) i
+bound_after_event ring senders (Sender s) (Won body number) xs one a i = reserves ring senders s body number xs one a i
+bound_after_event ring senders (Sender s) (Lost body closes found) xs one a i = bound_unmoved_by_others ring senders (Sender s) (Lost body closes found) xs refl (λ t. refl) i
+bound_after_event ring senders (Sender s) (Write offset half) xs one a i = bound_unmoved_by_others ring senders (Sender s) (Write offset half) xs refl (λ t. refl) i
+bound_after_event ring senders (Sender s) (Flip offset count) xs one a i = bound_unmoved_by_others ring senders (Sender s) (Flip offset count) xs refl (λ t. refl) i
+bound_after_event ring senders (Sender s) (Test limit found) xs one a i = absurd a
+bound_after_event ring senders (Sender s) (Read offset half word) xs one a i = absurd a
+bound_after_event ring senders (Sender s) (Advance raws) xs one a i = absurd a
+bound_after_event ring senders (Sender s) Close xs one a i = bound_unmoved_by_others ring senders (Sender s) Close xs refl (λ t. refl) i
+bound_after_event ring senders (Sender s) (Acknowledge sender number) xs one a i = absurd a
+bound_after_event ring senders (Sender s) (Ask found) xs one a i = bound_unmoved_by_others ring senders (Sender s) (Ask found) xs refl (λ t. refl) i
 
 is_bound : (ring : Ring) (senders : ℕ) (run : Run) → OnlyOf senders run → IsRun ring run → IsBound ring senders run
 unfolding total made
 is_bound ring senders [] only ok = record { each = λ s. omega arith; all = omega arith }
-is_bound ring senders (x ∷ xs) only ok = grows ring senders x.0 x.1 xs only.0 ok.1 (is_bound ring senders xs only.1 ok.0)
+is_bound ring senders (x ∷ xs) only ok = bound_after_event ring senders x.0 x.1 xs only.0 ok.1 (is_bound ring senders xs only.1 ok.0)
 
 -- No more is reserved than 64 commands for each batch that each sender may make.
 pub reserved_bound : (ring : Ring) (senders : ℕ) (run : Run) → OnlyOf senders run → IsRun ring run → tail (world run) ≤ 64 * (senders * ring.max_batches)

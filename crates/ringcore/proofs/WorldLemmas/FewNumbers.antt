@@ -15,20 +15,20 @@ use Rattle.ringcore.proofs.WorldLemmas.SyncCounts.{number_there, in_counted}
 
 -- ---- numbers are of batches
 
-fewer : (es : Trail) → numbers_given es ≤ batches_made es
-fewer [] = omega arith
-fewer (Look found ∷ es) = fewer es
-fewer (Won body None ∷ es) = let le = fewer es in omega (arith, le)
-fewer (Won body (Some number) ∷ es) = let le = fewer es in omega (arith, le)
-fewer (Lost body closes found ∷ es) = fewer es
-fewer (Write offset half ∷ es) = fewer es
-fewer (Flip offset count ∷ es) = fewer es
-fewer (Test limit found ∷ es) = fewer es
-fewer (Read offset half word ∷ es) = fewer es
-fewer (Advance raws ∷ es) = fewer es
-fewer (Close ∷ es) = fewer es
-fewer (Acknowledge sender number ∷ es) = fewer es
-fewer (Ask found ∷ es) = fewer es
+numbers_within_batches : (es : Trail) → numbers_given es ≤ batches_made es
+numbers_within_batches [] = omega arith
+numbers_within_batches (Look found ∷ es) = numbers_within_batches es
+numbers_within_batches (Won body None ∷ es) = let le = numbers_within_batches es in omega (arith, le)
+numbers_within_batches (Won body (Some number) ∷ es) = let le = numbers_within_batches es in omega (arith, le)
+numbers_within_batches (Lost body closes found ∷ es) = numbers_within_batches es
+numbers_within_batches (Write offset half ∷ es) = numbers_within_batches es
+numbers_within_batches (Flip offset count ∷ es) = numbers_within_batches es
+numbers_within_batches (Test limit found ∷ es) = numbers_within_batches es
+numbers_within_batches (Read offset half word ∷ es) = numbers_within_batches es
+numbers_within_batches (Advance raws ∷ es) = numbers_within_batches es
+numbers_within_batches (Close ∷ es) = numbers_within_batches es
+numbers_within_batches (Acknowledge sender number ∷ es) = numbers_within_batches es
+numbers_within_batches (Ask found ∷ es) = numbers_within_batches es
 
 -- ---- of which a sender makes no more than it may
 
@@ -65,6 +65,6 @@ numbers_few ring run ok s number taken =
     let one = in_counted 1 given its.0 number (ap (λ l. slice_get l its.0) (sym (syncs_numbered ring run ok s)) ∙ its.1) in
     let number_is = one.0 in
     let below = one.1 in
-    let le = fewer (trail_of (Sender s) run) in
+    let le = numbers_within_batches (trail_of (Sender s) run) in
     let most = made ring run ok s in
     omega (arith, number_is, below, le, most)

@@ -63,9 +63,9 @@ pub record IsKept (run : Run) : Type 0 where
   pub bodies : AllBodies (batches run)
 
 -- An event that reserves nothing leaves it.
-quiet : (who : Who) (e : Event) (xs : Run) → batches ((who, e) ∷ xs) ≡ batches xs → ((t : Trail) → numbers_given (e ∷ t) ≡ numbers_given t)
+kept_unmoved_by_others : (who : Who) (e : Event) (xs : Run) → batches ((who, e) ∷ xs) ≡ batches xs → ((t : Trail) → numbers_given (e ∷ t) ≡ numbers_given t)
     → ((s : ℕ) (t : Trail) → own_batches s (e ∷ t) ≡ own_batches s t) → IsKept xs → IsKept ((who, e) ∷ xs)
-quiet who e xs b n o i = record {
+kept_unmoved_by_others who e xs b n o i = record {
   numbers = λ s. ap (numbers s) b ∙ i.numbers s ∙ ap (counted 1) (sym (given (same (Sender s) who) (trail_of (Sender s) xs)));
   own = λ s. ap (batches_of s) b ∙ i.own s ∙ sym (owned s (same (Sender s) who) (trail_of (Sender s) xs));
   bodies = subst AllBodies (sym b) i.bodies;
@@ -106,33 +106,33 @@ reserves ring s body number xs a i = let b : Batch = record { sender = s; number
         ap (λ (u : ℕ). own_batches t (trail_of (Sender t) xs) ++ record { sender = u; number = number; body = body } ∷ []) at
     owned t false is = append-nil _
 
-grows : (ring : Ring) (who : Who) (e : Event) (xs : Run) → Allowed ring (world xs) (trail_of who xs) who e → IsKept xs → IsKept ((who, e) ∷ xs)
-grows ring Consumer (Look found) xs a i = quiet Consumer (Look found) xs refl (λ t. refl) (λ u t. refl) i
-grows ring Consumer (Won body number) xs a i = absurd a
-grows ring Consumer (Lost body closes found) xs a i = absurd a
-grows ring Consumer (Write offset half) xs a i = absurd a
-grows ring Consumer (Flip offset count) xs a i = absurd a
-grows ring Consumer (Test limit found) xs a i = quiet Consumer (Test limit found) xs refl (λ t. refl) (λ u t. refl) i
-grows ring Consumer (Read offset half word) xs a i = quiet Consumer (Read offset half word) xs refl (λ t. refl) (λ u t. refl) i
-grows ring Consumer (Advance raws) xs a i = quiet Consumer (Advance raws) xs refl (λ t. refl) (λ u t. refl) i
-grows ring Consumer Close xs a i = absurd a
-grows ring Consumer (Acknowledge sender number) xs a i = quiet Consumer (Acknowledge sender number) xs refl (λ t. refl) (λ u t. refl) i
-grows ring Consumer (Ask found) xs a i = absurd a
-grows ring (Sender s) (Look found) xs a i = quiet (Sender s) (Look found) xs refl (λ t. refl) (λ u t. refl) i
-grows ring (Sender s) (Won body number) xs a i = reserves ring s body number xs a i
-grows ring (Sender s) (Lost body closes found) xs a i = quiet (Sender s) (Lost body closes found) xs refl (λ t. refl) (λ u t. refl) i
-grows ring (Sender s) (Write offset half) xs a i = quiet (Sender s) (Write offset half) xs refl (λ t. refl) (λ u t. refl) i
-grows ring (Sender s) (Flip offset count) xs a i = quiet (Sender s) (Flip offset count) xs refl (λ t. refl) (λ u t. refl) i
-grows ring (Sender s) (Test limit found) xs a i = absurd a
-grows ring (Sender s) (Read offset half word) xs a i = absurd a
-grows ring (Sender s) (Advance raws) xs a i = absurd a
-grows ring (Sender s) Close xs a i = quiet (Sender s) Close xs refl (λ t. refl) (λ u t. refl) i
-grows ring (Sender s) (Acknowledge sender number) xs a i = absurd a
-grows ring (Sender s) (Ask found) xs a i = quiet (Sender s) (Ask found) xs refl (λ t. refl) (λ u t. refl) i
+kept_after_event : (ring : Ring) (who : Who) (e : Event) (xs : Run) → Allowed ring (world xs) (trail_of who xs) who e → IsKept xs → IsKept ((who, e) ∷ xs)
+kept_after_event ring Consumer (Look found) xs a i = kept_unmoved_by_others Consumer (Look found) xs refl (λ t. refl) (λ u t. refl) i
+kept_after_event ring Consumer (Won body number) xs a i = absurd a
+kept_after_event ring Consumer (Lost body closes found) xs a i = absurd a
+kept_after_event ring Consumer (Write offset half) xs a i = absurd a
+kept_after_event ring Consumer (Flip offset count) xs a i = absurd a
+kept_after_event ring Consumer (Test limit found) xs a i = kept_unmoved_by_others Consumer (Test limit found) xs refl (λ t. refl) (λ u t. refl) i
+kept_after_event ring Consumer (Read offset half word) xs a i = kept_unmoved_by_others Consumer (Read offset half word) xs refl (λ t. refl) (λ u t. refl) i
+kept_after_event ring Consumer (Advance raws) xs a i = kept_unmoved_by_others Consumer (Advance raws) xs refl (λ t. refl) (λ u t. refl) i
+kept_after_event ring Consumer Close xs a i = absurd a
+kept_after_event ring Consumer (Acknowledge sender number) xs a i = kept_unmoved_by_others Consumer (Acknowledge sender number) xs refl (λ t. refl) (λ u t. refl) i
+kept_after_event ring Consumer (Ask found) xs a i = absurd a
+kept_after_event ring (Sender s) (Look found) xs a i = kept_unmoved_by_others (Sender s) (Look found) xs refl (λ t. refl) (λ u t. refl) i
+kept_after_event ring (Sender s) (Won body number) xs a i = reserves ring s body number xs a i
+kept_after_event ring (Sender s) (Lost body closes found) xs a i = kept_unmoved_by_others (Sender s) (Lost body closes found) xs refl (λ t. refl) (λ u t. refl) i
+kept_after_event ring (Sender s) (Write offset half) xs a i = kept_unmoved_by_others (Sender s) (Write offset half) xs refl (λ t. refl) (λ u t. refl) i
+kept_after_event ring (Sender s) (Flip offset count) xs a i = kept_unmoved_by_others (Sender s) (Flip offset count) xs refl (λ t. refl) (λ u t. refl) i
+kept_after_event ring (Sender s) (Test limit found) xs a i = absurd a
+kept_after_event ring (Sender s) (Read offset half word) xs a i = absurd a
+kept_after_event ring (Sender s) (Advance raws) xs a i = absurd a
+kept_after_event ring (Sender s) Close xs a i = kept_unmoved_by_others (Sender s) Close xs refl (λ t. refl) (λ u t. refl) i
+kept_after_event ring (Sender s) (Acknowledge sender number) xs a i = absurd a
+kept_after_event ring (Sender s) (Ask found) xs a i = kept_unmoved_by_others (Sender s) (Ask found) xs refl (λ t. refl) (λ u t. refl) i
 
 pub is_kept : (ring : Ring) (run : Run) → IsRun ring run → IsKept run
 is_kept ring [] ok = record { numbers = λ s. refl; own = λ s. refl; bodies = tt }
-is_kept ring (x ∷ xs) ok = grows ring x.0 x.1 xs ok.1 (is_kept ring xs ok.0)
+is_kept ring (x ∷ xs) ok = kept_after_event ring x.0 x.1 xs ok.1 (is_kept ring xs ok.0)
 
 pub numbered : (ring : Ring) (run : Run) → IsRun ring run → NumberedInOrder run
 numbered ring run ok s =

@@ -83,10 +83,10 @@ pub record IsRead (run : Run) : Type 0 where
   pub closed : (world run).closed ≡ has_close run
 
 -- An event of which neither tells anything leaves both as they were.
-quiet : (who : Who) (e : Event) (xs : Run) → (world ((who, e) ∷ xs)).reserved ≡ (world xs).reserved → (world ((who, e) ∷ xs)).taken ≡ (world xs).taken
+read_unmoved_by_others : (who : Who) (e : Event) (xs : Run) → (world ((who, e) ∷ xs)).reserved ≡ (world xs).reserved → (world ((who, e) ∷ xs)).taken ≡ (world xs).taken
     → (world ((who, e) ∷ xs)).closed ≡ (world xs).closed → batches ((who, e) ∷ xs) ≡ batches xs → advanced ((who, e) ∷ xs) ≡ advanced xs
     → has_close ((who, e) ∷ xs) ≡ has_close xs → IsRead xs → IsRead ((who, e) ∷ xs)
-quiet who e xs r t c b a h i = record {
+read_unmoved_by_others who e xs r t c b a h i = record {
   reserved = r ∙ i.reserved ∙ ap all_items (sym b);
   taken = ap raws_taken t ∙ i.taken ∙ sym a;
   closed = c ∙ i.closed ∙ sym h;
@@ -117,33 +117,33 @@ closes who xs is b i = record {
   closed = ap (λ (w : World). w.closed) is;
 }
 
-grows : (who : Who) (e : Event) (xs : Run) → IsRead xs → IsRead ((who, e) ∷ xs)
-grows Consumer (Look found) xs i = quiet Consumer (Look found) xs refl refl refl refl refl refl i
-grows Consumer (Won body number) xs i = quiet Consumer (Won body number) xs refl refl refl refl refl refl i
-grows Consumer (Lost body closes found) xs i = quiet Consumer (Lost body closes found) xs refl refl refl refl refl refl i
-grows Consumer (Write offset half) xs i = quiet Consumer (Write offset half) xs refl refl refl refl refl refl i
-grows Consumer (Flip offset count) xs i = quiet Consumer (Flip offset count) xs refl refl refl refl refl refl i
-grows Consumer (Test limit found) xs i = quiet Consumer (Test limit found) xs refl refl refl refl refl refl i
-grows Consumer (Read offset half word) xs i = quiet Consumer (Read offset half word) xs refl refl refl refl refl refl i
-grows Consumer (Advance raws) xs i = takes Consumer raws xs refl refl i
-grows Consumer Close xs i = closes Consumer xs refl refl i
-grows Consumer (Acknowledge sender number) xs i = quiet Consumer (Acknowledge sender number) xs refl refl refl refl refl refl i
-grows Consumer (Ask found) xs i = quiet Consumer (Ask found) xs refl refl refl refl refl refl i
-grows (Sender s) (Look found) xs i = quiet (Sender s) (Look found) xs refl refl refl refl refl refl i
-grows (Sender s) (Won body number) xs i = reserves s body number xs i
-grows (Sender s) (Lost body closes found) xs i = quiet (Sender s) (Lost body closes found) xs refl refl refl refl refl refl i
-grows (Sender s) (Write offset half) xs i = quiet (Sender s) (Write offset half) xs refl refl refl refl refl refl i
-grows (Sender s) (Flip offset count) xs i = quiet (Sender s) (Flip offset count) xs refl refl refl refl refl refl i
-grows (Sender s) (Test limit found) xs i = quiet (Sender s) (Test limit found) xs refl refl refl refl refl refl i
-grows (Sender s) (Read offset half word) xs i = quiet (Sender s) (Read offset half word) xs refl refl refl refl refl refl i
-grows (Sender s) (Advance raws) xs i = takes (Sender s) raws xs refl refl i
-grows (Sender s) Close xs i = closes (Sender s) xs refl refl i
-grows (Sender s) (Acknowledge sender number) xs i = quiet (Sender s) (Acknowledge sender number) xs refl refl refl refl refl refl i
-grows (Sender s) (Ask found) xs i = quiet (Sender s) (Ask found) xs refl refl refl refl refl refl i
+read_after_event : (who : Who) (e : Event) (xs : Run) → IsRead xs → IsRead ((who, e) ∷ xs)
+read_after_event Consumer (Look found) xs i = read_unmoved_by_others Consumer (Look found) xs refl refl refl refl refl refl i
+read_after_event Consumer (Won body number) xs i = read_unmoved_by_others Consumer (Won body number) xs refl refl refl refl refl refl i
+read_after_event Consumer (Lost body closes found) xs i = read_unmoved_by_others Consumer (Lost body closes found) xs refl refl refl refl refl refl i
+read_after_event Consumer (Write offset half) xs i = read_unmoved_by_others Consumer (Write offset half) xs refl refl refl refl refl refl i
+read_after_event Consumer (Flip offset count) xs i = read_unmoved_by_others Consumer (Flip offset count) xs refl refl refl refl refl refl i
+read_after_event Consumer (Test limit found) xs i = read_unmoved_by_others Consumer (Test limit found) xs refl refl refl refl refl refl i
+read_after_event Consumer (Read offset half word) xs i = read_unmoved_by_others Consumer (Read offset half word) xs refl refl refl refl refl refl i
+read_after_event Consumer (Advance raws) xs i = takes Consumer raws xs refl refl i
+read_after_event Consumer Close xs i = closes Consumer xs refl refl i
+read_after_event Consumer (Acknowledge sender number) xs i = read_unmoved_by_others Consumer (Acknowledge sender number) xs refl refl refl refl refl refl i
+read_after_event Consumer (Ask found) xs i = read_unmoved_by_others Consumer (Ask found) xs refl refl refl refl refl refl i
+read_after_event (Sender s) (Look found) xs i = read_unmoved_by_others (Sender s) (Look found) xs refl refl refl refl refl refl i
+read_after_event (Sender s) (Won body number) xs i = reserves s body number xs i
+read_after_event (Sender s) (Lost body closes found) xs i = read_unmoved_by_others (Sender s) (Lost body closes found) xs refl refl refl refl refl refl i
+read_after_event (Sender s) (Write offset half) xs i = read_unmoved_by_others (Sender s) (Write offset half) xs refl refl refl refl refl refl i
+read_after_event (Sender s) (Flip offset count) xs i = read_unmoved_by_others (Sender s) (Flip offset count) xs refl refl refl refl refl refl i
+read_after_event (Sender s) (Test limit found) xs i = read_unmoved_by_others (Sender s) (Test limit found) xs refl refl refl refl refl refl i
+read_after_event (Sender s) (Read offset half word) xs i = read_unmoved_by_others (Sender s) (Read offset half word) xs refl refl refl refl refl refl i
+read_after_event (Sender s) (Advance raws) xs i = takes (Sender s) raws xs refl refl i
+read_after_event (Sender s) Close xs i = closes (Sender s) xs refl refl i
+read_after_event (Sender s) (Acknowledge sender number) xs i = read_unmoved_by_others (Sender s) (Acknowledge sender number) xs refl refl refl refl refl refl i
+read_after_event (Sender s) (Ask found) xs i = read_unmoved_by_others (Sender s) (Ask found) xs refl refl refl refl refl refl i
 
 pub is_read : (run : Run) → IsRead run
 is_read [] = record { reserved = refl; taken = refl; closed = refl }
-is_read (x ∷ xs) = grows x.0 x.1 xs (is_read xs)
+is_read (x ∷ xs) = read_after_event x.0 x.1 xs (is_read xs)
 
 pub reserved_raws : (run : Run) → raws_of (world run).reserved ≡ joined (batches run)
 reserved_raws run = ap raws_of (is_read run).reserved ∙ raws_of_all (batches run)

@@ -238,29 +238,29 @@ module _ (ring : Ring) (xs : Run) (ok : IsRun ring xs) (d : Deep xs) where
     flipped_is = λ j inside. ap₂ (λ (g : ℕ → Bool) (h : ℕ → ℕ). g (h u + j)) f s ∙ o.flipped_is j inside;
   }
 
-  pub grows : (who : Who) (e : Event) → Allowed ring w (trail_of who xs) who e → Deep ((who, e) ∷ xs)
-  grows Consumer (Look found) a = record { owns = λ u. kept (after w Consumer (Look found)) u (mine u) refl refl refl refl (d.owns u); whole = d.whole; passed = d.passed }
-  grows Consumer (Won body number) a = absurd a
-  grows Consumer (Lost body closes found) a = absurd a
-  grows Consumer (Write offset half) a = absurd a
-  grows Consumer (Flip offset count) a = absurd a
-  grows Consumer (Test limit found) a = record { owns = λ u. kept (after w Consumer (Test limit found)) u (mine u) refl refl refl refl (d.owns u); whole = d.whole; passed = d.passed }
-  grows Consumer (Read offset half word) a = record { owns = λ u. kept (after w Consumer (Read offset half word)) u (mine u) refl refl refl refl (d.owns u); whole = d.whole; passed = d.passed }
-  grows Consumer (Advance raws) a = advances raws a
-  grows Consumer Close a = absurd a
-  grows Consumer (Acknowledge sender number) a = record { owns = λ u. kept (after w Consumer (Acknowledge sender number)) u (mine u) refl refl refl refl (d.owns u); whole = d.whole; passed = d.passed }
-  grows Consumer (Ask found) a = absurd a
-  grows (Sender s) (Look found) a = record { owns = λ u. by_trail w (after w (Sender s) (Look found)) u (u == s) (Look found) (mine u) (λ o. record { placed = o.placed; written_is = o.written_is; flipped_is = o.flipped_is }) (λ o. record { placed = o.placed; written_is = o.written_is; flipped_is = o.flipped_is }) (d.owns u); whole = d.whole; passed = d.passed }
-  grows (Sender s) (Won body number) a = won s body number
-  grows (Sender s) (Lost body closes found) a = record { owns = λ u. by_trail w (after w (Sender s) (Lost body closes found)) u (u == s) (Lost body closes found) (mine u) (λ o. record { placed = o.placed; written_is = o.written_is; flipped_is = o.flipped_is }) (λ o. record { placed = o.placed; written_is = o.written_is; flipped_is = o.flipped_is }) (d.owns u); whole = d.whole; passed = d.passed }
-  grows (Sender s) (Write offset half) a = wrote s offset half a
-  grows (Sender s) (Flip offset count) a = flips s offset count a
-  grows (Sender s) (Test limit found) a = absurd a
-  grows (Sender s) (Read offset half word) a = absurd a
-  grows (Sender s) (Advance raws) a = absurd a
-  grows (Sender s) Close a = record { owns = λ u. by_trail w (after w (Sender s) Close) u (u == s) Close (mine u) (λ o. record { placed = o.placed; written_is = o.written_is; flipped_is = o.flipped_is }) (λ o. record { placed = o.placed; written_is = o.written_is; flipped_is = o.flipped_is }) (d.owns u); whole = d.whole; passed = d.passed }
-  grows (Sender s) (Acknowledge sender number) a = absurd a
-  grows (Sender s) (Ask found) a = record { owns = λ u. by_trail w (after w (Sender s) (Ask found)) u (u == s) (Ask found) (mine u) (λ o. record { placed = o.placed; written_is = o.written_is; flipped_is = o.flipped_is }) (λ o. record { placed = o.placed; written_is = o.written_is; flipped_is = o.flipped_is }) (d.owns u); whole = d.whole; passed = d.passed }
+  pub slots_after_event : (who : Who) (e : Event) → Allowed ring w (trail_of who xs) who e → Deep ((who, e) ∷ xs)
+  slots_after_event Consumer (Look found) a = record { owns = λ u. kept (after w Consumer (Look found)) u (mine u) refl refl refl refl (d.owns u); whole = d.whole; passed = d.passed }
+  slots_after_event Consumer (Won body number) a = absurd a
+  slots_after_event Consumer (Lost body closes found) a = absurd a
+  slots_after_event Consumer (Write offset half) a = absurd a
+  slots_after_event Consumer (Flip offset count) a = absurd a
+  slots_after_event Consumer (Test limit found) a = record { owns = λ u. kept (after w Consumer (Test limit found)) u (mine u) refl refl refl refl (d.owns u); whole = d.whole; passed = d.passed }
+  slots_after_event Consumer (Read offset half word) a = record { owns = λ u. kept (after w Consumer (Read offset half word)) u (mine u) refl refl refl refl (d.owns u); whole = d.whole; passed = d.passed }
+  slots_after_event Consumer (Advance raws) a = advances raws a
+  slots_after_event Consumer Close a = absurd a
+  slots_after_event Consumer (Acknowledge sender number) a = record { owns = λ u. kept (after w Consumer (Acknowledge sender number)) u (mine u) refl refl refl refl (d.owns u); whole = d.whole; passed = d.passed }
+  slots_after_event Consumer (Ask found) a = absurd a
+  slots_after_event (Sender s) (Look found) a = record { owns = λ u. by_trail w (after w (Sender s) (Look found)) u (u == s) (Look found) (mine u) (λ o. record { placed = o.placed; written_is = o.written_is; flipped_is = o.flipped_is }) (λ o. record { placed = o.placed; written_is = o.written_is; flipped_is = o.flipped_is }) (d.owns u); whole = d.whole; passed = d.passed }
+  slots_after_event (Sender s) (Won body number) a = won s body number
+  slots_after_event (Sender s) (Lost body closes found) a = record { owns = λ u. by_trail w (after w (Sender s) (Lost body closes found)) u (u == s) (Lost body closes found) (mine u) (λ o. record { placed = o.placed; written_is = o.written_is; flipped_is = o.flipped_is }) (λ o. record { placed = o.placed; written_is = o.written_is; flipped_is = o.flipped_is }) (d.owns u); whole = d.whole; passed = d.passed }
+  slots_after_event (Sender s) (Write offset half) a = wrote s offset half a
+  slots_after_event (Sender s) (Flip offset count) a = flips s offset count a
+  slots_after_event (Sender s) (Test limit found) a = absurd a
+  slots_after_event (Sender s) (Read offset half word) a = absurd a
+  slots_after_event (Sender s) (Advance raws) a = absurd a
+  slots_after_event (Sender s) Close a = record { owns = λ u. by_trail w (after w (Sender s) Close) u (u == s) Close (mine u) (λ o. record { placed = o.placed; written_is = o.written_is; flipped_is = o.flipped_is }) (λ o. record { placed = o.placed; written_is = o.written_is; flipped_is = o.flipped_is }) (d.owns u); whole = d.whole; passed = d.passed }
+  slots_after_event (Sender s) (Acknowledge sender number) a = absurd a
+  slots_after_event (Sender s) (Ask found) a = record { owns = λ u. by_trail w (after w (Sender s) (Ask found)) u (u == s) (Ask found) (mine u) (λ o. record { placed = o.placed; written_is = o.written_is; flipped_is = o.flipped_is }) (λ o. record { placed = o.placed; written_is = o.written_is; flipped_is = o.flipped_is }) (d.owns u); whole = d.whole; passed = d.passed }
 
 pub deep : (ring : Ring) (run : Run) → IsRun ring run → Deep run
 deep ring [] ok = record {
@@ -268,4 +268,4 @@ deep ring [] ok = record {
   whole = λ p half f. off f;
   passed = λ p low. absurd (omega (arith, low));
 }
-deep ring (x ∷ xs) ok = grows ring xs ok.0 (deep ring xs ok.0) x.0 x.1 ok.1
+deep ring (x ∷ xs) ok = slots_after_event ring xs ok.0 (deep ring xs ok.0) x.0 x.1 ok.1

@@ -24,7 +24,7 @@ use Rattle.ringcore.proofs.WorldLemmas.Reading.{raws_of, raws_taken, taken_again
 abbrev pub AtHead : World → ℕ → Half → ℕ → Type 0
 AtHead w offset half word = (item : Item) × (slice_get w.reserved (head w + offset) ≡ Some item) × (word ≡ half_of half item.raw)
 
-pub record Stands (ring : Ring) (w : World) (trail : Who → Trail) : Type 0 where
+pub record IsSound (ring : Ring) (w : World) (trail : Who → Trail) : Type 0 where
   pub behind : head w ≤ tail w
   pub within : tail w ≤ head w + size ring.geometry
   pub delivered : Begins (raws_taken w.taken) (raws_of w.reserved)
@@ -35,7 +35,7 @@ pub record Stands (ring : Ring) (w : World) (trail : Who → Trail) : Type 0 whe
   pub reading : (i : ℕ) (half : Half) (word : ℕ) → half_read i half (trail Consumer) ≡ Some word → AtHead w i half word
 
 abbrev pub Sound : Ring → Run → Type 0
-Sound ring run = Stands ring (world run) (λ who. trail_of who run)
+Sound ring run = IsSound ring (world run) (λ who. trail_of who run)
 
 length_from : (place s : ℕ) (number : Option ℕ) (raws : List Raw) → length (items_from place s number raws) ≡ length raws
 length_from place s number [] = refl
@@ -77,12 +77,12 @@ module _ (ring : Ring) (xs : Run) (i : Sound ring xs) where
       subst (λ (n : ℕ). w.start s + n ≤ tail w) (sym (same_length (same (Sender s) who) e t (is t))) (i.each_within s)
 
   -- an event that leaves the world, and what the consumer read
-  quiet : (who : Who) (e : Event) → after w who e ≡ w → ((t : Trail) → reserved_length (e ∷ t) ≡ reserved_length t)
+  sound_unmoved_by_others : (who : Who) (e : Event) → after w who e ≡ w → ((t : Trail) → reserved_length (e ∷ t) ≡ reserved_length t)
       → ((k : ℕ) → k < found_ready (trail_of Consumer ((who, e) ∷ xs)) → w.flipped (head w + k) ≡ true)
       → ((k : ℕ) (half : Half) (x : ℕ) → half_read k half (trail_of Consumer ((who, e) ∷ xs)) ≡ Some x → AtHead w k half x)
       → Sound ring ((who, e) ∷ xs)
-  quiet who e is l ready reading =
-      subst (λ (v : World). Stands ring v (λ u. trail_of u ((who, e) ∷ xs))) (sym is) record {
+  sound_unmoved_by_others who e is l ready reading =
+      subst (λ (v : World). IsSound ring v (λ u. trail_of u ((who, e) ∷ xs))) (sym is) record {
         behind = i.behind;
         within = i.within;
         delivered = i.delivered;
@@ -95,7 +95,7 @@ module _ (ring : Ring) (xs : Run) (i : Sound ring xs) where
 
   -- a sender's event that leaves the world
   silent : (s : ℕ) (e : Event) → after w (Sender s) e ≡ w → ((t : Trail) → reserved_length (e ∷ t) ≡ reserved_length t) → Sound ring ((Sender s, e) ∷ xs)
-  silent s e is l = quiet (Sender s) e is l i.ready i.reading
+  silent s e is l = sound_unmoved_by_others (Sender s) e is l i.ready i.reading
 
   won : (s : ℕ) (body : List Raw) (number : Option ℕ) → MayWin ring w (trail_of (Sender s) xs) body number
       → Sound ring ((Sender s, Won body number) ∷ xs)
@@ -162,11 +162,11 @@ module _ (ring : Ring) (xs : Run) (i : Sound ring xs) where
   }
 
   tested : (limit found : ℕ) → FindsReady ring w limit found → Sound ring ((Consumer, Test limit found) ∷ xs)
-  tested limit found a = quiet Consumer (Test limit found) refl (λ t. refl) a.ready (λ k half x is. none_some x is)
+  tested limit found a = sound_unmoved_by_others Consumer (Test limit found) refl (λ t. refl) a.ready (λ k half x is. none_some x is)
 
   reads : (offset : ℕ) (half : Half) (word : ℕ) → MayRead w mine offset half word → Sound ring ((Consumer, Read offset half word) ∷ xs)
   reads offset half word a =
-      quiet Consumer (Read offset half word) refl (λ t. refl) i.ready (λ k h x is. by_half k h x (k == offset && same_half h half) refl is)
+      sound_unmoved_by_others Consumer (Read offset half word) refl (λ t. refl) i.ready (λ k h x is. by_half k h x (k == offset && same_half h half) refl is)
     where
       by_half : (k : ℕ) (h : Half) (x : ℕ) (v : Bool) → (k == offset && same_half h half) ≡ v → cond v (Some word) (half_read k h mine) ≡ Some x → AtHead w k h x
       by_half k h x true here is =
@@ -235,29 +235,29 @@ module _ (ring : Ring) (xs : Run) (i : Sound ring xs) where
     reading = i.reading;
   }
 
-  pub grows : (who : Who) (e : Event) → Allowed ring w (trail_of who xs) who e → Sound ring ((who, e) ∷ xs)
-  grows Consumer (Look found) a = quiet Consumer (Look found) refl (λ t. refl) i.ready i.reading
-  grows Consumer (Won body number) a = absurd a
-  grows Consumer (Lost body closes found) a = absurd a
-  grows Consumer (Write offset half) a = absurd a
-  grows Consumer (Flip offset count) a = absurd a
-  grows Consumer (Test limit found) a = tested limit found a
-  grows Consumer (Read offset half word) a = reads offset half word a
-  grows Consumer (Advance raws) a = advances raws a
-  grows Consumer Close a = absurd a
-  grows Consumer (Acknowledge sender number) a = acknowledges sender number
-  grows Consumer (Ask found) a = absurd a
-  grows (Sender s) (Look found) a = silent s (Look found) refl (λ t. refl)
-  grows (Sender s) (Won body number) a = won s body number a
-  grows (Sender s) (Lost body closes found) a = silent s (Lost body closes found) refl (λ t. refl)
-  grows (Sender s) (Write offset half) a = wrote s offset half a
-  grows (Sender s) (Flip offset count) a = flips s offset count a
-  grows (Sender s) (Test limit found) a = absurd a
-  grows (Sender s) (Read offset half word) a = absurd a
-  grows (Sender s) (Advance raws) a = absurd a
-  grows (Sender s) Close a = closes s
-  grows (Sender s) (Acknowledge sender number) a = absurd a
-  grows (Sender s) (Ask found) a = silent s (Ask found) refl (λ t. refl)
+  pub sound_after_event : (who : Who) (e : Event) → Allowed ring w (trail_of who xs) who e → Sound ring ((who, e) ∷ xs)
+  sound_after_event Consumer (Look found) a = sound_unmoved_by_others Consumer (Look found) refl (λ t. refl) i.ready i.reading
+  sound_after_event Consumer (Won body number) a = absurd a
+  sound_after_event Consumer (Lost body closes found) a = absurd a
+  sound_after_event Consumer (Write offset half) a = absurd a
+  sound_after_event Consumer (Flip offset count) a = absurd a
+  sound_after_event Consumer (Test limit found) a = tested limit found a
+  sound_after_event Consumer (Read offset half word) a = reads offset half word a
+  sound_after_event Consumer (Advance raws) a = advances raws a
+  sound_after_event Consumer Close a = absurd a
+  sound_after_event Consumer (Acknowledge sender number) a = acknowledges sender number
+  sound_after_event Consumer (Ask found) a = absurd a
+  sound_after_event (Sender s) (Look found) a = silent s (Look found) refl (λ t. refl)
+  sound_after_event (Sender s) (Won body number) a = won s body number a
+  sound_after_event (Sender s) (Lost body closes found) a = silent s (Lost body closes found) refl (λ t. refl)
+  sound_after_event (Sender s) (Write offset half) a = wrote s offset half a
+  sound_after_event (Sender s) (Flip offset count) a = flips s offset count a
+  sound_after_event (Sender s) (Test limit found) a = absurd a
+  sound_after_event (Sender s) (Read offset half word) a = absurd a
+  sound_after_event (Sender s) (Advance raws) a = absurd a
+  sound_after_event (Sender s) Close a = closes s
+  sound_after_event (Sender s) (Acknowledge sender number) a = absurd a
+  sound_after_event (Sender s) (Ask found) a = silent s (Ask found) refl (λ t. refl)
 
 pub sound : (ring : Ring) (run : Run) → IsRun ring run → Sound ring run
 sound ring [] ok = record {
@@ -270,4 +270,4 @@ sound ring [] ok = record {
   ready = λ k less. absurd (omega (arith, less));
   reading = λ k half x is. none_some x is;
 }
-sound ring (x ∷ xs) ok = grows ring xs (sound ring xs ok.0) x.0 x.1 ok.1
+sound ring (x ∷ xs) ok = sound_after_event ring xs (sound ring xs ok.0) x.0 x.1 ok.1

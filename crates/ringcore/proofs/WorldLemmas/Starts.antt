@@ -28,42 +28,42 @@ module _ (ring : Ring) (xs : Run) (i : (s : ℕ) → StartsThere ring.geometry (
   abbrev mine : ℕ → Trail
   mine s = trail_of (Sender s) xs
 
-  quiet : (s : ℕ) (who : Who) (e : Event) → ((t : Trail) → start_index ring.geometry (e ∷ t) ≡ start_index ring.geometry t)
+  starts_unmoved_by_others : (s : ℕ) (who : Who) (e : Event) → ((t : Trail) → start_index ring.geometry (e ∷ t) ≡ start_index ring.geometry t)
       → index_of ring.geometry (w.start s) ≡ start_index ring.geometry (trail_of (Sender s) ((who, e) ∷ xs))
-  quiet s who e is = i s ∙ sym (same_start ring.geometry (same (Sender s) who) e (mine s) (is (mine s)))
+  starts_unmoved_by_others s who e is = i s ∙ sym (same_start ring.geometry (same (Sender s) who) e (mine s) (is (mine s)))
 
   won : (s : ℕ) (body : List Raw) (number : Option ℕ) → MayWin ring w (mine s) body number → (u : ℕ) (v : Bool) → (u == s) ≡ v
       → index_of ring.geometry (cond v (tail w) (w.start u)) ≡ start_index ring.geometry (cond v (Won body number ∷ mine u) (mine u))
   won s body number a u true is = sym (ap (prod_of ring.geometry) (ap (λ x. looked (mine x)) (eqb-true u s is) ∙ a.looked_at))
   won s body number a u false is = i u
 
-  grows : (who : Who) (e : Event) → Allowed ring w (trail_of who xs) who e → (s : ℕ) → StartsThere ring.geometry (after w who e) s (trail_of (Sender s) ((who, e) ∷ xs))
-  grows Consumer (Look found) a s = quiet s Consumer (Look found) (λ t. refl)
-  grows Consumer (Won body number) a s = absurd a
-  grows Consumer (Lost body closes found) a s = absurd a
-  grows Consumer (Write offset half) a s = absurd a
-  grows Consumer (Flip offset count) a s = absurd a
-  grows Consumer (Test limit found) a s = quiet s Consumer (Test limit found) (λ t. refl)
-  grows Consumer (Read offset half word) a s = quiet s Consumer (Read offset half word) (λ t. refl)
-  grows Consumer (Advance raws) a s = quiet s Consumer (Advance raws) (λ t. refl)
-  grows Consumer Close a s = absurd a
-  grows Consumer (Acknowledge sender number) a s = quiet s Consumer (Acknowledge sender number) (λ t. refl)
-  grows Consumer (Ask found) a s = absurd a
-  grows (Sender u) (Look found) a s = quiet s (Sender u) (Look found) (λ t. refl)
-  grows (Sender u) (Won body number) a s = won u body number a s (s == u) refl
-  grows (Sender u) (Lost body closes found) a s = quiet s (Sender u) (Lost body closes found) (λ t. refl)
-  grows (Sender u) (Write offset half) a s = quiet s (Sender u) (Write offset half) (λ t. refl)
-  grows (Sender u) (Flip offset count) a s = quiet s (Sender u) (Flip offset count) (λ t. refl)
-  grows (Sender u) (Test limit found) a s = absurd a
-  grows (Sender u) (Read offset half word) a s = absurd a
-  grows (Sender u) (Advance raws) a s = absurd a
-  grows (Sender u) Close a s = quiet s (Sender u) Close (λ t. refl)
-  grows (Sender u) (Acknowledge sender number) a s = absurd a
-  grows (Sender u) (Ask found) a s = quiet s (Sender u) (Ask found) (λ t. refl)
+  starts_after_event : (who : Who) (e : Event) → Allowed ring w (trail_of who xs) who e → (s : ℕ) → StartsThere ring.geometry (after w who e) s (trail_of (Sender s) ((who, e) ∷ xs))
+  starts_after_event Consumer (Look found) a s = starts_unmoved_by_others s Consumer (Look found) (λ t. refl)
+  starts_after_event Consumer (Won body number) a s = absurd a
+  starts_after_event Consumer (Lost body closes found) a s = absurd a
+  starts_after_event Consumer (Write offset half) a s = absurd a
+  starts_after_event Consumer (Flip offset count) a s = absurd a
+  starts_after_event Consumer (Test limit found) a s = starts_unmoved_by_others s Consumer (Test limit found) (λ t. refl)
+  starts_after_event Consumer (Read offset half word) a s = starts_unmoved_by_others s Consumer (Read offset half word) (λ t. refl)
+  starts_after_event Consumer (Advance raws) a s = starts_unmoved_by_others s Consumer (Advance raws) (λ t. refl)
+  starts_after_event Consumer Close a s = absurd a
+  starts_after_event Consumer (Acknowledge sender number) a s = starts_unmoved_by_others s Consumer (Acknowledge sender number) (λ t. refl)
+  starts_after_event Consumer (Ask found) a s = absurd a
+  starts_after_event (Sender u) (Look found) a s = starts_unmoved_by_others s (Sender u) (Look found) (λ t. refl)
+  starts_after_event (Sender u) (Won body number) a s = won u body number a s (s == u) refl
+  starts_after_event (Sender u) (Lost body closes found) a s = starts_unmoved_by_others s (Sender u) (Lost body closes found) (λ t. refl)
+  starts_after_event (Sender u) (Write offset half) a s = starts_unmoved_by_others s (Sender u) (Write offset half) (λ t. refl)
+  starts_after_event (Sender u) (Flip offset count) a s = starts_unmoved_by_others s (Sender u) (Flip offset count) (λ t. refl)
+  starts_after_event (Sender u) (Test limit found) a s = absurd a
+  starts_after_event (Sender u) (Read offset half word) a s = absurd a
+  starts_after_event (Sender u) (Advance raws) a s = absurd a
+  starts_after_event (Sender u) Close a s = starts_unmoved_by_others s (Sender u) Close (λ t. refl)
+  starts_after_event (Sender u) (Acknowledge sender number) a s = absurd a
+  starts_after_event (Sender u) (Ask found) a s = starts_unmoved_by_others s (Sender u) (Ask found) (λ t. refl)
 
 pub starts_there : (ring : Ring) (run : Run) → IsRun ring run → (s : ℕ) → index_of ring.geometry ((world run).start s) ≡ start_index ring.geometry (trail_of (Sender s) run)
 starts_there ring [] ok s = λ j. record { geometry = ring.geometry; number = none j }
   where
     none : 0 % (2 * size ring.geometry) ≡ 0
     none = let some = pow_pos ring.geometry in mod-eq_of_lt (omega (arith, some))
-starts_there ring (x ∷ xs) ok s = grows ring xs (starts_there ring xs ok.0) x.0 x.1 ok.1 s
+starts_there ring (x ∷ xs) ok s = starts_after_event ring xs (starts_there ring xs ok.0) x.0 x.1 ok.1 s

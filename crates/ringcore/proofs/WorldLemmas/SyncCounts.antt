@@ -36,36 +36,36 @@ syncs_append s (x ∷ xs) ys = by_kind (syncs_append s xs ys) (is_sync_to s x)
 abbrev CountsTaken : ℕ → Run → Type 0
 CountsTaken s run = syncs_taken s (trail_of Consumer run) ≡ syncs_in s (raws_taken (world run).taken)
 
-grows : (ring : Ring) (xs : Run) (s : ℕ) (who : Who) (e : Event) → Allowed ring (world xs) (trail_of who xs) who e → CountsTaken s xs → CountsTaken s ((who, e) ∷ xs)
-grows ring xs s Consumer (Look found) a is = is
-grows ring xs s Consumer (Won body number) a is = absurd a
-grows ring xs s Consumer (Lost body closes found) a is = absurd a
-grows ring xs s Consumer (Write offset half) a is = absurd a
-grows ring xs s Consumer (Flip offset count) a is = absurd a
-grows ring xs s Consumer (Test limit found) a is = is
-grows ring xs s Consumer (Read offset half word) a is = is
-grows ring xs s Consumer (Advance raws) a is =
+counts_after_event : (ring : Ring) (xs : Run) (s : ℕ) (who : Who) (e : Event) → Allowed ring (world xs) (trail_of who xs) who e → CountsTaken s xs → CountsTaken s ((who, e) ∷ xs)
+counts_after_event ring xs s Consumer (Look found) a is = is
+counts_after_event ring xs s Consumer (Won body number) a is = absurd a
+counts_after_event ring xs s Consumer (Lost body closes found) a is = absurd a
+counts_after_event ring xs s Consumer (Write offset half) a is = absurd a
+counts_after_event ring xs s Consumer (Flip offset count) a is = absurd a
+counts_after_event ring xs s Consumer (Test limit found) a is = is
+counts_after_event ring xs s Consumer (Read offset half word) a is = is
+counts_after_event ring xs s Consumer (Advance raws) a is =
     ap (λ n. n + syncs_in s raws) is
     ∙ sym (ap (syncs_in s) (map-append (λ (t : Taken). t.raw) (world xs).taken (map taken_as raws) ∙ ap (λ l. raws_taken (world xs).taken ++ l) (taken_again raws))
     ∙ syncs_append s (raws_taken (world xs).taken) raws)
-grows ring xs s Consumer Close a is = absurd a
-grows ring xs s Consumer (Acknowledge sender number) a is = is
-grows ring xs s Consumer (Ask found) a is = absurd a
-grows ring xs s (Sender t) (Look found) a is = is
-grows ring xs s (Sender t) (Won body number) a is = is
-grows ring xs s (Sender t) (Lost body closes found) a is = is
-grows ring xs s (Sender t) (Write offset half) a is = is
-grows ring xs s (Sender t) (Flip offset count) a is = is
-grows ring xs s (Sender t) (Test limit found) a is = absurd a
-grows ring xs s (Sender t) (Read offset half word) a is = absurd a
-grows ring xs s (Sender t) (Advance raws) a is = absurd a
-grows ring xs s (Sender t) Close a is = is
-grows ring xs s (Sender t) (Acknowledge sender number) a is = absurd a
-grows ring xs s (Sender t) (Ask found) a is = is
+counts_after_event ring xs s Consumer Close a is = absurd a
+counts_after_event ring xs s Consumer (Acknowledge sender number) a is = is
+counts_after_event ring xs s Consumer (Ask found) a is = absurd a
+counts_after_event ring xs s (Sender t) (Look found) a is = is
+counts_after_event ring xs s (Sender t) (Won body number) a is = is
+counts_after_event ring xs s (Sender t) (Lost body closes found) a is = is
+counts_after_event ring xs s (Sender t) (Write offset half) a is = is
+counts_after_event ring xs s (Sender t) (Flip offset count) a is = is
+counts_after_event ring xs s (Sender t) (Test limit found) a is = absurd a
+counts_after_event ring xs s (Sender t) (Read offset half word) a is = absurd a
+counts_after_event ring xs s (Sender t) (Advance raws) a is = absurd a
+counts_after_event ring xs s (Sender t) Close a is = is
+counts_after_event ring xs s (Sender t) (Acknowledge sender number) a is = absurd a
+counts_after_event ring xs s (Sender t) (Ask found) a is = is
 
 counts : (ring : Ring) (run : Run) → IsRun ring run → (s : ℕ) → CountsTaken s run
 counts ring [] ok s = refl
-counts ring (x ∷ xs) ok s = grows ring xs s x.0 x.1 ok.1 (counts ring xs ok.0 s)
+counts ring (x ∷ xs) ok s = counts_after_event ring xs s x.0 x.1 ok.1 (counts ring xs ok.0 s)
 
 -- ---- what is taken is the front of what is reserved
 
