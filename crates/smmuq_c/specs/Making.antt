@@ -1,18 +1,15 @@
 -- What is made, and into which handle.
-use Rattle.std.specs.Prelude.{◌≡◌, ◌<◌, ◌≤◌, ℕ, false, [], Option, Some}
+use Rattle.std.specs.Prelude.{◌≡◌, ℕ, false, [], Option, Some}
 use Rattle.caches.specs.declared.fault.CacheFault.TheVariants.{BadCapacity}
 use Rattle.caches.specs.Stored.{Stored}
 use Rattle.caches.specs.Held.{held}
 use Rattle.engine.specs.Units.{UnitValue, new_unit}
+use Rattle.renewal.specs.Renewing.{IsCapacity}
 use Rattle.smmuq_c.specs.HeldUnits.{HeldValue}
 use Rattle.smmuq_c.specs.declared.status.Status.{Status}
 use Rattle.smmuq_c.specs.declared.status.Status.TheVariants.{Done, Cache, NoMemory}
 use Rattle.smmuq_c.specs.declared.object.Object.{Object}
 use Rattle.smmuq_c.specs.declared.object.Object.TheVariants.{Unit as UnitOf}
-
--- a number of entries that caches may have
-abbrev pub IsCapacity : ℕ → Type 0
-IsCapacity capacity = (0 < capacity) × (capacity ≤ 65536)
 
 -- Empty caches of this capacity, which is in range.
 pub record AreNewCaches (capacity : ℕ) (caches : Stored) : Type 0 where

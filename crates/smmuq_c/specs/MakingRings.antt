@@ -8,6 +8,7 @@ use Rattle.ring.specs.NewRings.{IsNewRing}
 use Rattle.ring.specs.sender.Senders.{SenderValue}
 use Rattle.ring.specs.consumer.Consumers.{ConsumerValue}
 use Rattle.engine.specs.Units.{UnitValue}
+use Rattle.renewal.specs.Renewing.{IsCapacity}
 use Rattle.smmuq_c.specs.declared.status.Status.{Status}
 use Rattle.smmuq_c.specs.declared.status.Status.TheVariants.{Done, Cache, Ring, NoMemory}
 use Rattle.smmuq_c.specs.declared.object.Object.{Object}
@@ -15,7 +16,7 @@ use Rattle.smmuq_c.specs.declared.object.Object.TheVariants.{Sender as SenderOf,
 use Rattle.smmuq_c.specs.declared.seated_consumer.CallersDevice.{CallersDevice}
 use Rattle.smmuq_c.specs.declared.handle.Handle.{Handle}
 use Rattle.smmuq_c.specs.HeldConsumers.{with_none}
-use Rattle.smmuq_c.specs.Making.{IsCapacity, IsNewUnit}
+use Rattle.smmuq_c.specs.Making.{IsNewUnit}
 
 -- ---- what takes a new ring's commands
 

@@ -8,7 +8,8 @@ ghost use Rattle.std.specs.FinMap as finite;
 ghost use Rattle.smmuq_c.specs.Lists.{IsListed};
 ghost use Rattle.smmuq_c.specs.Entries.{HasFilled, HasEvicted, TellsEntry};
 ghost use Rattle.smmuq_c.specs.Registers.{HasAcknowledgedHeld, error_words, count_words};
-ghost use Rattle.smmuq_c.specs.Making.{AreNewCaches, IsNewUnit, IsCapacity};
+ghost use Rattle.renewal.specs.Renewing.{IsCapacity};
+ghost use Rattle.smmuq_c.specs.Making.{AreNewCaches, IsNewUnit};
 ghost use Rattle.smmuq_c.specs.Evicting.{HasLost, HasEvictedAll};
 ghost use Rattle.smmuq_c.specs.Own.{AreOwn};
 
