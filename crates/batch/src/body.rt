@@ -1,6 +1,5 @@
 //! A batch, command by command.
 ghost use Rattle.std.specs.Prelude.{◌≡◌, ◌++◌, ◌∷◌, [], List, Ok, OnOk, OnErr, IfSome, length, slice_get, map, false};
-ghost use Rattle.std.specs.List.{list_any};
 ghost use Rattle.cmdcodec.specs.declared.raw.Raw.{Raw};
 ghost use Rattle.cmdcodec.specs.Words.{encoding};
 ghost use Rattle.cmdcodec.specs.Opcodes.{is_sync};
@@ -9,6 +8,7 @@ ghost use Rattle.batch.specs.Ranges.{range_commands};
 ghost use Rattle.batch.specs.Detaching.{detach_commands};
 ghost use Rattle.batch.specs.Refusals.{unless, new_refusal, list_refusal, push_refusal, room_refusal, range_refusal};
 
+use crate::borrowed::BorrowedBatch;
 use crate::detach::{DETACH_COMMANDS, append_detach};
 use crate::fault::BatchFault;
 use crate::range::append_range;
@@ -50,16 +50,9 @@ impl Batch {
     pub fn from_raws(raws: &[Raw]) -> Result<Batch, BatchFault>
         ensures { result ≡ unless (list_refusal raws.now) raws.now }
     {
-        if raws.is_empty() {
-            return Err(BatchFault::Empty);
-        }
+        BorrowedBatch::new(raws)?;
         let mut commands = Commands::new();
-        if commands.try_extend_from_slice(raws).is_err() {
-            return Err(BatchFault::Full);
-        }
-        if has_sync(raws) {
-            return Err(BatchFault::SyncInside);
-        }
+        commands.try_extend_from_slice(raws).unwrap();
         Ok(Batch { commands })
     }
 
@@ -147,6 +140,15 @@ impl Batch {
         self.commands.len()
     }
 
+    /// The same commands, borrowed.
+    pub fn as_borrowed(&self) -> BorrowedBatch<'_>
+        ensures { result ≡ self.now }
+    {
+        BorrowedBatch {
+            commands: self.commands.as_slice(),
+        }
+    }
+
     /// The commands, as a slice.
     pub fn as_slice(&self) -> &[Raw]
         ensures value { result.now ≡ self.now }
@@ -162,10 +164,4 @@ impl Batch {
     {
         self.commands.get(index).copied()
     }
-}
-
-fn has_sync(raws: &[Raw]) -> bool
-    ensures { result ≡ list_any is_sync raws.now }
-{
-    raws.iter().any(|raw| raw.is_sync())
 }

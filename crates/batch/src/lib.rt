@@ -3,11 +3,13 @@
 #![tactic(auto)]
 
 mod body;
+mod borrowed;
 mod detach;
 mod fault;
 mod laws;
 mod range;
 
 pub use body::Batch;
+pub use borrowed::BorrowedBatch;
 pub use fault::BatchFault;
 pub use laws::ranges_are_reached_exactly;

@@ -1,5 +1,5 @@
 //! The caller that batch's README shows.
-use batch::{Batch, BatchFault};
+use batch::{Batch, BatchFault, BorrowedBatch};
 use cmdcodec::{Asid, Page, Raw, Vmid};
 
 #[test]
@@ -23,5 +23,11 @@ fn an_unmapped_buffer(rt: HostRuntime) -> Result<(), BatchFault> {
     assert_eq!(rt; batch.push_raw(sync), Err(BatchFault::SyncInside));
     batch.invalidate_range(vmid, asid, page, 64)?;
     assert_eq!(rt; batch.len(), 3);
+    // A batch of commands that stay where they are.
+    let commands = [one, more];
+    let borrowed = BorrowedBatch::new(&commands)?;
+    assert_eq!(rt; (borrowed.len(), borrowed.get(1)), (2, Some(more)));
+    assert_eq!(rt; batch.as_borrowed().as_slice(), batch.as_slice());
+    assert!(rt; BorrowedBatch::new(&[sync]).is_err());
     Ok(())
 }

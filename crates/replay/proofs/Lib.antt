@@ -1,4 +1,3 @@
 pub mod BodyLemmas
 pub mod MemoryLemmas
-pub mod SendLemmas
 pub mod StepsLemmas

@@ -31,3 +31,18 @@ fn a_batch_of_one_owner(rt: HostRuntime) {
     // A witness that the run so far is a run of the ring: it does nothing.
     simulator.run_stands();
 }
+
+#[test]
+fn a_batch_that_is_sent_at_once(rt: HostRuntime) {
+    let shape = Shape {
+        log2: 3,
+        senders: 1,
+        max_batches: 4,
+        capacity: 4,
+    };
+    let mut simulator = Simulator::new(rt.alloc(), &shape).expect(&rt, "memory");
+    let batch = Batch::new(CFGI_STE).expect(&rt, "no CMD_SYNC");
+    assert!(rt; simulator.has_sender(0) && !simulator.is_open(0));
+    let sent = simulator.send(0, batch.as_borrowed(), true);
+    assert_eq!(rt; sent, Ok(Some(1)));
+}

@@ -27,7 +27,7 @@ use crate::ring::Ring;
 use crate::sender::batch_length::batch_length;
 use crate::table::{Participants, Port};
 use atomic_table::Seat;
-use batch::Batch;
+use batch::{Batch, BorrowedBatch};
 pub use batch_kind::{Bare, BatchKind, Closing};
 pub use cause::{Cause, Refused};
 pub use open_reservation::{BareReservation, OpenReservation, Reservation};
@@ -147,7 +147,7 @@ impl Sender {
         ensures ring { MatchResult result (λ r. r.ring ≡ self.ring) (λ e. e.sender.ring ≡ self.ring) }
         ensures id { MatchResult result (λ r. r.sender ≡ self.number) (λ e. e.sender.number ≡ self.number) }
     {
-        self.reserve_as::<Closing>(ring, batch)
+        self.reserve_as::<Closing>(ring, batch.as_borrowed())
     }
 
     /// The same of a batch without a closing CMD_SYNC, which has no number (own).
@@ -163,24 +163,24 @@ impl Sender {
         ensures ring { MatchResult result (λ r. r.ring ≡ self.ring) (λ e. e.sender.ring ≡ self.ring) }
         ensures id { MatchResult result (λ r. r.sender ≡ self.number) (λ e. e.sender.number ≡ self.number) }
     {
-        self.reserve_as::<Bare>(ring, batch)
+        self.reserve_as::<Bare>(ring, batch.as_borrowed())
     }
 
-    /// The same of a batch of either kind: looks, and tries to reserve where the batch fits.
+    /// The same of a batch of either kind, whose commands their owner keeps: looks, and tries to reserve where it fits.
     pub fn reserve_as<'b, K: BatchKind>(
         self,
         ring: &Ring,
-        batch: &'b Batch,
+        batch: BorrowedBatch<'b>,
     ) -> Result<OpenReservation<'b, K>, Refused>
         requires { self.ring ≡ ring.now }
-        ensures reserved { IfOk result (λ r. IsReserved batch.now K.closes self r) }
-        ensures refused { IfErr result (λ e. IsRefused batch.now K.closes self e.cause e.sender) }
+        ensures reserved { IfOk result (λ r. IsReserved batch.entry K.closes self r) }
+        ensures refused { IfErr result (λ e. IsRefused batch.entry K.closes self e.cause e.sender) }
         ensures history { MatchResult result (λ r. Grew (SenderOf self.number) self.trail r.trail self.history r.history) (λ e. Grew (SenderOf self.number) self.trail e.sender.trail self.history e.sender.history) }
         ensures ring { MatchResult result (λ r. r.ring ≡ self.ring) (λ e. e.sender.ring ≡ self.ring) }
         ensures id { MatchResult result (λ r. r.sender ≡ self.number) (λ e. e.sender.number ≡ self.number) }
     {
         let mut sender = self;
-        let many = batch_length::<K>(batch);
+        let many = batch_length::<K>(&batch);
         let size = ring.geometry().size();
         if many > size {
             return Err(Cause::TooLong.refused(sender));
@@ -203,25 +203,25 @@ impl Sender {
     fn exchange<'b, K: BatchKind>(
         self,
         ring: &Ring,
-        batch: &'b Batch,
+        batch: BorrowedBatch<'b>,
         many: u32,
         seen: Control,
     ) -> Result<OpenReservation<'b, K>, Refused>
         requires ring { self.ring ≡ ring.now }
-        requires body { IsBody batch.now }
-        requires many { many ≡ length_with K.closes batch.now }
+        requires body { IsBody batch }
+        requires many { many ≡ length_with K.closes batch }
         requires seen { looked self.trail ≡ Some seen }
-        requires room { HasRoom batch.now K.closes self seen }
+        requires room { HasRoom batch K.closes self seen }
         requires left { HasBatchLeft self }
-        requires fits { Fits batch.now K.closes self }
+        requires fits { Fits batch K.closes self }
         requires control { IsControl self.ring.made_with.geometry seen }
-        ensures won { IfOk result (λ r. IsWon batch.now K.closes seen self r) }
-        ensures lost { IfErr result (λ e. (e.cause ≡ Cause.Contended) × IsLost batch.now K.closes seen self e.sender) }
+        ensures won { IfOk result (λ r. IsWon batch.entry K.closes seen self r) }
+        ensures lost { IfErr result (λ e. (e.cause ≡ Cause.Contended) × IsLost batch.entry K.closes seen self e.sender) }
         ensures ring { MatchResult result (λ r. r.ring ≡ self.ring) (λ e. e.sender.ring ≡ self.ring) }
         ensures id { MatchResult result (λ r. r.sender ≡ self.number) (λ e. e.sender.number ≡ self.number) }
     {
         let Sender { mut port, tally } = self;
-        if port.exchange::<Brand>(ring, tally.sender, batch, K::closes(), many, &seen) {
+        if port.exchange::<Brand>(ring, tally.sender, &batch, K::closes(), many, &seen) {
             return Ok(OpenReservation {
                 port,
                 tally: tally.with_batch::<K>(),

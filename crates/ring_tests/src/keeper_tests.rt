@@ -68,7 +68,7 @@ fn a_reservation_waits_for_its_batch(rt: HostRuntime) {
     let (consumer, head) = take_one(&ring, consumer);
     assert_eq!(rt; head, Head::Unwritten);
     let consumer = keeper.take_consumer(&ring, consumer);
-    let reservation = keeper.lend_reservation::<Closing>(&ring, idle, &one);
+    let reservation = keeper.lend_reservation::<Closing>(&ring, idle, one.as_borrowed());
     let (sender, receipt) = reservation.publish(&ring);
     assert_eq!(rt; (receipt.sender(), receipt.number()), (0, 1));
     keeper.take_sender(&ring, sender);
@@ -90,7 +90,7 @@ fn a_bare_reservation_waits_for_its_batch(rt: HostRuntime) {
     assert!(rt; !idle.closes());
     assert_eq!(rt; (idle.first().get(), idle.number()), (0, None));
     let sender = keeper
-        .lend_reservation::<Bare>(&ring, idle, &one)
+        .lend_reservation::<Bare>(&ring, idle, one.as_borrowed())
         .publish(&ring);
     keeper.take_sender(&ring, sender);
     let consumer = keeper.lend_consumer(&ring, consumer);
@@ -121,7 +121,7 @@ fn steps_amid_a_reservation(rt: HostRuntime) {
         (seen.prod.get(), seen.cons.get(), seen.closed),
         (2, 0, true)
     );
-    let reservation = keeper.lend_reservation::<Closing>(&ring, idle, &one);
+    let reservation = keeper.lend_reservation::<Closing>(&ring, idle, one.as_borrowed());
     let (sender, receipt) = reservation.publish(&ring);
     assert_eq!(rt; (receipt.sender(), receipt.number()), (0, 1));
     keeper.take_sender(&ring, sender);

@@ -1,11 +1,11 @@
 //! What no clause says of the senders: the names of faults and causes, and that calls succeed.
 ghost use Rattle.std.specs.Prelude.{◌≡◌};
 
-use crate::batches::batch_of;
+use crate::batches::{CFGI_STE, batch_of};
 use crate::calls::{Seats, expect_answers, play, ring_of_one, ring_of_two};
 use crate::device::NoEntries;
 use crate::sender_calls::send;
-use batch::Batch;
+use batch::{Batch, BorrowedBatch};
 use ring::{Cause, Ring, RingFault, Sender};
 use std::alloc::{AllocError, Global};
 use std::process::Abort;
@@ -52,6 +52,21 @@ fn as_many_batches_as_it_may(rt: HostRuntime) {
          send 1 = Q5\n\
          send 8 = Q4",
     );
+}
+
+#[test]
+fn commands_are_sent_from_where_they_stand(rt: HostRuntime) {
+    let (ring, seats) = ring_of_one(&rt, 3, 2);
+    let commands = [CFGI_STE; 2];
+    let batch = BorrowedBatch::new(&commands).expect(&rt, "no CMD_SYNC");
+    let Ok((sender, receipt)) = seats.sender.send_borrowed(&ring, batch.reborrow(), 1) else {
+        panic!(rt; "the first batch is refused");
+    };
+    assert_eq!(rt; receipt.number(), 1);
+    let Ok(mut sender) = sender.send_borrowed_bare(&ring, batch, 1) else {
+        panic!(rt; "the second batch is refused");
+    };
+    assert_eq!(rt; sender.look(&ring).prod.get(), 5);
 }
 
 #[test]

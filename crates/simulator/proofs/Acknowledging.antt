@@ -6,7 +6,7 @@ use Rattle.engine.specs.declared.stop.Mode.TheVariants as mode
 use Rattle.engine.specs.declared.remedy.Remedy.{Remedy}
 use Rattle.engine.specs.declared.remedy.AckFault.{AckFault}
 use Rattle.engine.specs.declared.remedy.AckFault.TheVariants.{NoError, OtherBit}
-use Rattle.engine.specs.Stops.{StopValue, IsStopped, IsAcknowledgementAnswer, told, command_queue_bit}
+use Rattle.engine.specs.Stops.{IsStopped, IsAcknowledgementAnswer, told, command_queue_bit}
 use Rattle.engine.specs.Units.{UnitValue}
 use Rattle.simulator.specs.queue.Seated.{QueueValue}
 use Rattle.simulator.specs.State.{State, Answered}

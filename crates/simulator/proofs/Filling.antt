@@ -13,7 +13,6 @@ use Rattle.caches.specs.Stored.{Stored, IsFillAnswer}
 use Rattle.simulator.specs.Blocks.{is_aligned, is_block}
 use Rattle.ringcore.specs.world.World.{world}
 use Rattle.caches.specs.Held.{Fill, Evict}
-use Rattle.engine.specs.Counting.{taken}
 use Rattle.engine.specs.Units.{UnitValue, with_entries, filled as filled_in_unit}
 use Rattle.simulator.specs.queue.Seated.{QueueValue}
 use Rattle.simulator.specs.State.{State, Answered, entries, taken_so_far, unit_of}

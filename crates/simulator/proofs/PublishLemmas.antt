@@ -1,5 +1,5 @@
 -- What a publication by the sender of the ring adds to the run.
-use Rattle.std.proofs.Common.{◌≡◌, ℕ, zero, suc, ◌+◌, ◌-◌, ◌%◌, ◌*◌, ◌<◌, ◌≤◌, Bool, true, false, cond, List, [], ◌∷◌, ◌++◌, refl, sym, ap, ap₂, ◌∙◌, subst, inl, inr, arith, mod-lt}
+use Rattle.std.proofs.Common.{◌≡◌, ℕ, zero, suc, ◌+◌, ◌-◌, ◌%◌, ◌*◌, ◌<◌, ◌≤◌, Bool, true, false, cond, List, [], ◌∷◌, ◌++◌, Option, Ok, refl, sym, ap, ap₂, ◌∙◌, subst, inl, inr, arith, mod-lt}
 use Rattle.std.proofs.lemmas.Bool.{cases_lt, lt-leb, lt-ltb}
 use Rattle.std.proofs.lemmas.Nat.{pow_pos}
 use Rattle.std.specs.Prelude.{nat_le, min}
@@ -12,7 +12,6 @@ use Rattle.ringcore.specs.declared.world.event.Who.{Who}
 use Rattle.ringcore.specs.declared.world.event.Who.TheVariants.{Sender}
 use Rattle.ringcore.specs.declared.world.event.Half.TheVariants.{Lo, Hi}
 use Rattle.ringcore.specs.declared.world.event.Event.{Event}
-use Rattle.ringcore.specs.declared.world.event.Event.TheVariants as event
 use Rattle.ringcore.specs.declared.world.event.Event.TheVariants.{Write, Flip}
 use Rattle.ringcore.specs.world.Trails.{Trail, Run, trail_of, reserved_length, start_index}
 use Rattle.ringcore.specs.world.World.{world}
@@ -25,7 +24,8 @@ use Rattle.ring.specs.Keepers.{KeeperValue, IdleReservationValue, Adds, own_rese
 use Rattle.ring.specs.sender.Senders.{SenderValue}
 use Rattle.ring.specs.sender.Reservations.{ReservationValue, reserved_number, number_when}
 use Rattle.ring.specs.sender.Publishing.{wrote_one, wrote_many, flipped_left, sender_of, published as published_by_ring}
-use Rattle.simulator.specs.queue.Publishing.{last_number, written, flipped, first_flags, published}
+use Rattle.simulator.specs.queue.Publishing.{written, flipped, first_flags, published}
+use Rattle.simulator.specs.queue.Trying.{reserved_as, IsTriedWell, HasSent}
 use Rattle.simulator.proofs.SeatLemmas.{IsCall, length_some}
 
 -- The trail has some events more than this one, and the run has just these more.
@@ -224,21 +224,18 @@ published_so places shared two_words starts old new body idle r t ok is unwritte
 
 -- ---- its number
 
-number_of : (t : Trail) → reserved_number t ≡ last_number t
-number_of [] = refl
-number_of (event.Look found ∷ es) = number_of es
-number_of (event.Won body number ∷ es) = refl
-number_of (event.Lost body closes found ∷ es) = number_of es
-number_of (event.Write offset half ∷ es) = number_of es
-number_of (event.Flip offset count ∷ es) = number_of es
-number_of (event.Test limit found ∷ es) = number_of es
-number_of (event.Read offset half word ∷ es) = number_of es
-number_of (event.Advance raws ∷ es) = number_of es
-number_of (event.Close ∷ es) = number_of es
-number_of (event.Acknowledge sender number ∷ es) = number_of es
-number_of (event.Ask found ∷ es) = number_of es
-
 pub last_is : (keeper : KeeperValue) (s : ℕ) (body : List Raw) (idle : IdleReservationValue) → idle.tally.sender ≡ s → IsIdleReservation keeper body idle
-    → number_when idle.closes idle.tally.numbers ≡ last_number (trail_of (Sender s) keeper.run)
+    → number_when idle.closes idle.tally.numbers ≡ reserved_number (trail_of (Sender s) keeper.run)
 last_is keeper s body idle sender_is is =
-    sym is.number_is ∙ number_of (trail_of (Sender idle.tally.sender) keeper.run) ∙ ap (λ (n : ℕ). last_number (trail_of (Sender n) keeper.run)) sender_is
+    sym is.number_is ∙ ap (λ (n : ℕ). reserved_number (trail_of (Sender n) keeper.run)) sender_is
+
+-- ---- a batch that is reserved and then handed over
+
+pub sent_well : (old mid new : KeeperValue) (s : ℕ) (body : List Raw) (closes : Bool) (idle : IdleReservationValue) (number : Option ℕ) → IsTriedWell old mid s body closes idle → mid.ring ≡ old.ring
+    → new.run ≡ published mid.ring.made_with.geometry idle.tally.sender mid.run → number ≡ number_when idle.closes idle.tally.numbers → HasSent old new s body closes (Ok number)
+sent_well old mid new s body closes idle number tried ring run number_is = (
+  reserved_as idle,
+  tried.answer_is,
+  run ∙ (λ k. published (ring k).made_with.geometry (tried.seat.sender_is k) (tried.run_is k)),
+  number_is ∙ last_is mid s body idle tried.seat.sender_is tried.seat.open_is ∙ ap (λ (r : Run). reserved_number (trail_of (Sender s) r)) tried.run_is,
+)

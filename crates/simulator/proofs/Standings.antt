@@ -1,5 +1,5 @@
 -- What calls of a sender keep of a state, and how a simulator stands after them.
-use Rattle.std.proofs.Common.{◌≡◌, refl, ap, sym, ◌∙◌, ℕ, zero, suc, ◌-◌, Bool, List, Option, Some, None}
+use Rattle.std.proofs.Common.{◌≡◌, refl, ap, ap₂, sym, subst, ◌∙◌, ℕ, zero, suc, ◌-◌, Bool, List, Option, Some, None, Result, Ok, Err}
 use Rattle.cmdcodec.specs.declared.raw.Raw.{Raw}
 use Rattle.ringcore.specs.declared.world.event.Who.TheVariants.{Sender}
 use Rattle.ringcore.specs.world.Trails.{Run, trail_of, reserved_length}
@@ -9,10 +9,13 @@ use Rattle.ring.specs.declared.sender.cause.Cause.{Cause}
 use Rattle.ring.specs.Rings.{RingValue}
 use Rattle.ring.specs.Keepers.{KeeperValue}
 use Rattle.engine.specs.Units.{UnitValue}
-use Rattle.simulator.specs.queue.Reserving.{cause_ahead, cause_seen, unless_seen, unless_ahead, try_to_reserve}
+use Rattle.ring.specs.sender.Reservations.{reserved_number}
+use Rattle.simulator.specs.declared.queue.reserved.Reserved.{Reserved}
+use Rattle.simulator.specs.queue.Reserving.{Try, cause_ahead, cause_seen, unless_seen, unless_ahead, try_to_reserve}
+use Rattle.simulator.specs.queue.Trying.{tried_by, HasSent}
 use Rattle.simulator.specs.queue.Publishing.{written, flipped, first_flags, published}
-use Rattle.simulator.specs.State.{State, counts_of, unit_of}
-use Rattle.simulator.specs.Seats.{with_run}
+use Rattle.simulator.specs.State.{State, Answered, counts_of, unit_of}
+use Rattle.simulator.specs.Seats.{with_run, handed_over, sent}
 use Rattle.simulator.specs.Standing.{StandFor}
 
 -- Nothing more is taken.
@@ -61,3 +64,31 @@ stands_after old new unit state run ring is none s = record {
   run = is;
   unit_is = s.unit_is ∙ sym (ap (λ (taken : List Taken). record (unit_of state) { counts = counts_of taken state.history }) none);
 }
+
+-- ---- a batch that is sent
+
+module _ (old new : KeeperValue) (unit : UnitValue) (state : State) (s : ℕ) (body : List Raw) (closes : Bool) (ring_is : new.ring ≡ old.ring) (is : StandFor old unit state) where
+  abbrev tried : Try
+  tried = try_to_reserve state.ring state.ring.max_batches s body closes state.run
+
+  same : tried_by old s body closes ≡ tried
+  same = ap₂ (λ (ring : Ring) (run : Run). try_to_reserve ring ring.max_batches s body closes run) is.ring is.run
+
+  took_none : TakesNone state.run tried.run
+  took_none = try_takes_none state.ring state.ring.max_batches s body closes state.run
+
+  abbrev IsDone : Result (Option ℕ) Cause → Answered (Result (Option ℕ) Cause) → Type 0
+  IsDone result done = (result ≡ done.answer) × StandFor new unit done.state
+
+  handed : (result : Result (Option ℕ) Cause) (answer : Result Reserved Cause) → (tried_by old s body closes).answer ≡ answer → IsDone result (handed_over s answer (with_run state tried.run))
+      → IsDone result (sent s body closes state)
+  handed result answer answered = subst (λ (a : Result Reserved Cause). IsDone result (handed_over s a (with_run state tried.run))) (sym answered ∙ ap (λ (t : Try). t.answer) same)
+
+  pub stands_sent : (result : Result (Option ℕ) Cause) → HasSent old new s body closes result → IsDone result (sent s body closes state)
+  stands_sent (Ok number) did =
+      handed (Ok number) (Ok did.0) did.1 (
+        ap Ok (did.3 ∙ ap (λ (t : Try). reserved_number (trail_of (Sender s) t.run)) same),
+        stands_after old new unit state (published state.ring.geometry s tried.run) ring_is (did.2 ∙ (λ k. published (is.ring k).geometry s (same k).run))
+            (published_takes_none state.ring.geometry s tried.run ∙ took_none) is,
+      )
+  stands_sent (Err cause) did = handed (Err cause) (Err cause) did.0 (refl, stands_after old new unit state tried.run ring_is (did.1 ∙ ap (λ (t : Try). t.run) same) took_none is)

@@ -8,20 +8,23 @@ ghost use Rattle.ringcore.specs.RingFaults.{IsNotMade, number_fault};
 ghost use Rattle.ring.specs.NewRings.{made_with};
 ghost use Rattle.ring.specs.table.Keeping.{RunStands};
 ghost use Rattle.ring.specs.Keepers.{IsIdleConsumer};
+ghost use Rattle.ring.specs.sender.Reservations.{reserved_number};
 ghost use Rattle.simulator.specs.queue.Seated.{ring_in, AreNew, IsIdle, LeavesConsumer};
-ghost use Rattle.simulator.specs.queue.Trying.{tried_by};
-ghost use Rattle.simulator.specs.queue.Publishing.{last_number, published};
+ghost use Rattle.simulator.specs.queue.Trying.{tried_by, HasSent};
+ghost use Rattle.simulator.specs.queue.Publishing.{published};
 ghost use Rattle.simulator.specs.declared.queue.Seat.TheVariants.{Idle};
 
 mod asking;
 mod publishing;
 mod reserved;
+mod sending;
 mod stepping;
 mod trying;
 
 use crate::queue::publishing::hand_over;
+use crate::queue::sending::send_once;
 use crate::queue::trying::try_once;
-use batch::Batch;
+use batch::{Batch, BorrowedBatch};
 use engine::Unit;
 pub use reserved::Reserved;
 use ring::{Cause, IdleConsumer, IdleReservation, IdleSender, Keeper, Ring, RingFault};
@@ -132,7 +135,7 @@ impl Queue {
             seats,
         } = self;
         let idle = idle_in(&seats[sender as usize]);
-        match try_once(keeper, ring, idle, &batch, closes) {
+        match try_once(keeper, ring, idle, batch.as_borrowed(), closes) {
             Ok(idle) => {
                 let reserved = Reserved {
                     first: idle.first(),
@@ -148,12 +151,41 @@ impl Queue {
         }
     }
 
+    /// A sender tries once to reserve a batch, hands it over where it could, and tells its number, if it has one.
+    ///
+    /// Errors: as of `reserve`.
+    pub(crate) fn send(
+        &mut self,
+        sender: u32,
+        batch: BorrowedBatch<'_>,
+        closes: bool,
+    ) -> Result<Option<u32>, Cause>
+        requires known { sender < (ring_in self.old).senders }
+        requires settled { is_open (trail_of (Sender sender) self.old.keeper.run) ≡ false }
+        ensures sent { HasSent self.old.keeper self.new.keeper sender batch.entry closes result }
+        ensures consumer { LeavesConsumer self.old.keeper self.new.keeper }
+    {
+        let Queue {
+            ring,
+            keeper,
+            seats,
+        } = self;
+        match &mut seats[sender as usize] {
+            Seat::Idle(idle) => {
+                let (left, sent) = send_once(keeper, ring, *idle, batch, closes);
+                *idle = left;
+                sent
+            }
+            Seat::Open { .. } => unreachable!(),
+        }
+    }
+
     /// A sender writes its open reservation and hands it over, and tells the number of its batch, if it has one.
     pub(crate) fn publish(&mut self, sender: u32) -> Option<u32>
         requires known { sender < (ring_in self.old).senders }
         requires opened { is_open (trail_of (Sender sender) self.old.keeper.run) ≡ true }
         ensures run { self.new.keeper.run ≡ published (ring_in self.old).geometry sender self.old.keeper.run }
-        ensures number { result ≡ last_number (trail_of (Sender sender) self.old.keeper.run) }
+        ensures number { result ≡ reserved_number (trail_of (Sender sender) self.old.keeper.run) }
         ensures consumer { LeavesConsumer self.old.keeper self.new.keeper }
     {
         let Queue {
@@ -162,7 +194,10 @@ impl Queue {
             seats,
         } = self;
         let (idle, number) = match &seats[sender as usize] {
-            Seat::Open { idle, batch } => (hand_over(keeper, ring, *idle, batch), idle.number()),
+            Seat::Open { idle, batch } => (
+                hand_over(keeper, ring, *idle, batch.as_borrowed()),
+                idle.number(),
+            ),
             Seat::Idle(_) => unreachable!(),
         };
         seats[sender as usize] = Seat::Idle(idle);

@@ -7,14 +7,14 @@ ghost use Rattle.ring.specs.table.Keeping.{RunStands};
 ghost use Rattle.simulator.specs.Shapes.{shape_fault, IsNotMade};
 ghost use Rattle.simulator.specs.State.{made, mine, entries, counted, registers_told};
 ghost use Rattle.simulator.specs.Fills.{filled, evicted};
-ghost use Rattle.simulator.specs.Seats.{looked, closed, asked, reserved, published_by};
+ghost use Rattle.simulator.specs.Seats.{looked, closed, asked, reserved, published_by, sent};
 ghost use Rattle.simulator.specs.Steps.{stepped, acknowledged};
 ghost use Rattle.simulator.specs.queue.Seated.{ring_in};
 ghost use Rattle.simulator.specs.Standing.{Stands, Does, MayDo, HasOpen, Tells};
 
 use crate::queue::{Queue, Reserved};
 use crate::shape::{Shape, ShapeFault};
-use batch::Batch;
+use batch::{Batch, BorrowedBatch};
 use caches::{CacheFault, Caches, Entry, Tag};
 use engine::{AckFault, Counts, Registers, Remedy, StepAnswer, Unit};
 use qindex::Control;
@@ -109,6 +109,22 @@ impl Simulator {
         // For its clause `body`: a batch has a command.
         batch.len();
         self.queue.reserve(sender, batch, closes)
+    }
+
+    /// A sender tries once to reserve a batch, hands it over where it could, and tells its number, if it has one.
+    ///
+    /// Errors: as of `reserve`.
+    pub fn send(
+        &mut self,
+        sender: u32,
+        batch: BorrowedBatch<'_>,
+        closes: bool,
+    ) -> Result<Option<u32>, Cause>
+        requires sender { sender < (ring_in self.old.queue).senders }
+        requires settled { HasOpen self.old sender false }
+        ensures { Does self.old self.new result (sent sender batch.entry closes) }
+    {
+        self.queue.send(sender, batch, closes)
     }
 
     /// A sender writes its open reservation and hands it over, and tells the number of its batch, if it has one.

@@ -7,7 +7,7 @@ ghost use Rattle.smmuq_c.specs.Sends.{HasSent, HasSentBare, HasTold, HasToldLeft
 use crate::seated_reservation::SeatedReservation;
 use crate::status::Status;
 use crate::words::ControlWords;
-use batch::{Batch, BatchFault};
+use batch::{Batch, BorrowedBatch};
 use cmdcodec::Raw;
 use ring::{Cause, Receipt, Refused, Ring, Sender};
 use std::marker::Model;
@@ -72,12 +72,12 @@ impl SeatedSender {
     pub(crate) fn send(&mut self, commands: &[Raw], tries: u32, number: &mut u32) -> Status
         ensures { HasSent commands.now tries number.new self.old self.new result }
     {
-        let batch = match Batch::from_raws(commands) {
+        let batch = match BorrowedBatch::new(commands) {
             Ok(batch) => batch,
             Err(fault) => return Status::Batch(fault),
         };
         let sender = self.sender.take().unwrap();
-        match sender.send(&self.ring, &batch, tries.max(1)) {
+        match sender.send_borrowed(&self.ring, batch, tries.max(1)) {
             Ok((sender, receipt)) => {
                 self.sender = Some(sender);
                 *number = receipt.number();
@@ -94,12 +94,12 @@ impl SeatedSender {
     pub(crate) fn send_bare(&mut self, commands: &[Raw], tries: u32) -> Status
         ensures { HasSentBare commands.now tries self.old self.new result }
     {
-        let batch = match Batch::from_raws(commands) {
+        let batch = match BorrowedBatch::new(commands) {
             Ok(batch) => batch,
             Err(fault) => return Status::Batch(fault),
         };
         let sender = self.sender.take().unwrap();
-        match sender.send_bare(&self.ring, &batch, tries.max(1)) {
+        match sender.send_borrowed_bare(&self.ring, batch, tries.max(1)) {
             Ok(sender) => {
                 self.sender = Some(sender);
                 Status::Done
@@ -114,9 +114,11 @@ impl SeatedSender {
     pub(crate) fn done_up_to(&mut self, number: &mut u32) -> Status
         ensures { HasTold number.new self.old self.new result }
     {
-        let mut sender = self.sender.take().unwrap();
-        *number = sender.done_up_to(&self.ring);
-        self.sender = Some(sender);
+        let SeatedSender { ring, sender } = self;
+        let Some(sender) = sender else {
+            unreachable!();
+        };
+        *number = sender.done_up_to(ring);
         Status::Done
     }
 
@@ -124,28 +126,33 @@ impl SeatedSender {
     pub(crate) fn left(&mut self, batches: &mut u32) -> Status
         ensures { HasToldLeft batches.new self.old self.new result }
     {
-        let sender = self.sender.take().unwrap();
-        *batches = sender.batches_left(&self.ring);
-        self.sender = Some(sender);
+        let SeatedSender { ring, sender } = self;
+        let Some(sender) = sender else {
+            unreachable!();
+        };
+        *batches = sender.batches_left(ring);
         Status::Done
     }
 
     pub(crate) fn close(&mut self) -> Status
         ensures { HasClosed self.old self.new result }
     {
-        let mut sender = self.sender.take().unwrap();
-        sender.close(&self.ring);
-        self.sender = Some(sender);
+        let SeatedSender { ring, sender } = self;
+        let Some(sender) = sender else {
+            unreachable!();
+        };
+        sender.close(ring);
         Status::Done
     }
 
     pub(crate) fn look(&mut self, told: &mut ControlWords) -> Status
         ensures { HasLookedFor told.new self.old self.new result }
     {
-        let mut sender = self.sender.take().unwrap();
-        let control = sender.look(&self.ring);
-        self.sender = Some(sender);
-        *told = ControlWords::of(&control);
+        let SeatedSender { ring, sender } = self;
+        let Some(sender) = sender else {
+            unreachable!();
+        };
+        *told = ControlWords::of(&sender.look(ring));
         Status::Done
     }
 }

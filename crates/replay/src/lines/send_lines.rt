@@ -3,14 +3,14 @@ ghost use Rattle.std.specs.Prelude.{◌≡◌, ◌<◌, IfOk, OnOk, Ok, string_b
 ghost use Rattle.script.specs.Standing.{Acts};
 ghost use Rattle.simulator.specs.queue.Seated.{ring_in};
 ghost use Rattle.simulator.specs.Standing.{Stands, HasOpen};
-ghost use Rattle.replay.specs.effects.SendLines.{body_of, body_effect, reserved_effect, send_effect};
+ghost use Rattle.replay.specs.effects.SendLines.{body_of, body_effect, send_effect};
 
 use crate::request::{Content, Sending};
 use crate::sender_fault::settled_fault;
 use crate::telling::{say_batch_refused, say_opened, say_reserving_refused, say_sent};
-use batch::{Batch, BatchFault};
+use batch::{Batch, BatchFault, BorrowedBatch};
 use script::say_fault;
-use simulator::{Reserved, Simulator};
+use simulator::Simulator;
 use std::alloc::AllocError;
 
 /// The commands of a batch, or why they are refused.
@@ -29,27 +29,26 @@ fn batch_of(content: &Content) -> Result<Batch, BatchFault>
     }
 }
 
-/// Hands over what was reserved, where the line says so.
-fn hand_over(
+/// Sends a batch, which is handed over at once.
+fn send_now(
     simulator: &mut Simulator,
     sending: &Sending,
-    reserved: Reserved,
+    batch: BorrowedBatch<'_>,
     reply: &mut String,
 ) -> Result<(), AllocError>
     requires sender { sending.now.sender < (ring_in simulator.old.queue).senders }
-    requires opened { HasOpen simulator.old sending.now.sender true }
-    ensures { OnOk result (Acts Stands (λ wanting. reserved_effect sending.now reserved) simulator.old simulator.new (string_bytes reply.old) (string_bytes reply.new) true) }
+    requires settled { HasOpen simulator.old sending.now.sender false }
+    requires publishes { sending.now.publishes ≡ true }
+    ensures { OnOk result (Acts Stands (λ wanting. body_effect sending.now (Ok batch.entry)) simulator.old simulator.new (string_bytes reply.old) (string_bytes reply.new) true) }
 {
-    if sending.publishes {
-        let number = simulator.publish(sending.sender);
-        say_sent(sending.sender, number, reply)
-    } else {
-        say_opened(sending.sender, reserved.number, reserved.first, reply)
+    match simulator.send(sending.sender, batch, sending.closes) {
+        Ok(number) => say_sent(sending.sender, number, reply),
+        Err(cause) => say_reserving_refused(cause, reply),
     }
 }
 
-/// Reserves a batch, and hands it over where the line says so.
-fn send_batch(
+/// Reserves a batch, which stays open.
+fn open(
     simulator: &mut Simulator,
     sending: &Sending,
     batch: Batch,
@@ -57,11 +56,40 @@ fn send_batch(
 ) -> Result<(), AllocError>
     requires sender { sending.now.sender < (ring_in simulator.old.queue).senders }
     requires settled { HasOpen simulator.old sending.now.sender false }
+    requires stays { sending.now.publishes ≡ false }
     ensures { OnOk result (Acts Stands (λ wanting. body_effect sending.now (Ok batch)) simulator.old simulator.new (string_bytes reply.old) (string_bytes reply.new) true) }
 {
     match simulator.reserve(sending.sender, batch, sending.closes) {
-        Ok(reserved) => hand_over(simulator, sending, reserved, reply),
+        Ok(reserved) => say_opened(sending.sender, reserved.number, reserved.first, reply),
         Err(cause) => say_reserving_refused(cause, reply),
+    }
+}
+
+/// Sends what the line says, or reserves it alone.
+fn send_content(
+    simulator: &mut Simulator,
+    sending: &Sending,
+    reply: &mut String,
+) -> Result<(), AllocError>
+    requires sender { sending.now.sender < (ring_in simulator.old.queue).senders }
+    requires settled { HasOpen simulator.old sending.now.sender false }
+    ensures { OnOk result (Acts Stands (λ wanting. body_effect sending.now (body_of sending.now.content)) simulator.old simulator.new (string_bytes reply.old) (string_bytes reply.new) true) }
+{
+    match &sending.content {
+        // So no batch is made, and no command is copied but into its slot.
+        Content::Commands(body) if sending.publishes => {
+            match BorrowedBatch::new(body.as_slice()) {
+                Ok(batch) => send_now(simulator, sending, batch, reply),
+                Err(fault) => say_batch_refused(fault, reply),
+            }
+        }
+        content => match batch_of(content) {
+            Ok(batch) if sending.publishes => {
+                send_now(simulator, sending, batch.as_borrowed(), reply)
+            }
+            Ok(batch) => open(simulator, sending, batch, reply),
+            Err(fault) => say_batch_refused(fault, reply),
+        },
     }
 }
 
@@ -77,9 +105,6 @@ pub(super) fn send(
         say_fault(number, fault.label(), reply)?;
         return Ok(false);
     }
-    match batch_of(&sending.content) {
-        Ok(batch) => send_batch(simulator, sending, batch, reply)?,
-        Err(fault) => say_batch_refused(fault, reply)?,
-    }
+    send_content(simulator, sending, reply)?;
     Ok(true)
 }

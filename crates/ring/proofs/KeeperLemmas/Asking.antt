@@ -23,7 +23,7 @@ use Rattle.ring.specs.table.Meetings.{all_knowing, AllSit, has_found}
 use Rattle.ring.specs.table.Keeping.{RunStands, AllKnow}
 use Rattle.ring.specs.table.Ports.{PortValue}
 use Rattle.ring.specs.sender.Senders.{IsTallied, IsSender}
-use Rattle.ring.specs.sender.Reservations.{reserved_number, IsOpen}
+use Rattle.ring.specs.sender.Reservations.{reserved_number, reserved_body, IsOpen}
 use Rattle.ring.specs.Keepers.{KeeperValue, keeper_of, missing, IsKeeper, own_port, has_lent, has_back, with_step, IdleReservationValue, KeepsAll}
 use Rattle.ring.proofs.TableLemmas.Meetings.{finds_at}
 use Rattle.ring.proofs.KeeperLemmas.Growing.{grown_run_is}
@@ -55,6 +55,7 @@ pub record Leaves (t u : Trail) : Type 0 where
   pub numbers : numbers_given u ≡ numbers_given t
   pub many : reserved_length u ≡ reserved_length t
   pub number : reserved_number u ≡ reserved_number t
+  pub body : reserved_body u ≡ reserved_body t
   pub commands : (s : ℕ) → reserved_commands s u ≡ reserved_commands s t
   pub start : (geometry : ℕ) → start_index geometry u ≡ start_index geometry t
   pub written : (slot : ℕ) (half : Half) → has_written slot half u ≡ has_written slot half t
@@ -91,6 +92,7 @@ left_open : (p : PortValue) (u : Trail) (h : Run) (body : List Raw) (idle : Idle
 left_open p u h body idle leaves is =
     let tallied = left_tally p u h idle.tally leaves is.tallied in
     let number = leaves.number ∙ is.number_is in
+    let reserved = leaves.body ∙ is.reserved in
     let commands = leaves.commands idle.tally.sender ∙ is.commands_are in
     let many = leaves.many ∙ is.many in
     let start = is.start_is ∙ sym (leaves.start p.ring.made_with.geometry) in

@@ -38,6 +38,12 @@ reserved_number [] = None
 reserved_number (Won body number ∷ es) = number
 reserved_number (e ∷ es) = reserved_number es
 
+-- its commands, without a CMD_SYNC that closes it
+abbrev pub reserved_body : Trail → List Raw
+reserved_body [] = []
+reserved_body (Won body number ∷ es) = body
+reserved_body (e ∷ es) = reserved_body es
+
 abbrev pub number_when : Bool → ℕ → Option ℕ
 number_when true number = Some number
 number_when false number = None
@@ -46,6 +52,7 @@ number_when false number = None
 pub record IsOpen (port : PortValue) (tally : Tally) (body : List Raw) (closes : Bool) (start : IndexValue) (written flipped : ℕ) : Type 0 where
   pub tallied : IsTallied port tally
   pub body_is : IsBody body
+  pub reserved : reserved_body port.trail ≡ body
   pub number_is : reserved_number port.trail ≡ number_when closes tally.numbers
   pub commands_are : reserved_commands tally.sender port.trail ≡ commands tally.sender (number_when closes tally.numbers) body
   pub many : reserved_length port.trail ≡ length_with closes body

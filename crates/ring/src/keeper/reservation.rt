@@ -9,7 +9,7 @@ ghost use Rattle.ring.specs.Keepers.{own_reservation, has_lent, has_back, Adds, 
 use crate::keeper::Keeper;
 use crate::ring::Ring;
 use crate::sender::{BatchKind, OpenReservation, Tally};
-use batch::Batch;
+use batch::BorrowedBatch;
 use qindex::Index;
 use std::marker::{Model, PhantomData};
 
@@ -76,14 +76,14 @@ impl Keeper {
         &mut self,
         ring: &Ring,
         idle: IdleReservation,
-        batch: &'b Batch,
+        batch: BorrowedBatch<'b>,
     ) -> OpenReservation<'b, K>
         requires ring { self.old.ring ≡ ring.now }
         requires whole { self.old.lent ≡ None }
         requires known { idle.tally.sender < self.old.ring.made_with.senders }
         requires closes { idle.closes ≡ K.closes }
-        requires idle { IsIdleReservation self.old batch.now idle }
-        ensures reservation { result ≡ own_reservation batch.now idle self.old }
+        requires idle { IsIdleReservation self.old batch idle }
+        ensures reservation { result ≡ own_reservation batch.entry idle self.old }
         ensures keeper { self.new ≡ has_lent (SenderOf idle.tally.sender) self.old }
     {
         let IdleReservation {

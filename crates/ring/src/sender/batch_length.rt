@@ -4,10 +4,10 @@ ghost use Rattle.cmdcodec.specs.Bodies.{IsBody};
 ghost use Rattle.ringcore.specs.world.Allowed.{length_with};
 
 use crate::sender::batch_kind::BatchKind;
-use batch::Batch;
+use batch::BorrowedBatch;
 
 /// How many commands a batch has, with its closing CMD_SYNC where it has one.
-pub fn batch_length<K: BatchKind>(batch: &Batch) -> u32
+pub fn batch_length<K: BatchKind>(batch: &BorrowedBatch<'_>) -> u32
     ensures value { result ≡ length_with K.closes batch.now }
     ensures body { IsBody batch.now }
     ensures some { 1 ≤ result }

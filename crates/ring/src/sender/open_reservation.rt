@@ -15,7 +15,7 @@ use crate::sender::batch_length::batch_length;
 use crate::sender::receipt::Receipt;
 use crate::sender::tally::Tally;
 use crate::table::Port;
-use batch::Batch;
+use batch::BorrowedBatch;
 use cmdcodec::{Raw, closing_sync, encode};
 use qindex::Index;
 use ringcore::{Half, shared_word};
@@ -27,13 +27,13 @@ pub type Reservation<'b> = OpenReservation<'b, Closing>;
 /// Slots that are reserved for a batch alone (own). It must be spent by `publish`.
 pub type BareReservation<'b> = OpenReservation<'b, Bare>;
 
-/// Slots that are reserved for a batch of this kind. It borrows the batch, so that no command is copied but into its
+/// Slots that are reserved for a batch of this kind. It borrows the commands, so that none is copied but into its
 /// slot. It must be spent by `hand_over` or `publish`.
 pub struct OpenReservation<'b, K: BatchKind> {
     pub(crate) port: Port,
     /// With this batch.
     pub(crate) tally: Tally,
-    pub(crate) batch: &'b Batch,
+    pub(crate) batch: BorrowedBatch<'b>,
     /// The index of the first slot.
     pub(crate) start: Index,
     pub(crate) written: u32,
@@ -46,9 +46,9 @@ impl<'b, K: BatchKind> Model for OpenReservation<'b, K> {
 
     ghost Value = { ReservationValue };
 
-    ghost view = { λ r. record { ring = r.port.ring; sender = r.tally.sender; body = r.batch.now; closes = K.closes; trail = r.port.trail; history = r.port.history; written = r.written; flipped = r.flipped } };
+    ghost view = { λ r. record { ring = r.port.ring; sender = r.tally.sender; body = r.batch; closes = K.closes; trail = r.port.trail; history = r.port.history; written = r.written; flipped = r.flipped } };
 
-    ghost invariant = { λ r. IsOpen r.port r.tally r.batch.now K.closes r.start r.written r.flipped };
+    ghost invariant = { λ r. IsOpen r.port r.tally r.batch K.closes r.start r.written r.flipped };
 }
 
 impl<'b, K: BatchKind> OpenReservation<'b, K> {
@@ -175,7 +175,7 @@ impl<'b, K: BatchKind> OpenReservation<'b, K> {
         ensures within { self.now.written ≤ result }
         ensures behind { self.now.flipped ≤ self.now.written }
     {
-        batch_length::<K>(self.batch)
+        batch_length::<K>(&self.batch)
     }
 
     /// How many slots are not written.

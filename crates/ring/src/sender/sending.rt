@@ -7,7 +7,7 @@ ghost use Rattle.ring.specs.sender.Sending.{IsReservedWithin, IsSent, IsSentBare
 
 use crate::ring::Ring;
 use crate::sender::{Bare, BatchKind, Closing, OpenReservation, Receipt, Refused, Sender};
-use batch::Batch;
+use batch::{Batch, BorrowedBatch};
 
 impl Sender {
     /// Reserves and publishes a batch with its closing CMD_SYNC. Where the ring has too little room or another came
@@ -19,6 +19,26 @@ impl Sender {
         requires tries { 1 ≤ tries }
         ensures sent { IfOk result (λ r. IsSent batch.now tries self r.0 r.1) }
         ensures refused { IfErr result (λ e. IsGivenUp batch.now true tries self e.cause e.sender) }
+        ensures settled { IfOk result (λ r. IsSettled r.0.trail) }
+        ensures history { MatchResult result (λ r. Grew (SenderOf self.number) self.trail r.0.trail self.history r.0.history) (λ e. Grew (SenderOf self.number) self.trail e.sender.trail self.history e.sender.history) }
+        ensures own { IfOk result (λ r. r.1.sender ≡ self.number) }
+        ensures ring { MatchResult result (λ r. r.0.ring ≡ self.ring) (λ e. e.sender.ring ≡ self.ring) }
+        ensures id { MatchResult result (λ r. r.0.number ≡ self.number) (λ e. e.sender.number ≡ self.number) }
+    {
+        self.send_borrowed(ring, batch.as_borrowed(), tries)
+    }
+
+    /// The same of commands that their owner keeps.
+    pub fn send_borrowed(
+        self,
+        ring: &Ring,
+        batch: BorrowedBatch<'_>,
+        tries: u32,
+    ) -> Result<(Sender, Receipt), Refused>
+        requires ring { self.ring ≡ ring.now }
+        requires tries { 1 ≤ tries }
+        ensures sent { IfOk result (λ r. IsSent batch.entry tries self r.0 r.1) }
+        ensures refused { IfErr result (λ e. IsGivenUp batch.entry true tries self e.cause e.sender) }
         ensures settled { IfOk result (λ r. IsSettled r.0.trail) }
         ensures history { MatchResult result (λ r. Grew (SenderOf self.number) self.trail r.0.trail self.history r.0.history) (λ e. Grew (SenderOf self.number) self.trail e.sender.trail self.history e.sender.history) }
         ensures own { IfOk result (λ r. r.1.sender ≡ self.number) }
@@ -42,6 +62,25 @@ impl Sender {
         ensures ring { MatchResult result (λ t. t.ring ≡ self.ring) (λ e. e.sender.ring ≡ self.ring) }
         ensures id { MatchResult result (λ t. t.number ≡ self.number) (λ e. e.sender.number ≡ self.number) }
     {
+        self.send_borrowed_bare(ring, batch.as_borrowed(), tries)
+    }
+
+    /// The same of commands that their owner keeps.
+    pub fn send_borrowed_bare(
+        self,
+        ring: &Ring,
+        batch: BorrowedBatch<'_>,
+        tries: u32,
+    ) -> Result<Sender, Refused>
+        requires ring { self.ring ≡ ring.now }
+        requires tries { 1 ≤ tries }
+        ensures sent { IfOk result (λ t. IsSentBare batch.entry tries self t) }
+        ensures refused { IfErr result (λ e. IsGivenUp batch.entry false tries self e.cause e.sender) }
+        ensures settled { IfOk result (λ t. IsSettled t.trail) }
+        ensures history { MatchResult result (λ t. Grew (SenderOf self.number) self.trail t.trail self.history t.history) (λ e. Grew (SenderOf self.number) self.trail e.sender.trail self.history e.sender.history) }
+        ensures ring { MatchResult result (λ t. t.ring ≡ self.ring) (λ e. e.sender.ring ≡ self.ring) }
+        ensures id { MatchResult result (λ t. t.number ≡ self.number) (λ e. e.sender.number ≡ self.number) }
+    {
         match self.try_to_open::<Bare>(ring, batch, tries) {
             Ok(reservation) => Ok(reservation.publish(ring)),
             Err(refused) => Err(refused),
@@ -52,13 +91,13 @@ impl Sender {
     fn try_to_open<'b, K: BatchKind>(
         self,
         ring: &Ring,
-        batch: &'b Batch,
+        batch: BorrowedBatch<'b>,
         tries: u32,
     ) -> Result<OpenReservation<'b, K>, Refused>
         requires ring { self.ring ≡ ring.now }
         requires tries { 1 ≤ tries }
-        ensures reserved { IfOk result (λ r. IsReservedWithin batch.now K.closes tries self r) }
-        ensures refused { IfErr result (λ e. IsGivenUp batch.now K.closes tries self e.cause e.sender) }
+        ensures reserved { IfOk result (λ r. IsReservedWithin batch.entry K.closes tries self r) }
+        ensures refused { IfErr result (λ e. IsGivenUp batch.entry K.closes tries self e.cause e.sender) }
         ensures history { MatchResult result (λ r. Grew (SenderOf self.number) self.trail r.trail self.history r.history) (λ e. Grew (SenderOf self.number) self.trail e.sender.trail self.history e.sender.history) }
         ensures ring { MatchResult result (λ r. r.ring ≡ self.ring) (λ e. e.sender.ring ≡ self.ring) }
         ensures id { MatchResult result (λ r. r.sender ≡ self.number) (λ e. e.sender.number ≡ self.number) }
@@ -66,7 +105,7 @@ impl Sender {
         let mut sender = self;
         // The only call of `reserve_as` here: so it is inlined, and no reservation is moved through memory.
         for tried in 0..tries {
-            match sender.reserve_as::<K>(ring, batch) {
+            match sender.reserve_as::<K>(ring, batch.reborrow()) {
                 Ok(reservation) => return Ok(reservation),
                 Err(refused) => {
                     if tried + 1 == tries || !refused.cause.may_pass() {

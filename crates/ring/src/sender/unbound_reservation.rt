@@ -9,7 +9,6 @@ use crate::table::Port;
 use batch::Batch;
 use qindex::Index;
 use std::marker::{Model, PhantomData};
-use std::snapshot::Snapshot;
 
 /// An open reservation that doesn't borrow its batch, so that both can be kept, and handed to another thread. Where it
 /// is dropped, what it hasn't flipped stays reserved for ever, and the consumer never gets past that.
@@ -18,8 +17,6 @@ pub struct UnboundReservation<K: BatchKind> {
     port: Port,
     /// With this batch.
     tally: Tally,
-    /// The batch as it was. Clauses alone read it: it has no bytes.
-    batch: Snapshot<Batch>,
     /// The index of the first slot.
     start: Index,
     written: u32,
@@ -28,13 +25,13 @@ pub struct UnboundReservation<K: BatchKind> {
 }
 
 impl<K: BatchKind> Model for UnboundReservation<K> {
-    ghost use Rattle.ring.specs.sender.Reservations.{ReservationValue, IsOpen};
+    ghost use Rattle.ring.specs.sender.Reservations.{ReservationValue, IsOpen, reserved_body};
 
     ghost Value = { ReservationValue };
 
-    ghost view = { λ r. record { ring = r.port.ring; sender = r.tally.sender; body = r.batch.value; closes = K.closes; trail = r.port.trail; history = r.port.history; written = r.written; flipped = r.flipped } };
+    ghost view = { λ r. record { ring = r.port.ring; sender = r.tally.sender; body = reserved_body r.port.trail; closes = K.closes; trail = r.port.trail; history = r.port.history; written = r.written; flipped = r.flipped } };
 
-    ghost invariant = { λ r. IsOpen r.port r.tally r.batch.value K.closes r.start r.written r.flipped };
+    ghost invariant = { λ r. IsOpen r.port r.tally (reserved_body r.port.trail) K.closes r.start r.written r.flipped };
 }
 
 impl<'b, K: BatchKind> OpenReservation<'b, K> {
@@ -45,7 +42,7 @@ impl<'b, K: BatchKind> OpenReservation<'b, K> {
         let OpenReservation {
             port,
             tally,
-            batch,
+            batch: _,
             start,
             written,
             flipped,
@@ -54,7 +51,6 @@ impl<'b, K: BatchKind> OpenReservation<'b, K> {
         UnboundReservation {
             port,
             tally,
-            batch: Snapshot::of(batch),
             start,
             written,
             flipped,
@@ -72,7 +68,6 @@ impl<K: BatchKind> UnboundReservation<K> {
         let UnboundReservation {
             port,
             tally,
-            batch: _,
             start,
             written,
             flipped,
@@ -81,7 +76,7 @@ impl<K: BatchKind> UnboundReservation<K> {
         OpenReservation {
             port,
             tally,
-            batch,
+            batch: batch.as_borrowed(),
             start,
             written,
             flipped,

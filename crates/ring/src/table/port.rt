@@ -18,7 +18,7 @@ use crate::ring::Ring;
 use crate::table::rule::Participants;
 use crate::table::steps::{Asks, Closes, Deals, Gathers, HasIntent, Looks, Meets, StepFor};
 use atomic_table::Seat;
-use batch::Batch;
+use batch::BorrowedBatch;
 use cmdcodec::Raw;
 use qindex::{Control, Index, close_mask, indexes_tell_the_queue};
 use ringcore::{
@@ -120,7 +120,7 @@ impl Port {
         &mut self,
         ring: &Ring,
         sender: u32,
-        batch: &Batch,
+        batch: &BorrowedBatch<'_>,
         closes: bool,
         many: u32,
         seen: &Control,

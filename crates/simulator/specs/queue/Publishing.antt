@@ -1,17 +1,11 @@
 -- What is added to a run where an open reservation is written and handed over.
-use Rattle.std.specs.Prelude.{ℕ, zero, suc, ◌-◌, min, ◌∷◌, [], Option, None}
+use Rattle.std.specs.Prelude.{ℕ, zero, suc, ◌-◌, min, ◌∷◌}
 use Rattle.ringcore.specs.declared.world.event.Who.TheVariants.{Sender}
 use Rattle.ringcore.specs.declared.world.event.Half.TheVariants.{Lo, Hi}
-use Rattle.ringcore.specs.declared.world.event.Event.TheVariants.{Won, Write, Flip}
-use Rattle.ringcore.specs.world.Trails.{Trail, Run, trail_of, reserved_length}
+use Rattle.ringcore.specs.declared.world.event.Event.TheVariants.{Write, Flip}
+use Rattle.ringcore.specs.world.Trails.{Run, trail_of, reserved_length}
 use Rattle.ringcore.specs.world.World.{world}
 use Rattle.ringcore.specs.memory.Flags.{shared_word}
-
--- the number of the last batch that was reserved, if it closes with a CMD_SYNC
-abbrev pub last_number : Trail → Option ℕ
-last_number [] = None
-last_number (Won body number ∷ es) = number
-last_number (e ∷ es) = last_number es
 
 -- both halves of each of the first so many of a sender's commands are written, in their order
 abbrev pub written : ℕ → ℕ → Run → Run

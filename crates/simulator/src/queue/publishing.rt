@@ -4,7 +4,7 @@ ghost use Rattle.ring.specs.Keepers.{IsIdleSender, IsIdleReservation};
 ghost use Rattle.simulator.specs.queue.Publishing.{published};
 ghost use Rattle.simulator.specs.queue.Seated.{IsBack};
 
-use batch::Batch;
+use batch::BorrowedBatch;
 use qindex::indexes_tell_place_and_wrap_bit;
 use ring::{Bare, BatchKind, Closing, IdleReservation, IdleSender, Keeper, Ring};
 use ringcore::laws::sender_trail;
@@ -14,12 +14,12 @@ pub(super) fn hand_over(
     keeper: &mut Keeper,
     ring: &Ring,
     idle: IdleReservation,
-    batch: &Batch,
+    batch: BorrowedBatch<'_>,
 ) -> IdleSender
     requires ring { keeper.old.ring ≡ ring.now }
     requires whole { keeper.old.lent ≡ None }
     requires known { idle.tally.sender < keeper.old.ring.made_with.senders }
-    requires idle { IsIdleReservation keeper.old batch.now idle }
+    requires idle { IsIdleReservation keeper.old batch idle }
     requires unwritten { idle.written ≡ 0 }
     requires unflipped { idle.flipped ≡ 0 }
     ensures run { keeper.new.run ≡ published keeper.old.ring.made_with.geometry idle.tally.sender keeper.old.run }
@@ -39,13 +39,13 @@ fn publish_as<K: BatchKind>(
     keeper: &mut Keeper,
     ring: &Ring,
     idle: IdleReservation,
-    batch: &Batch,
+    batch: BorrowedBatch<'_>,
 ) -> IdleSender
     requires ring { keeper.old.ring ≡ ring.now }
     requires whole { keeper.old.lent ≡ None }
     requires known { idle.tally.sender < keeper.old.ring.made_with.senders }
     requires closes { idle.closes ≡ K.closes }
-    requires idle { IsIdleReservation keeper.old batch.now idle }
+    requires idle { IsIdleReservation keeper.old batch idle }
     requires unwritten { idle.written ≡ 0 }
     requires unflipped { idle.flipped ≡ 0 }
     ensures run { keeper.new.run ≡ published keeper.old.ring.made_with.geometry idle.tally.sender keeper.old.run }

@@ -4,7 +4,7 @@ ghost use Rattle.ring.specs.Keepers.{IsIdleSender};
 ghost use Rattle.simulator.specs.queue.Seated.{IsBack};
 ghost use Rattle.simulator.specs.queue.Trying.{HasTried};
 
-use batch::Batch;
+use batch::BorrowedBatch;
 use qindex::indexes_tell_the_queue;
 use ring::{Bare, BatchKind, Cause, Closing, IdleReservation, IdleSender, Keeper, Refused, Ring};
 use ringcore::world_law;
@@ -14,14 +14,14 @@ pub(super) fn try_once(
     keeper: &mut Keeper,
     ring: &Ring,
     idle: IdleSender,
-    batch: &Batch,
+    batch: BorrowedBatch<'_>,
     closes: bool,
 ) -> Result<IdleReservation, (IdleSender, Cause)>
     requires ring { keeper.old.ring ≡ ring.now }
     requires whole { keeper.old.lent ≡ None }
     requires known { idle.sender < keeper.old.ring.made_with.senders }
     requires idle { IsIdleSender keeper.old idle }
-    ensures tried { HasTried keeper.old keeper.new idle.sender batch.now closes result }
+    ensures tried { HasTried keeper.old keeper.new idle.sender batch.entry closes result }
     ensures back { IsBack idle.sender keeper.old keeper.new }
 {
     if closes {
@@ -36,13 +36,13 @@ fn try_as<K: BatchKind>(
     keeper: &mut Keeper,
     ring: &Ring,
     idle: IdleSender,
-    batch: &Batch,
+    batch: BorrowedBatch<'_>,
 ) -> Result<IdleReservation, (IdleSender, Cause)>
     requires ring { keeper.old.ring ≡ ring.now }
     requires whole { keeper.old.lent ≡ None }
     requires known { idle.sender < keeper.old.ring.made_with.senders }
     requires idle { IsIdleSender keeper.old idle }
-    ensures tried { HasTried keeper.old keeper.new idle.sender batch.now K.closes result }
+    ensures tried { HasTried keeper.old keeper.new idle.sender batch.entry K.closes result }
     ensures back { IsBack idle.sender keeper.old keeper.new }
 {
     world_law();

@@ -1,6 +1,8 @@
-use Rattle.std.proofs.Common.{rules, ℕ, sym, subst, add-one, ◌∙◌, arith}
+use Rattle.std.proofs.Common.{rules, ℕ, List, sym, subst, add-one, ◌∙◌, arith}
+use Rattle.cmdcodec.specs.declared.raw.Raw.{Raw}
 use Rattle.ringcore.specs.declared.world.event.Who.TheVariants.{Sender}
 use Rattle.ring.specs.table.Histories.{Grew}
+use Rattle.ring.specs.sender.Reserving.{IsRefused}
 use Rattle.ring.specs.sender.Sending.{HasTried}
 use Rattle.ring.proofs.TableLemmas.Grown.{grew_more}
 use Rattle.ring.proofs.sender.Sender.try_to_open.Goals as goal
@@ -24,7 +26,7 @@ loop-tried-preserved g c =
       ring = c.in-Err.ensures.ring ∙ c.loop-tried.invariant.ring;
       number = c.in-Err.ensures.id ∙ c.loop-tried.invariant.number;
       left = (let not_last = c.if-tried-tries.false in let more = c.loop-tried-test.true in omega arith);
-      tried = subst (λ (k : ℕ). HasTried c.args.batch.now g.K.BatchKind.closes k c.args.self t) (sym (add-one c.loop-tried.tried)) (s, c.in-Err.refused.cause, c.loop-tried.invariant.tried, search rules, c.in-Err.ensures.refused);
+      tried = subst (λ (k : ℕ). HasTried c.args.batch g.K.BatchKind.closes k c.args.self t) (sym (add-one c.loop-tried.tried)) (s, c.in-Err.refused.cause, c.loop-tried.invariant.tried, search rules, subst (λ (b : List Raw). IsRefused b g.K.BatchKind.closes s c.in-Err.refused.cause t) c.reborrow.ensures c.in-Err.ensures.refused);
       history = grew_more _ _ _ _ _ _ _ c.loop-tried.invariant.history
           (subst (λ (n : ℕ). Grew (Sender n) s.trail t.trail s.history t.history) c.loop-tried.invariant.number c.in-Err.ensures.history);
     }

@@ -1,7 +1,8 @@
-use Rattle.std.proofs.Common.{◌≡◌, ◌<◌, sym, subst}
+use Rattle.std.proofs.Common.{◌≡◌, ◌<◌, List, sym, subst}
+use Rattle.cmdcodec.specs.declared.raw.Raw.{Raw}
 use Rattle.simulator.specs.declared.queue.Queue.TheInside.{Inside}
 use Rattle.simulator.specs.declared.queue.Seat.TheVariants.{Open}
-use Rattle.simulator.specs.queue.Seated.{QueueValue, ring_in, IsQueue}
+use Rattle.simulator.specs.queue.Seated.{QueueValue, ring_in, IsOpenSeat, IsQueue}
 use Rattle.simulator.proofs.SeatLemmas.{IsFound, sender_of_idle, is_queue_after}
 use Rattle.simulator.proofs.queue.Queue.reserve.Goals as goal
 use Rattle.simulator.proofs.queue.Queue.reserve.Goals.{in-Ok, in-Err}
@@ -23,7 +24,8 @@ pub invariant_of-self : goal.invariant_of-self
 invariant_of-self c = elim c.match-try_once.branch [
   | in-Ok w ↦ subst (λ (q : Inside). IsQueue q.ring (queue_in q)) (sym w.self-inside-is)
       (is_queue_after c.self.inside.ring (queue_in c.self.inside) c.args.sender c.idle_in-idle.result.sender c.index.result.now c.try_once.new.keeper (Open w.in-Ok.idle c.args.batch)
-      (its_queue c) (its_sender c) w.in-Ok.ensures.back w.in-Ok.ensures.tried.seat)
+      (its_queue c) (its_sender c) w.in-Ok.ensures.back
+      (subst (λ (body : List Raw). IsOpenSeat c.try_once.new.keeper c.idle_in-idle.result.sender body w.in-Ok.idle) c.as_borrowed.ensures w.in-Ok.ensures.tried.seat))
   | in-Err w ↦ subst (λ (q : Inside). IsQueue q.ring (queue_in q)) (sym w.self-inside-is)
       (is_queue_after c.self.inside.ring (queue_in c.self.inside) c.args.sender c.idle_in-idle.result.sender c.index.result.now c.try_once.new.keeper _
       (its_queue c) (its_sender c) w.in-Err.ensures.back w.in-Err.ensures.tried.seat)

@@ -15,7 +15,7 @@ known g c = is_call c.args.idle.tally.sender c.hand_over-sender.result.number c.
 pub returns-clause-run : goal.returns-clause-run
 returns-clause-run g c =
     published_so c.indexes_tell_place_and_wrap_bit.ensures.alike c.sender_trail.ensures.shared_words c.sender_trail.ensures.flag_words c.sender_trail.ensures.start
-    c.args.keeper.now c.take_sender-idle.new.self c.args.batch.now c.args.idle c.lend_reservation-reservation.result c.hand_over-sender.result c.run_stands.ensures.after.run_is
+    c.args.keeper.now c.take_sender-idle.new.self c.args.batch c.args.idle c.lend_reservation-reservation.result c.hand_over-sender.result c.run_stands.ensures.after.run_is
     c.requires.idle c.requires.unwritten c.requires.unflipped c.lend_reservation-reservation.ensures.reservation c.hand_over-sender.ensures.sender
     (known g c)
 

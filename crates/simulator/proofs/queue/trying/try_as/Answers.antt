@@ -14,7 +14,7 @@ known g c = is_call c.args.idle.sender c.in-Ok.reservation.sender c.in-Ok.reserv
 
 pub returns-in-Ok-clause-tried : goal.returns-in-Ok-clause-tried
 returns-in-Ok-clause-tried g c =
-    well c.indexes_tell_the_queue.ensures.queue c.world_law.ensures.within c.args.keeper.now c.take_reservation-idle.new.self c.args.idle.sender c.args.batch.now g.K.BatchKind.closes
+    well c.indexes_tell_the_queue.ensures.queue c.world_law.ensures.within c.args.keeper.now c.take_reservation-idle.new.self c.args.idle.sender c.args.batch g.K.BatchKind.closes
     c.lend_sender-sender.result c.lend_sender-sender.ensures.sender c.in-Ok.reservation c.take_reservation-idle.result (known g c) c.in-Ok.ensures.reserved
     c.take_reservation-idle.ensures.left (c.take_reservation-idle.ensures.left.sender_is ∙ its_own g c) c.take_reservation-idle.ensures.idle
 
@@ -30,7 +30,7 @@ known_refused g c = is_call c.args.idle.sender c.in-Err.refused.sender.number c.
 
 pub returns-in-Err-clause-tried : goal.returns-in-Err-clause-tried
 returns-in-Err-clause-tried g c =
-    in_vain c.indexes_tell_the_queue.ensures.queue c.world_law.ensures.within c.args.keeper.now c.take_sender-idle.new.self c.args.idle.sender c.args.batch.now g.K.BatchKind.closes
+    in_vain c.indexes_tell_the_queue.ensures.queue c.world_law.ensures.within c.args.keeper.now c.take_sender-idle.new.self c.args.idle.sender c.args.batch g.K.BatchKind.closes
     c.lend_sender-sender.result c.lend_sender-sender.ensures.sender c.in-Err.refused.sender (known_refused g c) c.in-Err.refused.cause c.take_sender-idle.result c.in-Err.ensures.refused
     (c.take_sender-idle.ensures.number ∙ still_its_own g c) c.take_sender-idle.ensures.idle
 

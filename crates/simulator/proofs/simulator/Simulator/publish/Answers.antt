@@ -2,7 +2,8 @@ use Rattle.std.proofs.Common.{ap, ap₂, sym, ◌∙◌, subst}
 use Rattle.ringcore.specs.declared.world.event.Who.TheVariants.{Sender}
 use Rattle.ringcore.specs.world.Allowed.{Ring}
 use Rattle.ringcore.specs.world.Trails.{Run, trail_of}
-use Rattle.simulator.specs.queue.Publishing.{last_number, published}
+use Rattle.ring.specs.sender.Reservations.{reserved_number}
+use Rattle.simulator.specs.queue.Publishing.{published}
 use Rattle.simulator.specs.State.{State}
 use Rattle.simulator.specs.Seats.{published_by}
 use Rattle.simulator.specs.Standing.{SimulatorValue, StandFor, Stands}
@@ -21,4 +22,4 @@ invariant_of-self c = let is = c.self.invariant in after_call c.self.inside.queu
 pub returns : goal.returns
 returns c state stands =
     let s = subst (λ (m : SimulatorValue). Stands m state) (sym c.self.view_is) stands in
-    (c.publish.ensures.number ∙ ap (λ (run : Run). last_number (trail_of (Sender c.args.sender) run)) s.run, after c state s)
+    (c.publish.ensures.number ∙ ap (λ (run : Run). reserved_number (trail_of (Sender c.args.sender) run)) s.run, after c state s)

@@ -2,7 +2,7 @@ use Rattle.std.proofs.Common.{ℕ, subst}
 use Rattle.ringcore.specs.declared.world.event.Who.TheVariants.{Sender}
 use Rattle.ring.specs.table.Histories.{Grew}
 use Rattle.ring.proofs.TableLemmas.Grown.{grew_more}
-use Rattle.ring.proofs.sender.Sender.send.Goals as goal
+use Rattle.ring.proofs.sender.Sender.send_borrowed.Goals as goal
 
 pub returns-in-Ok-clause-history : goal.returns-in-Ok-clause-history
 returns-in-Ok-clause-history c =

@@ -1,0 +1,36 @@
+//! A try to reserve, and what was reserved handed over, by a sender whose seat the keeper lends.
+ghost use Rattle.std.specs.Prelude.{◌≡◌, ◌<◌, None};
+ghost use Rattle.ring.specs.Keepers.{IsIdleSender};
+ghost use Rattle.simulator.specs.queue.Seated.{IsBack, IsIdleSeat};
+ghost use Rattle.simulator.specs.queue.Trying.{HasSent};
+
+use crate::queue::publishing::hand_over;
+use crate::queue::trying::try_once;
+use batch::BorrowedBatch;
+use ring::{Cause, IdleSender, Keeper, Ring};
+
+/// A sender tries once to reserve a batch, and hands it over where it could: what is left of it, and the batch's number,
+/// if it has one.
+pub(super) fn send_once(
+    keeper: &mut Keeper,
+    ring: &Ring,
+    idle: IdleSender,
+    batch: BorrowedBatch<'_>,
+    closes: bool,
+) -> (IdleSender, Result<Option<u32>, Cause>)
+    requires ring { keeper.old.ring ≡ ring.now }
+    requires whole { keeper.old.lent ≡ None }
+    requires known { idle.sender < keeper.old.ring.made_with.senders }
+    requires idle { IsIdleSender keeper.old idle }
+    ensures sent { HasSent keeper.old keeper.new idle.sender batch.entry closes result.1 }
+    ensures back { IsBack idle.sender keeper.old keeper.new }
+    ensures seat { IsIdleSeat keeper.new idle.sender result.0 }
+{
+    match try_once(keeper, ring, idle, batch.reborrow(), closes) {
+        Ok(open) => {
+            let number = open.number();
+            (hand_over(keeper, ring, open, batch), Ok(number))
+        }
+        Err((idle, cause)) => (idle, Err(cause)),
+    }
+}
