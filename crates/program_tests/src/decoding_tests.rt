@@ -116,7 +116,7 @@ fn every_allocation_of_decode(rt: HostRuntime) {
     let ran = run(&rt, &words, "", (1, 0));
     let outcome = match ran.told() {
         (0, "CMD_SYNC cs=1 msh=0 attr=0 data=1 addr=0x40000000\n", true) => "whole",
-        (3, "no memory\n", true) => "refused",
+        (3, "no memory\n", false) => "refused",
         _ => "wrong",
     };
     assert_ne!(rt; outcome, "wrong");
