@@ -4,6 +4,7 @@ pub mod Covers
 pub mod Held
 pub mod Keys
 pub mod Laws
+pub mod Limits
 pub mod Puts
 pub mod Ranks
 pub mod Spanned

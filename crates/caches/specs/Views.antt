@@ -1,6 +1,7 @@
 -- The ordered map as a finite map of tags.
 use Rattle.std.specs.Prelude.{◌≡◌, ◌≤◌, List, map, Some}
 use Rattle.std.specs.FinMap as finite
+use Rattle.caches.specs.Limits.{most_entries}
 use Rattle.caches.specs.declared.tag.Tag.{Tag}
 use Rattle.caches.specs.declared.tag.Entry.{Entry}
 use Rattle.caches.specs.declared.key.Key.{Key}
@@ -19,7 +20,7 @@ stored inside = record { capacity = inside.capacity; entries = finite.from_entri
 -- There are no more entries than the capacity allows, each may stand under its tag, and the span of each is among those
 -- that were put in.
 pub record AreCaches (inside : Inside) : Type 0 where
-  pub limit : inside.capacity ≤ 65536
+  pub limit : inside.capacity ≤ most_entries
   pub room : finite.len (stored inside).entries ≤ inside.capacity
   pub kept : (tag : Tag) (entry : Entry) → finite.get (stored inside).entries tag ≡ Some entry → IsKept tag entry
   pub spanned : (tag : Tag) (entry : Entry) → finite.get (stored inside).entries tag ≡ Some entry → IsSpanOf inside.spans (span_of (key_of tag))

@@ -2,6 +2,7 @@
 ghost use Rattle.std.specs.Prelude.{◌≡◌, ◌+◌, ◌<◌, ◌≤◌, ◌↔◌, IfOk, IfSome, OnOk, OnErr, Err, None, [], ◌∷◌};
 ghost use Rattle.std.specs.FinMap as finite;
 ghost use Rattle.std.specs.List.Sorted.{IsPermutation, IsSortedByKey};
+ghost use Rattle.caches.specs.Limits.{most_entries, IsCapacity};
 ghost use Rattle.caches.specs.TagOrder.{tag_cmp, numbers};
 ghost use Rattle.caches.specs.declared.tag.Entry.{Entry};
 ghost use Rattle.caches.specs.Blocks.{IsBlock};
@@ -19,6 +20,9 @@ use cmdcodec::Command;
 use std::alloc::Global;
 use std::collections::BTreeMap;
 use std::marker::Model;
+
+/// The most entries that caches may hold (own).
+pub const MOST_ENTRIES: u32 = 65_536;
 
 /// What an SMMU and the endpoints behind it remember: at most `capacity` entries, of each tag one.
 #[derive(Drop)]
@@ -51,9 +55,9 @@ impl Caches {
     pub fn new(alloc: Global, capacity: u32) -> Result<Caches, CacheFault>
         ensures ok { IfOk result (λ caches. (caches.capacity ≡ capacity) × (caches.entries ≡ held [])) }
         ensures err { OnErr result (result ≡ Err CacheFault.BadCapacity) }
-        ensures when { (result ≡ Err CacheFault.BadCapacity) ↔ ¬ ((0 < capacity) × (capacity ≤ 65536)) }
+        ensures when { (result ≡ Err CacheFault.BadCapacity) ↔ ¬ IsCapacity capacity }
     {
-        if capacity == 0 || capacity > 65536 {
+        if capacity == 0 || capacity > MOST_ENTRIES {
             return Err(CacheFault::BadCapacity);
         }
         Ok(Caches {
@@ -76,7 +80,7 @@ impl Caches {
     pub fn len(&self) -> usize
         ensures len { result ≡ finite.len self.now.entries }
         ensures within { result ≤ self.now.capacity }
-        ensures capacity { self.now.capacity ≤ 65536 }
+        ensures capacity { self.now.capacity ≤ most_entries }
     {
         self.map.len()
     }
@@ -102,7 +106,7 @@ impl Caches {
         ensures after { self.new.entries ≡ without_covered command.now self.old.entries }
         ensures capacity { self.new.capacity ≡ self.old.capacity }
         ensures removed { result + finite.len self.new.entries ≡ finite.len self.old.entries }
-        ensures few { result ≤ 65536 }
+        ensures few { result ≤ most_entries }
         ensures held { (h : History) → self.old.entries ≡ held h → self.new.entries ≡ held (Take command.now ∷ h) }
     {
         let before = self.len();

@@ -21,7 +21,7 @@ mod spans;
 mod sweep;
 mod tag;
 
-pub use caches::Caches;
+pub use caches::{Caches, MOST_ENTRIES};
 pub use fault::CacheFault;
 pub use laws::{
     held_is_what_stands, held_speaks_of_each_tag_once, meeting_is_to_share_a_page,

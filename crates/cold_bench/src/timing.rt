@@ -5,6 +5,7 @@ ghost use Rattle.engine.specs.Stops.{unstopped};
 use crate::contents::{full_unit, invalidation, tag};
 use crate::walking::Other;
 use engine::{Unit, Verdict};
+use ringcore::MOST_RESERVED;
 use std::io;
 use std::io::ErrorKind;
 use std::rt::Clock;
@@ -12,9 +13,6 @@ use std::time::Instant;
 
 /// How often each is timed.
 const TURNS: u32 = 1_000;
-
-/// The most commands that a unit takes.
-const MOST_TAKEN: u64 = 1 << 46;
 
 /// The entries are taken in strides of a prime, so that all come in turn.
 const STRIDE: u32 = 7_919;
@@ -43,7 +41,7 @@ fn time_command<R: Clock + Print>(
     requires { unit.old.stop ≡ unstopped }
     ensures { OnOk result (unit.new.stop ≡ unstopped) }
 {
-    if unit.counts().taken() >= MOST_TAKEN {
+    if unit.counts().taken() >= MOST_RESERVED {
         return Err(io::Error::from(ErrorKind::InvalidData));
     }
     let raw = invalidation(place);

@@ -1,10 +1,12 @@
 -- What is counted of the commands taken.
-use Rattle.std.specs.Prelude.{◌≡◌, ◌≤◌, ◌^◌, ◌+◌, ◌*◌, ℕ, Bool, true, false, cond, not, List, [], ◌∷◌}
+use Rattle.std.specs.Prelude.{◌≡◌, ◌≤◌, ◌+◌, ◌*◌, ℕ, Bool, true, false, cond, not, List, [], ◌∷◌}
 use Rattle.cmdcodec.specs.declared.raw.Raw.{Raw}
 use Rattle.cmdcodec.specs.Opcodes.{is_sync}
+use Rattle.ringcore.specs.Limits.{most_reserved}
 use Rattle.ringcore.specs.declared.world.event.Outcome.{Outcome}
 use Rattle.ringcore.specs.declared.world.event.Outcome.TheVariants.{Applied, Replaced}
 use Rattle.ringcore.specs.world.World.{Taken}
+use Rattle.caches.specs.Limits.{most_entries}
 
 -- how many commands were applied and how many replaced, how many of both are a CMD_SYNC, and how many entries those
 -- that were applied removed
@@ -29,11 +31,11 @@ counted_applied raw removed c = record c { applied = c.applied + 1; syncs = sync
 abbrev pub counted_replaced : Raw → CountsValue → CountsValue
 counted_replaced raw c = record c { replaced = c.replaced + 1; syncs = syncs_with raw c.syncs }
 
--- At most 2^46 are taken, and a command removes at most 65,536 entries.
+-- No more are taken than a ring ever has, and a command removes no more entries than caches may hold.
 pub record AreCounts (c : CountsValue) : Type 0 where
-  pub few : taken c ≤ 2 ^ 46
+  pub few : taken c ≤ most_reserved
   pub syncs : c.syncs ≤ taken c
-  pub removed : c.removed ≤ 65536 * taken c
+  pub removed : c.removed ≤ most_entries * taken c
 
 -- ---- of a whole list of commands taken
 

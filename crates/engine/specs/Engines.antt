@@ -4,6 +4,7 @@ use Rattle.cmdcodec.specs.declared.raw.Raw.{Raw}
 use Rattle.cmdcodec.specs.declared.ill.Ill.{Ill}
 use Rattle.cmdcodec.specs.Legality.{first_ill}
 use Rattle.qindex.specs.declared.control.Control.{Control}
+use Rattle.ringcore.specs.Limits.{most_reserved}
 use Rattle.ringcore.specs.declared.world.event.Who.TheVariants.{Consumer}
 use Rattle.ringcore.specs.declared.world.event.Event.TheVariants.{Look}
 use Rattle.ringcore.specs.world.World.{world, control as control_of}
@@ -82,7 +83,7 @@ HasStepped old new (Applied command removed) =
 HasStepped old new (Stopped ill) = HasStoppedAt 1 ill old new
 HasStepped old new (Replaced ill) = HasReplaced 1 ill old new
 HasStepped old new StillStopped = IsStopped old.unit.stop.mode × (new ≡ old)
-HasStepped old new Exhausted = (2 ^ 46 ≤ taken old.unit.counts) × (new ≡ old)
+HasStepped old new Exhausted = (most_reserved ≤ taken old.unit.counts) × (new ≡ old)
 
 -- ---- a run of commands
 
@@ -105,7 +106,7 @@ HasRun most old new (run.Applied count removed) = HasAppliedRun most count remov
 HasRun most old new (run.Stopped ill) = HasStoppedAt most ill old new
 HasRun most old new (run.Replaced ill) = HasReplaced most ill old new
 HasRun most old new run.StillStopped = IsStopped old.unit.stop.mode × (new ≡ old)
-HasRun most old new run.Exhausted = (2 ^ 46 ≤ taken old.unit.counts) × (new ≡ old)
+HasRun most old new run.Exhausted = (most_reserved ≤ taken old.unit.counts) × (new ≡ old)
 
 -- ---- registers
 

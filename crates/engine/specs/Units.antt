@@ -8,6 +8,7 @@ use Rattle.cmdcodec.specs.Spelling.{Spells}
 use Rattle.cmdcodec.specs.Legality.{first_ill}
 use Rattle.ringcore.specs.declared.world.event.Outcome.TheVariants.{Applied as AsApplied, Replaced as AsReplaced}
 use Rattle.ringcore.specs.world.World.{Taken}
+use Rattle.caches.specs.Limits.{most_entries}
 use Rattle.caches.specs.declared.tag.Tag.{Tag}
 use Rattle.caches.specs.declared.tag.Entry.{Entry}
 use Rattle.caches.specs.Stored.{Stored}
@@ -55,7 +56,7 @@ pub record IsApplied (raw : Raw) (command : Command) (removed : ℕ) (old new : 
   pub legal : IsLegal raw command
   pub entries : new.caches.entries ≡ without_covered command old.caches.entries
   pub removed_are : removed + finite.len new.caches.entries ≡ finite.len old.caches.entries
-  pub few : removed ≤ 65536
+  pub few : removed ≤ most_entries
   pub capacity : new.caches.capacity ≡ old.caches.capacity
   pub stop : new.stop ≡ gone_on old.stop
   pub counts : new.counts ≡ counted_applied raw removed old.counts

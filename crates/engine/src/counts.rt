@@ -1,5 +1,7 @@
 //! What a unit counts.
-ghost use Rattle.std.specs.Prelude.{◌≡◌, ◌<◌, ◌≤◌, ◌^◌};
+ghost use Rattle.std.specs.Prelude.{◌≡◌, ◌<◌, ◌≤◌};
+ghost use Rattle.ringcore.specs.Limits.{most_reserved};
+ghost use Rattle.caches.specs.Limits.{most_entries};
 ghost use Rattle.engine.specs.Counting.{taken, none_counted, counted_applied, counted_replaced};
 
 use cmdcodec::Raw;
@@ -42,7 +44,7 @@ impl Counts {
     /// How many commands were taken, at most `2^46`: those applied and those replaced.
     pub fn taken(&self) -> u64
         ensures value { result ≡ taken self.now }
-        ensures few { result ≤ 2 ^ 46 }
+        ensures few { result ≤ most_reserved }
     {
         self.applied + self.replaced
     }
@@ -77,8 +79,8 @@ impl Counts {
 
     /// A command was applied, and removed so many entries.
     pub(crate) fn count_applied(&mut self, raw: Raw, removed: u32)
-        requires few { taken self.old < 2 ^ 46 }
-        requires removed { removed ≤ 65536 }
+        requires few { taken self.old < most_reserved }
+        requires removed { removed ≤ most_entries }
         ensures { self.new ≡ counted_applied raw removed self.old }
     {
         self.applied += 1;
@@ -88,7 +90,7 @@ impl Counts {
 
     /// A command was replaced.
     pub(crate) fn count_replaced(&mut self, raw: Raw)
-        requires few { taken self.old < 2 ^ 46 }
+        requires few { taken self.old < most_reserved }
         ensures { self.new ≡ counted_replaced raw self.old }
     {
         self.replaced += 1;

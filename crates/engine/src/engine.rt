@@ -1,6 +1,7 @@
 //! The engine: a unit with the consumer of a ring.
-ghost use Rattle.std.specs.Prelude.{◌≡◌, ◌≤◌, ◌^◌, ◌↔◌, [], length, IfSome, IsTrue, OnOk, OnErr};
+ghost use Rattle.std.specs.Prelude.{◌≡◌, ◌≤◌, ◌↔◌, [], length, IfSome, IsTrue, OnOk, OnErr};
 ghost use Rattle.std.specs.FinMap as finite;
+ghost use Rattle.ringcore.specs.Limits.{most_reserved};
 ghost use Rattle.ringcore.specs.declared.world.event.Who.TheVariants.{Consumer as ConsumerOf, Sender as SenderOf};
 ghost use Rattle.ringcore.specs.world.World.{world};
 ghost use Rattle.caches.specs.Held.{held};
@@ -74,7 +75,7 @@ impl Engine {
         ensures stepped { HasStepped self.old self.new result }
         ensures history { Grew ConsumerOf self.old.consumer.trail self.new.consumer.trail self.old.consumer.history self.new.consumer.history }
         ensures still { (result ≡ StepAnswer.StillStopped) ↔ IsStopped self.old.unit.stop.mode }
-        ensures exhausted { (result ≡ StepAnswer.Exhausted) ↔ (¬ IsStopped self.old.unit.stop.mode × (taken self.old.unit.counts ≡ 2 ^ 46)) }
+        ensures exhausted { (result ≡ StepAnswer.Exhausted) ↔ (¬ IsStopped self.old.unit.stop.mode × (taken self.old.unit.counts ≡ most_reserved)) }
         ensures settled { IsSettled self.new.unit.caches.entries (taken_of self.new.consumer.trail) }
         ensures removes { OnlyRemoves self.old.unit self.new.unit }
         ensures ring { self.new.consumer.ring ≡ self.old.consumer.ring }
@@ -94,7 +95,7 @@ impl Engine {
         ensures stepped { HasRun most self.old self.new result }
         ensures history { Grew ConsumerOf self.old.consumer.trail self.new.consumer.trail self.old.consumer.history self.new.consumer.history }
         ensures still { (result ≡ RunAnswer.StillStopped) ↔ IsStopped self.old.unit.stop.mode }
-        ensures exhausted { (result ≡ RunAnswer.Exhausted) ↔ (¬ IsStopped self.old.unit.stop.mode × (taken self.old.unit.counts ≡ 2 ^ 46)) }
+        ensures exhausted { (result ≡ RunAnswer.Exhausted) ↔ (¬ IsStopped self.old.unit.stop.mode × (taken self.old.unit.counts ≡ most_reserved)) }
         ensures settled { IsSettled self.new.unit.caches.entries (taken_of self.new.consumer.trail) }
         ensures removes { OnlyRemoves self.old.unit self.new.unit }
         ensures ring { self.new.consumer.ring ≡ self.old.consumer.ring }

@@ -1,6 +1,7 @@
 //! The unit: the caches, and the stop at an illegal command.
-ghost use Rattle.std.specs.Prelude.{◌≡◌, ◌<◌, ◌^◌, ◌↔◌, [], List, IfSome, OnOk, OnErr, IsTrue};
+ghost use Rattle.std.specs.Prelude.{◌≡◌, ◌<◌, ◌↔◌, [], List, IfSome, OnOk, OnErr, IsTrue};
 ghost use Rattle.std.specs.FinMap as finite;
+ghost use Rattle.ringcore.specs.Limits.{most_reserved};
 ghost use Rattle.ringcore.specs.world.World.{Taken};
 ghost use Rattle.caches.specs.Held.{held};
 ghost use Rattle.caches.specs.Stored.{IsFillAnswer, IsListAnswer};
@@ -101,7 +102,7 @@ impl Unit {
     pub fn judge(&mut self, raw: Raw) -> Verdict
         requires running { ¬ IsStopped self.old.stop.mode }
         requires next { MayComeNext raw self.old.stop }
-        requires few { taken self.old.counts < 2 ^ 46 }
+        requires few { taken self.old.counts < most_reserved }
         ensures judged { HasJudged raw self.old self.new result }
         ensures settled { StaysSettled self.old self.new (took raw result) }
     {
@@ -128,7 +129,7 @@ impl Unit {
     pub(crate) fn apply(&mut self, raw: Raw, command: &Command) -> u32
         requires running { ¬ IsStopped self.old.stop.mode }
         requires next { MayComeNext raw self.old.stop }
-        requires few { taken self.old.counts < 2 ^ 46 }
+        requires few { taken self.old.counts < most_reserved }
         requires legal { IsLegal raw command.now }
         ensures { IsApplied raw command.now result self.old self.new }
     {

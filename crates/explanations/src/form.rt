@@ -1,10 +1,11 @@
 //! What the words of a line have to be, from its second on.
 use crate::expected::Expected;
+use ringcore::MOST_SENDERS;
 
 /// The base-2 logarithm of the slots of a ring that can be made.
 pub(crate) const LOG2: Expected = Expected::Count(19);
 /// How many senders a ring that can be made has.
-pub(crate) const SENDERS: Expected = Expected::Count(256);
+pub(crate) const SENDERS: Expected = Expected::Count(MOST_SENDERS as u64);
 
 /// What may stand behind the words that a line always has.
 #[derive(Clone, Copy, Debug, PartialEq, Eq)]

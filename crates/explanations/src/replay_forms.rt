@@ -4,6 +4,7 @@ use crate::expected::{
     TWENTY_BITS,
 };
 use crate::form::{Form, LOG2, Rest, SENDERS};
+use caches::MOST_ENTRIES;
 
 /// How many steps a line may ask for.
 const STEPS: Rest = Rest::Optional(Expected::Count(1_000_000));
@@ -60,6 +61,6 @@ pub(crate) fn ring_form() -> Form {
         LOG2,
         SENDERS,
         Expected::Count(0xffff_ffff),
-        Expected::Count(65_536),
+        Expected::Count(MOST_ENTRIES as u64),
     ])
 }

@@ -1,6 +1,7 @@
 -- What a renewal makes of a queue, and why it is refused.
-use Rattle.std.specs.Prelude.{◌≡◌, ◌<◌, ◌≤◌, ℕ, None}
+use Rattle.std.specs.Prelude.{◌≡◌, ℕ, None}
 use Rattle.ringcore.specs.RingFaults.{number_fault, IsNotMade}
+use Rattle.caches.specs.Limits.{IsCapacity}
 use Rattle.caches.specs.declared.fault.CacheFault.TheVariants.{BadCapacity}
 use Rattle.caches.specs.Held.{Entries}
 use Rattle.engine.specs.declared.finished.Finished.{Finished}
@@ -21,10 +22,6 @@ pub record HasEnded (old : Queue) (end : Finished) : Type 0 where
   pub caches_are : end.caches ≡ old.engine.unit.caches
 
 -- ---- refusals
-
--- 1 to 65,536 entries
-abbrev pub IsCapacity : ℕ → Type 0
-IsCapacity capacity = (0 < capacity) × (capacity ≤ 65536)
 
 -- Why no new queue of these sizes was made for so many senders and these entries.
 abbrev pub IsUnmade : Sizes → ℕ → Entries → RenewalFault → Type 0

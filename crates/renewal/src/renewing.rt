@@ -2,9 +2,10 @@
 ghost use Rattle.std.specs.Prelude.{◌≡◌, ◌↔◌, length, IfOk, IfErr, OnOk, MatchResult};
 ghost use Rattle.ring.specs.Finishing.{AreAll};
 ghost use Rattle.ring.specs.NewRings.{IsNewRing};
+ghost use Rattle.caches.specs.Limits.{IsCapacity};
 ghost use Rattle.renewal.specs.Queues.{IsWhole, HasLooked, SawWaiting};
 ghost use Rattle.renewal.specs.Carried.{IsCarried};
-ghost use Rattle.renewal.specs.Renewing.{HasEnded, IsCapacity, IsUnmade};
+ghost use Rattle.renewal.specs.Renewing.{HasEnded, IsUnmade};
 
 use crate::ending::join;
 use crate::fault::RenewalFault;

@@ -1,11 +1,12 @@
 //! A new queue with the entries of an old engine.
 ghost use Rattle.std.specs.Prelude.{◌≡◌, [], IfOk, IfErr, OnOk};
+ghost use Rattle.caches.specs.Limits.{IsCapacity};
 ghost use Rattle.caches.specs.Held.{held};
 ghost use Rattle.ring.specs.NewRings.{IsNewRing};
 ghost use Rattle.engine.specs.Units.{new_unit};
 ghost use Rattle.renewal.specs.Queues.{IsWhole};
 ghost use Rattle.renewal.specs.Carried.{IsCarried, IsUncarried};
-ghost use Rattle.renewal.specs.Renewing.{IsCapacity, IsUnmade};
+ghost use Rattle.renewal.specs.Renewing.{IsUnmade};
 
 use crate::fault::RenewalFault;
 use crate::queue::{Queue, Sizes};

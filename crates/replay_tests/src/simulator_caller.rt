@@ -9,15 +9,17 @@ const CFGI_STE: Raw = Raw {
     hi: 1,
 };
 
+/// A ring of 8 slots, and caches of 4 entries.
+const SHAPE: Shape = Shape {
+    log2: 3,
+    senders: 1,
+    max_batches: 4,
+    capacity: 4,
+};
+
 #[test]
 fn a_batch_of_one_owner(rt: HostRuntime) {
-    let shape = Shape {
-        log2: 3,
-        senders: 1,
-        max_batches: 4,
-        capacity: 4,
-    };
-    let mut simulator = Simulator::new(rt.alloc(), &shape).expect(&rt, "memory");
+    let mut simulator = Simulator::new(rt.alloc(), &SHAPE).expect(&rt, "memory");
     let batch = Batch::new(CFGI_STE).expect(&rt, "no CMD_SYNC");
     assert!(rt; simulator.has_sender(0) && !simulator.is_open(0));
     simulator.reserve(0, batch, true).expect(&rt, "room");
@@ -34,13 +36,7 @@ fn a_batch_of_one_owner(rt: HostRuntime) {
 
 #[test]
 fn a_batch_that_is_sent_at_once(rt: HostRuntime) {
-    let shape = Shape {
-        log2: 3,
-        senders: 1,
-        max_batches: 4,
-        capacity: 4,
-    };
-    let mut simulator = Simulator::new(rt.alloc(), &shape).expect(&rt, "memory");
+    let mut simulator = Simulator::new(rt.alloc(), &SHAPE).expect(&rt, "memory");
     let batch = Batch::new(CFGI_STE).expect(&rt, "no CMD_SYNC");
     assert!(rt; simulator.has_sender(0) && !simulator.is_open(0));
     let sent = simulator.send(0, batch.as_borrowed(), true);

@@ -1,8 +1,9 @@
 //! The one who takes commands.
-ghost use Rattle.std.specs.Prelude.{◌≡◌, ◌∷◌, ◌≤◌, ◌^◌, length, []};
+ghost use Rattle.std.specs.Prelude.{◌≡◌, ◌∷◌, ◌≤◌, length, []};
 ghost use Rattle.cmdcodec.specs.declared.raw.Raw.{Raw as RawOf};
 ghost use Rattle.qindex.specs.Positions.{size};
 ghost use Rattle.qindex.specs.ControlWord.{IsControl};
+ghost use Rattle.ringcore.specs.Limits.{most_reserved};
 ghost use Rattle.ringcore.specs.declared.world.event.Event.TheVariants.{Look};
 ghost use Rattle.ringcore.specs.declared.world.event.Who.TheVariants.{Consumer as ConsumerOf, Sender as SenderOf};
 ghost use Rattle.ringcore.specs.world.Trails.{taken_by, found_ready};
@@ -113,7 +114,7 @@ impl<D: Device> Consumer<D> {
     /// How many commands it has taken: at most `2^46`.
     pub fn taken(&self) -> u64
         ensures value { result ≡ taken_by self.now.trail }
-        ensures few { result ≤ 2 ^ 46 }
+        ensures few { result ≤ most_reserved }
     {
         self.port.taken()
     }

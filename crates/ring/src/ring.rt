@@ -1,6 +1,7 @@
 //! The ring that all threads share, and how it starts.
 ghost use Rattle.std.specs.Prelude.{◌≡◌, ◌≤◌, [], IfOk, IfErr};
 ghost use Rattle.qindex.specs.Indexes.{IsGeometry};
+ghost use Rattle.ringcore.specs.Limits.{most_senders};
 ghost use Rattle.ringcore.specs.memory.Layout.{words_of};
 ghost use Rattle.ring.specs.table.Rule.{IsWithinLimits, first_participants, participants_from};
 ghost use Rattle.ring.specs.Finishing.{AreAll, IsEnd};
@@ -65,7 +66,7 @@ impl Ring {
         max_batches: u32,
     ) -> Result<(Ring, Vec<Sender>, Consumer<D>), AllocError>
         requires geometry { IsGeometry geometry }
-        requires senders { senders ≤ 256 }
+        requires senders { senders ≤ most_senders }
         ensures { IfOk result (λ r. IsUnused geometry senders max_batches r.0 r.1.items r.2) }
     {
         laws::begin();

@@ -1,5 +1,6 @@
 -- Which numbers a ring can't be made with, and what the faults are called.
 use Rattle.std.specs.Prelude.{◌≡◌, ℕ, List, codes, nat_le, ◌==◌, ◌&&◌, not, Option, Some, None, if◌then◌else◌}
+use Rattle.ringcore.specs.Limits.{most_senders}
 use Rattle.ringcore.specs.declared.ring_fault.RingFault.{RingFault}
 use Rattle.ringcore.specs.declared.ring_fault.RingFault.TheVariants.{Size, Senders, Batches, Memory}
 
@@ -13,7 +14,7 @@ fault_label (Memory error) = codes "N4"
 abbrev pub number_fault : ℕ → ℕ → ℕ → Option RingFault
 number_fault log2 senders max_batches =
     if not (nat_le 1 log2 && nat_le log2 19) then Some Size
-    else if not (nat_le 1 senders && nat_le senders 256) then Some Senders
+    else if not (nat_le 1 senders && nat_le senders most_senders) then Some Senders
     else if max_batches == 0 then Some Batches
     else None
 

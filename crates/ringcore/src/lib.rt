@@ -12,12 +12,14 @@
 #![tactic(auto)]
 
 pub mod laws;
+mod limits;
 mod machine;
 mod memory;
 mod ring_fault;
 mod world;
 
 pub use laws::{batches_law, counts_law, steps_law, world_law};
+pub use limits::{MOST_RESERVED, MOST_SENDERS};
 pub use machine::{
     ConsumerView, Core, Seen, SenderView, Step, StepFault, SyncTallies, batch_commands, index_of,
     run,

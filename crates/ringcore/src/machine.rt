@@ -1,6 +1,7 @@
 //! The ring with one owner: its words, and what each seat knows.
 ghost use Rattle.std.specs.Prelude.{◌≡◌, ◌<◌, ◌≤◌, [], length, IfOk, IfErr, OnErr, MatchOption};
 ghost use Rattle.qindex.specs.ControlWord.{IsControl};
+ghost use Rattle.ringcore.specs.Limits.{most_senders};
 ghost use Rattle.ringcore.specs.world.Trails.{Run};
 ghost use Rattle.ringcore.specs.world.World.{world, control};
 ghost use Rattle.ringcore.specs.world.Delivery.{IsOrderedDelivery};
@@ -76,7 +77,7 @@ impl Core {
 
     /// A machine before its first step.
     fn open(alloc: Global, geometry: Geometry, senders: u32) -> Result<Core, AllocError>
-        requires { senders ≤ 256 }
+        requires { senders ≤ most_senders }
         ensures { IfOk result (λ core. (ring_of core ≡ ring_with geometry senders) × StandsAfter core []) }
     {
         word_laws::begin();

@@ -1,7 +1,9 @@
 //! Why a ring isn't made.
 ghost use Rattle.std.specs.Prelude.{◌≡◌, ◌≤◌, Some, None, IfOk, IfErr, OnOk};
+ghost use Rattle.ringcore.specs.Limits.{most_senders};
 ghost use Rattle.ringcore.specs.RingFaults.{fault_label, number_fault};
 
+use crate::limits::MOST_SENDERS;
 use qindex::Geometry;
 use std::alloc::AllocError;
 use thiserror::Error;
@@ -52,14 +54,14 @@ impl From<AllocError> for RingFault {
 pub fn ring_geometry(log2: u32, senders: u32, max_batches: u32) -> Result<Geometry, RingFault>
     ensures geometry { IfOk result (λ geometry. geometry ≡ log2) }
     ensures some { OnOk result (1 ≤ senders) }
-    ensures senders { OnOk result (senders ≤ 256) }
+    ensures senders { OnOk result (senders ≤ most_senders) }
     ensures numbers { OnOk result (number_fault log2 senders max_batches ≡ None) }
     ensures refused { IfErr result (λ fault. number_fault log2 senders max_batches ≡ Some fault) }
 {
     let Some(geometry) = Geometry::new(log2) else {
         return Err(RingFault::Size);
     };
-    if senders < 1 || senders > 256 {
+    if senders < 1 || senders > MOST_SENDERS {
         return Err(RingFault::Senders);
     }
     if max_batches == 0 {

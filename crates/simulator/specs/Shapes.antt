@@ -3,6 +3,7 @@ use Rattle.std.specs.Prelude.{◌≡◌, ℕ, nat_le, List, ◌&&◌, not, Optio
 use Rattle.ringcore.specs.declared.ring_fault.RingFault.{RingFault}
 use Rattle.ringcore.specs.declared.ring_fault.RingFault.TheVariants.{Memory}
 use Rattle.ringcore.specs.RingFaults.{fault_label, number_fault}
+use Rattle.caches.specs.Limits.{most_entries}
 use Rattle.simulator.specs.declared.shape.Shape.{Shape}
 use Rattle.simulator.specs.declared.shape.ShapeFault.{ShapeFault}
 use Rattle.simulator.specs.declared.shape.ShapeFault.TheVariants.{Ring, Capacity}
@@ -14,7 +15,7 @@ shape_label Capacity = codes "C4"
 -- the first of the ring's numbers that is out of range, or else the capacity of the caches
 abbrev pub first_fault : Option RingFault → ℕ → Option ShapeFault
 first_fault (Some fault) capacity = Some (Ring fault)
-first_fault None capacity = if not (nat_le 1 capacity && nat_le capacity 65536) then Some Capacity else None
+first_fault None capacity = if not (nat_le 1 capacity && nat_le capacity most_entries) then Some Capacity else None
 
 abbrev pub shape_fault : Shape → Option ShapeFault
 shape_fault shape = first_fault (number_fault shape.log2 shape.senders shape.max_batches) shape.capacity

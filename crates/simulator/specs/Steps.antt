@@ -1,9 +1,10 @@
 -- What a step of the unit does, and how a stop is acknowledged.
-use Rattle.std.specs.Prelude.{ℕ, ◌^◌, ◌==◌, Bool, true, false, not, ⊤, Result, Ok, Err, if◌then◌else◌}
+use Rattle.std.specs.Prelude.{ℕ, ◌==◌, Bool, true, false, not, ⊤, Result, Ok, Err, if◌then◌else◌}
 use Rattle.cmdcodec.specs.declared.raw.Raw.{Raw}
 use Rattle.cmdcodec.specs.declared.ill.Ill.{Ill}
 use Rattle.cmdcodec.specs.declared.command.Command.{Command}
 use Rattle.cmdcodec.specs.Words.{decoding}
+use Rattle.ringcore.specs.Limits.{most_reserved}
 use Rattle.ringcore.specs.world.World.{world}
 use Rattle.caches.specs.Held.{Take}
 use Rattle.engine.specs.declared.answer.StepAnswer.{StepAnswer}
@@ -52,10 +53,10 @@ found (head.Ready raw) state = judged raw (decoding raw) state
 
 -- ---- a step
 
--- Once 2^46 commands were taken no more are; the limits of a ring are never so wide.
+-- Once as many commands were taken as a ring ever has no more are.
 abbrev pub going : State → Answered StepAnswer
 going state =
-    if taken_so_far state == 2 ^ 46 then unchanged Exhausted state
+    if taken_so_far state == most_reserved then unchanged Exhausted state
     else found (head_of (world state.run)) (record state { run = head_taken state.ring.geometry state.run })
 
 abbrev pub stepped_in : Mode → State → Answered StepAnswer

@@ -10,7 +10,6 @@ use base.Logic.{ent, via, guard, guard_i, snd∗, never_e}
 use types.Logic.{Logic, sem}
 use types.Kit.{Item, Goal, Seq, ‵, given, ◌$◌, move, drop, fsplit, fpick, feq_l, use1, learn}
 use contract.Monad.{fact_use}
-use denote.Exit.{yes}
 use denote.Memory.{lone}
 use denote.Param.{layout}
 use denote.RattleType.{RattleType}

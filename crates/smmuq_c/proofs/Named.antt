@@ -1,5 +1,5 @@
 -- Fields with an opcode that the profile hasn't say no command.
-use Rattle.std.proofs.Common.{◌≡◌, ℕ, Bool, true, false, sym, ap, subst, ◌∙◌, refl, Option, None, Some}
+use Rattle.std.proofs.Common.{◌≡◌, ℕ, sym, ap, subst, ◌∙◌, refl, Option, None, Some}
 use Rattle.std.specs.Prelude.{if◌then◌else◌, is_none}
 use Rattle.cmdcodec.specs.declared.ill.Ill.{Ill}
 use Rattle.cmdcodec.specs.declared.ill.Ill.TheVariants.{UnknownOpcode}

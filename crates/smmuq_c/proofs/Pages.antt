@@ -1,7 +1,7 @@
 -- Fields that say a command by page say a page.
 use Rattle.std.proofs.Common.{◌≡◌, ℕ, ◌^◌, ◌==◌, ◌||◌, Bool, true, false, sym, ap, subst, ◌∙◌, refl, Option, None}
 use Rattle.std.specs.Prelude.{if◌then◌else◌}
-use Rattle.cmdcodec.specs.Opcodes.{opcode_of, is_kept}
+use Rattle.cmdcodec.specs.Opcodes.{is_kept}
 use Rattle.cmdcodec.specs.declared.command.Command.{Command}
 use Rattle.cmdcodec.specs.declared.command.Command.TheVariants.{CfgiSte, CfgiSteRange, CfgiCd, CfgiCdAll, TlbiNhAll, TlbiNhAsid, TlbiNhVa, TlbiNhVaa, TlbiEl2All, TlbiEl2Asid, TlbiEl2Va, TlbiEl2Vaa, TlbiS12Vmall, TlbiS2Ipa, TlbiNsnhAll, AtcInv, Kept, CmdSync}
 use Rattle.smmuq_c.specs.declared.fields.Fields.{Fields}

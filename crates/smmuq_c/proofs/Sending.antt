@@ -1,5 +1,5 @@
 -- What a send of a seat's own sender did.
-use Rattle.std.proofs.Common.{◌≡◌, ℕ, List, Option, None, Some, Ok, Err, sym, ap, subst, ◌∙◌, true, false}
+use Rattle.std.proofs.Common.{◌≡◌, ℕ, List, Option, None, Some, Ok, sym, ap, subst, ◌∙◌, true}
 use Rattle.cmdcodec.specs.declared.raw.Raw.{Raw}
 use Rattle.batch.specs.declared.fault.BatchFault.{BatchFault}
 use Rattle.batch.specs.Refusals.{unless, list_refusal}

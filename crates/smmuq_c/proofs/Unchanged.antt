@@ -1,5 +1,5 @@
 -- A unit that didn't change stays settled.
-use Rattle.std.proofs.Common.{◌≡◌, List, [], ◌++◌, append-nil, sym, subst}
+use Rattle.std.proofs.Common.{◌≡◌, List, [], append-nil, sym, subst}
 use Rattle.ringcore.specs.world.World.{Taken}
 use Rattle.engine.specs.Settled.{IsSettled}
 use Rattle.engine.specs.Units.{UnitValue, StaysSettled}

@@ -1,5 +1,5 @@
 -- Commands in a buffer of C.
-use Rattle.std.specs.Prelude.{◌≡◌, ◌<◌, ◌≤◌, ◌/◌, ◌^◌, ℕ, List, [], ◌++◌, length, drop, map, Option, Some, None, ◌⊎◌}
+use Rattle.std.specs.Prelude.{◌≡◌, ◌<◌, ◌/◌, ◌^◌, ℕ, List, [], ◌++◌, length, drop, map, Some, None, ◌⊎◌}
 use Rattle.cmdcodec.specs.declared.raw.Raw.{Raw}
 use Rattle.cmdcodec.specs.Words.{encoding}
 use Rattle.batch.specs.Ranges.{range_commands}

@@ -1,7 +1,8 @@
 -- What a judgement does to a unit, and what C gets of it.
-use Rattle.std.specs.Prelude.{◌≡◌, ◌≢◌, ◌≤◌, ◌+◌, ◌^◌, ◌⊎◌, Bool, true, false, List, [], ◌∷◌, ◌++◌, Some, Result, Ok, Err, OnOk, OnErr}
+use Rattle.std.specs.Prelude.{◌≡◌, ◌≢◌, ◌≤◌, ◌+◌, ◌⊎◌, Bool, true, false, List, [], ◌∷◌, ◌++◌, Some, Result, Ok, Err, OnOk, OnErr}
 use Rattle.cmdcodec.specs.declared.raw.Raw.{Raw}
 use Rattle.cmdcodec.specs.declared.ill.Ill.{Ill}
+use Rattle.ringcore.specs.Limits.{most_reserved}
 use Rattle.ringcore.specs.declared.world.event.Outcome.TheVariants.{Replaced as AsReplaced}
 use Rattle.ringcore.specs.world.World.{Taken}
 use Rattle.engine.specs.declared.verdict.Verdict.{Verdict}
@@ -22,7 +23,7 @@ use Rattle.smmuq_c.specs.HeldUnits.{HeldValue}
 abbrev pub IsRefusal : Raw → UnitValue → Refusal → Type 0
 IsRefusal raw unit StillStopped = IsStopped unit.stop.mode
 IsRefusal raw unit OtherCommand = ¬ MayComeNext raw unit.stop
-IsRefusal raw unit Exhausted = 2 ^ 46 ≤ taken unit.counts
+IsRefusal raw unit Exhausted = most_reserved ≤ taken unit.counts
 
 -- The unit judged the command, or it was refused and nothing changed.
 abbrev pub IsJudgement : Raw → UnitValue → UnitValue → Result Verdict Refusal → Type 0
@@ -64,8 +65,8 @@ pub record HasJudgedOthers (raw : Raw) (old new : UnitValue) (verdict : Verdict)
 -- Too many commands were taken for one more, or, where others came, for two.
 pub record IsRereadRefusal (raw : Raw) (unit : UnitValue) (refusal : Refusal) : Type 0 where
   pub refusal_is : refusal ≡ Exhausted
-  pub two : 2 ^ 46 ≤ taken unit.counts + 1
-  pub one : MayComeNext raw unit.stop → 2 ^ 46 ≤ taken unit.counts
+  pub two : most_reserved ≤ taken unit.counts + 1
+  pub one : MayComeNext raw unit.stop → most_reserved ≤ taken unit.counts
 
 abbrev pub IsRereading : Raw → UnitValue → UnitValue → Result Verdict Refusal → Type 0
 IsRereading raw old new (Ok verdict) = HasJudgedAgain raw old new verdict ⊎ HasJudgedOthers raw old new verdict

@@ -4,7 +4,7 @@ use Rattle.caches.specs.declared.fault.CacheFault.TheVariants.{BadCapacity}
 use Rattle.caches.specs.Stored.{Stored}
 use Rattle.caches.specs.Held.{held}
 use Rattle.engine.specs.Units.{UnitValue, new_unit}
-use Rattle.renewal.specs.Renewing.{IsCapacity}
+use Rattle.caches.specs.Limits.{IsCapacity}
 use Rattle.smmuq_c.specs.HeldUnits.{HeldValue}
 use Rattle.smmuq_c.specs.declared.status.Status.{Status}
 use Rattle.smmuq_c.specs.declared.status.Status.TheVariants.{Done, Cache, NoMemory}

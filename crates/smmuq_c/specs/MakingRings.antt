@@ -8,7 +8,7 @@ use Rattle.ring.specs.NewRings.{IsNewRing}
 use Rattle.ring.specs.sender.Senders.{SenderValue}
 use Rattle.ring.specs.consumer.Consumers.{ConsumerValue}
 use Rattle.engine.specs.Units.{UnitValue}
-use Rattle.renewal.specs.Renewing.{IsCapacity}
+use Rattle.caches.specs.Limits.{IsCapacity}
 use Rattle.smmuq_c.specs.declared.status.Status.{Status}
 use Rattle.smmuq_c.specs.declared.status.Status.TheVariants.{Done, Cache, Ring, NoMemory}
 use Rattle.smmuq_c.specs.declared.object.Object.{Object}

@@ -13,7 +13,8 @@ use Rattle.renewal.specs.declared.fault.RenewalFault.TheVariants as fault
 use Rattle.renewal.specs.declared.queue.Sizes.{Sizes}
 use Rattle.renewal.specs.Queues.{EngineHasLooked, AreAtOnePlace, SawWaiting}
 use Rattle.renewal.specs.Carried.{IsCarried}
-use Rattle.renewal.specs.Renewing.{IsCapacity, IsUnmade}
+use Rattle.caches.specs.Limits.{IsCapacity}
+use Rattle.renewal.specs.Renewing.{IsUnmade}
 use Rattle.smmuq_c.specs.declared.status.Status.{Status}
 use Rattle.smmuq_c.specs.declared.status.Status.TheVariants.{Done, Cache, Ring, Waiting, NoMemory}
 use Rattle.smmuq_c.specs.declared.object.Object.{Object}

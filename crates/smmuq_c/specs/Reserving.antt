@@ -1,5 +1,5 @@
 -- What is reserved and published across calls.
-use Rattle.std.specs.Prelude.{◌≡◌, ℕ, true, List, [], Option, None, Some}
+use Rattle.std.specs.Prelude.{◌≡◌, ℕ, true, List, [], None, Some}
 use Rattle.cmdcodec.specs.declared.raw.Raw.{Raw}
 use Rattle.batch.specs.Refusals.{list_refusal}
 use Rattle.ringcore.specs.declared.world.event.Who.TheVariants.{Sender as SenderWho}

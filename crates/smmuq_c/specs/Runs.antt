@@ -1,5 +1,6 @@
 -- What a run of the engine does to it, and what C gets of it.
-use Rattle.std.specs.Prelude.{◌≡◌, ◌↔◌, ◌^◌, ℕ, max, min}
+use Rattle.std.specs.Prelude.{◌≡◌, ◌↔◌, ℕ, max, min}
+use Rattle.ringcore.specs.Limits.{most_reserved}
 use Rattle.ringcore.specs.declared.world.event.Who.TheVariants.{Consumer}
 use Rattle.ring.specs.table.Histories.{Grew}
 use Rattle.ring.specs.consumer.Completing.{taken_of}
@@ -50,7 +51,7 @@ pub record HasRunFor (most : ℕ) (told : RunWords) (old new : EngineValue) (sta
   pub settled : IsSettled new.unit.caches.entries (taken_of new.consumer.trail)
   pub removes : OnlyRemoves old.unit new.unit
   pub still : (answer ≡ StillStopped) ↔ IsStopped old.unit.stop.mode
-  pub exhausted : (answer ≡ Exhausted) ↔ (¬ IsStopped old.unit.stop.mode × (taken old.unit.counts ≡ 2 ^ 46))
+  pub exhausted : (answer ≡ Exhausted) ↔ (¬ IsStopped old.unit.stop.mode × (taken old.unit.counts ≡ most_reserved))
   pub ring_is : new.consumer.ring ≡ old.consumer.ring
   pub status_is : status ≡ run_status answer
   pub told_is : told ≡ run_words answer

@@ -1,5 +1,5 @@
 -- What the calls of a sender do to it, and what C gets of them.
-use Rattle.std.specs.Prelude.{◌≡◌, ◌+◌, ◌≤◌, ℕ, max, true, false, List, [], ◌∷◌, Option, None, Some}
+use Rattle.std.specs.Prelude.{◌≡◌, ◌+◌, ◌≤◌, ℕ, max, true, false, List, [], ◌∷◌, None, Some}
 use Rattle.cmdcodec.specs.declared.raw.Raw.{Raw}
 use Rattle.cmdcodec.specs.Fields.{bit}
 use Rattle.qindex.specs.declared.control.Control.{Control}

@@ -1,5 +1,5 @@
 -- What each status is called.
-use Rattle.std.specs.Prelude.{◌≡◌, ℕ, List, codes, Option, Some, None, ⊤}
+use Rattle.std.specs.Prelude.{◌≡◌, ℕ, List, codes, Option, Some, None}
 use Rattle.cmdcodec.specs.declared.ill.Ill.TheVariants.{UnknownOpcode, SecureStream, ReservedSignal, OversizedSpan}
 use Rattle.caches.specs.declared.fault.CacheFault.TheVariants as cache
 use Rattle.batch.specs.declared.fault.BatchFault.TheVariants as batch

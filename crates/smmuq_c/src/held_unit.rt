@@ -1,14 +1,15 @@
 //! A unit that tests what its contract asks of callers.
-ghost use Rattle.std.specs.Prelude.{◌≡◌, ◌<◌, ◌^◌, true, false, [], IfOk, OnOk, OnErr, Err};
+ghost use Rattle.std.specs.Prelude.{◌≡◌, ◌<◌, true, false, [], IfOk, OnOk, OnErr, Err};
 ghost use Rattle.engine.specs.Stops.{IsStopped, MayComeNext, IsAcknowledgementAnswer, told};
 ghost use Rattle.engine.specs.Counting.{taken};
 ghost use Rattle.engine.specs.Units.{HasJudged, StaysSettled, took};
+ghost use Rattle.ringcore.specs.Limits.{most_reserved};
 ghost use Rattle.smmuq_c.specs.Judging.{IsJudgement, took_by, took_old, HasReplaced, IsRereading, IsHeldJudgement, HasJudgedFor};
 ghost use Rattle.std.specs.FinMap as finite;
 ghost use Rattle.smmuq_c.specs.Lists.{IsListed};
 ghost use Rattle.smmuq_c.specs.Entries.{HasFilled, HasEvicted, TellsEntry};
 ghost use Rattle.smmuq_c.specs.Registers.{HasAcknowledgedHeld, error_words, count_words};
-ghost use Rattle.renewal.specs.Renewing.{IsCapacity};
+ghost use Rattle.caches.specs.Limits.{IsCapacity};
 ghost use Rattle.smmuq_c.specs.Making.{AreNewCaches, IsNewUnit};
 ghost use Rattle.smmuq_c.specs.Evicting.{HasLost, HasEvictedAll};
 ghost use Rattle.smmuq_c.specs.Own.{AreOwn};
@@ -22,6 +23,7 @@ use crate::words::{Errors, Held, Tallies, VerdictWords};
 use caches::{CacheFault, Caches, Entry, Tag};
 use cmdcodec::Raw;
 use engine::{AckFault, Remedy, Unit, Verdict};
+use ringcore::MOST_RESERVED;
 use std::alloc::Global;
 use std::marker::Model;
 
@@ -61,9 +63,6 @@ pub(crate) enum Refusal {
     /// `2^46` commands were taken.
     Exhausted,
 }
-
-/// How many commands a unit takes.
-const MOST_COMMANDS: u64 = 1 << 46;
 
 /// Empty caches for so many entries, 1 to 65,536: C4 refuses another number.
 pub(crate) fn new_caches(alloc: Global, capacity: u32) -> Result<Caches, Status>
@@ -114,7 +113,7 @@ impl HeldUnit {
         requires decided { self.old.rereads ≡ false }
         requires running { ¬ IsStopped self.old.unit.stop.mode }
         requires next { MayComeNext raw self.old.unit.stop }
-        requires few { taken self.old.unit.counts < 2 ^ 46 }
+        requires few { taken self.old.unit.counts < most_reserved }
         ensures judged { HasJudged raw self.old.unit self.new.unit result }
         ensures settled { StaysSettled self.old.unit self.new.unit (took raw result) }
         ensures decided { self.new.rereads ≡ false }
@@ -137,7 +136,7 @@ impl HeldUnit {
         if self.unit.stopped() {
             return Err(Refusal::StillStopped);
         }
-        if self.unit.counts().taken() >= MOST_COMMANDS {
+        if self.unit.counts().taken() >= MOST_RESERVED {
             return Err(Refusal::Exhausted);
         }
         if let Some(awaited) = self.awaited {
@@ -163,7 +162,7 @@ impl HeldUnit {
     fn replace(&mut self, awaited: Raw)
         requires undecided { self.old.rereads ≡ true }
         requires next { self.old.unit.stop.next ≡ Some awaited }
-        requires few { taken self.old.unit.counts < 2 ^ 46 }
+        requires few { taken self.old.unit.counts < most_reserved }
         ensures replaced { HasReplaced awaited self.old.unit self.new.unit }
         ensures settled { StaysSettled self.old.unit self.new.unit (took_old awaited) }
         ensures decided { self.new.rereads ≡ false }
@@ -182,14 +181,14 @@ impl HeldUnit {
         let taken = self.unit.counts().taken();
         if let Some(awaited) = self.awaited {
             if raw != awaited {
-                if taken + 1 >= MOST_COMMANDS {
+                if taken + 1 >= MOST_RESERVED {
                     return Err(Refusal::Exhausted);
                 }
                 self.replace(awaited);
                 return Ok(self.judge_now(raw));
             }
         }
-        if taken >= MOST_COMMANDS {
+        if taken >= MOST_RESERVED {
             return Err(Refusal::Exhausted);
         }
         self.decide(Remedy::Retry);

@@ -3,6 +3,7 @@
 ghost use Rattle.std.specs.Prelude.{◌≡◌, ◌≤◌, Some, IfOk, IfErr, OnOk, length, map};
 ghost use Rattle.std.specs.List.{All};
 ghost use Rattle.std.specs.Arc.{arc_value};
+ghost use Rattle.ringcore.specs.Limits.{most_senders};
 ghost use Rattle.smmuq_c.specs.declared.object.Object.TheVariants.{Sender as SenderOf};
 ghost use Rattle.smmuq_c.specs.Calls.{Answers};
 ghost use Rattle.smmuq_c.specs.MakingRings.{HasMadeRing, HasMadeConsumerRing, AreNewSeats, IsNewEngine, IsNewConsumer, IsNoEngineRing, IsNoRing, objects_in, sender_count, boxed};
@@ -113,7 +114,7 @@ fn engine_seats(
     ensures made { IfOk result (λ s. AreNewSeats (IsNewEngine capacity) log2 senders max_batches (boxed s.senders.items) s.taker.value) }
     ensures refused { IfErr result (λ status. IsNoEngineRing log2 senders max_batches capacity status) }
     ensures count { IfOk result (λ s. length s.senders.items ≡ senders) }
-    ensures few { OnOk result (senders ≤ 256) }
+    ensures few { OnOk result (senders ≤ most_senders) }
 {
     let caches = match new_caches(alloc, capacity) {
         Ok(caches) => caches,
@@ -138,7 +139,7 @@ fn consumer_seats(alloc: Global, log2: u32, senders: u32, max_batches: u32) -> R
     ensures made { IfOk result (λ s. AreNewSeats IsNewConsumer log2 senders max_batches (boxed s.senders.items) s.taker.value) }
     ensures refused { IfErr result (λ status. IsNoRing log2 senders max_batches status) }
     ensures count { IfOk result (λ s. length s.senders.items ≡ senders) }
-    ensures few { OnOk result (senders ≤ 256) }
+    ensures few { OnOk result (senders ≤ most_senders) }
 {
     let (ring, all, consumer) = match Ring::new::<CallersDevice>(
         alloc,

@@ -1,9 +1,11 @@
 //! A step of a run of commands.
-ghost use Rattle.std.specs.Prelude.{◌≡◌, ◌≤◌, ◌↔◌, ◌^◌, ◌+◌, ◌*◌, length, take, drop, slice_get, None, Some};
+ghost use Rattle.std.specs.Prelude.{◌≡◌, ◌≤◌, ◌↔◌, ◌+◌, ◌*◌, length, take, drop, slice_get, None, Some};
 ghost use Rattle.cmdcodec.specs.declared.raw.Raw.{Raw as RawOf};
 ghost use Rattle.cmdcodec.specs.declared.ill.Ill.{Ill as IllOf};
 ghost use Rattle.cmdcodec.specs.Legality.{first_ill};
+ghost use Rattle.caches.specs.Limits.{most_entries};
 ghost use Rattle.engine.specs.declared.stop.Mode.TheVariants.{Running};
+ghost use Rattle.ringcore.specs.Limits.{most_reserved};
 ghost use Rattle.ringcore.specs.declared.world.event.Who.TheVariants.{Consumer as ConsumerOf};
 ghost use Rattle.ring.specs.table.Histories.{Grew};
 ghost use Rattle.ring.specs.consumer.Completing.{taken_of};
@@ -17,6 +19,7 @@ use crate::unit::Unit;
 use crate::verdict::Verdict;
 use cmdcodec::decode;
 use ring::{Consumer, Outcome, PendingRun, Ring, TakenRun, growth_adds_up};
+use ringcore::MOST_RESERVED;
 
 /// A step of a unit with its consumer: at most so many commands.
 pub(crate) fn step_run_with(
@@ -32,7 +35,7 @@ pub(crate) fn step_run_with(
     ensures stepped { HasRun most (record { consumer = consumer; unit = unit.old }) (record { consumer = result.0; unit = unit.new }) result.1 }
     ensures history { Grew ConsumerOf consumer.trail result.0.trail consumer.history result.0.history }
     ensures still { (result.1 ≡ RunAnswer.StillStopped) ↔ IsStopped unit.old.stop.mode }
-    ensures exhausted { (result.1 ≡ RunAnswer.Exhausted) ↔ (¬ IsStopped unit.old.stop.mode × (taken unit.old.counts ≡ 2 ^ 46)) }
+    ensures exhausted { (result.1 ≡ RunAnswer.Exhausted) ↔ (¬ IsStopped unit.old.stop.mode × (taken unit.old.counts ≡ most_reserved)) }
     ensures together { AreTogether result.0 unit.new }
     ensures removes { OnlyRemoves unit.old unit.new }
     ensures ring { result.0.ring ≡ consumer.ring }
@@ -40,7 +43,7 @@ pub(crate) fn step_run_with(
     if unit.stopped() {
         return (consumer, RunAnswer::StillStopped);
     }
-    if unit.counts().taken() == 1 << 46 {
+    if unit.counts().taken() == MOST_RESERVED {
         return (consumer, RunAnswer::Exhausted);
     }
     growth_adds_up();
@@ -77,7 +80,7 @@ fn apply_rest(run: &PendingRun<Unit>, unit: &mut Unit) -> (u32, u32)
     requires counted { taken unit.old.counts ≡ length (taken_of run.now.consumer.trail) + 1 }
     ensures within { result.0 ≤ length (drop 1 run.now.raws) }
     ensures applied { AreApplied (take result.0 (drop 1 run.now.raws)) result.1 unit.old unit.new }
-    ensures removed { result.1 ≤ 65536 * result.0 }
+    ensures removed { result.1 ≤ most_entries * result.0 }
     ensures longest { (raw : RawOf) → slice_get (drop 1 run.now.raws) result.0 ≡ Some raw → (ill : IllOf) × (first_ill raw ≡ Some ill) }
 {
     let behind = run.len() - 1;

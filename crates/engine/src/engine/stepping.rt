@@ -1,5 +1,6 @@
 //! A step of one command.
-ghost use Rattle.std.specs.Prelude.{◌≡◌, ◌↔◌, ◌^◌};
+ghost use Rattle.std.specs.Prelude.{◌≡◌, ◌↔◌};
+ghost use Rattle.ringcore.specs.Limits.{most_reserved};
 ghost use Rattle.ringcore.specs.declared.world.event.Who.TheVariants.{Consumer as ConsumerOf};
 ghost use Rattle.ring.specs.table.Histories.{Grew};
 ghost use Rattle.engine.specs.Stops.{IsStopped};
@@ -11,6 +12,7 @@ use crate::answer::StepAnswer;
 use crate::unit::Unit;
 use crate::verdict::Verdict;
 use ring::{Consumer, Outcome, Ring, Taken, growth_adds_up};
+use ringcore::MOST_RESERVED;
 
 /// A step of a unit with its consumer: at most one command. `Engine::step` is this, by an owner of both.
 pub fn step_with(
@@ -23,7 +25,7 @@ pub fn step_with(
     ensures stepped { HasStepped (record { consumer = consumer; unit = unit.old }) (record { consumer = result.0; unit = unit.new }) result.1 }
     ensures history { Grew ConsumerOf consumer.trail result.0.trail consumer.history result.0.history }
     ensures still { (result.1 ≡ StepAnswer.StillStopped) ↔ IsStopped unit.old.stop.mode }
-    ensures exhausted { (result.1 ≡ StepAnswer.Exhausted) ↔ (¬ IsStopped unit.old.stop.mode × (taken unit.old.counts ≡ 2 ^ 46)) }
+    ensures exhausted { (result.1 ≡ StepAnswer.Exhausted) ↔ (¬ IsStopped unit.old.stop.mode × (taken unit.old.counts ≡ most_reserved)) }
     ensures together { AreTogether result.0 unit.new }
     ensures removes { OnlyRemoves unit.old unit.new }
     ensures ring { result.0.ring ≡ consumer.ring }
@@ -31,7 +33,7 @@ pub fn step_with(
     if unit.stopped() {
         return (consumer, StepAnswer::StillStopped);
     }
-    if unit.counts().taken() == 1 << 46 {
+    if unit.counts().taken() == MOST_RESERVED {
         return (consumer, StepAnswer::Exhausted);
     }
     growth_adds_up();

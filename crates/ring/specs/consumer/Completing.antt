@@ -3,6 +3,7 @@ use Rattle.std.specs.Prelude.{◌≡◌, ◌<◌, ℕ, ◌-◌, ◌/◌, ◌^◌
 use Rattle.cmdcodec.specs.declared.raw.Raw.{Raw}
 use Rattle.cmdcodec.specs.Opcodes.{is_sync}
 use Rattle.cmdcodec.specs.ClosingSync.{cell_address}
+use Rattle.ringcore.specs.Limits.{most_senders}
 use Rattle.ringcore.specs.declared.world.event.Outcome.{Outcome}
 use Rattle.ringcore.specs.declared.world.event.Event.TheVariants.{Advance, Acknowledge}
 use Rattle.ringcore.specs.world.Trails.{Trail, raws_by, acknowledged_by}
@@ -44,7 +45,7 @@ completed count device p = record p.consumer { trail = completed_trail (take cou
 -- It is the closing sync of some sender.
 pub record IsClosingSync (raw : Raw) : Type 0 where
   pub sender : ℕ
-  pub few : sender < 256
+  pub few : sender < most_senders
   pub address : raw.hi ≡ cell_address sender
 
 abbrev pub without_newest : Trail → Trail

@@ -1,6 +1,7 @@
 -- What contracts see of the consumer.
-use Rattle.std.specs.Prelude.{◌≡◌, ℕ, ◌+◌, ◌^◌, ◌≤◌, Option}
+use Rattle.std.specs.Prelude.{◌≡◌, ℕ, ◌+◌, ◌≤◌, Option}
 use Rattle.qindex.specs.Positions.{IndexValue, index_of}
+use Rattle.ringcore.specs.Limits.{most_reserved}
 use Rattle.ringcore.specs.declared.world.event.Who.TheVariants.{Consumer}
 use Rattle.ringcore.specs.world.Trails.{Trail, Run, raws_by, taken_by, found_ready, acknowledged_by}
 use Rattle.ringcore.specs.world.Allowed.{Ring}
@@ -30,7 +31,7 @@ pub record IsConsumer (port : PortValue) (head : IndexValue) (taken : ℕ) : Typ
 -- found behind them; the closing syncs among them come in the order of their numbers; and what it read at the head it
 -- finds again, until it takes it.
 pub record KnowsItsSteps (ring : Ring) (trail : Trail) : Type 0 where
-  pub few : taken_by trail ≤ 2 ^ 46
-  pub with_ready : taken_by trail + found_ready trail ≤ 2 ^ 46
+  pub few : taken_by trail ≤ most_reserved
+  pub with_ready : taken_by trail + found_ready trail ≤ most_reserved
   pub order : SyncsAreInOrder ring.senders (raws_by trail)
   pub steady : IsSteady trail

@@ -4,6 +4,7 @@ use Rattle.std.specs.Prelude.{◌≡◌, ◌⊎◌, ℕ, zero, suc, ◌<◌, ◌
 use mathlib.Core.Option.{some}
 use lib.ListN.{get_elem?}
 use Rattle.atomic_table.specs.Table.{State, Me}
+use Rattle.ringcore.specs.Limits.{most_senders}
 use Rattle.ringcore.specs.declared.world.event.Who.{Who}
 use Rattle.ringcore.specs.declared.world.event.Who.TheVariants.{Consumer, Sender}
 use Rattle.ringcore.specs.world.Trails.{Trail, Run, trail_of}
@@ -26,7 +27,7 @@ participant ring who trail history = record { ring = ring; who = who; trail = tr
 
 -- what a ring may be made with, beside its geometry
 pub record IsWithinLimits (ring : Ring) : Type 0 where
-  pub senders : ring.senders ≤ 256
+  pub senders : ring.senders ≤ most_senders
   pub batches : ring.max_batches < 2 ^ 32
 
 -- A run is an older one, and behind it steps of others than this one.

@@ -1,7 +1,8 @@
 //! The consumer's own port: its steps, with the index of the head.
-ghost use Rattle.std.specs.Prelude.{◌≡◌, ◌∷◌, ◌≤◌, ◌<◌, ◌+◌, ◌^◌, ℕ, false, length, take, []};
+ghost use Rattle.std.specs.Prelude.{◌≡◌, ◌∷◌, ◌≤◌, ◌<◌, ◌+◌, ℕ, false, length, take, []};
 ghost use Rattle.qindex.specs.Positions.{size};
 ghost use Rattle.qindex.specs.ControlWord.{IsControl};
+ghost use Rattle.ringcore.specs.Limits.{most_reserved};
 ghost use Rattle.ringcore.specs.declared.world.event.Event.TheVariants.{Look, Test, Read};
 ghost use Rattle.ringcore.specs.declared.world.event.Who.TheVariants.{Consumer};
 ghost use Rattle.ringcore.specs.world.Trails.{same, taken_by, found_ready};
@@ -53,7 +54,7 @@ impl ConsumerPort {
 
     pub(crate) fn taken(&self) -> u64
         ensures value { result ≡ taken_by self.now.trail }
-        ensures few { result ≤ 2 ^ 46 }
+        ensures few { result ≤ most_reserved }
     {
         self.port.knows_its_steps();
         self.taken

@@ -1,6 +1,7 @@
 //! A run of commands that is read and not taken.
-ghost use Rattle.std.specs.Prelude.{◌≡◌, ◌≤◌, ◌∷◌, ◌++◌, ◌+◌, ◌^◌, ℕ, List, length, map, slice_get, take, []};
+ghost use Rattle.std.specs.Prelude.{◌≡◌, ◌≤◌, ◌∷◌, ◌++◌, ◌+◌, ℕ, List, length, map, slice_get, take, []};
 ghost use Rattle.cmdcodec.specs.declared.raw.Raw.{Raw as RawOf};
+ghost use Rattle.ringcore.specs.Limits.{most_reserved};
 ghost use Rattle.ringcore.specs.declared.world.event.Outcome.TheVariants.{Replaced};
 ghost use Rattle.ringcore.specs.declared.world.event.Who.TheVariants.{Consumer as ConsumerOf};
 ghost use Rattle.ringcore.specs.world.World.{outcome_of};
@@ -40,7 +41,7 @@ impl<D: Device> PendingRun<D> {
         ensures some { 1 ≤ result }
         ensures few { result ≤ 64 }
         // With all that was taken they are no more than a ring ever has.
-        ensures in_all { length (taken_of self.now.consumer.trail) + result ≤ 2 ^ 46 }
+        ensures in_all { length (taken_of self.now.consumer.trail) + result ≤ most_reserved }
     {
         laws::consumer_trail();
         self.port.knows_its_steps();

@@ -1,6 +1,7 @@
 //! A ring whose seats are all the keeper's from the start.
 ghost use Rattle.std.specs.Prelude.{◌≡◌, ◌≤◌, None, OnOk, IfOk, IfErr};
 ghost use Rattle.qindex.specs.Indexes.{IsGeometry};
+ghost use Rattle.ringcore.specs.Limits.{most_senders};
 ghost use Rattle.ringcore.specs.RingFaults.{IsNotMade, number_fault};
 ghost use Rattle.ring.specs.Keepers.{IsKept};
 
@@ -45,7 +46,7 @@ impl Keeper {
     ) -> Result<(Ring, Keeper, IdleConsumer<D>), AllocError>
         requires geometry { IsGeometry geometry }
         requires some { 1 ≤ senders }
-        requires senders { senders ≤ 256 }
+        requires senders { senders ≤ most_senders }
         ensures { IfOk result (λ r. IsKept geometry senders max_batches r.0 r.1 r.2) }
     {
         laws::begin();

@@ -1,8 +1,9 @@
 -- What the machine with one owner stands for: a run, as its words and its seats know it.
-use Rattle.std.specs.Prelude.{◌≡◌, ℕ, ◌≤◌, Bool, not, ◌&&◌, nat_le, List, [], ◌∷◌, length, Option, Some, None, Result, Ok, Err, slice_get, if◌then◌else◌}
+use Rattle.std.specs.Prelude.{◌≡◌, ℕ, ◌≤◌, Bool, List, [], ◌∷◌, length, Option, Some, None, Result, Ok, Err, slice_get}
 use Rattle.cmdcodec.specs.declared.raw.Raw.{Raw}
 use Rattle.cmdcodec.specs.Bodies.{most_batches}
 use Rattle.qindex.specs.declared.control.Control.{Control}
+use Rattle.ringcore.specs.Limits.{most_senders, flags_a_word}
 use Rattle.ringcore.specs.declared.world.event.Who.TheVariants.{Sender}
 use Rattle.ringcore.specs.declared.machine.step.Step.{Step}
 use Rattle.ringcore.specs.declared.machine.step.Step.TheVariants.{Reserve}
@@ -37,7 +38,7 @@ core_of inside = record { words = inside.words; senders = inside.senders.items; 
 
 -- Each sender may reserve as many batches as there are numbers.
 abbrev pub ring_with : ℕ → ℕ → Ring
-ring_with geometry senders = record { geometry = geometry; senders = senders; max_batches = most_batches; flags = 64 }
+ring_with geometry senders = record { geometry = geometry; senders = senders; max_batches = most_batches; flags = flags_a_word }
 
 abbrev pub ring_of : CoreValue → Ring
 ring_of core = ring_with core.words.geometry core.words.senders
@@ -60,9 +61,9 @@ pub record StandsAfter (core : CoreValue) (run : Run) : Type 0 where
   pub consumer_knows : ConsumerKnows run core.consumer
   pub tallies_are : AreTallies run core.tallies
 
--- A machine has at most 256 senders, a view and a tally for each, and stands as after some run.
+-- A machine has no more senders than a ring may have, a view and a tally for each, and stands as after some run.
 pub record IsMachine (core : CoreValue) : Type 0 where
-  pub few : core.words.senders ≤ 256
+  pub few : core.words.senders ≤ most_senders
   pub views : length core.senders ≡ core.words.senders
   pub counts : length core.tallies ≡ core.words.senders
   pub run : Run

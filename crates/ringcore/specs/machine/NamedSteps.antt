@@ -4,6 +4,7 @@ use Rattle.arrayvec.specs.ArrayVec.{ArrayVec}
 use Rattle.cmdcodec.specs.declared.raw.Raw.{Raw}
 use Rattle.qindex.specs.Positions.{place}
 use Rattle.qindex.specs.Indexes.{IsGeometry}
+use Rattle.ringcore.specs.Limits.{flags_a_word}
 use Rattle.ringcore.specs.declared.world.event.Who.{Who}
 use Rattle.ringcore.specs.declared.world.event.Who.TheVariants.{Consumer, Sender}
 use Rattle.ringcore.specs.declared.world.event.Half.{Half}
@@ -48,5 +49,5 @@ pub record IsTakenAs (ring : Ring) (run : Run) (step : Step) (who : Who) (e : Ev
 -- Whatever event is allowed to one of the ring's seats, the step that asks for it has no fault and is this event.
 abbrev pub AllowedAreTaken : Type 0
 AllowedAreTaken =
-    (ring : Ring) (run : Run) (step : Step) (who : Who) (e : Event) → IsGeometry ring.geometry → ring.flags ≡ 64
+    (ring : Ring) (run : Run) (step : Step) (who : Who) (e : Event) → IsGeometry ring.geometry → ring.flags ≡ flags_a_word
     → OnlyOf ring.senders ((who, e) ∷ run) → IsRun ring ((who, e) ∷ run) → AsksFor ring (world run) step who e → IsTakenAs ring run step who e

@@ -1,5 +1,6 @@
 -- A list of steps, played one after another from an empty ring: up to the first that has a fault.
 use Rattle.std.specs.Prelude.{◌≡◌, ℕ, suc, List, [], ◌∷◌, Option, Some, None}
+use Rattle.ringcore.specs.Limits.{flags_a_word}
 use Rattle.ringcore.specs.declared.machine.step.Step.{Step}
 use Rattle.ringcore.specs.declared.machine.step_fault.StepFault.{StepFault}
 use Rattle.ringcore.specs.declared.machine.step.Seen.{Seen}
@@ -40,9 +41,9 @@ played ring steps = played_from ring [] 0 steps
 -- A step that has no fault is an event that is allowed, where flags stand in words of 64.
 abbrev pub StepsAreAllowed : Type 0
 StepsAreAllowed =
-    (ring : Ring) (run : Run) (step : Step) → IsGeometry ring.geometry → ring.flags ≡ 64 → IsRun ring run → fault_of ring run step ≡ None
+    (ring : Ring) (run : Run) (step : Step) → IsGeometry ring.geometry → ring.flags ≡ flags_a_word → IsRun ring run → fault_of ring run step ≡ None
     → IsRun ring (event_of ring run step ∷ run)
 
 -- So whatever list of steps is played, what was played is a run.
 abbrev pub PlayedAreRuns : Type 0
-PlayedAreRuns = (ring : Ring) (steps : List Step) → IsGeometry ring.geometry → ring.flags ≡ 64 → IsRun ring (played ring steps).run
+PlayedAreRuns = (ring : Ring) (steps : List Step) → IsGeometry ring.geometry → ring.flags ≡ flags_a_word → IsRun ring (played ring steps).run

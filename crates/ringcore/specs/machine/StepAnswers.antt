@@ -4,6 +4,7 @@ use Rattle.cmdcodec.specs.declared.raw.Raw.{Raw}
 use Rattle.qindex.specs.declared.control.Control.{Control}
 use Rattle.qindex.specs.Positions.{place, index_of}
 use Rattle.qindex.specs.ControlWord.{packed}
+use Rattle.ringcore.specs.Limits.{flags_a_word}
 use Rattle.ringcore.specs.declared.world.event.Who.{Who}
 use Rattle.ringcore.specs.declared.world.event.Who.TheVariants.{Consumer, Sender}
 use Rattle.ringcore.specs.declared.world.event.Half.{Half}
@@ -49,7 +50,7 @@ in_a_row f (suc limit) = if f 0 then suc (in_a_row (λ k. f (suc k)) limit) else
 -- how many from the head on are flipped, as far as their flags stand in one word
 abbrev pub ready_count : Ring → World → ℕ → ℕ
 ready_count ring w limit =
-    in_a_row (λ k. w.flipped (head w + k) && place ring.geometry (head w + k) / 64 == place ring.geometry (head w) / 64) limit
+    in_a_row (λ k. w.flipped (head w + k) && place ring.geometry (head w + k) / flags_a_word == place ring.geometry (head w) / flags_a_word) limit
 
 -- ---- read and advance
 

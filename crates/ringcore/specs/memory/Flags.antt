@@ -3,12 +3,13 @@
 use Rattle.std.specs.Prelude.{◌≡◌, ◌≢◌, ◌↔◌, ℕ, zero, suc, ◌+◌, ◌-◌, ◌%◌, ◌^◌, ◌<◌, ◌≤◌, Bool, cond, nat_le, ◌==◌, ◌&&◌, List, slice_index}
 use Rattle.std.specs.Int.{bit_at}
 use Rattle.qindex.specs.Positions.{size, place, wrap_bit, index_of}
+use Rattle.ringcore.specs.Limits.{flags_a_word}
 use Rattle.ringcore.specs.world.Allowed.{ShareAWord}
 use Rattle.ringcore.specs.memory.Layout.{flag_word}
 
 -- the bit of its flag word in which a position's flag stands
 abbrev pub flag_bit : ℕ → ℕ → ℕ
-flag_bit geometry position = place geometry position % 64
+flag_bit geometry position = place geometry position % flags_a_word
 
 -- the bit by which a flag says 'flipped' of a position
 abbrev pub polarity : ℕ → ℕ → ℕ
@@ -21,7 +22,7 @@ says_flipped geometry words position =
 
 -- how many positions from this one on, at most the size, have their flags in one flag word with its own
 abbrev pub shared_word : ℕ → ℕ → ℕ
-shared_word geometry position = cond (nat_le (size geometry) 64) (size geometry) (64 - flag_bit geometry position)
+shared_word geometry position = cond (nat_le (size geometry) flags_a_word) (size geometry) (flags_a_word - flag_bit geometry position)
 
 -- A bit of the mask is set just where it is the flag of one of count positions from this one on.
 pub record IsFlagOf (geometry position count bit : ℕ) : Type 0 where
@@ -37,9 +38,9 @@ pub record IsFlipMask (geometry position count mask : ℕ) : Type 0 where
 -- as their flags stand in this word.
 pub record IsReadyRun (geometry word position limit found : ℕ) : Type 0 where
   pub most : found ≤ limit
-  pub in_word : ShareAWord 64 geometry position found
+  pub in_word : ShareAWord flags_a_word geometry position found
   pub ready : (offset : ℕ) → offset < found → bit_at word (flag_bit geometry (position + offset)) ≡ polarity geometry (position + offset)
-  pub no_more : found < limit → ShareAWord 64 geometry position (suc found)
+  pub no_more : found < limit → ShareAWord flags_a_word geometry position (suc found)
       → bit_at word (flag_bit geometry (position + found)) ≢ polarity geometry (position + found)
 
 -- whether the flag of the position that is offset further stands in the same word, and says 'flipped' there

@@ -1,7 +1,8 @@
 -- Which word is where among the words of a ring (own). Between the control word, the flag words, the data words
 -- and each completion cell stand unused words: so many that no two of these share 64 bytes, wherever the first is.
-use Rattle.std.specs.Prelude.{ℕ, ◌+◌, ◌*◌, ◌/◌}
+use Rattle.std.specs.Prelude.{ℕ, ◌+◌, ◌-◌, ◌*◌, ◌/◌}
 use Rattle.qindex.specs.Positions.{size, place}
+use Rattle.ringcore.specs.Limits.{flags_a_word}
 use Rattle.ringcore.specs.declared.world.event.Half.{Half}
 use Rattle.ringcore.specs.declared.world.event.Half.TheVariants.{Lo, Hi}
 
@@ -17,11 +18,11 @@ abbrev pub first_flag_word : ℕ
 first_flag_word = control_word + 1 + unused
 
 abbrev pub flag_words : ℕ → ℕ
-flag_words geometry = (size geometry + 63) / 64
+flag_words geometry = (size geometry + (flags_a_word - 1)) / flags_a_word
 
 -- the word in which a position's flag stands
 abbrev pub flag_word : ℕ → ℕ → ℕ
-flag_word geometry position = first_flag_word + place geometry position / 64
+flag_word geometry position = first_flag_word + place geometry position / flags_a_word
 
 -- two data words for each slot, lo ahead of hi
 abbrev pub first_data_word : ℕ → ℕ

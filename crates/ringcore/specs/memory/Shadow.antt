@@ -3,6 +3,7 @@ use Rattle.std.specs.Prelude.{◌≡◌, ℕ, ◌+◌, ◌<◌, ◌≤◌, true,
 use Rattle.qindex.specs.Positions.{size}
 use Rattle.qindex.specs.Indexes.{IsGeometry}
 use Rattle.qindex.specs.ControlWord.{packed}
+use Rattle.ringcore.specs.Limits.{flags_a_word}
 use Rattle.ringcore.specs.declared.world.event.Half.{Half}
 use Rattle.ringcore.specs.world.Trails.{Run}
 use Rattle.ringcore.specs.world.World.{Item, World, head, world, control, half_of}
@@ -25,6 +26,6 @@ pub record IsShadow (ring : Ring) (words : List ℕ) (w : World) : Type 0 where
 -- The words may stand as these after this run. Flags stand in words of 64.
 pub record AreAfter (ring : Ring) (run : Run) (words : List ℕ) : Type 0 where
   pub geometry_is : IsGeometry ring.geometry
-  pub flags_are : ring.flags ≡ 64
+  pub flags_are : ring.flags ≡ flags_a_word
   pub run_is : IsRun ring run
   pub shadow : IsShadow ring words (world run)

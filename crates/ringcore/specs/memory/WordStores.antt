@@ -1,6 +1,7 @@
 -- The words of a ring as callers see them, and what one operation makes of them.
 use Rattle.std.specs.Prelude.{◌≡◌, ℕ, ◌≤◌, List, length, slice_index, slice_set}
 use Rattle.qindex.specs.Indexes.{IsGeometry}
+use Rattle.ringcore.specs.Limits.{most_senders}
 use Rattle.ringcore.specs.memory.Layout.{flag_word, words_of}
 use Rattle.ringcore.specs.memory.Flags.{IsFlipMask}
 use Rattle.ringcore.specs.memory.StepLaws.{turned}
@@ -12,7 +13,7 @@ pub record WordsValue : Type 0 where
 
 pub record AreWords (w : WordsValue) : Type 0 where
   pub geometry_is : IsGeometry w.geometry
-  pub few : w.senders ≤ 256
+  pub few : w.senders ≤ most_senders
   pub many : length w.words ≡ words_of w.geometry w.senders
 
 -- the word at an index, and the words with another there

@@ -4,6 +4,7 @@ use Rattle.cmdcodec.specs.declared.raw.Raw.{Raw}
 use Rattle.cmdcodec.specs.Opcodes.{is_sync}
 use Rattle.cmdcodec.specs.ClosingSync.{cell_address}
 use Rattle.qindex.specs.Positions.{size}
+use Rattle.ringcore.specs.Limits.{most_senders, most_reserved}
 use Rattle.ringcore.specs.declared.world.event.Who.{Who}
 use Rattle.ringcore.specs.declared.world.event.Who.TheVariants.{Consumer, Sender}
 use Rattle.ringcore.specs.declared.world.event.Event.TheVariants.{Won, Advance, Ask}
@@ -116,17 +117,17 @@ abbrev pub FewAreReserved : Type 0
 FewAreReserved =
     (ring : Ring) (senders : ℕ) (run : Run) → OnlyOf senders run → IsRun ring run → tail (world run) ≤ 64 * (senders * ring.max_batches)
 
--- No list of a run is longer than 2^46, in a ring of at most 256 senders, of which each makes fewer than 2^32 batches.
+-- No list of a run is longer than that, in a ring within its limits, of which each sender makes fewer than 2^32 batches.
 pub record AreShort (run : Run) : Type 0 where
-  pub reserved : tail (world run) ≤ 2 ^ 46
-  pub taken : head (world run) ≤ 2 ^ 46
-  pub joined : length (joined (batches run)) ≤ 2 ^ 46
-  pub advanced : length (advanced run) ≤ 2 ^ 46
-  pub batches : length (batches run) ≤ 2 ^ 46
+  pub reserved : tail (world run) ≤ most_reserved
+  pub taken : head (world run) ≤ most_reserved
+  pub joined : length (joined (batches run)) ≤ most_reserved
+  pub advanced : length (advanced run) ≤ most_reserved
+  pub batches : length (batches run) ≤ most_reserved
 
 abbrev pub ListsAreShort : Type 0
 ListsAreShort =
-    (ring : Ring) (run : Run) → ring.senders ≤ 256 → ring.max_batches < 2 ^ 32 → OnlyOf ring.senders run → IsRun ring run → AreShort run
+    (ring : Ring) (run : Run) → ring.senders ≤ most_senders → ring.max_batches < 2 ^ 32 → OnlyOf ring.senders run → IsRun ring run → AreShort run
 
 -- whether a command is a closing sync of this sender: a CMD_SYNC that writes into its completion cell
 abbrev pub is_sync_to : ℕ → Raw → Bool

@@ -1,5 +1,6 @@
 //! The commands of a batch.
 ghost use Rattle.std.specs.Prelude.{◌≡◌, ◌<◌, ◌≤◌, length};
+ghost use Rattle.ringcore.specs.Limits.{most_senders};
 ghost use Rattle.ringcore.specs.world.World.{commands};
 
 use cmdcodec::{Raw, RawList, closing_sync, encode};
@@ -7,7 +8,7 @@ use cmdcodec::{Raw, RawList, closing_sync, encode};
 /// The commands of a sender's batch: a body of at most 63, and behind it the closing sync of this number, if
 /// there is one.
 pub fn batch_commands(sender: u32, body: &[Raw], number: Option<u32>) -> RawList
-    requires sender { sender < 256 }
+    requires sender { sender < most_senders }
     requires body { length body.now ≤ 63 }
     ensures { result.items ≡ commands sender number body.now }
 {
@@ -18,7 +19,7 @@ pub fn batch_commands(sender: u32, body: &[Raw], number: Option<u32>) -> RawList
 
 /// Leaves the commands of a sender's batch in a list, and no others.
 pub(crate) fn fill_with_batch(list: &mut RawList, sender: u32, body: &[Raw], number: Option<u32>)
-    requires sender { sender < 256 }
+    requires sender { sender < most_senders }
     requires body { length body.now ≤ 63 }
     ensures { list.new.items ≡ commands sender number body.now }
 {

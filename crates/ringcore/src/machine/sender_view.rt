@@ -7,6 +7,7 @@ ghost use Rattle.cmdcodec.specs.Bodies.{most_batches};
 ghost use Rattle.qindex.specs.Positions.{size};
 ghost use Rattle.qindex.specs.ControlWord.{IsControl};
 ghost use Rattle.qindex.specs.declared.control.Control.{Control};
+ghost use Rattle.ringcore.specs.Limits.{most_senders};
 ghost use Rattle.ringcore.specs.declared.machine.sender_view.Progress.{Progress};
 ghost use Rattle.ringcore.specs.declared.world.event.Who.TheVariants.{Sender};
 ghost use Rattle.ringcore.specs.declared.world.event.Half.TheVariants.{Lo, Hi};
@@ -97,7 +98,7 @@ impl SenderView {
     /// Takes note of a batch that was reserved from this position on, and answers the number of its
     /// closing sync, if it has one.
     pub fn wins(&mut self, sender: u32, body: &[Raw], closes: bool, start: u64) -> Option<u32>
-        requires sender { sender < 256 }
+        requires sender { sender < most_senders }
         requires body { length body.now ≤ 63 }
         requires batches { self.old.batches < most_batches }
         ensures number { WhereKnown self.old (λ run s mine. result ≡ next_number mine closes) }

@@ -4,14 +4,13 @@ ghost use Rattle.std.specs.Prelude.{◌≡◌, ◌≢◌, ◌↔◌, ℕ, ◌+�
 ghost use Rattle.std.specs.Int.{bit_at};
 ghost use Rattle.qindex.specs.Positions.{size, index_of};
 ghost use Rattle.qindex.specs.ControlWord.{bit as bit_of};
+ghost use Rattle.ringcore.specs.Limits.{flags_a_word};
 ghost use Rattle.ringcore.specs.machine.StepAnswers.{new_flags};
 ghost use Rattle.ringcore.specs.world.Allowed.{ShareAWord};
 ghost use Rattle.ringcore.specs.memory.Flags.{polarity, shared_word, IsFlipMask, IsReadyRun, ready_in};
 
+use crate::limits::FLAGS;
 use qindex::{Geometry, Index, indexes_tell_place_and_wrap_bit};
-
-/// How many flags a flag word has.
-const FLAGS: u32 = 64;
 
 /// The bit by which the flag of an index says that it is flipped: set on even laps (own).
 pub fn polarity(index: Index) -> bool
@@ -23,12 +22,12 @@ pub fn polarity(index: Index) -> bool
 
 /// How many indexes from this one on have their flags in its flag word, at most the size.
 pub fn shared_word(first: Index) -> u32
-    ensures share { ShareAWord 64 first.geometry first.number result }
-    ensures share_at_position { (geometry position : ℕ) → first ≡ index_of geometry position → ShareAWord 64 geometry position result }
+    ensures share { ShareAWord flags_a_word first.geometry first.number result }
+    ensures share_at_position { (geometry position : ℕ) → first ≡ index_of geometry position → ShareAWord flags_a_word geometry position result }
     ensures value { result ≡ shared_word first.geometry first.number }
     ensures position { (geometry position : ℕ) → first ≡ index_of geometry position → result ≡ shared_word geometry position }
     ensures some { 1 ≤ result }
-    ensures most { result ≤ 64 }
+    ensures most { result ≤ flags_a_word }
     ensures within { result ≤ size first.geometry }
 {
     indexes_tell_place_and_wrap_bit();
@@ -44,7 +43,7 @@ pub fn shared_word(first: Index) -> u32
 pub fn flip_mask(first: Index, count: u32) -> u64
     requires some { 1 ≤ count }
     requires within { count ≤ size first.geometry }
-    requires word { ShareAWord 64 first.geometry first.number count }
+    requires word { ShareAWord flags_a_word first.geometry first.number count }
     ensures value { IsFlipMask first.geometry first.number count result }
     ensures position { (geometry position : ℕ) → first ≡ index_of geometry position → IsFlipMask geometry position count result }
 {
@@ -107,7 +106,7 @@ pub fn ready_run(word: u64, head: Index, limit: u32) -> u32
 /// The mask of `count` bits from `first` on.
 fn stretch(first: u32, count: u32) -> u64
     requires some { 1 ≤ count }
-    requires within { first + count ≤ 64 }
+    requires within { first + count ≤ flags_a_word }
     ensures { (bit : ℕ) → (bit_at result bit ≡ 1) ↔ ((first ≤ bit) × (bit < first + count)) }
 {
     u64::MAX >> (FLAGS - count) << first
@@ -115,10 +114,10 @@ fn stretch(first: u32, count: u32) -> u64
 
 /// How many bits of the word in a row, from `first` on, are as `polarity` says.
 fn equal_bits(word: u64, first: u32, polarity: bool) -> u32
-    requires { first < 64 }
-    ensures within { first + result ≤ 64 }
+    requires { first < flags_a_word }
+    ensures within { first + result ≤ flags_a_word }
     ensures equal { (bit : ℕ) → first ≤ bit → bit < first + result → bit_at word bit ≡ bit_of polarity }
-    ensures stop { first + result < 64 → bit_at word (first + result) ≢ bit_of polarity }
+    ensures stop { first + result < flags_a_word → bit_at word (first + result) ≢ bit_of polarity }
 {
     let same = if polarity { word } else { !word };
     (same >> first).trailing_ones()

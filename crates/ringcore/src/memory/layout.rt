@@ -2,13 +2,12 @@
 //! completion cell share no 64 bytes (own).
 ghost use Rattle.std.specs.Prelude.{◌≡◌, ℕ, ◌≤◌, ◌^◌};
 ghost use Rattle.qindex.specs.Positions.{index_of};
+ghost use Rattle.ringcore.specs.Limits.{most_senders};
 ghost use Rattle.ringcore.specs.memory.Layout.{control_word, flag_word, first_data_word, half_number, data_word, first_cell, cell, words_of};
 
+use crate::limits::FLAGS;
 use crate::world::Half;
 use qindex::{Geometry, Index};
-
-/// How many flags a flag word has.
-const FLAGS: usize = 64;
 
 /// How many unused words follow a part, so that the next one starts 64 bytes on or later.
 const UNUSED: usize = 7;
@@ -25,7 +24,7 @@ pub fn flag_word(index: Index) -> usize
     ensures value { result ≡ flag_word index.geometry index.number }
     ensures position { (geometry position : ℕ) → index ≡ index_of geometry position → result ≡ flag_word geometry position }
 {
-    control_word() + 1 + UNUSED + index.place() as usize / FLAGS
+    control_word() + 1 + UNUSED + (index.place() / FLAGS) as usize
 }
 
 /// The word that holds a half of the command of an index (own).
@@ -38,7 +37,7 @@ pub fn data_word(index: Index, half: Half) -> usize
 
 /// The word that is a sender's completion cell. `sender` is at most 256 (own).
 pub fn cell(geometry: Geometry, sender: u32) -> usize
-    requires { sender ≤ 256 }
+    requires { sender ≤ most_senders }
     ensures { result ≡ cell geometry sender }
 {
     first_cell(geometry) + sender as usize * (1 + UNUSED)
@@ -46,7 +45,7 @@ pub fn cell(geometry: Geometry, sender: u32) -> usize
 
 /// How many words of 64 bits a ring has. `senders` is at most 256 (own).
 pub fn words(geometry: Geometry, senders: u32) -> usize
-    requires { senders ≤ 256 }
+    requires { senders ≤ most_senders }
     ensures { result ≡ words_of geometry senders }
 {
     first_cell(geometry) + senders as usize * (1 + UNUSED)
@@ -56,7 +55,7 @@ fn first_data_word(geometry: Geometry) -> usize
     ensures value { result ≡ first_data_word geometry }
     ensures in_range { result ≤ 2 ^ 14 }
 {
-    control_word() + 1 + UNUSED + (geometry.size() as usize + FLAGS - 1) / FLAGS + UNUSED
+    control_word() + 1 + UNUSED + ((geometry.size() + FLAGS - 1) / FLAGS) as usize + UNUSED
 }
 
 fn half_number(half: Half) -> usize

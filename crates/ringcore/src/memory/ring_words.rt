@@ -3,6 +3,7 @@ ghost use Rattle.std.specs.Prelude.{◌≡◌, ◌≢◌, ◌+◌, ◌≤◌, �
 ghost use Rattle.std.specs.Option.{SomeIff};
 ghost use Rattle.qindex.specs.Positions.{size, index_of};
 ghost use Rattle.qindex.specs.ControlWord.{packed, control_in, IsControlWord, advance_mask as mask_to_advance, close_mask as mask_to_close};
+ghost use Rattle.ringcore.specs.Limits.{most_senders, flags_a_word};
 ghost use Rattle.ringcore.specs.memory.Layout.{control_word, flag_word, data_word, cell, words_of};
 ghost use Rattle.ringcore.specs.world.Allowed.{ShareAWord};
 ghost use Rattle.ringcore.specs.memory.Flags.{IsReadyRun};
@@ -39,7 +40,7 @@ impl RingWords {
     ///
     /// Errors: out of memory.
     pub fn new(alloc: Global, geometry: Geometry, senders: u32) -> Result<RingWords, AllocError>
-        requires { senders ≤ 256 }
+        requires { senders ≤ most_senders }
         ensures { IfOk result (λ w. w ≡ record { geometry = geometry; senders = senders; words = replicate (words_of geometry senders) 0 }) }
     {
         Ok(RingWords {
@@ -89,7 +90,7 @@ impl RingWords {
         requires geometry { first.geometry ≡ self.old.geometry }
         requires some { 1 ≤ count }
         requires within { count ≤ size first.geometry }
-        requires word { ShareAWord 64 first.geometry first.number count }
+        requires word { ShareAWord flags_a_word first.geometry first.number count }
         ensures value { IsFlipped self.old self.new first.number count }
         ensures position { (geometry position : ℕ) → first ≡ index_of geometry position → IsFlipped self.old self.new position count }
     {

@@ -1,5 +1,4 @@
 use Rattle.std.proofs.Common.{◌≡◌, ℕ, ◌/◌, Option, refl, subst}
-use Rattle.caches.specs.Held.{Entries}
 use Rattle.caches.specs.declared.tag.Entry.{Entry}
 use Rattle.smmuq_c.specs.declared.object.Object.{Object}
 use Rattle.smmuq_c.specs.declared.finding.Owner.{Owner}

@@ -1,5 +1,5 @@
-use Rattle.std.proofs.Common.{◌≡◌, ◌<◌, ◌≤◌, ℕ, Ok, Err, arith}
-use Rattle.renewal.specs.Renewing.{IsCapacity}
+use Rattle.std.proofs.Common.{◌<◌, ◌≤◌, ℕ, arith}
+use Rattle.caches.specs.Limits.{IsCapacity}
 use Rattle.smmuq_c.proofs.held_unit.new_caches.Goals as goal
 
 in_range : (n : ℕ) → ¬ ¬ IsCapacity n → IsCapacity n

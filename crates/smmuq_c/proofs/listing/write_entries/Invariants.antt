@@ -1,4 +1,4 @@
-use Rattle.std.proofs.Common.{◌≡◌, ◌≤◌, length, take, drop, map}
+use Rattle.std.proofs.Common.{◌≡◌, take, drop, map}
 use Rattle.smmuq_c.specs.Lists.{listed}
 use Rattle.smmuq_c.proofs.listing.write_entries.Given as goal
 

@@ -1,4 +1,4 @@
-use Rattle.std.proofs.Common.{◌≡◌, ◌+◌, ◌++◌, List, length, map, take, Some}
+use Rattle.std.proofs.Common.{◌≡◌, ◌+◌, ◌++◌, length, map, take, Some}
 use Rattle.smmuq_c.specs.MakingRings.{boxed, objects_in}
 use Rattle.smmuq_c.proofs.ring_calls.fill_senders.Given as goal
 

@@ -1,7 +1,5 @@
-use Rattle.std.proofs.Common.{[], ap, subst}
+use Rattle.std.proofs.Common.{[], ap}
 use Rattle.engine.specs.Units.{UnitValue}
-use Rattle.smmuq_c.specs.Evicting.{HasLost}
-use Rattle.smmuq_c.specs.HeldUnits.{HeldValue, shown}
 use Rattle.smmuq_c.proofs.Evictions.{lost_settled}
 use Rattle.smmuq_c.proofs.Held.{keeps, lost_shown, settled_shown}
 use Rattle.smmuq_c.proofs.Owning.{lost_own}

@@ -1,0 +1,10 @@
+-- How many entries caches may be made for (own).
+use Rattle.std.specs.Prelude.{ℕ, ◌<◌, ◌≤◌}
+
+-- the most entries that caches may hold
+abbrev pub most_entries : ℕ
+most_entries = 65536
+
+-- 1 to that many entries
+abbrev pub IsCapacity : ℕ → Type 0
+IsCapacity capacity = (0 < capacity) × (capacity ≤ most_entries)
