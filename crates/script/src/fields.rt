@@ -106,5 +106,10 @@ pub fn is_comment(name: &[u8]) -> bool
 pub fn is_text(line: &[u8]) -> bool
     ensures { result ≡ list_all is_printable line.now }
 {
-    line.iter().all(|b| 0x20 <= *b && *b <= 0x7e)
+    let mut printable = true;
+    // It looks at each byte, whatever it found before, so that the compiler can look at many at once.
+    'bytes: for byte in line {
+        printable &= 0x20 <= *byte && *byte <= 0x7e;
+    }
+    printable
 }
