@@ -4,3 +4,4 @@ pub mod WorkedEveryKind
 pub mod WorkedSchedules
 pub mod WorkedCounterexamples
 pub mod WorkedTold
+pub mod WorkedLimits

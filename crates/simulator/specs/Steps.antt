@@ -53,7 +53,7 @@ found (head.Ready raw) state = judged raw (decoding raw) state
 
 -- ---- a step
 
--- Once as many commands were taken as a ring ever has no more are.
+-- Once as many commands were taken as a ring ever has, no more are.
 abbrev pub going : State → Answered StepAnswer
 going state =
     if taken_so_far state == most_reserved then unchanged Exhausted state

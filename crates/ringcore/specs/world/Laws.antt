@@ -117,7 +117,7 @@ abbrev pub FewAreReserved : Type 0
 FewAreReserved =
     (ring : Ring) (senders : ℕ) (run : Run) → OnlyOf senders run → IsRun ring run → tail (world run) ≤ 64 * (senders * ring.max_batches)
 
--- No list of a run is longer than that, in a ring within its limits, of which each sender makes fewer than 2^32 batches.
+-- No list of a run is longer than most_reserved, where a ring has at most most_senders, of which each makes fewer than 2^32 batches.
 pub record AreShort (run : Run) : Type 0 where
   pub reserved : tail (world run) ≤ most_reserved
   pub taken : head (world run) ≤ most_reserved

@@ -13,6 +13,7 @@ ghost use Rattle.ringcore.specs.world.Allowed.{Ring};
 ghost use Rattle.ringcore.specs.machine.Faults.{advance_fault, tested_offset};
 ghost use Rattle.ringcore.specs.machine.ConsumerViews.{ConsumerKnows, WhereConsumerKnows, AreUnread, SameButRead, both_halves, command_at};
 
+use crate::limits::FLAGS;
 use crate::machine::StepFault;
 use crate::machine::slot_offset::offset_of_slot;
 use crate::world::Half;
@@ -20,8 +21,8 @@ use cmdcodec::Raw;
 use qindex::Geometry;
 use std::marker::Model;
 
-/// The most commands that a test finds.
-const MOST_COMMANDS: usize = 64;
+/// The most commands that a test finds: it reads one flag word.
+const MOST_COMMANDS: usize = FLAGS as usize;
 
 /// What was read of a command.
 #[derive(Clone, Copy)]
