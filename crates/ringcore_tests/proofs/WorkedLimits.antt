@@ -1,5 +1,5 @@
 -- The limits of a ring, as they follow from each other.
-use Rattle.std.proofs.Common.{refl}
+use Rattle.std.proofs.Common.{◌≡◌, ◌*◌, ◌^◌, refl}
 use Rattle.ringcore.specs.Limits.{most_senders, most_reserved}
 
 -- So many senders make fewer than 2^32 batches each, of at most 64 commands.
