@@ -8,28 +8,38 @@ const CFGI_STE: Raw = Raw {
     hi: 1,
 };
 
-#[test]
-fn a_batch_step_by_step(rt: HostRuntime) -> Result<(), StepFault> {
-    let mut core = Core::new(rt.alloc(), 1, 1).expect(&rt, "a ring of two slots");
+/// Reserves two slots, and writes the command into slot 0 and its CMD_SYNC into slot 1.
+fn reserve_and_write(core: &mut Core) -> Result<(), StepFault> {
     core.look(Some(0))?;
-    // The command in slot 0, and its CMD_SYNC in slot 1.
     core.reserve(0, &[CFGI_STE], true)?;
     for slot in 0..2 {
         core.write(0, slot, 0)?;
         core.write(0, slot, 1)?;
     }
-    assert_eq!(rt; core.test(0, 2)?, Seen::Ready(0));
-    core.flip(0, 0, 2)?;
-    assert_eq!(rt; core.test(0, 2)?, Seen::Ready(2));
-    // F4: what is advanced past was read.
-    assert_eq!(rt; core.advance(2), Err(StepFault::HalfMissing));
+    Ok(())
+}
+
+/// Reads both slots, and advances past them.
+fn read_and_advance(core: &mut Core) -> Result<(), StepFault> {
     for slot in 0..2 {
         core.read(slot, 0)?;
         core.read(slot, 1)?;
     }
     core.advance(2)?;
-    assert_eq!(rt; core.ask(0)?, Seen::Done(0));
-    core.acknowledge(0, 1)?;
-    assert_eq!(rt; core.ask(0)?, Seen::Done(1));
     Ok(())
+}
+
+#[test]
+fn a_batch_step_by_step(rt: HostRuntime) {
+    let mut core = Core::new(rt.alloc(), 1, 1).expect(&rt, "a ring of two slots");
+    assert_eq!(rt; reserve_and_write(&mut core), Ok(()));
+    assert_eq!(rt; core.test(0, 2), Ok(Seen::Ready(0)));
+    assert!(rt; core.flip(0, 0, 2).is_ok());
+    assert_eq!(rt; core.test(0, 2), Ok(Seen::Ready(2)));
+    // F4: what is advanced past was read.
+    assert_eq!(rt; core.advance(2), Err(StepFault::HalfMissing));
+    assert_eq!(rt; read_and_advance(&mut core), Ok(()));
+    assert_eq!(rt; core.ask(0), Ok(Seen::Done(0)));
+    assert!(rt; core.acknowledge(0, 1).is_ok());
+    assert_eq!(rt; core.ask(0), Ok(Seen::Done(1)));
 }

@@ -2,6 +2,7 @@
 use qindex::{Control, Geometry, Index};
 use ringcore::{Half, RingWords, shared_word};
 use std::alloc::Global;
+use std::process::Abort;
 
 /// What the control word says: prod, cons and closed.
 fn said(words: &RingWords) -> Option<(u32, u32, bool)> {
@@ -66,25 +67,39 @@ fn ring_of_4(alloc: Global) -> Option<RingWords> {
     RingWords::new(alloc, Geometry::new(2)?, 2).ok()
 }
 
+/// Reserves three slots, which only an exchange for the word that stands there does.
+fn reserves_three(rt: &impl Abort, words: &mut RingWords) {
+    assert_eq!(rt; said(words), Some((0, 0, false)));
+    assert_eq!(rt; reserved(words, 1, 3), Some(false));
+    assert_eq!(rt; reserved(words, 0, 3), Some(true));
+    assert_eq!(rt; said(words), Some((3, 0, false)));
+}
+
+/// Writes a command, and flips the run of three.
+fn writes_and_flips(rt: &impl Abort, words: &mut RingWords) {
+    assert_eq!(rt; written(words, 2, 0x100001046, 0x40000000), Some(()));
+    assert_eq!(rt; halves(words, 2), Some((0x100001046, 0x40000000)));
+    assert_eq!(rt; ready(words, 0, 64), Some(0));
+    assert_eq!(rt; flipped(words, 0, 3), Some(()));
+    assert_eq!(rt; ready(words, 0, 64), Some(3));
+    assert_eq!(rt; ready(words, 0, 2), Some(2));
+}
+
+/// Advances past the three. The next run goes over the ring's end, where the flags turn back.
+fn goes_over_the_end(rt: &impl Abort, words: &mut RingWords) {
+    assert_eq!(rt; advanced(words, 0, 3), Some(()));
+    assert_eq!(rt; said(words), Some((3, 3, false)));
+    assert_eq!(rt; ready(words, 3, 64), Some(0));
+    assert_eq!(rt; flipped(words, 3, 3), Some(()));
+    assert_eq!(rt; ready(words, 3, 64), Some(3));
+}
+
 #[test]
 fn one_operation_after_another(rt: HostRuntime) {
     let mut words = ring_of_4(rt.alloc()).expect(&rt, "a ring of 4 slots");
-    assert_eq!(rt; said(&words), Some((0, 0, false)));
-    assert_eq!(rt; reserved(&mut words, 1, 3), Some(false));
-    assert_eq!(rt; reserved(&mut words, 0, 3), Some(true));
-    assert_eq!(rt; said(&words), Some((3, 0, false)));
-    assert_eq!(rt; written(&mut words, 2, 0x100001046, 0x40000000), Some(()));
-    assert_eq!(rt; halves(&words, 2), Some((0x100001046, 0x40000000)));
-    assert_eq!(rt; ready(&words, 0, 64), Some(0));
-    assert_eq!(rt; flipped(&mut words, 0, 3), Some(()));
-    assert_eq!(rt; ready(&words, 0, 64), Some(3));
-    assert_eq!(rt; ready(&words, 0, 2), Some(2));
-    assert_eq!(rt; advanced(&mut words, 0, 3), Some(()));
-    assert_eq!(rt; said(&words), Some((3, 3, false)));
-    // The next run goes over the ring's end, where the flags turn back.
-    assert_eq!(rt; ready(&words, 3, 64), Some(0));
-    assert_eq!(rt; flipped(&mut words, 3, 3), Some(()));
-    assert_eq!(rt; ready(&words, 3, 64), Some(3));
+    reserves_three(&rt, &mut words);
+    writes_and_flips(&rt, &mut words);
+    goes_over_the_end(&rt, &mut words);
     words.close();
     assert_eq!(rt; said(&words), Some((3, 3, true)));
 }

@@ -2,6 +2,7 @@
 use cmdcodec::Raw;
 use qindex::{Control, Geometry};
 use ringcore::{Half, SenderView, StepFault};
+use std::process::Abort;
 
 /// A CMD_CFGI_ALL.
 const CFGI_ALL: Raw = Raw { lo: 0x4, hi: 31 };
@@ -28,30 +29,34 @@ fn slots(view: &SenderView, geometry: Geometry) -> Option<[Option<u32>; 4]> {
     ])
 }
 
-#[test]
-fn one_batch(rt: HostRuntime) {
-    let geometry = Geometry::new(2).expect(&rt, "4 slots");
-    let found = Control::unpack(geometry, 0x3_0000_0003).expect(&rt, "a control word");
+/// What it knows once it looked, and reserved two slots of four from position 3 on, so that they go over the ring's end.
+fn with_two_reserved(rt: &impl Abort, found: &Control) -> SenderView {
     let mut view = SenderView::new();
-    assert!(rt; !view.expects(&found));
-    view.looks(&found);
-    assert!(rt; view.expects(&found));
+    assert!(rt; !view.expects(found));
+    view.looks(found);
+    assert!(rt; view.expects(found));
     assert_eq!(rt; view.wins(7, &[CFGI_ALL], true, 3), Some(1));
-    assert!(rt; !view.expects(&found));
-    assert_eq!(rt; view.start(), 3);
-    assert_eq!(rt; view.len(), 2);
-    assert_eq!(rt; words_at(&view, 0), Some((0x4, 31)));
-    assert_eq!(rt; words_at(&view, 1), Some((0x1_0000_1046, 0x4000_001C)));
-    assert_eq!(rt; words_at(&view, 2), None);
-    // It goes over the ring's end.
-    assert_eq!(rt;
-        slots(&view, geometry),
-        Some([Some(1), None, None, Some(0)])
-    );
-    assert_eq!(rt;
-        (view.holds(2), view.holds(3), view.holds(4), view.holds(5)),
-        (false, true, true, false)
-    );
+    assert!(rt; !view.expects(found));
+    assert_eq!(rt; (view.start(), view.len()), (3, 2));
+    view
+}
+
+/// Whether it holds positions 2 to 5.
+fn held(view: &SenderView) -> (bool, bool, bool, bool) {
+    (view.holds(2), view.holds(3), view.holds(4), view.holds(5))
+}
+
+/// The command and its CMD_SYNC, and where they stand.
+fn has_both(rt: &impl Abort, view: &SenderView, geometry: Geometry) {
+    assert_eq!(rt; words_at(view, 0), Some((0x4, 31)));
+    assert_eq!(rt; words_at(view, 1), Some((0x1_0000_1046, 0x4000_001C)));
+    assert_eq!(rt; words_at(view, 2), None);
+    assert_eq!(rt; slots(view, geometry), Some([Some(1), None, None, Some(0)]));
+    assert_eq!(rt; held(view), (false, true, true, false));
+}
+
+/// Writes the four halves.
+fn writes_all(rt: &impl Abort, view: &mut SenderView) {
     view.writes(0, Half::Lo);
     assert!(rt; !view.all_written(0, 1));
     view.writes(0, Half::Hi);
@@ -60,6 +65,10 @@ fn one_batch(rt: HostRuntime) {
     view.writes(1, Half::Hi);
     view.writes(1, Half::Lo);
     assert!(rt; view.all_written(0, 2));
+}
+
+/// Flips one slot, and then the other.
+fn flips_both(rt: &impl Abort, view: &mut SenderView) {
     assert!(rt; !view.any_flipped(0, 2));
     view.flips(0, 1);
     assert!(rt; view.any_flipped(0, 2));
@@ -67,6 +76,16 @@ fn one_batch(rt: HostRuntime) {
     assert!(rt; view.is_open());
     view.flips(1, 1);
     assert!(rt; !view.is_open());
+}
+
+#[test]
+fn one_batch(rt: HostRuntime) {
+    let geometry = Geometry::new(2).expect(&rt, "4 slots");
+    let found = Control::unpack(geometry, 0x3_0000_0003).expect(&rt, "a control word");
+    let mut view = with_two_reserved(&rt, &found);
+    has_both(&rt, &view, geometry);
+    writes_all(&rt, &mut view);
+    flips_both(&rt, &mut view);
     assert_eq!(rt; slots(&view, geometry), Some([None; 4]));
     assert!(rt; !view.holds(3));
     view.looks(&found);
