@@ -1,45 +1,41 @@
 //! A unit without a ring.
 use crate::commands::{ILLEGAL, LEGAL};
-use caches::{CacheFault, Caches, Entry, Tag};
+use caches::{Caches, Entry, Tag};
 use cmdcodec::{Ill, Sid, Ssid};
 use engine::{Remedy, Unit, Verdict};
+use std::process::Abort;
 
-#[test]
-fn a_unit_alone(rt: HostRuntime) -> Result<(), CacheFault> {
-    let sid = Sid::new(5).expect(&rt, "a stream");
-    let tag = Tag::Ste { sid };
-    let mut unit = Unit::new(Caches::new(rt.alloc(), 1)?);
-    unit.fill(tag, 7)?;
-    assert_eq!(rt;
-        unit.lookup(&tag),
-        Some(Entry {
-            tag,
-            value: 7,
-            born: 0
-        })
-    );
-    assert_eq!(rt; unit.entries()?.len(), 1);
-    let Verdict::Applied {
-        command: _,
-        removed,
-    } = unit.judge(LEGAL)
-    else {
-        panic!(rt; "a legal command isn't applied");
-    };
-    assert_eq!(rt; removed, 1);
+/// An entry of this tag, value and birth.
+fn entry(tag: Tag, value: u64, born: u64) -> Entry {
+    Entry { tag, value, born }
+}
+
+/// Fills an entry, and applies a command that removes it.
+fn fills_and_applies(rt: &impl Abort, unit: &mut Unit, tag: Tag) {
+    assert!(rt; unit.fill(tag, 7).is_ok());
+    assert_eq!(rt; unit.lookup(&tag), Some(entry(tag, 7, 0)));
+    let applied = unit.judge(LEGAL);
+    assert!(rt; matches!(applied, Verdict::Applied { removed: 1, .. }));
+    assert!(rt; unit.lookup(&tag).is_none());
+}
+
+/// Stops at an illegal command, and goes on behind it. What is filled meanwhile counts the command before.
+fn stops_and_goes_on(rt: &impl Abort, unit: &mut Unit, tag: Tag) {
     assert_eq!(rt; unit.judge(ILLEGAL), Verdict::Stopped(Ill::UnknownOpcode));
     assert_eq!(rt; (unit.stopped(), unit.error()), (true, (1, 1, 0)));
-    unit.fill(tag, 8)?;
+    assert!(rt; unit.fill(tag, 8).is_ok());
     assert_eq!(rt; unit.acknowledge(1, Remedy::Replace), Ok(()));
     assert_eq!(rt; unit.error(), (0, 1, 1));
-    assert_eq!(rt;
-        unit.evict(&tag),
-        Some(Entry {
-            tag,
-            value: 8,
-            born: 1
-        })
-    );
+    assert_eq!(rt; unit.evict(&tag), Some(entry(tag, 8, 1)));
+}
+
+#[test]
+fn a_unit_alone(rt: HostRuntime) {
+    let sid = Sid::new(5).expect(&rt, "a stream");
+    let tag = Tag::Ste { sid };
+    let mut unit = Unit::new(Caches::new(rt.alloc(), 1).expect(&rt, "room for one"));
+    fills_and_applies(&rt, &mut unit, tag);
+    stops_and_goes_on(&rt, &mut unit, tag);
     let counts = unit.counts();
     assert_eq!(rt;
         (
@@ -52,34 +48,28 @@ fn a_unit_alone(rt: HostRuntime) -> Result<(), CacheFault> {
         (1, 1, 0, 0, 1)
     );
     assert_eq!(rt; unit.into_caches().len(), 0);
-    Ok(())
 }
 
-/// An entry that was filled before any command.
-fn first_entry(tag: Tag, value: u64) -> Entry {
-    Entry {
-        tag,
-        value,
-        born: 0,
-    }
+/// Wants these entries of a unit, in order.
+fn expect_entries(rt: &impl Abort, unit: &Unit, wanted: &[Entry]) {
+    let entries = unit.entries().expect(rt, "memory");
+    assert_eq!(rt; entries.as_slice(), wanted);
 }
 
 #[test]
-fn entries_of_an_empty_unit_and_while_stopped(rt: HostRuntime) -> Result<(), CacheFault> {
+fn entries_of_an_empty_unit_and_while_stopped(rt: HostRuntime) {
     let sid = Sid::new(5).expect(&rt, "a stream");
     let ssid = Ssid::new(3).expect(&rt, "a substream");
     let (stream, context) = (Tag::Ste { sid }, Tag::Cd { sid, ssid });
-    let mut unit = Unit::new(Caches::new(rt.alloc(), 2)?);
-    assert!(rt; unit.entries()?.is_empty());
-    unit.fill(context, 8)?;
+    let mut unit = Unit::new(Caches::new(rt.alloc(), 2).expect(&rt, "room for two"));
+    expect_entries(&rt, &unit, &[]);
+    assert!(rt; unit.fill(context, 8).is_ok());
     assert_eq!(rt; unit.judge(ILLEGAL), Verdict::Stopped(Ill::UnknownOpcode));
-    let held = [first_entry(context, 8)];
-    assert_eq!(rt; unit.entries()?.as_slice(), held.as_slice());
-    unit.fill(stream, 7)?;
-    let held = [first_entry(stream, 7), first_entry(context, 8)];
-    assert_eq!(rt; unit.entries()?.as_slice(), held.as_slice());
+    expect_entries(&rt, &unit, &[entry(context, 8, 0)]);
+    assert!(rt; unit.fill(stream, 7).is_ok());
+    let held = [entry(stream, 7, 0), entry(context, 8, 0)];
+    expect_entries(&rt, &unit, &held);
     assert_eq!(rt; unit.acknowledge(1, Remedy::Replace), Ok(()));
     assert_eq!(rt; unit.judge(ILLEGAL), Verdict::Replaced(Ill::UnknownOpcode));
-    assert_eq!(rt; unit.entries()?.as_slice(), held.as_slice());
-    Ok(())
+    expect_entries(&rt, &unit, &held);
 }
