@@ -6,27 +6,12 @@ use engine::{Remedy, Unit, Verdict};
 use std::process::Abort;
 
 /// An entry of this tag, value and birth.
-fn entry(tag: Tag, value: u64, born: u64) -> Entry {
-    Entry { tag, value, born }
-}
-
-/// Fills an entry, and applies a command that removes it.
-fn fills_and_applies(rt: &impl Abort, unit: &mut Unit, tag: Tag) {
-    assert!(rt; unit.fill(tag, 7).is_ok());
-    assert_eq!(rt; unit.lookup(&tag), Some(entry(tag, 7, 0)));
-    let applied = unit.judge(LEGAL);
-    assert!(rt; matches!(applied, Verdict::Applied { removed: 1, .. }));
-    assert!(rt; unit.lookup(&tag).is_none());
-}
-
-/// Stops at an illegal command, and goes on behind it. What is filled meanwhile counts the command before.
-fn stops_and_goes_on(rt: &impl Abort, unit: &mut Unit, tag: Tag) {
-    assert_eq!(rt; unit.judge(ILLEGAL), Verdict::Stopped(Ill::UnknownOpcode));
-    assert_eq!(rt; (unit.stopped(), unit.error()), (true, (1, 1, 0)));
-    assert!(rt; unit.fill(tag, 8).is_ok());
-    assert_eq!(rt; unit.acknowledge(1, Remedy::Replace), Ok(()));
-    assert_eq!(rt; unit.error(), (0, 1, 1));
-    assert_eq!(rt; unit.evict(&tag), Some(entry(tag, 8, 1)));
+fn entry(tag: &Tag, value: u64, born: u64) -> Entry {
+    Entry {
+        tag: *tag,
+        value,
+        born,
+    }
 }
 
 #[test]
@@ -34,8 +19,16 @@ fn a_unit_alone(rt: HostRuntime) {
     let sid = Sid::new(5).expect(&rt, "a stream");
     let tag = Tag::Ste { sid };
     let mut unit = Unit::new(Caches::new(rt.alloc(), 1).expect(&rt, "room for one"));
-    fills_and_applies(&rt, &mut unit, tag);
-    stops_and_goes_on(&rt, &mut unit, tag);
+    assert!(rt; unit.fill(tag, 7).is_ok());
+    assert_eq!(rt; unit.lookup(&tag), Some(entry(&tag, 7, 0)));
+    let applied = unit.judge(LEGAL);
+    assert!(rt; matches!(applied, Verdict::Applied { removed: 1, .. }));
+    assert_eq!(rt; unit.judge(ILLEGAL), Verdict::Stopped(Ill::UnknownOpcode));
+    assert_eq!(rt; (unit.stopped(), unit.error()), (true, (1, 1, 0)));
+    assert!(rt; unit.fill(tag, 8).is_ok());
+    assert_eq!(rt; unit.acknowledge(1, Remedy::Replace), Ok(()));
+    assert_eq!(rt; unit.error(), (0, 1, 1));
+    assert_eq!(rt; unit.evict(&tag), Some(entry(&tag, 8, 1)));
     let counts = unit.counts();
     assert_eq!(rt;
         (
@@ -65,9 +58,10 @@ fn entries_of_an_empty_unit_and_while_stopped(rt: HostRuntime) {
     expect_entries(&rt, &unit, &[]);
     assert!(rt; unit.fill(context, 8).is_ok());
     assert_eq!(rt; unit.judge(ILLEGAL), Verdict::Stopped(Ill::UnknownOpcode));
-    expect_entries(&rt, &unit, &[entry(context, 8, 0)]);
+    let held = [entry(&context, 8, 0)];
+    expect_entries(&rt, &unit, &held);
     assert!(rt; unit.fill(stream, 7).is_ok());
-    let held = [entry(stream, 7, 0), entry(context, 8, 0)];
+    let held = [entry(&stream, 7, 0), entry(&context, 8, 0)];
     expect_entries(&rt, &unit, &held);
     assert_eq!(rt; unit.acknowledge(1, Remedy::Replace), Ok(()));
     assert_eq!(rt; unit.judge(ILLEGAL), Verdict::Replaced(Ill::UnknownOpcode));
