@@ -1,1 +1,2 @@
 pub mod WorkedRuns
+pub mod WorkedEndings

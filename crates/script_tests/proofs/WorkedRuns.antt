@@ -1,5 +1,5 @@
 -- What a run may not come to: runs that came to a state of which their kind's `holds` doesn't hold.
-use Rattle.std.proofs.Common.{◌≡◌, refl, ℕ, Bool, true, false, List, [], ◌∷◌, Option, Some, None}
+use Rattle.std.proofs.Common.{◌≡◌, refl, ℕ, Bool, true, false, List, [], ◌∷◌, Some, None}
 use Rattle.script.specs.declared.ending.Ending.TheVariants.{Finished, Refused}
 use Rattle.script.specs.Effects.{answers}
 use Rattle.script.specs.Kinds.{Kind, AllHold, line_effect, request_of, request_effect}
