@@ -3,11 +3,11 @@ ghost use Rattle.std.specs.Prelude.{◌≡◌, []};
 
 use crate::commands::batch;
 use crate::told;
-use caches::Tag;
+use caches::{Caches, Tag};
 use cmdcodec::Sid;
 use engine::{Engine, Finished, Remedy};
 use ring::{Ring, Sender};
-use std::alloc::{AllocError, Global};
+use std::alloc::Global;
 use std::process::Abort;
 
 /// A ring's only sender, and its engine.
@@ -170,8 +170,23 @@ pub fn expect_answers<R: AllocGlobal + Abort>(
     parts
 }
 
+/// A new ring of `2^log2` slots, its only sender, who may send so many batches, and an engine with so many entries.
+pub fn start<R: AllocGlobal + Abort>(rt: &R, log2: u32, max_batches: u32, capacity: u32) -> (Ring, Vec<Sender>, Parts)
+    ensures senders { result.1.items ≡ [] }
+    ensures one { result.0.made_with.senders ≡ 1 }
+    ensures sender { result.2.sender.ring ≡ result.0 }
+    ensures number { result.2.sender.number ≡ 0 }
+    ensures engine { result.2.engine.consumer.ring ≡ result.0 }
+{
+    let (ring, mut senders, consumer) = Ring::new(rt.alloc(), log2, 1, max_batches).expect(rt, "a ring");
+    let sender = senders.pop().expect(rt, "one sender");
+    let caches = Caches::new(rt.alloc(), capacity).expect(rt, "caches");
+    let engine = Engine::new(consumer, caches);
+    (ring, senders, Parts { sender, engine })
+}
+
 /// Joins the parts of a ring of one sender.
-pub fn finish(ring: Ring, mut senders: Vec<Sender>, parts: Parts) -> Result<Finished, AllocError>
+pub fn finish(rt: &impl Abort, ring: Ring, mut senders: Vec<Sender>, parts: Parts) -> Finished
     requires senders { senders.items ≡ [] }
     requires one { ring.made_with.senders ≡ 1 }
     requires sender { parts.sender.ring ≡ ring }
@@ -179,6 +194,6 @@ pub fn finish(ring: Ring, mut senders: Vec<Sender>, parts: Parts) -> Result<Fini
     requires engine { parts.engine.consumer.ring ≡ ring }
 {
     let Parts { sender, engine } = parts;
-    senders.push(sender)?;
-    Ok(engine.finish(ring, senders))
+    senders.push(sender).expect(rt, "memory");
+    engine.finish(ring, senders)
 }

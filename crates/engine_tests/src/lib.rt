@@ -18,4 +18,6 @@ mod told;
 #[cfg(test)]
 mod truly_tests;
 #[cfg(test)]
+mod two_senders;
+#[cfg(test)]
 mod unit_tests;

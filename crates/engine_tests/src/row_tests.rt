@@ -2,10 +2,9 @@
 //! entries that are filled before and after commands.
 ghost use Rattle.std.specs.Prelude.{◌≡◌, ◌≤◌};
 
-use crate::calls::{Parts, expect_answers, finish};
+use crate::calls::{Parts, expect_answers, finish, start};
 use crate::commands::ILLEGAL;
 use batch::Batch;
-use caches::Caches;
 use engine::{Engine, Remedy, RunAnswer};
 use ring::Ring;
 use std::process::Abort;
@@ -13,12 +12,9 @@ use std::process::Abort;
 /// Makes the calls of a text on a new ring of `2^log2` slots with one sender, and wants the answers, and at the end that
 /// all that was reserved is taken.
 fn row<R: AllocGlobal + Abort>(rt: &R, log2: u32, calls: &str) {
-    let (ring, mut senders, consumer) = Ring::new(rt.alloc(), log2, 1, 100).expect(rt, "a ring");
-    let sender = senders.pop().expect(rt, "one sender");
-    let caches = Caches::new(rt.alloc(), 8).expect(rt, "caches");
-    let engine = Engine::new(consumer, caches);
-    let parts = expect_answers(rt, &ring, Parts { sender, engine }, calls);
-    let end = finish(ring, senders, parts).expect(rt, "memory");
+    let (ring, senders, parts) = start(rt, log2, 100, 8);
+    let parts = expect_answers(rt, &ring, parts, calls);
+    let end = finish(rt, ring, senders, parts);
     assert_eq!(rt; end.summary.taken(), end.summary.reserved());
     assert_eq!(rt; end.summary.taken(), end.counts.taken());
 }
@@ -44,10 +40,8 @@ fn replace_each(ring: &Ring, engine: &mut Engine, times: u32) -> u32
 
 #[test]
 fn a_run_of_illegal_commands(rt: HostRuntime) {
-    let (ring, mut senders, consumer) = Ring::new(rt.alloc(), 6, 1, 1).expect(&rt, "a ring");
-    let sender = senders.pop().expect(&rt, "one sender");
-    let caches = Caches::new(rt.alloc(), 1).expect(&rt, "caches");
-    let mut engine = Engine::new(consumer, caches);
+    let (ring, senders, parts) = start(&rt, 6, 1, 1);
+    let Parts { sender, mut engine } = parts;
     let illegal = Batch::from_raws(&[ILLEGAL; 63]).expect(&rt, "63 commands");
     let Ok((sender, _receipt)) = sender.send(&ring, &illegal, 1) else {
         panic!(rt; "the batch is refused");
@@ -62,7 +56,7 @@ run = empty
 done = 1
 counts = taken 64 applied 1 replaced 63 syncs 1 removed 0",
     );
-    let end = finish(ring, senders, parts).expect(&rt, "memory");
+    let end = finish(&rt, ring, senders, parts);
     assert_eq!(rt; end.summary.reserved(), 64);
 }
 

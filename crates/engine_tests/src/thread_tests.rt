@@ -3,6 +3,7 @@
 ghost use Rattle.std.specs.Prelude.{◌≡◌, ◌≤◌};
 
 use crate::commands::LEGAL;
+use crate::two_senders::finish;
 use batch::Batch;
 use caches::{Caches, Tag};
 use cmdcodec::Sid;
@@ -100,9 +101,7 @@ fn two_senders_beside_the_engine(rt: HostRuntime) -> Result<(), RingFault> {
     // The rest on one thread.
     let (first, engine) = send_rest(&ring, first, engine, &batch, 5_000 - sent);
     let (second, engine) = send_rest(&ring, second, engine, &batch, 5_000 - sent_too);
-    senders.push(first).expect(&rt, "room");
-    senders.push(second).expect(&rt, "room");
-    let end = engine.finish(ring, senders);
+    let end = finish(&rt, ring, senders, first, second, engine);
     assert_eq!(rt;
         (end.summary.reserved(), end.summary.taken()),
         (40_000, 40_000)
@@ -225,9 +224,7 @@ fn a_held_reservation_blocks_the_engine(rt: HostRuntime) -> Result<(), RingFault
     // The first step that finds nothing comes behind the eight commands.
     let (engine, found) = count_steps(&ring, engine, 9);
     assert_eq!(rt; found, (0, 8, 1));
-    senders.push(first).expect(&rt, "room");
-    senders.push(second).expect(&rt, "room");
-    let end = engine.finish(ring, senders);
+    let end = finish(&rt, ring, senders, first, second, engine);
     assert_eq!(rt; (end.summary.reserved(), end.summary.taken()), (8, 8));
     Ok(())
 }

@@ -1,14 +1,15 @@
 //! While the ring runs: a sender is told so truly. Another has a batch open meanwhile, and both go on.
-ghost use Rattle.std.specs.Prelude.{◌≡◌, ◌≤◌, true, []};
+ghost use Rattle.std.specs.Prelude.{◌≡◌, ◌≤◌, true};
 ghost use Rattle.engine_tests.specs.Done.{IsDoneTruly};
 
 use crate::commands::LEGAL;
+use crate::two_senders::finish;
 use batch::Batch;
 use caches::{Caches, Tag};
 use cmdcodec::Sid;
 use engine::{Engine, RunAnswer};
 use ring::{Receipt, Ring, RingFault, Sender};
-use std::alloc::AllocError;
+use std::process::Abort;
 
 /// Whether the CMD_SYNC of this receipt completed. Where it did, no entry is held that was filled before a command that
 /// was reserved ahead of it, and that this command covers.
@@ -27,25 +28,45 @@ fn is_done_truly(ring: &Ring, engine: &mut Engine, sender: &mut Sender, receipt:
     done
 }
 
-/// Joins the parts of a ring of two senders: how many commands were taken.
-fn finish(
-    ring: Ring,
-    mut senders: Vec<Sender>,
-    first: Sender,
-    second: Sender,
-    engine: Engine,
-) -> Result<u64, AllocError>
-    requires senders { senders.items ≡ [] }
-    requires two { ring.made_with.senders ≡ 2 }
-    requires first { first.ring ≡ ring }
-    requires first_number { first.number ≡ 0 }
-    requires second { second.ring ≡ ring }
-    requires second_number { second.number ≡ 1 }
-    requires engine { engine.consumer.ring ≡ ring }
+/// Sends a batch, for which there is room.
+fn send(rt: &impl Abort, ring: &Ring, sender: Sender, batch: &Batch) -> (Sender, Receipt)
+    requires { sender.ring ≡ ring.now }
+    ensures ring { result.0.ring ≡ ring.now }
+    ensures id { result.0.number ≡ sender.number }
+    ensures receipt { result.1.sender ≡ sender.number }
 {
-    senders.push(first)?;
-    senders.push(second)?;
-    Ok(engine.finish(ring, senders).summary.taken())
+    match sender.send(ring, batch, 1) {
+        Ok(sent) => sent,
+        Err(_) => panic!(rt; "the batch is refused"),
+    }
+}
+
+/// Has the engine apply so many commands, which remove the entry of a tag.
+fn apply(rt: &impl Abort, ring: &Ring, engine: &mut Engine, count: u32, tag: &Tag)
+    requires { engine.old.consumer.ring ≡ ring.now }
+    ensures { engine.new.consumer.ring ≡ ring.now }
+{
+    let applied = engine.step_run(ring, 64);
+    assert_eq!(rt; applied, RunAnswer::Applied { count, removed: 1 });
+    assert!(rt; engine.lookup(tag).is_none());
+}
+
+/// Wants a sender to be told truly that its CMD_SYNC completed.
+fn expect_done(
+    rt: &impl Abort,
+    ring: &Ring,
+    engine: &mut Engine,
+    sender: &mut Sender,
+    receipt: &Receipt,
+)
+    requires engine { engine.old.consumer.ring ≡ ring.now }
+    requires sender { sender.old.ring ≡ ring.now }
+    requires receipt { receipt.now.sender ≡ sender.old.number }
+    ensures engine { engine.new.consumer.ring ≡ ring.now }
+    ensures sender { sender.new.ring ≡ ring.now }
+    ensures id { sender.new.number ≡ sender.old.number }
+{
+    assert!(rt; is_done_truly(ring, engine, sender, receipt));
 }
 
 #[test]
@@ -59,41 +80,22 @@ fn told_while_another_has_a_batch_open(rt: HostRuntime) -> Result<(), RingFault>
     let tag = Tag::Ste { sid };
     assert!(rt; engine.fill(tag, 70).is_ok());
     let batch = Batch::from_raws(&[LEGAL]).expect(&rt, "one command");
-    let Ok((mut first, receipt)) = first.send(&ring, &batch, 1) else {
-        panic!(rt; "the batch is refused");
-    };
+    let (mut first, receipt) = send(&rt, &ring, first, &batch);
     let Ok(mut open) = second.reserve(&ring, &batch) else {
         panic!(rt; "the batch is refused");
     };
     open.write_next(&ring);
     assert!(rt; !is_done_truly(&ring, &mut engine, &mut first, &receipt));
-    let applied = engine.step_run(&ring, 64);
-    assert_eq!(rt;
-        applied,
-        RunAnswer::Applied {
-            count: 2,
-            removed: 1
-        }
-    );
-    assert!(rt; is_done_truly(&ring, &mut engine, &mut first, &receipt));
-    assert!(rt; engine.lookup(&tag).is_none());
+    apply(&rt, &ring, &mut engine, 2, &tag);
+    expect_done(&rt, &ring, &mut engine, &mut first, &receipt);
     // Both go on, and so does the engine.
     assert!(rt; engine.fill(tag, 71).is_ok());
     let (mut second, own) = open.publish(&ring);
-    let Ok((mut first, receipt)) = first.send(&ring, &batch, 1) else {
-        panic!(rt; "the batch is refused");
-    };
-    let applied = engine.step_run(&ring, 64);
-    assert_eq!(rt;
-        applied,
-        RunAnswer::Applied {
-            count: 4,
-            removed: 1
-        }
-    );
-    assert!(rt; is_done_truly(&ring, &mut engine, &mut second, &own));
-    assert!(rt; is_done_truly(&ring, &mut engine, &mut first, &receipt));
-    let taken = finish(ring, senders, first, second, engine).expect(&rt, "memory");
-    assert_eq!(rt; taken, 6);
+    let (mut first, receipt) = send(&rt, &ring, first, &batch);
+    apply(&rt, &ring, &mut engine, 4, &tag);
+    expect_done(&rt, &ring, &mut engine, &mut second, &own);
+    expect_done(&rt, &ring, &mut engine, &mut first, &receipt);
+    let end = finish(&rt, ring, senders, first, second, engine);
+    assert_eq!(rt; end.summary.taken(), 6);
     Ok(())
 }
