@@ -41,8 +41,7 @@ pub fn expect_answer<A: AllocGlobal + Abort, R: Read>(
     let mut output = Vec::new(rt.alloc());
     let ended = kind.status_of(rt.alloc(), input, &mut output);
     let answer = str::from_utf8(output.as_slice()).unwrap_or("no text");
-    assert_eq!(rt; answer, text);
-    assert_eq!(rt; ended, status);
+    assert_eq!(rt; (ended, answer), (status, text));
 }
 
 /// Answers lines, and wants this text and this status of it.

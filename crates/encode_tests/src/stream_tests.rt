@@ -50,11 +50,7 @@ fn failed_read_leaves_the_whole_lines_answered(rt: HostRuntime) {
 fn failed_write_leaves_a_beginning(rt: HostRuntime) {
     for (kind, lines, first) in WORKED {
         let mut output = Sink::new(9, 2, PIPE);
-        assert_eq!(rt;
-            kind.status_of(rt.alloc(), &mut lines.as_bytes(), &mut output),
-            Status::WriteFailed
-        );
-        assert_eq!(rt; output.text().len(), 9);
-        assert!(rt; first.starts_with(output.text()));
+        let ended = kind.status_of(rt.alloc(), &mut lines.as_bytes(), &mut output);
+        assert_eq!(rt; (ended, Some(output.text())), (Status::WriteFailed, first.get(..9)));
     }
 }

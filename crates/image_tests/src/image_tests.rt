@@ -47,8 +47,7 @@ fn expect_of<R: AllocGlobal + Abort>(
     let mut output = Vec::new(rt.alloc());
     let ended = status_of(rt.alloc(), asked, &mut input, &mut output);
     let answer = str::from_utf8(output.as_slice()).unwrap_or("no text");
-    assert_eq!(rt; answer, text);
-    assert_eq!(rt; ended, status);
+    assert_eq!(rt; (ended, answer), (status, text));
 }
 
 fn expect_view<R: AllocGlobal + Abort>(rt: &R, asked: &Asked, text: &str) {

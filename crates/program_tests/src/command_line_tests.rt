@@ -1,22 +1,17 @@
 //! The words of the command line, and the exit status.
-use crate::running::run;
+use crate::running::{expect_explained, expect_run, run};
 use std::process::Abort;
 use std::thread::Threads;
 
 #[test]
 fn a_whole_script(rt: HostRuntime) {
-    let ran = run(
-        &rt,
-        &["replay"],
-        "ring 1 2 8 4\n\
-         fill ste 5 70\n\
-         send 0 03000000050000000100000000000000\n\
-         send 1 03000000050000000100000000000000\n\
-         step 2\n\
-         send 1 03000000050000000100000000000000\n\
-         dump\n",
-        (0, 0),
-    );
+    let script = "ring 1 2 8 4\n\
+                  fill ste 5 70\n\
+                  send 0 03000000050000000100000000000000\n\
+                  send 1 03000000050000000100000000000000\n\
+                  step 2\n\
+                  send 1 03000000050000000100000000000000\n\
+                  dump\n";
     let text = "ring size 2\n\
                 filled\n\
                 sent 0 number 1\n\
@@ -29,31 +24,25 @@ fn a_whole_script(rt: HostRuntime) {
                 gerror 0 gerrorn 0\n\
                 taken 2 applied 2 replaced 0 syncs 1 removed 1\n\
                 end\n";
-    assert_eq!(rt; ran.told(), (0, text, true));
+    expect_run(&rt, script, &["replay"], script, (0, 0), (0, text, true));
 }
 
 #[test]
 fn a_whole_schedule(rt: HostRuntime) {
-    let ran = run(
-        &rt,
-        &["schedule"],
-        "ring 1 2\n\
-         look 0\n\
-         look 1\n\
-         reserve 1 03000000050000000100000000000000\n\
-         reserve 0 03000000050000000100000000000000\n\
-         test 1\n",
-        (0, 0),
-    );
+    let script = "ring 1 2\n\
+                  look 0\n\
+                  look 1\n\
+                  reserve 1 03000000050000000100000000000000\n\
+                  reserve 0 03000000050000000100000000000000\n\
+                  test 1\n";
     let text = "ring size 2\n\
                 control 0 0 open\n\
                 control 0 0 open\n\
                 reserved 0 number 1\n\
                 lost 2 0 open\n\
                 line 6: F5\n";
-    assert_eq!(rt; ran.told(), (1, text, false));
     let why = "line 6: F5: a slot that isn't at the head\n";
-    assert_eq!(rt; ran.faults.inner().text(), why);
+    expect_explained(&rt, &["schedule"], script, (1, text, why));
 }
 
 /// Runs the program on some words, with an input that fails when it is read.
@@ -62,8 +51,8 @@ fn expect_not_understood<R: Threads + AllocGlobal + Abort + Sync>(
     name: &str,
     words: &[&str],
 ) {
-    let ran = run(rt, words, "ring 3 1 4 4\n", (1, 0));
-    assert_eq!(rt; ran.told(), (2, "", false), "{name}");
+    let script = "ring 3 1 4 4\n";
+    expect_run(rt, name, words, script, (1, 0), (2, "", false));
 }
 
 #[test]

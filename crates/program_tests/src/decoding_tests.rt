@@ -1,8 +1,7 @@
 //! Words that are decoded, from the command line on.
-use crate::running::run;
+use crate::running::{expect_run, run};
 use program::decode_text;
 use std::process::Abort;
-use std::test::Fail;
 use std::thread::Threads;
 
 /// Runs the program on some words, with an input that fails when it is read, and wants this text and
@@ -14,8 +13,7 @@ fn expect_told<R: Threads + AllocGlobal + Abort + Sync>(
     text: &str,
     status: u8,
 ) {
-    let ran = run(rt, words, "", (1, 0));
-    assert_eq!(rt; ran.told(), (status, text, status != 2), "{name}");
+    expect_run(rt, name, words, "", (1, 0), (status, text, status != 2));
 }
 
 /// Decodes the words of a table, each on a line `WORD: TEXT: WHAT IT IS`, and wants this status of each.
@@ -88,8 +86,7 @@ fn words_that_are_not_decoded(rt: HostRuntime) {
 }
 
 fn expect_failed_write<R: Threads + AllocGlobal + Abort + Sync>(rt: &R, name: &str, word: &str) {
-    let ran = run(rt, &["decode", word], "", (1, 1));
-    assert_eq!(rt; ran.told(), (4, "", true), "{name}");
+    expect_run(rt, name, &["decode", word], "", (1, 1), (4, "", true));
 }
 
 #[test]
@@ -101,11 +98,11 @@ fn a_write_that_fails(rt: HostRuntime) {
 }
 
 #[test]
-fn a_text_has_no_line_end(rt: HostRuntime) -> Result<(), Fail> {
-    let (text, is_legal) = decode_text(rt.alloc(), "04000000000000001f00000000000000")?;
-    assert_eq!(rt; text.as_str(), "CFGI_STE_RANGE sid=0 range=31");
-    assert!(rt; is_legal);
-    Ok(())
+fn a_text_has_no_line_end(rt: HostRuntime) {
+    let told = decode_text(rt.alloc(), "04000000000000001f00000000000000");
+    let (text, is_legal) = told.expect(&rt, "there is memory");
+    let wanted = ("CFGI_STE_RANGE sid=0 range=31", true);
+    assert_eq!(rt; (text.as_str(), is_legal), wanted);
 }
 
 // Nothing but the program allocates here, so that each of its allocations can be made to fail, and

@@ -1,5 +1,5 @@
 //! Scripts that are replayed, from the command line on.
-use crate::running::run;
+use crate::running::expect_run;
 use std::process::Abort;
 use std::thread::Threads;
 
@@ -10,9 +10,9 @@ fn expect_replayed<R: Threads + AllocGlobal + Abort + Sync>(
     status: u8,
     answers: &str,
 ) {
-    let ran = run(rt, &["replay"], script, (0, 0));
     // Standard error tells why a line was refused, and nothing else.
-    assert_eq!(rt; ran.told(), (status, answers, status == 0), "{script}");
+    let wanted = (status, answers, status == 0);
+    expect_run(rt, script, &["replay"], script, (0, 0), wanted);
 }
 
 /// The first of the numbers that is out of its range is told.

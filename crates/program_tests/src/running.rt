@@ -2,6 +2,7 @@
 use fake_streams::{Sink, Source};
 use program::{Watched, program};
 use std::io::{ErrorKind, Read, Write};
+use std::process::Abort;
 use std::thread::Threads;
 
 pub const PIPE: ErrorKind = ErrorKind::BrokenPipe;
@@ -60,4 +61,30 @@ pub fn run<'a, A: Threads + AllocGlobal + Sync>(
         output,
         faults,
     }
+}
+
+/// Runs the program, and wants of it the status, what was written to standard output, and whether nothing was told of
+/// faults.
+pub fn expect_run<'a, A: Threads + AllocGlobal + Abort + Sync>(
+    rt: &A,
+    name: &str,
+    words: &'a [&'a str],
+    script: &str,
+    bad: (usize, usize),
+    wanted: (u8, &str, bool),
+) {
+    let ran = run(rt, words, script, bad);
+    assert_eq!(rt; ran.told(), wanted, "{name}");
+}
+
+/// Runs the program, and wants of it the status, what was written to standard output, and what was told of faults.
+pub fn expect_explained<'a, A: Threads + AllocGlobal + Abort + Sync>(
+    rt: &A,
+    words: &'a [&'a str],
+    script: &str,
+    wanted: (u8, &str, &str),
+) {
+    let ran = run(rt, words, script, (0, 0));
+    let (status, text, _) = ran.told();
+    assert_eq!(rt; (status, text, ran.faults.inner().text()), wanted);
 }

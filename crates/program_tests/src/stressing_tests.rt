@@ -1,7 +1,6 @@
 //! Stress runs, from the command line on.
-use crate::running::run;
+use crate::running::expect_run;
 use std::process::Abort;
-use std::test::Fail;
 use std::thread::Threads;
 
 /// Runs the program on the words of a line, with an input that fails when it is read, and wants this of it: the status,
@@ -15,8 +14,7 @@ fn expect_ran<R: Threads + AllocGlobal + Abort + Sync>(
         .split(' ')
         .collect(rt.alloc())
         .expect(rt, "there is memory");
-    let ran = run(rt, words.as_slice(), "", (1, 0));
-    assert_eq!(rt; ran.told(), wanted, "{line}");
+    expect_run(rt, line, words.as_slice(), "", (1, 0), wanted);
 }
 
 #[test]
@@ -112,6 +110,5 @@ fn a_report_that_cannot_be_written(rt: HostRuntime) {
         "--turns",
         "1",
     ];
-    let ran = run(&rt, &words, "", (1, 1));
-    assert_eq!(rt; ran.told(), (4, "", true));
+    expect_run(&rt, "a write that fails", &words, "", (1, 1), (4, "", true));
 }

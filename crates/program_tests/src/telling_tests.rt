@@ -7,27 +7,26 @@ use std::io::{ErrorKind, Write};
 use std::process::Abort;
 use std::thread::Threads;
 
-#[test]
-fn a_word_that_is_not_utf8(rt: HostRuntime) {
+/// Tells why the words can't be had, and wants this status, and these texts of standard output and of faults.
+fn expect_told<R: AllocGlobal + Abort>(rt: &R, why: ErrorKind, wanted: (u8, &str, &str)) {
     let mut output = Watched::new(Sink::new(100, 0, PIPE));
     let mut faults = Watched::new(Sink::new(100, 0, PIPE));
-    let why = io::Error::from(ErrorKind::InvalidData);
+    let why = io::Error::from(why);
     let status = tell_without_words(rt.alloc(), &why, &mut output, &mut faults);
-    assert_eq!(rt; status, 2);
-    assert_eq!(rt; output.inner().text(), "");
+    let told = (status, output.inner().text(), faults.inner().text());
+    assert_eq!(rt; told, wanted);
+}
+
+#[test]
+fn a_word_that_is_not_utf8(rt: HostRuntime) {
     let text = "error: a word of the command line isn't UTF-8\n";
-    assert_eq!(rt; faults.inner().text(), text);
+    expect_told(&rt, ErrorKind::InvalidData, (2, "", text));
 }
 
 #[test]
 fn no_memory_for_the_words(rt: HostRuntime) {
-    let mut output = Watched::new(Sink::new(100, 0, PIPE));
-    let mut faults = Watched::new(Sink::new(100, 0, PIPE));
-    let why = io::Error::from(ErrorKind::OutOfMemory);
-    let status = tell_without_words(rt.alloc(), &why, &mut output, &mut faults);
-    assert_eq!(rt; status, 3);
-    assert_eq!(rt; output.inner().text(), "no memory\n");
-    assert_eq!(rt; faults.inner().text(), "smmuq: out of memory\n");
+    let wanted = (3, "no memory\n", "smmuq: out of memory\n");
+    expect_told(&rt, ErrorKind::OutOfMemory, wanted);
 }
 
 #[test]
@@ -68,12 +67,15 @@ fn what_is_told_is_flushed(rt: HostRuntime) {
 #[test]
 fn a_watched_writer_hands_on_what_it_is_given(rt: HostRuntime) {
     let mut output = Watched::new(Sink::new(100, 0, PIPE));
-    assert_eq!(rt; output.write(b"one ").unwrap_or(0), 4);
-    assert!(rt; output.write_all(b"two").is_ok());
-    assert_eq!(rt; output.inner().text(), "one two");
-    assert_eq!(rt; output.inner().flushes, 0);
-    assert!(rt; output.flush().is_ok());
-    assert_eq!(rt; output.inner().flushes, 1);
+    let one = output.write(b"one ").unwrap_or(0);
+    let two = output.write_all(b"two").is_ok();
+    let inner = output.inner();
+    assert_eq!(rt;
+        (one, two, inner.text(), inner.flushes),
+        (4, true, "one two", 0)
+    );
+    let flushed = output.flush().is_ok();
+    assert_eq!(rt; (flushed, output.inner().flushes), (true, 1));
 }
 
 /// A write that fails is told of elsewhere, with the system's text.
@@ -83,10 +85,13 @@ fn a_write_that_fails_is_told(rt: HostRuntime) {
     let mut output = Watched::new(Sink::new(100, 1, ErrorKind::PermissionDenied));
     let mut faults = Watched::new(Sink::new(100, 0, PIPE));
     let status = status_of(&rt, &["replay"], &mut input, &mut output, &mut faults);
-    assert_eq!(rt; status, 4);
     let told = faults.inner().text();
-    assert!(rt; told.starts_with("smmuq: standard output: "), "{told}");
-    assert!(rt; told.ends_with("\n") && told.len() > 30, "{told}");
+    let is_line = told.starts_with("smmuq: standard output: ") && told.ends_with("\n");
+    assert_eq!(rt;
+        (status, is_line, told.len() > 30),
+        (4, true, true),
+        "{told}"
+    );
 }
 
 /// And where that can't be told, the status is the same.

@@ -3,7 +3,6 @@ use crate::transcripts::{answered, expect_answer, halves};
 use script::Status;
 use std::alloc::{AllocError, Global};
 use std::fmt::Write as _;
-use std::test::Fail;
 
 const TRANSCRIPT: &str = "> ring 4 1 4 8
 ring size 16
@@ -76,12 +75,14 @@ fn wanted(alloc: Global, beginning: &str, answers: &str) -> Result<(String, Stat
 }
 
 #[test]
-fn each_beginning_of_a_script_is_answered(rt: HostRuntime) -> Result<(), Fail> {
-    let (script, answers) = halves(rt.alloc(), TRANSCRIPT)?;
+fn each_beginning_of_a_script_is_answered(rt: HostRuntime) {
+    let (script, answers) = halves(rt.alloc(), TRANSCRIPT).expect(&rt, "there is memory");
     for cut in 0..=script.len() {
         let beginning = script.get(..cut).unwrap_or_default();
-        let (text, status) = wanted(rt.alloc(), beginning, answers.as_str())?;
+        let (text, status) = wanted(rt.alloc(), beginning, answers.as_str()).expect(
+            &rt,
+            "there is memory",
+        );
         expect_answer(&rt, beginning, beginning.as_bytes(), text.as_str(), status);
     }
-    Ok(())
 }

@@ -3,7 +3,6 @@ use crate::transcripts::expect_answer;
 use script::Status;
 use std::alloc::{AllocError, Global};
 use std::fmt::Write as _;
-use std::test::Fail;
 
 /// Lines that fill the stream table entries of so many streams, each with the number of its stream.
 fn fills(alloc: Global, streams: u32) -> Result<String, AllocError> {
@@ -16,9 +15,11 @@ fn fills(alloc: Global, streams: u32) -> Result<String, AllocError> {
 
 // The block of 1,024 streams that holds stream 40,000 is removed: 39,936 to 40,959.
 #[test]
-fn caches_of_65536_entries(rt: HostRuntime) -> Result<(), Fail> {
-    let fills = fills(rt.alloc(), 65_536)?;
-    let filled = "filled\n".repeat(rt.alloc(), 65_536)?;
+fn caches_of_65536_entries(rt: HostRuntime) {
+    let fills = fills(rt.alloc(), 65_536).expect(&rt, "there is memory");
+    let filled = "filled\n"
+        .repeat(rt.alloc(), 65_536)
+        .expect(&rt, "there is memory");
     let rest = "fill ste 65536 1
 send 0 04000000409c00000900000000000000
 step
@@ -35,30 +36,45 @@ absent
 absent
 found value=40960 born=0
 ";
-    let script = format!(in rt.alloc(); "ring 4 1 4 65536\n{fills}{rest}")?;
-    let answers = format!(in rt.alloc(); "ring size 16\n{filled}{answered}")?;
+    let script = format!(in rt.alloc(); "ring 4 1 4 65536\n{fills}{rest}").expect(
+        &rt,
+        "there is memory",
+    );
+    let answers = format!(in rt.alloc(); "ring size 16\n{filled}{answered}").expect(
+        &rt,
+        "there is memory",
+    );
     let name = "65,536 entries, and a block of 1,024 of them";
     expect_answer(&rt, name, script.as_bytes(), answers.as_str(), Status::Good);
-    Ok(())
 }
 
 // A single line is answered with all of them.
 #[test]
-fn a_dump_of_65536_entries(rt: HostRuntime) -> Result<(), Fail> {
-    let fills = fills(rt.alloc(), 65_536)?;
-    let filled = "filled\n".repeat(rt.alloc(), 65_536)?;
+fn a_dump_of_65536_entries(rt: HostRuntime) {
+    let fills = fills(rt.alloc(), 65_536).expect(&rt, "there is memory");
+    let filled = "filled\n"
+        .repeat(rt.alloc(), 65_536)
+        .expect(&rt, "there is memory");
     let mut entries = String::new(rt.alloc());
     for stream in 0..65_536 {
-        writeln!(entries, "entry ste sid={stream} value={stream} born=0")?;
+        writeln!(entries, "entry ste sid={stream} value={stream} born=0").expect(
+            &rt,
+            "there is memory",
+        );
     }
     let dumped = "prod 0x00000000
 cons 0x00000000
 gerror 0 gerrorn 0
 taken 0 applied 0 replaced 0 syncs 0 removed 0
 ";
-    let script = format!(in rt.alloc(); "ring 4 1 4 65536\n{fills}dump\n")?;
-    let answers = format!(in rt.alloc(); "ring size 16\n{filled}{dumped}{entries}end\n")?;
+    let script = format!(in rt.alloc(); "ring 4 1 4 65536\n{fills}dump\n").expect(
+        &rt,
+        "there is memory",
+    );
+    let answers = format!(in rt.alloc(); "ring size 16\n{filled}{dumped}{entries}end\n").expect(
+        &rt,
+        "there is memory",
+    );
     let name = "a dump of 65,536 entries";
     expect_answer(&rt, name, script.as_bytes(), answers.as_str(), Status::Good);
-    Ok(())
 }

@@ -1,7 +1,6 @@
 //! What a line has to be: its bytes, its words and its numbers.
 use crate::transcripts::{expect_answer, expect_transcript};
 use script::Status;
-use std::test::Fail;
 
 #[test]
 fn words_and_numbers(rt: HostRuntime) {
@@ -78,7 +77,7 @@ line 1: bad line",
 }
 
 #[test]
-fn words_that_make_a_line_bad(rt: HostRuntime) -> Result<(), Fail> {
+fn words_that_make_a_line_bad(rt: HostRuntime) {
     let lines = "send 0 03
 detach 0
 detach 0 1 2
@@ -94,11 +93,13 @@ ack 1 again
 step 1000001
 close";
     for line in lines.lines() {
-        let script = format!(in rt.alloc(); "ring 3 1 1 1\n{line}\n")?;
+        let script = format!(in rt.alloc(); "ring 3 1 1 1\n{line}\n").expect(
+            &rt,
+            "there is memory",
+        );
         let answers = "ring size 8\nline 2: bad line\n";
         expect_answer(&rt, line, script.as_bytes(), answers, Status::Refused);
     }
-    Ok(())
 }
 
 #[test]
@@ -142,9 +143,12 @@ fn bytes_of_a_line(rt: HostRuntime) {
 }
 
 #[test]
-fn a_line_has_4096_bytes_at_most(rt: HostRuntime) -> Result<(), Fail> {
-    let most = " ".repeat(rt.alloc(), 4096)?;
-    let script = format!(in rt.alloc(); "ring 3 1 4 4\n{most}\nstep\n")?;
+fn a_line_has_4096_bytes_at_most(rt: HostRuntime) {
+    let most = " ".repeat(rt.alloc(), 4096).expect(&rt, "there is memory");
+    let script = format!(in rt.alloc(); "ring 3 1 4 4\n{most}\nstep\n").expect(
+        &rt,
+        "there is memory",
+    );
     expect_answer(
         &rt,
         "4,096 spaces",
@@ -152,7 +156,7 @@ fn a_line_has_4096_bytes_at_most(rt: HostRuntime) -> Result<(), Fail> {
         "ring size 8\nempty\n",
         Status::Good,
     );
-    let script = format!(in rt.alloc(); "ring 3 1 4 4\n{most} \n")?;
+    let script = format!(in rt.alloc(); "ring 3 1 4 4\n{most} \n").expect(&rt, "there is memory");
     expect_answer(
         &rt,
         "4,097 spaces",
@@ -160,5 +164,4 @@ fn a_line_has_4096_bytes_at_most(rt: HostRuntime) -> Result<(), Fail> {
         "ring size 8\nline 2: long line\n",
         Status::Refused,
     );
-    Ok(())
 }

@@ -1,17 +1,18 @@
 //! Batches of as many commands as there may be, and of one more.
 use crate::transcripts::expect_answer;
 use script::Status;
-use std::test::Fail;
 
 /// CFGI_STE for stream 5, behind a space.
 const COMMAND: &str = " 03000000050000000100000000000000";
 
 #[test]
-fn a_batch_has_63_commands_at_most(rt: HostRuntime) -> Result<(), Fail> {
-    let most = COMMAND.repeat(rt.alloc(), 63)?;
+fn a_batch_has_63_commands_at_most(rt: HostRuntime) {
+    let most = COMMAND
+        .repeat(rt.alloc(), 63)
+        .expect(&rt, "there is memory");
     let script = format!(in rt.alloc();
         "ring 6 1 4 4\nsend 0{most}{COMMAND}\nsend 0{most}\ndump\n"
-    )?;
+    ).expect(&rt, "there is memory");
     expect_answer(
         &rt,
         "64 commands, and 63",
@@ -29,7 +30,7 @@ end
     );
     let script = format!(in rt.alloc();
         "ring 6 1 4 4\nsend 0{most} 46100000010000000000004000000000\n"
-    )?;
+    ).expect(&rt, "there is memory");
     expect_answer(
         &rt,
         "too many commands are told ahead of a CMD_SYNC among them",
@@ -37,5 +38,4 @@ end
         "ring size 64\nrefused B1\n",
         Status::Good,
     );
-    Ok(())
 }

@@ -2,7 +2,6 @@
 use crate::transcripts::{expect_answer, expect_transcript};
 use script::Status;
 use std::process::Abort;
-use std::test::Fail;
 
 #[test]
 fn reservations_held_open(rt: HostRuntime) {
@@ -219,29 +218,18 @@ done 1 up to 0",
 }
 
 /// Wants a run to end at each of some lines, in turn behind the same lines, with this answer to it.
-fn expect_ended<R: AllocGlobal + Abort>(
-    rt: &R,
-    front: (&str, &str),
-    lines: &str,
-    ending: &str,
-) -> Result<(), Fail> {
+fn expect_ended<R: AllocGlobal + Abort>(rt: &R, front: (&str, &str), lines: &str, ending: &str) {
     let (script, answers) = front;
     for line in lines.lines() {
-        let script = format!(in rt.alloc(); "{script}\n{line}\n")?;
-        let answers = format!(in rt.alloc(); "{answers}\n{ending}\n")?;
-        expect_answer(
-            rt,
-            line,
-            script.as_bytes(),
-            answers.as_str(),
-            Status::Refused,
-        );
+        let script = format!(in rt.alloc(); "{script}\n{line}\n").expect(rt, line);
+        let answers = format!(in rt.alloc(); "{answers}\n{ending}\n").expect(rt, line);
+        let (script, answers) = (script.as_bytes(), answers.as_str());
+        expect_answer(rt, line, script, answers, Status::Refused);
     }
-    Ok(())
 }
 
 #[test]
-fn lines_that_end_the_run(rt: HostRuntime) -> Result<(), Fail> {
+fn lines_that_end_the_run(rt: HostRuntime) {
     expect_ended(
         &rt,
         (
@@ -250,11 +238,11 @@ fn lines_that_end_the_run(rt: HostRuntime) -> Result<(), Fail> {
         ),
         "done 0\nlook 0\nclose 0\nsend 0\ndetach 0 1",
         "line 3: sender open",
-    )?;
+    );
     expect_ended(
         &rt,
         ("ring 3 1 1 1", "ring size 8"),
         "done 1\nlook 1\nclose 1\npublish 1\ninval 1 0 0 0 0",
         "line 2: no sender",
-    )
+    );
 }

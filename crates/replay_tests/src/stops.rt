@@ -1,7 +1,6 @@
 //! Illegal commands, at which the unit stops.
 use crate::transcripts::{expect_answer, expect_transcript};
 use script::Status;
-use std::test::Fail;
 
 #[test]
 fn stops(rt: HostRuntime) {
@@ -184,12 +183,21 @@ acknowledged",
 
 // The unit stops at each of 63 commands, and software has it replaced, by turns of GERRORN.
 #[test]
-fn a_storm_of_stops(rt: HostRuntime) -> Result<(), Fail> {
-    let commands = " ff000000000000000000000000000000".repeat(rt.alloc(), 63)?;
-    let two = "step\nack 1 replace\nstep\nstep\nack 0 replace\nstep\n".repeat(rt.alloc(), 31)?;
+fn a_storm_of_stops(rt: HostRuntime) {
+    let commands = " ff000000000000000000000000000000"
+        .repeat(rt.alloc(), 63)
+        .expect(&rt, "there is memory");
+    let two = "step\nack 1 replace\nstep\nstep\nack 0 replace\nstep\n"
+        .repeat(rt.alloc(), 31)
+        .expect(&rt, "there is memory");
     let last = "step\nack 1 replace\nstep\nstep 2\ndump\n";
-    let script = format!(in rt.alloc(); "ring 6 1 4 4\nsend 0{commands}\n{two}{last}")?;
-    let stops = "stopped ILL1\nacknowledged\nreplaced ILL1\n".repeat(rt.alloc(), 63)?;
+    let script = format!(in rt.alloc(); "ring 6 1 4 4\nsend 0{commands}\n{two}{last}").expect(
+        &rt,
+        "there is memory",
+    );
+    let stops = "stopped ILL1\nacknowledged\nreplaced ILL1\n"
+        .repeat(rt.alloc(), 63)
+        .expect(&rt, "there is memory");
     let end = "applied CMD_SYNC cs=1 msh=0 attr=0 data=1 addr=0x40000000 removed=0
 empty
 prod 0x00000040
@@ -198,8 +206,10 @@ gerror 1 gerrorn 1
 taken 64 applied 1 replaced 63 syncs 1 removed 0
 end
 ";
-    let answers = format!(in rt.alloc(); "ring size 64\nsent 0 number 1\n{stops}{end}")?;
+    let answers = format!(in rt.alloc(); "ring size 64\nsent 0 number 1\n{stops}{end}").expect(
+        &rt,
+        "there is memory",
+    );
     let name = "a batch of 63 illegal commands";
     expect_answer(&rt, name, script.as_bytes(), answers.as_str(), Status::Good);
-    Ok(())
 }

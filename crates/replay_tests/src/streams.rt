@@ -5,7 +5,6 @@ use script::Status;
 use std::alloc::Global;
 use std::io::ErrorKind;
 use std::process::Abort;
-use std::test::Fail;
 
 const PIPE: ErrorKind = ErrorKind::BrokenPipe;
 
@@ -214,18 +213,33 @@ fn lines_of_all_kinds(rt: HostRuntime) {
     );
 }
 
+/// Replays a script from a reader and to a writer, of each of which is told how many bytes a call moves at most, and which
+/// call fails, and wants this status and just this text.
+fn expect_through<R: AllocGlobal + Abort>(
+    rt: &R,
+    script: &str,
+    (read, bad_read): (usize, usize),
+    (written, bad_write): (usize, usize),
+    wanted: (Status, Option<&str>),
+) {
+    let mut input = Source::new(script.as_bytes(), read, bad_read, PIPE);
+    let mut output = Sink::new(written, bad_write, PIPE);
+    let ended = status_of(rt.alloc(), &mut input, &mut output);
+    assert_eq!(rt;
+        (ended, Some(output.text())),
+        wanted,
+        "read {bad_read} by {read}, write {bad_write} by {written}"
+    );
+}
+
 // The pieces of reads and of writes have these lengths at most.
 #[test]
-fn answers_do_not_depend_on_the_pieces(rt: HostRuntime) -> Result<(), Fail> {
-    let (script, answers) = halves(rt.alloc(), TRANSCRIPT)?;
+fn answers_do_not_depend_on_the_pieces(rt: HostRuntime) {
+    let (script, answers) = halves(rt.alloc(), TRANSCRIPT).expect(&rt, "there is memory");
     for (read, written) in [(1, 1), (1, 100_000), (100_000, 1), (2, 3), (7, 64), (33, 5)] {
-        let mut input = Source::new(script.as_bytes(), read, 0, PIPE);
-        let mut output = Sink::new(written, 0, PIPE);
-        let ended = status_of(rt.alloc(), &mut input, &mut output);
-        assert_eq!(rt; ended, Status::Good, "{read} and {written}");
-        assert_eq!(rt; output.text(), answers.as_str(), "{read} and {written}");
+        let wanted = (Status::Good, Some(answers.as_str()));
+        expect_through(&rt, script.as_str(), (read, 0), (written, 0), wanted);
     }
-    Ok(())
 }
 
 /// Whether so many bytes of a text end with a line, or lack just its end.
@@ -236,20 +250,16 @@ fn is_at_the_end_of_a_line(text: &str, bytes: usize) -> bool {
 
 // One read gives so many bytes, and the next fails.
 #[test]
-fn a_read_that_fails_at_the_end_of_each_line(rt: HostRuntime) -> Result<(), Fail> {
-    let (script, answers) = halves(rt.alloc(), TRANSCRIPT)?;
+fn a_read_that_fails_at_the_end_of_each_line(rt: HostRuntime) {
+    let (script, answers) = halves(rt.alloc(), TRANSCRIPT).expect(&rt, "there is memory");
     for read in 1..=script.len() {
         if !is_at_the_end_of_a_line(script.as_str(), read) {
             continue;
         }
-        let mut input = Source::new(script.as_bytes(), read, 2, PIPE);
-        let mut output = Sink::new(100_000, 0, PIPE);
-        let ended = status_of(rt.alloc(), &mut input, &mut output);
         let told = answered(TRANSCRIPT, read);
-        assert_eq!(rt; ended, Status::ReadFailed, "{read}");
-        assert_eq!(rt; Some(output.text()), answers.get(..told), "{read}");
+        let wanted = (Status::ReadFailed, answers.get(..told));
+        expect_through(&rt, script.as_str(), (read, 2), (100_000, 0), wanted);
     }
-    Ok(())
 }
 
 /// The lines of a script up to the first empty one.
@@ -262,27 +272,19 @@ fn first_part(script: &str) -> &str {
 /// were read. The read after the last byte finds the end.
 fn expect_failed_reads<R: AllocGlobal + Abort>(rt: &R, script: &str, answers: &str, most: usize) {
     for calls in 0..=script.len().div_ceil(most.max(1)) {
-        let mut input = Source::new(script.as_bytes(), most, calls.saturating_add(1), PIPE);
-        let mut output = Sink::new(5, 0, PIPE);
-        let ended = status_of(rt.alloc(), &mut input, &mut output);
         let read = calls.saturating_mul(most).min(script.len());
         let told = answered(TRANSCRIPT, read);
-        assert_eq!(rt; ended, Status::ReadFailed, "{read} by {most}");
-        assert_eq!(rt;
-            Some(output.text()),
-            answers.get(..told),
-            "{read} by {most}"
-        );
+        let wanted = (Status::ReadFailed, answers.get(..told));
+        expect_through(rt, script, (most, calls.saturating_add(1)), (5, 0), wanted);
     }
 }
 
 #[test]
-fn each_read_fails_in_turn(rt: HostRuntime) -> Result<(), Fail> {
-    let (script, answers) = halves(rt.alloc(), TRANSCRIPT)?;
+fn each_read_fails_in_turn(rt: HostRuntime) {
+    let (script, answers) = halves(rt.alloc(), TRANSCRIPT).expect(&rt, "there is memory");
     let (script, answers) = (script.as_str(), answers.as_str());
     expect_failed_reads(&rt, script, answers, 7);
     expect_failed_reads(&rt, first_part(script), answers, 1);
-    Ok(())
 }
 
 /// How many writes a script takes where seven bytes come with each read, and each write takes so many bytes at most.
@@ -299,40 +301,38 @@ fn expect_failed_writes<R: AllocGlobal + Abort>(rt: &R, script: &str, answers: &
         let mut input = Source::new(script.as_bytes(), 7, 0, PIPE);
         let mut output = Sink::new(most, bad, PIPE);
         let ended = status_of(rt.alloc(), &mut input, &mut output);
-        assert_eq!(rt; ended, Status::WriteFailed, "{bad} by {most}");
-        assert_eq!(rt; output.calls, bad);
-        assert!(rt; answers.starts_with(output.text()), "{bad} by {most}");
+        let outcome = (ended, output.calls, answers.starts_with(output.text()));
+        assert_eq!(rt;
+            outcome,
+            (Status::WriteFailed, bad, true),
+            "{bad} by {most}"
+        );
     }
 }
 
 #[test]
-fn each_write_fails_in_turn(rt: HostRuntime) -> Result<(), Fail> {
-    let (script, answers) = halves(rt.alloc(), TRANSCRIPT)?;
+fn each_write_fails_in_turn(rt: HostRuntime) {
+    let (script, answers) = halves(rt.alloc(), TRANSCRIPT).expect(&rt, "there is memory");
     let (script, answers) = (script.as_str(), answers.as_str());
     expect_failed_writes(&rt, script, answers, 7);
     expect_failed_writes(&rt, first_part(script), answers, 1);
-    Ok(())
 }
 
 // All answers are written at once: the first write takes some of the bytes, and the second fails.
 #[test]
-fn what_a_write_took_stays(rt: HostRuntime) -> Result<(), Fail> {
-    let (script, answers) = halves(rt.alloc(), TRANSCRIPT)?;
+fn what_a_write_took_stays(rt: HostRuntime) {
+    let (script, answers) = halves(rt.alloc(), TRANSCRIPT).expect(&rt, "there is memory");
     for tenth in 0..10 {
         let taken = answers.len() / 10 * tenth;
-        let mut input = Source::new(script.as_bytes(), 100_000, 0, PIPE);
-        let mut output = Sink::new(taken, 2, PIPE);
-        let ended = status_of(rt.alloc(), &mut input, &mut output);
-        assert_eq!(rt; ended, Status::WriteFailed, "{taken}");
-        assert_eq!(rt; Some(output.text()), answers.get(..taken), "{taken}");
+        let wanted = (Status::WriteFailed, answers.get(..taken));
+        expect_through(&rt, script.as_str(), (100_000, 0), (taken, 2), wanted);
     }
-    Ok(())
 }
 
 // A byte comes with each read, and two go with each write.
 #[test]
-fn an_interrupted_call_is_made_again(rt: HostRuntime) -> Result<(), Fail> {
-    let (script, answers) = halves(rt.alloc(), TRANSCRIPT)?;
+fn an_interrupted_call_is_made_again(rt: HostRuntime) {
+    let (script, answers) = halves(rt.alloc(), TRANSCRIPT).expect(&rt, "there is memory");
     let script = first_part(script.as_str());
     // The last line of the part lacks its end.
     let told = answered(TRANSCRIPT, script.len().saturating_add(1));
@@ -340,8 +340,7 @@ fn an_interrupted_call_is_made_again(rt: HostRuntime) -> Result<(), Fail> {
         let mut input = Source::new(script.as_bytes(), 1, bad, ErrorKind::Interrupted);
         let mut output = Sink::new(2, bad, ErrorKind::Interrupted);
         let ended = status_of(rt.alloc(), &mut input, &mut output);
-        assert_eq!(rt; ended, Status::Good, "{bad}");
-        assert_eq!(rt; Some(output.text()), answers.get(..told), "{bad}");
+        let outcome = (ended, Some(output.text()));
+        assert_eq!(rt; outcome, (Status::Good, answers.get(..told)), "{bad}");
     }
-    Ok(())
 }

@@ -24,8 +24,7 @@ pub fn expect_answer<R: AllocGlobal + Abort>(
     let mut output = Vec::new(rt.alloc());
     let ended = status_of(rt.alloc(), &mut input, &mut output);
     let answer = str::from_utf8(output.as_slice()).unwrap_or("no text");
-    assert_eq!(rt; answer, text, "{name}");
-    assert_eq!(rt; ended, status, "{name}");
+    assert_eq!(rt; (ended, answer), (status, text), "{name}");
 }
 
 /// The script of a transcript, and its answers.

@@ -13,8 +13,7 @@ fn expect_long_line<R: AllocGlobal + Abort>(rt: &R, front: &str, text: &str) {
         let mut input = Pieces::new(front.as_bytes().chain(spaces), most);
         let mut output = Sink::new(100, 0, ErrorKind::BrokenPipe);
         let ended = status_of(rt.alloc(), &mut input, &mut output);
-        assert_eq!(rt; ended, Status::Refused, "{front}");
-        assert_eq!(rt; output.text(), text, "{front}");
+        assert_eq!(rt; (ended, output.text()), (Status::Refused, text), "{front}");
         // The last read brought the byte that makes the line too long.
         let least = front.len().saturating_add(4097);
         let more = input.given.saturating_sub(least);

@@ -26,19 +26,30 @@ pub fn expect_answer<R: AllocGlobal + Abort>(
     let mut output = Vec::new(rt.alloc());
     let ended = status_of(rt.alloc(), &mut input, &mut output);
     let answer = str::from_utf8(output.as_slice()).unwrap_or("no text");
-    assert_eq!(rt; answer, text, "{name}");
-    assert_eq!(rt; ended, status, "{name}");
+    assert_eq!(rt; (ended, answer), (status, text), "{name}");
+}
+
+/// Serves a script from a reader and to a writer, of each of which is told how many bytes a call moves at most, and which
+/// call of the reader fails, and wants this status and just this text.
+fn expect_through<R: AllocGlobal + Abort>(
+    rt: &R,
+    script: &str,
+    (read, bad): (usize, usize),
+    written: usize,
+    wanted: (Status, &str),
+) {
+    let mut input = Source::new(script.as_bytes(), read, bad, PIPE);
+    let mut output = Sink::new(written, 0, PIPE);
+    let ended = status_of(rt.alloc(), &mut input, &mut output);
+    let told = (ended, output.text());
+    assert_eq!(rt; told, wanted, "read {bad} by {read}, written by {written}");
 }
 
 /// Serves a script in pieces of several lengths, and wants this text and this status each time.
 pub fn expect_in_pieces<R: AllocGlobal + Abort>(rt: &R, script: &str, text: &str, status: Status) {
     for read in [1, 7, 100_000] {
         for written in [1, 7, 100_000] {
-            let mut input = Source::new(script.as_bytes(), read, 0, PIPE);
-            let mut output = Sink::new(written, 0, PIPE);
-            let ended = status_of(rt.alloc(), &mut input, &mut output);
-            assert_eq!(rt; ended, status, "{read} and {written}");
-            assert_eq!(rt; output.text(), text, "{read} and {written}");
+            expect_through(rt, script, (read, 0), written, (status, text));
         }
     }
 }
@@ -49,9 +60,8 @@ pub fn expect_failed_writes<R: AllocGlobal + Abort>(rt: &R, script: &str, text: 
         let mut input = Source::new(script.as_bytes(), 100, 0, PIPE);
         let mut output = Sink::new(1, bad, PIPE);
         let ended = status_of(rt.alloc(), &mut input, &mut output);
-        assert_eq!(rt; ended, Status::WriteFailed, "{bad}");
-        assert_eq!(rt; Some(output.text()), text.get(..bad - 1), "{bad}");
-        assert_eq!(rt; output.calls, bad);
+        let told = (ended, Some(output.text()), output.calls);
+        assert_eq!(rt; told, (Status::WriteFailed, text.get(..bad - 1), bad));
     }
 }
 
@@ -88,10 +98,7 @@ pub fn expect_failed_reads<R: AllocGlobal + Abort>(rt: &R, table: &str, last: &s
     // The call after the last byte finds the end.
     for bad in 1..=script.len() + 1 {
         let text = answers_before(rt.alloc(), table, bad).expect(rt, "there is memory");
-        let mut input = Source::new(script.as_bytes(), 1, bad, PIPE);
-        let mut output = Sink::new(100, 0, PIPE);
-        let ended = status_of(rt.alloc(), &mut input, &mut output);
-        assert_eq!(rt; ended, Status::ReadFailed, "{bad}");
-        assert_eq!(rt; output.text(), text.as_str(), "{bad}");
+        let wanted = (Status::ReadFailed, text.as_str());
+        expect_through(rt, script.as_str(), (1, bad), 100, wanted);
     }
 }

@@ -69,16 +69,14 @@ fn each_batch_and_each_turn_once(rt: HostRuntime) {
     let listener = Listener::new();
     let plan = Plan::with_bare(9, 3, 30, 1_000_000, EVERY).expect(&rt, "a plan");
     let report = run_all(&rt, &plan, &listener).expect(&rt, "a report");
-    assert!(rt;
-        !listener.is_wrong.load(Ordering::SeqCst),
-        "something was told that isn't so"
-    );
+    let is_wrong = listener.is_wrong.load(Ordering::SeqCst);
+    assert!(rt; !is_wrong, "something was told that isn't so");
     let counted = (
         listener.begun.load(Ordering::SeqCst),
         listener.sent.load(Ordering::SeqCst),
         listener.bare.load(Ordering::SeqCst),
+        listener.turns.load(Ordering::SeqCst),
+        report.counts().syncs(),
     );
-    assert_eq!(rt; counted, (90, 60, 30));
-    assert_eq!(rt; listener.turns.load(Ordering::SeqCst), 1_000_000);
-    assert_eq!(rt; report.counts().syncs(), 60);
+    assert_eq!(rt; counted, (90, 60, 30, 1_000_000, 60));
 }

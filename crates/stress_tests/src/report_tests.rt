@@ -58,34 +58,23 @@ fn the_smallest_run(rt: HostRuntime) {
         (summary.reserved(), summary.taken(), summary.closed()),
         (2, 2, true)
     );
-    assert_eq!(rt;
-        (
-            counts.syncs(),
-            counts.applied(),
-            counts.replaced(),
-            counts.removed()
-        ),
-        (1, 2, 0, 1)
+    let counted = (
+        counts.syncs(),
+        counts.applied(),
+        counts.replaced(),
+        counts.removed(),
     );
-    assert_eq!(rt;
-        (report.plan(), report.entries(), report.done()),
-        (plan, 0, &[1u32][..])
-    );
+    let rest = (report.plan(), report.entries(), report.done());
+    assert_eq!(rt; (counted, rest), ((1, 2, 0, 1), (plan, 0, &[1u32][..])));
 }
 
 #[test]
 fn all_batches_are_bare(rt: HostRuntime) {
     let plan = Plan::with_bare(1, 3, 5, 7, 1).expect(&rt, "a plan");
     let report = run_all(&rt, &plan, &NoGate).expect(&rt, "a report");
-    assert_eq!(rt;
-        (
-            report.summary().taken(),
-            report.counts().syncs(),
-            report.counts().removed()
-        ),
-        (15, 0, 3)
-    );
-    assert_eq!(rt; report.done(), &[0u32, 0, 0][..]);
+    let (summary, counts) = (report.summary(), report.counts());
+    let counted = (summary.taken(), counts.syncs(), counts.removed());
+    assert_eq!(rt; (counted, report.done()), ((15, 0, 3), &[0u32, 0, 0][..]));
 }
 
 #[test]
@@ -115,11 +104,9 @@ fn eight_senders_and_many_batches(rt: HostRuntime) {
     let plan = Plan::new(10, 8, 20_000, 10_000_000).expect(&rt, "a plan");
     let report = run_all(&rt, &plan, &NoGate).expect(&rt, "a report");
     let (summary, counts) = (report.summary(), report.counts());
-    assert_eq!(rt; (summary.reserved(), summary.taken()), (560_000, 560_000));
-    assert_eq!(rt;
-        (counts.syncs(), counts.applied(), counts.removed()),
-        (160_000, 560_000, 8)
-    );
+    let sent = (summary.reserved(), summary.taken());
+    let counted = (counts.syncs(), counts.applied(), counts.removed());
+    assert_eq!(rt; (sent, counted), ((560_000, 560_000), (160_000, 560_000, 8)));
     assert_eq!(rt; report.done(), &[20_000u32; 8][..]);
 }
 

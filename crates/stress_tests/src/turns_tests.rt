@@ -187,10 +187,8 @@ fn the_last_turn_is_told_ahead_of_it(rt: HostRuntime) {
     };
     let plan = Plan::new(1, 1, 3, TURNS).expect(&rt, "a plan");
     let report = run_all(&rt, &plan, &gate).expect(&rt, "a report");
-    assert!(rt;
-        !gate.told.is_wrong.load(Ordering::SeqCst),
-        "something was told that isn't so"
-    );
-    assert_eq!(rt; gate.told.numbers(), (3, 2, 1));
-    assert_eq!(rt; report.counts().syncs(), 3);
+    let is_wrong = gate.told.is_wrong.load(Ordering::SeqCst);
+    assert!(rt; !is_wrong, "something was told that isn't so");
+    let syncs = report.counts().syncs();
+    assert_eq!(rt; (gate.told.numbers(), syncs), ((3, 2, 1), 3));
 }

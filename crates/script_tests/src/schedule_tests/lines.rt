@@ -2,7 +2,7 @@
 use super::playing::expect_lines;
 use crate::served::expect_answer;
 use script::Status;
-use std::test::Fail;
+use std::process::Abort;
 
 #[test]
 fn rings(rt: HostRuntime) {
@@ -67,46 +67,32 @@ fn bytes_past_ascii_are_bad_also_in_comments(rt: HostRuntime) {
 }
 
 #[test]
-fn more_than_64_commands_are_too_many(rt: HostRuntime) -> Result<(), Fail> {
-    let mut script = String::new(rt.alloc());
-    script.push_str("ring 7 1/look 0/reserve 0")?;
-    script.push_str(" X".repeat(rt.alloc(), 120)?.as_str())?;
+fn more_than_64_commands_are_too_many(rt: HostRuntime) {
+    let commands = " X".repeat(rt.alloc(), 120).expect(&rt, "there is memory");
+    let script = format!(in rt.alloc(); "ring 7 1/look 0/reserve 0{commands}");
+    let script = script.expect(&rt, "there is memory");
     let text = "ring size 128/control 0 0 open/line 3: F11";
     expect_lines(&rt, script.as_str(), text, Status::Refused);
-    Ok(())
+}
+
+/// Serves a ring's line and then a line of so many spaces, without its end.
+fn expect_of_spaces<R: AllocGlobal + Abort>(rt: &R, count: usize, text: &str, status: Status) {
+    let spaces = " ".repeat(rt.alloc(), count).expect(rt, "there is memory");
+    let script = format!(in rt.alloc(); "ring 1 1\n{spaces}").expect(rt, "there is memory");
+    expect_answer(rt, "spaces", script.as_bytes(), text, status);
 }
 
 #[test]
-fn a_line_has_4096_bytes_at_most(rt: HostRuntime) -> Result<(), Fail> {
-    let mut script = String::new(rt.alloc());
-    script.push_str("ring 1 1\n")?;
-    script.push_str(" ".repeat(rt.alloc(), 4096)?.as_str())?;
-    expect_answer(
-        &rt,
-        "spaces",
-        script.as_bytes(),
-        "ring size 2\n",
-        Status::Good,
-    );
-    let mut script = String::new(rt.alloc());
-    script.push_str("ring 1 1\n")?;
-    script.push_str(" ".repeat(rt.alloc(), 4097)?.as_str())?;
-    expect_answer(
-        &rt,
-        "spaces",
-        script.as_bytes(),
-        "ring size 2\nline 2: long line\n",
-        Status::Refused,
-    );
-    Ok(())
+fn a_line_has_4096_bytes_at_most(rt: HostRuntime) {
+    expect_of_spaces(&rt, 4096, "ring size 2\n", Status::Good);
+    let text = "ring size 2\nline 2: long line\n";
+    expect_of_spaces(&rt, 4097, text, Status::Refused);
 }
 
 #[test]
-fn a_comment_has_4096_bytes_at_most_too(rt: HostRuntime) -> Result<(), Fail> {
-    let mut script = String::new(rt.alloc());
-    script.push_str("#".repeat(rt.alloc(), 4097)?.as_str())?;
-    script.push_str("\n")?;
+fn a_comment_has_4096_bytes_at_most_too(rt: HostRuntime) {
+    let mut script = "#".repeat(rt.alloc(), 4097).expect(&rt, "there is memory");
+    script.push_str("\n").expect(&rt, "there is memory");
     let text = "line 1: long line\n";
     expect_answer(&rt, "a comment", script.as_bytes(), text, Status::Refused);
-    Ok(())
 }

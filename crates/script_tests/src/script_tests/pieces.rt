@@ -4,7 +4,6 @@ use fake_streams::{Sink, Source};
 use script::{Ending, ServeError};
 use std::io::ErrorKind;
 use std::process::Abort;
-use std::test::Fail;
 
 const PIPE: ErrorKind = ErrorKind::BrokenPipe;
 
@@ -13,11 +12,12 @@ fn expect_served<R: AllocGlobal + Abort>(rt: &R, script: &str, text: &str, endin
     for most in [1, 3, 100_000] {
         let mut input = Source::new(script.as_bytes(), most, 0, PIPE);
         let mut output = Sink::new(most, 0, PIPE);
-        match serve_lengths(rt.alloc(), &mut input, &mut output) {
-            Ok(ended) => assert_eq!(rt; ended, ending, "{script}"),
-            Err(_) => assert!(rt; false, "{script}"),
-        }
-        assert_eq!(rt; output.text(), text, "{script} by {most}");
+        let ended = serve_lengths(rt.alloc(), &mut input, &mut output).ok();
+        assert_eq!(rt;
+            (ended, output.text()),
+            (Some(ending), text),
+            "{script} by {most}"
+        );
     }
 }
 
@@ -33,31 +33,26 @@ fn answers_do_not_depend_on_the_pieces(rt: HostRuntime) {
 }
 
 /// Serves a line of so many bytes with this end, and wants this text.
-fn expect_long<R: AllocGlobal + Abort>(
-    rt: &R,
-    length: usize,
-    end: &str,
-    text: &str,
-) -> Result<(), Fail> {
-    let mut script = vec![in rt.alloc(); b'x'; length]?;
-    script.extend_from_slice(end.as_bytes())?;
+fn expect_long<R: AllocGlobal + Abort>(rt: &R, length: usize, end: &str, text: &str) {
+    let mut script = vec![in rt.alloc(); b'x'; length].expect(rt, "there is memory");
+    let pushed = script.extend_from_slice(end.as_bytes());
+    pushed.expect(rt, "there is memory");
     for most in [1, 100_000] {
         let mut input = Source::new(script.as_slice(), most, 0, PIPE);
         let mut output = Sink::new(100, 0, PIPE);
-        serve_lengths(rt.alloc(), &mut input, &mut output)?;
-        assert_eq!(rt; output.text(), text, "{length} by {most}");
-        assert!(rt; input.least_room >= 4096, "{length} by {most}");
+        let ended = serve_lengths(rt.alloc(), &mut input, &mut output);
+        let told = (ended.is_ok(), output.text(), input.least_room >= 4096);
+        assert_eq!(rt; told, (true, text, true), "{length} by {most}");
     }
-    Ok(())
 }
 
 #[test]
-fn a_long_line_needs_no_end(rt: HostRuntime) -> Result<(), Fail> {
-    expect_long(&rt, 4096, "", "1: 4096\n")?;
-    expect_long(&rt, 4096, "\n", "1: 4096\n")?;
-    expect_long(&rt, 4097, "", "line 1: long line\n")?;
-    expect_long(&rt, 4097, "\n", "line 1: long line\n")?;
-    expect_long(&rt, 70_000, "\n", "line 1: long line\n")
+fn a_long_line_needs_no_end(rt: HostRuntime) {
+    expect_long(&rt, 4096, "", "1: 4096\n");
+    expect_long(&rt, 4096, "\n", "1: 4096\n");
+    expect_long(&rt, 4097, "", "line 1: long line\n");
+    expect_long(&rt, 4097, "\n", "line 1: long line\n");
+    expect_long(&rt, 70_000, "\n", "line 1: long line\n");
 }
 
 /// Has the read of this number fail, and wants this text.
@@ -65,8 +60,8 @@ fn expect_failed_read<R: AllocGlobal + Abort>(rt: &R, bad: usize, text: &str) {
     let mut input = Source::new(b"a\nbb\nccc\n".as_slice(), 2, bad, PIPE);
     let mut output = Sink::new(100, 0, PIPE);
     let outcome = serve_lengths(rt.alloc(), &mut input, &mut output);
-    assert!(rt; matches!(outcome, Err(ServeError::Read(_))), "{bad}");
-    assert_eq!(rt; output.text(), text, "{bad}");
+    let told = (matches!(outcome, Err(ServeError::Read(_))), output.text());
+    assert_eq!(rt; told, (true, text), "{bad}");
 }
 
 #[test]
@@ -85,9 +80,8 @@ fn expect_failed_write<R: AllocGlobal + Abort>(rt: &R, bad: usize, text: &str) {
     let mut input = Source::new(b"a\nbb\n".as_slice(), 100, 0, PIPE);
     let mut output = Sink::new(4, bad, PIPE);
     let outcome = serve_lengths(rt.alloc(), &mut input, &mut output);
-    assert!(rt; matches!(outcome, Err(ServeError::Write(_))), "{bad}");
-    assert_eq!(rt; output.calls, bad);
-    assert_eq!(rt; output.text(), text, "{bad}");
+    let failed = matches!(outcome, Err(ServeError::Write(_)));
+    assert_eq!(rt; (failed, output.calls, output.text()), (true, bad, text));
 }
 
 #[test]
@@ -98,25 +92,24 @@ fn nothing_is_written_after_a_failed_write(rt: HostRuntime) {
 }
 
 #[test]
-fn a_writer_that_takes_nothing_has_failed(rt: HostRuntime) -> Result<(), Fail> {
-    let script = vec![in rt.alloc(); b'\n'; 1000]?;
+fn a_writer_that_takes_nothing_has_failed(rt: HostRuntime) {
+    let script = vec![in rt.alloc(); b'\n'; 1000].expect(&rt, "there is memory");
     let mut input = Source::new(script.as_slice(), 100, 0, PIPE);
     let mut output = Sink::new(100, 0, PIPE);
     let outcome = serve_lengths(rt.alloc(), &mut input, &mut output);
-    assert!(rt; matches!(outcome, Err(ServeError::Write(_))));
-    assert_eq!(rt; output.text().len(), 4096);
-    Ok(())
+    let failed = matches!(outcome, Err(ServeError::Write(_)));
+    assert_eq!(rt; (failed, output.text().len()), (true, 4096));
 }
 
 #[test]
-fn an_interrupted_call_is_made_again(rt: HostRuntime) -> Result<(), Fail> {
+fn an_interrupted_call_is_made_again(rt: HostRuntime) {
     for bad in [1, 2, 3] {
         let mut input = Source::new(b"a\nbb\n".as_slice(), 2, bad, ErrorKind::Interrupted);
         let mut output = Sink::new(2, bad, ErrorKind::Interrupted);
-        serve_lengths(rt.alloc(), &mut input, &mut output)?;
-        assert_eq!(rt; output.text(), "1: 1\n2: 2\n", "{bad}");
+        let ended = serve_lengths(rt.alloc(), &mut input, &mut output);
+        let told = (ended.is_ok(), output.text());
+        assert_eq!(rt; told, (true, "1: 1\n2: 2\n"), "{bad}");
     }
-    Ok(())
 }
 
 // Nothing but the run allocates here, so that each of its allocations can be made to fail.

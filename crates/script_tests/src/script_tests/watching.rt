@@ -3,7 +3,6 @@ use crate::script_tests::lengths::serve_lengths;
 use std::cell::Cell;
 use std::io;
 use std::io::{Read, Write};
-use std::test::Fail;
 
 // Gives two bytes a call, and keeps how much its partner held at each call.
 #[derive(Drop)]
@@ -46,7 +45,7 @@ impl<'a> Write for Watched<'a> {
 }
 
 #[test]
-fn no_answer_waits_for_a_later_read(rt: HostRuntime) -> Result<(), Fail> {
+fn no_answer_waits_for_a_later_read(rt: HostRuntime) {
     let written = Cell::new(0);
     let mut input = Watcher {
         text: b"a\nbb\nccc\n".as_slice(),
@@ -55,8 +54,7 @@ fn no_answer_waits_for_a_later_read(rt: HostRuntime) -> Result<(), Fail> {
         calls: 0,
     };
     let mut output = Watched { written: &written };
-    serve_lengths(rt.alloc(), &mut input, &mut output)?;
+    let ended = serve_lengths(rt.alloc(), &mut input, &mut output);
     // Each answer has five bytes. The first line is read by the 1st call, the second by the 3rd, and the third by the 5th.
-    assert_eq!(rt; input.seen, [0, 5, 5, 10, 10, 15]);
-    Ok(())
+    assert_eq!(rt; (ended.is_ok(), input.seen), (true, [0, 5, 5, 10, 10, 15]));
 }
