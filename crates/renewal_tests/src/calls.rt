@@ -5,7 +5,8 @@ use crate::answers;
 use crate::pairs::{Pair, batch_of, new_pair, renewed, translation};
 use engine::{Engine, Remedy};
 use renewal::Sizes;
-use std::alloc::Global;
+use ring::Ring;
+use std::alloc::{AllocError, Global};
 use std::process::Abort;
 
 fn sizes(text: &str) -> Option<Sizes> {
@@ -42,18 +43,28 @@ fn replace(engine: &mut Engine) -> &'static str
     }
 }
 
+/// The entry of the translation of a page.
+fn held_at(alloc: Global, engine: &Engine, page: &str) -> Option<String> {
+    let Some(tag) = translation(page.parse().ok()?) else {
+        return None;
+    };
+    answers::held(alloc, engine.lookup(&tag))
+}
+
+/// Puts a word behind others.
+fn append(told: &mut String, word: &str) -> Result<(), AllocError> {
+    if !told.is_empty() {
+        told.push_str(", ")?;
+    }
+    told.push_str(word)
+}
+
 /// The entries of the translations of pages, `held PAGE ..`.
 fn held(alloc: Global, engine: &Engine, pages: &str) -> Option<String> {
     let mut told = String::new(alloc);
     for page in pages.split(" ") {
-        let Some(tag) = translation(page.parse().ok()?) else {
-            return None;
-        };
-        let entry = answers::held(alloc, engine.lookup(&tag))?;
-        if !told.is_empty() {
-            told.push_str(", ").ok()?;
-        }
-        told.push_str(entry.as_str()).ok()?;
+        let entry = held_at(alloc, engine, page)?;
+        append(&mut told, entry.as_str()).ok()?;
     }
     Some(told)
 }
@@ -103,15 +114,32 @@ fn send(alloc: Global, pair: Pair, text: &str) -> (Pair, Option<String>) {
     (pair, told)
 }
 
-/// The answer to a call that leaves the queue, which is told by its first word.
-fn call(alloc: Global, pair: &mut Pair, name: &str, text: &str) -> Option<String> {
+/// The answer to a call of the engine, which is told by its first word.
+fn engine_call(
+    alloc: Global,
+    ring: &Ring,
+    engine: &mut Engine,
+    name: &str,
+    text: &str,
+) -> Option<String>
+    requires { engine.old.consumer.ring ≡ ring.now }
+    ensures { engine.new.consumer.ring ≡ ring.now }
+{
     match name {
-        "fill" => answers::word(alloc, fill(&mut pair.engine, text)?),
-        "run" => answers::run(alloc, pair.engine.step_run(&pair.ring, 64)),
-        "replace" => answers::word(alloc, replace(&mut pair.engine)),
-        "done" => pair.first.done_up_to(&pair.ring).to_string(alloc).ok(),
-        _ => state(alloc, &pair.engine, name, text),
+        "fill" => answers::word(alloc, fill(engine, text)?),
+        "run" => answers::run(alloc, engine.step_run(ring, 64)),
+        "replace" => answers::word(alloc, replace(engine)),
+        _ => state(alloc, engine, name, text),
     }
+}
+
+/// The answer to a call that leaves the queue.
+fn call(alloc: Global, pair: &mut Pair, name: &str, text: &str) -> Option<String> {
+    if name == "done" {
+        let number = pair.first.done_up_to(&pair.ring);
+        return number.to_string(alloc).ok();
+    }
+    engine_call(alloc, &pair.ring, &mut pair.engine, name, text)
 }
 
 fn answer(rt: &impl Abort, alloc: Global, pair: Pair, line: &str) -> (Pair, Option<String>) {
@@ -120,7 +148,7 @@ fn answer(rt: &impl Abort, alloc: Global, pair: Pair, line: &str) -> (Pair, Opti
         "send" => send(alloc, pair, text),
         "renew" => {
             let sizes = sizes(text).expect(rt, line);
-            let (pair, told) = renewed(alloc, pair, sizes).expect(rt, "two senders");
+            let (pair, told) = renewed(rt, alloc, pair, sizes);
             (pair, answers::renewed(alloc, told))
         }
         _ => {
@@ -131,15 +159,20 @@ fn answer(rt: &impl Abort, alloc: Global, pair: Pair, line: &str) -> (Pair, Opti
     }
 }
 
+/// Makes the call of a line, and wants the answer that stands behind it.
+fn expect_answer<R: AllocGlobal + Abort>(rt: &R, pair: Pair, line: &str) -> Pair {
+    let (call, wanted) = line.split_once(" = ").unwrap_or((line, ""));
+    let (pair, told) = answer(rt, rt.alloc(), pair, call);
+    let told = told.expect(rt, line);
+    assert_eq!(rt; told.as_str(), wanted, "{line}");
+    pair
+}
+
 /// Makes the calls of a text, of a new queue whose senders may reserve so many batches each, and wants of each call the
 /// answer that stands behind it.
 pub fn expect_answers<R: AllocGlobal + Abort>(rt: &R, max_batches: u32, calls: &str) {
     let mut pair = new_pair(rt.alloc(), max_batches).expect(rt, "a queue");
     for line in calls.lines() {
-        let (call, wanted) = line.split_once(" = ").unwrap_or((line, ""));
-        let (again, told) = answer(rt, rt.alloc(), pair, call);
-        pair = again;
-        let told = told.expect(rt, line);
-        assert_eq!(rt; told.as_str(), wanted, "{line}");
+        pair = expect_answer(rt, pair, line);
     }
 }

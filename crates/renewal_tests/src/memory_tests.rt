@@ -24,13 +24,20 @@ fn fill(engine: &mut Engine, page: u64) -> bool
     engine.fill(tag, page).is_ok()
 }
 
+fn fill_three(engine: &mut Engine) -> bool
+    ensures { engine.new.consumer ≡ engine.old.consumer }
+{
+    fill(engine, 5) && fill(engine, 6) && fill(engine, 7)
+}
+
 /// A queue that holds three entries.
 fn filled(alloc: Global) -> Option<Pair> {
     let mut pair = new_pair(alloc, 100).ok()?;
-    let filled = fill(&mut pair.engine, 5)
-        && fill(&mut pair.engine, 6)
-        && fill(&mut pair.engine, 7);
-    if filled { Some(pair) } else { None }
+    if fill_three(&mut pair.engine) {
+        Some(pair)
+    } else {
+        None
+    }
 }
 
 /// Whether the three entries are held, each born 0.
@@ -54,20 +61,43 @@ fn is_memory(fault: RenewalFault) -> bool {
     )
 }
 
-/// Renews a queue of three entries and says how it went. Where memory runs out the queue comes back, and is renewed then.
-fn outcome(rt: &impl Abort, alloc: Global) -> &'static str {
-    let Some(mut pair) = filled(alloc) else {
-        return "refused";
+/// Renews a queue of three entries, and says how it went. Where memory runs out the queue comes back.
+fn outcome_of_renewal(rt: &impl Abort, alloc: Global, pair: Pair) -> (Pair, &'static str) {
+    let (pair, told) = renewed(rt, alloc, pair, SIZES);
+    let outcome = match told {
+        Ok(_) if holds_all(&pair) => "whole",
+        Err(fault) if is_memory(fault) => "refused",
+        _ => "wrong",
     };
-    for outcome in ["whole", "refused"] {
-        let (again, told) = renewed(alloc, pair, SIZES).expect(rt, "room for both");
-        match told {
-            Ok(_) if holds_all(&again) => return outcome,
-            Err(fault) if is_memory(fault) => pair = again,
-            _ => return "wrong",
-        }
+    (pair, outcome)
+}
+
+/// The same of a queue for which memory ran out before.
+fn outcome_then(rt: &impl Abort, alloc: Global, pair: Pair) -> &'static str {
+    let outcome = outcome_of_renewal(rt, alloc, pair).1;
+    if outcome == "whole" {
+        "refused"
+    } else {
+        "wrong"
     }
-    "wrong"
+}
+
+/// Renews a queue of three entries and says how it went. Where memory runs out it is renewed then.
+fn outcome_of_queue(rt: &impl Abort, alloc: Global, pair: Pair) -> &'static str {
+    let (pair, outcome) = outcome_of_renewal(rt, alloc, pair);
+    if outcome == "refused" {
+        outcome_then(rt, alloc, pair)
+    } else {
+        outcome
+    }
+}
+
+/// Makes a queue of three entries and renews it, and says how it went.
+fn outcome(rt: &impl Abort, alloc: Global) -> &'static str {
+    match filled(alloc) {
+        Some(pair) => outcome_of_queue(rt, alloc, pair),
+        None => "refused",
+    }
 }
 
 // Nothing but the queues allocates here, so that each of their allocations can be made to fail.

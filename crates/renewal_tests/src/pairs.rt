@@ -1,5 +1,5 @@
 //! Queues of two senders, in their parts.
-ghost use Rattle.std.specs.Prelude.{◌≡◌, [], IfOk};
+ghost use Rattle.std.specs.Prelude.{◌≡◌, []};
 ghost use Rattle.renewal.specs.Queues.{IsWhole};
 
 use batch::Batch;
@@ -8,7 +8,8 @@ use cmdcodec::{Asid, Page, Raw, Vmid};
 use engine::{Engine, Finished};
 use renewal::{Queue, RenewalFault, Sizes, renew};
 use ring::{Ring, RingFault, Sender};
-use std::alloc::{AllocError, Global};
+use std::alloc::Global;
+use std::process::Abort;
 
 /// A queue of two senders. The spare list holds none, and has room for both.
 #[derive(Drop)]
@@ -64,9 +65,10 @@ pub fn new_pair(alloc: Global, max_batches: u32) -> Result<Pair, RingFault> {
         engine,
     })
 }
+
 /// The queue of these parts.
-fn queue_of(pair: Pair) -> Result<Queue, AllocError>
-    ensures { IfOk result IsWhole }
+fn queue_of(rt: &impl Abort, pair: Pair) -> Queue
+    ensures { IsWhole result }
 {
     let Pair {
         ring,
@@ -75,13 +77,13 @@ fn queue_of(pair: Pair) -> Result<Queue, AllocError>
         mut spare,
         engine,
     } = pair;
-    spare.push(first)?;
-    spare.push(second)?;
-    Ok(Queue {
+    spare.push(first).expect(rt, "room for both");
+    spare.push(second).expect(rt, "room for both");
+    Queue {
         ring,
         senders: spare,
         engine,
-    })
+    }
 }
 
 /// The parts of a queue, where it has two senders.
@@ -108,18 +110,17 @@ fn pair_of(queue: Queue) -> Option<Pair>
 }
 
 /// What became of a queue of two: what is left of the old one, or why it isn't renewed, and the parts of the one that
-/// goes on. None where there was no memory to hand it in.
+/// goes on.
 pub fn renewed(
+    rt: &impl Abort,
     alloc: Global,
     pair: Pair,
     sizes: Sizes,
-) -> Option<(Pair, Result<Finished, RenewalFault>)> {
-    let Ok(queue) = queue_of(pair) else {
-        return None;
-    };
+) -> (Pair, Result<Finished, RenewalFault>) {
     // The theorem isn't passed on, since it would be dear in each test.
-    match renew(alloc, queue, sizes) {
-        Ok(renewed) => Some((pair_of(renewed.queue)?, Ok(renewed.old))),
-        Err(refused) => Some((pair_of(refused.queue)?, Err(refused.fault))),
-    }
+    let (queue, told) = match renew(alloc, queue_of(rt, pair), sizes) {
+        Ok(renewed) => (renewed.queue, Ok(renewed.old)),
+        Err(refused) => (refused.queue, Err(refused.fault)),
+    };
+    (pair_of(queue).expect(rt, "two senders"), told)
 }

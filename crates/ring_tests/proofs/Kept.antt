@@ -1,9 +1,13 @@
--- What is left of the consumer stays that while a keeper lends a sender's seat and takes it back.
-use Rattle.std.proofs.Common.{◌≡◌, ℕ, sym, subst}
-use Rattle.qindex.specs.Positions.{IndexValue}
-use Rattle.ringcore.specs.declared.world.event.Who.TheVariants.{Sender}
-use Rattle.ring.specs.Keepers.{KeeperValue, has_lent, KeepsOthers, IsIdleConsumer}
+-- What is left of senders stays that while a keeper lends the consumer's seat and takes it back.
+use Rattle.std.proofs.Common.{◌≡◌, sym, subst}
+use Rattle.ringcore.specs.declared.world.event.Who.TheVariants.{Consumer}
+use Rattle.ring.specs.Keepers.{KeeperValue, has_lent, KeepsOthers, IsIdleSender, IsIdleReservation}
+use Rattle.ring_tests.specs.Staying.{SendersStay, ReservationsStay}
 
-pub consumer_stays : (lends takes : ℕ) (old lent new : KeeperValue) (head : IndexValue) (taken : ℕ) → lent ≡ has_lent (Sender lends) old → KeepsOthers (Sender takes) lent new → IsIdleConsumer old head taken → IsIdleConsumer new head taken
-consumer_stays lends takes old lent new head taken lent_is kept is =
-    kept.consumer head taken (λ e. cc) (subst (λ (k : KeeperValue). IsIdleConsumer k head taken) (sym lent_is) is)
+pub senders_stay : (old lent new : KeeperValue) → lent ≡ has_lent Consumer old → KeepsOthers Consumer lent new → SendersStay old new
+senders_stay old lent new lent_is kept tally is =
+    kept.senders tally (λ e. cc) (subst (λ (k : KeeperValue). IsIdleSender k tally) (sym lent_is) is)
+
+pub reservations_stay : (old lent new : KeeperValue) → lent ≡ has_lent Consumer old → KeepsOthers Consumer lent new → ReservationsStay old new
+reservations_stay old lent new lent_is kept body left is =
+    kept.reservations body left (λ e. cc) (subst (λ (k : KeeperValue). IsIdleReservation k body left) (sym lent_is) is)

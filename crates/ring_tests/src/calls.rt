@@ -41,6 +41,21 @@ fn answer<R: AllocGlobal + Abort>(
     }
 }
 
+/// Makes the call of a line, and wants the answer that stands behind it.
+fn expect_answer<R: AllocGlobal + Abort>(rt: &R, ring: &Ring, seats: Seats, line: &str) -> Seats
+    requires sender { seats.sender.ring ≡ ring.now }
+    requires consumer { seats.consumer.ring ≡ ring.now }
+    ensures sender { result.sender.ring ≡ ring.now }
+    ensures id { result.sender.number ≡ seats.sender.number }
+    ensures consumer { result.consumer.ring ≡ ring.now }
+{
+    let (call, wanted) = line.split_once(" = ").unwrap_or((line, ""));
+    let (seats, told) = answer(rt, ring, seats, call);
+    let told = told.expect(rt, line);
+    assert_eq!(rt; told.as_str(), wanted, "{line}");
+    seats
+}
+
 /// Makes the calls of a text, and wants of each the answer that stands behind it.
 pub fn play<R: AllocGlobal + Abort>(rt: &R, ring: &Ring, seats: Seats, calls: &str) -> Seats
     requires sender { seats.sender.ring ≡ ring.now }
@@ -51,11 +66,7 @@ pub fn play<R: AllocGlobal + Abort>(rt: &R, ring: &Ring, seats: Seats, calls: &s
 {
     let mut seats = seats;
     for line in calls.lines() {
-        let (call, wanted) = line.split_once(" = ").unwrap_or((line, ""));
-        let (again, told) = answer(rt, ring, seats, call);
-        seats = again;
-        let told = told.expect(rt, line);
-        assert_eq!(rt; told.as_str(), wanted, "{line}");
+        seats = expect_answer(rt, ring, seats, line);
     }
     seats
 }

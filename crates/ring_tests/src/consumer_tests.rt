@@ -3,6 +3,7 @@ ghost use Rattle.std.specs.Prelude.{◌≡◌};
 
 use crate::batches::batch_of;
 use crate::calls::{Seats, expect_answers, play, ring_of_one, ring_of_two};
+use crate::reserving::{reserve, send_at_once};
 use crate::steps::finish;
 use ring::Ring;
 use std::alloc::AllocError;
@@ -27,10 +28,7 @@ fn lap<R: AllocGlobal + Abort>(rt: &R, ring: &Ring, seats: Seats, number: u32) -
     ensures consumer { result.consumer.ring ≡ ring.now }
 {
     let Seats { sender, consumer } = seats;
-    let (mut sender, receipt) = match sender.send(ring, &batch_of(rt, 1), 1) {
-        Ok(sent) => sent,
-        Err(_) => panic!(rt; "the batch is refused"),
-    };
+    let (mut sender, receipt) = send_at_once(rt, ring, sender, &batch_of(rt, 1));
     assert!(rt; !sender.is_done(ring, &receipt));
     let calls = calls_of_lap(rt, number);
     let mut seats = play(rt, ring, Seats { sender, consumer }, calls.as_str());
@@ -59,9 +57,7 @@ fn five_laps_of_two_slots(rt: HostRuntime) -> Result<(), AllocError> {
 fn a_stalled_sender(rt: HostRuntime) {
     let (ring, first, seats) = ring_of_two(&rt, 3, 4);
     let one = batch_of(&rt, 1);
-    let Ok(reservation) = first.reserve(&ring, &one) else {
-        panic!(rt; "the batch is refused");
-    };
+    let reservation = reserve(&rt, &ring, first, &one);
     let seats = play(
         &rt,
         &ring,
@@ -85,9 +81,7 @@ fn a_stalled_sender(rt: HostRuntime) {
 fn a_close_while_a_reservation_is_open(rt: HostRuntime) {
     let (ring, first, seats) = ring_of_two(&rt, 3, 4);
     let one = batch_of(&rt, 1);
-    let Ok(reservation) = first.reserve(&ring, &one) else {
-        panic!(rt; "the batch is refused");
-    };
+    let reservation = reserve(&rt, &ring, first, &one);
     let seats = play(
         &rt,
         &ring,

@@ -4,8 +4,12 @@ ghost use Rattle.ring.specs.Keepers.{IsKept};
 
 use crate::batches::{CFGI_STE, batch_of};
 use crate::device::NoEntries;
-use crate::steps::{Head, take_one};
-use ring::{Bare, Closing, IdleConsumer, IdleSender, Keeper, Ring, RingFault};
+use crate::keeper_calls::{
+    expect_batch, expect_head, expect_steps, publish, publish_bare, reserve, reserve_bare, send,
+};
+use crate::reserving::expect_receipt;
+use crate::steps::Head;
+use ring::{IdleConsumer, IdleReservation, IdleSender, Keeper, Ring, RingFault};
 use std::process::Abort;
 
 /// A ring of eight slots and two senders whose seats are all a keeper's.
@@ -37,92 +41,50 @@ fn faults_of_a_new_keeper(rt: HostRuntime) {
 #[test]
 fn a_batch_and_its_sync_in_one_hand(rt: HostRuntime) {
     let (ring, mut keeper, consumer) = kept_ring(&rt);
-    let sender = keeper.lend_sender(&ring, IdleSender::new(1));
     let one = batch_of(&rt, 1);
-    let Ok((sender, receipt)) = sender.send(&ring, &one, 1) else {
-        panic!(rt; "the batch is refused");
-    };
-    let idle = keeper.take_sender(&ring, sender);
-    let consumer = keeper.lend_consumer(&ring, consumer);
-    let (consumer, head) = take_one(&ring, consumer);
-    assert_eq!(rt; head, Head::Command(CFGI_STE));
-    let (consumer, _) = take_one(&ring, consumer);
-    assert_eq!(rt; consumer.taken(), 2);
-    keeper.take_consumer(&ring, consumer);
+    let (idle, receipt) = send(&rt, &ring, &mut keeper, IdleSender::new(1), &one);
+    expect_batch(&rt, &ring, &mut keeper, consumer, Head::Command(CFGI_STE));
     let mut sender = keeper.lend_sender(&ring, idle);
     assert!(rt; sender.is_done(&ring, &receipt));
+}
+
+/// Wants a reservation to begin at the first slot, and its batch to have this number, if it closes with a CMD_SYNC.
+fn expect_idle(rt: &impl Abort, idle: &IdleReservation, number: Option<u32>) {
+    assert_eq!(rt;
+        (idle.closes(), idle.first().get(), idle.number()),
+        (number.is_some(), 0, number)
+    );
 }
 
 #[test]
 fn a_reservation_waits_for_its_batch(rt: HostRuntime) {
     let (ring, mut keeper, consumer) = kept_ring(&rt);
-    let sender = keeper.lend_sender(&ring, IdleSender::new(0));
     let one = batch_of(&rt, 1);
-    let Ok(reservation) = sender.reserve(&ring, &one) else {
-        panic!(rt; "the batch is refused");
-    };
-    let idle = keeper.take_reservation(&ring, reservation);
-    assert!(rt; idle.closes());
-    assert_eq!(rt; (idle.first().get(), idle.number()), (0, Some(1)));
-    let consumer = keeper.lend_consumer(&ring, consumer);
-    let (consumer, head) = take_one(&ring, consumer);
-    assert_eq!(rt; head, Head::Unwritten);
-    let consumer = keeper.take_consumer(&ring, consumer);
-    let reservation = keeper.lend_reservation::<Closing>(&ring, idle, one.as_borrowed());
-    let (sender, receipt) = reservation.publish(&ring);
-    assert_eq!(rt; (receipt.sender(), receipt.number()), (0, 1));
-    keeper.take_sender(&ring, sender);
-    let consumer = keeper.lend_consumer(&ring, consumer);
-    let (consumer, head) = take_one(&ring, consumer);
-    assert_eq!(rt; head, Head::Command(CFGI_STE));
-    keeper.take_consumer(&ring, consumer);
+    let idle = reserve(&rt, &ring, &mut keeper, IdleSender::new(0), &one);
+    expect_idle(&rt, &idle, Some(1));
+    let consumer = expect_head(&rt, &ring, &mut keeper, consumer, Head::Unwritten);
+    let receipt = publish(&ring, &mut keeper, idle, &one);
+    expect_receipt(&rt, &receipt, 0, 1);
+    expect_head(&rt, &ring, &mut keeper, consumer, Head::Command(CFGI_STE));
 }
 
 #[test]
 fn a_bare_reservation_waits_for_its_batch(rt: HostRuntime) {
     let (ring, mut keeper, consumer) = kept_ring(&rt);
-    let sender = keeper.lend_sender(&ring, IdleSender::new(0));
     let one = batch_of(&rt, 1);
-    let Ok(reservation) = sender.reserve_bare(&ring, &one) else {
-        panic!(rt; "the batch is refused");
-    };
-    let idle = keeper.take_reservation(&ring, reservation);
-    assert!(rt; !idle.closes());
-    assert_eq!(rt; (idle.first().get(), idle.number()), (0, None));
-    let sender = keeper
-        .lend_reservation::<Bare>(&ring, idle, one.as_borrowed())
-        .publish(&ring);
-    keeper.take_sender(&ring, sender);
-    let consumer = keeper.lend_consumer(&ring, consumer);
-    let (consumer, head) = take_one(&ring, consumer);
-    assert_eq!(rt; head, Head::Command(CFGI_STE));
-    keeper.take_consumer(&ring, consumer);
+    let idle = reserve_bare(&rt, &ring, &mut keeper, IdleSender::new(0), &one);
+    expect_idle(&rt, &idle, None);
+    publish_bare(&ring, &mut keeper, idle, &one);
+    expect_head(&rt, &ring, &mut keeper, consumer, Head::Command(CFGI_STE));
 }
 
 #[test]
 fn steps_amid_a_reservation(rt: HostRuntime) {
     let (ring, mut keeper, _) = kept_ring(&rt);
     assert_eq!(rt; keeper.control(&ring).prod.get(), 0);
-    let sender = keeper.lend_sender(&ring, IdleSender::new(0));
     let one = batch_of(&rt, 1);
-    let Ok(reservation) = sender.reserve(&ring, &one) else {
-        panic!(rt; "the batch is refused");
-    };
-    let idle = keeper.take_reservation(&ring, reservation);
-    let seen = keeper.look(&ring, 0);
-    assert_eq!(rt;
-        (seen.prod.get(), seen.cons.get(), seen.closed),
-        (2, 0, false)
-    );
-    assert_eq!(rt; keeper.done_up_to(&ring, 0), 0);
-    keeper.close(&ring, 0);
-    let seen = keeper.control(&ring);
-    assert_eq!(rt;
-        (seen.prod.get(), seen.cons.get(), seen.closed),
-        (2, 0, true)
-    );
-    let reservation = keeper.lend_reservation::<Closing>(&ring, idle, one.as_borrowed());
-    let (sender, receipt) = reservation.publish(&ring);
-    assert_eq!(rt; (receipt.sender(), receipt.number()), (0, 1));
-    keeper.take_sender(&ring, sender);
+    let idle = reserve(&rt, &ring, &mut keeper, IdleSender::new(0), &one);
+    expect_steps(&rt, &ring, &mut keeper, 0);
+    let receipt = publish(&ring, &mut keeper, idle, &one);
+    expect_receipt(&rt, &receipt, 0, 1);
 }

@@ -13,7 +13,11 @@ mod consumer_tests;
 #[cfg(test)]
 mod device;
 #[cfg(test)]
+mod keeper_calls;
+#[cfg(test)]
 mod keeper_tests;
+#[cfg(test)]
+mod reserving;
 #[cfg(test)]
 mod ring_caller;
 #[cfg(test)]

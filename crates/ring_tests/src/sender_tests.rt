@@ -4,41 +4,46 @@ ghost use Rattle.std.specs.Prelude.{◌≡◌};
 use crate::batches::{CFGI_STE, batch_of};
 use crate::calls::{Seats, expect_answers, play, ring_of_one, ring_of_two};
 use crate::device::NoEntries;
+use crate::reserving::{expect_receipt, expect_refused, expect_slots, reserve, reserve_bare};
 use crate::sender_calls::send;
 use batch::{Batch, BorrowedBatch};
 use ring::{Cause, Ring, RingFault, Sender};
 use std::alloc::{AllocError, Global};
+use std::fmt::Display;
 use std::process::Abort;
 
-fn expect_fault_named<R: AllocGlobal + Abort>(rt: &R, fault: RingFault, wanted: &str) {
-    let told = fault.to_string(rt.alloc()).expect(rt, "memory");
+fn expect_name<R: AllocGlobal + Abort, T: Display>(rt: &R, named: &T, wanted: &str) {
+    let told = named.to_string(rt.alloc()).expect(rt, "memory");
     assert_eq!(rt; told.as_str(), wanted);
 }
 
 #[test]
 fn faults_of_a_new_ring_have_names(rt: HostRuntime) {
-    expect_fault_named(
+    expect_name(
         &rt,
-        RingFault::Size,
+        &RingFault::Size,
         "N1: the ring isn't of 2 to 524,288 slots",
     );
-    expect_fault_named(&rt, RingFault::Senders, "N2: the senders aren't 1 to 256");
-    expect_fault_named(&rt, RingFault::Batches, "N3: a sender may reserve no batch");
-    expect_fault_named(&rt, RingFault::Memory(AllocError), "N4: out of memory");
-}
-
-fn expect_cause_named<R: AllocGlobal + Abort>(rt: &R, cause: Cause, wanted: &str) {
-    let told = cause.to_string(rt.alloc()).expect(rt, "memory");
-    assert_eq!(rt; told.as_str(), wanted);
+    expect_name(&rt, &RingFault::Senders, "N2: the senders aren't 1 to 256");
+    expect_name(
+        &rt,
+        &RingFault::Batches,
+        "N3: a sender may reserve no batch",
+    );
+    expect_name(&rt, &RingFault::Memory(AllocError), "N4: out of memory");
 }
 
 #[test]
 fn causes_have_names(rt: HostRuntime) {
-    expect_cause_named(&rt, Cause::Closed, "Q1: the ring is closed");
-    expect_cause_named(&rt, Cause::Full, "Q2: the ring has too little room");
-    expect_cause_named(&rt, Cause::Contended, "Q3: another changed the ring first");
-    expect_cause_named(&rt, Cause::TooLong, "Q4: the batch is longer than the ring");
-    expect_cause_named(&rt, Cause::Exhausted, "Q5: the sender has no batch left");
+    expect_name(&rt, &Cause::Closed, "Q1: the ring is closed");
+    expect_name(&rt, &Cause::Full, "Q2: the ring has too little room");
+    expect_name(&rt, &Cause::Contended, "Q3: another changed the ring first");
+    expect_name(
+        &rt,
+        &Cause::TooLong,
+        "Q4: the batch is longer than the ring",
+    );
+    expect_name(&rt, &Cause::Exhausted, "Q5: the sender has no batch left");
 }
 
 #[test]
@@ -54,19 +59,45 @@ fn as_many_batches_as_it_may(rt: HostRuntime) {
     );
 }
 
+/// Sends commands from where they stand, with a closing CMD_SYNC: its number.
+fn send_borrowed(
+    rt: &impl Abort,
+    ring: &Ring,
+    sender: Sender,
+    batch: BorrowedBatch<'_>,
+) -> (Sender, u32)
+    requires { sender.ring ≡ ring.now }
+    ensures { result.0.ring ≡ ring.now }
+{
+    match sender.send_borrowed(ring, batch, 1) {
+        Ok((sender, receipt)) => (sender, receipt.number()),
+        Err(_) => panic!(rt; "the batch is refused"),
+    }
+}
+
+fn send_borrowed_bare(
+    rt: &impl Abort,
+    ring: &Ring,
+    sender: Sender,
+    batch: BorrowedBatch<'_>,
+) -> Sender
+    requires { sender.ring ≡ ring.now }
+    ensures { result.ring ≡ ring.now }
+{
+    match sender.send_borrowed_bare(ring, batch, 1) {
+        Ok(sender) => sender,
+        Err(_) => panic!(rt; "the batch is refused"),
+    }
+}
+
 #[test]
 fn commands_are_sent_from_where_they_stand(rt: HostRuntime) {
-    let (ring, seats) = ring_of_one(&rt, 3, 2);
+    let (ring, Seats { sender, .. }) = ring_of_one(&rt, 3, 2);
     let commands = [CFGI_STE; 2];
     let batch = BorrowedBatch::new(&commands).expect(&rt, "no CMD_SYNC");
-    let Ok((sender, receipt)) = seats.sender.send_borrowed(&ring, batch.reborrow(), 1) else {
-        panic!(rt; "the first batch is refused");
-    };
-    assert_eq!(rt; receipt.number(), 1);
-    let Ok(mut sender) = sender.send_borrowed_bare(&ring, batch, 1) else {
-        panic!(rt; "the second batch is refused");
-    };
-    assert_eq!(rt; sender.look(&ring).prod.get(), 5);
+    let (sender, number) = send_borrowed(&rt, &ring, sender, batch.reborrow());
+    let mut sender = send_borrowed_bare(&rt, &ring, sender, batch);
+    assert_eq!(rt; (number, sender.look(&ring).prod.get()), (1, 5));
 }
 
 #[test]
@@ -103,22 +134,22 @@ fn a_closed_ring_is_told_ahead_of_a_full_one(rt: HostRuntime) {
 #[test]
 fn a_reservation_step_by_step(rt: HostRuntime) {
     let (ring, seats) = ring_of_one(&rt, 2, 8);
+    let Seats { sender, consumer } = seats;
     let two = batch_of(&rt, 2);
-    let Ok(mut reservation) = seats.sender.reserve(&ring, &two) else {
-        panic!(rt; "the batch is refused");
-    };
-    assert_eq!(rt; (reservation.unwritten(), reservation.unflipped()), (3, 0));
+    let mut reservation = reserve(&rt, &ring, sender, &two);
+    expect_slots(&rt, &reservation, 3, 0);
     reservation.write_next(&ring);
-    assert_eq!(rt; (reservation.unwritten(), reservation.unflipped()), (2, 1));
+    expect_slots(&rt, &reservation, 2, 1);
     reservation.flip_next(&ring);
-    assert_eq!(rt; (reservation.unwritten(), reservation.unflipped()), (2, 0));
+    expect_slots(&rt, &reservation, 2, 0);
     let (sender, receipt) = reservation.publish(&ring);
-    assert_eq!(rt; (receipt.sender(), receipt.number()), (0, 1));
-    let seats = Seats {
-        sender,
-        consumer: seats.consumer,
-    };
-    play(&rt, &ring, seats, "done = 0\nlook = 3 0 open");
+    expect_receipt(&rt, &receipt, 0, 1);
+    play(
+        &rt,
+        &ring,
+        Seats { sender, consumer },
+        "done = 0\nlook = 3 0 open",
+    );
 }
 
 #[test]
@@ -126,18 +157,18 @@ fn bare_batches_have_no_number(rt: HostRuntime) {
     let (ring, seats) = ring_of_one(&rt, 3, 8);
     let Seats { sender, consumer } = play(&rt, &ring, seats, "bare 1 = sent\nsend 1 = number 1");
     let one = batch_of(&rt, 1);
-    let Ok(mut reservation) = sender.reserve_bare(&ring, &one) else {
-        panic!(rt; "the batch is refused");
-    };
-    assert_eq!(rt; reservation.unwritten(), 1);
+    let mut reservation = reserve_bare(&rt, &ring, sender, &one);
+    expect_slots(&rt, &reservation, 1, 0);
     reservation.write_next(&ring);
-    assert_eq!(rt; reservation.unflipped(), 1);
+    expect_slots(&rt, &reservation, 0, 1);
     reservation.flip_next(&ring);
-    let seats = Seats {
-        sender: reservation.publish(&ring),
-        consumer,
-    };
-    play(&rt, &ring, seats, "send 1 = number 2\nlook = 6 0 open");
+    let sender = reservation.publish(&ring);
+    play(
+        &rt,
+        &ring,
+        Seats { sender, consumer },
+        "send 1 = number 2\nlook = 6 0 open",
+    );
 }
 
 #[test]
@@ -152,8 +183,7 @@ fn a_ring_of_two_slots(rt: HostRuntime) {
         consumer,
     };
     let seats = play(&rt, &ring, seats, "bare 1 = sent");
-    let (_second, full) = send(&ring, second, &batch_of(&rt, 1));
-    assert_eq!(rt; full, Err(Cause::Full));
+    expect_refused(&rt, &ring, second, &batch_of(&rt, 1), Cause::Full);
     play(&rt, &ring, seats, "bare 3 = Q4");
 }
 
@@ -177,18 +207,28 @@ fn send_times(
     (sender, last)
 }
 
-// 2^19 slots are full of 2^13 batches of 63 commands and a CMD_SYNC.
-#[test]
-fn the_last_of_256_senders_fills_the_largest_ring(rt: HostRuntime) {
+/// The largest ring: the last of its 256 senders, and the consumer.
+fn largest_ring<R: AllocGlobal + Abort>(rt: &R) -> (Ring, Seats)
+    ensures sender { result.1.sender.ring ≡ result.0 }
+    ensures consumer { result.1.consumer.ring ≡ result.0 }
+{
     let (ring, mut senders, consumer) = Ring::new::<NoEntries>(
         rt.alloc(),
         19,
         256,
         4_294_967_295,
-    ).expect(&rt, "a ring");
-    assert_eq!(rt; senders.len(), 256);
-    let sender = senders.pop().expect(&rt, "256 senders");
-    assert_eq!(rt; sender.id(), 255);
+    ).expect(rt, "a ring");
+    let count = senders.len();
+    let sender = senders.pop().expect(rt, "256 senders");
+    assert_eq!(rt; (count, sender.id()), (256, 255));
+    (ring, Seats { sender, consumer })
+}
+
+// 2^19 slots are full of 2^13 batches of 63 commands and a CMD_SYNC.
+#[test]
+fn the_last_of_256_senders_fills_the_largest_ring(rt: HostRuntime) {
+    let (ring, seats) = largest_ring(&rt);
+    let Seats { sender, consumer } = seats;
     let (sender, last) = send_times(&ring, sender, &batch_of(&rt, 63), 8192);
     assert_eq!(rt; last, Ok(8192));
     play(
@@ -216,15 +256,22 @@ fn a_batch_over_the_end_of_a_flag_word(rt: HostRuntime) {
     );
 }
 
+/// Sends a first batch, and says how it went.
+fn outcome_of_send(rt: &impl Abort, ring: &Ring, sender: Sender) -> &'static str
+    requires { sender.ring ≡ ring.now }
+{
+    match send(ring, sender, &batch_of(rt, 1)) {
+        (_, Ok(1)) => "whole",
+        _ => "wrong",
+    }
+}
+
 /// Makes a ring and sends a batch, and says how it went.
 fn outcome(rt: &impl Abort, alloc: Global) -> &'static str {
     match Ring::new::<NoEntries>(alloc, 2, 3, 1) {
         Ok((ring, mut senders, _consumer)) => {
             let last = senders.pop().expect(rt, "three senders");
-            match send(&ring, last, &batch_of(rt, 1)) {
-                (_, Ok(1)) => "whole",
-                _ => "wrong",
-            }
+            outcome_of_send(rt, &ring, last)
         }
         Err(RingFault::Memory(_)) => "refused",
         Err(_) => "wrong",

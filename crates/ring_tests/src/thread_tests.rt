@@ -4,11 +4,13 @@ ghost use Rattle.std.specs.Prelude.{◌≡◌, ◌≤◌};
 use crate::batches::batch_of;
 use crate::calls::{Seats, play, ring_of_one, ring_of_two};
 use crate::device::NoEntries;
+use crate::reserving::{expect_refused, reserve};
 use crate::sender_calls::send;
 use crate::steps::{Head, finish, take_one};
 use batch::Batch;
 use ring::{Cause, Consumer, Ring, Sender};
 use std::alloc::AllocError;
+use std::process::Abort;
 use std::thread::{Threads, join};
 
 /// Sends four batches, at 100 tries each: whether all of them were sent.
@@ -56,29 +58,36 @@ fn send_at_a_time(
     )
 }
 
+/// Wants all of these batches to be sent.
+fn expect_eight<R: Threads + Abort>(
+    rt: &R,
+    ring: &Ring,
+    senders: (Sender, Sender),
+    batch: &Batch,
+) -> (Sender, Sender)
+    requires first { senders.0.ring ≡ ring.now }
+    requires second { senders.1.ring ≡ ring.now }
+    ensures first { result.0.ring ≡ ring.now }
+    ensures second { result.1.ring ≡ ring.now }
+{
+    let ((first, four), (second, four_more)) = send_at_a_time(rt, ring, senders, batch);
+    assert_eq!(rt; (four, four_more), (true, true));
+    (first, second)
+}
+
 // A sender's exchange is lost at most four times, once for each batch of the other.
 #[test]
 fn two_senders_at_a_time(rt: HostRuntime) {
     let (ring, first, seats) = ring_of_two(&rt, 4, 8);
     let Seats { sender, consumer } = seats;
-    let ((first, four), (sender, four_more)) = send_at_a_time(
-        &rt,
-        &ring,
-        (first, sender),
-        &batch_of(&rt, 1),
-    );
-    assert_eq!(rt; (four, four_more), (true, true));
-    play(
-        &rt,
-        &ring,
-        Seats {
-            sender: first,
-            consumer,
-        },
-        "look = 16 0 open",
-    );
-    let (_second, sent) = send(&ring, sender, &batch_of(&rt, 1));
-    assert_eq!(rt; sent, Err(Cause::Full));
+    let one = batch_of(&rt, 1);
+    let (first, second) = expect_eight(&rt, &ring, (first, sender), &one);
+    let seats = Seats {
+        sender: first,
+        consumer,
+    };
+    play(&rt, &ring, seats, "look = 16 0 open");
+    expect_refused(&rt, &ring, second, &one, Cause::Full);
 }
 
 /// Sends up to `count` batches, at 50 tries each: how many of them were sent.
@@ -229,18 +238,30 @@ fn close_beside_the_consumer(
     )
 }
 
+/// Wants the batch to be refused, and each turn to find the head unwritten.
+fn expect_closed<R: Threads + Abort>(
+    rt: &R,
+    ring: &Ring,
+    seats: Seats,
+    batch: &Batch,
+) -> Consumer<NoEntries>
+    requires sender { seats.sender.ring ≡ ring.now }
+    requires consumer { seats.consumer.ring ≡ ring.now }
+    ensures { result.ring ≡ ring.now }
+{
+    let ((_sender, sent), (consumer, unwritten)) = close_beside_the_consumer(
+        rt, ring, seats, batch,
+    );
+    assert_eq!(rt; (sent, unwritten), (Err(Cause::Closed), true));
+    consumer
+}
+
 #[test]
 fn a_close_on_another_thread_while_a_reservation_is_open(rt: HostRuntime) {
     let (ring, first, seats) = ring_of_two(&rt, 3, 4);
     let one = batch_of(&rt, 1);
-    let Ok(reservation) = first.reserve(&ring, &one) else {
-        panic!(rt; "the batch is refused");
-    };
-    let ((_second, sent), (consumer, unwritten)) = close_beside_the_consumer(
-        &rt, &ring, seats, &one,
-    );
-    assert_eq!(rt; sent, Err(Cause::Closed));
-    assert!(rt; unwritten);
+    let reservation = reserve(&rt, &ring, first, &one);
+    let consumer = expect_closed(&rt, &ring, seats, &one);
     let (sender, _receipt) = reservation.publish(&ring);
     play(
         &rt,

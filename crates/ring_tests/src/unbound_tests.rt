@@ -3,6 +3,7 @@ ghost use Rattle.std.specs.Prelude.{◌≡◌};
 
 use crate::batches::batch_of;
 use crate::calls::{Seats, play, ring_of_two};
+use crate::reserving::{expect_receipt, reserve};
 use crate::sender_calls::send;
 use batch::Batch;
 use ring::{Cause, Closing, Receipt, Ring, Sender, UnboundReservation};
@@ -23,9 +24,7 @@ fn begin(rt: &impl Abort, ring: &Ring, sender: Sender) -> Kept
     ensures body { result.batch ≡ result.reservation.body }
 {
     let batch = batch_of(rt, 2);
-    let Ok(mut reservation) = sender.reserve(ring, &batch) else {
-        panic!(rt; "the batch is refused");
-    };
+    let mut reservation = reserve(rt, ring, sender, &batch);
     assert_eq!(rt; reservation.unwritten(), 3);
     reservation.write_next(ring);
     let reservation = reservation.unbind();
@@ -54,7 +53,7 @@ fn another_sends_while_a_reservation_is_kept(rt: HostRuntime) {
         "send 1 = number 1\nconsumer take = unwritten",
     );
     let (_first, receipt) = end(&ring, kept);
-    assert_eq!(rt; (receipt.sender(), receipt.number()), (0, 1));
+    expect_receipt(&rt, &receipt, 0, 1);
     play(
         &rt,
         &ring,
@@ -105,13 +104,25 @@ fn end_beside(
     )
 }
 
+/// Wants both to be the first batches of their senders: the one who sent it.
+fn expect_both<R: Threads + Abort>(rt: &R, ring: &Ring, kept: Kept, sender: Sender) -> Sender
+    requires ring { kept.reservation.ring ≡ ring.now }
+    requires body { kept.batch ≡ kept.reservation.body }
+    requires sender { sender.ring ≡ ring.now }
+    ensures { result.ring ≡ ring.now }
+{
+    let Kept { batch, reservation } = kept;
+    let ((_first, receipt), (sender, sent)) = end_beside(rt, ring, reservation, sender, &batch);
+    assert_eq!(rt; (receipt.number(), sent), (1, Ok(1)));
+    sender
+}
+
 #[test]
 fn a_kept_reservation_on_another_thread(rt: HostRuntime) {
     let (ring, first, seats) = ring_of_two(&rt, 3, 4);
     let Seats { sender, consumer } = seats;
-    let Kept { batch, reservation } = begin(&rt, &ring, first);
-    let ((_first, receipt), (sender, sent)) = end_beside(&rt, &ring, reservation, sender, &batch);
-    assert_eq!(rt; (receipt.number(), sent), (1, Ok(1)));
+    let kept = begin(&rt, &ring, first);
+    let sender = expect_both(&rt, &ring, kept, sender);
     play(
         &rt,
         &ring,
