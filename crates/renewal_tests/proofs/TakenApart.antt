@@ -1,5 +1,5 @@
 -- All senders of a ring of two, taken from the end one after the other.
-use Rattle.std.proofs.Common.{◌≡◌, ◌+◌, ℕ, List, [], ◌∷◌, ◌++◌, length, Some, refl, sym, ap, ◌∙◌, subst, length-append, arith}
+use Rattle.std.proofs.Common.{◌≡◌, ◌+◌, ℕ, List, [], ◌∷◌, ◌++◌, length, Some, refl, sym, ap, ◌∙◌, length-append, arith}
 use Rattle.std.specs.Prelude.{slice_get}
 use Rattle.ring.specs.Rings.{RingValue}
 use Rattle.ring.specs.sender.Senders.{SenderValue}
