@@ -91,18 +91,13 @@ fn answer(alloc: Global, core: &mut Core, asked: &str) -> Option<String> {
     }
 }
 
-/// Takes the step of a line, and wants the answer that stands behind it.
-fn expect_answer<R: AllocGlobal + Abort>(rt: &R, core: &mut Core, line: &str) {
-    let (asked, wanted) = line.split_once(" = ").unwrap_or((line, ""));
-    let found = answer(rt.alloc(), core, asked).expect(rt, line);
-    assert_eq!(rt; found.as_str(), wanted, "{line}");
-}
-
 /// Takes the steps of a text, and wants of each the answer that stands behind it.
 pub fn expect_answers<R: AllocGlobal + Abort>(rt: &R, core: &mut Core, text: &str) {
     for line in text.lines() {
         if !line.starts_with("#") {
-            expect_answer(rt, core, line);
+            let (asked, wanted) = line.split_once(" = ").unwrap_or((line, ""));
+            let found = answer(rt.alloc(), core, asked).expect(rt, line);
+            assert!(rt; found.as_str() == wanted, "{line}, not {found}");
         }
     }
 }
