@@ -1,5 +1,5 @@
 //! Capacity, refusals and blocks of streams.
-use crate::calls::{caches_of, expect_answers};
+use crate::calls::{caches_of, expect_answers, expect_filled};
 use crate::notation::ste;
 use caches::{CacheFault, Caches};
 
@@ -19,7 +19,7 @@ fn the_capacity_is_1_to_65536(rt: HostRuntime) {
 fn a_range_takes_its_block_of_streams(rt: HostRuntime) {
     let mut caches = caches_of(&rt, 65_536);
     for stream in 0..65_536u32 {
-        assert_eq!(rt; caches.fill(ste(stream)), Ok(None));
+        expect_filled(&rt, &mut caches, ste(stream));
     }
     expect_answers(
         &rt,

@@ -1,5 +1,5 @@
 //! All entries, in the order of their tags.
-use crate::calls::{caches_of, expect_answers, lists};
+use crate::calls::{caches_of, expect_answers, expect_filled, lists};
 use crate::notation::{cd, ste};
 use caches::Caches;
 
@@ -65,8 +65,8 @@ fn lists_both_of_each_stream(caches: &Caches) -> bool {
 fn as_many_entries_as_there_may_be(rt: HostRuntime) {
     let mut caches = caches_of(&rt, 65_536);
     for stream in 0..32_768u32 {
-        assert_eq!(rt; caches.fill(cd(stream)), Ok(None));
-        assert_eq!(rt; caches.fill(ste(stream)), Ok(None));
+        expect_filled(&rt, &mut caches, cd(stream));
+        expect_filled(&rt, &mut caches, ste(stream));
     }
     assert!(rt; lists_both_of_each_stream(&caches));
 }

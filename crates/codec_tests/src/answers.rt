@@ -24,7 +24,7 @@ pub fn expect_text<R: AllocGlobal + Abort>(
     wanted: &str,
 ) {
     let text = found.expect(rt, line);
-    assert_eq!(rt; text.as_str(), wanted, "{line}");
+    assert!(rt; text.as_str() == wanted, "{line}, not {text}");
 }
 
 /// Makes the calls of a text, and wants of each the answer that stands behind it.

@@ -83,9 +83,13 @@ fn fields_have_no_greater_number(rt: HostRuntime) {
 
 #[test]
 fn granules_are_numbered_from_1(rt: HostRuntime) {
-    assert_eq!(rt; Granule::new(1), Some(Granule::Kib4));
-    assert_eq!(rt; Granule::new(2), Some(Granule::Kib16));
-    assert_eq!(rt; Granule::new(3), Some(Granule::Kib64));
+    let granules = [Granule::new(1), Granule::new(2), Granule::new(3)];
+    let wanted = [
+        Some(Granule::Kib4),
+        Some(Granule::Kib16),
+        Some(Granule::Kib64),
+    ];
+    assert_eq!(rt; granules, wanted);
     expect_answers(
         &rt,
         "field Granule 0 = none\n\

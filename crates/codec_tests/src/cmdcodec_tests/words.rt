@@ -58,8 +58,7 @@ fn bytes_lie_lowest_first(rt: HostRuntime) {
         hi: 0x100f_0e0d_0c0b_0a09,
     };
     let bytes = [1, 2, 3, 4, 5, 6, 7, 8, 9, 10, 11, 12, 13, 14, 15, 16];
-    assert_eq!(rt; to_bytes(raw), bytes);
-    assert_eq!(rt; from_bytes(&bytes), raw);
+    assert_eq!(rt; (to_bytes(raw), from_bytes(&bytes)), (bytes, raw));
 }
 
 #[test]
@@ -68,10 +67,10 @@ fn the_opcode_is_the_lowest_byte(rt: HostRuntime) {
         lo: 0xffff_ffff_ffff_ff46,
         hi: 0,
     };
-    assert_eq!(rt; raw.opcode(), Some(Opcode::CmdSync));
     assert!(rt; raw.is_sync());
-    assert_eq!(rt; Opcode::new(0x2a), Some(Opcode::TlbiS2Ipa));
-    assert_eq!(rt; Opcode::new(0x146), None);
+    let opcodes = [raw.opcode(), Opcode::new(0x2a), Opcode::new(0x146)];
+    let wanted = [Some(Opcode::CmdSync), Some(Opcode::TlbiS2Ipa), None];
+    assert_eq!(rt; opcodes, wanted);
 }
 
 #[test]
@@ -86,8 +85,8 @@ fn a_list_holds_64(rt: HostRuntime) {
 
 #[test]
 fn cells_follow_one_another(rt: HostRuntime) {
-    assert_eq!(rt; cell_address(0), 0x4000_0000);
-    assert_eq!(rt; cell_address(255), 0x4000_03fc);
+    let cells = (cell_address(0), cell_address(255));
+    assert_eq!(rt; cells, (0x4000_0000, 0x4000_03fc));
     expect_answers(
         &rt,
         "owner 0x40000000 = 0\n\

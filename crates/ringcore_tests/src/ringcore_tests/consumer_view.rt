@@ -2,6 +2,7 @@
 use cmdcodec::{closing_sync, encode};
 use ringcore::{ConsumerView, Half, StepFault, SyncTallies};
 use std::alloc::Global;
+use std::process::Abort;
 
 /// Both words of the command at an offset, if both were read.
 fn command(view: &ConsumerView, offset: u32) -> Option<(u64, u64)> {
@@ -12,19 +13,30 @@ fn command(view: &ConsumerView, offset: u32) -> Option<(u64, u64)> {
     Some((raw.lo, raw.hi))
 }
 
+/// Wants these words as the command at an offset.
+fn expect_command(rt: &impl Abort, view: &ConsumerView, offset: u32, wanted: Option<(u64, u64)>) {
+    assert_eq!(rt; command(view, offset), wanted);
+}
+
+/// Wants so many commands to be taken, and so many to be found.
+fn expect_counts(rt: &impl Abort, view: &ConsumerView, taken: u64, found: u32) {
+    assert_eq!(rt; (view.taken(), view.found()), (taken, found));
+}
+
 #[test]
 fn a_test_reads_and_an_advance(rt: HostRuntime) {
     let mut view = ConsumerView::new();
-    assert_eq!(rt; (view.taken(), view.found()), (0, 0));
+    expect_counts(&rt, &view, 0, 0);
     view.tests(3);
     view.reads(1, Half::Lo, 7);
-    assert_eq!(rt; command(&view, 1), None);
+    expect_command(&rt, &view, 1, None);
     view.reads(1, Half::Hi, 8);
-    assert_eq!(rt; command(&view, 1), Some((7, 8)));
-    assert_eq!(rt; command(&view, 0), None);
+    expect_command(&rt, &view, 1, Some((7, 8)));
+    expect_command(&rt, &view, 0, None);
     // A second test begins anew.
     view.tests(2);
-    assert_eq!(rt; (view.found(), command(&view, 1)), (2, None));
+    expect_counts(&rt, &view, 0, 2);
+    expect_command(&rt, &view, 1, None);
 }
 
 #[test]
@@ -36,31 +48,28 @@ fn an_advance_ends_what_was_found(rt: HostRuntime) {
     if view.taken() == 0 {
         view.advances(1);
     }
-    assert_eq!(rt; (view.taken(), view.found()), (1, 0));
-    assert_eq!(rt; command(&view, 0), None);
+    expect_counts(&rt, &view, 1, 0);
+    expect_command(&rt, &view, 0, None);
 }
 
-/// Why an advance past so many commands is refused, for 1 to 64 of them.
-fn advance_fault(view: &ConsumerView, count: u32) -> Option<StepFault> {
-    if 1 <= count && count <= 64 {
-        view.advance_fault(count)
-    } else {
-        Some(StepFault::NoSuchPlace)
-    }
+/// Wants an advance past so many commands, of 1 to 64, to be refused for this fault, or to be none.
+fn expect_fault(rt: &impl Abort, view: &ConsumerView, count: u32, wanted: Option<StepFault>) {
+    assert!(rt; 1 <= count && count <= 64);
+    assert_eq!(rt; view.advance_fault(count), wanted);
 }
 
 #[test]
 fn an_advance_is_of_what_was_found_and_read(rt: HostRuntime) {
     let mut view = ConsumerView::new();
-    assert_eq!(rt; advance_fault(&view, 1), Some(StepFault::NotSeenReady));
+    expect_fault(&rt, &view, 1, Some(StepFault::NotSeenReady));
     view.tests(2);
-    assert_eq!(rt; advance_fault(&view, 1), Some(StepFault::HalfMissing));
-    assert_eq!(rt; advance_fault(&view, 3), Some(StepFault::NotSeenReady));
+    expect_fault(&rt, &view, 1, Some(StepFault::HalfMissing));
+    expect_fault(&rt, &view, 3, Some(StepFault::NotSeenReady));
     view.reads(0, Half::Lo, 7);
-    assert_eq!(rt; advance_fault(&view, 1), Some(StepFault::HalfMissing));
+    expect_fault(&rt, &view, 1, Some(StepFault::HalfMissing));
     view.reads(0, Half::Hi, 8);
-    assert_eq!(rt; advance_fault(&view, 1), None);
-    assert_eq!(rt; advance_fault(&view, 2), Some(StepFault::HalfMissing));
+    expect_fault(&rt, &view, 1, None);
+    expect_fault(&rt, &view, 2, Some(StepFault::HalfMissing));
 }
 
 /// How many syncs of senders 0 and 1 are taken, after one of sender 1 and a command that is none.

@@ -47,7 +47,8 @@ fn even_laps_are_told_by_ones(rt: HostRuntime) {
         (7, 255, (false, 1)),
     ];
     for (log2, number, expected) in table {
-        assert_eq!(rt; flags(log2, number), Some(expected), "at {log2} {number}");
+        let found = flags(log2, number);
+        assert!(rt; found == Some(expected), "{found:?} at {log2} {number}");
     }
 }
 
@@ -75,11 +76,8 @@ fn masks_are_the_flags_of_the_run(rt: HostRuntime) {
         (7, 1, 0, None),
     ];
     for (log2, number, count, expected) in table {
-        assert_eq!(rt;
-            mask(log2, number, count),
-            expected,
-            "at {log2} {number} {count}"
-        );
+        let found = mask(log2, number, count);
+        assert!(rt; found == expected, "{found:?} at {log2} {number} {count}");
     }
 }
 
@@ -113,10 +111,10 @@ fn runs_end_where_a_flag_is_not_flipped(rt: HostRuntime) {
         (7, 192, 0xffff_ffff_ffff_ff00, 64, 8),
     ];
     for (log2, number, word, limit, expected) in table {
-        assert_eq!(rt;
-            ready(log2, number, word, limit),
-            Some(expected),
-            "at {log2} {number} {word:x} {limit}"
+        let found = ready(log2, number, word, limit);
+        assert!(rt;
+            found == Some(expected),
+            "{found:?} at {log2} {number} {word:x} {limit}"
         );
     }
 }

@@ -1,66 +1,65 @@
 //! The steps of a batch, one operation after another, in a ring of 4 slots with 2 senders.
+ghost use Rattle.std.specs.Prelude.{◌≡◌};
+
 use qindex::{Control, Geometry, Index};
 use ringcore::{Half, RingWords, shared_word};
 use std::alloc::Global;
 use std::process::Abort;
 
-/// What the control word says: prod, cons and closed.
-fn said(words: &RingWords) -> Option<(u32, u32, bool)> {
-    let control = words.control()?;
-    Some((control.prod.get(), control.cons.get(), control.closed))
+/// Wants the control word to say prod, cons and closed.
+fn expect_said(rt: &impl Abort, words: &RingWords, wanted: (u32, u32, bool)) {
+    let control = words.control().expect(rt, "a control word");
+    let said = (control.prod.get(), control.cons.get(), control.closed);
+    assert_eq!(rt; said, wanted);
 }
 
-/// Exchanges the control word from prod, cons 0 to another prod, and says whether that was won.
-fn reserved(words: &mut RingWords, from: u32, to: u32) -> Option<bool> {
-    let geometry = words.geometry();
-    let cons = Index::new(geometry, 0)?;
-    let before = Control {
-        prod: Index::new(geometry, from)?,
-        cons,
-        closed: false,
-    };
-    let after = Control {
-        prod: Index::new(geometry, to)?,
-        cons,
-        closed: false,
-    };
-    Some(words.exchange(&before, &after))
+fn index(rt: &impl Abort, words: &RingWords, number: u32) -> Index
+    ensures { result.geometry ≡ words.now.geometry }
+{
+    Index::new(words.geometry(), number).expect(rt, "an index")
 }
 
-/// Writes both halves of an index.
-fn written(words: &mut RingWords, number: u32, lo: u64, hi: u64) -> Option<()> {
-    let index = Index::new(words.geometry(), number)?;
+/// The control with this prod, and cons 0.
+fn open_at(rt: &impl Abort, words: &RingWords, prod: u32) -> Control {
+    Control {
+        prod: index(rt, words, prod),
+        cons: index(rt, words, 0),
+        closed: false,
+    }
+}
+
+/// Exchanges the control word from prod, cons 0 to another prod, and wants that to be won or lost.
+fn expect_exchange(rt: &impl Abort, words: &mut RingWords, from: u32, to: u32, is_won: bool) {
+    let (before, after) = (open_at(rt, words, from), open_at(rt, words, to));
+    assert_eq!(rt; words.exchange(&before, &after), is_won);
+}
+
+/// Writes both halves of an index, and wants to read them again.
+fn expect_written(rt: &impl Abort, words: &mut RingWords, number: u32, lo: u64, hi: u64) {
+    let index = index(rt, words, number);
     words.write(index, Half::Lo, lo);
     words.write(index, Half::Hi, hi);
-    Some(())
-}
-
-/// Both halves of an index.
-fn halves(words: &RingWords, number: u32) -> Option<(u64, u64)> {
-    let index = Index::new(words.geometry(), number)?;
-    Some((words.read(index, Half::Lo), words.read(index, Half::Hi)))
+    let read = (words.read(index, Half::Lo), words.read(index, Half::Hi));
+    assert_eq!(rt; read, (lo, hi));
 }
 
 /// Flips a run from an index on.
-fn flipped(words: &mut RingWords, number: u32, count: u32) -> Option<()> {
-    let first = Index::new(words.geometry(), number)?;
-    if count == 0 || count > shared_word(first) {
-        return None;
-    }
+fn flip(rt: &impl Abort, words: &mut RingWords, number: u32, count: u32) {
+    let first = index(rt, words, number);
+    assert!(rt; 1 <= count && count <= shared_word(first));
     words.flip(first, count);
-    Some(())
 }
 
-/// How many are ready from an index on.
-fn ready(words: &RingWords, number: u32, limit: u32) -> Option<u32> {
-    Some(words.ready(Index::new(words.geometry(), number)?, limit))
+/// Wants so many to be ready from an index on.
+fn expect_ready(rt: &impl Abort, words: &RingWords, number: u32, limit: u32, wanted: u32) {
+    let head = index(rt, words, number);
+    assert_eq!(rt; words.ready(head, limit), wanted);
 }
 
 /// Turns cons from an index to another.
-fn advanced(words: &mut RingWords, from: u32, to: u32) -> Option<()> {
-    let geometry = words.geometry();
-    words.advance(Index::new(geometry, from)?, Index::new(geometry, to)?);
-    Some(())
+fn advance(rt: &impl Abort, words: &mut RingWords, from: u32, to: u32) {
+    let (from, to) = (index(rt, words, from), index(rt, words, to));
+    words.advance(from, to);
 }
 
 fn ring_of_4(alloc: Global) -> Option<RingWords> {
@@ -69,29 +68,28 @@ fn ring_of_4(alloc: Global) -> Option<RingWords> {
 
 /// Reserves three slots, which only an exchange for the word that stands there does.
 fn reserves_three(rt: &impl Abort, words: &mut RingWords) {
-    assert_eq!(rt; said(words), Some((0, 0, false)));
-    assert_eq!(rt; reserved(words, 1, 3), Some(false));
-    assert_eq!(rt; reserved(words, 0, 3), Some(true));
-    assert_eq!(rt; said(words), Some((3, 0, false)));
+    expect_said(rt, words, (0, 0, false));
+    expect_exchange(rt, words, 1, 3, false);
+    expect_exchange(rt, words, 0, 3, true);
+    expect_said(rt, words, (3, 0, false));
 }
 
 /// Writes a command, and flips the run of three.
 fn writes_and_flips(rt: &impl Abort, words: &mut RingWords) {
-    assert_eq!(rt; written(words, 2, 0x100001046, 0x40000000), Some(()));
-    assert_eq!(rt; halves(words, 2), Some((0x100001046, 0x40000000)));
-    assert_eq!(rt; ready(words, 0, 64), Some(0));
-    assert_eq!(rt; flipped(words, 0, 3), Some(()));
-    assert_eq!(rt; ready(words, 0, 64), Some(3));
-    assert_eq!(rt; ready(words, 0, 2), Some(2));
+    expect_written(rt, words, 2, 0x100001046, 0x40000000);
+    expect_ready(rt, words, 0, 64, 0);
+    flip(rt, words, 0, 3);
+    expect_ready(rt, words, 0, 64, 3);
+    expect_ready(rt, words, 0, 2, 2);
 }
 
 /// Advances past the three. The next run goes over the ring's end, where the flags turn back.
 fn goes_over_the_end(rt: &impl Abort, words: &mut RingWords) {
-    assert_eq!(rt; advanced(words, 0, 3), Some(()));
-    assert_eq!(rt; said(words), Some((3, 3, false)));
-    assert_eq!(rt; ready(words, 3, 64), Some(0));
-    assert_eq!(rt; flipped(words, 3, 3), Some(()));
-    assert_eq!(rt; ready(words, 3, 64), Some(3));
+    advance(rt, words, 0, 3);
+    expect_said(rt, words, (3, 3, false));
+    expect_ready(rt, words, 3, 64, 0);
+    flip(rt, words, 3, 3);
+    expect_ready(rt, words, 3, 64, 3);
 }
 
 #[test]
@@ -101,7 +99,7 @@ fn one_operation_after_another(rt: HostRuntime) {
     writes_and_flips(&rt, &mut words);
     goes_over_the_end(&rt, &mut words);
     words.close();
-    assert_eq!(rt; said(&words), Some((3, 3, true)));
+    expect_said(&rt, &words, (3, 3, true));
 }
 
 /// What a sender's cell holds, after this number was stored there.

@@ -29,14 +29,29 @@ fn slots(view: &SenderView, geometry: Geometry) -> Option<[Option<u32>; 4]> {
     ])
 }
 
+/// Wants these words as a command of the view's reservation.
+fn expect_words(rt: &impl Abort, view: &SenderView, offset: u32, wanted: Option<(u64, u64)>) {
+    assert_eq!(rt; words_at(view, offset), wanted);
+}
+
+/// Wants the view's reservation to hold the slots at these offsets.
+fn expect_slots(rt: &impl Abort, view: &SenderView, geometry: Geometry, wanted: [Option<u32>; 4]) {
+    assert_eq!(rt; slots(view, geometry), Some(wanted));
+}
+
+/// Wants it to have looked at this since its last exchange, or not to.
+fn expect_looked(rt: &impl Abort, view: &SenderView, found: &Control, wanted: bool) {
+    assert_eq!(rt; view.expects(found), wanted);
+}
+
 /// What it knows once it looked, and reserved two slots of four from position 3 on, so that they go over the ring's end.
 fn with_two_reserved(rt: &impl Abort, found: &Control) -> SenderView {
     let mut view = SenderView::new();
-    assert!(rt; !view.expects(found));
+    expect_looked(rt, &view, found, false);
     view.looks(found);
-    assert!(rt; view.expects(found));
+    expect_looked(rt, &view, found, true);
     assert_eq!(rt; view.wins(7, &[CFGI_ALL], true, 3), Some(1));
-    assert!(rt; !view.expects(found));
+    expect_looked(rt, &view, found, false);
     assert_eq!(rt; (view.start(), view.len()), (3, 2));
     view
 }
@@ -48,10 +63,10 @@ fn held(view: &SenderView) -> (bool, bool, bool, bool) {
 
 /// The command and its CMD_SYNC, and where they stand.
 fn has_both(rt: &impl Abort, view: &SenderView, geometry: Geometry) {
-    assert_eq!(rt; words_at(view, 0), Some((0x4, 31)));
-    assert_eq!(rt; words_at(view, 1), Some((0x1_0000_1046, 0x4000_001C)));
-    assert_eq!(rt; words_at(view, 2), None);
-    assert_eq!(rt; slots(view, geometry), Some([Some(1), None, None, Some(0)]));
+    expect_words(rt, view, 0, Some((0x4, 31)));
+    expect_words(rt, view, 1, Some((0x1_0000_1046, 0x4000_001C)));
+    expect_words(rt, view, 2, None);
+    expect_slots(rt, view, geometry, [Some(1), None, None, Some(0)]);
     assert_eq!(rt; held(view), (false, true, true, false));
 }
 
@@ -86,11 +101,11 @@ fn one_batch(rt: HostRuntime) {
     has_both(&rt, &view, geometry);
     writes_all(&rt, &mut view);
     flips_both(&rt, &mut view);
-    assert_eq!(rt; slots(&view, geometry), Some([None; 4]));
+    expect_slots(&rt, &view, geometry, [None; 4]);
     assert!(rt; !view.holds(3));
     view.looks(&found);
     view.loses();
-    assert!(rt; !view.expects(&found));
+    expect_looked(&rt, &view, &found, false);
 }
 
 /// Why the first reserve of a sender is refused that found this control word.
@@ -102,24 +117,39 @@ fn refusal(word: u64, body: &[Raw], closes: bool) -> Option<StepFault> {
     view.reserve_fault(geometry, body, closes)
 }
 
+/// Wants such a reserve to be refused for this fault, or not to be.
+fn expect_refusal(
+    rt: &impl Abort,
+    word: u64,
+    body: &[Raw],
+    closes: bool,
+    wanted: Option<StepFault>,
+) {
+    assert_eq!(rt; refusal(word, body, closes), wanted);
+}
+
 #[test]
 fn a_reserve_needs_room(rt: HostRuntime) {
+    let both = [CFGI_ALL, CFGI_ALL];
     let sync = Raw { lo: 0x46, hi: 0 };
     // Two of four slots are taken.
-    assert_eq!(rt; refusal(0x3_0000_0005, &[CFGI_ALL], true), None);
-    assert_eq!(rt; refusal(0x3_0000_0005, &[CFGI_ALL, CFGI_ALL], false), None);
-    assert_eq!(rt;
-        refusal(0x3_0000_0005, &[CFGI_ALL, CFGI_ALL], true),
-        Some(StepFault::NoRoom)
-    );
+    expect_refusal(&rt, 0x3_0000_0005, &[CFGI_ALL], true, None);
+    expect_refusal(&rt, 0x3_0000_0005, &both, false, None);
+    expect_refusal(&rt, 0x3_0000_0005, &both, true, Some(StepFault::NoRoom));
     // The closed bit is set.
-    assert_eq!(rt;
-        refusal(0x3_8000_0003, &[CFGI_ALL], true),
-        Some(StepFault::NoRoom)
+    expect_refusal(
+        &rt,
+        0x3_8000_0003,
+        &[CFGI_ALL],
+        true,
+        Some(StepFault::NoRoom),
     );
-    assert_eq!(rt; refusal(0x3_0000_0003, &[], true), Some(StepFault::BadBody));
-    assert_eq!(rt;
-        refusal(0x3_0000_0003, &[CFGI_ALL, sync], true),
-        Some(StepFault::BadBody)
+    expect_refusal(&rt, 0x3_0000_0003, &[], true, Some(StepFault::BadBody));
+    expect_refusal(
+        &rt,
+        0x3_0000_0003,
+        &[CFGI_ALL, sync],
+        true,
+        Some(StepFault::BadBody),
     );
 }

@@ -97,7 +97,7 @@ pub fn expect_answers<R: AllocGlobal + Abort>(rt: &R, core: &mut Core, text: &st
         if !line.starts_with("#") {
             let (asked, wanted) = line.split_once(" = ").unwrap_or((line, ""));
             let found = answer(rt.alloc(), core, asked).expect(rt, line);
-            assert_eq!(rt; found.as_str(), wanted, "{line}");
+            assert!(rt; found.as_str() == wanted, "{line}, not {found}");
         }
     }
 }

@@ -3,6 +3,7 @@ use crate::ringcore_tests::machine::calls::expect_answers;
 use crate::ringcore_tests::machine::steps::steps;
 use ringcore::{Core, CoreFault, Step, StepFault, run};
 use std::alloc::Global;
+use std::process::Abort;
 
 /// Sender 1 sends two batches of two commands, which are taken: then the control word is again what sender 0
 /// looked at.
@@ -52,11 +53,23 @@ fn two_laps_are_answered(rt: HostRuntime) {
     expect_answers(&rt, &mut core, TWO_LAPS);
 }
 
+/// The machine that has played the steps of a text, of which this one was to be refused.
+fn played<R: AllocGlobal + Abort>(
+    rt: &R,
+    log2: u32,
+    senders: u32,
+    text: &str,
+    wanted: Option<(usize, StepFault)>,
+) -> Core {
+    let steps = steps(rt.alloc(), text).expect(rt, "steps");
+    let (core, refused) = run(rt.alloc(), log2, senders, steps.as_slice()).expect(rt, "a machine");
+    assert_eq!(rt; refused, wanted);
+    core
+}
+
 #[test]
 fn the_control_word_returns_after_two_laps(rt: HostRuntime) {
-    let steps = steps(rt.alloc(), TWO_LAPS).expect(&rt, "steps");
-    let (mut core, refused) = run(rt.alloc(), 1, 2, steps.as_slice()).expect(&rt, "a machine");
-    assert_eq!(rt; refused, Some((36, StepFault::NoRoom)));
+    let mut core = played(&rt, 1, 2, TWO_LAPS, Some((36, StepFault::NoRoom)));
     // The steps before it are done: sender 0 has both slots, in the first lap's indexes.
     expect_answers(
         &rt,
@@ -69,16 +82,13 @@ fn the_control_word_returns_after_two_laps(rt: HostRuntime) {
 
 #[test]
 fn a_list_may_be_empty(rt: HostRuntime) {
-    let (mut core, refused) = run(rt.alloc(), 19, 256, &[]).expect(&rt, "a machine");
-    assert_eq!(rt; refused, None);
+    let mut core = played(&rt, 19, 256, "", None);
     expect_answers(&rt, &mut core, "control = open 0 0");
 }
 
 #[test]
 fn a_list_may_be_without_fault(rt: HostRuntime) {
-    let steps = steps(rt.alloc(), "look 1\nbare 1 1 2").expect(&rt, "steps");
-    let (mut core, refused) = run(rt.alloc(), 1, 2, steps.as_slice()).expect(&rt, "a machine");
-    assert_eq!(rt; refused, None);
+    let mut core = played(&rt, 1, 2, "look 1\nbare 1 1 2", None);
     expect_answers(&rt, &mut core, "control = open 2 0");
 }
 
@@ -87,14 +97,24 @@ fn why_not(alloc: Global, log2: u32, senders: u32) -> Option<CoreFault> {
     run(alloc, log2, senders, &[Step::Look { who: Some(0) }]).err()
 }
 
+/// Wants no machine of these numbers, for this fault, or wants one.
+fn expect_fault<R: AllocGlobal + Abort>(
+    rt: &R,
+    log2: u32,
+    senders: u32,
+    wanted: Option<CoreFault>,
+) {
+    assert_eq!(rt; why_not(rt.alloc(), log2, senders), wanted);
+}
+
 // The size is told first.
 #[test]
 fn numbers_out_of_range_make_no_machine(rt: HostRuntime) {
-    assert_eq!(rt; why_not(rt.alloc(), 0, 1), Some(CoreFault::Size));
-    assert_eq!(rt; why_not(rt.alloc(), 20, 1), Some(CoreFault::Size));
-    assert_eq!(rt; why_not(rt.alloc(), 1, 0), Some(CoreFault::Senders));
-    assert_eq!(rt; why_not(rt.alloc(), 1, 257), Some(CoreFault::Senders));
-    assert_eq!(rt; why_not(rt.alloc(), 20, 257), Some(CoreFault::Size));
-    assert_eq!(rt; why_not(rt.alloc(), 1, 1), None);
-    assert_eq!(rt; why_not(rt.alloc(), 1, 256), None);
+    expect_fault(&rt, 0, 1, Some(CoreFault::Size));
+    expect_fault(&rt, 20, 1, Some(CoreFault::Size));
+    expect_fault(&rt, 1, 0, Some(CoreFault::Senders));
+    expect_fault(&rt, 1, 257, Some(CoreFault::Senders));
+    expect_fault(&rt, 20, 257, Some(CoreFault::Size));
+    expect_fault(&rt, 1, 1, None);
+    expect_fault(&rt, 1, 256, None);
 }

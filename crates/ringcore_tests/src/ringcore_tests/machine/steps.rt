@@ -71,36 +71,61 @@ fn reserve(name: &str, rest: &str) -> Option<Step> {
     })
 }
 
-/// A step that has numbers alone, of which this is the first.
-fn numbered(name: &str, first: u32, words: &mut SplitWhitespace<'_>) -> Option<Step> {
+/// A step that has one number.
+fn of_one(name: &str, number: u32) -> Option<Step> {
     match name {
-        "look" => Some(Step::Look { who: Some(first) }),
-        "advance" => Some(Step::Advance { count: first }),
-        "close" => Some(Step::Close { sender: first }),
-        "ask" => Some(Step::Ask { sender: first }),
+        "look" => Some(Step::Look { who: Some(number) }),
+        "advance" => Some(Step::Advance { count: number }),
+        "close" => Some(Step::Close { sender: number }),
+        "ask" => Some(Step::Ask { sender: number }),
+        _ => None,
+    }
+}
+
+/// A step that has two numbers.
+fn of_two(name: &str, first: u32, second: u32) -> Option<Step> {
+    match name {
         "test" => Some(Step::Test {
             slot: first,
-            count: next_number(words)?,
+            count: second,
         }),
         "read" => Some(Step::Read {
             slot: first,
-            half: next_number(words)?,
+            half: second,
         }),
         "ack" => Some(Step::Acknowledge {
             sender: first,
-            number: next_number(words)?,
-        }),
-        "write" => Some(Step::Write {
-            sender: first,
-            slot: next_number(words)?,
-            half: next_number(words)?,
-        }),
-        "flip" => Some(Step::Flip {
-            sender: first,
-            slot: next_number(words)?,
-            count: next_number(words)?,
+            number: second,
         }),
         _ => None,
+    }
+}
+
+/// A step of a sender at a slot, with a half or a count.
+fn of_three(name: &str, sender: u32, slot: u32, last: u32) -> Option<Step> {
+    match name {
+        "write" => Some(Step::Write {
+            sender,
+            slot,
+            half: last,
+        }),
+        "flip" => Some(Step::Flip {
+            sender,
+            slot,
+            count: last,
+        }),
+        _ => None,
+    }
+}
+
+/// A step that has the numbers of a text alone.
+fn numbered(name: &str, text: &str) -> Option<Step> {
+    let mut words = text.split_whitespace();
+    let first = next_number(&mut words)?;
+    match (next_number(&mut words), next_number(&mut words)) {
+        (None, _) => of_one(name, first),
+        (Some(second), None) => of_two(name, first, second),
+        (Some(second), Some(third)) => of_three(name, first, second, third),
     }
 }
 
@@ -113,9 +138,7 @@ pub fn step(line: &str) -> Option<Step> {
     if name.contains("reserve") || name.contains("bare") {
         return reserve(name, rest);
     }
-    let mut words = rest.split_whitespace();
-    let first = next_number(&mut words)?;
-    numbered(name, first, &mut words)
+    numbered(name, rest)
 }
 
 /// The steps of a text, without the answers that may stand behind them.
