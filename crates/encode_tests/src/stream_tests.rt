@@ -51,6 +51,9 @@ fn failed_write_leaves_a_beginning(rt: HostRuntime) {
     for (kind, lines, first) in WORKED {
         let mut output = Sink::new(9, 2, PIPE);
         let ended = kind.status_of(rt.alloc(), &mut lines.as_bytes(), &mut output);
-        assert_eq!(rt; (ended, Some(output.text())), (Status::WriteFailed, first.get(..9)));
+        assert_eq!(rt;
+            (ended, Some(output.text())),
+            (Status::WriteFailed, first.get(..9))
+        );
     }
 }

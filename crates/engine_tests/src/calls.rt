@@ -171,14 +171,20 @@ pub fn expect_answers<R: AllocGlobal + Abort>(
 }
 
 /// A new ring of `2^log2` slots, its only sender, who may send so many batches, and an engine with so many entries.
-pub fn start<R: AllocGlobal + Abort>(rt: &R, log2: u32, max_batches: u32, capacity: u32) -> (Ring, Vec<Sender>, Parts)
+pub fn start<R: AllocGlobal + Abort>(
+    rt: &R,
+    log2: u32,
+    max_batches: u32,
+    capacity: u32,
+) -> (Ring, Vec<Sender>, Parts)
     ensures senders { result.1.items ≡ [] }
     ensures one { result.0.made_with.senders ≡ 1 }
     ensures sender { result.2.sender.ring ≡ result.0 }
     ensures number { result.2.sender.number ≡ 0 }
     ensures engine { result.2.engine.consumer.ring ≡ result.0 }
 {
-    let (ring, mut senders, consumer) = Ring::new(rt.alloc(), log2, 1, max_batches).expect(rt, "a ring");
+    let made = Ring::new(rt.alloc(), log2, 1, max_batches);
+    let (ring, mut senders, consumer) = made.expect(rt, "a ring");
     let sender = senders.pop().expect(rt, "one sender");
     let caches = Caches::new(rt.alloc(), capacity).expect(rt, "caches");
     let engine = Engine::new(consumer, caches);

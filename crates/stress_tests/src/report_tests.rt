@@ -106,7 +106,10 @@ fn eight_senders_and_many_batches(rt: HostRuntime) {
     let (summary, counts) = (report.summary(), report.counts());
     let sent = (summary.reserved(), summary.taken());
     let counted = (counts.syncs(), counts.applied(), counts.removed());
-    assert_eq!(rt; (sent, counted), ((560_000, 560_000), (160_000, 560_000, 8)));
+    assert_eq!(rt;
+        (sent, counted),
+        ((560_000, 560_000), (160_000, 560_000, 8))
+    );
     assert_eq!(rt; report.done(), &[20_000u32; 8][..]);
 }
 
