@@ -8,7 +8,9 @@ use crate::reserving;
 use crate::steps::{Head, take_one};
 use batch::Batch;
 use qindex::Control;
-use ring::{Bare, Closing, IdleConsumer, IdleReservation, IdleSender, Keeper, Receipt, Ring};
+use ring::{
+    Bare, BatchKind, Closing, IdleConsumer, IdleReservation, IdleSender, Keeper, Receipt, Ring,
+};
 use std::process::Abort;
 
 /// Has a sender send a batch at the first try.
@@ -35,8 +37,8 @@ pub fn send(
     (keeper.take_sender(ring, sender), receipt)
 }
 
-/// Has a sender reserve slots for a batch and its closing CMD_SYNC.
-pub fn reserve(
+/// Has a sender reserve slots for a batch of this kind.
+pub fn reserve<K: BatchKind>(
     rt: &impl Abort,
     ring: &Ring,
     keeper: &mut Keeper,
@@ -50,37 +52,15 @@ pub fn reserve(
     ensures ring { keeper.new.ring ≡ ring.now }
     ensures whole { keeper.new.lent ≡ None }
     ensures id { result.tally.sender ≡ idle.sender }
-    ensures closes { result.closes ≡ true }
+    ensures closes { result.closes ≡ K.closes }
     ensures idle { IsIdleReservation keeper.new batch.now result }
     ensures consumer { ConsumerStays keeper.old keeper.new }
 {
     let sender = keeper.lend_sender(ring, idle);
-    let reservation = reserving::reserve(rt, ring, sender, batch);
-    keeper.take_reservation(ring, reservation)
-}
-
-/// The same for a batch alone.
-pub fn reserve_bare(
-    rt: &impl Abort,
-    ring: &Ring,
-    keeper: &mut Keeper,
-    idle: IdleSender,
-    batch: &Batch,
-) -> IdleReservation
-    requires ring { keeper.old.ring ≡ ring.now }
-    requires whole { keeper.old.lent ≡ None }
-    requires known { idle.sender < ring.now.made_with.senders }
-    requires idle { IsIdleSender keeper.old idle }
-    ensures ring { keeper.new.ring ≡ ring.now }
-    ensures whole { keeper.new.lent ≡ None }
-    ensures id { result.tally.sender ≡ idle.sender }
-    ensures closes { result.closes ≡ false }
-    ensures idle { IsIdleReservation keeper.new batch.now result }
-    ensures consumer { ConsumerStays keeper.old keeper.new }
-{
-    let sender = keeper.lend_sender(ring, idle);
-    let reservation = reserving::reserve_bare(rt, ring, sender, batch);
-    keeper.take_reservation(ring, reservation)
+    match sender.reserve_as::<K>(ring, batch.as_borrowed()) {
+        Ok(reservation) => keeper.take_reservation(ring, reservation),
+        Err(_) => panic!(rt; "the batch is refused"),
+    }
 }
 
 /// Hands over a whole batch: the receipt of its CMD_SYNC.

@@ -5,11 +5,11 @@ ghost use Rattle.ring.specs.Keepers.{IsKept};
 use crate::batches::{CFGI_STE, batch_of};
 use crate::device::NoEntries;
 use crate::keeper_calls::{
-    expect_batch, expect_head, expect_steps, publish, publish_bare, reserve, reserve_bare, send,
+    expect_batch, expect_head, expect_steps, publish, publish_bare, reserve, send,
 };
 use crate::reserving::expect_receipt;
 use crate::steps::Head;
-use ring::{IdleConsumer, IdleReservation, IdleSender, Keeper, Ring, RingFault};
+use ring::{Bare, Closing, IdleConsumer, IdleReservation, IdleSender, Keeper, Ring, RingFault};
 use std::process::Abort;
 
 /// A ring of eight slots and two senders whose seats are all a keeper's.
@@ -60,7 +60,7 @@ fn expect_idle(rt: &impl Abort, idle: &IdleReservation, number: Option<u32>) {
 fn a_reservation_waits_for_its_batch(rt: HostRuntime) {
     let (ring, mut keeper, consumer) = kept_ring(&rt);
     let one = batch_of(&rt, 1);
-    let idle = reserve(&rt, &ring, &mut keeper, IdleSender::new(0), &one);
+    let idle = reserve::<Closing>(&rt, &ring, &mut keeper, IdleSender::new(0), &one);
     expect_idle(&rt, &idle, Some(1));
     let consumer = expect_head(&rt, &ring, &mut keeper, consumer, Head::Unwritten);
     let receipt = publish(&ring, &mut keeper, idle, &one);
@@ -72,7 +72,7 @@ fn a_reservation_waits_for_its_batch(rt: HostRuntime) {
 fn a_bare_reservation_waits_for_its_batch(rt: HostRuntime) {
     let (ring, mut keeper, consumer) = kept_ring(&rt);
     let one = batch_of(&rt, 1);
-    let idle = reserve_bare(&rt, &ring, &mut keeper, IdleSender::new(0), &one);
+    let idle = reserve::<Bare>(&rt, &ring, &mut keeper, IdleSender::new(0), &one);
     expect_idle(&rt, &idle, None);
     publish_bare(&ring, &mut keeper, idle, &one);
     expect_head(&rt, &ring, &mut keeper, consumer, Head::Command(CFGI_STE));
@@ -83,7 +83,7 @@ fn steps_amid_a_reservation(rt: HostRuntime) {
     let (ring, mut keeper, _) = kept_ring(&rt);
     assert_eq!(rt; keeper.control(&ring).prod.get(), 0);
     let one = batch_of(&rt, 1);
-    let idle = reserve(&rt, &ring, &mut keeper, IdleSender::new(0), &one);
+    let idle = reserve::<Closing>(&rt, &ring, &mut keeper, IdleSender::new(0), &one);
     expect_steps(&rt, &ring, &mut keeper, 0);
     let receipt = publish(&ring, &mut keeper, idle, &one);
     expect_receipt(&rt, &receipt, 0, 1);

@@ -53,9 +53,7 @@ pub fn reserve_bare<'b>(
     batch: &'b Batch,
 ) -> BareReservation<'b>
     requires { sender.ring ≡ ring.now }
-    ensures ring { result.ring ≡ ring.now }
-    ensures id { result.sender ≡ sender.number }
-    ensures body { result.body ≡ batch.now }
+    ensures { result.ring ≡ ring.now }
 {
     match sender.reserve_bare(ring, batch) {
         Ok(reservation) => reservation,
