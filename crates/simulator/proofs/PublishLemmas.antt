@@ -8,14 +8,7 @@ use Rattle.cmdcodec.specs.declared.raw.Raw.{Raw}
 use Rattle.cmdcodec.specs.Bodies.{IsBody}
 use Rattle.qindex.specs.Positions.{IndexValue, size, place, index_of}
 use Rattle.qindex.specs.Laws.{IndexesTellPlaceAndWrapBit}
-use Rattle.ringcore.specs.declared.world.event.Who.{Who}
-use Rattle.ringcore.specs.declared.world.event.Who.TheVariants.{Sender}
-use Rattle.ringcore.specs.declared.world.event.Half.TheVariants.{Lo, Hi}
-use Rattle.ringcore.specs.declared.world.event.Event.{Event}
-use Rattle.ringcore.specs.declared.world.event.Event.TheVariants.{Write, Flip}
-use Rattle.ringcore.specs.world.Trails.{Trail, Run, trail_of, reserved_length, start_index}
-use Rattle.ringcore.specs.world.World.{world}
-use Rattle.ringcore.specs.world.Allowed.{Ring, IsRun, length_with}
+use Rattle.ring.specs.Runs.{Who, Sender, Lo, Hi, Event, Write, Flip, Trail, Run, trail_of, reserved_length, start_index, world, Ring, IsRun, length_with}
 use Rattle.ringcore.specs.memory.Flags.{shared_word, flag_bit, IndexesTellSharedWords, BatchesHaveTwoFlagWords}
 use Rattle.ringcore.specs.memory.SenderLaws.{StartsAtItsIndex}
 use Rattle.ring.specs.Rings.{RingValue}
@@ -24,8 +17,7 @@ use Rattle.ring.specs.Keepers.{KeeperValue, IdleReservationValue, Adds, own_rese
 use Rattle.ring.specs.sender.Senders.{SenderValue}
 use Rattle.ring.specs.sender.Reservations.{ReservationValue, reserved_number, number_when}
 use Rattle.ring.specs.sender.Publishing.{wrote_one, wrote_many, flipped_left, sender_of, published as published_by_ring}
-use Rattle.simulator.specs.queue.Publishing.{written, flipped, first_flags, published}
-use Rattle.simulator.specs.queue.Trying.{reserved_as, IsTriedWell, HasSent}
+use Rattle.simulator.specs.queue.{written, flipped, first_flags, published, reserved_as, IsTriedWell, HasSent}
 use Rattle.simulator.proofs.SeatLemmas.{IsCall, length_some}
 
 -- The trail has some events more than this one, and the run has just these more.

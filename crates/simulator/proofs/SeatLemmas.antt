@@ -5,11 +5,7 @@ use Rattle.std.proofs.lemmas.List.{length-set, get_or-set_same, get_or-set_other
 use Rattle.std.proofs.Math.ListN.{get_or-append}
 use Rattle.std.specs.Prelude.{None, ◌⊎◌, ◌||◌, nat_lt, slice_index_or, slice_set}
 use Rattle.cmdcodec.specs.declared.raw.Raw.{Raw}
-use Rattle.ringcore.specs.declared.world.event.Who.{Who}
-use Rattle.ringcore.specs.declared.world.event.Who.TheVariants.{Sender, Consumer}
-use Rattle.ringcore.specs.declared.world.event.Event.{Event}
-use Rattle.ringcore.specs.world.Trails.{Trail, trail_of, reserved_length, has_flipped, IsSettled}
-use Rattle.ringcore.specs.world.Allowed.{Ring, length_with}
+use Rattle.ring.specs.Runs.{Who, Sender, Consumer, Event, Trail, trail_of, reserved_length, has_flipped, IsSettled, Ring, length_with}
 use Rattle.ringcore.specs.machine.Open.{some_below, is_open}
 use Rattle.ring.specs.Rings.{RingValue}
 use Rattle.ring.specs.NewRings.{made_with}
@@ -18,7 +14,7 @@ use Rattle.ring.specs.table.Keeping.{RunStands}
 use Rattle.ring.specs.Keepers.{KeeperValue, IdleReservationValue, Adds, has_lent, has_back, with_step, KeepsAll, KeepsOthers, IsIdleSender, IsIdleReservation}
 use Rattle.simulator.specs.declared.queue.Seat.{Seat}
 use Rattle.simulator.specs.declared.queue.Seat.TheVariants.{Idle, Open}
-use Rattle.simulator.specs.queue.Seated.{QueueValue, ring_in, IsIdleSeat, IsOpenSeat, IsSeatOf, IsNewSeat, AreNew, IsQueue, IsBack}
+use Rattle.simulator.specs.queue.{QueueValue, ring_in, IsIdleSeat, IsOpenSeat, IsSeatOf, IsNewSeat, AreNew, IsQueue, IsBack}
 
 -- ---- a seat is lent, and comes back
 

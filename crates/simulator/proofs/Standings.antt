@@ -1,22 +1,16 @@
 -- What calls of a sender keep of a state, and how a simulator stands after them.
 use Rattle.std.proofs.Common.{◌≡◌, refl, ap, ap₂, sym, subst, ◌∙◌, ℕ, zero, suc, ◌-◌, Bool, List, Option, Some, None, Result, Ok, Err}
 use Rattle.cmdcodec.specs.declared.raw.Raw.{Raw}
-use Rattle.ringcore.specs.declared.world.event.Who.TheVariants.{Sender}
-use Rattle.ringcore.specs.world.Trails.{Run, trail_of, reserved_length}
-use Rattle.ringcore.specs.world.World.{Taken, world}
-use Rattle.ringcore.specs.world.Allowed.{Ring, length_with}
+use Rattle.ring.specs.Runs.{Sender, Run, trail_of, reserved_length, Taken, world, Ring, length_with}
 use Rattle.ring.specs.declared.sender.cause.Cause.{Cause}
 use Rattle.ring.specs.Rings.{RingValue}
 use Rattle.ring.specs.Keepers.{KeeperValue}
 use Rattle.engine.specs.Units.{UnitValue}
 use Rattle.ring.specs.sender.Reservations.{reserved_number}
 use Rattle.simulator.specs.declared.queue.reserved.Reserved.{Reserved}
-use Rattle.simulator.specs.queue.Reserving.{Try, cause_ahead, cause_seen, unless_seen, unless_ahead, try_to_reserve}
-use Rattle.simulator.specs.queue.Trying.{tried_by, HasSent}
-use Rattle.simulator.specs.queue.Publishing.{written, flipped, first_flags, published}
+use Rattle.simulator.specs.queue.{Try, cause_ahead, cause_seen, unless_seen, unless_ahead, try_to_reserve, tried_by, HasSent, written, flipped, first_flags, published}
 use Rattle.simulator.specs.State.{State, Answered, counts_of, unit_of}
-use Rattle.simulator.specs.Seats.{with_run, handed_over, sent}
-use Rattle.simulator.specs.Standing.{StandFor}
+use Rattle.simulator.specs.{with_run, handed_over, sent, StandFor}
 
 -- Nothing more is taken.
 abbrev pub TakesNone : Run → Run → Type 0

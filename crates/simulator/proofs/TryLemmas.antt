@@ -7,12 +7,7 @@ use Rattle.qindex.specs.declared.control.Control.{Control}
 use Rattle.qindex.specs.Positions.{IndexValue, size, index_of}
 use Rattle.qindex.specs.Indexes.{IsGeometry, distance}
 use Rattle.qindex.specs.Laws.{IndexesTellTheQueue}
-use Rattle.ringcore.specs.declared.world.event.Who.TheVariants.{Sender}
-use Rattle.ringcore.specs.declared.world.event.Event.TheVariants.{Look, Won, Lost}
-use Rattle.ringcore.specs.world.Trails.{Trail, Run, trail_of, batches_made, start_index}
-use Rattle.ringcore.specs.world.World.{tail, head, world, control}
-use Rattle.ringcore.specs.world.Allowed.{Ring, IsRun, MayLose, length_with}
-use Rattle.ringcore.specs.world.Laws.{NeverMoreThanFull}
+use Rattle.ring.specs.Runs.{Sender, Look, Won, Lost, Trail, Run, trail_of, batches_made, start_index, tail, head, world, control, Ring, IsRun, MayLose, length_with, NeverMoreThanFull}
 use Rattle.ringcore.specs.machine.StepAnswers.{next_number}
 use Rattle.ring.specs.Rings.{RingValue}
 use Rattle.ring.specs.Keepers.{KeeperValue, IdleReservationValue, own_sender, IsIdleReservation, IsLeftOf, IsIdleSender}
@@ -23,8 +18,7 @@ use Rattle.ring.specs.sender.Senders.{SenderValue}
 use Rattle.ring.specs.sender.Reservations.{ReservationValue, reserved_number, number_when}
 use Rattle.ring.specs.sender.Reserving.{IsReserved, IsRefused}
 use Rattle.simulator.specs.declared.queue.reserved.Reserved.{Reserved}
-use Rattle.simulator.specs.queue.Reserving.{looked_by, cause_ahead, cause_seen, Try, refused_for, won, unless_seen, unless_ahead, try_to_reserve}
-use Rattle.simulator.specs.queue.Trying.{tried_by, IsTriedWell, IsTriedInVain}
+use Rattle.simulator.specs.queue.{looked_by, cause_ahead, cause_seen, Try, refused_for, won, unless_seen, unless_ahead, try_to_reserve, tried_by, IsTriedWell, IsTriedInVain}
 use Rattle.simulator.proofs.SeatLemmas.{IsCall}
 
 -- ---- how a try is answered

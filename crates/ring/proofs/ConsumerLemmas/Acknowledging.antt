@@ -4,12 +4,9 @@ use Rattle.std.specs.Prelude.{slice_get}
 use Rattle.cmdcodec.specs.declared.raw.Raw.{Raw}
 use Rattle.cmdcodec.specs.Opcodes.{is_sync}
 use Rattle.cmdcodec.specs.ClosingSync.{cell_address}
-use Rattle.ringcore.specs.declared.world.event.Event.TheVariants.{Acknowledge}
-use Rattle.ringcore.specs.world.Trails.{Trail, raws_by, acknowledged_by}
-use Rattle.ringcore.specs.world.Laws.{is_sync_to, syncs_in, syncs_taken, SyncsAreInOrder, IsNextSync, SyncsAddUp, SyncsTellTheirBatch}
-use Rattle.ringcore.specs.world.ConsumerLaws.{SyncsOfRawsAreCounted}
-use Rattle.ring.specs.table.Ports.{PortValue}
-use Rattle.ring.specs.consumer.Completing.{sync_sender, sync_number, acknowledged, all_acknowledged, without_newest, HasAdvanced, IsClosingSync}
+use Rattle.ring.specs.Runs.{Acknowledge, Trail, raws_by, acknowledged_by, is_sync_to, syncs_in, syncs_taken, SyncsAreInOrder, IsNextSync, SyncsAddUp, SyncsTellTheirBatch, SyncsOfRawsAreCounted}
+use Rattle.ring.specs.table.{PortValue}
+use Rattle.ring.specs.consumer.{sync_sender, sync_number, acknowledged, all_acknowledged, without_newest, HasAdvanced, IsClosingSync}
 use Rattle.ring.proofs.ConsumerLemmas.Runs.{take_more, split_at}
 
 -- ---- acknowledgements change nothing else

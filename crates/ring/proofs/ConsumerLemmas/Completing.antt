@@ -6,14 +6,9 @@ use Rattle.std.proofs.lemmas.List.{map-append}
 use Rattle.cmdcodec.specs.declared.raw.Raw.{Raw}
 use Rattle.cmdcodec.specs.ClosingSync.{cell_address}
 use Rattle.qindex.specs.Positions.{IndexValue, index_of}
-use Rattle.ringcore.specs.declared.world.event.Outcome.{Outcome}
-use Rattle.ringcore.specs.declared.world.event.Event.TheVariants.{Advance}
-use Rattle.ringcore.specs.world.Trails.{Trail, raws_by, taken_by, acknowledged_by}
-use Rattle.ringcore.specs.world.World.{Taken, taken_as}
-use Rattle.ringcore.specs.world.Laws.{syncs_taken}
-use Rattle.ring.specs.table.Ports.{PortValue}
-use Rattle.ring.specs.consumer.Consumers.{IsConsumer}
-use Rattle.ring.specs.consumer.Completing.{completed_trail, taken_of, with_outcome, HasOutcome}
+use Rattle.ring.specs.Runs.{Outcome, Advance, Trail, raws_by, taken_by, acknowledged_by, Taken, taken_as, syncs_taken}
+use Rattle.ring.specs.table.{PortValue}
+use Rattle.ring.specs.consumer.{IsConsumer, completed_trail, taken_of, with_outcome, HasOutcome}
 use Rattle.ring.proofs.ConsumerLemmas.Acknowledging.{acknowledged_keep}
 
 pub owner_there : (owner : Option ℕ) (address : ℕ) → MatchOption owner ((s : ℕ) → address ≢ cell_address s) (λ s. address ≡ cell_address s) → (s : ℕ) → address ≡ cell_address s → IsSome owner

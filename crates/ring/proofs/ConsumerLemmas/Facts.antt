@@ -1,16 +1,10 @@
 -- What the consumer's trail tells of itself, by the laws of every run.
 use Rattle.std.proofs.Common.{◌≡◌, ℕ, zero, suc, List, ◌+◌, ◌<◌, ◌≤◌, ◌^◌, ap, ◌∙◌, subst, arith}
 use Rattle.atomic_table.specs.Seated.{TableId}
-use Rattle.ringcore.specs.declared.world.event.Who.{Who}
-use Rattle.ringcore.specs.declared.world.event.Who.TheVariants.{Consumer}
-use Rattle.ringcore.specs.world.Trails.{Trail, Run, raws_by, taken_by, found_ready}
-use Rattle.ringcore.specs.world.World.{World, head, tail, world}
-use Rattle.ringcore.specs.world.Allowed.{Ring}
-use Rattle.ringcore.specs.world.Laws.{EveryRun, ListsAreShort, SyncsAreInOrder}
-use Rattle.ringcore.specs.world.ConsumerLaws.{TellsTheHead, IsReadyAt, FoundIsReady, TookSyncsInOrder, IsSteady, ConsumerIsSteady}
-use Rattle.ring.specs.table.Rule.{Holding, Stands, ring_of, who_of, trail_of_first, history_of_first, IsAlone}
-use Rattle.ring.specs.table.Ports.{PortValue, port_of}
-use Rattle.ring.specs.consumer.Consumers.{KnowsItsSteps}
+use Rattle.ring.specs.Runs.{Who, Consumer, Trail, Run, raws_by, taken_by, found_ready, World, head, tail, world, Ring, EveryRun, ListsAreShort, SyncsAreInOrder, TellsTheHead, IsReadyAt, FoundIsReady}
+use Rattle.ring.specs.Runs.{TookSyncsInOrder, IsSteady, ConsumerIsSteady}
+use Rattle.ring.specs.table.{Holding, Stands, ring_of, who_of, trail_of_first, history_of_first, IsAlone, PortValue, port_of}
+use Rattle.ring.specs.consumer.{KnowsItsSteps}
 
 module _ (short : ListsAreShort) (tells : EveryRun TellsTheHead) (finds : EveryRun FoundIsReady) (order : TookSyncsInOrder) (steady : ConsumerIsSteady) where
   within : (found : ℕ) (w : World) → tail w ≤ 2 ^ 46 → head w ≤ 2 ^ 46 → ((offset : ℕ) → offset < found → IsReadyAt w offset) → head w + found ≤ 2 ^ 46

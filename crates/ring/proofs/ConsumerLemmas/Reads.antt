@@ -1,17 +1,13 @@
 -- Reads of a run, one command after another, and what is found again.
-use Rattle.std.proofs.Common.{◌≡◌, ◌≢◌, ◌<◌, ◌≤◌, ◌+◌, ℕ, zero, suc, Bool, true, cond, ◌&&◌, List, [], ◌∷◌, ◌++◌, length, length-append, Some, refl, sym, ap, subst, ◌∙◌, inl, inr, eq-eqb, ne_eqb, arith}
+use Rattle.std.proofs.Common.{◌≡◌, ◌≢◌, ◌<◌, ◌≤◌, ◌+◌, ℕ, zero, suc, Bool, true, cond, ◌&&◌, List, [], ◌∷◌, ◌++◌, length, length-append, Some, refl, sym, ap, subst, ◌∙◌, inl, inr, eq-eqb, ne_eqb}
+use Rattle.std.proofs.Common.{arith}
 use Rattle.std.proofs.lemmas.Bool.{cases_eq}
 use Rattle.std.proofs.lemmas.Option.{slice_get_within}
 use Rattle.std.specs.Prelude.{slice_get}
 use Rattle.cmdcodec.specs.declared.raw.Raw.{Raw}
-use Rattle.ringcore.specs.declared.world.event.Half.{Half}
-use Rattle.ringcore.specs.declared.world.event.Half.TheVariants.{Lo, Hi}
-use Rattle.ringcore.specs.declared.world.event.Event.TheVariants.{Look, Test, Read}
-use Rattle.ringcore.specs.world.Trails.{Trail, half_read, same_half, head_read}
-use Rattle.ringcore.specs.world.World.{half_of}
-use Rattle.ringcore.specs.world.ConsumerLaws.{IsSteady}
-use Rattle.ring.specs.consumer.Pendings.{HasSeen, reads_from}
-use Rattle.ring.specs.table.Ports.{PortValue}
+use Rattle.ring.specs.Runs.{Half, Lo, Hi, Look, Test, Read, Trail, half_read, same_half, head_read, half_of, IsSteady}
+use Rattle.ring.specs.consumer.{HasSeen, reads_from}
+use Rattle.ring.specs.table.{PortValue}
 use Rattle.qindex.specs.declared.control.Control.{Control}
 
 -- ---- what was read at the head is found again

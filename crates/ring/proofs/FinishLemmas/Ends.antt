@@ -10,20 +10,14 @@ use Rattle.qindex.specs.declared.control.Control.{Control}
 use Rattle.qindex.specs.Indexes.{distance}
 use Rattle.qindex.specs.ControlWord.{IsControl, IsControlWord, control_in}
 use Rattle.qindex.specs.Laws.{QueuesHaveAControl, IndexesTellTheQueue, WordsSayTheirControl}
-use Rattle.ringcore.specs.declared.world.event.Who.TheVariants.{Consumer, Sender}
-use Rattle.ringcore.specs.world.Trails.{Run, trail_of, raws_by, taken_by}
-use Rattle.ringcore.specs.world.World.{tail, head, world, control}
-use Rattle.ringcore.specs.world.Allowed.{Ring, IsRun}
-use Rattle.ringcore.specs.world.Delivery.{Begins, TakenInOrder, NumberedInOrder, NoneAfterClose, ToldWhenCompleted, batches, joined, advanced}
-use Rattle.ringcore.specs.world.Laws.{EveryRun, NeverMoreThanFull, ToldOfAllUpTo, AllOfBatches, ClosedByAClose, BatchesHaveOwners, SendersOrderIsKept, own_batches}
-use Rattle.ringcore.specs.world.ConsumerLaws.{TellsTheHead, TellsWhatIsAdvanced, TellsTheOutcomes, RawsAreCounted, SawDrained, DrainedIsTheEnd}
+use Rattle.ring.specs.Runs.{Consumer, Sender, Run, trail_of, raws_by, taken_by, tail, head, world, control, Ring, IsRun, Begins, TakenInOrder, NumberedInOrder, NoneAfterClose, ToldWhenCompleted}
+use Rattle.ring.specs.Runs.{batches, joined, advanced, EveryRun, NeverMoreThanFull, ToldOfAllUpTo, AllOfBatches, ClosedByAClose, BatchesHaveOwners, SendersOrderIsKept, own_batches, TellsTheHead}
+use Rattle.ring.specs.Runs.{TellsWhatIsAdvanced, TellsTheOutcomes, RawsAreCounted, SawDrained, DrainedIsTheEnd}
 use Rattle.ringcore.specs.memory.StepLaws.{Always, HasAControlWord}
-use Rattle.ring.specs.declared.table.rule.Participant.{Participant}
+use Rattle.ring.specs.table.{Participant, participant, WentOn, IsIn, HasTrails, RuleHolds}
 use Rattle.ring.specs.Rings.{RingValue}
-use Rattle.ring.specs.table.Rule.{participant, WentOn, IsIn, HasTrails, RuleHolds}
-use Rattle.ring.specs.sender.Senders.{SenderValue}
-use Rattle.ring.specs.consumer.Consumers.{ConsumerValue}
-use Rattle.ring.specs.consumer.Completing.{taken_of}
+use Rattle.ring.specs.sender.{SenderValue}
+use Rattle.ring.specs.consumer.{ConsumerValue, taken_of}
 use Rattle.ring.specs.Finishing.{AreAll, sender_in, all_in, IsRunOf, IsEnd}
 use Rattle.ring.proofs.FinishLemmas.Told.{was_told}
 

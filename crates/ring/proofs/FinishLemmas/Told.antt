@@ -1,13 +1,7 @@
 -- An event of a seat's trail stands in the run, and of an ask that stands there the law tells what was completed before.
 use Rattle.std.proofs.Common.{◌≡◌, ℕ, Bool, true, false, cond, eqb-true, [], ◌∷◌, ◌++◌, refl, sym, ap, ◌∙◌}
-use Rattle.ringcore.specs.declared.world.event.Who.{Who}
-use Rattle.ringcore.specs.declared.world.event.Who.TheVariants.{Consumer, Sender}
-use Rattle.ringcore.specs.declared.world.event.Event.{Event}
-use Rattle.ringcore.specs.declared.world.event.Event.TheVariants.{Ask}
-use Rattle.ringcore.specs.world.Trails.{Run, Trail, same, trail_of}
-use Rattle.ringcore.specs.world.Allowed.{Ring}
-use Rattle.ringcore.specs.world.Laws.{EveryRun, ToldOfAllUpTo}
-use Rattle.ring.specs.table.Histories.{IsHistory}
+use Rattle.ring.specs.Runs.{Who, Consumer, Sender, Event, Ask, Run, Trail, same, trail_of, Ring, EveryRun, ToldOfAllUpTo}
+use Rattle.ring.specs.table.{IsHistory}
 use Rattle.ring.specs.Finishing.{WasTold, WasToldAll}
 
 -- where an event of a trail stands in the run

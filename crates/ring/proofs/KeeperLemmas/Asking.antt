@@ -7,23 +7,12 @@ use Rattle.atomic_table.specs.Seated.{TableId}
 use Rattle.cmdcodec.specs.declared.raw.Raw.{Raw}
 use Rattle.qindex.specs.declared.control.Control.{Control}
 use Rattle.qindex.specs.ControlWord.{IsControlWord, control_in}
-use Rattle.ringcore.specs.declared.world.event.Who.TheVariants.{Consumer, Sender}
-use Rattle.ringcore.specs.declared.world.event.Half.{Half}
-use Rattle.ringcore.specs.declared.world.event.Event.{Event}
-use Rattle.ringcore.specs.declared.world.event.Event.TheVariants.{Look, Close, Ask}
-use Rattle.ringcore.specs.world.Trails.{Trail, Run, trail_of, batches_made, numbers_given, reserved_length, has_written, has_flipped, start_index}
-use Rattle.ringcore.specs.world.World.{world, control}
-use Rattle.ringcore.specs.world.Allowed.{Ring, Allowed, IsRun}
+use Rattle.ring.specs.Runs.{Consumer, Sender, Half, Event, Look, Close, Ask, Trail, Run, trail_of, batches_made, numbers_given, reserved_length, has_written, has_flipped, start_index, world, control}
+use Rattle.ring.specs.Runs.{Ring, Allowed, IsRun}
 use Rattle.ringcore.specs.memory.Layout.{control_word}
 use Rattle.ringcore.specs.memory.StepLaws.{Always, HasAControlWord, LooksByALoad, reserved_commands}
-use Rattle.ring.specs.declared.table.rule.Participant.{Participant}
-use Rattle.ring.specs.declared.sender.tally.Tally.{Tally}
-use Rattle.ring.specs.table.Rule.{Holding, RuleHolds, Any, ring_of, history_of_first}
-use Rattle.ring.specs.table.Meetings.{all_knowing, AllSit, has_found}
-use Rattle.ring.specs.table.Keeping.{RunStands, AllKnow}
-use Rattle.ring.specs.table.Ports.{PortValue}
-use Rattle.ring.specs.sender.Senders.{IsTallied, IsSender}
-use Rattle.ring.specs.sender.Reservations.{reserved_number, reserved_body, IsOpen}
+use Rattle.ring.specs.table.{Participant, Holding, RuleHolds, Any, ring_of, history_of_first, all_knowing, AllSit, has_found, RunStands, AllKnow, PortValue}
+use Rattle.ring.specs.sender.{Tally, IsTallied, IsSender, reserved_number, reserved_body, IsOpen}
 use Rattle.ring.specs.Keepers.{KeeperValue, keeper_of, missing, IsKeeper, own_port, has_lent, has_back, with_step, IdleReservationValue, KeepsAll}
 use Rattle.ring.proofs.TableLemmas.Meetings.{finds_at}
 use Rattle.ring.proofs.KeeperLemmas.Growing.{grown_run_is}

@@ -1,11 +1,8 @@
 -- What a run has more that only one has grown.
 use Rattle.std.proofs.Common.{◌≡◌, ◌≢◌, ◌⊎◌, ℕ, ◌-◌, [], ◌∷◌, ◌++◌, length, length-append, take, refl, sym, ap, ◌∙◌, inl, inr, arith}
 use Rattle.std.proofs.Math.Seq.{take-append_seam}
-use Rattle.ringcore.specs.declared.world.event.Who.{Who}
-use Rattle.ringcore.specs.world.Trails.{Trail, Run, trail_of}
-use Rattle.ringcore.specs.world.Laws.{IsOne, OnlyOf}
-use Rattle.ring.specs.table.Histories.{EndsWith}
-use Rattle.ring.specs.table.Keeping.{run_by, grown_run}
+use Rattle.ring.specs.Runs.{Who, Trail, Run, trail_of, IsOne, OnlyOf}
+use Rattle.ring.specs.table.{EndsWith, run_by, grown_run}
 use Rattle.ring.specs.Keepers.{Adds}
 use Rattle.ring.proofs.TableLemmas.Trails.{trail_here, trail_else}
 use Rattle.ring.proofs.TableLemmas.OneRun.{alike}

@@ -1,16 +1,11 @@
 -- What is left of others than the one who took steps.
 use Rattle.std.proofs.Common.{rules, ◌≡◌, ◌≢◌, ℕ, Bool, List, [], ◌++◌, sym, ap, ◌∙◌, subst}
-use Rattle.ringcore.specs.declared.world.event.Who.{Who}
-use Rattle.ringcore.specs.declared.world.event.Who.TheVariants.{Consumer, Sender}
-use Rattle.ringcore.specs.world.Trails.{Trail, same, trail_of, IsSettled}
+use Rattle.ring.specs.Runs.{Who, Consumer, Sender, Trail, same, trail_of, IsSettled}
 use Rattle.qindex.specs.Positions.{IndexValue}
-use Rattle.ring.specs.consumer.Consumers.{IsConsumer}
+use Rattle.ring.specs.consumer.{IsConsumer}
 use Rattle.cmdcodec.specs.declared.raw.Raw.{Raw}
-use Rattle.ring.specs.sender.Senders.{IsTallied, IsSender}
-use Rattle.ring.specs.sender.Reservations.{IsOpen}
-use Rattle.ring.specs.declared.sender.tally.Tally.{Tally}
-use Rattle.ring.specs.table.Keeping.{run_by}
-use Rattle.ring.specs.table.Ports.{PortValue}
+use Rattle.ring.specs.sender.{IsTallied, IsSender, IsOpen, Tally}
+use Rattle.ring.specs.table.{run_by, PortValue}
 use Rattle.ring.specs.Keepers.{KeeperValue, own_port, KeepsOthers}
 use Rattle.ring.proofs.KeeperLemmas.Growing.{trail_stays}
 use Rattle.ring.proofs.SenderLemmas.InOrder.{knowing}

@@ -3,13 +3,8 @@ use Rattle.std.proofs.Common.{◌≡◌, ◌≢◌, ℕ, List, [], refl, sym, ap
 use Rattle.std.specs.Prelude.{Option, Some, None}
 use Rattle.atomic_table.specs.Table.{Splits}
 use Rattle.atomic_table.specs.Seated.{TableId}
-use Rattle.ringcore.specs.declared.world.event.Who.{Who}
-use Rattle.ringcore.specs.world.Trails.{Run, same}
-use Rattle.ringcore.specs.world.Allowed.{Ring}
-use Rattle.ringcore.specs.world.Laws.{IsOne}
-use Rattle.ring.specs.declared.table.rule.Participant.{Participant}
-use Rattle.ring.specs.table.Rule.{Holding, RuleHolds, Any, ring_of, history_of_first}
-use Rattle.ring.specs.table.Keeping.{AllKnow, without, own_part}
+use Rattle.ring.specs.Runs.{Who, Run, same, Ring, IsOne}
+use Rattle.ring.specs.table.{Participant, Holding, RuleHolds, Any, ring_of, history_of_first, AllKnow, without, own_part}
 use Rattle.ring.specs.Keepers.{KeeperValue, keeper_of, missing_from, missing, AllBut, IsKeeper, has_lent}
 use Rattle.ring.proofs.TableLemmas.Keeping.{know_less, any_parted, lends_at}
 use Rattle.ring.proofs.KeeperLemmas.Seated.{sits_any, sits_not, one_missing, IsOther, someone, first_knows}

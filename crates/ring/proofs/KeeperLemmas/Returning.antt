@@ -4,17 +4,10 @@ use Rattle.std.specs.Prelude.{Option, Some, None}
 use mathlib.Core.Option.{none}
 use Rattle.atomic_table.specs.Table.{step, Allows}
 use Rattle.atomic_table.specs.Seated.{TableId}
-use Rattle.ringcore.specs.declared.world.event.Who.{Who}
-use Rattle.ringcore.specs.world.Trails.{Trail, Run, same, trail_of}
-use Rattle.ringcore.specs.world.Allowed.{Ring}
-use Rattle.ringcore.specs.world.Laws.{IsOne, OnlyOf}
-use Rattle.ring.specs.declared.table.rule.Participant.{Participant}
+use Rattle.ring.specs.Runs.{Who, Trail, Run, same, trail_of, Ring, IsOne, OnlyOf}
+use Rattle.ring.specs.table.{Participant, Holding, participant, RuleHolds, WentOn, IsIn, HasTrails, Any, IsAlone, who_of, ring_of, history_of_first, all_knowing, AllSit, HaveMet, has_met, EndsWith}
+use Rattle.ring.specs.table.{Grew, RunStands, one_of_run, run_by, grown_run, PortValue, port_of}
 use Rattle.ring.specs.Rings.{RingValue}
-use Rattle.ring.specs.table.Rule.{Holding, participant, RuleHolds, WentOn, IsIn, HasTrails, Any, IsAlone, who_of, ring_of, history_of_first}
-use Rattle.ring.specs.table.Meetings.{all_knowing, AllSit, HaveMet, has_met}
-use Rattle.ring.specs.table.Histories.{EndsWith, Grew}
-use Rattle.ring.specs.table.Keeping.{RunStands, one_of_run, run_by, grown_run}
-use Rattle.ring.specs.table.Ports.{PortValue, port_of}
 use Rattle.ring.specs.Keepers.{KeeperValue, keeper_of, missing, AllBut, IsKeeper, has_back, Adds, IsNews, KeepsOthers}
 use Rattle.ring.proofs.TableLemmas.Trails.{trail_append, none_before}
 use Rattle.ring.proofs.TableLemmas.OneRun.{alike, only_left}

@@ -3,15 +3,8 @@ use Rattle.std.proofs.Common.{◌≡◌, ◌≢◌, ℕ, zero, suc, ◌+◌, ◌
 use Rattle.std.specs.Prelude.{Option, Some, None}
 use mathlib.Core.Logic.{dite}
 use native.Mathlib.Decide.{ℕ_discrete}
-use Rattle.ringcore.specs.declared.world.event.Who.{Who}
-use Rattle.ringcore.specs.declared.world.event.Who.TheVariants.{Consumer, Sender}
-use Rattle.ringcore.specs.world.Trails.{Run, same}
-use Rattle.ringcore.specs.world.Allowed.{Ring}
-use Rattle.ringcore.specs.world.Laws.{IsOne}
-use Rattle.ring.specs.declared.table.rule.Participant.{Participant}
-use Rattle.ring.specs.table.Rule.{HasTrails, Any, ring_of, history_of_first}
-use Rattle.ring.specs.table.Meetings.{all_knowing}
-use Rattle.ring.specs.table.Keeping.{AllKnow, without}
+use Rattle.ring.specs.Runs.{Who, Consumer, Sender, Run, same, Ring, IsOne}
+use Rattle.ring.specs.table.{Participant, HasTrails, Any, ring_of, history_of_first, all_knowing, AllKnow, without}
 use Rattle.ring.specs.Keepers.{sits, missing_from}
 use Rattle.ring.proofs.TableLemmas.Trails.{same_refl}
 

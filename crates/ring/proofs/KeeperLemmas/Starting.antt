@@ -2,15 +2,11 @@
 use Rattle.std.proofs.Common.{◌≡◌, ℕ, zero, suc, ◌≤◌, List, [], refl, sym, ap, ◌∙◌, subst, arith}
 use Rattle.std.specs.Prelude.{None}
 use Rattle.atomic_table.specs.Seated.{TableId}
-use Rattle.ringcore.specs.declared.world.event.Who.TheVariants.{Consumer}
-use Rattle.ringcore.specs.world.Trails.{Run}
-use Rattle.ringcore.specs.world.Allowed.{Ring}
-use Rattle.ring.specs.declared.table.rule.Participant.{Participant}
+use Rattle.ring.specs.Runs.{Consumer, Run, Ring}
+use Rattle.ring.specs.table.{Participant, Holding, participants_from, first_participants, RunStands, AllKnow}
 use Rattle.qindex.specs.Positions.{IndexValue, index_of}
 use Rattle.ring.specs.Rings.{RingValue}
-use Rattle.ring.specs.consumer.Consumers.{IsConsumer}
-use Rattle.ring.specs.table.Rule.{Holding, participants_from, first_participants}
-use Rattle.ring.specs.table.Keeping.{RunStands, AllKnow}
+use Rattle.ring.specs.consumer.{IsConsumer}
 use Rattle.ring.specs.Keepers.{KeeperValue, keeper_of, missing_from, missing, AllBut, IsKeeper, own_port}
 use Rattle.ring.proofs.TableLemmas.Starts.{all_in_first}
 use Rattle.ring.proofs.KeeperLemmas.Seated.{sits_any, none_missing, first_knows}

@@ -1,19 +1,15 @@
 -- A reservation that is written and flipped in the order of its slots.
-use Rattle.std.proofs.Common.{rules, ◌≡◌, ℕ, zero, suc, ◌+◌, ◌<◌, ◌≤◌, Bool, true, false, ◌==◌, ◌||◌, ◌&&◌, ◌%◌, ◌/◌, ◌^◌, List, [], ◌∷◌, ◌++◌, length, Option, Some, None, refl, sym, ap, ◌∙◌, subst, arith}
+use Rattle.std.proofs.Common.{rules, ◌≡◌, ℕ, zero, suc, ◌+◌, ◌<◌, ◌≤◌, Bool, true, false, ◌==◌, ◌||◌, ◌&&◌, ◌%◌, ◌/◌, ◌^◌, List, [], ◌∷◌, ◌++◌, length, Option, Some, None, refl, sym, ap, ◌∙◌, subst}
+use Rattle.std.proofs.Common.{arith}
 use Rattle.std.proofs.lemmas.Bool.{lt-ltb}
 use Rattle.std.proofs.lemmas.Bool.Decides.{nat_tests}
 use Rattle.std.specs.Prelude.{slice_get, nat_lt}
 use Rattle.cmdcodec.specs.declared.raw.Raw.{Raw}
 use Rattle.qindex.specs.Positions.{IndexValue, index_of}
-use Rattle.ringcore.specs.declared.world.event.Half.TheVariants.{Lo, Hi}
-use Rattle.ringcore.specs.declared.world.event.Event.TheVariants.{Write, Flip}
-use Rattle.ringcore.specs.world.Trails.{Trail, IsSettled, reserved_length, is_among}
-use Rattle.ringcore.specs.world.World.{commands, sync_raw}
-use Rattle.ringcore.specs.world.Allowed.{MayWrite, ShareAWord, length_with}
+use Rattle.ring.specs.Runs.{Lo, Hi, Write, Flip, Trail, IsSettled, reserved_length, is_among, commands, sync_raw, MayWrite, ShareAWord, length_with}
 use Rattle.ringcore.specs.memory.StepLaws.{reserved_commands}
-use Rattle.ring.specs.declared.sender.tally.Tally.{Tally}
-use Rattle.ring.specs.table.Ports.{PortValue, IsSlotAt, MayFlipAt}
-use Rattle.ring.specs.sender.Reservations.{IsWrittenUpTo, IsFlippedUpTo, IsOpen, number_when}
+use Rattle.ring.specs.sender.{Tally, IsWrittenUpTo, IsFlippedUpTo, IsOpen, number_when}
+use Rattle.ring.specs.table.{PortValue, IsSlotAt, MayFlipAt}
 
 -- a number is below one more where it is this one, or below
 next_below : (k w : ℕ) → (k == w || nat_lt k w) ≡ nat_lt k (w + 1)

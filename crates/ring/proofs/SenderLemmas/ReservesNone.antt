@@ -1,9 +1,7 @@
 -- Writes and flips reserve no batch.
 use Rattle.std.proofs.Common.{◌≡◌, ℕ, zero, suc, ◌-◌, Bool, true, false, cond, nat_lt, [], refl, sym, ap, subst, ◌∙◌}
-use Rattle.ringcore.specs.world.Trails.{Trail, reserved_length}
-use Rattle.ring.specs.sender.Reservations.{ReservationValue}
-use Rattle.ring.specs.sender.Publishing.{wrote_many, flipped_run, flipped_left, published, sender_of, ReservesNone}
-use Rattle.ring.specs.sender.Senders.{SenderValue}
+use Rattle.ring.specs.Runs.{Trail, reserved_length}
+use Rattle.ring.specs.sender.{ReservationValue, wrote_many, flipped_run, flipped_left, published, sender_of, ReservesNone, SenderValue}
 use Rattle.ring.proofs.SenderLemmas.TwoRuns.{left_is, wrote_is}
 
 wrote_none : (k : ℕ) (r : ReservationValue) → ReservesNone r.trail (wrote_many k r).trail

@@ -7,20 +7,9 @@ use Rattle.cmdcodec.specs.Bodies.{IsBody}
 use Rattle.qindex.specs.declared.control.Control.{Control}
 use Rattle.qindex.specs.Positions.{size}
 use Rattle.qindex.specs.Indexes.{distance}
-use Rattle.ringcore.specs.declared.world.event.Who.TheVariants.{Sender}
-use Rattle.ringcore.specs.declared.world.event.Event.{Event}
-use Rattle.ringcore.specs.declared.world.event.Event.TheVariants.{Look}
-use Rattle.ringcore.specs.world.Trails.{Trail, Run, IsSettled, looked, batches_made, numbers_given, prod_of}
-use Rattle.ringcore.specs.world.World.{commands, world, control}
-use Rattle.ringcore.specs.world.Allowed.{MayTry, length_with}
-use Rattle.ring.specs.declared.sender.tally.Tally.{Tally}
-use Rattle.ring.specs.table.Ports.{PortValue, has_won}
-use Rattle.ring.specs.sender.Senders.{SenderValue, IsTallied, one_more}
-use Rattle.ring.specs.declared.sender.cause.Refused.{Refused}
-use Rattle.ring.specs.declared.sender.cause.Cause.TheVariants.{Contended}
-use Rattle.ring.specs.table.Histories.{GrewBy, Grew}
-use Rattle.ring.specs.sender.Reservations.{IsOpen, ReservationValue}
-use Rattle.ring.specs.sender.Reserving.{ring_size, HasRoom, HasBatchLeft, HasNoRoom, TellsRoom, HasLookedAt, IsWon, IsLost}
+use Rattle.ring.specs.Runs.{Sender, Event, Look, Trail, Run, IsSettled, looked, batches_made, numbers_given, prod_of, commands, world, control, MayTry, length_with}
+use Rattle.ring.specs.sender.{Tally, SenderValue, IsTallied, one_more, Refused, Contended, IsOpen, ReservationValue, ring_size, HasRoom, HasBatchLeft, HasNoRoom, TellsRoom, HasLookedAt, IsWon, IsLost}
+use Rattle.ring.specs.table.{PortValue, has_won, GrewBy, Grew}
 use Rattle.ring.proofs.TableLemmas.Grown.{grew_step, grew_more, sender_step}
 use Rattle.ring.proofs.SenderLemmas.InOrder.{knowing}
 

@@ -5,13 +5,12 @@ use Rattle.std.specs.Prelude.{nat_lt}
 use mathlib.Core.Logic.{dite}
 use native.Mathlib.Decide.{dec_lt, dec_le}
 use Rattle.qindex.specs.Positions.{size, index_of}
-use Rattle.ringcore.specs.world.Trails.{reserved_length, start_index}
+use Rattle.ring.specs.Runs.{reserved_length, start_index}
 use Rattle.ringcore.specs.memory.Flags.{flag_bit, shared_word}
 use Rattle.std.proofs.Math.Pow.{pow_mono}
 use Rattle.std.proofs.lemmas.Bool.{cases_lt, lt-leb, lt-ltb, le-leb}
 use Rattle.std.proofs.lemmas.Nat.{pow-add}
-use Rattle.ring.specs.sender.Reservations.{ReservationValue}
-use Rattle.ring.specs.sender.Publishing.{wrote_many, next_run, flipped_run, flipped_left}
+use Rattle.ring.specs.sender.{ReservationValue, wrote_many, next_run, flipped_run, flipped_left}
 
 -- the flag words of a ring are whole, but for a ring's that has less than one
 whole_words : (g : ℕ) → (size g ≤ 64) ⊎ (size g ≡ 64 * (size g / 64))

@@ -5,18 +5,8 @@ use mathlib.Core.Logic.{dite}
 use native.Mathlib.Decide.{dec_le}
 use Rattle.atomic_table.specs.Table.{step}
 use Rattle.atomic_table.specs.Seated.{TableId}
-use Rattle.ringcore.specs.declared.world.event.Who.{Who}
-use Rattle.ringcore.specs.declared.world.event.Who.TheVariants.{Sender}
-use Rattle.ringcore.specs.declared.world.event.Event.{Event}
-use Rattle.ringcore.specs.declared.world.event.Event.TheVariants.{Ask}
-use Rattle.ringcore.specs.world.Trails.{Trail, Run, trail_of}
-use Rattle.ringcore.specs.world.World.{world}
-use Rattle.ringcore.specs.world.Allowed.{Allowed, Ring}
-use Rattle.ringcore.specs.world.Laws.{EveryRun, AcknowledgedAreTaken, NumbersAreFew}
-use Rattle.ring.specs.table.Rule.{Holding, ring_of, who_of, trail_of_first, history_of_first}
-use Rattle.ring.specs.table.Intents.{asks}
-use Rattle.ring.specs.table.StepEvents.{IsNewest, adds_for}
-use Rattle.ring.specs.table.Ports.{port_of, PortValue}
+use Rattle.ring.specs.Runs.{Who, Sender, Event, Ask, Trail, Run, trail_of, world, Allowed, Ring, EveryRun, AcknowledgedAreTaken, NumbersAreFew}
+use Rattle.ring.specs.table.{Holding, ring_of, who_of, trail_of_first, history_of_first, asks, IsNewest, adds_for, port_of, PortValue}
 
 last_few : EveryRun AcknowledgedAreTaken → NumbersAreFew → (ring : Ring) (who : Who) (s x : ℕ) (trail : Trail) (older run : Run) (e : Event) → IsNewest ring who trail older run e → who ≡ Sender s → e ≡ Ask x → x < 2 ^ 32
 last_few taken few ring who s x trail older run e last who_is e_is =

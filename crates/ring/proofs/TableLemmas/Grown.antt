@@ -1,16 +1,9 @@
 -- What a participant knows of the run grows step by step, and what its newest step found stands in it.
 use Rattle.std.proofs.Common.{◌≡◌, ℕ, ◌+◌, ◌/◌, ◌≤◌, false, [], ◌∷◌, ◌++◌, length, refl, sym, ap, ◌∙◌, subst, append_assoc, arith}
 use Rattle.qindex.specs.Positions.{place}
-use Rattle.ringcore.specs.declared.world.event.Who.{Who}
-use Rattle.ringcore.specs.declared.world.event.Who.TheVariants.{Consumer, Sender}
-use Rattle.ringcore.specs.declared.world.event.Event.{Event}
-use Rattle.ringcore.specs.declared.world.event.Event.TheVariants.{Test}
-use Rattle.ringcore.specs.world.Trails.{Trail, Run, trail_of}
-use Rattle.ringcore.specs.world.World.{World, head, world}
-use Rattle.ringcore.specs.world.Allowed.{Ring, IsRun, FindsReady}
-use Rattle.ring.specs.table.Histories.{IsHistory, GrewBy, EndsWith, Grew, OneStepIsLast, NoStepIsNone}
-use Rattle.ring.specs.table.Ports.{PortValue}
-use Rattle.ring.specs.sender.Senders.{SenderValue}
+use Rattle.ring.specs.Runs.{Who, Consumer, Sender, Event, Test, Trail, Run, trail_of, World, head, world, Ring, IsRun, FindsReady}
+use Rattle.ring.specs.table.{IsHistory, GrewBy, EndsWith, Grew, OneStepIsLast, NoStepIsNone, PortValue}
+use Rattle.ring.specs.sender.{SenderValue}
 use Rattle.ring.proofs.TableLemmas.Trails.{trail_here, trail_append, none_before}
 
 -- ---- no step, one, and some after others

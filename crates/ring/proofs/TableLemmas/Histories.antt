@@ -5,19 +5,10 @@ use Rattle.qindex.specs.declared.control.Control.{Control}
 use Rattle.qindex.specs.Positions.{IndexValue, index_of}
 use Rattle.qindex.specs.Indexes.{distance}
 use Rattle.qindex.specs.Laws.{IndexesTellTheQueue}
-use Rattle.ringcore.specs.declared.world.event.Who.{Who}
-use Rattle.ringcore.specs.declared.world.event.Who.TheVariants.{Consumer, Sender}
-use Rattle.ringcore.specs.declared.world.event.Event.{Event}
-use Rattle.ringcore.specs.declared.world.event.Event.TheVariants.{Look, Ask}
-use Rattle.ringcore.specs.world.Trails.{Trail, Run, trail_of}
-use Rattle.ringcore.specs.world.World.{World, head, tail, world, after, control}
-use Rattle.ringcore.specs.world.Allowed.{Ring, Allowed, IsRun}
-use Rattle.ringcore.specs.world.Laws.{EveryRun, AcknowledgedAreApplied, NeverMoreThanFull}
-use Rattle.ring.specs.table.Rule.{Holding, ring_of, who_of, trail_of_first, history_of_first, IsAlone}
-use Rattle.ring.specs.table.StepEvents.{Added}
-use Rattle.ring.specs.table.Histories.{IsHistory, GrewBy, AreApplied, EndsTellAll}
-use Rattle.ring.specs.table.Ports.{port_of, PortValue}
-use Rattle.ring.specs.sender.Reserving.{TellsRoom}
+use Rattle.ring.specs.Runs.{Who, Consumer, Sender, Event, Look, Ask, Trail, Run, trail_of, World, head, tail, world, after, control, Ring, Allowed, IsRun, EveryRun, AcknowledgedAreApplied}
+use Rattle.ring.specs.Runs.{NeverMoreThanFull}
+use Rattle.ring.specs.table.{Holding, ring_of, who_of, trail_of_first, history_of_first, IsAlone, Added, IsHistory, GrewBy, AreApplied, EndsTellAll, port_of, PortValue}
+use Rattle.ring.specs.sender.{TellsRoom}
 
 -- a seat knows a run of its ring
 pub knows : (table : TableId) (me : Holding) (p : PortValue) → port_of table me ≡ p → IsAlone me (who_of me.0) → IsHistory p.ring.made_with p.who p.trail p.history

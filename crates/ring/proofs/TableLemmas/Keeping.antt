@@ -1,12 +1,8 @@
 -- One of several who know one run gets a seat of its own.
 use Rattle.std.proofs.Common.{◌≡◌, ◌⊎◌, ℕ, Bool, true, false, cond, List, [], ◌∷◌, refl, ap, ◌∙◌, subst, inl, inr}
 use Rattle.atomic_table.specs.Table.{Splits}
-use Rattle.ringcore.specs.declared.world.event.Who.{Who}
-use Rattle.ringcore.specs.world.Trails.{Run, same}
-use Rattle.ringcore.specs.world.Allowed.{Ring}
-use Rattle.ring.specs.declared.table.rule.Participant.{Participant}
-use Rattle.ring.specs.table.Rule.{IsIn, HasTrails, SitAt, Any, RuleHolds}
-use Rattle.ring.specs.table.Keeping.{one_of_run, AllKnow, without}
+use Rattle.ring.specs.Runs.{Who, Run, same, Ring}
+use Rattle.ring.specs.table.{Participant, IsIn, HasTrails, SitAt, Any, RuleHolds, one_of_run, AllKnow, without}
 use Rattle.ring.proofs.TableLemmas.Seats.{moved_to}
 use Rattle.ring.proofs.TableLemmas.Meetings.{sits_here}
 use Rattle.ring.proofs.TableLemmas.Steps.{parts_at}

@@ -5,17 +5,10 @@ use lib.ListN.{get_elem?}
 use Rattle.atomic_table.specs.Table.{step, keeps, Allows, Splits}
 use Rattle.atomic_table.specs.Seated.{TableId}
 use Rattle.atomic_table.proofs.Lists.{at_set}
-use Rattle.ringcore.specs.declared.world.event.Who.{Who}
-use Rattle.ringcore.specs.world.Trails.{Run, same}
-use Rattle.ringcore.specs.world.Allowed.{Ring}
-use Rattle.ringcore.specs.world.Laws.{IsOne}
+use Rattle.ring.specs.Runs.{Who, Run, same, Ring, IsOne}
 use Rattle.ringcore.specs.memory.Shadow.{AreAfter}
-use Rattle.ring.specs.declared.table.rule.Participant.{Participant}
-use Rattle.ring.specs.table.Rule.{TableState, Holding, participant, WentOn, HasTrails, SitAt, Any, RuleHolds, Stands, ring_of, who_of, trail_of_first, history_of_first, IsAlone}
-use Rattle.ring.specs.table.Operations.{AreMadeBy}
-use Rattle.ring.specs.table.StepEvents.{without_first, first_alone, both_of}
-use Rattle.ring.specs.table.Meetings.{all_knowing, HasAll, AllSit, HaveMet, has_met, has_found}
-use Rattle.ring.specs.table.Ports.{port_of, PortValue}
+use Rattle.ring.specs.table.{Participant, TableState, Holding, participant, WentOn, HasTrails, SitAt, Any, RuleHolds, Stands, ring_of, who_of, trail_of_first, history_of_first, IsAlone, AreMadeBy}
+use Rattle.ring.specs.table.{without_first, first_alone, both_of, all_knowing, HasAll, AllSit, HaveMet, has_met, has_found, port_of, PortValue}
 use Rattle.ring.proofs.TableLemmas.Seats.{went_on_none, same_place, among_step}
 use Rattle.ring.proofs.TableLemmas.Steps.{deals_at, set_back}
 

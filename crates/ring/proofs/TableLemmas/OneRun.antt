@@ -2,14 +2,8 @@
 use Rattle.std.proofs.Common.{◌≡◌, ◌≢◌, ◌⊎◌, ℕ, Bool, true, false, true≢false, List, [], ◌∷◌, ◌++◌, length, length-append, refl, sym, ap, ◌∙◌, subst, ⊎_elim, inl, inr, arith}
 use mathlib.Core.Option.{some-injective}
 use lib.ListN.{get_elem?}
-use Rattle.ringcore.specs.declared.world.event.Who.{Who}
-use Rattle.ringcore.specs.declared.world.event.Event.{Event}
-use Rattle.ringcore.specs.world.Trails.{Trail, Run, same, trail_of}
-use Rattle.ringcore.specs.world.Laws.{IsOne, OnlyOf}
-use Rattle.ringcore.specs.world.Allowed.{Ring}
-use Rattle.ring.specs.declared.table.rule.Participant.{Participant}
-use Rattle.ring.specs.table.Rule.{participant, WentOn, HasTrails, Any}
-use Rattle.ring.specs.table.OneRun.{IsOneRun}
+use Rattle.ring.specs.Runs.{Who, Event, Trail, Run, same, trail_of, IsOne, OnlyOf, Ring}
+use Rattle.ring.specs.table.{Participant, participant, WentOn, HasTrails, Any, IsOneRun}
 use Rattle.ring.proofs.TableLemmas.Trails.{same_refl, trail_here, trail_else, trail_append, none_before}
 use Rattle.ring.proofs.FinishLemmas.Told.{same_is}
 

@@ -8,18 +8,11 @@ use Rattle.std.specs.Int.{bit_at}
 use Rattle.std.proofs.lemmas.Nat.Bits.{bit_at-lt, bit_at_lowest, bit_at-suc}
 use Rattle.qindex.specs.Positions.{index_of}
 use Rattle.qindex.specs.ControlWord.{packed, advance_mask, close_mask}
-use Rattle.ringcore.specs.declared.world.event.Who.{Who}
-use Rattle.ringcore.specs.declared.world.event.Who.TheVariants.{Consumer, Sender}
-use Rattle.ringcore.specs.declared.world.event.Event.{Event}
-use Rattle.ringcore.specs.declared.world.event.Event.TheVariants.{Won, Write, Flip, Advance, Close, Acknowledge}
-use Rattle.ringcore.specs.world.Trails.{Run}
-use Rattle.ringcore.specs.world.World.{head, world, control, half_of}
-use Rattle.ringcore.specs.world.Allowed.{Ring}
+use Rattle.ring.specs.Runs.{Who, Consumer, Sender, Event, Won, Write, Flip, Advance, Close, Acknowledge, Run, head, world, control, half_of, Ring}
 use Rattle.ringcore.specs.memory.Layout.{control_word, flag_word, data_word, cell}
 use Rattle.ringcore.specs.memory.Flags.{IsFlipMask}
 use Rattle.ringcore.specs.memory.StepLaws.{turned}
-use Rattle.ring.specs.table.Operations.{IsOperation}
-use Rattle.ring.specs.table.OneRun.{WordsAreOne}
+use Rattle.ring.specs.table.{IsOperation, WordsAreOne}
 
 -- ---- a mask is told by its bits
 

@@ -7,24 +7,14 @@ use Rattle.cmdcodec.specs.declared.raw.Raw.{Raw}
 use Rattle.qindex.specs.declared.control.Control.{Control}
 use Rattle.qindex.specs.Positions.{IndexValue, index_of}
 use Rattle.qindex.specs.ControlWord.{control_in}
-use Rattle.ringcore.specs.declared.world.event.Who.{Who}
-use Rattle.ringcore.specs.declared.world.event.Who.TheVariants.{Sender}
-use Rattle.ringcore.specs.declared.world.event.Event.{Event}
-use Rattle.ringcore.specs.declared.world.event.Event.TheVariants.{Won, Lost, Test}
-use Rattle.ringcore.specs.world.Trails.{Trail, Run, trail_of, looked, start_index, taken_by}
-use Rattle.ringcore.specs.world.World.{world, control}
-use Rattle.ringcore.specs.world.Allowed.{ShareAWord, Allowed, MayWin, MayLose, MayFlip, Ring}
+use Rattle.ring.specs.Runs.{Who, Sender, Event, Won, Lost, Test, Trail, Run, trail_of, looked, start_index, taken_by, world, control, ShareAWord, Allowed, MayWin, MayLose, MayFlip, Ring, IsOne}
 use Rattle.ringcore.specs.memory.Layout.{words_of}
 use Rattle.ringcore.specs.memory.Flags.{ready_in}
-use Rattle.ringcore.specs.world.Laws.{IsOne}
 use Rattle.ringcore.specs.machine.StepAnswers.{next_number}
-use Rattle.ring.specs.table.Rule.{Holding, participant, RuleHolds, ring_of, who_of, trail_of_first, history_of_first, IsAlone}
-use Rattle.ring.specs.table.Intents.{Intent, reserves, tests}
-use Rattle.ring.specs.table.StepEvents.{IsEventOf, Added, IsNewest, adds_for}
-use Rattle.ring.specs.table.Histories.{GrewBy}
+use Rattle.ring.specs.table.{Holding, participant, RuleHolds, ring_of, who_of, trail_of_first, history_of_first, IsAlone, Intent, reserves, tests, IsEventOf, Added, IsNewest, adds_for, GrewBy}
+use Rattle.ring.specs.table.{port_of, PortValue, IsWonOrLost, IsSlotAt, MayFlipAt}
 use Rattle.ring.proofs.TableLemmas.Steps.{MayStep, steps_as}
 use Rattle.ring.specs.Rings.{RingValue}
-use Rattle.ring.specs.table.Ports.{port_of, PortValue, IsWonOrLost, IsSlotAt, MayFlipAt}
 
 -- A step that its law allows by what contracts see of the seat: whatever it is for, it may be taken.
 module _ (table : TableId) (me : Holding) (p : PortValue) (is : port_of table me ≡ p) (alone : IsAlone me (who_of me.0)) (ring : Ring) (slots id : ℕ) (intent sought : Intent) (intent_is : intent ≡ sought) (who : Who) (who_is : p.who ≡ who) where

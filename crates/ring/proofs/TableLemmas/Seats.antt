@@ -5,12 +5,8 @@ use mathlib.Core.Logic.{dite}
 use native.Mathlib.Decide.{ℕ_discrete}
 use lib.ListN.{get_elem?}
 use Rattle.atomic_table.proofs.Lists.{set_else, at_longer, at_last}
-use Rattle.ringcore.specs.declared.world.event.Who.{Who}
-use Rattle.ringcore.specs.declared.world.event.Event.{Event}
-use Rattle.ringcore.specs.world.Trails.{Run, same}
-use Rattle.ringcore.specs.world.Allowed.{Ring}
-use Rattle.ring.specs.declared.table.rule.Participant.{Participant}
-use Rattle.ring.specs.table.Rule.{WentOn, HasTrails, SitAt, Any, Among}
+use Rattle.ring.specs.Runs.{Who, Event, Run, same, Ring}
+use Rattle.ring.specs.table.{Participant, WentOn, HasTrails, SitAt, Any, Among}
 use Rattle.ring.proofs.TableLemmas.Trails.{same_not, trail_else}
 
 -- a run went on by another's step, or has just come

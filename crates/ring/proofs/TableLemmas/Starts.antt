@@ -9,22 +9,16 @@ use lib.ListN.{get_elem?}
 use Rattle.atomic_table.specs.Table.{opening, Splits}
 use Rattle.atomic_table.specs.Seated.{TableId}
 use Rattle.qindex.specs.Indexes.{IsGeometry}
-use Rattle.ringcore.specs.declared.world.event.Who.{Who}
-use Rattle.ringcore.specs.declared.world.event.Who.TheVariants.{Consumer, Sender}
-use Rattle.ringcore.specs.world.Laws.{IsOne}
+use Rattle.ring.specs.Runs.{Who, Consumer, Sender, IsOne, Ring}
 use Rattle.ringcore.specs.memory.Layout.{words_of}
-use Rattle.ringcore.specs.world.Allowed.{Ring}
 use Rattle.ringcore.specs.memory.Shadow.{AreAfter}
 use Rattle.ringcore.specs.memory.StepLaws.{OpensAllZero}
-use Rattle.ring.specs.declared.table.rule.Participant.{Participant}
-use Rattle.ring.specs.table.Rule.{Holding, participant, participants_from, first_participants, Any, HasTrails, SitAt, RuleHolds, IsWithinLimits, IsAlone, who_of}
-use Rattle.ring.specs.table.StepEvents.{without_first, first_alone}
-use Rattle.ring.specs.declared.sender.tally.Tally.{Tally}
+use Rattle.ring.specs.table.{Participant, Holding, participant, participants_from, first_participants, Any, HasTrails, SitAt, RuleHolds, IsWithinLimits, IsAlone, who_of, without_first, first_alone}
+use Rattle.ring.specs.table.{port_of, PortValue}
+use Rattle.ring.specs.sender.{Tally, SenderValue, IsSender}
 use Rattle.ring.proofs.TableLemmas.Seats.{Without, went_on_none}
 use Rattle.ring.proofs.TableLemmas.Steps.{deals_at}
-use Rattle.ring.specs.table.Ports.{port_of, PortValue}
 use Rattle.ring.specs.Rings.{RingValue}
-use Rattle.ring.specs.sender.Senders.{SenderValue, IsSender}
 use Rattle.ring.specs.NewRings.{new_sender, new_senders}
 
 get_zero : (m k : ℕ) → ◌≡◌ {A = ℕ} (slice_index (replicate m 0) k) 0

@@ -7,27 +7,17 @@ use Rattle.cmdcodec.specs.declared.raw.Raw.{Raw}
 use Rattle.qindex.specs.declared.control.Control.{Control}
 use Rattle.qindex.specs.Positions.{size, index_of}
 use Rattle.qindex.specs.ControlWord.{packed, control_in, advance_mask, close_mask}
-use Rattle.ringcore.specs.declared.world.event.Who.{Who}
-use Rattle.ringcore.specs.declared.world.event.Who.TheVariants.{Consumer, Sender}
-use Rattle.ringcore.specs.declared.world.event.Event.{Event}
-use Rattle.ringcore.specs.declared.world.event.Event.TheVariants.{Look, Won, Lost, Write, Flip, Close, Test, Read, Advance, Acknowledge, Ask}
-use Rattle.ringcore.specs.declared.world.event.Half.{Half}
-use Rattle.ringcore.specs.declared.world.event.Half.TheVariants.{Lo, Hi}
-use Rattle.ringcore.specs.world.Trails.{Trail, Run, trail_of, batch_length, found_ready, start_index, taken_by, acknowledged_by}
-use Rattle.ringcore.specs.world.World.{head, world, half_of}
-use Rattle.ringcore.specs.world.Allowed.{IsRunLength, MayTry, IsNextNumber, MayWrite, MayFlip, MayAdvance, SyncIsTaken, length_with, Ring}
-use Rattle.ringcore.specs.world.Laws.{EveryRun, SyncsAreCounted, syncs_taken}
+use Rattle.ring.specs.Runs.{Who, Consumer, Sender, Event, Look, Won, Lost, Write, Flip, Close, Test, Read, Advance, Acknowledge, Ask, Half, Lo, Hi, Trail, Run, trail_of, batch_length, found_ready}
+use Rattle.ring.specs.Runs.{start_index, taken_by, acknowledged_by, head, world, half_of, IsRunLength, MayTry, IsNextNumber, MayWrite, MayFlip, MayAdvance, SyncIsTaken, length_with, Ring, EveryRun}
+use Rattle.ring.specs.Runs.{SyncsAreCounted, syncs_taken, TellsTheHead, TellsTheNumbers}
 use Rattle.ringcore.specs.memory.Layout.{control_word, flag_word, data_word, half_number, cell, words_of}
 use Rattle.ringcore.specs.memory.Flags.{IsFlipMask, ready_in}
 use Rattle.ringcore.specs.memory.Shadow.{AreAfter}
-use Rattle.ringcore.specs.memory.StepLaws.{Always, HasAControlWord, LooksByALoad, ClosesByAnOr, WinsByAnExchange, LosesByAnExchange, WritesByAStore, FlipsByAnExclusiveOr, ReadsByALoad, AdvancesByAnExclusiveOr, AcknowledgesByAStore, AsksByALoad, StartsWhereItLooked, with_reserved, reserved_commands, TestsFindReadyIn}
+use Rattle.ringcore.specs.memory.StepLaws.{Always, HasAControlWord, LooksByALoad, ClosesByAnOr, WinsByAnExchange, LosesByAnExchange, WritesByAStore, FlipsByAnExclusiveOr, ReadsByALoad}
+use Rattle.ringcore.specs.memory.StepLaws.{AdvancesByAnExclusiveOr, AcknowledgesByAStore, AsksByALoad, StartsWhereItLooked, with_reserved, reserved_commands, TestsFindReadyIn}
 use Rattle.ringcore.specs.machine.StepAnswers.{next_number}
-use Rattle.ring.specs.table.Rule.{Stands}
-use Rattle.ring.specs.table.Intents.{looks, closes, tests, reserves, writes, flips, reads, advances, acknowledges, asks}
-use Rattle.ring.specs.table.Operations.{IsOperation}
-use Rattle.ring.specs.table.StepEvents.{IsEventOf}
+use Rattle.ring.specs.table.{Stands, looks, closes, tests, reserves, writes, flips, reads, advances, acknowledges, asks, IsOperation, IsEventOf}
 use Rattle.ring.proofs.TableLemmas.Steps.{MayStep, set_back}
-use Rattle.ringcore.specs.world.ConsumerLaws.{TellsTheHead, TellsTheNumbers}
 
 many_is : (trail : Trail) (closing : Bool) (body : List Raw) → length_with closing body ≡ batch_length body (next_number trail closing)
 many_is trail true body = refl

@@ -5,18 +5,12 @@ use mathlib.Core.Option.{some}
 use lib.ListN.{get_elem?}
 use Rattle.atomic_table.specs.Table.{keeps, Allows, Splits, Joins}
 use Rattle.atomic_table.proofs.Lists.{at_set}
-use Rattle.ringcore.specs.declared.world.event.Who.{Who}
-use Rattle.ringcore.specs.declared.world.event.Event.{Event}
-use Rattle.ringcore.specs.world.Trails.{Trail, Run, trail_of}
-use Rattle.ringcore.specs.world.Laws.{OnlyOf}
-use Rattle.ringcore.specs.world.Allowed.{Ring}
+use Rattle.ring.specs.Runs.{Who, Event, Trail, Run, trail_of, OnlyOf, Ring}
 use Rattle.ringcore.specs.memory.Shadow.{AreAfter}
-use Rattle.ring.specs.declared.table.rule.Participant.{Participant}
-use Rattle.ring.specs.table.Rule.{Holding, participant, IsIn, HasTrails, SitAt, Any, RuleHolds, Stands, ring_of, who_of, trail_of_first, history_of_first, IsAlone}
-use Rattle.ring.specs.table.Operations.{IsOperation}
-use Rattle.ring.specs.table.StepEvents.{Added}
+use Rattle.ring.specs.table.{Participant, Holding, participant, IsIn, HasTrails, SitAt, Any, RuleHolds, Stands, ring_of, who_of, trail_of_first, history_of_first, IsAlone, IsOperation, Added}
 use Rattle.ring.proofs.TableLemmas.Trails.{same_refl, trail_here}
-use Rattle.ring.proofs.TableLemmas.Seats.{trails_else, Without, moved_to, sit_without, sit_else, taken_in, sit_taken, sit_stays, sit_append, trails_append, at_snoc_index, went_on_none, set_there, among_step, among_parted, among_joined}
+use Rattle.ring.proofs.TableLemmas.Seats.{trails_else, Without, moved_to, sit_without, sit_else, taken_in, sit_taken, sit_stays, sit_append, trails_append, at_snoc_index, went_on_none, set_there}
+use Rattle.ring.proofs.TableLemmas.Seats.{among_step, among_parted, among_joined}
 
 -- What the laws have to give: wherever the seat has this trail, the word may change so, by an event that is said of
 -- the word that was found.

@@ -1,10 +1,7 @@
 -- A seat's trail, as the run grows.
 use Rattle.std.proofs.Common.{◌≡◌, ◌≢◌, Bool, true, false, cond, [], ◌∷◌, ◌++◌, refl, ap, eq-eqb, ne_eqb}
 use Rattle.std.proofs.lemmas.List.{append_cancel_right}
-use Rattle.ringcore.specs.declared.world.event.Who.{Who}
-use Rattle.ringcore.specs.declared.world.event.Who.TheVariants.{Consumer, Sender}
-use Rattle.ringcore.specs.declared.world.event.Event.{Event}
-use Rattle.ringcore.specs.world.Trails.{Trail, Run, same, trail_of}
+use Rattle.ring.specs.Runs.{Who, Consumer, Sender, Event, Trail, Run, same, trail_of}
 
 pub same_refl : (u : Who) → same u u ≡ true
 same_refl Consumer = refl

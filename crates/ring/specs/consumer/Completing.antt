@@ -4,11 +4,7 @@ use Rattle.cmdcodec.specs.declared.raw.Raw.{Raw}
 use Rattle.cmdcodec.specs.Opcodes.{is_sync}
 use Rattle.cmdcodec.specs.ClosingSync.{cell_address}
 use Rattle.ringcore.specs.Limits.{most_senders}
-use Rattle.ringcore.specs.declared.world.event.Outcome.{Outcome}
-use Rattle.ringcore.specs.declared.world.event.Event.TheVariants.{Advance, Acknowledge}
-use Rattle.ringcore.specs.world.Trails.{Trail, raws_by, acknowledged_by}
-use Rattle.ringcore.specs.world.Laws.{syncs_taken}
-use Rattle.ringcore.specs.world.World.{Taken, taken_as, outcome_of}
+use Rattle.ring.specs.Runs.{Outcome, Advance, Acknowledge, Trail, raws_by, acknowledged_by, syncs_taken, Taken, taken_as, outcome_of}
 use Rattle.ring.specs.consumer.Consumers.{ConsumerValue}
 use Rattle.ring.specs.consumer.Pendings.{PendingValue}
 

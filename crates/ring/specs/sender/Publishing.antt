@@ -1,10 +1,7 @@
 -- Which events writes, flips and the rest of a reservation added.
 use Rattle.std.specs.Prelude.{◌≡◌, ℕ, zero, suc, ◌+◌, ◌-◌, nat_lt, cond, min, ◌∷◌}
 use Rattle.qindex.specs.Positions.{index_of}
-use Rattle.ringcore.specs.declared.world.event.Half.TheVariants.{Lo, Hi}
-use Rattle.ringcore.specs.declared.world.event.Event.TheVariants.{Write, Flip}
-use Rattle.ringcore.specs.world.Trails.{Trail, reserved_length, start_index, numbers_given}
-use Rattle.ringcore.specs.world.Laws.{own_batches}
+use Rattle.ring.specs.Runs.{Lo, Hi, Write, Flip, Trail, reserved_length, start_index, numbers_given, own_batches}
 use Rattle.ringcore.specs.memory.Flags.{shared_word}
 use Rattle.ring.specs.sender.Senders.{SenderValue}
 use Rattle.ring.specs.sender.Reservations.{ReservationValue}

@@ -4,12 +4,7 @@ use Rattle.atomic_table.specs.Seated.{TableId}
 use Rattle.cmdcodec.specs.declared.raw.Raw.{Raw}
 use Rattle.qindex.specs.Positions.{IndexValue, index_of}
 use Rattle.qindex.specs.declared.control.Control.{Control}
-use Rattle.ringcore.specs.declared.world.event.Who.{Who}
-use Rattle.ringcore.specs.declared.world.event.Half.{Half}
-use Rattle.ringcore.specs.declared.world.event.Event.TheVariants.{Won, Lost}
-use Rattle.ringcore.specs.world.Trails.{Trail, Run, reserved_length, has_written, has_flipped, start_index}
-use Rattle.ringcore.specs.world.World.{world, control}
-use Rattle.ringcore.specs.world.Allowed.{IsRunLength}
+use Rattle.ring.specs.Runs.{Who, Half, Won, Lost, Trail, Run, reserved_length, has_written, has_flipped, start_index, world, control, IsRunLength}
 use Rattle.ringcore.specs.machine.StepAnswers.{next_number}
 use Rattle.ring.specs.Rings.{RingValue}
 use Rattle.ring.specs.table.Rule.{Holding, participant, ring_of, who_of, trail_of_first, history_of_first}

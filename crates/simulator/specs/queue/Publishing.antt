@@ -1,10 +1,6 @@
 -- What is added to a run where an open reservation is written and handed over.
 use Rattle.std.specs.Prelude.{ℕ, zero, suc, ◌-◌, min, ◌∷◌}
-use Rattle.ringcore.specs.declared.world.event.Who.TheVariants.{Sender}
-use Rattle.ringcore.specs.declared.world.event.Half.TheVariants.{Lo, Hi}
-use Rattle.ringcore.specs.declared.world.event.Event.TheVariants.{Write, Flip}
-use Rattle.ringcore.specs.world.Trails.{Run, trail_of, reserved_length}
-use Rattle.ringcore.specs.world.World.{world}
+use Rattle.ring.specs.Runs.{Sender, Lo, Hi, Write, Flip, Run, trail_of, reserved_length, world}
 use Rattle.ringcore.specs.memory.Flags.{shared_word}
 
 -- both halves of each of the first so many of a sender's commands are written, in their order

@@ -1,8 +1,7 @@
 //! How an open reservation is written and handed over, by a sender whose seat the keeper lends.
 ghost use Rattle.std.specs.Prelude.{◌≡◌, ◌<◌, None};
 ghost use Rattle.ring.specs.Keepers.{IsIdleSender, IsIdleReservation};
-ghost use Rattle.simulator.specs.queue.Publishing.{published};
-ghost use Rattle.simulator.specs.queue.Seated.{IsBack};
+ghost use Rattle.simulator.specs.queue.{published, IsBack};
 
 use batch::BorrowedBatch;
 use qindex::indexes_tell_place_and_wrap_bit;

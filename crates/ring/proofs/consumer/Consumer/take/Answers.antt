@@ -1,7 +1,6 @@
 use Rattle.std.proofs.Common.{List, ap, subst}
 use Rattle.cmdcodec.specs.declared.raw.Raw.{Raw}
-use Rattle.ring.specs.consumer.Pendings.{first_of}
-use Rattle.ring.specs.consumer.Taking.{TookRun}
+use Rattle.ring.specs.consumer.{first_of, TookRun}
 use Rattle.ring.proofs.ConsumerLemmas.Runs.{only_one}
 use Rattle.ring.proofs.consumer.Consumer.take.Goals as goal
 

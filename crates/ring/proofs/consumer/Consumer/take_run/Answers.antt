@@ -1,10 +1,7 @@
 use Rattle.std.proofs.Common.{rules, ◌≡◌, ◌∷◌, sym, ap, subst, ◌∙◌}
-use Rattle.ringcore.specs.declared.world.event.Event.TheVariants.{Look, Test}
-use Rattle.ringcore.specs.world.ConsumerLaws.{IsSteady}
-use Rattle.ringcore.specs.declared.world.event.Who.TheVariants.{Consumer}
-use Rattle.ring.specs.table.Histories.{Grew}
-use Rattle.ring.specs.consumer.Consumers.{ConsumerValue}
-use Rattle.ring.specs.consumer.Pendings.{reads_from}
+use Rattle.ring.specs.Runs.{Look, Test, IsSteady, Consumer}
+use Rattle.ring.specs.table.{Grew}
+use Rattle.ring.specs.consumer.{ConsumerValue, reads_from}
 use Rattle.ring.proofs.TableLemmas.Grown.{grew_step, grew_more, consumer_step}
 use Rattle.ring.proofs.ConsumerLemmas.Reads.{look_again, test_again, run_again}
 use Rattle.ring.proofs.consumer.Consumer.take_run.Goals as goal

@@ -1,5 +1,5 @@
 use Rattle.std.proofs.Common.{rules, ◌≡◌, [], ◌++◌, refl, sym, ap, ◌∙◌}
-use Rattle.ring.specs.table.Rule.{Holding, ring_of, history_of_first}
+use Rattle.ring.specs.table.{Holding, ring_of, history_of_first}
 use Rattle.ring.proofs.TableLemmas.StepKinds.{control_inside}
 use Rattle.ring.proofs.TableLemmas.Steps.{gathers_at}
 use Rattle.ring.proofs.KeeperLemmas.Returning.{IsBack, joined_is, comes_back, meets_as, comes_as}

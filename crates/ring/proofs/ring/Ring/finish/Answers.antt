@@ -3,8 +3,8 @@ use Rattle.std.specs.Slots.{slots_items}
 use mathlib.Core.Option.{some}
 use lib.ListN.{get_elem?}
 use Rattle.atomic_table.specs.Table.{Final, Seen}
-use Rattle.ringcore.specs.world.Allowed.{Ring}
-use Rattle.ring.specs.table.Rule.{Holding, RuleHolds}
+use Rattle.ring.specs.Runs.{Ring}
+use Rattle.ring.specs.table.{Holding, RuleHolds}
 use Rattle.ring.specs.Finishing.{all_in}
 use Rattle.ring.proofs.TableLemmas.StepKinds.{control_inside}
 use Rattle.ring.proofs.TableLemmas.Steps.{gathers_at}
@@ -13,7 +13,7 @@ use Rattle.qindex.specs.ControlWord.{IsControlWord, control_in}
 use Rattle.ring.proofs.ring.Ring.finish.Given.{Over}
 use Rattle.ring.proofs.ring.Ring.finish.Goals as goal
 use Rattle.ring.specs.Rings.{RingValue}
-use Rattle.ring.specs.sender.Senders.{SenderValue}
+use Rattle.ring.specs.sender.{SenderValue}
 
 pub join_seat-requires : goal.join_seat-requires
 join_seat-requires g c =

@@ -1,8 +1,7 @@
 use Rattle.std.proofs.Common.{◌≤◌, ℕ, sym, ap, subst, ◌∙◌}
-use Rattle.ringcore.specs.declared.world.event.Who.{Who}
-use Rattle.ringcore.specs.world.Trails.{trail_of}
-use Rattle.ring.specs.table.Ports.{PortValue}
-use Rattle.ring.specs.sender.Senders.{SenderValue}
+use Rattle.ring.specs.Runs.{Who, trail_of}
+use Rattle.ring.specs.table.{PortValue}
+use Rattle.ring.specs.sender.{SenderValue}
 use Rattle.ring.proofs.sender.Sender.done_up_to.Goals as goal
 
 pub returns-clause-few : goal.returns-clause-few

@@ -1,6 +1,6 @@
 use Rattle.std.proofs.Common.{ℕ, subst}
-use Rattle.ringcore.specs.declared.world.event.Who.TheVariants.{Sender}
-use Rattle.ring.specs.table.Histories.{Grew}
+use Rattle.ring.specs.Runs.{Sender}
+use Rattle.ring.specs.table.{Grew}
 use Rattle.ring.proofs.TableLemmas.Grown.{grew_more}
 use Rattle.ring.proofs.sender.Sender.send_borrowed_bare.Goals as goal
 

@@ -1,9 +1,8 @@
 use Rattle.std.proofs.Common.{rules, ℕ, List, sym, subst, add-one, ◌∙◌, arith}
 use Rattle.cmdcodec.specs.declared.raw.Raw.{Raw}
-use Rattle.ringcore.specs.declared.world.event.Who.TheVariants.{Sender}
-use Rattle.ring.specs.table.Histories.{Grew}
-use Rattle.ring.specs.sender.Reserving.{IsRefused}
-use Rattle.ring.specs.sender.Sending.{HasTried}
+use Rattle.ring.specs.Runs.{Sender}
+use Rattle.ring.specs.table.{Grew}
+use Rattle.ring.specs.sender.{IsRefused, HasTried}
 use Rattle.ring.proofs.TableLemmas.Grown.{grew_more}
 use Rattle.ring.proofs.sender.Sender.try_to_open.Goals as goal
 

@@ -1,6 +1,6 @@
 use Rattle.std.proofs.Common.{List, subst}
 use Rattle.cmdcodec.specs.declared.raw.Raw.{Raw}
-use Rattle.simulator.specs.queue.Trying.{IsTriedWell}
+use Rattle.simulator.specs.queue.{IsTriedWell}
 use Rattle.simulator.proofs.PublishLemmas.{sent_well}
 use Rattle.simulator.proofs.queue.sending.send_once.Goals as goal
 

@@ -1,11 +1,9 @@
 use Rattle.std.proofs.Common.{◌≡◌, ◌+◌, ℕ, List, [], ◌∷◌, length, length-append, Some, sym, ap, subst, ◌∙◌, arith}
 use Rattle.std.specs.Prelude.{slice_get}
 use Rattle.cmdcodec.specs.declared.raw.Raw.{Raw}
-use Rattle.ringcore.specs.declared.world.event.Half.{Half}
-use Rattle.ringcore.specs.world.Trails.{Trail, found_ready, half_read}
-use Rattle.ringcore.specs.world.World.{half_of}
-use Rattle.ring.specs.table.Ports.{PortValue}
-use Rattle.ring.specs.consumer.Pendings.{HasSeen}
+use Rattle.ring.specs.Runs.{Half, Trail, found_ready, half_read, half_of}
+use Rattle.ring.specs.table.{PortValue}
+use Rattle.ring.specs.consumer.{HasSeen}
 use Rattle.ring.proofs.TableLemmas.Grown.{grew_more, consumer_step}
 use Rattle.ring.proofs.ConsumerLemmas.Reads.{read_more, run_more, trail_more, seen_first}
 use Rattle.ring.proofs.consumer.consumer_port.ConsumerPort.read_run.Goals as goal

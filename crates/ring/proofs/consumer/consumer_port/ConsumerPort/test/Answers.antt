@@ -1,7 +1,6 @@
 use Rattle.std.proofs.Common.{ap, ◌∙◌, subst}
-use Rattle.ringcore.specs.declared.world.event.Who.{Who}
-use Rattle.ring.specs.table.Ports.{PortValue}
-use Rattle.ring.specs.table.Histories.{IsHistory}
+use Rattle.ring.specs.Runs.{Who}
+use Rattle.ring.specs.table.{PortValue, IsHistory}
 use Rattle.ring.proofs.TableLemmas.Grown.{unturned_now}
 use Rattle.ring.proofs.consumer.consumer_port.ConsumerPort.test.Goals as goal
 

@@ -1,15 +1,13 @@
 use Rattle.std.proofs.Common.{rules, [], ◌≡◌, ◌+◌, ◌-◌, ℕ, ap, sym, subst, arith, ◌∙◌}
 use Rattle.qindex.specs.Positions.{size}
-use Rattle.ringcore.specs.declared.world.event.Who.TheVariants.{Sender}
-use Rattle.ringcore.specs.world.Trails.{reserved_length}
-use Rattle.ring.specs.table.Histories.{Grew}
+use Rattle.ring.specs.Runs.{Sender, reserved_length}
+use Rattle.ring.specs.table.{Grew}
 use Rattle.ring.proofs.TableLemmas.Grown.{grew_more}
-use Rattle.ring.specs.sender.Senders.{SenderValue}
-use Rattle.ring.specs.sender.Reservations.{ReservationValue}
+use Rattle.ring.specs.sender.{SenderValue, ReservationValue}
 use Rattle.ring.proofs.SenderLemmas.ReservesNone.{handed_over}
 use Rattle.ring.proofs.SenderLemmas.TwoRuns.{wrote_is, left_is, all_flipped}
 use Rattle.ring.proofs.sender.open_reservation.OpenReservation.hand_over.Goals as goal
-use Rattle.ring.specs.sender.Publishing.{flipped_left}
+use Rattle.ring.specs.sender.{flipped_left}
 
 pub flip_left-requires : goal.flip_left-requires
 flip_left-requires g c = ap (λ (r : ReservationValue). r.ring) c.write_left-reservation.ensures.new ∙ (wrote_is (reserved_length c.args.self.trail - c.args.self.written) (record c.args.self { history = [] })).ring_is ∙ c.requires

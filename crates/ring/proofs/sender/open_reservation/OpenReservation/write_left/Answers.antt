@@ -1,9 +1,7 @@
 use Rattle.std.proofs.Common.{[], ◌≡◌, ◌+◌, ℕ, add-one, refl, sym, ap, subst, arith, ◌∙◌}
-use Rattle.ringcore.specs.world.Trails.{reserved_length}
-use Rattle.ringcore.specs.declared.world.event.Who.TheVariants.{Sender}
-use Rattle.ring.specs.table.Histories.{Grew}
-use Rattle.ring.specs.sender.Reservations.{ReservationValue}
-use Rattle.ring.specs.sender.Publishing.{wrote_one, wrote_many}
+use Rattle.ring.specs.Runs.{reserved_length, Sender}
+use Rattle.ring.specs.table.{Grew}
+use Rattle.ring.specs.sender.{ReservationValue, wrote_one, wrote_many}
 use Rattle.ring.proofs.TableLemmas.Grown.{grew_none, grew_more}
 use Rattle.ring.proofs.SenderLemmas.TwoRuns.{wrote_is}
 use Rattle.ring.proofs.sender.open_reservation.OpenReservation.write_left.Goals as goal

@@ -1,11 +1,7 @@
 use Rattle.std.proofs.Common.{[], arith, ◌≡◌, ◌<◌, ◌≤◌, ℕ, suc, ◌∷◌, sym, ap, subst, ◌∙◌}
-use Rattle.ringcore.specs.declared.world.event.Who.TheVariants.{Consumer}
-use Rattle.ringcore.specs.declared.world.event.Event.TheVariants.{Acknowledge}
-use Rattle.ringcore.specs.world.Trails.{acknowledged_by}
-use Rattle.ringcore.specs.world.Laws.{syncs_taken}
+use Rattle.ring.specs.Runs.{Consumer, Acknowledge, acknowledged_by, syncs_taken}
 use Rattle.ring.specs.Rings.{RingValue}
-use Rattle.ring.specs.table.Ports.{PortValue}
-use Rattle.ring.specs.table.Histories.{Grew}
+use Rattle.ring.specs.table.{PortValue, Grew}
 use Rattle.ring.proofs.TableLemmas.Grown.{grew_step, grew_more}
 use Rattle.ring.proofs.ConsumerLemmas.Acknowledging.{all_are, is_closing, is_known, is_next, is_taken, then_after, else_after}
 use Rattle.ring.proofs.table.port.Port.acknowledge_run.Goals.{then-is_sync, else-is_sync}

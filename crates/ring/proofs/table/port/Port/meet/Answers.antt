@@ -1,6 +1,6 @@
 use Rattle.std.proofs.Common.{rules, ◌≡◌, refl, ap, ◌∙◌}
-use Rattle.ringcore.specs.world.Trails.{same}
-use Rattle.ring.specs.table.Rule.{Holding}
+use Rattle.ring.specs.Runs.{same}
+use Rattle.ring.specs.table.{Holding}
 use Rattle.ring.proofs.TableLemmas.StepKinds.{control_inside}
 use Rattle.ring.proofs.TableLemmas.Steps.{gathers_at}
 use Rattle.ring.proofs.TableLemmas.Meetings.{both, leaves_now, joined_is, meets_now, parts_now, my_seat, their_seat, have_met}
