@@ -21,10 +21,7 @@ module _ (r : ReservationValue) where
   abbrev first : ℕ
   first = run_up_to g r.trail r.flipped all
 
-  abbrev by_three : Trail → Trail → Trail
-  by_three last once = last ++ (once ++ (writes_from r.written left ++ r.trail))
-
-  in_one : (last once : Trail) → by_three last once ≡ (last ++ (once ++ writes_from r.written left)) ++ r.trail
+  in_one : (last once : Trail) → last ++ (once ++ (writes_from r.written left ++ r.trail)) ≡ (last ++ (once ++ writes_from r.written left)) ++ r.trail
   in_one last once = simp append_assoc
 
   pub published_stays : StaysReserved r.trail (published r).trail
@@ -33,28 +30,22 @@ module _ (r : ReservationValue) where
       subst (StaysReserved r.trail) (in_one (flips_from second (all - second)) (flips_from r.flipped first))
       (after_flips second (all - second) r.trail _ (after_flips r.flipped first r.trail _ (after_writes r.written left r.trail)))
 
-  module _ (shared : IndexesTellSharedWords) (two_words : BatchesHaveTwoFlagWords) (few : all ≤ 64) (fits : all ≤ size g) (within : r.written ≤ all) (behind : r.flipped ≤ r.written) where
+  module _ (shared : IndexesTellSharedWords) (two_words : BatchesHaveTwoFlagWords) (few : all ≤ 64) (fits : all ≤ size g) (behind : r.flipped ≤ r.written) (k : ℕ) (whole : r.written + k ≡ all) where
     abbrev wrote : ReservationValue
-    wrote = wrote_many left r
+    wrote = wrote_many k r
 
     abbrev x : ℕ
     x = (start_index g r.trail).number
 
-    abbrev word : ℕ → ℕ
-    word slot = shared_word g (index_of g (x + slot)).number
-
-    all_written : r.written + left ≡ all
-    all_written = omega arith
-
     once_is : next_run wrote ≡ first
-    once_is = λ i. min (shared_word g (index_of g (((after_writes r.written left r.trail).start g i).number + r.flipped)).number) (all_written i - r.flipped)
+    once_is = λ i. min (shared_word g (index_of g (((after_writes r.written k r.trail).start g i).number + r.flipped)).number) (whole i - r.flipped)
 
     -- the second flip has what the first has left
-    rest : min (word (r.flipped + first)) (all - (r.flipped + first)) ≡ all - (r.flipped + first)
+    rest : min (shared_word g (index_of g (x + (r.flipped + first))).number) (all - (r.flipped + first)) ≡ all - (r.flipped + first)
     rest =
         let here = shared g (x + r.flipped) in
         let there = shared g (x + (r.flipped + first)) in
-        let whole = two_words g (x + r.flipped) (all - r.flipped) (omega arith) (omega arith) in
+        let both = two_words g (x + r.flipped) (all - r.flipped) (omega arith) (omega arith) in
         elim (cases_lt first (all - r.flipped)) [
           | inl more ↦
               let whole_word : first ≡ shared_word g (x + r.flipped) = omega arith in
@@ -66,15 +57,17 @@ module _ (r : ReservationValue) where
 
     twice_is : next_run (flipped_left wrote) ≡ all - (r.flipped + first)
     twice_is =
-        (λ i. min (shared_word g (index_of g (((after_flips r.flipped (next_run wrote) r.trail wrote.trail (after_writes r.written left r.trail)).start g i).number + (r.flipped + once_is i))).number) (all_written i - (r.flipped + once_is i)))
-        ∙ rest
+        let stays = (after_flips r.flipped (next_run wrote) r.trail wrote.trail (after_writes r.written k r.trail)).start g in
+        (λ i. min (shared_word g (index_of g ((stays i).number + (r.flipped + once_is i))).number) (whole i - (r.flipped + once_is i))) ∙ rest
 
     pub all_handed_over : flipped_left (flipped_left wrote) ≡ published r
     all_handed_over =
+        let second : ℕ = r.flipped + first in
+        let left_is : k ≡ left = omega arith in
+        let end : second + (all - second) ≡ all = omega arith in
         (λ i. record r {
-          trail = by_three (flips_from (r.flipped + once_is i) (twice_is i)) (flips_from r.flipped (once_is i));
-          written = all_written i;
+          trail = flips_from (r.flipped + once_is i) (twice_is i) ++ (flips_from r.flipped (once_is i) ++ (writes_from r.written (left_is i) ++ r.trail));
+          written = whole i;
           flipped = r.flipped + once_is i + twice_is i;
         })
-        ∙ (let end : r.flipped + first + (all - (r.flipped + first)) ≡ all = omega arith in
-        λ i. record r { trail = in_one (flips_from (r.flipped + first) (all - (r.flipped + first))) (flips_from r.flipped first) i; written = all; flipped = end i })
+        ∙ (λ i. record r { trail = in_one (flips_from second (all - second)) (flips_from r.flipped first) i; written = all; flipped = end i })

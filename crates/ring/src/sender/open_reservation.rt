@@ -6,7 +6,7 @@ ghost use Rattle.ringcore.specs.world.Trails.{reserved_length, IsSettled};
 ghost use Rattle.ringcore.specs.memory.StepLaws.{reserved_commands};
 ghost use Rattle.ring.specs.table.Histories.{Grew};
 ghost use Rattle.ring.specs.sender.Reservations.{IsWrittenUpTo, IsFlippedUpTo, IsReceiptOf};
-ghost use Rattle.ring.specs.sender.Publishing.{wrote_one, wrote_many, flipped_one, flipped_left, published, sender_of, ReservesNone};
+ghost use Rattle.ring.specs.sender.Publishing.{wrote_one, flipped_one, flipped_left, published, sender_of, ReservesNone};
 
 use crate::ring::Ring;
 use crate::sender::Sender;
@@ -93,19 +93,6 @@ impl<'b, K: BatchKind> OpenReservation<'b, K> {
         self.flipped += 1;
     }
 
-    /// Writes what is left.
-    fn write_left(self, ring: &Ring) -> OpenReservation<'b, K>
-        requires { self.ring ≡ ring.now }
-        ensures new { record result { history = [] } ≡ wrote_many (reserved_length self.entry.trail - self.entry.written) (record self.entry { history = [] }) }
-        ensures history { Grew (SenderOf self.entry.sender) self.entry.trail result.trail self.entry.history result.history }
-    {
-        let mut reservation = self;
-        for done in 0..reservation.unwritten() {
-            reservation.write_next(ring);
-        }
-        reservation
-    }
-
     /// Flips what is written and not flipped, as far as it stands in one flag word.
     fn flip_left(&mut self, ring: &Ring)
         requires { self.old.ring ≡ ring.now }
@@ -135,7 +122,10 @@ impl<'b, K: BatchKind> OpenReservation<'b, K> {
         // For the clauses of both: two flag words hold all flags of a batch.
         self.len();
         sender_trail();
-        let mut reservation = self.write_left(ring);
+        let mut reservation = self;
+        for done in 0..reservation.unwritten() {
+            reservation.write_next(ring);
+        }
         reservation.flip_left(ring);
         reservation.flip_left(ring);
         reservation.into_sender()

@@ -2,7 +2,6 @@ use Rattle.std.proofs.Common.{rules, arith, ◌≡◌, ℕ, zero, suc, ◌+◌, 
 use Rattle.ringcore.specs.declared.world.event.Who.TheVariants.{Sender}
 use Rattle.ringcore.specs.declared.world.event.Event.TheVariants.{Flip}
 use Rattle.ring.specs.table.Histories.{Grew}
-use Rattle.ring.specs.table.Ports.{PortValue}
 use Rattle.ring.specs.sender.Reservations.{ReservationValue}
 use Rattle.ring.specs.sender.Publishing.{flips_from, next_run, flipped_left}
 use Rattle.ring.proofs.TableLemmas.Grown.{port_step}
@@ -11,9 +10,9 @@ use Rattle.ring.proofs.sender.open_reservation.OpenReservation.flip_left.Goals a
 
 -- ---- what a flip comes to, and where none is left
 
-some_left : (r : ReservationValue) (n : ℕ) → n ≡ next_run r → 1 ≤ n → record r { trail = Flip r.flipped n ∷ r.trail; flipped = r.flipped + n } ≡ flipped_left r
-some_left r zero is some = absurd (omega arith)
-some_left r (suc k) is some = ap (λ (n : ℕ). record r { trail = flips_from r.flipped n ++ r.trail; flipped = r.flipped + n }) is
+some_left : (r new : ReservationValue) (n : ℕ) → new ≡ record r { trail = Flip r.flipped n ∷ r.trail; flipped = r.flipped + n } → n ≡ next_run r → 1 ≤ n → new ≡ flipped_left r
+some_left r new zero new_is is some = absurd (omega arith)
+some_left r new (suc k) new_is is some = new_is ∙ ap (λ (n : ℕ). record r { trail = flips_from r.flipped n ++ r.trail; flipped = r.flipped + n }) is
 
 none_left : (r : ReservationValue) → r.written ≤ r.flipped → r ≡ flipped_left r
 none_left r done =
@@ -36,21 +35,8 @@ flip-requires-clause-share g c = let n = c.min-count.ensures in fewer_share _ _ 
 
 pub returns-then-self-clause-new : goal.returns-then-self-clause-new
 returns-then-self-clause-new g c =
-    let before : ReservationValue = record {
-      ring = c.self.inside.port.ring;
-      sender = c.self.inside.tally.sender;
-      body = c.self.inside.batch;
-      closes = g.K.BatchKind.closes;
-      trail = c.self.inside.port.trail;
-      history = [];
-      written = c.self.inside.written;
-      flipped = c.self.inside.flipped;
-    } in
     let n = c.min-count.ensures in let some = c.shared_word.ensures.some in
-    let run : c.min-count.result ≡ next_run before = search rules in
-    ap (λ (p : PortValue). record before { ring = p.ring; trail = p.trail; flipped = before.flipped + c.min-count.result }) c.flip.ensures.trail
-    ∙ some_left before c.min-count.result run (omega arith)
-    ∙ ap (λ (r : ReservationValue). flipped_left (record r { history = [] })) c.self.view_is
+    some_left (record c.args.self.now { history = [] }) _ c.min-count.result (search rules) (search rules) (omega arith)
 
 pub returns-else-self-clause-new : goal.returns-else-self-clause-new
 returns-else-self-clause-new g c = none_left (record c.args.self.now { history = [] }) (subst (λ (r : ReservationValue). r.written ≤ r.flipped) c.self.view_is c.if-self.false)
