@@ -15,34 +15,26 @@ module _ (r : ReservationValue) where
   abbrev all : ℕ
   all = reserved_length r.trail
 
-  abbrev left : ℕ
-  left = all - r.written
-
   abbrev first : ℕ
   first = run_up_to g r.trail r.flipped all
 
-  in_one : (last once : Trail) → last ++ (once ++ (writes_from r.written left ++ r.trail)) ≡ (last ++ (once ++ writes_from r.written left)) ++ r.trail
+  in_one : (last once : Trail) → last ++ (once ++ (writes_from r.written (all - r.written) ++ r.trail)) ≡ (last ++ (once ++ writes_from r.written (all - r.written))) ++ r.trail
   in_one last once = simp append_assoc
 
   pub published_stays : StaysReserved r.trail (published r).trail
   published_stays =
       let second : ℕ = r.flipped + first in
       subst (StaysReserved r.trail) (in_one (flips_from second (all - second)) (flips_from r.flipped first))
-      (after_flips second (all - second) r.trail _ (after_flips r.flipped first r.trail _ (after_writes r.written left r.trail)))
+      (after_flips second (all - second) r.trail _ (after_flips r.flipped first r.trail _ (after_writes r.written (all - r.written) r.trail)))
 
   module _ (shared : IndexesTellSharedWords) (two_words : BatchesHaveTwoFlagWords) (few : all ≤ 64) (fits : all ≤ size g) (behind : r.flipped ≤ r.written) (k : ℕ) (whole : r.written + k ≡ all) where
-    abbrev wrote : ReservationValue
-    wrote = wrote_many k r
-
-    abbrev x : ℕ
-    x = (start_index g r.trail).number
-
-    once_is : next_run wrote ≡ first
+    once_is : next_run (wrote_many k r) ≡ first
     once_is = λ i. min (shared_word g (index_of g (((after_writes r.written k r.trail).start g i).number + r.flipped)).number) (whole i - r.flipped)
 
     -- the second flip has what the first has left
-    rest : min (shared_word g (index_of g (x + (r.flipped + first))).number) (all - (r.flipped + first)) ≡ all - (r.flipped + first)
+    rest : min (shared_word g (index_of g ((start_index g r.trail).number + (r.flipped + first))).number) (all - (r.flipped + first)) ≡ all - (r.flipped + first)
     rest =
+        let x : ℕ = (start_index g r.trail).number in
         let here = shared g (x + r.flipped) in
         let there = shared g (x + (r.flipped + first)) in
         let both = two_words g (x + r.flipped) (all - r.flipped) (omega arith) (omega arith) in
@@ -55,15 +47,15 @@ module _ (r : ReservationValue) where
           | inr none ↦ omega arith
         ]
 
-    twice_is : next_run (flipped_left wrote) ≡ all - (r.flipped + first)
+    twice_is : next_run (flipped_left (wrote_many k r)) ≡ all - (r.flipped + first)
     twice_is =
-        let stays = (after_flips r.flipped (next_run wrote) r.trail wrote.trail (after_writes r.written k r.trail)).start g in
+        let stays = (after_flips r.flipped (next_run (wrote_many k r)) r.trail (wrote_many k r).trail (after_writes r.written k r.trail)).start g in
         (λ i. min (shared_word g (index_of g ((stays i).number + (r.flipped + once_is i))).number) (whole i - (r.flipped + once_is i))) ∙ rest
 
-    pub all_handed_over : flipped_left (flipped_left wrote) ≡ published r
+    pub all_handed_over : flipped_left (flipped_left (wrote_many k r)) ≡ published r
     all_handed_over =
         let second : ℕ = r.flipped + first in
-        let left_is : k ≡ left = omega arith in
+        let left_is : k ≡ all - r.written = omega arith in
         let end : second + (all - second) ≡ all = omega arith in
         (λ i. record r {
           trail = flips_from (r.flipped + once_is i) (twice_is i) ++ (flips_from r.flipped (once_is i) ++ (writes_from r.written (left_is i) ++ r.trail));
