@@ -11,6 +11,7 @@ use Rattle.ring.specs.Rings.{RingValue}
 use Rattle.ring.specs.NewRings.{made_with}
 use Rattle.ring.specs.declared.sender.tally.Tally.{Tally}
 use Rattle.ring.specs.table.Keeping.{RunStands}
+use Rattle.ring.specs.sender.Reservations.{reserved_number, number_when}
 use Rattle.ring.specs.Keepers.{KeeperValue, IdleReservationValue, Adds, has_lent, has_back, with_step, KeepsAll, KeepsOthers, IsIdleSender, IsIdleReservation}
 use Rattle.simulator.specs.declared.queue.Seat.{Seat}
 use Rattle.simulator.specs.declared.queue.Seat.TheVariants.{Idle, Open}
@@ -48,7 +49,7 @@ pub some_is : (n : ℕ) (f : ℕ → Bool) → 1 ≤ n → ((k : ℕ) → f k �
 some_is zero f low all = absurd (omega (arith, low))
 some_is (suc n) f low all = ap (λ (a : Bool). a || some_below n f) (all n)
 
-pub length_some : (body : List Raw) (closes : Bool) → 1 ≤ length body → 1 ≤ length_with closes body
+length_some : (body : List Raw) (closes : Bool) → 1 ≤ length body → 1 ≤ length_with closes body
 length_some body true some = omega (arith, some)
 length_some body false some = some
 
@@ -65,6 +66,12 @@ open_is_open keeper s body idle is =
     subst (λ (n : ℕ). is_open (trail_of (Sender n) keeper.run) ≡ true) is.sender_is
     (some_is (reserved_length mine) (λ k. not (has_flipped k mine)) some
     (λ k. ap not (is.open_is.in_flipped k ∙ ap (λ (n : ℕ). nat_lt k n) is.unflipped ∙ lt-leb (suc k) 0 (omega arith))))
+
+-- the number of what is open there
+pub last_is : (keeper : KeeperValue) (s : ℕ) (body : List Raw) (idle : IdleReservationValue) → idle.tally.sender ≡ s → IsIdleReservation keeper body idle
+    → number_when idle.closes idle.tally.numbers ≡ reserved_number (trail_of (Sender s) keeper.run)
+last_is keeper s body idle sender_is is =
+    sym is.number_is ∙ ap (λ (n : ℕ). reserved_number (trail_of (Sender n) keeper.run)) sender_is
 
 -- ---- the others' seats
 

@@ -19,7 +19,7 @@ use Rattle.ring.specs.sender.Reservations.{ReservationValue, reserved_number, nu
 use Rattle.ring.specs.sender.Reserving.{IsReserved, IsRefused}
 use Rattle.simulator.specs.declared.queue.reserved.Reserved.{Reserved}
 use Rattle.simulator.specs.queue.{looked_by, cause_ahead, cause_seen, Try, refused_for, won, unless_seen, unless_ahead, try_to_reserve, tried_by, IsTriedWell, IsTriedInVain}
-use Rattle.simulator.proofs.SeatLemmas.{IsCall}
+use Rattle.simulator.proofs.SeatLemmas.{IsCall, last_is}
 
 -- ---- how a try is answered
 
@@ -200,7 +200,7 @@ module _ (tells : IndexesTellTheQueue) (within : NeverMoreThanFull) (old new : K
 
     number_is : (idle : IdleReservationValue) → idle.tally.sender ≡ s → IsIdleReservation new body idle → number_when idle.closes idle.tally.numbers ≡ number
     number_is idle sender_is there =
-        sym there.number_is ∙ ap (λ (n : ℕ). reserved_number (trail_of (Sender n) new.run)) sender_is ∙ ap reserved_number won_trail
+        last_is new s body idle sender_is there ∙ ap reserved_number won_trail
 
   pub well : (r : ReservationValue) (idle : IdleReservationValue) → IsCall s r.trail old new → IsReserved body closes lent r → IsLeftOf r idle → idle.tally.sender ≡ s → IsIdleReservation new r.body idle
       → IsTriedWell old new s body closes idle
