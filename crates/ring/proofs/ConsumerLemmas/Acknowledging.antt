@@ -1,5 +1,6 @@
 -- The closing syncs of a run that was taken are acknowledged one after another.
 use Rattle.std.proofs.Common.{◌≡◌, ℕ, suc, ◌+◌, ◌*◌, ◌<◌, ◌≤◌, Bool, true, false, cond, ◌==◌, ◌&&◌, List, [], ◌∷◌, ◌++◌, take, Some, refl, sym, ap, ◌∙◌, subst, append_assoc, eq-eqb, eqb-true, arith}
+use Rattle.std.proofs.lemmas.Bool.{cond_both}
 use Rattle.std.specs.Prelude.{slice_get}
 use Rattle.cmdcodec.specs.declared.raw.Raw.{Raw}
 use Rattle.cmdcodec.specs.Opcodes.{is_sync}
@@ -16,11 +17,8 @@ use Rattle.ring.proofs.ConsumerLemmas.Runs.{take_more, split_at}
 
 pub acknowledged_keep : {X : Type 0} (f : Trail → X) → ((s n : ℕ) (t : Trail) → f (Acknowledge s n ∷ t) ≡ f t) → (raws : List Raw) (t : Trail) → f (all_acknowledged raws t) ≡ f t
 acknowledged_keep f same [] t = refl
-acknowledged_keep f same (raw ∷ raws) t = acknowledged_keep f same raws (acknowledged raw t) ∙ by_kind (is_sync raw)
-  where
-    by_kind : (b : Bool) → f (cond b (Acknowledge (sync_sender raw) (sync_number raw) ∷ t) t) ≡ f t
-    by_kind true = same (sync_sender raw) (sync_number raw) t
-    by_kind false = refl
+acknowledged_keep f same (raw ∷ raws) t = acknowledged_keep f same raws (acknowledged raw t)
+    ∙ cond_both (is_sync raw) (Acknowledge (sync_sender raw) (sync_number raw) ∷ t) t (λ u. f u ≡ f t) (λ _. same (sync_sender raw) (sync_number raw) t) (λ _. refl)
 
 acknowledged_snoc : (raws : List Raw) (raw : Raw) (t : Trail) → all_acknowledged (raws ++ raw ∷ []) t ≡ acknowledged raw (all_acknowledged raws t)
 acknowledged_snoc [] raw t = refl
@@ -31,11 +29,7 @@ acknowledged_snoc (r ∷ rs) raw t = acknowledged_snoc rs raw (acknowledged r t)
 module _ (add_up : SyncsAddUp) (by_raws : SyncsOfRawsAreCounted) (words : SyncsTellTheirBatch) (senders : ℕ) (few : senders ≤ 256) (before : Trail)
     (ahead behind : List Raw) (raw : Raw) (now : Trail) (acks : (s : ℕ) → acknowledged_by s now ≡ syncs_taken s before + syncs_in s ahead) where
   one_more : (s : ℕ) → syncs_in s (ahead ++ raw ∷ []) ≡ syncs_in s ahead + cond {A = ℕ} (is_sync_to s raw) 1 0
-  one_more s = add_up s ahead (raw ∷ []) ∙ by_kind (is_sync_to s raw)
-    where
-      by_kind : (b : Bool) → syncs_in s ahead + cond {A = ℕ} b (suc 0) 0 ≡ syncs_in s ahead + cond {A = ℕ} b 1 0
-      by_kind true = refl
-      by_kind false = refl
+  one_more s = add_up s ahead (raw ∷ [])
 
   pub passed : is_sync raw ≡ false → (s : ℕ) → acknowledged_by s now ≡ syncs_taken s before + syncs_in s (ahead ++ raw ∷ [])
   passed other s =

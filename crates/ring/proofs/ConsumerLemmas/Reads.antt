@@ -1,7 +1,8 @@
 -- Reads of a run, one command after another, and what is found again.
 use Rattle.std.proofs.Common.{◌≡◌, ◌≢◌, ◌<◌, ◌≤◌, ◌+◌, ℕ, zero, suc, Bool, true, cond, ◌&&◌, List, [], ◌∷◌, ◌++◌, length, length-append, Some, refl, sym, ap, subst, ◌∙◌, inl, inr, eq-eqb, ne_eqb, arith}
 use Rattle.std.proofs.lemmas.Bool.{cases_eq}
-use Rattle.std.proofs.lemmas.Option.{slice_get_within}
+use Rattle.std.proofs.lemmas.Option.{slice_get_within, same_Some}
+use Rattle.ring.proofs.Lists.{at_end, in_front}
 use Rattle.std.specs.Prelude.{slice_get}
 use Rattle.cmdcodec.specs.declared.raw.Raw.{Raw}
 use Rattle.ringcore.specs.declared.world.event.Half.{Half}
@@ -30,16 +31,6 @@ read_again lo hi limit found c t raw s seen =
     (λ k. let r : Raw = record { lo = low k; hi = high k } in r)
 
 -- ---- a run of reads
-
--- an element of a longer list, by its place
-get_behind : {A : Type 0} (xs ys : List A) (i : ℕ) → slice_get (xs ++ ys) (length xs + i) ≡ slice_get ys i
-get_behind [] ys i = ap (slice_get ys) (let e : 0 + i ≡ i = omega arith in e)
-get_behind (x ∷ xs) ys i = ap (slice_get (x ∷ (xs ++ ys))) (let e : length (x ∷ xs) + i ≡ suc (length xs + i) = omega arith in e) ∙ get_behind xs ys i
-
-get_shorter : {A : Type 0} (xs ys : List A) (i : ℕ) → i < length xs → slice_get (xs ++ ys) i ≡ slice_get xs i
-get_shorter [] ys i low = absurd (omega (arith, low))
-get_shorter (x ∷ xs) ys zero low = refl
-get_shorter (x ∷ xs) ys (suc i) low = get_shorter xs ys i (omega (arith, low))
 
 pub reads_snoc : (o : ℕ) (rs : List Raw) (r : Raw) (t : Trail) → reads_from o (rs ++ r ∷ []) t ≡ Read (o + length rs) Hi r.hi ∷ Read (o + length rs) Lo r.lo ∷ reads_from o rs t
 reads_snoc o [] r t = let e : o ≡ o + 0 = omega arith in ap (λ (n : ℕ). let u : Trail = Read n Hi r.hi ∷ Read n Lo r.lo ∷ t in u) e
@@ -84,8 +75,7 @@ module _ (lo hi : ℕ) where
       → half_read k half (Read i Hi hi ∷ Read i Lo lo ∷ t) ≡ Some (half_of half raw)
   read_more xs i t long before k raw half at = elim (cases_eq k i) [
     | inl same ↦
-        let place : k ≡ length xs + 0 = omega (arith, same, long) in
-        let is : one ≡ raw = (let e : Some one ≡ Some raw = sym (get_behind xs (one ∷ []) 0) ∙ ap (slice_get (xs ++ one ∷ [])) (sym place) ∙ at in cc) in
+        let is : one ≡ raw = same_Some one raw (sym (at_end xs one []) ∙ ap (slice_get (xs ++ one ∷ [])) (long ∙ sym same) ∙ at) in
         ap (λ (b : Bool). cond (b && same_half half Hi) (Some hi) (cond (b && same_half half Lo) (Some lo) (half_read k half t))) (eq-eqb k i same)
         ∙ now t k half ∙ ap (λ (r : Raw). Some (half_of half r)) is
     | inr other ↦
@@ -93,7 +83,7 @@ module _ (lo hi : ℕ) where
         let many = length-append xs (one ∷ []) in
         let low : k < length xs = omega (arith, within, many, other, long) in
         ap (λ (b : Bool). cond (b && same_half half Hi) (Some hi) (cond (b && same_half half Lo) (Some lo) (half_read k half t))) (ne_eqb k i other)
-        ∙ before k raw half (sym (get_shorter xs (one ∷ []) k low) ∙ at)
+        ∙ before k raw half (sym (in_front xs (one ∷ []) k low) ∙ at)
   ]
 
   pub run_more : (d s s1 s2 : PortValue) (xs ys : List Raw) (i : ℕ) → length xs ≡ i → record s { history = [] } ≡ record d { trail = reads_from 0 xs d.trail; history = [] }

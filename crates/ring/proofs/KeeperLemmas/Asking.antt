@@ -1,6 +1,7 @@
 -- One step of a sender that asks, looks or closes, and a load of the control word.
 use Rattle.std.proofs.Common.{rules, ◌≡◌, ℕ, ◌<◌, Bool, true, false, cond, List, [], ◌∷◌, refl, sym, ap, ◌∙◌, subst}
 use Rattle.std.specs.Prelude.{◌==◌, Some, None, slice_index}
+use Rattle.std.proofs.lemmas.Bool.{cond_both}
 use mathlib.Core.Option.{none}
 use Rattle.atomic_table.specs.Table.{step, Allows}
 use Rattle.atomic_table.specs.Seated.{TableId}
@@ -75,8 +76,7 @@ ask_leaves_all found t = search rules
 
 -- whether the event is its own or not
 leaves_either : (e : Event) → LeavesAll e → (own : Bool) (t : Trail) → Leaves t (cond own (e ∷ t) t)
-leaves_either e leaves true t = leaves t
-leaves_either e leaves false t = search rules
+leaves_either e leaves own t = cond_both own (e ∷ t) t (Leaves t) (λ _. leaves t) (λ _. search rules)
 
 left_tally : (p : PortValue) (u : Trail) (h : Run) (tally : Tally) → Leaves p.trail u → IsTallied p tally → IsTallied (record p { trail = u; history = h }) tally
 left_tally p u h tally leaves is = let batches = is.batches_are ∙ sym leaves.batches in let numbers = is.numbers_are ∙ sym leaves.numbers in search rules

@@ -7,8 +7,7 @@ use Rattle.ringcore.specs.world.Laws.{IsOne, OnlyOf}
 use Rattle.ring.specs.table.Histories.{EndsWith}
 use Rattle.ring.specs.table.Keeping.{run_by, grown_run}
 use Rattle.ring.specs.Keepers.{Adds}
-use Rattle.ring.proofs.TableLemmas.Trails.{trail_here, trail_else}
-use Rattle.ring.proofs.TableLemmas.OneRun.{alike}
+use Rattle.ring.proofs.TableLemmas.Trails.{alike, trail_here, trail_own, trail_else, not_empty}
 
 -- of a run that only one has grown
 pub trail_since : (who : Who) (added : Trail) (since : Run) → trail_of who (run_by who added ++ since) ≡ added ++ trail_of who since
@@ -41,14 +40,9 @@ trail_stays who u (e ∷ es) since ne = trail_else u who e (run_by who es ++ sin
 -- a run of one alone is his events
 pub all_of_one : (n : ℕ) (who : Who) (run : Run) → OnlyOf n run → ((u : Who) → IsOne n u → u ≢ who → trail_of u run ≡ []) → run ≡ run_by who (trail_of who run)
 all_of_one n who [] only nothing = refl
-all_of_one n who (x ∷ xs) only nothing = by_first (alike x.0 who) (all_of_one n who xs only.1)
-  where
-    not_none : (x.0 ≢ who) → ⊥
-    not_none ne = (let is : ◌≡◌ {A = Trail} (x.1 ∷ trail_of x.0 xs) [] = sym (trail_here x.0 x.1 xs) ∙ nothing x.0 only.0 ne in cc)
-
-    by_first : (x.0 ≡ who) ⊎ (x.0 ≢ who) → (((u : Who) → IsOne n u → u ≢ who → trail_of u xs ≡ []) → xs ≡ run_by who (trail_of who xs)) → x ∷ xs ≡ run_by who (trail_of who (x ∷ xs))
-    by_first (inr ne) rest = absurd (not_none ne)
-    by_first (inl is) rest =
-        let behind = rest (λ u one ne. sym (trail_else u x.0 x.1 xs (λ e. ne (e ∙ is))) ∙ nothing u one ne) in
-        let trail : trail_of who (x ∷ xs) ≡ x.1 ∷ trail_of who xs = ap (λ (w : Who). trail_of who ((w, x.1) ∷ xs)) is ∙ trail_here who x.1 xs in
-        (λ k. let l : Run = (is k, x.1) ∷ behind k in l) ∙ ap (run_by who) (sym trail)
+all_of_one n who (x ∷ xs) only nothing = elim (alike x.0 who) [
+  | inr ne ↦ absurd (not_empty _ _ (sym (trail_here x.0 x.1 xs) ∙ nothing x.0 only.0 ne))
+  | inl is ↦
+      let behind = all_of_one n who xs only.1 (λ u one ne. sym (trail_else u x.0 x.1 xs (λ e. ne (e ∙ is))) ∙ nothing u one ne) in
+      (λ k. let l : Run = (is k, x.1) ∷ behind k in l) ∙ ap (run_by who) (sym (trail_own who x xs is))
+]

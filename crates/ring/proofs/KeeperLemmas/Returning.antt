@@ -16,9 +16,9 @@ use Rattle.ring.specs.table.Histories.{EndsWith, Grew}
 use Rattle.ring.specs.table.Keeping.{RunStands, one_of_run, run_by, grown_run}
 use Rattle.ring.specs.table.Ports.{PortValue, port_of}
 use Rattle.ring.specs.Keepers.{KeeperValue, keeper_of, missing, AllBut, IsKeeper, has_back, Adds, IsNews, KeepsOthers}
-use Rattle.ring.proofs.TableLemmas.Trails.{trail_append, none_before}
-use Rattle.ring.proofs.TableLemmas.OneRun.{alike, only_left}
-use Rattle.ring.proofs.TableLemmas.Meetings.{knowing_who, meets_at}
+use Rattle.ring.proofs.TableLemmas.Trails.{alike, trail_append, none_before}
+use Rattle.ring.proofs.TableLemmas.OneRun.{only_left}
+use Rattle.ring.proofs.TableLemmas.Meetings.{knowing_who}
 use Rattle.ring.proofs.TableLemmas.Keeping.{its_trail}
 use Rattle.ring.proofs.KeeperLemmas.Seated.{sits_any, none_missing, IsOther, someone, same_history, know_told}
 use Rattle.ring.proofs.KeeperLemmas.Growing.{ends_by, grown_run_is, adds_those, all_of_one}
@@ -102,9 +102,6 @@ module _ (z : Ring) (old : Run) (who : Who) (v : List Participant) (knows : AllB
       let met : HaveMet (all, []) last = subst (λ (m : Holding). HaveMet m last) me_is did in
       let stands : RunStands z met.0 = record { limits = met.2.limits; words = met.1; after = met.2.after; only = met.2.only } in
       subst (IsBack z old who trail history) (sym met.3) (is_back met.0 stands met.2.has met.4)
-
-pub meets_as : (key : Ring) (slots id i : ℕ) (p : Participant) (ps : List Participant) (me : Holding) → me ≡ (p ∷ ps, []) → Allows (RuleHolds key) slots id me i (λ x. x) (has_met (step slots i 0 0 none) me)
-meets_as key slots id i p ps me is = subst (λ (m : Holding). Allows (RuleHolds key) slots id m i (λ x. x) (has_met (step slots i 0 0 none) m)) (sym is) (meets_at key slots id i p ps)
 
 -- the same by what contracts see
 pub record ComesBack (q : PortValue) (old new : KeeperValue) : Type 0 where

@@ -1,6 +1,7 @@
 -- Who sits at a keeper's seat, who is missing there, and what those who sit there know.
 use Rattle.std.proofs.Common.{◌≡◌, ◌≢◌, ℕ, zero, suc, ◌+◌, ◌<◌, ◌≤◌, Bool, true, false, cond, List, [], ◌∷◌, refl, sym, ap, ◌∙◌, inl, inr, arith}
 use Rattle.std.specs.Prelude.{Option, Some, None}
+use Rattle.std.proofs.lemmas.Bool.{cond_both, cond-false}
 use mathlib.Core.Logic.{dite}
 use native.Mathlib.Decide.{ℕ_discrete}
 use Rattle.ringcore.specs.declared.world.event.Who.{Who}
@@ -20,19 +21,12 @@ use Rattle.ring.proofs.TableLemmas.Trails.{same_refl}
 pub sits_any : (who : Who) (v : List Participant) → Any (λ p. p.who ≡ who) v → sits who v ≡ true
 sits_any who [] one = absurd one
 sits_any who (p ∷ ps) (inl is) = ap (λ (b : Bool). cond b true (sits who ps)) (ap (λ (u : Who). same u who) is ∙ same_refl who)
-sits_any who (p ∷ ps) (inr more) = by_one (same p.who who) (sits_any who ps more)
-  where
-    by_one : (b : Bool) → sits who ps ≡ true → cond b true (sits who ps) ≡ true
-    by_one true rest = refl
-    by_one false rest = rest
+sits_any who (p ∷ ps) (inr more) = cond_both (same p.who who) true (sits who ps) (λ b. b ≡ true) (λ _. refl) (λ _. sits_any who ps more)
 
 pub sits_not : (who : Who) (v : List Participant) → sits who (without who v) ≡ false
 sits_not who [] = refl
-sits_not who (p ∷ ps) = by_one (same p.who who) refl (sits_not who ps)
-  where
-    by_one : (b : Bool) → same p.who who ≡ b → sits who (without who ps) ≡ false → sits who (cond b (without who ps) (p ∷ without who ps)) ≡ false
-    by_one true is rest = rest
-    by_one false is rest = ap (λ (b : Bool). cond b true (sits who (without who ps))) is ∙ rest
+sits_not who (p ∷ ps) = cond_both (same p.who who) (without who ps) (p ∷ without who ps) (λ l. sits who l ≡ false)
+    (λ _. sits_not who ps) (λ is. cond-false (same p.who who) true (sits who (without who ps)) is ∙ sits_not who ps)
 
 pub none_missing : (n k more : ℕ) (v : List Participant) → k + more ≡ n → ((u : Who) → IsOne n u → sits u v ≡ true) → missing_from k more v ≡ None
 none_missing n k zero v is all = ap (λ (b : Bool). let o : Option Who = cond b None (Some Consumer) in o) (all Consumer tt)

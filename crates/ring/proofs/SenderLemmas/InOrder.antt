@@ -5,9 +5,12 @@ use Rattle.std.proofs.lemmas.Bool.Decides.{nat_tests}
 use Rattle.std.specs.Prelude.{slice_get, nat_lt}
 use Rattle.cmdcodec.specs.declared.raw.Raw.{Raw}
 use Rattle.qindex.specs.Positions.{IndexValue, index_of}
+use Rattle.std.proofs.lemmas.Option.{slice_get_within, gets}
+use Rattle.ring.proofs.Lists.{at_end, in_front}
+use Rattle.ringcore.specs.declared.world.event.Half.{Half}
 use Rattle.ringcore.specs.declared.world.event.Half.TheVariants.{Lo, Hi}
 use Rattle.ringcore.specs.declared.world.event.Event.TheVariants.{Write, Flip}
-use Rattle.ringcore.specs.world.Trails.{Trail, IsSettled, reserved_length, is_among}
+use Rattle.ringcore.specs.world.Trails.{Trail, IsSettled, reserved_length, is_among, same_half}
 use Rattle.ringcore.specs.world.World.{commands, sync_raw}
 use Rattle.ringcore.specs.world.Allowed.{MayWrite, ShareAWord, length_with}
 use Rattle.ringcore.specs.memory.StepLaws.{reserved_commands}
@@ -20,16 +23,12 @@ next_below : (k w : ℕ) → (k == w || nat_lt k w) ≡ nat_lt k (w + 1)
 next_below k w = grind (arith, nat_tests)
 
 wrote : (t : Trail) (w : ℕ) → IsWrittenUpTo w t → IsWrittenUpTo (w + 1) (Write w Hi ∷ Write w Lo ∷ t)
-wrote t w is k Lo = ap (λ (b : Bool). (k == w && false) || ((k == w && true) || b)) (is k Lo) ∙ tidy (k == w) (nat_lt k w) ∙ next_below k w
+wrote t w is k half = ap (λ (b : Bool). (k == w && same_half half Hi) || ((k == w && same_half half Lo) || b)) (is k half) ∙ tidy half (k == w) (nat_lt k w) ∙ next_below k w
   where
-    tidy : (a b : Bool) → ((a && false) || ((a && true) || b)) ≡ (a || b)
-    tidy true b = refl
-    tidy false b = refl
-wrote t w is k Hi = ap (λ (b : Bool). (k == w && true) || ((k == w && false) || b)) (is k Hi) ∙ tidy (k == w) (nat_lt k w) ∙ next_below k w
-  where
-    tidy : (a b : Bool) → ((a && true) || ((a && false) || b)) ≡ (a || b)
-    tidy true b = refl
-    tidy false b = refl
+    tidy : (half : Half) (a b : Bool) → ((a && same_half half Hi) || ((a && same_half half Lo) || b)) ≡ (a || b)
+    tidy Lo true b = refl
+    tidy Hi true b = refl
+    tidy half false b = refl
 
 flipped_more : (t : Trail) (f n : ℕ) → IsFlippedUpTo f t → IsFlippedUpTo (f + n) (Flip f n ∷ t)
 flipped_more t f n is k = ap (λ (b : Bool). is_among f n k || b) (is k) ∙ until
@@ -77,21 +76,7 @@ module _ (port : PortValue) (tally : Tally) (body : List Raw) (closes : Bool) (s
 
 in_body : (s : ℕ) (number : Option ℕ) (body : List Raw) (i : ℕ) (raw : Raw) → slice_get body i ≡ Some raw → slice_get (commands s number body) i ≡ Some raw
 in_body s None body i raw at = at
-in_body s (Some n) body i raw at = in_front body i at
-  where
-    in_front : (xs : List Raw) (j : ℕ) → slice_get xs j ≡ Some raw → slice_get (xs ++ sync_raw s n ∷ []) j ≡ Some raw
-    in_front [] j at = absurd (cc)
-    in_front (x ∷ xs) zero at = at
-    in_front (x ∷ xs) (suc j) at = in_front xs j at
-
-past_body : {A : Type 0} (xs : List A) (i : ℕ) → slice_get xs i ≡ None → length xs ≤ i
-past_body [] i at = omega arith
-past_body (x ∷ xs) zero at = absurd (cc)
-past_body (x ∷ xs) (suc i) at = let le = past_body xs i at in omega arith
-
-at_end : {A : Type 0} (xs : List A) (y : A) → slice_get (xs ++ y ∷ []) (length xs) ≡ Some y
-at_end [] y = refl
-at_end (x ∷ xs) y = at_end xs y
+in_body s (Some n) body i raw at = in_front body (sync_raw s n ∷ []) i (slice_get_within body i raw at) ∙ at
 
 module _ (port : PortValue) (tally : Tally) (body : List Raw) (closes : Bool) (start : IndexValue) (written flipped : ℕ) (is : IsOpen port tally body closes start written flipped) where
   pub next_in_body : (raw : Raw) → slice_get body written ≡ Some raw → slice_get (reserved_commands tally.sender port.trail) written ≡ Some raw
@@ -101,11 +86,11 @@ module _ (port : PortValue) (tally : Tally) (body : List Raw) (closes : Bool) (s
   next_is_sync raw at low raw_is = ap (λ (l : List Raw). slice_get l written) is.commands_are ∙ by_kind closes is.many ∙ ap Some (sym raw_is)
     where
       past : length body ≤ written
-      past = past_body body written at
+      past = grind (arith, gets)
 
       by_kind : (v : Bool) → reserved_length port.trail ≡ length_with v body → slice_get (commands tally.sender (number_when v tally.numbers) body) written ≡ Some (sync_raw tally.sender tally.numbers)
       by_kind true many =
-          ap (slice_get (body ++ sync_raw tally.sender tally.numbers ∷ [])) (let m : reserved_length port.trail ≡ length body + 1 = many in let w : written < reserved_length port.trail = low in let p : length body ≤ written = past in let e : written ≡ length body = omega arith in e) ∙ at_end body (sync_raw tally.sender tally.numbers)
+          ap (slice_get (body ++ sync_raw tally.sender tally.numbers ∷ [])) (let m : reserved_length port.trail ≡ length body + 1 = many in let w : written < reserved_length port.trail = low in let p : length body ≤ written = past in let e : written ≡ length body = omega arith in e) ∙ at_end body (sync_raw tally.sender tally.numbers) []
       by_kind false many = (let m : reserved_length port.trail ≡ length body = many in let w : written < reserved_length port.trail = low in let p : length body ≤ written = past in absurd (omega arith))
 
 -- ---- flags in one word

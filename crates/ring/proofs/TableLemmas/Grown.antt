@@ -11,7 +11,7 @@ use Rattle.ringcore.specs.world.Allowed.{Ring, IsRun, FindsReady}
 use Rattle.ring.specs.table.Histories.{IsHistory, GrewBy, EndsWith, Grew, OneStepIsLast, NoStepIsNone}
 use Rattle.ring.specs.table.Ports.{PortValue}
 use Rattle.ring.specs.sender.Senders.{SenderValue}
-use Rattle.ring.proofs.TableLemmas.Trails.{trail_here, trail_append, none_before}
+use Rattle.ring.proofs.TableLemmas.Trails.{trail_here, trail_own, trail_append, not_empty, none_before}
 
 -- ---- no step, one, and some after others
 
@@ -40,18 +40,12 @@ grew_more who a b c h i j one two = record {
   last = ends_with who two.newer one.newer two.last one.last;
 }
 
--- what a part of a run holds that ends with a step of this participant
-own_first : (who : Who) (x : Who × Event) (xs : Run) → x.0 ≡ who → trail_of who (x ∷ xs) ≡ x.1 ∷ trail_of who xs
-own_first who x xs own = ap (λ (w : Who). trail_of who ((w, x.1) ∷ xs)) own ∙ trail_here who x.1 xs
-
 pub none_is_none : NoStepIsNone
 none_is_none who trail older run grew = by_newer grew.newer grew.run_is grew.trail_is grew.last
   where
     by_newer : (n : Run) → run ≡ n ++ older → trail ≡ trail_of who n ++ trail → EndsWith who n → run ≡ older
     by_newer [] is same last = is
-    by_newer (x ∷ xs) is same last =
-        let none : trail_of who (x ∷ xs) ≡ [] = none_before (trail_of who (x ∷ xs)) trail (sym same) in
-        let one : ◌≡◌ {A = Trail} (x.1 ∷ trail_of who xs) [] = sym (own_first who x xs last) ∙ none in absurd (cc)
+    by_newer (x ∷ xs) is same last = absurd (not_empty _ _ (sym (trail_own who x xs last) ∙ none_before (trail_of who (x ∷ xs)) trail (sym same)))
 
 pub one_is_last : OneStepIsLast
 one_is_last who e trail older run grew = by_newer grew.newer grew.run_is grew.trail_is grew.last
@@ -59,7 +53,7 @@ one_is_last who e trail older run grew = by_newer grew.newer grew.run_is grew.tr
     by_newer : (n : Run) → run ≡ n ++ older → e ∷ trail ≡ trail_of who n ++ trail → EndsWith who n → GrewBy who e older run
     by_newer [] is same last = absurd (let n : length (e ∷ trail) ≡ length trail = ap (λ (t : Trail). length t) same in omega (arith, n))
     by_newer (x ∷ xs) is same last =
-        let both : e ∷ trail ≡ x.1 ∷ (trail_of who xs ++ trail) = same ∙ ap (λ (t : Trail). t ++ trail) (own_first who x xs last) in
+        let both : e ∷ trail ≡ x.1 ∷ (trail_of who xs ++ trail) = same ∙ ap (λ (t : Trail). t ++ trail) (trail_own who x xs last) in
         let event : x.1 ≡ e = cc in
         let rest : trail_of who xs ++ trail ≡ trail = cc in
         record {

@@ -16,7 +16,7 @@ use Rattle.ring.specs.table.Operations.{AreMadeBy}
 use Rattle.ring.specs.table.StepEvents.{without_first, first_alone, both_of}
 use Rattle.ring.specs.table.Meetings.{all_knowing, HasAll, AllSit, HaveMet, has_met, has_found}
 use Rattle.ring.specs.table.Ports.{port_of, PortValue}
-use Rattle.ring.proofs.TableLemmas.Seats.{went_on_none, same_place, among_step}
+use Rattle.ring.proofs.TableLemmas.Seats.{went_on_none, seated_after, same_place, among_step}
 use Rattle.ring.proofs.TableLemmas.Steps.{deals_at, set_back}
 
 -- ---- all for whom a seat stands know the run as it is
@@ -74,11 +74,7 @@ finds_at ring slots id i g hs s k _ at _ =
         made = subst (AreMadeBy ring k.run) (sym (set_back s.words i)) k.made;
         only = k.only;
         seat = k.seat;
-        seated = λ j v got. ⊎_elim
-            (λ (own : (j ≡ id) × (w ≡ v)). subst (λ (t : ℕ × List Participant). SitAt k.seat t.0 t.1 × HasTrails ring k.run t.1) (λ q. (sym own.0 q, own.1 q))
-            (knowing_sit k.seat id k.run (g ∷ hs) mine.0, knowing_trails ring k.run (g ∷ hs) mine.1))
-            (λ (else : (j ≢ id) × (get_elem? s.views j ≡ some v)). k.seated j v else.1)
-            (at_set s.views id j w v got);
+        seated = λ j v. seated_after ring k.run k.seat s.views id w (knowing_sit k.seat id k.run (g ∷ hs) mine.0, knowing_trails ring k.run (g ∷ hs) mine.1) j v (λ _. k.seated j v);
         newest = among_step (λ p. p.history ≡ k.run) s.views id (g ∷ hs) w at (knowing_newest k.run (g ∷ hs)) k.newest;
         everyone = λ u one. among_step (λ p. p.who ≡ u) s.views id (g ∷ hs) w at (knowing_who u k.run (g ∷ hs)) (k.everyone u one);
       },
@@ -95,8 +91,9 @@ finds_at ring slots id i g hs s k _ at _ =
     )
 
 -- and the same, where the word that was found doesn't matter
-pub meets_at : (ring : Ring) (slots id i : ℕ) (g : Participant) (hs : List Participant) → Allows (RuleHolds ring) slots id (g ∷ hs, []) i (λ x. x) (has_met (step slots i 0 0 none) (g ∷ hs, []))
-meets_at ring slots id i g hs s k many at low = let did = finds_at ring slots id i g hs s k many at low in (did.0, did.1, did.2, did.3, did.4.0)
+pub meets_as : (ring : Ring) (slots id i : ℕ) (g : Participant) (hs : List Participant) (me : Holding) → me ≡ (g ∷ hs, []) → Allows (RuleHolds ring) slots id me i (λ x. x) (has_met (step slots i 0 0 none) me)
+meets_as ring slots id i g hs me is = subst (λ (m : Holding). Allows (RuleHolds ring) slots id m i (λ x. x) (has_met (step slots i 0 0 none) m)) (sym is)
+    (λ s k many at low. let did = finds_at ring slots id i g hs s k many at low in (did.0, did.1, did.2, did.3, did.4.0))
 
 -- ---- two seats, each of which stands for one alone
 
@@ -128,10 +125,6 @@ module _ (mine theirs : Holding) (my_own : IsAlone mine (who_of mine.0)) (their_
   joined_is one joined one_is is =
       let their_is : one ≡ (them ∷ [], []) = one_is ∙ ap (λ (m : Holding). let h : Holding = (first_alone m.0, []) in h) their_own.me_is in
       is ∙ (λ k. let h : Holding = (both_of (my_own.me_is k).0 (their_is k).0, (my_own.me_is k).1) in h)
-
-  pub meets_now : (key : Ring) (slots id i : ℕ) (joined : Holding) → joined ≡ both → Allows (RuleHolds key) slots id joined i (λ x. x) (has_met (step slots i 0 0 none) joined)
-  meets_now key slots id i joined is =
-      subst (λ (m : Holding). Allows (RuleHolds key) slots id m i (λ x. x) (has_met (step slots i 0 0 none) m)) (sym is) (meets_at key slots id i them (me ∷ []))
 
   module _ (joined met : Holding) (is : joined ≡ both) (did : HaveMet joined met) where
     known : HaveMet both met

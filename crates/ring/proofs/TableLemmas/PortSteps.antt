@@ -139,17 +139,13 @@ tested table new_table me new p is intent slots i limit word found same intent_i
 
 -- ---- a flip, by what its caller knows
 
-pub may_flip_at : (ring : Ring) (trail : Trail) (p offset count : ℕ) → MayFlipAt trail offset count → ShareAWord 64 ring.geometry (p + offset) count → ring.flags ≡ 64 → MayFlip ring trail p offset count
-may_flip_at ring trail p offset count may share flags = record {
-  many = may.many;
-  inside = may.inside;
-  in_word = subst (λ (f : ℕ). ShareAWord f ring.geometry (p + offset) count) (sym flags) share;
-  unflipped = may.unflipped;
-  written = may.written;
-}
-
 pub may_flip_all : (q : PortValue) (slot : IndexValue) (offset count : ℕ) → MayFlipAt q.trail offset count → IsSlotAt q slot offset
     → ((geometry position : ℕ) → slot ≡ index_of geometry position → ShareAWord 64 geometry position count)
     → (position : ℕ) → start_index q.ring.made_with.geometry q.trail ≡ index_of q.ring.made_with.geometry position → q.ring.made_with.flags ≡ 64 → MayFlip q.ring.made_with q.trail position offset count
-may_flip_all q slot offset count may at share position here =
-    may_flip_at q.ring.made_with q.trail position offset count may (share q.ring.made_with.geometry (position + offset) (at position here))
+may_flip_all q slot offset count may at share position here flags = record {
+  many = may.many;
+  inside = may.inside;
+  in_word = subst (λ (f : ℕ). ShareAWord f q.ring.made_with.geometry (position + offset) count) (sym flags) (share q.ring.made_with.geometry (position + offset) (at position here));
+  unflipped = may.unflipped;
+  written = may.written;
+}

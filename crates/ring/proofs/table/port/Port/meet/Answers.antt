@@ -3,7 +3,7 @@ use Rattle.ringcore.specs.world.Trails.{same}
 use Rattle.ring.specs.table.Rule.{Holding}
 use Rattle.ring.proofs.TableLemmas.StepKinds.{control_inside}
 use Rattle.ring.proofs.TableLemmas.Steps.{gathers_at}
-use Rattle.ring.proofs.TableLemmas.Meetings.{both, leaves_now, joined_is, meets_now, parts_now, my_seat, their_seat, have_met}
+use Rattle.ring.proofs.TableLemmas.Meetings.{both, leaves_now, joined_is, meets_as, parts_now, my_seat, their_seat, have_met}
 use Rattle.ring.proofs.table.port.Port.meet.Goals as goal
 
 pub split_seat-one-requires : goal.split_seat-one-requires
@@ -29,7 +29,7 @@ pub load-requires : goal.load-requires
 load-requires c = (
   search rules,
   control_inside _ _ _ _ c.ring.invariant.words c.control_word.ensures,
-  meets_now _ _ c.self.invariant c.other.invariant _ _ _ _ _ (is_both c),
+  meets_as _ _ _ _ _ _ _ (is_both c),
 )
 
 pub split_seat-requires : goal.split_seat-requires
