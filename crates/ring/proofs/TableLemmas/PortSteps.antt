@@ -1,6 +1,7 @@
 -- The steps of a seat that stands for one alone, by what contracts see of it.
 use Rattle.std.proofs.Common.{◌≡◌, ℕ, ◌+◌, ◌<◌, Bool, true, false, cond, ◌==◌, List, ◌∷◌, [], Some, refl, sym, ap, ◌∙◌, subst}
 use mathlib.Core.Option.{none}
+use Rattle.std.proofs.lemmas.Option.{same_Some}
 use Rattle.atomic_table.specs.Table.{step, Allows}
 use Rattle.atomic_table.specs.Seated.{TableId}
 use Rattle.cmdcodec.specs.declared.raw.Raw.{Raw}
@@ -83,40 +84,35 @@ module _ (table new_table : TableId) (me new : Holding) (s : ℕ) (body : List R
     run_is = ap (λ (m : Holding). history_of_first m.0) took.3 ∙ ap (λ (d : Event). let l : Run = (who_of me.0, d) ∷ took.1 in l) e_is;
   }
 
-  told_by : (v : Bool) → (x == old) ≡ v → Told v
+  trail_grown : (e : Event) → took.0 ≡ e → record (port_of new_table new) { history = [] } ≡ record (port_of table me) { trail = e ∷ t; history = [] }
+  trail_grown e e_is = stepped_is table new_table me new took.0 ((who_of me.0, took.0) ∷ took.1) same took.3 ∙ ap (λ (d : Event). let q : PortValue = record (port_of table me) { trail = d ∷ t; history = [] } in q) e_is
+
+  -- it was this sender's to take, where it stands
+  allowed : (e : Event) → took.0 ≡ e → Allowed (ring_of me.0) (world took.1) (trail_of (Sender s) took.1) (Sender s) e
+  allowed e e_is = subst (λ (q : Who × Event). Allowed (ring_of me.0) (world took.1) (trail_of q.0 took.1) q.0 q.1) (λ k. (who_is k, e_is k)) took.4.after.after.run_is.1
+
+  found_before : looked (trail_of (Sender s) took.1) ≡ Some seen
+  found_before = ap looked (ap (λ (u : Who). trail_of u took.1) (sym who_is) ∙ took.4.before.trail_is) ∙ looked_is
+
+  told_by : (v : Bool) → took.0 ≡ cond v (Won body (next_number t closing)) (Lost body closing (control_in (ring_of me.0).geometry x)) → Told v
   unfolding grown
-  told_by true hit =
-      let e_is : took.0 ≡ Won body (next_number t closing) = took.2 ∙ ap (λ (b : Bool). cond b (Won body (next_number t closing)) (Lost body closing (control_in (ring_of me.0).geometry x))) hit in
-      let run : Run = took.1 in
-      let last : IsNewest (ring_of me.0) (who_of me.0) t (history_of_first me.0) run took.0 = took.4 in
-      let may : MayWin (ring_of me.0) (world run) (trail_of (Sender s) run) body (next_number t closing) =
-      subst (λ (q : Who × Event). Allowed (ring_of me.0) (world run) (trail_of q.0 run) q.0 q.1) (λ k. (who_is k, e_is k)) last.after.after.run_is.1 in
-      let behind : trail_of (Sender s) run ≡ t = ap (λ (u : Who). trail_of u run) (sym who_is) ∙ last.before.trail_is in
-      record {
-        trail_is = stepped_is table new_table me new took.0 ((who_of me.0, took.0) ∷ took.1) same took.3 ∙ ap (λ (e : Event). let q : PortValue = record (port_of table me) { trail = e ∷ t; history = [] } in q) e_is;
-        grew = grown (Won body (next_number t closing)) e_is;
-        stood = (let e : Some seen ≡ Some (control (ring_of me.0).geometry (world run)) = sym looked_is ∙ sym (ap looked behind) ∙ may.looked_at in cc);
-      }
-  told_by false miss =
+  told_by true e_is =
+      let may : MayWin (ring_of me.0) (world took.1) (trail_of (Sender s) took.1) body (next_number t closing) = allowed _ e_is in
+      record { trail_is = trail_grown _ e_is; grew = grown _ e_is; stood = same_Some _ _ (sym found_before ∙ may.looked_at) }
+  told_by false e_is =
       let found : Control = control_in (ring_of me.0).geometry x in
-      let e_is : took.0 ≡ Lost body closing found = took.2 ∙ ap (λ (b : Bool). cond b (Won body (next_number t closing)) (Lost body closing found)) miss in
-      let run : Run = took.1 in
-      let last : IsNewest (ring_of me.0) (who_of me.0) t (history_of_first me.0) run took.0 = took.4 in
-      let may : MayLose (ring_of me.0) (world run) (trail_of (Sender s) run) body closing found =
-      subst (λ (q : Who × Event). Allowed (ring_of me.0) (world run) (trail_of q.0 run) q.0 q.1) (λ k. (who_is k, e_is k)) last.after.after.run_is.1 in
-      let behind : trail_of (Sender s) run ≡ t = ap (λ (u : Who). trail_of u run) (sym who_is) ∙ last.before.trail_is in
-      let before_is : may.before ≡ seen = (let e : Some may.before ≡ Some seen = sym may.tries.looked_at ∙ ap looked behind ∙ looked_is in cc) in
-      let history_is : (port_of new_table new).history ≡ (Sender s, Lost body closing found) ∷ run = ap (λ (m : Holding). history_of_first m.0) took.3 ∙ (λ k. let l : Run = (who_is k, e_is k) ∷ run in l) in
+      let may : MayLose (ring_of me.0) (world took.1) (trail_of (Sender s) took.1) body closing found = allowed _ e_is in
+      let history_is : (port_of new_table new).history ≡ (Sender s, Lost body closing found) ∷ took.1 = ap (λ (m : Holding). history_of_first m.0) took.3 ∙ (λ k. let l : Run = (who_is k, e_is k) ∷ took.1 in l) in
       record {
         found = found;
-        other = λ is. may.other (is ∙ sym before_is);
-        trail_is = stepped_is table new_table me new took.0 ((who_of me.0, took.0) ∷ took.1) same took.3 ∙ ap (λ (e : Event). let q : PortValue = record (port_of table me) { trail = e ∷ t; history = [] } in q) e_is;
-        grew = grown (Lost body closing found) e_is;
+        other = λ is. may.other (is ∙ same_Some _ _ (sym found_before ∙ may.tries.looked_at));
+        trail_is = trail_grown _ e_is;
+        grew = grown _ e_is;
         found_is = may.found_is ∙ sym (ap (λ (r : Run). control (ring_of me.0).geometry (world r)) history_is);
       }
 
   pub exchange_told : Told (x == old)
-  exchange_told = told_by (x == old) refl
+  exchange_told = told_by (x == old) took.2
 
 pub exchange_told_as : (table new_table : TableId) (me new : Holding) (p : PortValue) → port_of table me ≡ p → (s : ℕ) (body : List Raw) (closing : Bool) (seen : Control) (intent : Intent) (slots i x old next : ℕ)
     → p.who ≡ Sender s → looked p.trail ≡ Some seen → new_table ≡ table → intent ≡ reserves body closing → adds_for intent (step slots i old next none) me x new
