@@ -16,10 +16,6 @@ use Rattle.ring.specs.consumer.Consumers.{IsConsumer}
 use Rattle.ring.specs.consumer.Completing.{completed_trail, taken_of, with_outcome, HasOutcome}
 use Rattle.ring.proofs.ConsumerLemmas.Acknowledging.{acknowledged_keep}
 
-pub owner_there : (owner : Option ℕ) (address : ℕ) → MatchOption owner ((s : ℕ) → address ≢ cell_address s) (λ s. address ≡ cell_address s) → (s : ℕ) → address ≡ cell_address s → IsSome owner
-owner_there None address none s is = absurd (none s is)
-owner_there (Some k) address its s is = search rules
-
 -- The taken list grows by these, with this outcome.
 with_outcomes : (outcome : Outcome) (raws : List Raw) → HasOutcome outcome raws → map taken_as raws ≡ map (with_outcome outcome) raws
 with_outcomes outcome [] is = refl

@@ -1,5 +1,5 @@
 -- An event of a seat's trail stands in the run, and of an ask that stands there the law tells what was completed before.
-use Rattle.std.proofs.Common.{◌≡◌, ℕ, Bool, true, false, cond, eqb-true, [], ◌∷◌, ◌++◌, refl, sym, ap, ◌∙◌}
+use Rattle.std.proofs.Common.{◌≡◌, ℕ, Bool, true, false, cond, arith, [], ◌∷◌, ◌++◌, length, length-append, refl, sym, ap, ◌∙◌}
 use Rattle.ringcore.specs.declared.world.event.Who.{Who}
 use Rattle.ringcore.specs.declared.world.event.Who.TheVariants.{Consumer, Sender}
 use Rattle.ringcore.specs.declared.world.event.Event.{Event}
@@ -18,12 +18,8 @@ record StandsAt (who : Who) (e : Event) (run : Run) (older : Trail) : Type 0 whe
   run_is : run ≡ later ++ (who, e) ∷ earlier
   trail_is : trail_of who earlier ≡ older
 
-not_here : (newer : Trail) (e : Event) (older : Trail) → ◌≡◌ {A = Trail} [] (newer ++ e ∷ older) → ⊥
-not_here [] e older is = cc
-not_here (n ∷ ns) e older is = cc
-
 stands_at : (who : Who) (e : Event) (run : Run) (newer older : Trail) → trail_of who run ≡ newer ++ e ∷ older → StandsAt who e run older
-stands_at who e [] newer older is = absurd (not_here newer e older is)
+stands_at who e [] newer older is = absurd (let long = ap (λ (t : Trail). length t) is in omega (arith, long, length-append newer (e ∷ older)))
 stands_at who e (x ∷ xs) newer older is = by_seat (λ ns at. stands_at who e xs ns older at) (same who x.0) refl is
   where
     longer : StandsAt who e xs older → StandsAt who e (x ∷ xs) older

@@ -19,14 +19,11 @@ pub ends_by : (who : Who) (added : Trail) → EndsWith who (run_by who added)
 ends_by who [] = tt
 ends_by who (e ∷ es) = refl
 
-newest : (added old : Trail) → take (length (added ++ old) - length old) (added ++ old) ≡ added
-newest added old =
-    let n : length (added ++ old) - length old ≡ length added = (let l = length-append added old in omega (arith, l)) in
-    ap (λ (k : ℕ). take k (added ++ old)) n ∙ take-append_seam added old
-
 pub grown_run_is : (who : Who) (since : Run) (trail added : Trail) → trail ≡ added ++ trail_of who since → grown_run who since trail ≡ run_by who added ++ since
 grown_run_is who since trail added is =
-    ap (λ (t : Trail). grown_run who since t) is ∙ ap (λ (t : Trail). run_by who t ++ since) (newest added (trail_of who since))
+    let old : Trail = trail_of who since in
+    let many : length (added ++ old) - length old ≡ length added = omega (arith, length-append added old) in
+    ap (λ (t : Trail). grown_run who since t) is ∙ ap (λ (t : Trail). run_by who t ++ since) (ap (λ (k : ℕ). take k (added ++ old)) many ∙ take-append_seam added old)
 
 pub adds_those : (who : Who) (trail : Trail) (old new : Run) → new ≡ grown_run who old trail → Adds who trail old new
 adds_those who trail old new new_is added is =

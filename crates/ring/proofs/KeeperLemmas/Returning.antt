@@ -116,9 +116,6 @@ module _ (table : TableId) (p : KeeperValue) (v : List Participant) (is : keeper
   lends_him : missing v ≡ Some q.who
   lends_him = ap (λ (k : KeeperValue). k.lent) is ∙ lent
 
-  him : Participant
-  him = participant (ring_of v) q.who q.trail q.history
-
   ring_same : ring_of their.0 ≡ ring_of v
   ring_same = ap (λ (k : PortValue). k.ring.made_with) port_is ∙ ap (λ (r : RingValue). r.made_with) ours ∙ ap (λ (k : KeeperValue). k.ring.made_with) (sym is)
 

@@ -1,6 +1,6 @@
 -- A reservation that is written and flipped in the order of its slots.
 use Rattle.std.proofs.Common.{rules, ◌≡◌, ℕ, zero, suc, ◌+◌, ◌<◌, ◌≤◌, Bool, true, false, ◌==◌, ◌||◌, ◌&&◌, ◌%◌, ◌/◌, ◌^◌, List, [], ◌∷◌, ◌++◌, length, Option, Some, None, refl, sym, ap, ◌∙◌, subst, arith}
-use Rattle.std.proofs.lemmas.Bool.{lt-ltb}
+use Rattle.std.proofs.lemmas.Bool.{lt-ltb, le-ltb}
 use Rattle.std.proofs.lemmas.Bool.Decides.{nat_tests}
 use Rattle.std.specs.Prelude.{slice_get, nat_lt}
 use Rattle.cmdcodec.specs.declared.raw.Raw.{Raw}
@@ -36,9 +36,6 @@ flipped_more t f n is k = ap (λ (b : Bool). is_among f n k || b) (is k) ∙ unt
     until : (is_among f n k || nat_lt k f) ≡ nat_lt k (f + n)
     until = grind (arith, nat_tests)
 
-not_below : (a b : ℕ) → b ≤ a → nat_lt a b ≡ false
-not_below a b le = grind (arith, nat_tests)
-
 -- whatever is known of the run, a reservation is open by its trail
 pub knowing : (port : PortValue) (tally : Tally) (body : List Raw) (closes : Bool) (start : IndexValue) (written flipped : ℕ) → IsOpen (record port { history = [] }) tally body closes start written flipped
     → IsOpen port tally body closes start written flipped
@@ -46,13 +43,13 @@ knowing port tally body closes start written flipped is = search rules
 
 module _ (port : PortValue) (tally : Tally) (body : List Raw) (closes : Bool) (start : IndexValue) (written flipped : ℕ) (is : IsOpen port tally body closes start written flipped) where
   pub may_write : written < reserved_length port.trail → MayWrite port.trail written
-  may_write low = record { inside = low; unflipped = is.in_flipped written ∙ not_below written flipped is.behind }
+  may_write low = record { inside = low; unflipped = is.in_flipped written ∙ le-ltb written flipped is.behind }
 
   pub may_flip : (count : ℕ) → 1 ≤ count → count ≤ 64 → flipped + count ≤ written → MayFlipAt port.trail flipped count
   may_flip count some few low = record {
     many = (some, few);
     inside = (let m = is.many in let w = is.within in omega arith);
-    unflipped = λ i less. is.in_flipped (flipped + i) ∙ not_below (flipped + i) flipped (omega arith);
+    unflipped = λ i less. is.in_flipped (flipped + i) ∙ le-ltb (flipped + i) flipped (omega arith);
     written = λ i half less. is.in_written (flipped + i) half ∙ lt-ltb (flipped + i) written (omega arith);
   }
 

@@ -40,6 +40,10 @@ grew_more who a b c h i j one two = record {
   last = ends_with who two.newer one.newer two.last one.last;
 }
 
+-- the second under a number that is the first's
+pub grew_then : (s n : ℕ) (a b c : Trail) (h i j : Run) → n ≡ s → Grew (Sender s) a b h i → Grew (Sender n) b c i j → Grew (Sender s) a c h j
+grew_then s n a b c h i j same one two = grew_more (Sender s) a b c h i j one (subst (λ (k : ℕ). Grew (Sender k) b c i j) same two)
+
 pub none_is_none : NoStepIsNone
 none_is_none who trail older run grew = by_newer grew.newer grew.run_is grew.trail_is grew.last
   where
@@ -86,7 +90,3 @@ port_step p q who e who_is is grew =
 pub sender_step : (s t : SenderValue) (e : Event) → record t { history = [] } ≡ record s { trail = e ∷ s.trail; history = [] } → GrewBy (Sender s.number) e s.history t.history
     → Grew (Sender s.number) s.trail t.trail s.history t.history
 sender_step s t e is grew = grew_step (Sender s.number) e s.trail t.trail s.history t.history (ap (λ (x : SenderValue). x.trail) is) grew
-
-pub consumer_step : (c d : PortValue) (e : Event) → record d { history = [] } ≡ record c { trail = e ∷ c.trail; history = [] } → GrewBy Consumer e c.history d.history
-    → Grew Consumer c.trail d.trail c.history d.history
-consumer_step c d e is grew = grew_step Consumer e c.trail d.trail c.history d.history (ap (λ (x : PortValue). x.trail) is) grew

@@ -55,11 +55,8 @@ sender_known table me p is alone s who =
 -- ---- the words are in the table of the ring that is lent
 
 module _ (key : Ring) (many : ℕ) (words : many ≡ words_of key.geometry key.senders) (a : RingValue) (b : RingValue) (same : a ≡ b) (table : TableId) (b_is : b ≡ record { table = table; made_with = key }) where
-  key_is : a.made_with ≡ key
-  key_is = ap (λ (r : RingValue). r.made_with) (same ∙ b_is)
-
   pub words_are : many ≡ words_of a.made_with.geometry a.made_with.senders
-  words_are = words ∙ ap (λ (r : Ring). words_of r.geometry r.senders) (sym key_is)
+  words_are = words ∙ ap (λ (r : RingValue). words_of r.made_with.geometry r.made_with.senders) (sym (same ∙ b_is))
 
 -- ---- what a step tells, as contracts see it
 
@@ -111,15 +108,12 @@ module _ (table new_table : TableId) (me new : Holding) (s : ℕ) (body : List R
         found_is = may.found_is ∙ sym (ap (λ (r : Run). control (ring_of me.0).geometry (world r)) history_is);
       }
 
-  pub exchange_told : Told (x == old)
-  exchange_told = told_by (x == old) took.2
-
 pub exchange_told_as : (table new_table : TableId) (me new : Holding) (p : PortValue) → port_of table me ≡ p → (s : ℕ) (body : List Raw) (closing : Bool) (seen : Control) (intent : Intent) (slots i x old next : ℕ)
     → p.who ≡ Sender s → looked p.trail ≡ Some seen → new_table ≡ table → intent ≡ reserves body closing → adds_for intent (step slots i old next none) me x new
     → IsWonOrLost body closing seen p (port_of new_table new) (x == old)
 exchange_told_as table new_table me new p is s body closing seen intent slots i x old next who_is looked_is same intent_is did =
     subst (λ (q : PortValue). q.who ≡ Sender s → looked q.trail ≡ Some seen → IsWonOrLost body closing seen q (port_of new_table new) (x == old)) is
-    (λ w l. exchange_told table new_table me new s body closing seen x old w l same (subst (λ (n : Intent). adds_for n (step slots i old next none) me x new) intent_is did)) who_is looked_is
+    (λ w l. let took = subst (λ (n : Intent). adds_for n (step slots i old next none) me x new) intent_is did in told_by table new_table me new s body closing seen x old w l same took (x == old) took.2) who_is looked_is
 
 -- a test, of what it answers
 pub tested : (table new_table : TableId) (me new : Holding) (p : PortValue) → port_of table me ≡ p → (intent : Intent) (slots i limit word found : ℕ) → new_table ≡ table → intent ≡ tests limit

@@ -59,8 +59,9 @@ all_in_first ring (Sender s) one = sender_in ring 0 ring.senders s (omega arith)
 pub zeros_after : OpensAllZero → (ring : Ring) (m : ℕ) → IsGeometry ring.geometry → ring.flags ≡ 64 → m ≡ words_of ring.geometry ring.senders → AreAfter ring [] (replicate m 0)
 zeros_after opens ring m geometry flags is = opens ring (replicate m 0) geometry flags (length-replicate m 0 ∙ is) (get_zero m)
 
-pub starts : OpensAllZero → (ring : Ring) (m : ℕ) → IsWithinLimits ring → IsGeometry ring.geometry → ring.flags ≡ 64 → m ≡ words_of ring.geometry ring.senders → RuleHolds ring (opening (replicate m 0) [] (first_participants ring))
-starts opens ring m limits geometry flags is = record {
+pub starts : OpensAllZero → (ring : Ring) (m : ℕ) (words : List ℕ) → words ≡ replicate m 0 → IsWithinLimits ring → IsGeometry ring.geometry → ring.flags ≡ 64 → m ≡ words_of ring.geometry ring.senders
+    → RuleHolds ring (opening words [] (first_participants ring))
+starts opens ring m words zeros limits geometry flags is = subst (λ (ws : List ℕ). RuleHolds ring (opening ws [] (first_participants ring))) (sym zeros) record {
   limits = limits;
   run = [];
   after = zeros_after opens ring m geometry flags is;

@@ -226,16 +226,11 @@ control_inside g senders many i m is = let x : ℕ = size g in omega arith
 
 pub flag_inside : (g senders many i p : ℕ) → many ≡ words_of g senders → i ≡ flag_word g p → i < many
 flag_inside g senders many i p m is =
-    let n : ℕ = size g in let pos : 0 < n = pow_pos g in
-    let low : p % n < n = mod-lt p pos in
-    let r : ℕ = p % n in omega arith
+    let n : ℕ = size g in let low : p % n < n = mod-lt p (pow_pos g) in let r : ℕ = p % n in omega arith
 
 pub data_inside : (g senders many i p : ℕ) (half : Half) → many ≡ words_of g senders → i ≡ data_word g p half → i < many
 data_inside g senders many i p half m is =
-    let n : ℕ = size g in let pos : 0 < n = pow_pos g in
-    let low : p % n < n = mod-lt p pos in
-    let h : half_number half < 2 = small half in
-    let r : ℕ = p % n in omega arith
+    let n : ℕ = size g in let low : p % n < n = mod-lt p (pow_pos g) in let h = small half in let r : ℕ = p % n in omega arith
   where
     small : (half : Half) → half_number half < 2
     small Lo = omega arith

@@ -7,7 +7,8 @@ use Rattle.ring.specs.consumer.Consumers.{ConsumerValue}
 use Rattle.ring.specs.consumer.Pendings.{reads_from, HasSeen}
 use Rattle.ring.specs.consumer.Taking.{TookNone}
 use Rattle.cmdcodec.specs.declared.raw.Raw.{Raw}
-use Rattle.ring.proofs.TableLemmas.Grown.{grew_step, grew_more, consumer_step}
+use Rattle.ring.specs.table.Ports.{PortValue}
+use Rattle.ring.proofs.TableLemmas.Grown.{grew_step, grew_more}
 use Rattle.ring.proofs.ConsumerLemmas.Reads.{look_again, test_again, run_again}
 use Rattle.ring.proofs.consumer.Consumer.take_run.Given.{Over}
 use Rattle.ring.proofs.consumer.Consumer.take_run.Goals.{After-look-seen, After-test-found, Then-get}
@@ -40,7 +41,7 @@ looked g c = grew_step Consumer _ _ _ _ _ (ap (λ (d : ConsumerValue g.row.D.Den
 
 tested : (g : Over) (c : After-test-found g) → Grew Consumer c.look-seen.new.self.trail c.test-found.new.self.trail c.look-seen.new.self.history c.test-found.new.self.history
 tested g c = subst (λ (d : ConsumerValue g.row.D.Denot). Grew Consumer d.trail c.test-found.new.self.trail d.history c.test-found.new.self.history) c.consumer.view_is
-    (consumer_step c.consumer.inside.port c.test-found.new.self _ c.test-found.ensures.trail c.test-found.ensures.history)
+    (grew_step _ _ _ _ _ _ (ap (λ (p : PortValue). p.trail) c.test-found.ensures.trail) c.test-found.ensures.history)
 
 took_none : (g : Over) (c : Then-get g) (closed : Bool) → c.look-seen.result.closed ≡ closed → TookNone closed c.args.self c.look-seen.new.self
 took_none g c closed is = record {

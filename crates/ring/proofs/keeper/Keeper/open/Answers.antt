@@ -11,9 +11,7 @@ use Rattle.ring.proofs.keeper.Keeper.open.Goals as goal
 pub of_words-requires : goal.of_words-requires
 of_words-requires g c =
     let key : Ring = made_with c.args.geometry c.args.senders c.args.max_batches in
-    let is : c.as_slice.result.now ≡ replicate c.words.result 0 = search rules in
-    let limits : IsWithinLimits key = record { senders = c.requires.senders; batches = c.ranges.max_batches.fits } in
-    subst (λ (ws : List ℕ). RuleHolds key (opening ws [] (first_participants key))) (sym is) (starts c.begin.ensures key c.words.result limits c.requires.geometry refl c.words.ensures)
+    starts c.begin.ensures key c.words.result _ (search rules) (record { senders = c.requires.senders; batches = c.ranges.max_batches.fits }) c.requires.geometry refl c.words.ensures
 
 pub invariant_of-result-2 : goal.invariant_of-result-2
 invariant_of-result-2 g c =

@@ -28,10 +28,7 @@ join_seat-requires g c =
     )
 
 -- the rule, by the ring that was handed in
-abbrev pub whole : (g : Over) (c : goal.After-unpack g) → Type 0
-whole g c = Final (Seen (RuleHolds c.args.self.made_with) c.loop-sender.seat.id c.loop-sender.seat.me.0) (slots_items c.close_with-closed.result.words) (slots_items c.close_with-closed.result.slots)
-
-ended : (g : Over) (c : goal.After-unpack g) → whole g c
+ended : (g : Over) (c : goal.After-unpack g) → Final (Seen (RuleHolds c.args.self.made_with) c.loop-sender.seat.id c.loop-sender.seat.me.0) (slots_items c.close_with-closed.result.words) (slots_items c.close_with-closed.result.slots)
 ended g c =
     let key_is : c.self.inside.table.shared.key ≡ c.args.self.made_with = c.self.invariant.key_is ∙ ap (λ (r : RingValue). r.made_with) c.self.view_is in
     subst (λ (r : Ring). Final (Seen (RuleHolds r) c.loop-sender.seat.id c.loop-sender.seat.me.0) (slots_items c.close_with-closed.result.words) (slots_items c.close_with-closed.result.slots)) key_is c.close_with-closed.ensures.values.2
