@@ -1,17 +1,23 @@
--- The closing syncs of a run that was taken are acknowledged one after another.
-use Rattle.std.proofs.Common.{◌≡◌, ℕ, suc, ◌+◌, ◌*◌, ◌<◌, ◌≤◌, Bool, true, false, cond, ◌==◌, ◌&&◌, List, [], ◌∷◌, ◌++◌, take, Some, refl, sym, ap, ◌∙◌, subst, append_assoc, eq-eqb, eqb-true, arith}
+-- The closing syncs of a run that was taken are acknowledged one after another, and what a completion leaves.
+use Rattle.std.proofs.Common.{◌≡◌, ℕ, suc, ◌+◌, ◌*◌, ◌<◌, ◌≤◌, Bool, true, false, cond, ◌==◌, ◌&&◌, List, [], ◌∷◌, ◌++◌, take, Some, refl, sym, ap, ◌∙◌, subst, append_assoc, eq-eqb, eqb-true, arith, rules, ◌≢◌, length, map, Option, None, ap₂}
 use Rattle.std.proofs.lemmas.Bool.{cond_both}
-use Rattle.std.specs.Prelude.{slice_get}
+use Rattle.std.specs.Prelude.{slice_get, MatchOption}
 use Rattle.cmdcodec.specs.declared.raw.Raw.{Raw}
 use Rattle.cmdcodec.specs.Opcodes.{is_sync}
 use Rattle.cmdcodec.specs.ClosingSync.{cell_address}
-use Rattle.ringcore.specs.declared.world.event.Event.TheVariants.{Acknowledge}
-use Rattle.ringcore.specs.world.Trails.{Trail, raws_by, acknowledged_by}
+use Rattle.ringcore.specs.declared.world.event.Event.TheVariants.{Acknowledge, Advance}
+use Rattle.ringcore.specs.world.Trails.{Trail, raws_by, acknowledged_by, taken_by}
 use Rattle.ringcore.specs.world.Laws.{is_sync_to, syncs_in, syncs_taken, SyncsAreInOrder, IsNextSync, SyncsAddUp, SyncsTellTheirBatch}
 use Rattle.ringcore.specs.world.ConsumerLaws.{SyncsOfRawsAreCounted}
 use Rattle.ring.specs.table.Ports.{PortValue}
-use Rattle.ring.specs.consumer.Completing.{sync_sender, sync_number, acknowledged, all_acknowledged, without_newest, HasAdvanced, IsClosingSync}
+use Rattle.ring.specs.consumer.Completing.{sync_sender, sync_number, acknowledged, all_acknowledged, without_newest, HasAdvanced, IsClosingSync, completed_trail, taken_of, with_outcome, HasOutcome}
 use Rattle.ring.proofs.ConsumerLemmas.Runs.{take_more, split_at}
+use Rattle.std.specs.Option.{IsSome}
+use Rattle.std.proofs.lemmas.List.{map-append}
+use Rattle.qindex.specs.Positions.{IndexValue, index_of}
+use Rattle.ringcore.specs.declared.world.event.Outcome.{Outcome}
+use Rattle.ringcore.specs.world.World.{Taken, taken_as}
+use Rattle.ring.specs.consumer.Consumers.{IsConsumer}
 
 -- ---- acknowledgements change nothing else
 
@@ -144,3 +150,30 @@ module _ (old : PortValue) (raws : List Raw) (n : ℕ) (advanced : HasAdvanced o
       else_after = λ other new is. goes_on new (ap (λ (p : PortValue). let q : PortValue = record p { history = [] } in q) is ∙ by_kind false other)
           (λ s. ap (λ (p : PortValue). acknowledged_by s p.trail) is ∙ passed add_up by_raws words senders few start (take i raws) behind raw now.trail acks other s);
     }
+
+-- ---- what a completion leaves
+
+-- The taken list grows by these, with this outcome.
+with_outcomes : (outcome : Outcome) (raws : List Raw) → HasOutcome outcome raws → map taken_as raws ≡ map (with_outcome outcome) raws
+with_outcomes outcome [] is = refl
+with_outcomes outcome (raw ∷ raws) is =
+    ap₂ (λ (x : Taken) (l : List Taken). x ∷ l) (ap (λ (o : Outcome). with_outcome o raw) (sym (is 0 raw refl))) (with_outcomes outcome raws (λ i other at. is (suc i) other at))
+
+pub taken_after : (t : Trail) (raws : List Raw) (outcome : Outcome) → HasOutcome outcome raws → taken_of (completed_trail raws t) ≡ taken_of t ++ map (with_outcome outcome) raws
+taken_after t raws outcome is =
+    ap (map taken_as) (acknowledged_keep raws_by (λ s n u. refl) raws (Advance raws ∷ t)) ∙ map-append taken_as (raws_by t) raws
+    ∙ ap (λ (l : List Taken). taken_of t ++ l) (with_outcomes outcome raws is)
+
+pub is_consumer : (old passed new : PortValue) (head further : IndexValue) (taken many : ℕ) (raws : List Raw) → IsConsumer old head taken
+    → record passed { history = [] } ≡ record old { trail = Advance raws ∷ old.trail; history = [] } → (trail : Trail) → trail ≡ completed_trail raws old.trail → record new { history = [] } ≡ record old { trail = trail; history = [] }
+    → length raws ≡ many → further ≡ index_of old.ring.made_with.geometry (taken + many)
+    → ((s : ℕ) → acknowledged_by s new.trail ≡ syncs_taken s new.trail) → IsConsumer new further (taken + many)
+is_consumer old passed new head further taken many raws is passed_is trail trail_is new_is long further_is current = record {
+  who_is = ap (λ (p : PortValue). p.who) new_is ∙ is.who_is;
+  head_is = further_is ∙ ap (λ (p : PortValue). index_of p.ring.made_with.geometry (taken + many)) (sym new_is);
+  taken_is =
+      let counted : taken_by new.trail ≡ taken_by old.trail + length raws =
+      ap (λ (p : PortValue). taken_by p.trail) new_is ∙ ap taken_by trail_is ∙ acknowledged_keep taken_by (λ s n u. refl) raws (Advance raws ∷ old.trail) in
+      let before = is.taken_is in omega (arith, counted, before, long);
+  current = current;
+}

@@ -1,13 +1,22 @@
--- What a run has more that only one has grown.
-use Rattle.std.proofs.Common.{◌≡◌, ◌≢◌, ◌⊎◌, ℕ, ◌-◌, [], ◌∷◌, ◌++◌, length, length-append, take, refl, sym, ap, ◌∙◌, inl, inr, arith}
+-- What a run has more that only one has grown, and what is left of the others.
+use Rattle.std.proofs.Common.{◌≡◌, ◌≢◌, ◌⊎◌, ℕ, ◌-◌, [], ◌∷◌, ◌++◌, length, length-append, take, refl, sym, ap, ◌∙◌, inl, inr, arith, rules, Bool, List, subst}
 use Rattle.std.proofs.Math.Seq.{take-append_seam}
 use Rattle.ringcore.specs.declared.world.event.Who.{Who}
-use Rattle.ringcore.specs.world.Trails.{Trail, Run, trail_of}
+use Rattle.ringcore.specs.world.Trails.{Trail, Run, trail_of, same, IsSettled}
 use Rattle.ringcore.specs.world.Laws.{IsOne, OnlyOf}
 use Rattle.ring.specs.table.Histories.{EndsWith}
 use Rattle.ring.specs.table.Keeping.{run_by, grown_run}
-use Rattle.ring.specs.Keepers.{Adds}
+use Rattle.ring.specs.Keepers.{Adds, KeeperValue, own_port, KeepsOthers}
 use Rattle.ring.proofs.TableLemmas.Trails.{alike, trail_here, trail_own, trail_else, not_empty}
+use Rattle.ringcore.specs.declared.world.event.Who.TheVariants.{Consumer, Sender}
+use Rattle.qindex.specs.Positions.{IndexValue}
+use Rattle.ring.specs.consumer.Consumers.{IsConsumer}
+use Rattle.cmdcodec.specs.declared.raw.Raw.{Raw}
+use Rattle.ring.specs.sender.Senders.{IsTallied, IsSender}
+use Rattle.ring.specs.sender.Reservations.{IsOpen}
+use Rattle.ring.specs.declared.sender.tally.Tally.{Tally}
+use Rattle.ring.specs.table.Ports.{PortValue}
+use Rattle.ring.proofs.SenderLemmas.InOrder.{knowing}
 
 -- of a run that only one has grown
 pub trail_since : (who : Who) (added : Trail) (since : Run) → trail_of who (run_by who added ++ since) ≡ added ++ trail_of who since
@@ -43,3 +52,16 @@ all_of_one n who (x ∷ xs) only nothing = elim (alike x.0 who) [
       let behind = all_of_one n who xs only.1 (λ u one ne. sym (trail_else u x.0 x.1 xs (λ e. ne (e ∙ is))) ∙ nothing u one ne) in
       (λ k. let l : Run = (is k, x.1) ∷ behind k in l) ∙ ap (run_by who) (sym (trail_own who x xs is))
 ]
+
+-- ---- what is left of others than the one who took steps
+
+pub keeps_others : (who : Who) (old new : KeeperValue) (added : Trail) → new.ring ≡ old.ring → new.run ≡ run_by who added ++ old.run → KeepsOthers who old new
+keeps_others who old new added same run_is =
+    -- what is left of one does not depend on what it knows of the run
+    let stays : (u : Who) → u ≢ who → record (own_port u old) { history = new.run } ≡ own_port u new =
+    (λ u ne. (λ k. let q : PortValue = record { ring = sym same k; who = u; trail = (sym (trail_stays who u added old.run ne) ∙ ap (trail_of u) (sym run_is)) k; history = new.run } in q)) in record {
+      trails = λ u ne. ap (trail_of u) run_is ∙ trail_stays who u added old.run ne;
+      senders = λ tally ne is. subst (λ (p : PortValue). IsSender p tally) (stays (Sender tally.sender) ne) record { tallied = (let tallied = is.tallied in search rules); settled = is.settled };
+      reservations = λ body idle ne is. subst (λ (p : PortValue). IsOpen p idle.tally body idle.closes idle.start idle.written idle.flipped) (stays (Sender idle.tally.sender) ne) (search rules);
+      consumer = λ head taken ne is. subst (λ (p : PortValue). IsConsumer p head taken) (stays Consumer ne) (search rules);
+    }

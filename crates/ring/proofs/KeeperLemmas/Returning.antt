@@ -21,8 +21,7 @@ use Rattle.ring.proofs.TableLemmas.OneRun.{only_left}
 use Rattle.ring.proofs.TableLemmas.Meetings.{knowing_who}
 use Rattle.ring.proofs.TableLemmas.Keeping.{its_trail}
 use Rattle.ring.proofs.KeeperLemmas.Seated.{sits_any, none_missing, IsOther, someone, same_history, know_told}
-use Rattle.ring.proofs.KeeperLemmas.Growing.{ends_by, grown_run_is, adds_those, all_of_one}
-use Rattle.ring.proofs.KeeperLemmas.Idle.{keeps_others}
+use Rattle.ring.proofs.KeeperLemmas.Growing.{ends_by, grown_run_is, adds_those, all_of_one, keeps_others}
 
 -- what is known where all sit at one seat again, and have heard of the run
 pub record IsBack (z : Ring) (old : Run) (who : Who) (trail : Trail) (history : Run) (last : Holding) : Type 0 where

@@ -1,5 +1,5 @@
 -- The steps of a seat that stands for one alone, by what contracts see of it.
-use Rattle.std.proofs.Common.{◌≡◌, ℕ, ◌+◌, ◌<◌, Bool, true, false, cond, ◌==◌, List, ◌∷◌, [], Some, refl, sym, ap, ◌∙◌, subst}
+use Rattle.std.proofs.Common.{◌≡◌, ℕ, ◌+◌, ◌<◌, Bool, true, false, cond, ◌==◌, List, ◌∷◌, [], Some, refl, sym, ap, ◌∙◌, subst, ◌^◌, arith}
 use mathlib.Core.Option.{none}
 use Rattle.std.proofs.lemmas.Option.{same_Some}
 use Rattle.atomic_table.specs.Table.{step, Allows}
@@ -11,21 +11,23 @@ use Rattle.qindex.specs.ControlWord.{control_in}
 use Rattle.ringcore.specs.declared.world.event.Who.{Who}
 use Rattle.ringcore.specs.declared.world.event.Who.TheVariants.{Sender}
 use Rattle.ringcore.specs.declared.world.event.Event.{Event}
-use Rattle.ringcore.specs.declared.world.event.Event.TheVariants.{Won, Lost, Test}
+use Rattle.ringcore.specs.declared.world.event.Event.TheVariants.{Won, Lost, Test, Ask}
 use Rattle.ringcore.specs.world.Trails.{Trail, Run, trail_of, looked, start_index, taken_by}
 use Rattle.ringcore.specs.world.World.{world, control}
 use Rattle.ringcore.specs.world.Allowed.{ShareAWord, Allowed, MayWin, MayLose, MayFlip, Ring}
 use Rattle.ringcore.specs.memory.Layout.{words_of}
 use Rattle.ringcore.specs.memory.Flags.{ready_in}
-use Rattle.ringcore.specs.world.Laws.{IsOne}
+use Rattle.ringcore.specs.world.Laws.{IsOne, EveryRun, AcknowledgedAreTaken, NumbersAreFew}
 use Rattle.ringcore.specs.machine.StepAnswers.{next_number}
 use Rattle.ring.specs.table.Rule.{Holding, participant, RuleHolds, ring_of, who_of, trail_of_first, history_of_first, IsAlone}
-use Rattle.ring.specs.table.Intents.{Intent, reserves, tests}
+use Rattle.ring.specs.table.Intents.{Intent, reserves, tests, asks}
 use Rattle.ring.specs.table.StepEvents.{IsEventOf, Added, IsNewest, adds_for}
 use Rattle.ring.specs.table.Histories.{GrewBy}
 use Rattle.ring.proofs.TableLemmas.Steps.{MayStep, steps_as}
 use Rattle.ring.specs.Rings.{RingValue}
 use Rattle.ring.specs.table.Ports.{port_of, PortValue, IsWonOrLost, IsSlotAt, MayFlipAt}
+use mathlib.Core.Logic.{dite}
+use native.Mathlib.Decide.{dec_le}
 
 -- A step that its law allows by what contracts see of the seat: whatever it is for, it may be taken.
 module _ (table : TableId) (me : Holding) (p : PortValue) (is : port_of table me ≡ p) (alone : IsAlone me (who_of me.0)) (ring : Ring) (slots id : ℕ) (intent sought : Intent) (intent_is : intent ≡ sought) (who : Who) (who_is : p.who ≡ who) where
@@ -139,3 +141,17 @@ may_flip_all q slot offset count may at share position here flags = record {
   unflipped = may.unflipped;
   written = may.written;
 }
+
+-- ---- what an ask finds is a number
+
+last_few : EveryRun AcknowledgedAreTaken → NumbersAreFew → (ring : Ring) (who : Who) (s x : ℕ) (trail : Trail) (older run : Run) (e : Event) → IsNewest ring who trail older run e → who ≡ Sender s → e ≡ Ask x → x < 2 ^ 32
+last_few taken few ring who s x trail older run e last who_is e_is =
+    let found : x ≡ (world run).acknowledged s = subst (λ (q : Who × Event). Allowed ring (world run) (trail_of q.0 run) q.0 q.1) (λ k. (who_is k, e_is k)) last.after.after.run_is.1 in
+    let ok = last.before.after.run_is in let most = last.before.limits.batches in
+    dite (dec_le 1 x)
+    (λ some. let le = few ring run ok s x (taken ring run ok s x some (omega arith)) in omega arith)
+    (λ none_yet. omega arith)
+
+pub ask_few : EveryRun AcknowledgedAreTaken → NumbersAreFew → (table : TableId) (me new : Holding) (p : PortValue) → port_of table me ≡ p → (s slots i x : ℕ) → p.who ≡ Sender s → adds_for asks (step slots i 0 0 none) me x new → x < 2 ^ 32
+ask_few taken few table me new p is s slots i x who did =
+    last_few taken few (ring_of me.0) (who_of me.0) s x (trail_of_first me.0) (history_of_first me.0) did.1 did.0 did.4 (ap (λ (q : PortValue). q.who) is ∙ who) did.2

@@ -5,7 +5,7 @@ use Rattle.ring.specs.table.Rule.{RuleHolds, first_participants, IsWithinLimits}
 use Rattle.ring.specs.NewRings.{made_with}
 use Rattle.qindex.specs.Positions.{index_of}
 use Rattle.ring.proofs.TableLemmas.Starts.{starts, zeros_after}
-use Rattle.ring.proofs.KeeperLemmas.Starting.{starts_kept, starts_as, starts_idle}
+use Rattle.ring.proofs.KeeperLemmas.Seated.{starts_kept, starts_as, starts_idle}
 use Rattle.ring.proofs.keeper.Keeper.open.Goals as goal
 
 pub of_words-requires : goal.of_words-requires

@@ -6,7 +6,7 @@ use Rattle.ring.specs.table.Histories.{Grew}
 use Rattle.ring.specs.consumer.Consumers.{IsConsumer}
 use Rattle.ring.proofs.TableLemmas.Grown.{grew_step, grew_more}
 use Rattle.ring.specs.consumer.Completing.{all_acknowledged, completed_trail}
-use Rattle.ring.proofs.ConsumerLemmas.Completing.{is_consumer}
+use Rattle.ring.proofs.ConsumerLemmas.Acknowledging.{is_consumer}
 use Rattle.ring.proofs.consumer.consumer_port.ConsumerPort.complete_run.Goals as goal
 
 pub invariant_of-result : goal.invariant_of-result
