@@ -11,7 +11,7 @@ use Rattle.ringcore.specs.world.Laws.{is_sync_to, syncs_in, syncs_taken, SyncsAr
 use Rattle.ringcore.specs.world.ConsumerLaws.{SyncsOfRawsAreCounted}
 use Rattle.ring.specs.table.Ports.{PortValue}
 use Rattle.ring.specs.consumer.Completing.{sync_sender, sync_number, acknowledged, all_acknowledged, without_newest, HasAdvanced, IsClosingSync, completed_trail, taken_of, with_outcome, HasOutcome}
-use Rattle.ring.proofs.ConsumerLemmas.Runs.{take_more, split_at}
+use Rattle.ring.proofs.Lists.{take_more, split_at}
 use Rattle.std.specs.Option.{IsSome}
 use Rattle.std.proofs.lemmas.List.{map-append}
 use Rattle.qindex.specs.Positions.{IndexValue, index_of}

@@ -41,20 +41,15 @@ reads_snoc o (x ∷ xs) r t =
 
 head_after : (o : ℕ) (rs : List Raw) (t : Trail) (half : Half) → head_read half (reads_from (suc o) rs t) ≡ head_read half t
 head_after o [] t half = refl
-head_after o (x ∷ xs) t half = head_after (suc o) xs (Read (suc o) Hi x.hi ∷ Read (suc o) Lo x.lo ∷ t) half ∙ skips
-  where
-    skips : head_read half (Read (suc o) Hi x.hi ∷ Read (suc o) Lo x.lo ∷ t) ≡ head_read half t
-    skips = ap (λ (b : Bool). cond (b && same_half half Hi) (Some x.hi) (cond (b && same_half half Lo) (Some x.lo) (head_read half t))) (ne_eqb (suc o) 0 (λ e. absurd (omega (arith, e))))
+head_after o (x ∷ xs) t half = head_after (suc o) xs (Read (suc o) Hi x.hi ∷ Read (suc o) Lo x.lo ∷ t) half
+    ∙ ap (λ (b : Bool). cond (b && same_half half Hi) (Some x.hi) (cond (b && same_half half Lo) (Some x.lo) (head_read half t))) (ne_eqb (suc o) 0 (λ e. absurd (omega (arith, e))))
 
 pub seen_first : (t : Trail) (rs : List Raw) (raw : Raw) (rest : List Raw) → rs ≡ raw ∷ rest → HasSeen (reads_from 0 rs t) raw
-seen_first t rs raw rest is = subst (λ (l : List Raw). HasSeen (reads_from 0 l t) raw) (sym is) seen
+seen_first t rs raw rest is = subst (λ (l : List Raw). HasSeen (reads_from 0 l t) raw) (sym is) (λ half. head_after 0 rest (Read 0 Hi raw.hi ∷ Read 0 Lo raw.lo ∷ t) half ∙ here half)
   where
     here : (half : Half) → head_read half (Read 0 Hi raw.hi ∷ Read 0 Lo raw.lo ∷ t) ≡ Some (half_of half raw)
     here Lo = refl
     here Hi = refl
-
-    seen : HasSeen (reads_from 0 (raw ∷ rest) t) raw
-    seen half = head_after 0 rest (Read 0 Hi raw.hi ∷ Read 0 Lo raw.lo ∷ t) half ∙ here half
 
 pub steady_before : (o : ℕ) (rs : List Raw) (t : Trail) → IsSteady (reads_from o rs t) → IsSteady t
 steady_before o [] t s = s

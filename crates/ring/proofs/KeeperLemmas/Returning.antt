@@ -68,12 +68,8 @@ module _ (z : Ring) (old : Run) (who : Who) (v : List Participant) (knows : AllB
     trail_is : trail ≡ added ++ trail_of who old
     trail_is = sym has.0.trail ∙ ap (trail_of who) older.run_is ∙ trail_append who older.newer old
 
-    new_is : new ≡ grown_run who old trail
-    new_is = older.run_is ∙ ap (λ (r : Run). r ++ old) newer_is ∙ sym (grown_run_is who old trail added trail_is)
-
-    known_now : ◌⊎◌ (history ≡ new) (Any (λ p. p.history ≡ new) v) → (history ≡ new) ⊎ (old ≡ new)
-    known_now (inl mine) = inl mine
-    known_now (inr theirs) = inr (same_history z old new v knows.each theirs)
+    new_is : new ≡ run_by who added ++ old
+    new_is = older.run_is ∙ ap (λ (r : Run). r ++ old) newer_is
 
     abbrev told : List Participant
     told = all_knowing new all
@@ -81,19 +77,16 @@ module _ (z : Ring) (old : Run) (who : Who) (v : List Participant) (knows : AllB
     told_sits : (u : Who) → IsOne z.senders u → Any (λ p. p.who ≡ u) told
     told_sits u known = knowing_who u new all (back_sits u known)
 
-    none_now : missing told ≡ None
-    none_now = none_missing z.senders 0 z.senders told (omega arith) (λ u known. sits_any u told (told_sits u known))
-
     is_back : IsBack z old who trail history (told, [])
     is_back = record {
       keeper = record { no_slots = refl; knows = record { some = knows.some; each = know_told z new all has; others = λ u known ne. told_sits u known; stands = stands } };
       ring_is = refl;
-      lent_is = none_now;
-      run_is = new_is;
+      lent_is = none_missing z.senders 0 z.senders told (omega arith) (λ u known. sits_any u told (told_sits u known));
+      run_is = new_is ∙ sym (grown_run_is who old trail added trail_is);
       added = added;
       grew = record { newer = older.newer; run_is = older.run_is; trail_is = trail_is; last = subst (EndsWith who) (sym newer_is) (ends_by who added) };
-      added_is = older.run_is ∙ ap (λ (r : Run). r ++ old) newer_is;
-      news = record { trail_is = has.0.trail; went_on = has.0.went_on; newest = known_now (newest_is back_sits) };
+      added_is = new_is;
+      news = record { trail_is = has.0.trail; went_on = has.0.went_on; newest = ⊎_elim inl (λ theirs. inr (same_history z old new v knows.each theirs)) (newest_is back_sits) };
     }
 
   pub back_by : (me last : Holding) → me ≡ (all, []) → HaveMet me last → IsBack z old who trail history last

@@ -131,18 +131,16 @@ module _ (mine theirs : Holding) (my_own : IsAlone mine (who_of mine.0)) (their_
     known = subst (λ (m : Holding). HaveMet m met) is did
 
     -- the run that both know from then on
-    pub run : Run
+    abbrev run : Run
     run = known.0
 
-    pub words : List ℕ
+    abbrev words : List ℕ
     words = known.1
 
     all : HasAll them.ring (them ∷ me ∷ []) run words
-    unfolding run words
     all = known.2
 
     met_is : met ≡ (all_knowing run (them ∷ me ∷ []), [])
-    unfolding run
     met_is = known.3
 
     -- the other has its seat back

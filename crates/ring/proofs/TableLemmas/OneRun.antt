@@ -113,6 +113,11 @@ module _ (senders : ℕ) (who : Who) where
 
   -- a run in which this one has one event more, and with which all others share what they knew
   module _ (e : Event) (old : Run) where
+    -- the older run has nothing of this one behind the newer's step
+    not_whole : (new h : Run) → trail_of who new ≡ e ∷ trail_of who old → new ≡ h → (u : Who) → WentOn u h old → ⊥
+    not_whole new h mine whole u on = not_longer (trail_of who on.newer) (trail_of who old) e
+        (ap (trail_of who) (on.run_is ∙ ap (λ (l : Run). on.newer ++ l) (sym whole)) ∙ trail_append who on.newer new ∙ ap (λ (t : Trail). trail_of who on.newer ++ t) mine)
+
     one_more : (new : Run) → OnlyOf senders old → OnlyOf senders new → trail_of who new ≡ e ∷ trail_of who old → ((u : Who) → IsOne senders u → u ≢ who → trail_of u old ≡ trail_of u new) → Share old new
         → new ≡ (who, e) ∷ old
     one_more [] only_o only_n mine others share = absurd (not_empty _ _ (sym mine))
@@ -120,10 +125,7 @@ module _ (senders : ℕ) (who : Who) where
       where
         by_first : (y.0 ≡ who) ⊎ (y.0 ≢ who) → y ∷ ys ≡ (who, e) ∷ old
         by_first (inr ne) =
-            let s = share y.0 only_n.0 ne in
-            let whole : y ∷ ys ≡ s.h = went_on_own y ys s.h s.two in
-            let is : old ≡ s.one.newer ++ y ∷ ys = s.one.run_is ∙ ap (λ (l : Run). s.one.newer ++ l) (sym whole) in
-            absurd (not_longer (trail_of who s.one.newer) (trail_of who old) e (ap (trail_of who) is ∙ trail_append who s.one.newer (y ∷ ys) ∙ ap (λ (t : Trail). trail_of who s.one.newer ++ t) mine))
+            let s = share y.0 only_n.0 ne in absurd (not_whole (y ∷ ys) s.h mine (went_on_own y ys s.h s.two) y.0 s.one)
         by_first (inl yours) =
             let both : ◌≡◌ {A = Trail} (y.1 ∷ trail_of who ys) (e ∷ trail_of who old) = sym (trail_own who y ys yours) ∙ mine in
             let event : y.1 ≡ e = cc in
@@ -133,9 +135,7 @@ module _ (senders : ℕ) (who : Who) where
             (λ (ne : u ≢ who). others u one ne ∙ trail_else u y.0 y.1 ys (λ k. ne (k ∙ yours)))
             (alike u who)) in
             let shared : Share old ys = (λ u one ne. let s = share u one ne in ⊎_elim
-            (λ (whole : y ∷ ys ≡ s.h).
-            let is : old ≡ s.one.newer ++ y ∷ ys = s.one.run_is ∙ ap (λ (l : Run). s.one.newer ++ l) (sym whole) in
-            absurd (not_longer (trail_of who s.one.newer) (trail_of who old) e (ap (trail_of who) is ∙ trail_append who s.one.newer (y ∷ ys) ∙ ap (λ (t : Trail). trail_of who s.one.newer ++ t) mine)))
+            (λ (whole : y ∷ ys ≡ s.h). absurd (not_whole (y ∷ ys) s.h mine whole u s.one))
             (λ (on : WentOn u s.h ys). record { h = s.h; one = s.one; two = on })
             (went_on_other u y ys s.h (λ k. ne (k ∙ yours)) s.two)) in
             let same : old ≡ ys = same_runs old ys only_o only_n.1 agree shared in

@@ -1,7 +1,8 @@
 -- The words that the operations of a run make of zeros are one list.
-use Rattle.std.proofs.Common.{◌≡◌, ℕ, zero, suc, ◌+◌, ◌/◌, ◌%◌, ◌^◌, ◌<◌, List, [], ◌∷◌, length, refl, sym, ap, ◌∙◌, arith}
+use Rattle.std.proofs.Common.{◌≡◌, ◌≢◌, ⊎_elim, ℕ, zero, suc, ◌+◌, ◌/◌, ◌%◌, ◌^◌, ◌<◌, List, [], ◌∷◌, length, refl, sym, ap, ◌∙◌, arith}
 use mathlib.Core.Logic.{dite}
 use native.Mathlib.Decide.{ℕ_discrete}
+use Rattle.std.proofs.lemmas.Bool.{cases_eq}
 use Rattle.std.proofs.lemmas.List.{length-set, ext_get_or}
 use Rattle.std.specs.Prelude.{slice_index, slice_set, bit_or}
 use Rattle.std.specs.Int.{bit_at}
@@ -27,9 +28,7 @@ one_mask g p count a b one other = same_from_bits a b (λ i.
     let low = bit_at-lt a i in let lower = bit_at-lt b i in
     let there : bit_at a i ≡ 1 → bit_at b i ≡ 1 = (λ is. (other.bits i).1 ((one.bits i).0 is)) in
     let back : bit_at b i ≡ 1 → bit_at a i ≡ 1 = (λ is. (one.bits i).1 ((other.bits i).0 is)) in
-    dite (ℕ_discrete (bit_at a i) 1)
-    (λ set. set ∙ sym (there set))
-    (λ unset. dite (ℕ_discrete (bit_at b i) 1) (λ set. absurd (unset (back set))) (λ neither. omega (arith, low, lower, unset, neither))))
+    ⊎_elim (λ set. set ∙ sym (there set)) (λ (unset : bit_at a i ≢ 1). let none : bit_at b i ≢ 1 = (λ set. unset (back set)) in omega (arith, low, lower, unset, none)) (cases_eq (bit_at a i) 1))
 
 -- ---- one operation
 
