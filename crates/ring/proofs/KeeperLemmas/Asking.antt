@@ -28,7 +28,7 @@ use Rattle.ring.specs.sender.Reservations.{reserved_number, reserved_body, IsOpe
 use Rattle.ring.specs.Keepers.{KeeperValue, keeper_of, missing, IsKeeper, own_port, has_lent, has_back, with_step, IdleReservationValue, KeepsAll}
 use Rattle.ring.proofs.TableLemmas.Meetings.{finds_at}
 use Rattle.ring.proofs.KeeperLemmas.Growing.{grown_run_is}
-use Rattle.ring.proofs.KeeperLemmas.Seated.{same_history}
+use Rattle.ring.proofs.KeeperLemmas.Seated.{all_sit, same_history}
 
 -- ---- one step of a sender
 
@@ -126,20 +126,14 @@ module _ (table : TableId) (p : KeeperValue) (me : Holding) (is : keeper_of tabl
   abbrev z : Ring
   z = ring_of me.0
 
-  nobody_lent : missing me.0 ≡ None
-  nobody_lent = ap (λ (q : KeeperValue). q.lent) is ∙ whole
-
-  all_sit : AllSit z me.0
-  all_sit u one = keeps.knows.others u one (λ e. (let no : Some u ≡ None = e ∙ nobody_lent in cc))
-
   pub finds_as : (key : Ring) (slots id i : ℕ) → Allows (RuleHolds key) slots id me i (λ x. x) (has_found (step slots i 0 0 none) me)
   finds_as key slots id i =
       subst (λ (m : Holding). Allows (RuleHolds key) slots id m i (λ x. x) (has_found (step slots i 0 0 none) m)) (λ k. let m : Holding = (me.0, sym keeps.no_slots k) in m)
-      (finds_of key slots id i (λ q. q.who ≡ Consumer) me.0 (all_sit Consumer tt))
+      (finds_of key slots id i (λ q. q.who ≡ Consumer) me.0 (all_sit table p me.0 is keeps.knows whole Consumer tt))
 
   module _ (i word : ℕ) (last : Holding) (at : i ≡ control_word) (did : has_found (step 0 i 0 0 none) me word last) where
     met_run : history_of_first me.0 ≡ did.0.0
-    met_run = same_history z (history_of_first me.0) did.0.0 me.0 keeps.knows.each (did.0.4 all_sit)
+    met_run = same_history z (history_of_first me.0) did.0.0 me.0 keeps.knows.each (did.0.4 (all_sit table p me.0 is keeps.knows whole))
 
     stays : last ≡ me
     stays = did.0.3 ∙ (λ k. let m : Holding = (all_knowing (sym met_run k) me.0, me.1) in m)

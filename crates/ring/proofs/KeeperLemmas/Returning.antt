@@ -105,9 +105,6 @@ pub record ComesBack (q : PortValue) (old new : KeeperValue) : Type 0 where
 
 module _ (table : TableId) (p : KeeperValue) (v : List Participant) (is : keeper_of table v ≡ p) (knows : AllBut (missing v) (ring_of v) (history_of_first v) v)
     (q : PortValue) (lent : p.lent ≡ Some q.who) (ours : q.ring ≡ p.ring) (port_table : TableId) (their : Holding) (port_is : port_of port_table their ≡ q) (alone_is : IsAlone their (who_of their.0)) where
-  lends_him : missing v ≡ Some q.who
-  lends_him = ap (λ (k : KeeperValue). k.lent) is ∙ lent
-
   ring_same : ring_of their.0 ≡ ring_of v
   ring_same = ap (λ (k : PortValue). k.ring.made_with) port_is ∙ ap (λ (r : RingValue). r.made_with) ours ∙ ap (λ (k : KeeperValue). k.ring.made_with) (sym is)
 
@@ -120,7 +117,7 @@ module _ (table : TableId) (p : KeeperValue) (v : List Participant) (is : keeper
 
   pub comes_back : (me last : Holding) → me ≡ (their.0 ++ v, []) → HaveMet me last → IsBack (ring_of v) (history_of_first v) q.who q.trail q.history last
   comes_back me last me_is did =
-      back_by (ring_of v) (history_of_first v) q.who v (subst (λ (o : Option Who). AllBut o (ring_of v) (history_of_first v) v) lends_him knows) q.trail q.history me last (joined_is me me_is) did
+      back_by (ring_of v) (history_of_first v) q.who v (subst (λ (o : Option Who). AllBut o (ring_of v) (history_of_first v) v) (ap (λ (k : KeeperValue). k.lent) is ∙ lent) knows) q.trail q.history me last (joined_is me me_is) did
 
   run_same : history_of_first v ≡ p.run
   run_same = ap (λ (k : KeeperValue). k.run) is

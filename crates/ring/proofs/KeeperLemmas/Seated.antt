@@ -2,6 +2,7 @@
 use Rattle.std.proofs.Common.{◌≡◌, ◌≢◌, ℕ, zero, suc, ◌+◌, ◌<◌, ◌≤◌, Bool, true, false, cond, List, [], ◌∷◌, refl, sym, ap, ◌∙◌, inl, inr, arith, subst}
 use Rattle.std.specs.Prelude.{Option, Some, None}
 use Rattle.std.proofs.lemmas.Bool.{cond_both, cond-false}
+use Rattle.std.proofs.lemmas.Option.{none-some}
 use mathlib.Core.Logic.{dite}
 use native.Mathlib.Decide.{ℕ_discrete}
 use Rattle.ringcore.specs.declared.world.event.Who.{Who}
@@ -11,7 +12,7 @@ use Rattle.ringcore.specs.world.Allowed.{Ring}
 use Rattle.ringcore.specs.world.Laws.{IsOne}
 use Rattle.ring.specs.declared.table.rule.Participant.{Participant}
 use Rattle.ring.specs.table.Rule.{HasTrails, Any, ring_of, history_of_first, Holding, participants_from, first_participants}
-use Rattle.ring.specs.table.Meetings.{all_knowing}
+use Rattle.ring.specs.table.Meetings.{all_knowing, AllSit}
 use Rattle.ring.specs.table.Keeping.{AllKnow, without, RunStands}
 use Rattle.ring.specs.Keepers.{sits, missing_from, KeeperValue, keeper_of, missing, AllBut, IsKeeper, own_port}
 use Rattle.ring.proofs.TableLemmas.Trails.{same_refl}
@@ -65,6 +66,10 @@ pub record IsOther (n : ℕ) (who : Who) : Type 0 where
 pub someone : (n : ℕ) (who : Who) → 1 ≤ n → IsOther n who
 someone n Consumer some = record { other = Sender 0; one = (let h : 0 < n = omega (arith, some) in h); apart = λ e. cc }
 someone n (Sender s) some = record { other = Consumer; one = tt; apart = λ e. cc }
+
+-- where nobody has a seat lent, all sit here
+pub all_sit : (table : TableId) (p : KeeperValue) (v : List Participant) → keeper_of table v ≡ p → AllBut (missing v) (ring_of v) (history_of_first v) v → p.lent ≡ None → AllSit (ring_of v) v
+all_sit table p v is knows whole u one = knows.others u one (λ e. none-some u (sym (e ∙ ap (λ (q : KeeperValue). q.lent) is ∙ whole)))
 
 -- ---- what those who sit there know
 

@@ -1,11 +1,11 @@
 -- A reservation that is written and flipped in the order of its slots.
-use Rattle.std.proofs.Common.{rules, ◌≡◌, ℕ, zero, suc, ◌+◌, ◌<◌, ◌≤◌, Bool, true, false, ◌==◌, ◌||◌, ◌&&◌, ◌%◌, ◌/◌, ◌^◌, List, [], ◌∷◌, ◌++◌, length, Option, Some, None, refl, sym, ap, ◌∙◌, subst, arith}
-use Rattle.std.proofs.lemmas.Bool.{lt-ltb, le-ltb}
+use Rattle.std.proofs.Common.{rules, ◌≡◌, ℕ, zero, suc, ◌+◌, ◌<◌, ◌≤◌, Bool, true, false, ◌==◌, ◌||◌, ◌&&◌, ◌%◌, ◌/◌, ◌^◌, List, [], ◌∷◌, ◌++◌, length, get_or, ⊎_elim, Option, Some, None, refl, sym, ap, ◌∙◌, subst, arith}
+use Rattle.std.proofs.lemmas.Bool.{lt-ltb, le-ltb, cases_lt}
 use Rattle.std.proofs.lemmas.Bool.Decides.{nat_tests}
 use Rattle.std.specs.Prelude.{slice_get, nat_lt}
 use Rattle.cmdcodec.specs.declared.raw.Raw.{Raw}
 use Rattle.qindex.specs.Positions.{IndexValue, index_of}
-use Rattle.std.proofs.lemmas.Option.{slice_get_within, gets}
+use Rattle.std.proofs.lemmas.Option.{slice_get_within, slice_get-get_or, none-some}
 use Rattle.ring.proofs.Lists.{at_end, in_front}
 use Rattle.ringcore.specs.declared.world.event.Half.{Half}
 use Rattle.ringcore.specs.declared.world.event.Half.TheVariants.{Lo, Hi}
@@ -83,7 +83,7 @@ module _ (port : PortValue) (tally : Tally) (body : List Raw) (closes : Bool) (s
   next_is_sync raw at low raw_is = ap (λ (l : List Raw). slice_get l written) is.commands_are ∙ by_kind closes is.many ∙ ap Some (sym raw_is)
     where
       past : length body ≤ written
-      past = grind (arith, gets)
+      past = ⊎_elim (λ (inside : written < length body). absurd (none-some (get_or body written raw) (sym at ∙ slice_get-get_or body written raw inside))) (λ le. le) (cases_lt written (length body))
 
       by_kind : (v : Bool) → reserved_length port.trail ≡ length_with v body → slice_get (commands tally.sender (number_when v tally.numbers) body) written ≡ Some (sync_raw tally.sender tally.numbers)
       by_kind true many =

@@ -149,9 +149,6 @@ module _ (mine theirs : Holding) (my_own : IsAlone mine (who_of mine.0)) (their_
         subst (λ (m : Holding). Splits (RuleHolds key) id m.0 (without_first m.0) (first_alone m.0)) (sym met_is)
         (deals_at key id (record them { history = run }) (record me { history = run } ∷ []) (apart, tt))
 
-    their_stand : Stands them.ring them.who them.trail run words
-    their_stand = record { limits = all.limits; after = all.after; only = all.only; known = all.has.0.known; trail_is = all.has.0.trail }
-
     my_stand : Stands me.ring me.who me.trail run words
     my_stand = subst (λ (r : Ring). Stands r me.who me.trail run words) (sym all.has.1.0.ring_is)
         record { limits = all.limits; after = all.after; only = all.only; known = all.has.1.0.known; trail_is = all.has.1.0.trail }
@@ -167,7 +164,11 @@ module _ (mine theirs : Holding) (my_own : IsAlone mine (who_of mine.0)) (their_
       my_seat = subst (λ (m : Holding). IsAlone m (who_of m.0)) (sym i_am) record { me_is = refl; words = words; stands = my_stand }
 
       pub their_seat : IsAlone back (who_of back.0)
-      their_seat = subst (λ (m : Holding). IsAlone m (who_of m.0)) (sym they_are) record { me_is = refl; words = words; stands = their_stand }
+      their_seat = subst (λ (m : Holding). IsAlone m (who_of m.0)) (sym they_are) record {
+        me_is = refl;
+        words = words;
+        stands = record { limits = all.limits; after = all.after; only = all.only; known = all.has.0.known; trail_is = all.has.0.trail };
+      }
 
       -- what contracts see of it
       pub have_met : (my_table my_new_table their_table their_new_table : TableId) → my_new_table ≡ my_table → their_new_table ≡ their_table → (p q : PortValue) → port_of my_table mine ≡ p → port_of their_table theirs ≡ q
