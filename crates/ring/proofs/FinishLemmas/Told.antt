@@ -1,7 +1,7 @@
 -- An event of a seat's trail stands in the run, and of an ask that stands there the law tells what was completed before.
 use Rattle.std.proofs.Common.{◌≡◌, ℕ, Bool, true, false, cond, arith, [], ◌∷◌, ◌++◌, length, length-append, refl, sym, ap, ◌∙◌}
 use Rattle.ringcore.specs.declared.world.event.Who.{Who}
-use Rattle.ringcore.specs.declared.world.event.Who.TheVariants.{Consumer, Sender}
+use Rattle.ringcore.specs.declared.world.event.Who.TheVariants.{Sender}
 use Rattle.ringcore.specs.declared.world.event.Event.{Event}
 use Rattle.ringcore.specs.declared.world.event.Event.TheVariants.{Ask}
 use Rattle.ringcore.specs.world.Trails.{Run, Trail, same, trail_of}

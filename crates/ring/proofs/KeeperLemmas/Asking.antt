@@ -1,6 +1,6 @@
 -- One step of a sender that asks, looks or closes, and a load of the control word.
-use Rattle.std.proofs.Common.{rules, ◌≡◌, ℕ, ◌<◌, Bool, true, false, cond, List, [], ◌∷◌, refl, sym, ap, ◌∙◌, subst}
-use Rattle.std.specs.Prelude.{◌==◌, Some, None, slice_index}
+use Rattle.std.proofs.Common.{rules, ◌≡◌, ℕ, ◌<◌, Bool, cond, List, [], ◌∷◌, refl, sym, ap, ◌∙◌, subst}
+use Rattle.std.specs.Prelude.{◌==◌, None, slice_index}
 use Rattle.std.proofs.lemmas.Bool.{cond_both}
 use mathlib.Core.Option.{none}
 use Rattle.atomic_table.specs.Table.{step, Allows}
@@ -20,12 +20,12 @@ use Rattle.ringcore.specs.memory.StepLaws.{Always, HasAControlWord, LooksByALoad
 use Rattle.ring.specs.declared.table.rule.Participant.{Participant}
 use Rattle.ring.specs.declared.sender.tally.Tally.{Tally}
 use Rattle.ring.specs.table.Rule.{Holding, RuleHolds, Any, ring_of, history_of_first}
-use Rattle.ring.specs.table.Meetings.{all_knowing, AllSit, has_found}
+use Rattle.ring.specs.table.Meetings.{all_knowing, has_found}
 use Rattle.ring.specs.table.Keeping.{RunStands, AllKnow}
 use Rattle.ring.specs.table.Ports.{PortValue}
 use Rattle.ring.specs.sender.Senders.{IsTallied, IsSender}
 use Rattle.ring.specs.sender.Reservations.{reserved_number, reserved_body, IsOpen}
-use Rattle.ring.specs.Keepers.{KeeperValue, keeper_of, missing, IsKeeper, own_port, has_lent, has_back, with_step, IdleReservationValue, KeepsAll}
+use Rattle.ring.specs.Keepers.{KeeperValue, keeper_of, IsKeeper, own_port, has_lent, has_back, with_step, IdleReservationValue, KeepsAll}
 use Rattle.ring.proofs.TableLemmas.Meetings.{finds_at}
 use Rattle.ring.proofs.KeeperLemmas.Growing.{grown_run_is}
 use Rattle.ring.proofs.KeeperLemmas.Seated.{all_sit, same_history}

@@ -1,22 +1,18 @@
 -- What a run has more that only one has grown, and what is left of the others.
-use Rattle.std.proofs.Common.{◌≡◌, ◌≢◌, ◌⊎◌, ℕ, ◌-◌, [], ◌∷◌, ◌++◌, length, length-append, take, refl, sym, ap, ◌∙◌, inl, inr, arith, rules, Bool, List, subst}
+use Rattle.std.proofs.Common.{◌≡◌, ◌≢◌, ℕ, ◌-◌, [], ◌∷◌, ◌++◌, length, length-append, take, refl, sym, ap, ◌∙◌, inl, inr, arith, rules, subst}
 use Rattle.std.proofs.Math.Seq.{take-append_seam}
 use Rattle.ringcore.specs.declared.world.event.Who.{Who}
-use Rattle.ringcore.specs.world.Trails.{Trail, Run, trail_of, same, IsSettled}
+use Rattle.ringcore.specs.world.Trails.{Trail, Run, trail_of, same}
 use Rattle.ringcore.specs.world.Laws.{IsOne, OnlyOf}
 use Rattle.ring.specs.table.Histories.{EndsWith}
 use Rattle.ring.specs.table.Keeping.{run_by, grown_run}
 use Rattle.ring.specs.Keepers.{Adds, KeeperValue, own_port, KeepsOthers}
 use Rattle.ring.proofs.TableLemmas.Trails.{alike, trail_here, trail_own, trail_else, not_empty}
 use Rattle.ringcore.specs.declared.world.event.Who.TheVariants.{Consumer, Sender}
-use Rattle.qindex.specs.Positions.{IndexValue}
 use Rattle.ring.specs.consumer.Consumers.{IsConsumer}
-use Rattle.cmdcodec.specs.declared.raw.Raw.{Raw}
-use Rattle.ring.specs.sender.Senders.{IsTallied, IsSender}
+use Rattle.ring.specs.sender.Senders.{IsSender}
 use Rattle.ring.specs.sender.Reservations.{IsOpen}
-use Rattle.ring.specs.declared.sender.tally.Tally.{Tally}
 use Rattle.ring.specs.table.Ports.{PortValue}
-use Rattle.ring.proofs.SenderLemmas.InOrder.{knowing}
 
 -- of a run that only one has grown
 pub trail_since : (who : Who) (added : Trail) (since : Run) → trail_of who (run_by who added ++ since) ≡ added ++ trail_of who since

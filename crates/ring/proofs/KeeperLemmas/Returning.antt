@@ -1,8 +1,6 @@
 -- A seat comes back to its keeper.
-use Rattle.std.proofs.Common.{◌≡◌, ◌≢◌, ◌⊎◌, ℕ, List, [], ◌∷◌, ◌++◌, refl, sym, ap, ◌∙◌, subst, ⊎_elim, inl, inr, arith}
+use Rattle.std.proofs.Common.{◌≡◌, ◌≢◌, List, [], ◌∷◌, ◌++◌, refl, sym, ap, ◌∙◌, subst, ⊎_elim, inl, inr, arith}
 use Rattle.std.specs.Prelude.{Option, Some, None}
-use mathlib.Core.Option.{none}
-use Rattle.atomic_table.specs.Table.{step, Allows}
 use Rattle.atomic_table.specs.Seated.{TableId}
 use Rattle.ringcore.specs.declared.world.event.Who.{Who}
 use Rattle.ringcore.specs.world.Trails.{Trail, Run, same, trail_of}
@@ -10,8 +8,8 @@ use Rattle.ringcore.specs.world.Allowed.{Ring}
 use Rattle.ringcore.specs.world.Laws.{IsOne, OnlyOf}
 use Rattle.ring.specs.declared.table.rule.Participant.{Participant}
 use Rattle.ring.specs.Rings.{RingValue}
-use Rattle.ring.specs.table.Rule.{Holding, participant, RuleHolds, WentOn, IsIn, HasTrails, Any, IsAlone, who_of, ring_of, history_of_first}
-use Rattle.ring.specs.table.Meetings.{all_knowing, AllSit, HaveMet, has_met}
+use Rattle.ring.specs.table.Rule.{Holding, participant, WentOn, IsIn, HasTrails, Any, IsAlone, who_of, ring_of, history_of_first}
+use Rattle.ring.specs.table.Meetings.{all_knowing, AllSit, HaveMet}
 use Rattle.ring.specs.table.Histories.{EndsWith, Grew}
 use Rattle.ring.specs.table.Keeping.{RunStands, one_of_run, run_by, grown_run}
 use Rattle.ring.specs.table.Ports.{PortValue, port_of}

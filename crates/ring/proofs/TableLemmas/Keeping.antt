@@ -1,5 +1,5 @@
 -- One of several who know one run gets a seat of its own.
-use Rattle.std.proofs.Common.{◌≡◌, ◌⊎◌, ℕ, Bool, true, false, cond, List, [], ◌∷◌, refl, ap, ◌∙◌, subst, ⊎_elim, inl, inr}
+use Rattle.std.proofs.Common.{◌≡◌, ◌⊎◌, ℕ, Bool, cond, List, [], ◌∷◌, ap, ◌∙◌, subst, ⊎_elim, inl, inr}
 use Rattle.atomic_table.specs.Table.{Splits}
 use Rattle.ringcore.specs.declared.world.event.Who.{Who}
 use Rattle.ringcore.specs.world.Trails.{Run, same}

@@ -1,5 +1,5 @@
 -- The steps of a seat that stands for one alone, by what contracts see of it.
-use Rattle.std.proofs.Common.{◌≡◌, ℕ, ◌+◌, ◌<◌, Bool, true, false, cond, ◌==◌, List, ◌∷◌, [], Some, refl, sym, ap, ◌∙◌, subst, ◌^◌, arith}
+use Rattle.std.proofs.Common.{◌≡◌, ℕ, ◌+◌, ◌<◌, Bool, true, false, cond, ◌==◌, List, ◌∷◌, [], Some, sym, ap, ◌∙◌, subst, ◌^◌, arith}
 use mathlib.Core.Option.{none}
 use Rattle.std.proofs.lemmas.Option.{same_Some}
 use Rattle.atomic_table.specs.Table.{step, Allows}

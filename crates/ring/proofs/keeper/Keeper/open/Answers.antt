@@ -1,7 +1,6 @@
-use Rattle.std.proofs.Common.{rules, ◌≡◌, ℕ, List, [], replicate, refl, sym, subst}
-use Rattle.atomic_table.specs.Table.{opening}
+use Rattle.std.proofs.Common.{rules, ◌≡◌, [], replicate, refl}
 use Rattle.ringcore.specs.world.Allowed.{Ring}
-use Rattle.ring.specs.table.Rule.{RuleHolds, first_participants, IsWithinLimits}
+use Rattle.ring.specs.table.Rule.{first_participants, IsWithinLimits}
 use Rattle.ring.specs.NewRings.{made_with}
 use Rattle.qindex.specs.Positions.{index_of}
 use Rattle.ring.proofs.TableLemmas.Starts.{starts, zeros_after}

@@ -1,8 +1,7 @@
-use Rattle.std.proofs.Common.{rules, ◌≡◌, ℕ, List, [], ◌∷◌, replicate, refl, sym, ap, ◌∙◌, subst}
-use Rattle.atomic_table.specs.Table.{opening}
+use Rattle.std.proofs.Common.{rules, ◌≡◌, [], ◌∷◌, refl, ap, ◌∙◌}
 use Rattle.ringcore.specs.declared.world.event.Who.TheVariants.{Consumer}
 use Rattle.ringcore.specs.world.Allowed.{Ring}
-use Rattle.ring.specs.table.Rule.{Holding, RuleHolds, participant, participants_from, first_participants, IsWithinLimits}
+use Rattle.ring.specs.table.Rule.{Holding, participant, participants_from}
 use Rattle.ring.proofs.TableLemmas.Starts.{starts, fresh}
 use Rattle.ring.proofs.ring.Ring.open.Goals as goal
 use Rattle.ring.specs.NewRings.{made_with}

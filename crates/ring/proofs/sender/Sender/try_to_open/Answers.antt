@@ -1,7 +1,5 @@
 use Rattle.std.proofs.Common.{rules, ℕ, List, sym, subst, add-one, ◌∙◌, arith}
 use Rattle.cmdcodec.specs.declared.raw.Raw.{Raw}
-use Rattle.ringcore.specs.declared.world.event.Who.TheVariants.{Sender}
-use Rattle.ring.specs.table.Histories.{Grew}
 use Rattle.ring.specs.sender.Reserving.{IsRefused}
 use Rattle.ring.specs.sender.Sending.{HasTried}
 use Rattle.ring.proofs.TableLemmas.Grown.{grew_then}
