@@ -10,7 +10,7 @@ use Rattle.qindex.specs.Indexes.{distance}
 use Rattle.ring.specs.Runs.{Sender, Event, Look, Trail, Run, IsSettled, looked, batches_made, numbers_given, prod_of, commands, world, control, MayTry, length_with}
 use Rattle.ring.specs.sender.{Tally, SenderValue, IsTallied, one_more, Refused, Contended, IsOpen, ReservationValue, ring_size, HasRoom, HasBatchLeft, HasNoRoom, TellsRoom, HasLookedAt, IsWon, IsLost}
 use Rattle.ring.specs.table.{PortValue, has_won, GrewBy, Grew}
-use Rattle.ring.proofs.TableLemmas.Grown.{grew_step, grew_more, sender_step}
+use Rattle.ring.proofs.TableLemmas.Grown.{grew_step, grew_then, sender_step}
 use Rattle.ring.proofs.SenderLemmas.InOrder.{knowing}
 
 pub may_try : (port : PortValue) (number : ℕ) (s : SenderValue) (body : List Raw) (closes : Bool) (many : ℕ) (seen : Control)
@@ -54,9 +54,7 @@ module _ (body : List Raw) (closes : Bool) (seen : Control) (s t : SenderValue) 
   same_number = ap (λ (u : SenderValue). u.number) looked.trail_is
 
   further : (e : Event) (trail : Trail) (run : Run) → trail ≡ e ∷ t.trail → GrewBy (Sender t.number) e t.history run → Grew (Sender s.number) s.trail trail s.history run
-  further e trail run is grew =
-      grew_more _ _ _ _ _ _ _ looked_grew
-      (subst (λ (n : ℕ). Grew (Sender n) t.trail trail t.history run) same_number (grew_step (Sender t.number) e t.trail trail t.history run is grew))
+  further e trail run is grew = grew_then _ _ _ _ _ _ _ _ same_number looked_grew (grew_step (Sender t.number) e t.trail trail t.history run is grew)
 
   pub exchanged_grew : (result : Result ReservationValue Refused) → IfOk result (λ r. IsWon body closes seen t r) → IfErr result (λ e. (e.cause ≡ Contended) × IsLost body closes seen t e.sender)
       → MatchResult result (λ r. Grew (Sender s.number) s.trail r.trail s.history r.history) (λ e. Grew (Sender s.number) s.trail e.sender.trail s.history e.sender.history)

@@ -4,7 +4,7 @@ use Rattle.qindex.specs.Positions.{place}
 use Rattle.ring.specs.Runs.{Who, Consumer, Sender, Event, Test, Trail, Run, trail_of, World, head, world, Ring, IsRun, FindsReady}
 use Rattle.ring.specs.table.{IsHistory, GrewBy, EndsWith, Grew, OneStepIsLast, NoStepIsNone, PortValue}
 use Rattle.ring.specs.sender.{SenderValue}
-use Rattle.ring.proofs.TableLemmas.Trails.{trail_here, trail_append, none_before}
+use Rattle.ring.proofs.TableLemmas.Trails.{trail_here, trail_own, trail_append, not_empty, none_before}
 
 -- ---- no step, one, and some after others
 
@@ -33,18 +33,16 @@ grew_more who a b c h i j one two = record {
   last = ends_with who two.newer one.newer two.last one.last;
 }
 
--- what a part of a run holds that ends with a step of this participant
-own_first : (who : Who) (x : Who × Event) (xs : Run) → x.0 ≡ who → trail_of who (x ∷ xs) ≡ x.1 ∷ trail_of who xs
-own_first who x xs own = ap (λ (w : Who). trail_of who ((w, x.1) ∷ xs)) own ∙ trail_here who x.1 xs
+-- the second under a number that is the first's
+pub grew_then : (s n : ℕ) (a b c : Trail) (h i j : Run) → n ≡ s → Grew (Sender s) a b h i → Grew (Sender n) b c i j → Grew (Sender s) a c h j
+grew_then s n a b c h i j same one two = grew_more (Sender s) a b c h i j one (subst (λ (k : ℕ). Grew (Sender k) b c i j) same two)
 
 pub none_is_none : NoStepIsNone
 none_is_none who trail older run grew = by_newer grew.newer grew.run_is grew.trail_is grew.last
   where
     by_newer : (n : Run) → run ≡ n ++ older → trail ≡ trail_of who n ++ trail → EndsWith who n → run ≡ older
     by_newer [] is same last = is
-    by_newer (x ∷ xs) is same last =
-        let none : trail_of who (x ∷ xs) ≡ [] = none_before (trail_of who (x ∷ xs)) trail (sym same) in
-        let one : ◌≡◌ {A = Trail} (x.1 ∷ trail_of who xs) [] = sym (own_first who x xs last) ∙ none in absurd (cc)
+    by_newer (x ∷ xs) is same last = absurd (not_empty _ _ (sym (trail_own who x xs last) ∙ none_before (trail_of who (x ∷ xs)) trail (sym same)))
 
 pub one_is_last : OneStepIsLast
 one_is_last who e trail older run grew = by_newer grew.newer grew.run_is grew.trail_is grew.last
@@ -52,7 +50,7 @@ one_is_last who e trail older run grew = by_newer grew.newer grew.run_is grew.tr
     by_newer : (n : Run) → run ≡ n ++ older → e ∷ trail ≡ trail_of who n ++ trail → EndsWith who n → GrewBy who e older run
     by_newer [] is same last = absurd (let n : length (e ∷ trail) ≡ length trail = ap (λ (t : Trail). length t) same in omega (arith, n))
     by_newer (x ∷ xs) is same last =
-        let both : e ∷ trail ≡ x.1 ∷ (trail_of who xs ++ trail) = same ∙ ap (λ (t : Trail). t ++ trail) (own_first who x xs last) in
+        let both : e ∷ trail ≡ x.1 ∷ (trail_of who xs ++ trail) = same ∙ ap (λ (t : Trail). t ++ trail) (trail_own who x xs last) in
         let event : x.1 ≡ e = cc in
         let rest : trail_of who xs ++ trail ≡ trail = cc in
         record {
@@ -85,7 +83,3 @@ port_step p q who e who_is is grew =
 pub sender_step : (s t : SenderValue) (e : Event) → record t { history = [] } ≡ record s { trail = e ∷ s.trail; history = [] } → GrewBy (Sender s.number) e s.history t.history
     → Grew (Sender s.number) s.trail t.trail s.history t.history
 sender_step s t e is grew = grew_step (Sender s.number) e s.trail t.trail s.history t.history (ap (λ (x : SenderValue). x.trail) is) grew
-
-pub consumer_step : (c d : PortValue) (e : Event) → record d { history = [] } ≡ record c { trail = e ∷ c.trail; history = [] } → GrewBy Consumer e c.history d.history
-    → Grew Consumer c.trail d.trail c.history d.history
-consumer_step c d e is grew = grew_step Consumer e c.trail d.trail c.history d.history (ap (λ (x : PortValue). x.trail) is) grew

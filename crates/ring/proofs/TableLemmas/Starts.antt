@@ -53,8 +53,9 @@ all_in_first ring (Sender s) one = sender_in ring 0 ring.senders s (omega arith)
 pub zeros_after : OpensAllZero → (ring : Ring) (m : ℕ) → IsGeometry ring.geometry → ring.flags ≡ 64 → m ≡ words_of ring.geometry ring.senders → AreAfter ring [] (replicate m 0)
 zeros_after opens ring m geometry flags is = opens ring (replicate m 0) geometry flags (length-replicate m 0 ∙ is) (get_zero m)
 
-pub starts : OpensAllZero → (ring : Ring) (m : ℕ) → IsWithinLimits ring → IsGeometry ring.geometry → ring.flags ≡ 64 → m ≡ words_of ring.geometry ring.senders → RuleHolds ring (opening (replicate m 0) [] (first_participants ring))
-starts opens ring m limits geometry flags is = record {
+pub starts : OpensAllZero → (ring : Ring) (m : ℕ) (words : List ℕ) → words ≡ replicate m 0 → IsWithinLimits ring → IsGeometry ring.geometry → ring.flags ≡ 64 → m ≡ words_of ring.geometry ring.senders
+    → RuleHolds ring (opening words [] (first_participants ring))
+starts opens ring m words zeros limits geometry flags is = subst (λ (ws : List ℕ). RuleHolds ring (opening ws [] (first_participants ring))) (sym zeros) record {
   limits = limits;
   run = [];
   after = zeros_after opens ring m geometry flags is;
@@ -78,9 +79,6 @@ pub deals_as : (key : Ring) (id : ℕ) (ring : Ring) (k more : ℕ) (v : List Pa
 deals_as key id ring k more v is = subst (λ (l : List Participant). Splits (RuleHolds key) id l (without_first l) (first_alone l)) (sym is)
     (deals_at key id (participant ring (Sender k) [] []) (participants_from ring (suc k) more) (without_from ring k (suc k) more (omega arith)))
 
-abbrev pub new_tally : ℕ → Tally
-new_tally k = record { sender = k; batches = 0; numbers = 0 }
-
 -- one that has taken no step stands in the empty run
 pub fresh : OpensAllZero → (ring : Ring) (who : Who) (me : Holding) → IsWithinLimits ring → IsGeometry ring.geometry → ring.flags ≡ 64 → IsOne ring.senders who → me ≡ (participant ring who [] [] ∷ [], []) → IsAlone me (who_of me.0)
 fresh opens ring who me limits geometry flags known is = subst (λ (m : Holding). IsAlone m (who_of m.0)) (sym is) record {
@@ -99,7 +97,7 @@ rest_of ring k more m w is told = told ∙ ap (λ (x : Holding). let y : Holding
 pub new_state : (table : TableId) (ring : Ring) (who : Who) (me : Holding) → me ≡ (participant ring who [] [] ∷ [], []) → port_of table me ≡ record { ring = record { table = table; made_with = ring }; who = who; trail = []; history = [] }
 new_state table ring who me is = ap (port_of table) is
 
-pub new_is_sender : (p : PortValue) (ring : RingValue) (k : ℕ) → p ≡ record { ring = ring; who = Sender k; trail = []; history = [] } → (t : Tally) → t ≡ new_tally k → IsSender p t
+pub new_is_sender : (p : PortValue) (ring : RingValue) (k : ℕ) → p ≡ record { ring = ring; who = Sender k; trail = []; history = [] } → (t : Tally) → t ≡ record { sender = k; batches = 0; numbers = 0 } → IsSender p t
 new_is_sender p ring k is t t_is = subst (λ (q : PortValue × Tally). IsSender q.0 q.1) (λ i. (sym is i, sym t_is i)) record {
   tallied = record { who_is = refl; batches_are = refl; numbers_are = refl; numbered = omega arith; most = omega arith };
   settled = λ j h. absurd (omega arith);

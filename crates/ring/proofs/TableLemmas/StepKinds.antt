@@ -1,6 +1,7 @@
 -- What each kind of step may do, by its law.
-use Rattle.std.proofs.Common.{◌≡◌, ℕ, suc, Bool, true, false, cond, eq-eqb, eqb-true, true≢false, ◌+◌, ◌<◌, List, [], ◌∷◌, refl, sym, ap, ◌∙◌, subst, arith, ◌%◌, ◌≤◌, mod-lt}
+use Rattle.std.proofs.Common.{◌≡◌, ℕ, suc, Bool, true, false, cond, eq-eqb, eqb-true, true≢false, ◌+◌, ◌<◌, List, ◌∷◌, refl, sym, ap, ◌∙◌, subst, arith, ◌%◌, ◌≤◌, mod-lt}
 use Rattle.std.proofs.lemmas.Nat.{pow_pos}
+use Rattle.std.proofs.lemmas.List.{get_or-set_same}
 use Rattle.std.specs.Prelude.{◌==◌, Option, Some, length, slice_index, slice_set, slice_get, bit_or, bit_xor}
 use prog.Atomic.{either}
 use Rattle.cmdcodec.specs.declared.raw.Raw.{Raw}
@@ -71,11 +72,6 @@ module _ (wins : Always WinsByAnExchange) (loses : Always LosesByAnExchange) (ri
   tries : MayTry ring (trail_of (Sender s) run) body (length_with closing body) before
   tries = subst (λ (t : Trail). MayTry ring t body (length_with closing body) before) (sym now.trail_is) may
 
-  -- there is a control word, and what is stored in it stands there
-  stored_there : (ws : List ℕ) (y : ℕ) → 1 ≤ length ws → slice_index (slice_set ws control_word y) control_word ≡ y
-  stored_there [] y some = absurd (omega (arith, some))
-  stored_there (w ∷ ws) y some = refl
-
   by_hit : (v : Bool) → (x == old) ≡ v → Exchanged v
   by_hit true hit =
       let many : length_with closing body ≡ batch_length body number = many_is trail closing body in
@@ -86,11 +82,12 @@ module _ (wins : Always WinsByAnExchange) (loses : Always LosesByAnExchange) (ri
       (subst (λ (k : ℕ). MayTry ring (trail_of (Sender s) run) body k before) many tries)
       (subst (λ (t : Trail). IsNextNumber t number) (sym now.trail_is) (next_is trail closing))
       (eqb-true x old hit ∙ old_is)) in
-      let some : 1 ≤ length words = (let all = now.after.shadow.many in let slots : ℕ = size ring.geometry in omega (arith, all)) in (
+      -- there is a control word, and what is stored in it stands there
+      let some : control_word < length words = (let all = now.after.shadow.many in let slots : ℕ = size ring.geometry in omega (arith, all)) in (
         Won body number,
         refl,
         won,
-        record { found = now.after.shadow.control_is; stored = ap (slice_set words control_word) (sym (stored_there words new some) ∙ won.shadow.control_is) },
+        record { found = now.after.shadow.control_is; stored = ap (slice_set words control_word) (sym (get_or-set_same words control_word new 0 some) ∙ won.shadow.control_is) },
       )
   by_hit false miss = (
     Lost body closing (control_in ring.geometry x),
@@ -216,16 +213,11 @@ control_inside g senders many i m is = let x : ℕ = size g in omega arith
 
 pub flag_inside : (g senders many i p : ℕ) → many ≡ words_of g senders → i ≡ flag_word g p → i < many
 flag_inside g senders many i p m is =
-    let n : ℕ = size g in let pos : 0 < n = pow_pos g in
-    let low : p % n < n = mod-lt p pos in
-    let r : ℕ = p % n in omega arith
+    let n : ℕ = size g in let low : p % n < n = mod-lt p (pow_pos g) in let r : ℕ = p % n in omega arith
 
 pub data_inside : (g senders many i p : ℕ) (half : Half) → many ≡ words_of g senders → i ≡ data_word g p half → i < many
 data_inside g senders many i p half m is =
-    let n : ℕ = size g in let pos : 0 < n = pow_pos g in
-    let low : p % n < n = mod-lt p pos in
-    let h : half_number half < 2 = small half in
-    let r : ℕ = p % n in omega arith
+    let n : ℕ = size g in let low : p % n < n = mod-lt p (pow_pos g) in let h = small half in let r : ℕ = p % n in omega arith
   where
     small : (half : Half) → half_number half < 2
     small Lo = omega arith

@@ -4,7 +4,7 @@ use Rattle.ring.specs.table.{PortValue, Grew}
 use Rattle.ring.specs.Runs.{Consumer}
 use Rattle.ring.specs.consumer.{IsConsumer, all_acknowledged, completed_trail}
 use Rattle.ring.proofs.TableLemmas.Grown.{grew_step, grew_more}
-use Rattle.ring.proofs.ConsumerLemmas.Completing.{is_consumer}
+use Rattle.ring.proofs.ConsumerLemmas.Acknowledging.{is_consumer}
 use Rattle.ring.proofs.consumer.consumer_port.ConsumerPort.complete_run.Goals as goal
 
 pub invariant_of-result : goal.invariant_of-result

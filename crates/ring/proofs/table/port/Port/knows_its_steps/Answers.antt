@@ -1,6 +1,6 @@
 use Rattle.std.proofs.Common.{subst}
 use Rattle.ring.specs.table.{IsWithinLimits, PortValue}
-use Rattle.ring.proofs.ConsumerLemmas.Facts.{knows_its_steps}
+use Rattle.ring.proofs.TableLemmas.Histories.{knows_its_steps}
 use Rattle.ring.proofs.table.port.Port.knows_its_steps.Goals as goal
 
 pub returns-clause-steps : goal.returns-clause-steps
