@@ -11,12 +11,12 @@ pub use Rattle.ringcore.specs.declared.world.event.Event.TheVariants.{Look, Won,
 pub use Rattle.ringcore.specs.world.Trails.{Trail, Run, same, same_half, trail_of, looked, batches_made, numbers_given, batch_length, reserved_length}
 pub use Rattle.ringcore.specs.world.Trails.{is_among, has_written, has_flipped, IsSettled, prod_of, start_index, found_ready, half_read, head_read}
 pub use Rattle.ringcore.specs.world.Trails.{raws_by, taken_by, acknowledged_by}
-pub use Rattle.ringcore.specs.world.World.{Item, sync_raw, commands, outcome_of, Taken, taken_as, World, tail, head, after, world, control, half_of}
+pub use Rattle.ringcore.specs.world.World.{Item, sync_raw, commands, outcome_of, Taken, taken_as, World, tail, head, world, control, half_of}
 pub use Rattle.ringcore.specs.world.Allowed.{Ring, ShareAWord, IsRunLength, IsNextNumber, MayTry, MayWin, length_with, MayLose, MayWrite, MayFlip}
 pub use Rattle.ringcore.specs.world.Allowed.{FindsReady, MayRead, MayAdvance, SyncIsTaken, Allowed, IsRun}
 pub use Rattle.ringcore.specs.world.Delivery.{Batch, batches, joined, advanced, has_close, Begins, TakenInOrder, NumberedInOrder, NoneAfterClose}
 pub use Rattle.ringcore.specs.world.Delivery.{ToldWhenCompleted, IsOrderedDelivery}
-pub use Rattle.ringcore.specs.world.Laws.{EveryRun, NeverMoreThanFull, AcknowledgedAreTaken, IsApplied, AcknowledgedAreApplied, ToldOfAllUpTo}
+pub use Rattle.ringcore.specs.world.Laws.{EveryRun, NeverMoreThanFull, AcknowledgedAreTaken, IsApplied, ToldOfAllUpTo}
 pub use Rattle.ringcore.specs.world.Laws.{AllOfBatches, ClosedByAClose, batches_of, own_batches, SendersOrderIsKept, IsOne, OnlyOf, BatchesHaveOwners}
 pub use Rattle.ringcore.specs.world.Laws.{ListsAreShort, is_sync_to, syncs_in, SyncsTellTheirBatch, syncs_taken, SyncsAddUp, SyncsAreCounted}
 pub use Rattle.ringcore.specs.world.Laws.{NumbersAreFew, IsNextSync, SyncsAreInOrder}
