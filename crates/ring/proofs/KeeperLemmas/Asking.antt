@@ -137,10 +137,6 @@ module _ (table : TableId) (p : KeeperValue) (me : Holding) (is : keeper_of tabl
     word_is : word ≡ slice_index did.0.1 control_word
     word_is = did.1 ∙ ap (slice_index did.0.1) at
 
-    pub says_control : Always HasAControlWord → IsControlWord p.ring.made_with.geometry word
-    says_control says =
-        subst (λ (t : ℕ × KeeperValue). IsControlWord t.1.ring.made_with.geometry t.0) (λ k. (sym word_is k, is k)) (says z did.0.0 did.0.1 did.0.2.after)
-
     pub control_is : Always LooksByALoad → control_in p.ring.made_with.geometry word ≡ control p.ring.made_with.geometry (world p.run)
     control_is finds =
         let now : control_in z.geometry (slice_index did.0.1 control_word) ≡ control z.geometry (world did.0.0) = (finds z did.0.0 did.0.1 did.0.2.after Consumer).run_is.1 in

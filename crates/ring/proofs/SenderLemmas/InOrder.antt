@@ -37,9 +37,6 @@ pub knowing : (port : PortValue) (tally : Tally) (body : List Raw) (closes : Boo
 knowing port tally body closes start written flipped is = search rules
 
 module _ (port : PortValue) (tally : Tally) (body : List Raw) (closes : Bool) (start : IndexValue) (written flipped : ℕ) (is : IsOpen port tally body closes start written flipped) where
-  pub may_write : written < reserved_length port.trail → MayWrite port.trail written
-  may_write low = record { inside = low; unflipped = is.in_flipped written ∙ le-ltb written flipped is.behind }
-
   pub may_flip : (count : ℕ) → 1 ≤ count → count ≤ 64 → flipped + count ≤ written → MayFlipAt port.trail flipped count
   may_flip count some few low = record {
     many = (some, few);
@@ -48,21 +45,10 @@ module _ (port : PortValue) (tally : Tally) (body : List Raw) (closes : Bool) (s
     written = λ i half less. is.in_written (flipped + i) half ∙ lt-ltb (flipped + i) written (omega arith);
   }
 
-  pub slot_at : (offset : ℕ) (slot : IndexValue) → ((geometry position : ℕ) → start ≡ index_of geometry position → slot ≡ index_of geometry (position + offset)) → IsSlotAt port slot offset
-  slot_at offset slot forward position here = forward port.ring.made_with.geometry position (is.start_is ∙ here)
-
-  pub wrote_is : written < reserved_length port.trail → (new : PortValue) → record new { history = [] } ≡ record port { trail = Write written Hi ∷ Write written Lo ∷ port.trail; history = [] }
-      → IsOpen new tally body closes start (written + 1) flipped
-  wrote_is low new new_is = knowing new tally body closes start (written + 1) flipped (subst (λ (q : PortValue). IsOpen q tally body closes start (written + 1) flipped) (sym new_is)
-      (let more = wrote port.trail written is.in_written in let many = is.many in let within : written + 1 ≤ length_with closes body = omega arith in let behind : flipped ≤ written + 1 = omega arith in search rules))
-
   pub flipped_is : (count : ℕ) → flipped + count ≤ written → (new : PortValue) → record new { history = [] } ≡ record port { trail = Flip flipped count ∷ port.trail; history = [] }
       → IsOpen new tally body closes start written (flipped + count)
   flipped_is count low new new_is = knowing new tally body closes start written (flipped + count) (subst (λ (q : PortValue). IsOpen q tally body closes start written (flipped + count)) (sym new_is)
       (let more = flipped_more port.trail flipped count is.in_flipped in search rules))
-
-  pub settled : flipped ≡ reserved_length port.trail → IsSettled port.trail
-  settled all offset low = is.in_flipped offset ∙ lt-ltb offset flipped (omega arith)
 
 -- ---- the next command
 
@@ -71,9 +57,6 @@ in_body s None body i raw at = at
 in_body s (Some n) body i raw at = in_front body (sync_raw s n ∷ []) i (slice_get_within body i raw at) ∙ at
 
 module _ (port : PortValue) (tally : Tally) (body : List Raw) (closes : Bool) (start : IndexValue) (written flipped : ℕ) (is : IsOpen port tally body closes start written flipped) where
-  pub next_in_body : (raw : Raw) → slice_get body written ≡ Some raw → slice_get (reserved_commands tally.sender port.trail) written ≡ Some raw
-  next_in_body raw at = ap (λ (l : List Raw). slice_get l written) is.commands_are ∙ in_body tally.sender (number_when closes tally.numbers) body written raw at
-
   pub next_is_sync : (raw : Raw) → slice_get body written ≡ None → written < reserved_length port.trail → raw ≡ sync_raw tally.sender tally.numbers → slice_get (reserved_commands tally.sender port.trail) written ≡ Some raw
   next_is_sync raw at low raw_is = ap (λ (l : List Raw). slice_get l written) is.commands_are ∙ by_kind closes is.many ∙ ap Some (sym raw_is)
     where
@@ -86,9 +69,6 @@ module _ (port : PortValue) (tally : Tally) (body : List Raw) (closes : Bool) (s
       by_kind false many = (let m : reserved_length port.trail ≡ length body = many in let w : written < reserved_length port.trail = low in let p : length body ≤ written = past in absurd (omega arith))
 
 -- ---- flags in one word
-
-pub one_shares : (g p : ℕ) → ShareAWord 64 g p 1
-one_shares g p offset low = ap (λ (k : ℕ). k % 2 ^ g / 64) (let e : p + offset ≡ p = omega arith in e)
 
 pub fewer_share : (g p many count : ℕ) → count ≤ many → ShareAWord 64 g p many → ShareAWord 64 g p count
 fewer_share g p many count le share offset low = share offset (omega arith)

@@ -67,12 +67,6 @@ none_turned ring w limit found some none finds =
     subst (λ (n : ℕ). w.flipped n ≡ false) here
     (finds.no_more (omega (arith, some, none)) (λ offset low. ap (λ (n : ℕ). place ring.geometry n / ring.flags) (let e : head w + offset ≡ head w = omega (arith, low, none) in e)))
 
-pub unturned_now : (ring : Ring) (trail : Trail) (limit found : ℕ) (older run : Run) → 1 ≤ limit → IsHistory ring Consumer trail run → GrewBy Consumer (Test limit found) older run
-    → found ≡ 0 → (world run).flipped (head (world run)) ≡ false
-unturned_now ring trail limit found older run some is grew none =
-    let ok : IsRun ring ((Consumer, Test limit found) ∷ grew.before) = subst (IsRun ring) grew.run_is is.stands.after.run_is in
-    subst (λ (r : Run). (world r).flipped (head (world r)) ≡ false) (sym grew.run_is) (none_turned ring (world grew.before) limit found some none ok.1)
-
 -- ---- as contracts see a step
 
 pub port_step : (p q : PortValue) (who : Who) (e : Event) → p.who ≡ who → record q { history = [] } ≡ record p { trail = e ∷ p.trail; history = [] } → GrewBy p.who e p.history q.history

@@ -10,23 +10,6 @@ use Rattle.ring.specs.table.{Holding, ring_of, who_of, trail_of_first, history_o
 use Rattle.ring.specs.sender.{TellsRoom}
 use Rattle.ring.specs.consumer.{KnowsItsSteps}
 
--- a seat knows a run of its ring
-pub knows : (table : TableId) (me : Holding) (p : PortValue) → port_of table me ≡ p → IsAlone me (who_of me.0) → IsHistory p.ring.made_with p.who p.trail p.history
-knows table me p is alone = subst (λ (q : PortValue). IsHistory q.ring.made_with q.who q.trail q.history) is record { words = alone.words; stands = alone.stands }
-
--- where a look finds too little room, there is too little; and where it finds the two ends at one place, all that is reserved is taken
-pub looks_tell : NeverMoreThanFull → IndexesTellTheQueue → (ring : Ring) (who : Who) (trail : Trail) (run : Run) → IsHistory ring who trail run → TellsRoom ring.geometry (world run) × EndsTellAll ring.geometry (world run)
-looks_tell within tells ring who trail run is =
-    let w = world run in let g : ℕ = ring.geometry in
-    let i = within ring run is.stands.after.run_is in let behind = i.behind in
-    let apart : distance (index_of g (tail w)) (index_of g (head w)) ≡ tail w - head w = (tells g (tail w) (head w) is.stands.after.geometry_is i.behind i.within).distance in
-    let none : distance (index_of g (head w)) (index_of g (head w)) ≡ head w - head w = (tells g (head w) (head w) is.stands.after.geometry_is (omega arith) (omega arith)).distance in (
-      λ slots many full. omega (arith, apart, behind, full),
-      λ same.
-          let one : distance (index_of g (tail w)) (index_of g (head w)) ≡ distance (index_of g (head w)) (index_of g (head w)) =
-          ap (λ (n : ℕ). let p : IndexValue = record { geometry = g; number = n } in distance p (index_of g (head w))) same in omega (arith, apart, none, one, behind),
-    )
-
 -- ---- the consumer's steps, by the laws of every run
 
 module _ (short : ListsAreShort) (tells : EveryRun TellsTheHead) (finds : EveryRun FoundIsReady) (order : TookSyncsInOrder) (steady : ConsumerIsSteady) where
