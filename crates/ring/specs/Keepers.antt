@@ -1,10 +1,8 @@
 -- What contracts see of a keeper, who sits for everybody and so knows the whole run.
 use Rattle.std.specs.Prelude.{◌≡◌, ◌≢◌, ◌⊎◌, ℕ, zero, suc, ◌≤◌, Bool, true, false, cond, List, [], ◌∷◌, ◌++◌, Option, Some, None}
-use Rattle.atomic_table.specs.Seated.{TableId}
-use Rattle.cmdcodec.specs.declared.raw.Raw.{Raw}
+use Rattle.ring.specs.table.{TableId, Participant, Holding, WentOn, Any, ring_of, history_of_first, RunStands, AllKnow, run_by, grown_run, PortValue}
+use Rattle.ring.specs.Runs.{Raw, Who, Consumer, Sender, Event, Trail, Run, same, trail_of, IsOne, Ring}
 use Rattle.qindex.specs.Positions.{IndexValue}
-use Rattle.ring.specs.Runs.{Who, Consumer, Sender, Event, Trail, Run, same, trail_of, IsOne, Ring}
-use Rattle.ring.specs.table.{Participant, Holding, WentOn, Any, ring_of, history_of_first, RunStands, AllKnow, run_by, grown_run, PortValue}
 use Rattle.ring.specs.sender.{Tally, SenderValue, IsSender, ReservationValue, IsOpen}
 use Rattle.ring.specs.Rings.{RingValue}
 use Rattle.ring.specs.NewRings.{made_with}

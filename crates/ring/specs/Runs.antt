@@ -1,5 +1,7 @@
--- What clauses say of runs, from the crate of the abstract queue: who takes steps and which, trails, runs and worlds, which
--- runs are allowed, and what all of them keep.
+-- What clauses say of runs, from the crates below: the words of a command and of the queue, who takes steps and which, trails,
+-- runs and worlds, which runs are allowed, and what all of them keep.
+pub use Rattle.cmdcodec.specs.declared.raw.Raw.{Raw}
+pub use Rattle.qindex.specs.declared.control.Control.{Control}
 pub use Rattle.ringcore.specs.declared.world.event.Who.{Who}
 pub use Rattle.ringcore.specs.declared.world.event.Who.TheVariants.{Consumer, Sender}
 pub use Rattle.ringcore.specs.declared.world.event.Half.{Half}

@@ -8,6 +8,8 @@ pub mod OneRun
 pub mod Histories
 pub mod Keeping
 pub mod Meetings
+pub use Rattle.atomic_table.specs.Seated.{TableId}
+pub use Rattle.atomic_table.specs.Table.{Allows, Final, Joins, Seen, Splits, keeps, opening, step}
 pub use Rattle.ring.specs.declared.table.rule.Participant.{Participant}
 pub use Operations.*
 pub use Rule.*

@@ -3,14 +3,13 @@ use Rattle.std.proofs.Common.{◌≡◌, ◌≢◌, ◌≤◌, ◌^◌, refl, ap
 use Rattle.std.specs.Prelude.{◌↔◌, take}
 use Rattle.std.specs.FinMap as finite
 use Rattle.std.proofs.lemmas.Bool.{ne_eqb}
-use Rattle.cmdcodec.specs.declared.raw.Raw.{Raw}
+use Rattle.ring.specs.Runs.{Raw, Consumer, Lo, Hi, Look, Test, Read, Advance, Acknowledge, Trail, Run, trail_of, Taken, World, world, Ring, NeverMoreThanFull}
 use Rattle.cmdcodec.specs.declared.ill.Ill.{Ill}
 use Rattle.cmdcodec.specs.declared.command.Command.{Command}
 use Rattle.cmdcodec.specs.Opcodes.{is_sync}
 use Rattle.cmdcodec.specs.Words.{decoding}
 use Rattle.cmdcodec.specs.Laws.{WordsDecodeToWhatTheySpell, IllegalWordsDecodeToTheirFault}
 use Rattle.qindex.specs.Laws.{IndexesTellTheQueue}
-use Rattle.ring.specs.Runs.{Consumer, Lo, Hi, Look, Test, Read, Advance, Acknowledge, Trail, Run, trail_of, Taken, World, world, Ring, NeverMoreThanFull}
 use Rattle.caches.specs.Held.{Take, without_covered}
 use Rattle.ring.specs.Rings.{RingValue}
 use Rattle.ring.specs.table.Keeping.{run_by, RunStands}

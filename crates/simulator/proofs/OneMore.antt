@@ -1,12 +1,11 @@
 -- What is taken and counted once one more command was completed.
 use Rattle.std.proofs.Common.{◌≡◌, refl, ap, sym, ◌∙◌, arith, ℕ, ◌+◌, ◌-◌, Bool, true, false, not, cond, List, [], ◌∷◌, ◌++◌, Option, Some, None}
 use Rattle.std.specs.Prelude.{is_none}
-use Rattle.cmdcodec.specs.declared.raw.Raw.{Raw}
+use Rattle.ring.specs.Runs.{Raw, Consumer, Advance, Acknowledge}
 use Rattle.cmdcodec.specs.declared.ill.Ill.{Ill}
 use Rattle.cmdcodec.specs.declared.command.Command.{Command}
 use Rattle.cmdcodec.specs.Opcodes.{is_sync}
 use Rattle.cmdcodec.specs.Legality.{first_ill}
-use Rattle.ring.specs.Runs.{Consumer, Advance, Acknowledge}
 use Rattle.ringcore.specs.declared.world.event.Outcome.TheVariants as outcome
 use Rattle.ring.specs.Runs.{Run, Taken, outcome_of, taken_as, world}
 use Rattle.ring.specs.consumer.Completing.{sync_sender, sync_number}

@@ -1,7 +1,6 @@
 -- A sender that has just reserved a batch has an open reservation.
 use Rattle.std.proofs.Common.{◌≡◌, refl, ap, ◌∙◌, arith, ℕ, ◌+◌, ◌≤◌, Bool, true, cond, List, ◌∷◌, length, Option, Some, None, Ok, eq-eqb}
-use Rattle.cmdcodec.specs.declared.raw.Raw.{Raw}
-use Rattle.ring.specs.Runs.{Sender, Won, Trail, Run, trail_of, world, Ring, length_with}
+use Rattle.ring.specs.Runs.{Raw, Sender, Won, Trail, Run, trail_of, world, Ring, length_with}
 use Rattle.ringcore.specs.machine.Open.{is_open}
 use Rattle.ringcore.specs.machine.StepAnswers.{next_number}
 use Rattle.ring.specs.declared.sender.cause.Cause.{Cause}

@@ -4,8 +4,7 @@ use Rattle.std.proofs.lemmas.Bool.{cases_lt, cases_eq, lt-leb}
 use Rattle.std.proofs.lemmas.List.{length-set, get_or-set_same, get_or-set_other, get_or-append_right, length_push}
 use Rattle.std.proofs.Math.ListN.{get_or-append}
 use Rattle.std.specs.Prelude.{None, ◌⊎◌, ◌||◌, nat_lt, slice_index_or, slice_set}
-use Rattle.cmdcodec.specs.declared.raw.Raw.{Raw}
-use Rattle.ring.specs.Runs.{Who, Sender, Consumer, Event, Trail, trail_of, reserved_length, has_flipped, IsSettled, Ring, length_with}
+use Rattle.ring.specs.Runs.{Raw, Who, Sender, Consumer, Event, Trail, trail_of, reserved_length, has_flipped, IsSettled, Ring, length_with}
 use Rattle.ringcore.specs.machine.Open.{some_below, is_open}
 use Rattle.ring.specs.Rings.{RingValue}
 use Rattle.ring.specs.NewRings.{made_with}

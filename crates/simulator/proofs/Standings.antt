@@ -1,7 +1,6 @@
 -- What calls of a sender keep of a state, and how a simulator stands after them.
 use Rattle.std.proofs.Common.{◌≡◌, refl, ap, ap₂, sym, subst, ◌∙◌, ℕ, zero, suc, Bool, List, ◌++◌, Option, Some, None, Result, Ok, Err}
-use Rattle.cmdcodec.specs.declared.raw.Raw.{Raw}
-use Rattle.ring.specs.Runs.{Sender, Trail, Run, trail_of, Taken, world, Ring, length_with}
+use Rattle.ring.specs.Runs.{Raw, Sender, Trail, Run, trail_of, Taken, world, Ring, length_with}
 use Rattle.ring.specs.declared.sender.cause.Cause.{Cause}
 use Rattle.ring.specs.Rings.{RingValue}
 use Rattle.ring.specs.table.Keeping.{run_by}

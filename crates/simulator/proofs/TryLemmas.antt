@@ -2,12 +2,10 @@
 use Rattle.std.proofs.Common.{◌≡◌, ◌≢◌, ℕ, suc, ◌+◌, ◌-◌, ◌<◌, ◌≤◌, Bool, true, false, List, [], ◌∷◌, Option, Some, None, Ok, sym, ap, ap₂, ◌∙◌, subst, arith}
 use Rattle.std.proofs.lemmas.Bool.{lt-leb, lt-ltb, le-leb}
 use Rattle.std.specs.Prelude.{nat_lt, Result}
-use Rattle.cmdcodec.specs.declared.raw.Raw.{Raw}
-use Rattle.qindex.specs.declared.control.Control.{Control}
+use Rattle.ring.specs.Runs.{Raw, Control, Sender, Look, Won, Lost, Trail, Run, trail_of, batches_made, start_index, tail, head, world, control, Ring, IsRun, MayLose, length_with, NeverMoreThanFull}
 use Rattle.qindex.specs.Positions.{IndexValue, size, index_of}
 use Rattle.qindex.specs.Indexes.{IsGeometry, distance}
 use Rattle.qindex.specs.Laws.{IndexesTellTheQueue}
-use Rattle.ring.specs.Runs.{Sender, Look, Won, Lost, Trail, Run, trail_of, batches_made, start_index, tail, head, world, control, Ring, IsRun, MayLose, length_with, NeverMoreThanFull}
 use Rattle.ringcore.specs.machine.StepAnswers.{next_number}
 use Rattle.ring.specs.Rings.{RingValue}
 use Rattle.ring.specs.Keepers.{KeeperValue, IdleReservationValue, own_sender, IsIdleReservation, IsLeftOf, IsIdleSender}

@@ -1,7 +1,6 @@
 -- Which way a step goes.
 use Rattle.std.proofs.Common.{◌≡◌, refl, ◌==◌, Bool, true, false, cond, Option, Some, None}
-use Rattle.cmdcodec.specs.declared.raw.Raw.{Raw}
-use Rattle.ring.specs.Runs.{Run, World, tail, head, world}
+use Rattle.ring.specs.Runs.{Raw, Run, World, tail, head, world}
 use Rattle.engine.specs.declared.answer.StepAnswer.{StepAnswer}
 use Rattle.engine.specs.declared.answer.StepAnswer.TheVariants.{StillStopped}
 use Rattle.engine.specs.declared.stop.Mode.{Mode}

@@ -1,8 +1,6 @@
 -- What a sender does: look, reserve, publish, close and ask.
 use Rattle.std.specs.Prelude.{ℕ, Bool, List, ◌∷◌, ⊤, Option, Result, Ok, Err}
-use Rattle.cmdcodec.specs.declared.raw.Raw.{Raw}
-use Rattle.qindex.specs.declared.control.Control.{Control}
-use Rattle.ring.specs.Runs.{Sender, Close, Ask, Run, world, control}
+use Rattle.ring.specs.Runs.{Raw, Control, Sender, Close, Ask, Run, world, control}
 use Rattle.ring.specs.declared.sender.cause.Cause.{Cause}
 use Rattle.ring.specs.sender.Reservations.{reserved_number}
 use Rattle.simulator.specs.declared.queue.reserved.Reserved.{Reserved}

@@ -1,11 +1,10 @@
 -- What a step of the unit does, and how a stop is acknowledged.
 use Rattle.std.specs.Prelude.{ℕ, ◌==◌, Bool, true, false, not, ⊤, Result, Ok, Err, if◌then◌else◌}
-use Rattle.cmdcodec.specs.declared.raw.Raw.{Raw}
+use Rattle.ring.specs.Runs.{Raw, world}
 use Rattle.cmdcodec.specs.declared.ill.Ill.{Ill}
 use Rattle.cmdcodec.specs.declared.command.Command.{Command}
 use Rattle.cmdcodec.specs.Words.{decoding}
 use Rattle.ringcore.specs.Limits.{most_reserved}
-use Rattle.ring.specs.Runs.{world}
 use Rattle.caches.specs.Held.{Take}
 use Rattle.engine.specs.declared.answer.StepAnswer.{StepAnswer}
 use Rattle.engine.specs.declared.answer.StepAnswer.TheVariants.{Empty, Drained, Unwritten, Applied, Stopped, Replaced, StillStopped, Exhausted}

@@ -3,11 +3,10 @@ use Rattle.std.proofs.Common.{◌≡◌, ℕ, suc, ◌+◌, ◌*◌, ◌<◌, �
 use Rattle.std.proofs.Common.{length, map, ap₂}
 use Rattle.std.proofs.lemmas.Bool.{cond_both}
 use Rattle.std.specs.Prelude.{slice_get}
-use Rattle.cmdcodec.specs.declared.raw.Raw.{Raw}
+use Rattle.ring.specs.Runs.{Raw, Acknowledge, Advance, Trail, raws_by, acknowledged_by, taken_by, is_sync_to, syncs_in, syncs_taken, SyncsAreInOrder, IsNextSync, SyncsAddUp, SyncsTellTheirBatch}
+use Rattle.ring.specs.Runs.{SyncsOfRawsAreCounted, Outcome, Taken, taken_as}
 use Rattle.cmdcodec.specs.Opcodes.{is_sync}
 use Rattle.cmdcodec.specs.ClosingSync.{cell_address}
-use Rattle.ring.specs.Runs.{Acknowledge, Advance, Trail, raws_by, acknowledged_by, taken_by, is_sync_to, syncs_in, syncs_taken, SyncsAreInOrder, IsNextSync, SyncsAddUp, SyncsTellTheirBatch}
-use Rattle.ring.specs.Runs.{SyncsOfRawsAreCounted, Outcome, Taken, taken_as}
 use Rattle.ring.specs.table.{PortValue}
 use Rattle.ring.specs.consumer.{sync_sender, sync_number, acknowledged, all_acknowledged, without_newest, HasAdvanced, IsClosingSync, completed_trail, taken_of, with_outcome, HasOutcome, IsConsumer}
 use Rattle.ring.proofs.Lists.{take_more, split_at}

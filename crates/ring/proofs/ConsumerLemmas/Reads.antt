@@ -4,11 +4,9 @@ use Rattle.std.proofs.lemmas.Bool.{cases_eq}
 use Rattle.std.proofs.lemmas.Option.{slice_get_within, same_Some}
 use Rattle.ring.proofs.Lists.{at_end, in_front}
 use Rattle.std.specs.Prelude.{slice_get}
-use Rattle.cmdcodec.specs.declared.raw.Raw.{Raw}
-use Rattle.ring.specs.Runs.{Half, Lo, Hi, Look, Test, Read, Trail, half_read, same_half, head_read, half_of, IsSteady}
+use Rattle.ring.specs.Runs.{Raw, Half, Lo, Hi, Look, Test, Read, Trail, half_read, same_half, head_read, half_of, IsSteady, Control}
 use Rattle.ring.specs.consumer.{HasSeen, reads_from}
 use Rattle.ring.specs.table.{PortValue}
-use Rattle.qindex.specs.declared.control.Control.{Control}
 
 -- ---- what was read at the head is found again
 

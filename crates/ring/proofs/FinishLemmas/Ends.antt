@@ -4,17 +4,14 @@ use Rattle.std.specs.Prelude.{slice_get, slice_index, SomeIff}
 use Rattle.std.specs.Option.{IsSome}
 use mathlib.Core.Option.{some, some-injective, some-ne-none}
 use lib.ListN.{get_elem?}
-use Rattle.atomic_table.specs.Table.{Final, Seen}
-use Rattle.cmdcodec.specs.declared.raw.Raw.{Raw}
-use Rattle.qindex.specs.declared.control.Control.{Control}
+use Rattle.ring.specs.table.{Final, Seen, Participant, participant, WentOn, IsIn, HasTrails, RuleHolds}
+use Rattle.ring.specs.Runs.{Raw, Control, Consumer, Sender, Run, trail_of, raws_by, taken_by, tail, head, world, control, Ring, IsRun, Begins, TakenInOrder, NumberedInOrder, NoneAfterClose}
+use Rattle.ring.specs.Runs.{ToldWhenCompleted, batches, joined, advanced, EveryRun, NeverMoreThanFull, ToldOfAllUpTo, AllOfBatches, ClosedByAClose, BatchesHaveOwners, SendersOrderIsKept, own_batches}
+use Rattle.ring.specs.Runs.{TellsTheHead, TellsWhatIsAdvanced, TellsTheOutcomes, RawsAreCounted, SawDrained, DrainedIsTheEnd}
 use Rattle.qindex.specs.Indexes.{distance}
 use Rattle.qindex.specs.ControlWord.{IsControl, IsControlWord, control_in}
 use Rattle.qindex.specs.Laws.{QueuesHaveAControl, IndexesTellTheQueue, WordsSayTheirControl}
-use Rattle.ring.specs.Runs.{Consumer, Sender, Run, trail_of, raws_by, taken_by, tail, head, world, control, Ring, IsRun, Begins, TakenInOrder, NumberedInOrder, NoneAfterClose, ToldWhenCompleted}
-use Rattle.ring.specs.Runs.{batches, joined, advanced, EveryRun, NeverMoreThanFull, ToldOfAllUpTo, AllOfBatches, ClosedByAClose, BatchesHaveOwners, SendersOrderIsKept, own_batches, TellsTheHead}
-use Rattle.ring.specs.Runs.{TellsWhatIsAdvanced, TellsTheOutcomes, RawsAreCounted, SawDrained, DrainedIsTheEnd}
 use Rattle.ringcore.specs.memory.StepLaws.{Always, HasAControlWord}
-use Rattle.ring.specs.table.{Participant, participant, WentOn, IsIn, HasTrails, RuleHolds}
 use Rattle.ring.specs.Rings.{RingValue}
 use Rattle.ring.specs.sender.{SenderValue}
 use Rattle.ring.specs.consumer.{ConsumerValue, taken_of}

@@ -3,16 +3,12 @@ use Rattle.std.proofs.Common.{rules, ◌≡◌, ℕ, ◌<◌, Bool, cond, List, 
 use Rattle.std.specs.Prelude.{◌==◌, None, slice_index}
 use Rattle.std.proofs.lemmas.Bool.{cond_both}
 use mathlib.Core.Option.{none}
-use Rattle.atomic_table.specs.Table.{step, Allows}
-use Rattle.atomic_table.specs.Seated.{TableId}
-use Rattle.cmdcodec.specs.declared.raw.Raw.{Raw}
-use Rattle.qindex.specs.declared.control.Control.{Control}
+use Rattle.ring.specs.table.{step, Allows, TableId, Participant, Holding, RuleHolds, Any, ring_of, history_of_first, all_knowing, has_found, RunStands, AllKnow, PortValue}
+use Rattle.ring.specs.Runs.{Raw, Control, Consumer, Sender, Half, Event, Look, Close, Ask, Trail, Run, trail_of, batches_made, numbers_given, reserved_length, has_written, has_flipped, start_index}
+use Rattle.ring.specs.Runs.{world, control, Ring, Allowed, IsRun}
 use Rattle.qindex.specs.ControlWord.{IsControlWord, control_in}
-use Rattle.ring.specs.Runs.{Consumer, Sender, Half, Event, Look, Close, Ask, Trail, Run, trail_of, batches_made, numbers_given, reserved_length, has_written, has_flipped, start_index, world, control}
-use Rattle.ring.specs.Runs.{Ring, Allowed, IsRun}
 use Rattle.ringcore.specs.memory.Layout.{control_word}
 use Rattle.ringcore.specs.memory.StepLaws.{Always, HasAControlWord, LooksByALoad, reserved_commands}
-use Rattle.ring.specs.table.{Participant, Holding, RuleHolds, Any, ring_of, history_of_first, all_knowing, has_found, RunStands, AllKnow, PortValue}
 use Rattle.ring.specs.sender.{Tally, IsTallied, IsSender, reserved_number, reserved_body, IsOpen}
 use Rattle.ring.specs.Keepers.{KeeperValue, keeper_of, IsKeeper, own_port, has_lent, has_back, with_step, IdleReservationValue, KeepsAll}
 use Rattle.ring.proofs.TableLemmas.Meetings.{finds_at}

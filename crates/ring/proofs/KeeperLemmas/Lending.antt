@@ -1,10 +1,8 @@
 -- A keeper lends a seat.
 use Rattle.std.proofs.Common.{◌≡◌, ◌≢◌, ℕ, List, [], refl, sym, ap, ◌∙◌, subst, ⊎_elim}
 use Rattle.std.specs.Prelude.{Option, Some, None}
-use Rattle.atomic_table.specs.Table.{Splits}
-use Rattle.atomic_table.specs.Seated.{TableId}
+use Rattle.ring.specs.table.{Splits, TableId, Participant, Holding, RuleHolds, Any, ring_of, history_of_first, AllKnow, without, own_part}
 use Rattle.ring.specs.Runs.{Who, Run, same, Ring, IsOne}
-use Rattle.ring.specs.table.{Participant, Holding, RuleHolds, Any, ring_of, history_of_first, AllKnow, without, own_part}
 use Rattle.ring.specs.Keepers.{KeeperValue, keeper_of, missing_from, missing, AllBut, IsKeeper, has_lent}
 use Rattle.ring.proofs.TableLemmas.Keeping.{know_less, any_parted, lends_at}
 use Rattle.ring.proofs.KeeperLemmas.Seated.{all_sit, sits_any, sits_not, one_missing, IsOther, someone, first_knows}

@@ -1,10 +1,9 @@
 -- A seat comes back to its keeper.
 use Rattle.std.proofs.Common.{◌≡◌, ◌≢◌, List, [], ◌∷◌, ◌++◌, refl, sym, ap, ◌∙◌, subst, ⊎_elim, inl, inr, arith}
 use Rattle.std.specs.Prelude.{Option, Some, None}
-use Rattle.atomic_table.specs.Seated.{TableId}
+use Rattle.ring.specs.table.{TableId, Participant, Holding, participant, WentOn, IsIn, HasTrails, Any, IsAlone, who_of, ring_of, history_of_first, all_knowing, AllSit, HaveMet, EndsWith, Grew}
+use Rattle.ring.specs.table.{RunStands, one_of_run, run_by, grown_run, PortValue, port_of}
 use Rattle.ring.specs.Runs.{Who, Trail, Run, same, trail_of, Ring, IsOne, OnlyOf}
-use Rattle.ring.specs.table.{Participant, Holding, participant, WentOn, IsIn, HasTrails, Any, IsAlone, who_of, ring_of, history_of_first, all_knowing, AllSit, HaveMet, EndsWith, Grew, RunStands}
-use Rattle.ring.specs.table.{one_of_run, run_by, grown_run, PortValue, port_of}
 use Rattle.ring.specs.Rings.{RingValue}
 use Rattle.ring.specs.Keepers.{KeeperValue, keeper_of, missing, AllBut, IsKeeper, has_back, Adds, IsNews, KeepsOthers}
 use Rattle.ring.proofs.TableLemmas.Trails.{alike, trail_append, none_before}

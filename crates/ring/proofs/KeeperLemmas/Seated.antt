@@ -6,10 +6,9 @@ use Rattle.std.proofs.lemmas.Option.{none-some}
 use mathlib.Core.Logic.{dite}
 use native.Mathlib.Decide.{ℕ_discrete}
 use Rattle.ring.specs.Runs.{Who, Consumer, Sender, Run, same, Ring, IsOne}
-use Rattle.ring.specs.table.{Participant, HasTrails, Any, ring_of, history_of_first, Holding, participants_from, first_participants, all_knowing, AllSit, AllKnow, without, RunStands}
+use Rattle.ring.specs.table.{Participant, HasTrails, Any, ring_of, history_of_first, Holding, participants_from, first_participants, all_knowing, AllSit, AllKnow, without, RunStands, TableId}
 use Rattle.ring.specs.Keepers.{sits, missing_from, KeeperValue, keeper_of, missing, AllBut, IsKeeper, own_port}
 use Rattle.ring.proofs.TableLemmas.Trails.{same_refl}
-use Rattle.atomic_table.specs.Seated.{TableId}
 use Rattle.qindex.specs.Positions.{IndexValue, index_of}
 use Rattle.ring.specs.Rings.{RingValue}
 use Rattle.ring.specs.consumer.{IsConsumer}

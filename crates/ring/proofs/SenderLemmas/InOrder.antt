@@ -4,11 +4,10 @@ use Rattle.std.proofs.Common.{subst, arith}
 use Rattle.std.proofs.lemmas.Bool.{lt-ltb, le-ltb, cases_lt}
 use Rattle.std.proofs.lemmas.Bool.Decides.{nat_tests}
 use Rattle.std.specs.Prelude.{slice_get, nat_lt}
-use Rattle.cmdcodec.specs.declared.raw.Raw.{Raw}
+use Rattle.ring.specs.Runs.{Raw, Half, Lo, Hi, Write, Flip, Trail, IsSettled, reserved_length, is_among, same_half, commands, sync_raw, MayWrite, ShareAWord, length_with}
 use Rattle.qindex.specs.Positions.{IndexValue, index_of}
 use Rattle.std.proofs.lemmas.Option.{slice_get_within, slice_get-get_or, none-some}
 use Rattle.ring.proofs.Lists.{at_end, in_front}
-use Rattle.ring.specs.Runs.{Half, Lo, Hi, Write, Flip, Trail, IsSettled, reserved_length, is_among, same_half, commands, sync_raw, MayWrite, ShareAWord, length_with}
 use Rattle.ringcore.specs.memory.StepLaws.{reserved_commands}
 use Rattle.ring.specs.sender.{Tally, IsWrittenUpTo, IsFlippedUpTo, IsOpen, number_when}
 use Rattle.ring.specs.table.{PortValue, IsSlotAt, MayFlipAt}

@@ -2,12 +2,10 @@
 use Rattle.std.proofs.Common.{rules, ◌≡◌, ℕ, ◌+◌, ◌<◌, ◌≤◌, Bool, true, false, List, [], ◌∷◌, Some, Result, Ok, Err, sym, ap, subst, ◌∙◌, arith}
 use Rattle.std.specs.Prelude.{nat_lt, IfOk, IfErr, MatchResult}
 use Rattle.std.proofs.lemmas.Bool.Decides.{nat_tests}
-use Rattle.cmdcodec.specs.declared.raw.Raw.{Raw}
+use Rattle.ring.specs.Runs.{Raw, Control, Sender, Event, Look, Trail, Run, IsSettled, looked, batches_made, numbers_given, prod_of, commands, world, control, MayTry, length_with}
 use Rattle.cmdcodec.specs.Bodies.{IsBody}
-use Rattle.qindex.specs.declared.control.Control.{Control}
 use Rattle.qindex.specs.Positions.{size}
 use Rattle.qindex.specs.Indexes.{distance}
-use Rattle.ring.specs.Runs.{Sender, Event, Look, Trail, Run, IsSettled, looked, batches_made, numbers_given, prod_of, commands, world, control, MayTry, length_with}
 use Rattle.ring.specs.sender.{Tally, SenderValue, IsTallied, one_more, Refused, Contended, IsOpen, ReservationValue, ring_size, HasRoom, HasBatchLeft, HasNoRoom, TellsRoom, HasLookedAt, IsWon, IsLost}
 use Rattle.ring.specs.table.{PortValue, has_won, GrewBy, Grew}
 use Rattle.ring.proofs.TableLemmas.Grown.{grew_step, grew_then, sender_step}

@@ -1,8 +1,7 @@
 -- One of several who know one run gets a seat of its own.
 use Rattle.std.proofs.Common.{◌≡◌, ◌⊎◌, ℕ, Bool, cond, List, [], ◌∷◌, ap, ◌∙◌, subst, ⊎_elim, inl, inr}
-use Rattle.atomic_table.specs.Table.{Splits}
+use Rattle.ring.specs.table.{Splits, Participant, IsIn, HasTrails, SitAt, Any, RuleHolds, one_of_run, AllKnow, without}
 use Rattle.ring.specs.Runs.{Who, Run, same, Ring}
-use Rattle.ring.specs.table.{Participant, IsIn, HasTrails, SitAt, Any, RuleHolds, one_of_run, AllKnow, without}
 use Rattle.ring.proofs.TableLemmas.Seats.{moved_to}
 use Rattle.ring.proofs.TableLemmas.Meetings.{sits_here}
 use Rattle.ring.proofs.TableLemmas.Steps.{parts_at}

@@ -2,12 +2,10 @@
 use Rattle.std.proofs.Common.{◌≡◌, ℕ, false, List, [], ◌∷◌, refl, sym, ap, ◌∙◌, subst, inl, inr}
 use mathlib.Core.Option.{some, none}
 use lib.ListN.{get_elem?}
-use Rattle.atomic_table.specs.Table.{step, keeps, Allows, Splits}
-use Rattle.atomic_table.specs.Seated.{TableId}
+use Rattle.ring.specs.table.{step, keeps, Allows, Splits, TableId, Participant, TableState, Holding, participant, WentOn, HasTrails, SitAt, Any, RuleHolds, Stands, ring_of, who_of, trail_of_first}
+use Rattle.ring.specs.table.{history_of_first, IsAlone, AreMadeBy, without_first, first_alone, both_of, all_knowing, HasAll, AllSit, HaveMet, has_met, has_found, port_of, PortValue}
 use Rattle.ring.specs.Runs.{Who, Run, same, Ring, IsOne}
 use Rattle.ringcore.specs.memory.Shadow.{AreAfter}
-use Rattle.ring.specs.table.{Participant, TableState, Holding, participant, WentOn, HasTrails, SitAt, Any, RuleHolds, Stands, ring_of, who_of, trail_of_first, history_of_first, IsAlone, AreMadeBy}
-use Rattle.ring.specs.table.{without_first, first_alone, both_of, all_knowing, HasAll, AllSit, HaveMet, has_met, has_found, port_of, PortValue}
 use Rattle.ring.proofs.TableLemmas.Seats.{went_on_none, seated_after, same_place, among_step}
 use Rattle.ring.proofs.TableLemmas.Steps.{deals_at, set_back}
 

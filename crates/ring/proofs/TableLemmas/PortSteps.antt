@@ -2,19 +2,15 @@
 use Rattle.std.proofs.Common.{◌≡◌, ℕ, ◌+◌, ◌<◌, Bool, true, false, cond, ◌==◌, List, ◌∷◌, [], Some, sym, ap, ◌∙◌, subst, ◌^◌, arith}
 use mathlib.Core.Option.{none}
 use Rattle.std.proofs.lemmas.Option.{same_Some}
-use Rattle.atomic_table.specs.Table.{step, Allows}
-use Rattle.atomic_table.specs.Seated.{TableId}
-use Rattle.cmdcodec.specs.declared.raw.Raw.{Raw}
-use Rattle.qindex.specs.declared.control.Control.{Control}
+use Rattle.ring.specs.table.{step, Allows, TableId, Holding, participant, RuleHolds, ring_of, who_of, trail_of_first, history_of_first, IsAlone, Intent, reserves, tests, asks, IsEventOf, Added}
+use Rattle.ring.specs.table.{IsNewest, adds_for, GrewBy, port_of, PortValue, IsWonOrLost, IsSlotAt, MayFlipAt}
+use Rattle.ring.specs.Runs.{Raw, Control, Who, Sender, Event, Won, Lost, Test, Ask, Trail, Run, trail_of, looked, start_index, taken_by, world, control, ShareAWord, Allowed, MayWin, MayLose, MayFlip}
+use Rattle.ring.specs.Runs.{Ring, IsOne, EveryRun, AcknowledgedAreTaken, NumbersAreFew}
 use Rattle.qindex.specs.Positions.{IndexValue, index_of}
 use Rattle.qindex.specs.ControlWord.{control_in}
-use Rattle.ring.specs.Runs.{Who, Sender, Event, Won, Lost, Test, Ask, Trail, Run, trail_of, looked, start_index, taken_by, world, control, ShareAWord, Allowed, MayWin, MayLose, MayFlip, Ring, IsOne}
-use Rattle.ring.specs.Runs.{EveryRun, AcknowledgedAreTaken, NumbersAreFew}
 use Rattle.ringcore.specs.memory.Layout.{words_of}
 use Rattle.ringcore.specs.memory.Flags.{ready_in}
 use Rattle.ringcore.specs.machine.StepAnswers.{next_number}
-use Rattle.ring.specs.table.{Holding, participant, RuleHolds, ring_of, who_of, trail_of_first, history_of_first, IsAlone, Intent, reserves, tests, asks, IsEventOf, Added, IsNewest, adds_for, GrewBy}
-use Rattle.ring.specs.table.{port_of, PortValue, IsWonOrLost, IsSlotAt, MayFlipAt}
 use Rattle.ring.proofs.TableLemmas.Steps.{MayStep, steps_as}
 use Rattle.ring.specs.Rings.{RingValue}
 use mathlib.Core.Logic.{dite}

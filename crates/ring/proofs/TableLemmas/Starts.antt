@@ -6,15 +6,13 @@ use mathlib.Core.Option.{some, some-injective, some-ne-none}
 use mathlib.Core.Logic.{dite}
 use native.Mathlib.Decide.{ℕ_discrete}
 use lib.ListN.{get_elem?}
-use Rattle.atomic_table.specs.Table.{opening, Splits}
-use Rattle.atomic_table.specs.Seated.{TableId}
+use Rattle.ring.specs.table.{opening, Splits, TableId, Participant, Holding, participant, participants_from, first_participants, Any, HasTrails, SitAt, RuleHolds, IsWithinLimits, IsAlone, who_of}
+use Rattle.ring.specs.table.{without_first, first_alone, port_of, PortValue}
 use Rattle.qindex.specs.Indexes.{IsGeometry}
 use Rattle.ring.specs.Runs.{Who, Consumer, Sender, IsOne, Ring}
 use Rattle.ringcore.specs.memory.Layout.{words_of}
 use Rattle.ringcore.specs.memory.Shadow.{AreAfter}
 use Rattle.ringcore.specs.memory.StepLaws.{OpensAllZero}
-use Rattle.ring.specs.table.{Participant, Holding, participant, participants_from, first_participants, Any, HasTrails, SitAt, RuleHolds, IsWithinLimits, IsAlone, who_of, without_first, first_alone}
-use Rattle.ring.specs.table.{port_of, PortValue}
 use Rattle.ring.specs.sender.{Tally, SenderValue, IsSender}
 use Rattle.ring.proofs.TableLemmas.Seats.{Without, went_on_none}
 use Rattle.ring.proofs.TableLemmas.Steps.{deals_at}

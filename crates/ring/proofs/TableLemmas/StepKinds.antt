@@ -4,13 +4,11 @@ use Rattle.std.proofs.lemmas.Nat.{pow_pos}
 use Rattle.std.proofs.lemmas.List.{get_or-set_same}
 use Rattle.std.specs.Prelude.{◌==◌, Option, Some, length, slice_index, slice_set, slice_get, bit_or, bit_xor}
 use prog.Atomic.{either}
-use Rattle.cmdcodec.specs.declared.raw.Raw.{Raw}
-use Rattle.qindex.specs.declared.control.Control.{Control}
+use Rattle.ring.specs.Runs.{Raw, Control, Who, Consumer, Sender, Event, Look, Won, Lost, Write, Flip, Close, Test, Read, Advance, Acknowledge, Ask, Half, Lo, Hi, Trail, Run, trail_of, batch_length}
+use Rattle.ring.specs.Runs.{found_ready, start_index, taken_by, acknowledged_by, head, world, half_of, IsRunLength, MayTry, IsNextNumber, MayWrite, MayFlip, MayAdvance, SyncIsTaken, length_with, Ring}
+use Rattle.ring.specs.Runs.{EveryRun, SyncsAreCounted, syncs_taken, TellsTheHead, TellsTheNumbers}
 use Rattle.qindex.specs.Positions.{size, index_of}
 use Rattle.qindex.specs.ControlWord.{packed, control_in, advance_mask, close_mask}
-use Rattle.ring.specs.Runs.{Who, Consumer, Sender, Event, Look, Won, Lost, Write, Flip, Close, Test, Read, Advance, Acknowledge, Ask, Half, Lo, Hi, Trail, Run, trail_of, batch_length, found_ready}
-use Rattle.ring.specs.Runs.{start_index, taken_by, acknowledged_by, head, world, half_of, IsRunLength, MayTry, IsNextNumber, MayWrite, MayFlip, MayAdvance, SyncIsTaken, length_with, Ring, EveryRun}
-use Rattle.ring.specs.Runs.{SyncsAreCounted, syncs_taken, TellsTheHead, TellsTheNumbers}
 use Rattle.ringcore.specs.memory.Layout.{control_word, flag_word, data_word, half_number, cell, words_of}
 use Rattle.ringcore.specs.memory.Flags.{IsFlipMask, ready_in}
 use Rattle.ringcore.specs.memory.Shadow.{AreAfter}

@@ -4,11 +4,11 @@ use Rattle.std.specs.Prelude.{slice_index, slice_set}
 use Rattle.std.proofs.lemmas.List.{set-get_or}
 use mathlib.Core.Option.{some}
 use lib.ListN.{get_elem?}
-use Rattle.atomic_table.specs.Table.{keeps, Allows, Splits, Joins}
+use Rattle.ring.specs.table.{keeps, Allows, Splits, Joins, Participant, Holding, participant, IsIn, HasTrails, SitAt, Any, RuleHolds, Stands, ring_of, who_of, trail_of_first, history_of_first}
+use Rattle.ring.specs.table.{IsAlone, IsOperation, Added}
 use Rattle.atomic_table.proofs.Lists.{at_set}
 use Rattle.ring.specs.Runs.{Who, Event, Trail, Run, trail_of, OnlyOf, Ring}
 use Rattle.ringcore.specs.memory.Shadow.{AreAfter}
-use Rattle.ring.specs.table.{Participant, Holding, participant, IsIn, HasTrails, SitAt, Any, RuleHolds, Stands, ring_of, who_of, trail_of_first, history_of_first, IsAlone, IsOperation, Added}
 use Rattle.ring.proofs.TableLemmas.Trails.{same_refl, trail_here}
 use Rattle.ring.proofs.TableLemmas.Seats.{trails_else, Without, moved_to, sit_without, sit_else, taken_in, sit_taken, sit_stays, sit_append, trails_append, at_snoc_index, went_on_none, seated_after}
 use Rattle.ring.proofs.TableLemmas.Seats.{set_there, among_step, among_parted, among_joined}

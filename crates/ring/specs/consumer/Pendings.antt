@@ -1,8 +1,7 @@
 -- What was read from the head on, and is not taken yet.
 use Rattle.std.specs.Prelude.{◌≡◌, ◌≤◌, ℕ, suc, List, [], ◌∷◌, length, Some, slice_get}
-use Rattle.cmdcodec.specs.declared.raw.Raw.{Raw}
+use Rattle.ring.specs.Runs.{Raw, Half, Lo, Hi, Read, Trail, found_ready, half_read, head_read, half_of}
 use Rattle.qindex.specs.Positions.{size}
-use Rattle.ring.specs.Runs.{Half, Lo, Hi, Read, Trail, found_ready, half_read, head_read, half_of}
 use Rattle.ring.specs.table.{PortValue}
 use Rattle.ring.specs.consumer.Consumers.{ConsumerValue}
 

@@ -1,8 +1,6 @@
 -- Which events a take added, by its answer.
 use Rattle.std.specs.Prelude.{◌≡◌, ◌≢◌, ◌≤◌, ℕ, Bool, true, false, List, [], ◌∷◌, length}
-use Rattle.cmdcodec.specs.declared.raw.Raw.{Raw}
-use Rattle.qindex.specs.declared.control.Control.{Control}
-use Rattle.ring.specs.Runs.{Consumer, Look, Test, Trail, head, tail, world, control}
+use Rattle.ring.specs.Runs.{Raw, Control, Consumer, Look, Test, Trail, head, tail, world, control}
 use Rattle.ring.specs.declared.consumer.taken.Taken.{Taken}
 use Rattle.ring.specs.declared.consumer.taken.Taken.TheVariants as one
 use Rattle.ring.specs.declared.consumer.taken.TakenRun.{TakenRun}

@@ -1,9 +1,8 @@
 -- What contracts see of an open reservation.
 use Rattle.std.specs.Prelude.{◌≡◌, ℕ, ◌≤◌, Bool, true, false, nat_lt, List, [], ◌∷◌, Option, Some, None}
-use Rattle.cmdcodec.specs.declared.raw.Raw.{Raw}
+use Rattle.ring.specs.Runs.{Raw, Half, Won, Trail, Run, reserved_length, has_written, has_flipped, start_index, commands, length_with}
 use Rattle.cmdcodec.specs.Bodies.{IsBody}
 use Rattle.qindex.specs.Positions.{IndexValue, size}
-use Rattle.ring.specs.Runs.{Half, Won, Trail, Run, reserved_length, has_written, has_flipped, start_index, commands, length_with}
 use Rattle.ringcore.specs.memory.StepLaws.{reserved_commands}
 use Rattle.ring.specs.declared.sender.tally.Tally.{Tally}
 use Rattle.ring.specs.Rings.{RingValue}

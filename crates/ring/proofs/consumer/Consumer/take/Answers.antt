@@ -1,5 +1,5 @@
 use Rattle.std.proofs.Common.{◌≡◌, ◌≤◌, List, [], ◌∷◌, length, refl, ap, subst, arith}
-use Rattle.cmdcodec.specs.declared.raw.Raw.{Raw}
+use Rattle.ring.specs.Runs.{Raw}
 use Rattle.ring.specs.consumer.{first_of, TookRun}
 use Rattle.ring.proofs.consumer.Consumer.take.Goals as goal
 

@@ -1,8 +1,7 @@
 use Rattle.std.proofs.Common.{rules, ◌≡◌, Bool, true, false, ◌∷◌, sym, ap, subst, ◌∙◌}
-use Rattle.ring.specs.Runs.{Look, Test, IsSteady, Consumer}
+use Rattle.ring.specs.Runs.{Look, Test, IsSteady, Consumer, Raw}
 use Rattle.ring.specs.table.{Grew, PortValue}
 use Rattle.ring.specs.consumer.{ConsumerValue, reads_from, HasSeen, TookNone}
-use Rattle.cmdcodec.specs.declared.raw.Raw.{Raw}
 use Rattle.ring.proofs.TableLemmas.Grown.{grew_step, grew_more}
 use Rattle.ring.proofs.ConsumerLemmas.Reads.{look_again, test_again, run_again}
 use Rattle.ring.proofs.consumer.Consumer.take_run.Given.{Over}

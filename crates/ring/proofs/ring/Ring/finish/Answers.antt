@@ -2,9 +2,8 @@ use Rattle.std.proofs.Common.{◌≡◌, ◌++◌, [], ℕ, List, rules, refl, a
 use Rattle.std.specs.Slots.{slots_items}
 use mathlib.Core.Option.{some}
 use lib.ListN.{get_elem?}
-use Rattle.atomic_table.specs.Table.{Final, Seen}
+use Rattle.ring.specs.table.{Final, Seen, Holding, RuleHolds}
 use Rattle.ring.specs.Runs.{Ring}
-use Rattle.ring.specs.table.{Holding, RuleHolds}
 use Rattle.ring.specs.Finishing.{all_in}
 use Rattle.ring.proofs.TableLemmas.StepKinds.{control_inside}
 use Rattle.ring.proofs.TableLemmas.Steps.{gathers_at}

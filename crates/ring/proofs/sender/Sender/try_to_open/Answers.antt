@@ -1,5 +1,5 @@
 use Rattle.std.proofs.Common.{rules, ℕ, List, sym, subst, add-one, ◌∙◌, arith}
-use Rattle.cmdcodec.specs.declared.raw.Raw.{Raw}
+use Rattle.ring.specs.Runs.{Raw}
 use Rattle.ring.specs.sender.{IsRefused, HasTried}
 use Rattle.ring.proofs.TableLemmas.Grown.{grew_then}
 use Rattle.ring.proofs.sender.Sender.try_to_open.Goals as goal

@@ -1,5 +1,5 @@
 use Rattle.std.proofs.Common.{◌≡◌, ◌<◌, List, sym, subst}
-use Rattle.cmdcodec.specs.declared.raw.Raw.{Raw}
+use Rattle.ring.specs.Runs.{Raw}
 use Rattle.simulator.specs.declared.queue.Queue.TheInside.{Inside}
 use Rattle.simulator.specs.declared.queue.Seat.TheVariants.{Open}
 use Rattle.simulator.specs.queue.{QueueValue, ring_in, IsOpenSeat, IsQueue}

@@ -1,6 +1,5 @@
 use Rattle.std.proofs.Common.{List, ap, ◌∙◌, subst}
-use Rattle.cmdcodec.specs.declared.raw.Raw.{Raw}
-use Rattle.ring.specs.Runs.{Sender, Run, trail_of}
+use Rattle.ring.specs.Runs.{Raw, Sender, Run, trail_of}
 use Rattle.ring.specs.sender.Reservations.{reserved_number}
 use Rattle.simulator.specs.queue.{published, reserved_as, IsTriedWell}
 use Rattle.simulator.proofs.SeatLemmas.{last_is}

@@ -1,7 +1,6 @@
 use Rattle.std.proofs.Common.{[], ◌≡◌, ◌+◌, ℕ, List, take, refl, sym, ap, ◌∙◌, subst, length-take-le}
-use Rattle.cmdcodec.specs.declared.raw.Raw.{Raw}
+use Rattle.ring.specs.Runs.{Raw, Consumer}
 use Rattle.ring.specs.table.{PortValue, Grew}
-use Rattle.ring.specs.Runs.{Consumer}
 use Rattle.ring.specs.consumer.{IsConsumer, all_acknowledged, completed_trail}
 use Rattle.ring.proofs.TableLemmas.Grown.{grew_step, grew_more}
 use Rattle.ring.proofs.ConsumerLemmas.Acknowledging.{is_consumer}

@@ -1,7 +1,6 @@
 use Rattle.std.proofs.Common.{◌≡◌, ◌+◌, ℕ, List, [], ◌∷◌, length, length-append, Some, sym, ap, subst, ◌∙◌, arith}
 use Rattle.std.specs.Prelude.{slice_get}
-use Rattle.cmdcodec.specs.declared.raw.Raw.{Raw}
-use Rattle.ring.specs.Runs.{Half, Trail, found_ready, half_read, half_of}
+use Rattle.ring.specs.Runs.{Raw, Half, Trail, found_ready, half_read, half_of}
 use Rattle.ring.specs.table.{PortValue}
 use Rattle.ring.specs.consumer.{HasSeen}
 use Rattle.ring.proofs.TableLemmas.Grown.{grew_more, grew_step}

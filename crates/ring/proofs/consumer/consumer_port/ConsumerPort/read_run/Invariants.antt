@@ -1,7 +1,6 @@
 use Rattle.std.proofs.Common.{[], ◌≡◌, ℕ, length, Some}
 use Rattle.std.specs.Prelude.{slice_get}
-use Rattle.cmdcodec.specs.declared.raw.Raw.{Raw}
-use Rattle.ring.specs.Runs.{Half, found_ready, half_read, half_of, Consumer}
+use Rattle.ring.specs.Runs.{Raw, Half, found_ready, half_read, half_of, Consumer}
 use Rattle.ring.specs.table.{Grew}
 use Rattle.ring.specs.consumer.{reads_from}
 use Rattle.ring.proofs.consumer.consumer_port.ConsumerPort.read_run.Given as goal
