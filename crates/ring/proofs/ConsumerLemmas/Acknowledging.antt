@@ -1,22 +1,22 @@
 -- The closing syncs of a run that was taken are acknowledged one after another, and what a completion leaves.
 use Rattle.std.proofs.Common.{◌≡◌, ℕ, suc, ◌+◌, ◌*◌, ◌<◌, ◌≤◌, Bool, true, false, cond, ◌==◌, ◌&&◌, List, [], ◌∷◌, ◌++◌, take, Some, refl, sym, ap, ◌∙◌, subst, append_assoc, eq-eqb, eqb-true, arith, length, map, ap₂}
-use Rattle.std.proofs.lemmas.Bool.{cond_both}
 use Rattle.std.specs.Prelude.{slice_get}
+use Rattle.std.proofs.lemmas.Bool.{cond_both}
+use Rattle.std.proofs.lemmas.List.{map-append}
 use Rattle.cmdcodec.specs.declared.raw.Raw.{Raw}
 use Rattle.cmdcodec.specs.Opcodes.{is_sync}
 use Rattle.cmdcodec.specs.ClosingSync.{cell_address}
+use Rattle.qindex.specs.Positions.{IndexValue, index_of}
 use Rattle.ringcore.specs.declared.world.event.Event.TheVariants.{Acknowledge, Advance}
 use Rattle.ringcore.specs.world.Trails.{Trail, raws_by, acknowledged_by, taken_by}
 use Rattle.ringcore.specs.world.Laws.{is_sync_to, syncs_in, syncs_taken, SyncsAreInOrder, IsNextSync, SyncsAddUp, SyncsTellTheirBatch}
 use Rattle.ringcore.specs.world.ConsumerLaws.{SyncsOfRawsAreCounted}
-use Rattle.ring.specs.table.Ports.{PortValue}
-use Rattle.ring.specs.consumer.Completing.{sync_sender, sync_number, acknowledged, all_acknowledged, without_newest, HasAdvanced, IsClosingSync, completed_trail, taken_of, with_outcome, HasOutcome}
-use Rattle.ring.proofs.Lists.{take_more, split_at}
-use Rattle.std.proofs.lemmas.List.{map-append}
-use Rattle.qindex.specs.Positions.{IndexValue, index_of}
 use Rattle.ringcore.specs.declared.world.event.Outcome.{Outcome}
 use Rattle.ringcore.specs.world.World.{Taken, taken_as}
+use Rattle.ring.specs.table.Ports.{PortValue}
+use Rattle.ring.specs.consumer.Completing.{sync_sender, sync_number, acknowledged, all_acknowledged, without_newest, HasAdvanced, IsClosingSync, completed_trail, taken_of, with_outcome, HasOutcome}
 use Rattle.ring.specs.consumer.Consumers.{IsConsumer}
+use Rattle.ring.proofs.Lists.{take_more, split_at}
 
 -- ---- acknowledgements change nothing else
 

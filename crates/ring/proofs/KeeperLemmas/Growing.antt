@@ -4,15 +4,15 @@ use Rattle.std.proofs.Math.Seq.{take-append_seam}
 use Rattle.ringcore.specs.declared.world.event.Who.{Who}
 use Rattle.ringcore.specs.world.Trails.{Trail, Run, trail_of, same}
 use Rattle.ringcore.specs.world.Laws.{IsOne, OnlyOf}
+use Rattle.ringcore.specs.declared.world.event.Who.TheVariants.{Consumer, Sender}
 use Rattle.ring.specs.table.Histories.{EndsWith}
 use Rattle.ring.specs.table.Keeping.{run_by, grown_run}
 use Rattle.ring.specs.Keepers.{Adds, KeeperValue, own_port, KeepsOthers}
-use Rattle.ring.proofs.TableLemmas.Trails.{alike, trail_here, trail_own, trail_else, not_empty}
-use Rattle.ringcore.specs.declared.world.event.Who.TheVariants.{Consumer, Sender}
 use Rattle.ring.specs.consumer.Consumers.{IsConsumer}
 use Rattle.ring.specs.sender.Senders.{IsSender}
 use Rattle.ring.specs.sender.Reservations.{IsOpen}
 use Rattle.ring.specs.table.Ports.{PortValue}
+use Rattle.ring.proofs.TableLemmas.Trails.{alike, trail_here, trail_own, trail_else, not_empty}
 
 -- of a run that only one has grown
 pub trail_since : (who : Who) (added : Trail) (since : Run) → trail_of who (run_by who added ++ since) ≡ added ++ trail_of who since

@@ -5,6 +5,8 @@ use Rattle.std.proofs.lemmas.Bool.{cond_both, cond-false}
 use Rattle.std.proofs.lemmas.Option.{none-some}
 use mathlib.Core.Logic.{dite}
 use native.Mathlib.Decide.{ℕ_discrete}
+use Rattle.atomic_table.specs.Seated.{TableId}
+use Rattle.qindex.specs.Positions.{IndexValue, index_of}
 use Rattle.ringcore.specs.declared.world.event.Who.{Who}
 use Rattle.ringcore.specs.declared.world.event.Who.TheVariants.{Consumer, Sender}
 use Rattle.ringcore.specs.world.Trails.{Run, same}
@@ -15,11 +17,9 @@ use Rattle.ring.specs.table.Rule.{HasTrails, Any, ring_of, history_of_first, Hol
 use Rattle.ring.specs.table.Meetings.{all_knowing, AllSit}
 use Rattle.ring.specs.table.Keeping.{AllKnow, without, RunStands}
 use Rattle.ring.specs.Keepers.{sits, missing_from, KeeperValue, keeper_of, missing, AllBut, IsKeeper, own_port}
-use Rattle.ring.proofs.TableLemmas.Trails.{same_refl}
-use Rattle.atomic_table.specs.Seated.{TableId}
-use Rattle.qindex.specs.Positions.{IndexValue, index_of}
 use Rattle.ring.specs.Rings.{RingValue}
 use Rattle.ring.specs.consumer.Consumers.{IsConsumer}
+use Rattle.ring.proofs.TableLemmas.Trails.{same_refl}
 use Rattle.ring.proofs.TableLemmas.Starts.{all_in_first}
 
 -- ---- who is missing

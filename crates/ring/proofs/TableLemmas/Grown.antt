@@ -1,4 +1,4 @@
--- What a participant knows of the run grows step by step, and what its newest step found stands in it.
+-- What a participant knows of the run grows step by step.
 use Rattle.std.proofs.Common.{◌≡◌, ℕ, ◌+◌, ◌/◌, ◌≤◌, false, [], ◌∷◌, ◌++◌, length, refl, sym, ap, ◌∙◌, subst, append_assoc, arith}
 use Rattle.qindex.specs.Positions.{place}
 use Rattle.ringcore.specs.declared.world.event.Who.{Who}
@@ -65,14 +65,6 @@ one_is_last who e trail older run grew = by_newer grew.newer grew.run_is grew.tr
           went_on = record { newer = xs; run_is = refl; of_others = none_before (trail_of who xs) trail rest };
           run_is = is ∙ (λ k. let l : Run = (last k, event k) ∷ (xs ++ older) in l);
         }
-
--- ---- what a test found
-
-none_turned : (ring : Ring) (w : World) (limit found : ℕ) → 1 ≤ limit → found ≡ 0 → FindsReady ring w limit found → w.flipped (head w) ≡ false
-none_turned ring w limit found some none finds =
-    let here : head w + found ≡ head w = omega (arith, none) in
-    subst (λ (n : ℕ). w.flipped n ≡ false) here
-    (finds.no_more (omega (arith, some, none)) (λ offset low. ap (λ (n : ℕ). place ring.geometry n / ring.flags) (let e : head w + offset ≡ head w = omega (arith, low, none) in e)))
 
 -- ---- as contracts see a step
 

@@ -1,5 +1,6 @@
 -- One of several who know one run gets a seat of its own.
 use Rattle.std.proofs.Common.{◌≡◌, ◌⊎◌, ℕ, Bool, cond, List, [], ◌∷◌, ap, ◌∙◌, subst, ⊎_elim, inl, inr}
+use Rattle.std.proofs.lemmas.Bool.{cond_both}
 use Rattle.atomic_table.specs.Table.{Splits}
 use Rattle.ringcore.specs.declared.world.event.Who.{Who}
 use Rattle.ringcore.specs.world.Trails.{Run, same}
@@ -11,7 +12,6 @@ use Rattle.ring.proofs.TableLemmas.Seats.{moved_to}
 use Rattle.ring.proofs.TableLemmas.Meetings.{sits_here}
 use Rattle.ring.proofs.TableLemmas.Steps.{parts_at}
 use Rattle.ring.proofs.TableLemmas.Trails.{same_is}
-use Rattle.std.proofs.lemmas.Bool.{cond_both}
 
 -- ---- who sits at a seat
 

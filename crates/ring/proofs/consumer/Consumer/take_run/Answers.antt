@@ -1,4 +1,5 @@
 use Rattle.std.proofs.Common.{rules, ◌≡◌, Bool, true, false, ◌∷◌, sym, ap, subst, ◌∙◌}
+use Rattle.cmdcodec.specs.declared.raw.Raw.{Raw}
 use Rattle.ringcore.specs.declared.world.event.Event.TheVariants.{Look, Test}
 use Rattle.ringcore.specs.world.ConsumerLaws.{IsSteady}
 use Rattle.ringcore.specs.declared.world.event.Who.TheVariants.{Consumer}
@@ -6,7 +7,6 @@ use Rattle.ring.specs.table.Histories.{Grew}
 use Rattle.ring.specs.consumer.Consumers.{ConsumerValue}
 use Rattle.ring.specs.consumer.Pendings.{reads_from, HasSeen}
 use Rattle.ring.specs.consumer.Taking.{TookNone}
-use Rattle.cmdcodec.specs.declared.raw.Raw.{Raw}
 use Rattle.ring.specs.table.Ports.{PortValue}
 use Rattle.ring.proofs.TableLemmas.Grown.{grew_step, grew_more}
 use Rattle.ring.proofs.ConsumerLemmas.Reads.{look_again, test_again, run_again}
