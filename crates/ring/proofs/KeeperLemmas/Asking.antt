@@ -7,7 +7,7 @@ use Rattle.atomic_table.specs.Table.{step, Allows}
 use Rattle.atomic_table.specs.Seated.{TableId}
 use Rattle.cmdcodec.specs.declared.raw.Raw.{Raw}
 use Rattle.qindex.specs.declared.control.Control.{Control}
-use Rattle.qindex.specs.ControlWord.{IsControlWord, control_in}
+use Rattle.qindex.specs.ControlWord.{control_in}
 use Rattle.ringcore.specs.declared.world.event.Who.TheVariants.{Consumer, Sender}
 use Rattle.ringcore.specs.declared.world.event.Half.{Half}
 use Rattle.ringcore.specs.declared.world.event.Event.{Event}
@@ -16,7 +16,7 @@ use Rattle.ringcore.specs.world.Trails.{Trail, Run, trail_of, batches_made, numb
 use Rattle.ringcore.specs.world.World.{world, control}
 use Rattle.ringcore.specs.world.Allowed.{Ring, Allowed, IsRun}
 use Rattle.ringcore.specs.memory.Layout.{control_word}
-use Rattle.ringcore.specs.memory.StepLaws.{Always, HasAControlWord, LooksByALoad, reserved_commands}
+use Rattle.ringcore.specs.memory.StepLaws.{Always, LooksByALoad, reserved_commands}
 use Rattle.ring.specs.declared.table.rule.Participant.{Participant}
 use Rattle.ring.specs.declared.sender.tally.Tally.{Tally}
 use Rattle.ring.specs.table.Rule.{Holding, RuleHolds, Any, ring_of, history_of_first}

@@ -1,22 +1,16 @@
 -- A reservation that is written and flipped in the order of its slots.
-use Rattle.std.proofs.Common.{rules, ◌≡◌, ℕ, ◌+◌, ◌<◌, ◌≤◌, Bool, true, false, ◌==◌, ◌||◌, ◌&&◌, ◌%◌, ◌/◌, ◌^◌, List, [], ◌∷◌, ◌++◌, length, get_or, ⊎_elim, Option, Some, None, refl, sym, ap, ◌∙◌, subst, arith}
-use Rattle.std.proofs.lemmas.Bool.{lt-ltb, le-ltb, cases_lt}
+use Rattle.std.proofs.Common.{rules, ◌≡◌, ℕ, ◌+◌, ◌≤◌, Bool, ◌||◌, List, [], ◌∷◌, sym, ap, ◌∙◌, subst, arith}
+use Rattle.std.proofs.lemmas.Bool.{lt-ltb, le-ltb}
 use Rattle.std.proofs.lemmas.Bool.Decides.{nat_tests}
-use Rattle.std.specs.Prelude.{slice_get, nat_lt}
-use Rattle.std.proofs.lemmas.Option.{slice_get_within, slice_get-get_or, none-some}
+use Rattle.std.specs.Prelude.{nat_lt}
 use Rattle.cmdcodec.specs.declared.raw.Raw.{Raw}
-use Rattle.qindex.specs.Positions.{IndexValue, index_of}
-use Rattle.ring.proofs.Lists.{at_end, in_front}
-use Rattle.ringcore.specs.declared.world.event.Half.TheVariants.{Lo, Hi}
-use Rattle.ringcore.specs.declared.world.event.Event.TheVariants.{Write, Flip}
-use Rattle.ringcore.specs.world.Trails.{Trail, IsSettled, reserved_length, is_among, same_half}
-use Rattle.ringcore.specs.world.World.{commands, sync_raw}
-use Rattle.ringcore.specs.world.Allowed.{MayWrite, ShareAWord, length_with}
-use Rattle.ringcore.specs.memory.StepLaws.{reserved_commands}
-use Rattle.ringcore.specs.declared.world.event.Half.{Half}
+use Rattle.qindex.specs.Positions.{IndexValue}
+use Rattle.ringcore.specs.declared.world.event.Event.TheVariants.{Flip}
+use Rattle.ringcore.specs.world.Trails.{Trail, is_among}
+use Rattle.ringcore.specs.world.Allowed.{ShareAWord}
 use Rattle.ring.specs.declared.sender.tally.Tally.{Tally}
-use Rattle.ring.specs.table.Ports.{PortValue, IsSlotAt, MayFlipAt}
-use Rattle.ring.specs.sender.Reservations.{IsWrittenUpTo, IsFlippedUpTo, IsOpen, number_when}
+use Rattle.ring.specs.table.Ports.{PortValue, MayFlipAt}
+use Rattle.ring.specs.sender.Reservations.{IsFlippedUpTo, IsOpen}
 
 flipped_more : (t : Trail) (f n : ℕ) → IsFlippedUpTo f t → IsFlippedUpTo (f + n) (Flip f n ∷ t)
 flipped_more t f n is k = ap (λ (b : Bool). is_among f n k || b) (is k) ∙ until

@@ -1,20 +1,15 @@
 -- What a seat knows of the run that it stands in.
-use Rattle.std.proofs.Common.{◌≡◌, ℕ, ◌-◌, ◌≤◌, ap, ◌∙◌, subst, arith, zero, suc, List, ◌+◌, ◌<◌, ◌^◌}
+use Rattle.std.proofs.Common.{◌≡◌, ℕ, ◌≤◌, ap, ◌∙◌, subst, arith, zero, suc, List, ◌+◌, ◌<◌, ◌^◌}
 use Rattle.atomic_table.specs.Seated.{TableId}
-use Rattle.qindex.specs.Positions.{IndexValue, index_of}
-use Rattle.qindex.specs.Indexes.{distance}
-use Rattle.qindex.specs.Laws.{IndexesTellTheQueue}
 use Rattle.ringcore.specs.declared.world.event.Who.{Who}
 use Rattle.ringcore.specs.declared.world.event.Who.TheVariants.{Consumer}
 use Rattle.ringcore.specs.world.Trails.{Trail, Run, raws_by, taken_by, found_ready}
 use Rattle.ringcore.specs.world.World.{World, head, tail, world}
 use Rattle.ringcore.specs.world.Allowed.{Ring}
-use Rattle.ringcore.specs.world.Laws.{EveryRun, NeverMoreThanFull, ListsAreShort, SyncsAreInOrder}
+use Rattle.ringcore.specs.world.Laws.{EveryRun, ListsAreShort, SyncsAreInOrder}
 use Rattle.ringcore.specs.world.ConsumerLaws.{TellsTheHead, IsReadyAt, FoundIsReady, TookSyncsInOrder, IsSteady, ConsumerIsSteady}
 use Rattle.ring.specs.table.Rule.{Holding, ring_of, who_of, trail_of_first, history_of_first, IsAlone, Stands}
-use Rattle.ring.specs.table.Histories.{IsHistory, EndsTellAll}
 use Rattle.ring.specs.table.Ports.{port_of, PortValue}
-use Rattle.ring.specs.sender.Reserving.{TellsRoom}
 use Rattle.ring.specs.consumer.Consumers.{KnowsItsSteps}
 
 -- ---- the consumer's steps, by the laws of every run
