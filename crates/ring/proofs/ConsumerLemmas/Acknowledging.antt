@@ -1,17 +1,17 @@
 -- The closing syncs of a run that was taken are acknowledged one after another, and what a completion leaves.
 use Rattle.std.proofs.Common.{◌≡◌, ℕ, suc, ◌+◌, ◌*◌, ◌<◌, ◌≤◌, Bool, true, false, cond, ◌==◌, ◌&&◌, List, [], ◌∷◌, ◌++◌, take, Some, refl, sym, ap, ◌∙◌, subst, append_assoc, eq-eqb, eqb-true, arith}
 use Rattle.std.proofs.Common.{length, map, ap₂}
-use Rattle.std.proofs.lemmas.Bool.{cond_both}
 use Rattle.std.specs.Prelude.{slice_get}
+use Rattle.std.proofs.lemmas.Bool.{cond_both}
+use Rattle.std.proofs.lemmas.List.{map-append}
 use Rattle.ring.specs.Runs.{Raw, Acknowledge, Advance, Trail, raws_by, acknowledged_by, taken_by, is_sync_to, syncs_in, syncs_taken, SyncsAreInOrder, IsNextSync, SyncsAddUp, SyncsTellTheirBatch}
 use Rattle.ring.specs.Runs.{SyncsOfRawsAreCounted, Outcome, Taken, taken_as}
 use Rattle.cmdcodec.specs.Opcodes.{is_sync}
 use Rattle.cmdcodec.specs.ClosingSync.{cell_address}
+use Rattle.qindex.specs.Positions.{IndexValue, index_of}
 use Rattle.ring.specs.table.{PortValue}
 use Rattle.ring.specs.consumer.{sync_sender, sync_number, acknowledged, all_acknowledged, without_newest, HasAdvanced, IsClosingSync, completed_trail, taken_of, with_outcome, HasOutcome, IsConsumer}
 use Rattle.ring.proofs.Lists.{take_more, split_at}
-use Rattle.std.proofs.lemmas.List.{map-append}
-use Rattle.qindex.specs.Positions.{IndexValue, index_of}
 
 -- ---- acknowledgements change nothing else
 

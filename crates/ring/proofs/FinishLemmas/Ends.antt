@@ -2,6 +2,7 @@
 use Rattle.std.proofs.Common.{◌≡◌, ℕ, zero, suc, ◌+◌, ◌-◌, ◌<◌, List, [], ◌∷◌, ◌++◌, append-nil, map, length, length-append, Option, Some, None, refl, sym, ap, ◌∙◌, subst, append_assoc, arith}
 use Rattle.std.specs.Prelude.{slice_get, slice_index, SomeIff}
 use Rattle.std.specs.Option.{IsSome}
+use Rattle.std.proofs.lemmas.List.{nil_from_length}
 use mathlib.Core.Option.{some, some-injective, some-ne-none}
 use lib.ListN.{get_elem?}
 use Rattle.ring.specs.table.{Final, Seen, Participant, participant, WentOn, IsIn, HasTrails, RuleHolds}
@@ -16,7 +17,6 @@ use Rattle.ring.specs.Rings.{RingValue}
 use Rattle.ring.specs.sender.{SenderValue}
 use Rattle.ring.specs.consumer.{ConsumerValue, taken_of}
 use Rattle.ring.specs.Finishing.{AreAll, sender_in, all_in, IsRunOf, IsEnd}
-use Rattle.std.proofs.lemmas.List.{nil_from_length}
 use Rattle.ring.proofs.Lists.{at_end}
 use Rattle.ring.proofs.FinishLemmas.Told.{was_told}
 

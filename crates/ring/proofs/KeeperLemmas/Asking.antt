@@ -6,9 +6,9 @@ use mathlib.Core.Option.{none}
 use Rattle.ring.specs.table.{step, Allows, TableId, Participant, Holding, RuleHolds, Any, ring_of, history_of_first, all_knowing, has_found, RunStands, AllKnow, PortValue}
 use Rattle.ring.specs.Runs.{Raw, Control, Consumer, Sender, Half, Event, Look, Close, Ask, Trail, Run, trail_of, batches_made, numbers_given, reserved_length, has_written, has_flipped, start_index}
 use Rattle.ring.specs.Runs.{world, control, Ring, Allowed, IsRun}
-use Rattle.qindex.specs.ControlWord.{IsControlWord, control_in}
+use Rattle.qindex.specs.ControlWord.{control_in}
 use Rattle.ringcore.specs.memory.Layout.{control_word}
-use Rattle.ringcore.specs.memory.StepLaws.{Always, HasAControlWord, LooksByALoad, reserved_commands}
+use Rattle.ringcore.specs.memory.StepLaws.{Always, LooksByALoad, reserved_commands}
 use Rattle.ring.specs.sender.{Tally, IsTallied, IsSender, reserved_number, reserved_body, IsOpen}
 use Rattle.ring.specs.Keepers.{KeeperValue, keeper_of, IsKeeper, own_port, has_lent, has_back, with_step, IdleReservationValue, KeepsAll}
 use Rattle.ring.proofs.TableLemmas.Meetings.{finds_at}

@@ -4,9 +4,9 @@ use Rattle.std.proofs.Math.Seq.{take-append_seam}
 use Rattle.ring.specs.Runs.{Who, Trail, Run, trail_of, same, IsOne, OnlyOf, Consumer, Sender}
 use Rattle.ring.specs.table.{EndsWith, run_by, grown_run, PortValue}
 use Rattle.ring.specs.Keepers.{Adds, KeeperValue, own_port, KeepsOthers}
-use Rattle.ring.proofs.TableLemmas.Trails.{alike, trail_here, trail_own, trail_else, not_empty}
 use Rattle.ring.specs.consumer.{IsConsumer}
 use Rattle.ring.specs.sender.{IsSender, IsOpen}
+use Rattle.ring.proofs.TableLemmas.Trails.{alike, trail_here, trail_own, trail_else, not_empty}
 
 -- of a run that only one has grown
 pub trail_since : (who : Who) (added : Trail) (since : Run) → trail_of who (run_by who added ++ since) ≡ added ++ trail_of who since

@@ -5,13 +5,13 @@ use Rattle.std.proofs.lemmas.Bool.{cond_both, cond-false}
 use Rattle.std.proofs.lemmas.Option.{none-some}
 use mathlib.Core.Logic.{dite}
 use native.Mathlib.Decide.{ℕ_discrete}
-use Rattle.ring.specs.Runs.{Who, Consumer, Sender, Run, same, Ring, IsOne}
-use Rattle.ring.specs.table.{Participant, HasTrails, Any, ring_of, history_of_first, Holding, participants_from, first_participants, all_knowing, AllSit, AllKnow, without, RunStands, TableId}
-use Rattle.ring.specs.Keepers.{sits, missing_from, KeeperValue, keeper_of, missing, AllBut, IsKeeper, own_port}
-use Rattle.ring.proofs.TableLemmas.Trails.{same_refl}
+use Rattle.ring.specs.table.{TableId, Participant, HasTrails, Any, ring_of, history_of_first, Holding, participants_from, first_participants, all_knowing, AllSit, AllKnow, without, RunStands}
 use Rattle.qindex.specs.Positions.{IndexValue, index_of}
+use Rattle.ring.specs.Runs.{Who, Consumer, Sender, Run, same, Ring, IsOne}
+use Rattle.ring.specs.Keepers.{sits, missing_from, KeeperValue, keeper_of, missing, AllBut, IsKeeper, own_port}
 use Rattle.ring.specs.Rings.{RingValue}
 use Rattle.ring.specs.consumer.{IsConsumer}
+use Rattle.ring.proofs.TableLemmas.Trails.{same_refl}
 use Rattle.ring.proofs.TableLemmas.Starts.{all_in_first}
 
 -- ---- who is missing

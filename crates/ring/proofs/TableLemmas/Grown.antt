@@ -1,8 +1,7 @@
--- What a participant knows of the run grows step by step, and what its newest step found stands in it.
-use Rattle.std.proofs.Common.{◌≡◌, ℕ, ◌+◌, ◌/◌, ◌≤◌, false, [], ◌∷◌, ◌++◌, length, refl, sym, ap, ◌∙◌, subst, append_assoc, arith}
-use Rattle.qindex.specs.Positions.{place}
-use Rattle.ring.specs.Runs.{Who, Consumer, Sender, Event, Test, Trail, Run, trail_of, World, head, world, Ring, IsRun, FindsReady}
-use Rattle.ring.specs.table.{IsHistory, GrewBy, EndsWith, Grew, OneStepIsLast, NoStepIsNone, PortValue}
+-- What a participant knows of the run grows step by step.
+use Rattle.std.proofs.Common.{◌≡◌, ℕ, [], ◌∷◌, ◌++◌, length, refl, sym, ap, ◌∙◌, subst, append_assoc, arith}
+use Rattle.ring.specs.Runs.{Who, Sender, Event, Trail, Run, trail_of}
+use Rattle.ring.specs.table.{GrewBy, EndsWith, Grew, OneStepIsLast, NoStepIsNone, PortValue}
 use Rattle.ring.specs.sender.{SenderValue}
 use Rattle.ring.proofs.TableLemmas.Trails.{trail_here, trail_own, trail_append, not_empty, none_before}
 
@@ -58,14 +57,6 @@ one_is_last who e trail older run grew = by_newer grew.newer grew.run_is grew.tr
           went_on = record { newer = xs; run_is = refl; of_others = none_before (trail_of who xs) trail rest };
           run_is = is ∙ (λ k. let l : Run = (last k, event k) ∷ (xs ++ older) in l);
         }
-
--- ---- what a test found
-
-none_turned : (ring : Ring) (w : World) (limit found : ℕ) → 1 ≤ limit → found ≡ 0 → FindsReady ring w limit found → w.flipped (head w) ≡ false
-none_turned ring w limit found some none finds =
-    let here : head w + found ≡ head w = omega (arith, none) in
-    subst (λ (n : ℕ). w.flipped n ≡ false) here
-    (finds.no_more (omega (arith, some, none)) (λ offset low. ap (λ (n : ℕ). place ring.geometry n / ring.flags) (let e : head w + offset ≡ head w = omega (arith, low, none) in e)))
 
 -- ---- as contracts see a step
 

@@ -1,12 +1,8 @@
 -- What a seat knows of the run that it stands in.
-use Rattle.std.proofs.Common.{◌≡◌, ℕ, ◌-◌, ◌≤◌, ap, ◌∙◌, subst, arith, zero, suc, List, ◌+◌, ◌<◌, ◌^◌}
-use Rattle.ring.specs.table.{TableId, Holding, ring_of, who_of, trail_of_first, history_of_first, IsAlone, Stands, IsHistory, EndsTellAll, port_of, PortValue}
-use Rattle.qindex.specs.Positions.{IndexValue, index_of}
-use Rattle.qindex.specs.Indexes.{distance}
-use Rattle.qindex.specs.Laws.{IndexesTellTheQueue}
-use Rattle.ring.specs.Runs.{Who, Consumer, Trail, Run, raws_by, taken_by, found_ready, World, head, tail, world, Ring, EveryRun, NeverMoreThanFull, ListsAreShort, SyncsAreInOrder, TellsTheHead}
-use Rattle.ring.specs.Runs.{IsReadyAt, FoundIsReady, TookSyncsInOrder, IsSteady, ConsumerIsSteady}
-use Rattle.ring.specs.sender.{TellsRoom}
+use Rattle.std.proofs.Common.{◌≡◌, ℕ, ◌≤◌, ap, ◌∙◌, subst, arith, zero, suc, List, ◌+◌, ◌<◌, ◌^◌}
+use Rattle.ring.specs.table.{TableId, Holding, ring_of, who_of, trail_of_first, history_of_first, IsAlone, Stands, port_of, PortValue}
+use Rattle.ring.specs.Runs.{Who, Consumer, Trail, Run, raws_by, taken_by, found_ready, World, head, tail, world, Ring, EveryRun, ListsAreShort, SyncsAreInOrder, TellsTheHead, IsReadyAt, FoundIsReady}
+use Rattle.ring.specs.Runs.{TookSyncsInOrder, IsSteady, ConsumerIsSteady}
 use Rattle.ring.specs.consumer.{KnowsItsSteps}
 
 -- ---- the consumer's steps, by the laws of every run

@@ -1,12 +1,12 @@
 -- One of several who know one run gets a seat of its own.
 use Rattle.std.proofs.Common.{◌≡◌, ◌⊎◌, ℕ, Bool, cond, List, [], ◌∷◌, ap, ◌∙◌, subst, ⊎_elim, inl, inr}
+use Rattle.std.proofs.lemmas.Bool.{cond_both}
 use Rattle.ring.specs.table.{Splits, Participant, IsIn, HasTrails, SitAt, Any, RuleHolds, one_of_run, AllKnow, without}
 use Rattle.ring.specs.Runs.{Who, Run, same, Ring}
 use Rattle.ring.proofs.TableLemmas.Seats.{moved_to}
 use Rattle.ring.proofs.TableLemmas.Meetings.{sits_here}
 use Rattle.ring.proofs.TableLemmas.Steps.{parts_at}
 use Rattle.ring.proofs.TableLemmas.Trails.{same_is}
-use Rattle.std.proofs.lemmas.Bool.{cond_both}
 
 -- ---- who sits at a seat
 

@@ -1,7 +1,9 @@
 -- The steps of a seat that stands for one alone, by what contracts see of it.
 use Rattle.std.proofs.Common.{◌≡◌, ℕ, ◌+◌, ◌<◌, Bool, true, false, cond, ◌==◌, List, ◌∷◌, [], Some, sym, ap, ◌∙◌, subst, ◌^◌, arith}
-use mathlib.Core.Option.{none}
 use Rattle.std.proofs.lemmas.Option.{same_Some}
+use mathlib.Core.Option.{none}
+use mathlib.Core.Logic.{dite}
+use native.Mathlib.Decide.{dec_le}
 use Rattle.ring.specs.table.{step, Allows, TableId, Holding, participant, RuleHolds, ring_of, who_of, trail_of_first, history_of_first, IsAlone, Intent, reserves, tests, asks, IsEventOf, Added}
 use Rattle.ring.specs.table.{IsNewest, adds_for, GrewBy, port_of, PortValue, IsWonOrLost, IsSlotAt, MayFlipAt}
 use Rattle.ring.specs.Runs.{Raw, Control, Who, Sender, Event, Won, Lost, Test, Ask, Trail, Run, trail_of, looked, start_index, taken_by, world, control, ShareAWord, Allowed, MayWin, MayLose, MayFlip}
@@ -13,8 +15,6 @@ use Rattle.ringcore.specs.memory.Flags.{ready_in}
 use Rattle.ringcore.specs.machine.StepAnswers.{next_number}
 use Rattle.ring.proofs.TableLemmas.Steps.{MayStep, steps_as}
 use Rattle.ring.specs.Rings.{RingValue}
-use mathlib.Core.Logic.{dite}
-use native.Mathlib.Decide.{dec_le}
 
 -- A step that its law allows by what contracts see of the seat: whatever it is for, it may be taken.
 module _ (table : TableId) (me : Holding) (p : PortValue) (is : port_of table me ≡ p) (alone : IsAlone me (who_of me.0)) (ring : Ring) (slots id : ℕ) (intent sought : Intent) (intent_is : intent ≡ sought) (who : Who) (who_is : p.who ≡ who) where

@@ -1,8 +1,8 @@
 -- What each kind of step may do, by its law.
 use Rattle.std.proofs.Common.{◌≡◌, ℕ, suc, Bool, true, false, cond, eq-eqb, eqb-true, true≢false, ◌+◌, ◌<◌, List, ◌∷◌, refl, sym, ap, ◌∙◌, subst, arith, ◌%◌, ◌≤◌, mod-lt}
 use Rattle.std.proofs.lemmas.Nat.{pow_pos}
-use Rattle.std.proofs.lemmas.List.{get_or-set_same}
 use Rattle.std.specs.Prelude.{◌==◌, Option, Some, length, slice_index, slice_set, slice_get, bit_or, bit_xor}
+use Rattle.std.proofs.lemmas.List.{get_or-set_same}
 use prog.Atomic.{either}
 use Rattle.ring.specs.Runs.{Raw, Control, Who, Consumer, Sender, Event, Look, Won, Lost, Write, Flip, Close, Test, Read, Advance, Acknowledge, Ask, Half, Lo, Hi, Trail, Run, trail_of, batch_length}
 use Rattle.ring.specs.Runs.{found_ready, start_index, taken_by, acknowledged_by, head, world, half_of, IsRunLength, MayTry, IsNextNumber, MayWrite, MayFlip, MayAdvance, SyncIsTaken, length_with, Ring}

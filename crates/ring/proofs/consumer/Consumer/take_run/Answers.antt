@@ -1,5 +1,5 @@
 use Rattle.std.proofs.Common.{rules, ◌≡◌, Bool, true, false, ◌∷◌, sym, ap, subst, ◌∙◌}
-use Rattle.ring.specs.Runs.{Look, Test, IsSteady, Consumer, Raw}
+use Rattle.ring.specs.Runs.{Raw, Look, Test, IsSteady, Consumer}
 use Rattle.ring.specs.table.{Grew, PortValue}
 use Rattle.ring.specs.consumer.{ConsumerValue, reads_from, HasSeen, TookNone}
 use Rattle.ring.proofs.TableLemmas.Grown.{grew_step, grew_more}

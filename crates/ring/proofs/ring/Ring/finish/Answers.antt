@@ -1,5 +1,6 @@
 use Rattle.std.proofs.Common.{◌≡◌, ◌++◌, [], ℕ, List, rules, refl, ap, sym, subst, ◌∙◌}
 use Rattle.std.specs.Slots.{slots_items}
+use Rattle.std.proofs.lemmas.List.{nil_from_length}
 use mathlib.Core.Option.{some}
 use lib.ListN.{get_elem?}
 use Rattle.ring.specs.table.{Final, Seen, Holding, RuleHolds}
@@ -7,7 +8,6 @@ use Rattle.ring.specs.Runs.{Ring}
 use Rattle.ring.specs.Finishing.{all_in}
 use Rattle.ring.proofs.TableLemmas.StepKinds.{control_inside}
 use Rattle.ring.proofs.TableLemmas.Steps.{gathers_at}
-use Rattle.std.proofs.lemmas.List.{nil_from_length}
 use Rattle.ring.proofs.FinishLemmas.Ends.{last_ring, is_control_word, end_is, is_there, that_there}
 use Rattle.qindex.specs.ControlWord.{IsControlWord, control_in}
 use Rattle.ring.proofs.ring.Ring.finish.Given.{Over}

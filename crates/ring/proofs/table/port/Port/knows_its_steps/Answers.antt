@@ -1,5 +1,3 @@
-use Rattle.std.proofs.Common.{subst}
-use Rattle.ring.specs.table.{IsWithinLimits, PortValue}
 use Rattle.ring.proofs.TableLemmas.Histories.{knows_its_steps}
 use Rattle.ring.proofs.table.port.Port.knows_its_steps.Goals as goal
 
