@@ -1,5 +1,2 @@
-pub mod Facts
-pub mod Runs
 pub mod Acknowledging
 pub mod Reads
-pub mod Completing

@@ -1,3 +1,4 @@
+pub mod Lists
 pub mod TableLemmas
 pub mod SenderLemmas
 pub mod ConsumerLemmas

@@ -4,7 +4,6 @@ pub mod Steps
 pub mod StepKinds
 pub mod PortSteps
 pub mod Starts
-pub mod Asks
 pub mod OneRun
 pub mod OneWords
 pub mod Histories

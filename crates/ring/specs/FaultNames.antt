@@ -1,7 +1,6 @@
 -- What the causes of a refusal are called.
 use Rattle.std.specs.Prelude.{ℕ, List, codes}
-use Rattle.ring.specs.declared.sender.cause.Cause.{Cause}
-use Rattle.ring.specs.declared.sender.cause.Cause.TheVariants.{TooLong, Exhausted, Closed, Full, Contended}
+use Rattle.ring.specs.sender.{Cause, TooLong, Exhausted, Closed, Full, Contended}
 
 abbrev pub cause_label : Cause → List ℕ
 cause_label TooLong = codes "Q4"

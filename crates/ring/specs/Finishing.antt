@@ -1,19 +1,11 @@
 -- What is known once all seats are joined.
 use Rattle.std.specs.Prelude.{◌≡◌, ℕ, ◌<◌, ◌≤◌, Bool, true, List, [], ◌∷◌, ◌++◌, map, length, Some, slice_get}
-use Rattle.ringcore.specs.declared.world.event.Who.TheVariants.{Consumer, Sender}
-use Rattle.ringcore.specs.declared.world.event.Event.TheVariants.{Ask}
-use Rattle.ringcore.specs.world.Trails.{Run, Trail, trail_of, raws_by}
-use Rattle.ringcore.specs.world.World.{world}
-use Rattle.ringcore.specs.world.Allowed.{Ring, IsRun}
-use Rattle.ringcore.specs.world.Delivery.{Batch, batches, joined, has_close, Begins, IsOrderedDelivery}
-use Rattle.ringcore.specs.world.Laws.{OnlyOf, batches_of, own_batches, IsApplied}
-use Rattle.ringcore.specs.world.ConsumerLaws.{SawDrained}
-use Rattle.ring.specs.declared.table.rule.Participant.{Participant}
+use Rattle.ring.specs.Runs.{Consumer, Sender, Ask, Run, Trail, trail_of, raws_by, world, Ring, IsRun, Batch, batches, joined, has_close, Begins, IsOrderedDelivery, OnlyOf, batches_of, own_batches}
+use Rattle.ring.specs.Runs.{IsApplied, SawDrained}
+use Rattle.ring.specs.table.{Participant, participant, WentOn}
 use Rattle.ring.specs.Rings.{RingValue}
-use Rattle.ring.specs.table.Rule.{participant, WentOn}
-use Rattle.ring.specs.sender.Senders.{SenderValue}
-use Rattle.ring.specs.consumer.Consumers.{ConsumerValue}
-use Rattle.ring.specs.consumer.Completing.{taken_of}
+use Rattle.ring.specs.sender.{SenderValue}
+use Rattle.ring.specs.consumer.{ConsumerValue, taken_of}
 
 pub record SummaryValue : Type 0 where
   pub reserved : ℕ

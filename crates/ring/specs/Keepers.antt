@@ -1,24 +1,12 @@
 -- What contracts see of a keeper, who sits for everybody and so knows the whole run.
 use Rattle.std.specs.Prelude.{◌≡◌, ◌≢◌, ◌⊎◌, ℕ, zero, suc, ◌≤◌, Bool, true, false, cond, List, [], ◌∷◌, ◌++◌, Option, Some, None}
-use Rattle.atomic_table.specs.Seated.{TableId}
-use Rattle.cmdcodec.specs.declared.raw.Raw.{Raw}
+use Rattle.ring.specs.table.{TableId, Participant, Holding, WentOn, Any, ring_of, history_of_first, RunStands, AllKnow, run_by, grown_run, PortValue}
+use Rattle.ring.specs.Runs.{Raw, Who, Consumer, Sender, Event, Trail, Run, same, trail_of, IsOne, Ring}
 use Rattle.qindex.specs.Positions.{IndexValue}
-use Rattle.ringcore.specs.declared.world.event.Who.{Who}
-use Rattle.ringcore.specs.declared.world.event.Who.TheVariants.{Consumer, Sender}
-use Rattle.ringcore.specs.declared.world.event.Event.{Event}
-use Rattle.ringcore.specs.world.Trails.{Trail, Run, same, trail_of}
-use Rattle.ringcore.specs.world.Laws.{IsOne}
-use Rattle.ringcore.specs.world.Allowed.{Ring}
-use Rattle.ring.specs.declared.table.rule.Participant.{Participant}
-use Rattle.ring.specs.declared.sender.tally.Tally.{Tally}
+use Rattle.ring.specs.sender.{Tally, SenderValue, IsSender, ReservationValue, IsOpen}
 use Rattle.ring.specs.Rings.{RingValue}
 use Rattle.ring.specs.NewRings.{made_with}
-use Rattle.ring.specs.table.Rule.{Holding, WentOn, Any, ring_of, history_of_first}
-use Rattle.ring.specs.table.Keeping.{RunStands, AllKnow, run_by, grown_run}
-use Rattle.ring.specs.table.Ports.{PortValue}
-use Rattle.ring.specs.sender.Senders.{SenderValue, IsSender}
-use Rattle.ring.specs.sender.Reservations.{ReservationValue, IsOpen}
-use Rattle.ring.specs.consumer.Consumers.{ConsumerValue, IsConsumer}
+use Rattle.ring.specs.consumer.{ConsumerValue, IsConsumer}
 
 -- a keeper: its ring, who has its seat lent, and all that happened up to the lending
 pub record KeeperValue : Type 0 where

@@ -1,3 +1,4 @@
+pub mod Runs
 pub mod table
 pub mod sender
 pub mod Rings

@@ -1,10 +1,10 @@
 -- A new ring.
 use Rattle.std.specs.Prelude.{◌≡◌, ℕ, zero, suc, List, [], ◌∷◌, ◌++◌, None}
-use Rattle.ringcore.specs.world.Allowed.{Ring}
+use Rattle.ring.specs.Runs.{Ring}
 use Rattle.ringcore.specs.RingFaults.{number_fault}
 use Rattle.ring.specs.Rings.{RingValue}
-use Rattle.ring.specs.consumer.Consumers.{ConsumerValue}
-use Rattle.ring.specs.sender.Senders.{SenderValue}
+use Rattle.ring.specs.consumer.{ConsumerValue}
+use Rattle.ring.specs.sender.{SenderValue}
 
 -- a sender that has taken no step
 abbrev pub new_sender : RingValue → ℕ → SenderValue

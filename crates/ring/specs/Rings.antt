@@ -2,7 +2,7 @@
 use Rattle.std.specs.Prelude.{◌≡◌}
 use Rattle.atomic_table.specs.Seated.{TableId}
 use Rattle.qindex.specs.Indexes.{IsGeometry}
-use Rattle.ringcore.specs.world.Allowed.{Ring}
+use Rattle.ring.specs.Runs.{Ring}
 use Rattle.ringcore.specs.memory.Layout.{words_of}
 use Rattle.ring.specs.table.Rule.{IsWithinLimits}
 

@@ -1,5 +1,11 @@
+-- What the consumer is, and what its calls do.
 pub mod Lending
 pub mod Consumers
 pub mod Pendings
 pub mod Taking
 pub mod Completing
+pub use Lending.*
+pub use Consumers.*
+pub use Pendings.*
+pub use Taking.*
+pub use Completing.*

@@ -1,16 +1,10 @@
 //! The one who takes commands.
 ghost use Rattle.std.specs.Prelude.{◌≡◌, ◌∷◌, ◌≤◌, length, []};
-ghost use Rattle.cmdcodec.specs.declared.raw.Raw.{Raw as RawOf};
+ghost use Rattle.ring.specs.Runs.{Raw as RawOf, Look, Consumer as ConsumerOf, Sender as SenderOf, taken_by, found_ready, world, control as control_of};
 ghost use Rattle.qindex.specs.Positions.{size};
 ghost use Rattle.qindex.specs.ControlWord.{IsControl};
 ghost use Rattle.ringcore.specs.Limits.{most_reserved};
-ghost use Rattle.ringcore.specs.declared.world.event.Event.TheVariants.{Look};
-ghost use Rattle.ringcore.specs.declared.world.event.Who.TheVariants.{Consumer as ConsumerOf, Sender as SenderOf};
-ghost use Rattle.ringcore.specs.world.Trails.{taken_by, found_ready};
-ghost use Rattle.ring.specs.table.Rule.{StandsInARun, WentOn};
-ghost use Rattle.ring.specs.table.Histories.{IsHistory, GrewBy};
-ghost use Rattle.ringcore.specs.world.World.{world, control as control_of};
-ghost use Rattle.ring.specs.table.Ports.{SitsFor};
+ghost use Rattle.ring.specs.table.{StandsInARun, WentOn, IsHistory, GrewBy, SitsFor};
 ghost use Rattle.ring.specs.Finishing.{WasToldAll};
 ghost use Rattle.ring.specs.consumer.Pendings.{HasSeen, HasReadRun, reads_from};
 ghost use Rattle.ring.specs.consumer.Taking.{HasTaken, HasTakenRun, IsReadyWith, BeginsWith, IsOfRing, RunIsOfRing};

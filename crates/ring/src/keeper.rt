@@ -1,10 +1,7 @@
 //! One who sits for everybody, and so knows the whole run. He lends one seat at a time.
 ghost use Rattle.std.specs.Prelude.{◌≡◌, ◌<◌, Some, None};
-ghost use Rattle.ringcore.specs.declared.world.event.Who.TheVariants.{Sender as SenderOf};
-ghost use Rattle.ringcore.specs.world.Trails.{trail_of};
-ghost use Rattle.ringcore.specs.world.Laws.{IsOne};
-ghost use Rattle.ring.specs.table.Histories.{Grew};
-ghost use Rattle.ring.specs.table.Keeping.{RunStands};
+ghost use Rattle.ring.specs.Runs.{Sender as SenderOf, trail_of, IsOne};
+ghost use Rattle.ring.specs.table.{Grew, RunStands};
 ghost use Rattle.ring.specs.Keepers.{own_port, has_lent, has_back, Adds, IsNews, KeepsOthers};
 
 mod asking;

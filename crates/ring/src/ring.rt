@@ -3,7 +3,7 @@ ghost use Rattle.std.specs.Prelude.{◌≡◌, ◌≤◌, [], IfOk, IfErr};
 ghost use Rattle.qindex.specs.Indexes.{IsGeometry};
 ghost use Rattle.ringcore.specs.Limits.{most_senders};
 ghost use Rattle.ringcore.specs.memory.Layout.{words_of};
-ghost use Rattle.ring.specs.table.Rule.{IsWithinLimits, first_participants, participants_from};
+ghost use Rattle.ring.specs.table.{IsWithinLimits, first_participants, participants_from};
 ghost use Rattle.ring.specs.Finishing.{AreAll, IsEnd};
 ghost use Rattle.ringcore.specs.RingFaults.{IsNotMade, number_fault};
 ghost use Rattle.ring.specs.NewRings.{IsNewRing, IsUnused, new_senders};

@@ -3,14 +3,8 @@ ghost use Rattle.std.specs.Prelude.{◌≡◌, ◌≢◌, ◌∷◌, ◌+◌, �
 ghost use Rattle.cmdcodec.specs.Bodies.{IsBody};
 ghost use Rattle.qindex.specs.ControlWord.{IsControl};
 ghost use Rattle.qindex.specs.Positions.{size};
-ghost use Rattle.ringcore.specs.declared.world.event.Event.TheVariants.{Look, Close, Ask};
-ghost use Rattle.ringcore.specs.declared.world.event.Who.TheVariants.{Sender as SenderOf};
-ghost use Rattle.ringcore.specs.world.Trails.{looked, batches_made};
-ghost use Rattle.ringcore.specs.world.Allowed.{length_with};
-ghost use Rattle.ring.specs.table.Rule.{StandsInARun};
-ghost use Rattle.ring.specs.table.Histories.{IsHistory, GrewBy, Grew, AreApplied};
-ghost use Rattle.ringcore.specs.world.World.{world, control as control_of};
-ghost use Rattle.ring.specs.table.Ports.{SitsFor};
+ghost use Rattle.ring.specs.Runs.{Look, Close, Ask, Sender as SenderOf, looked, batches_made, length_with, world, control as control_of};
+ghost use Rattle.ring.specs.table.{StandsInARun, IsHistory, GrewBy, Grew, AreApplied, SitsFor};
 ghost use Rattle.ring.specs.sender.Senders.{HasAsked};
 ghost use Rattle.ring.specs.sender.Reserving.{HasRoom, IsReserved, IsRefused, IsWon, IsLost, Fits, HasBatchLeft};
 

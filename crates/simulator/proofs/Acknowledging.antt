@@ -8,10 +8,9 @@ use Rattle.engine.specs.declared.remedy.AckFault.{AckFault}
 use Rattle.engine.specs.declared.remedy.AckFault.TheVariants.{NoError, OtherBit}
 use Rattle.engine.specs.Stops.{IsStopped, IsAcknowledgementAnswer, told, command_queue_bit}
 use Rattle.engine.specs.Units.{UnitValue}
-use Rattle.simulator.specs.queue.Seated.{QueueValue}
+use Rattle.simulator.specs.queue.{QueueValue}
 use Rattle.simulator.specs.State.{State, Answered}
-use Rattle.simulator.specs.Steps.{is_stopped, same_bit, acknowledged}
-use Rattle.simulator.specs.Standing.{Stands}
+use Rattle.simulator.specs.{is_stopped, same_bit, acknowledged, Stands}
 
 -- by whether it is stopped, and whether the bits agree
 abbrev by_tests : Bool → Bool → Remedy → State → Answered (Result ⊤ AckFault)

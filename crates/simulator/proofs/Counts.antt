@@ -2,7 +2,7 @@
 use Rattle.std.proofs.Common.{◌≡◌, refl, ap, ◌∙◌, arith, ℕ, ◌+◌, Bool, true, false, not, cond, List, [], ◌∷◌, ◌++◌, length}
 use Rattle.std.specs.Prelude.{count_by}
 use Rattle.std.proofs.lemmas.List.Sums.{sum_by-append}
-use Rattle.ringcore.specs.world.World.{Taken}
+use Rattle.ring.specs.Runs.{Taken}
 use Rattle.caches.specs.Held.{History}
 use Rattle.engine.specs.Counting.{taken}
 use Rattle.simulator.specs.State.{is_applied, counts_of}

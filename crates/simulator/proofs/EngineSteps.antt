@@ -3,20 +3,13 @@ use Rattle.std.proofs.Common.{◌≡◌, ◌≢◌, ◌≤◌, ◌^◌, refl, ap
 use Rattle.std.specs.Prelude.{◌↔◌, take}
 use Rattle.std.specs.FinMap as finite
 use Rattle.std.proofs.lemmas.Bool.{ne_eqb}
-use Rattle.cmdcodec.specs.declared.raw.Raw.{Raw}
+use Rattle.ring.specs.Runs.{Raw, Consumer, Lo, Hi, Look, Test, Read, Advance, Acknowledge, Trail, Run, trail_of, Taken, World, world, Ring, NeverMoreThanFull}
 use Rattle.cmdcodec.specs.declared.ill.Ill.{Ill}
 use Rattle.cmdcodec.specs.declared.command.Command.{Command}
 use Rattle.cmdcodec.specs.Opcodes.{is_sync}
 use Rattle.cmdcodec.specs.Words.{decoding}
 use Rattle.cmdcodec.specs.Laws.{WordsDecodeToWhatTheySpell, IllegalWordsDecodeToTheirFault}
 use Rattle.qindex.specs.Laws.{IndexesTellTheQueue}
-use Rattle.ringcore.specs.declared.world.event.Who.TheVariants.{Consumer}
-use Rattle.ringcore.specs.declared.world.event.Half.TheVariants.{Lo, Hi}
-use Rattle.ringcore.specs.declared.world.event.Event.TheVariants.{Look, Test, Read, Advance, Acknowledge}
-use Rattle.ringcore.specs.world.Trails.{Trail, Run, trail_of}
-use Rattle.ringcore.specs.world.World.{Taken, World, world}
-use Rattle.ringcore.specs.world.Allowed.{Ring}
-use Rattle.ringcore.specs.world.Laws.{NeverMoreThanFull}
 use Rattle.caches.specs.Held.{Take, without_covered}
 use Rattle.ring.specs.Rings.{RingValue}
 use Rattle.ring.specs.table.Keeping.{run_by, RunStands}
@@ -33,11 +26,9 @@ use Rattle.engine.specs.Counting.{CountsValue, taken, counted_applied, counted_r
 use Rattle.engine.specs.Units.{UnitValue, IsApplied, IsStoppedAt, IsReplaced}
 use Rattle.engine.specs.Engines.{EngineValue, IsFirst, HasStepped}
 use Rattle.simulator.specs.queue.Heads as head
-use Rattle.simulator.specs.queue.Heads.{Head, head_of, head_taken, completed}
+use Rattle.simulator.specs.queue.{Head, head_of, head_taken, completed}
 use Rattle.simulator.specs.State.{State, Answered, entries, taken_so_far, removed_from, counts_of, unit_of}
-use Rattle.simulator.specs.Seats.{with_run}
-use Rattle.simulator.specs.Steps.{found, illegal, judged, stepped, unchanged}
-use Rattle.simulator.specs.Standing.{StandFor, AreStepped}
+use Rattle.simulator.specs.{with_run, found, illegal, judged, stepped, unchanged, StandFor, AreStepped}
 use Rattle.simulator.proofs.Counts.{all_counted}
 use Rattle.simulator.proofs.OneMore.{completed_taken, counts_after_applied, counts_after_replaced, removed_is}
 use Rattle.simulator.proofs.Ways.{stays_stopped, stepped_going, at_head, found_world}

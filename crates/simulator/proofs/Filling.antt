@@ -10,14 +10,12 @@ use Rattle.caches.specs.declared.fault.CacheFault.{CacheFault}
 use Rattle.caches.specs.declared.fault.CacheFault.TheVariants.{Full, BadBlock, NoMemory, BadCapacity}
 use Rattle.caches.specs.Blocks.{IsAligned, IsBlock}
 use Rattle.caches.specs.Stored.{Stored, IsFillAnswer}
-use Rattle.simulator.specs.Blocks.{is_aligned, is_block}
-use Rattle.ringcore.specs.world.World.{world}
+use Rattle.simulator.specs.{is_aligned, is_block, with_item, fill_fault, filled_unless, filled, Stands}
+use Rattle.ring.specs.Runs.{world}
 use Rattle.caches.specs.Held.{Fill, Evict}
 use Rattle.engine.specs.Units.{UnitValue, with_entries, filled as filled_in_unit}
-use Rattle.simulator.specs.queue.Seated.{QueueValue}
+use Rattle.simulator.specs.queue.{QueueValue}
 use Rattle.simulator.specs.State.{State, Answered, entries, taken_so_far, unit_of}
-use Rattle.simulator.specs.Fills.{with_item, fill_fault, filled_unless, filled}
-use Rattle.simulator.specs.Standing.{Stands}
 use Rattle.simulator.proofs.Counts.{all_counted}
 
 -- ---- blocks

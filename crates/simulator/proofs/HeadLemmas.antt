@@ -3,22 +3,14 @@ use Rattle.std.proofs.Common.{◌≡◌, ◌≢◌, ℕ, ◌+◌, ◌-◌, ◌%�
 use Rattle.std.specs.Prelude.{◌/◌, slice_get, option_map, if◌then◌else◌}
 use Rattle.std.proofs.lemmas.Bool.{ne_eqb}
 use native.Mathlib.Nat.{mod_self}
-use Rattle.cmdcodec.specs.declared.raw.Raw.{Raw}
-use Rattle.qindex.specs.declared.control.Control.{Control}
+use Rattle.ring.specs.Runs.{Raw, Control, Consumer, Lo, Hi, Look, Test, Read, Trail, Run, trail_of, Item, World, tail, head, world, control, Ring, IsRun, FindsReady, MayRead, ShareAWord}
+use Rattle.ring.specs.Runs.{NeverMoreThanFull}
 use Rattle.qindex.specs.Positions.{size, place, index_of}
 use Rattle.qindex.specs.Indexes.{distance}
 use Rattle.qindex.specs.Laws.{IndexesTellTheQueue}
-use Rattle.ringcore.specs.declared.world.event.Who.TheVariants.{Consumer}
-use Rattle.ringcore.specs.declared.world.event.Half.TheVariants.{Lo, Hi}
-use Rattle.ringcore.specs.declared.world.event.Event.TheVariants.{Look, Test, Read}
-use Rattle.ringcore.specs.world.Trails.{Trail, Run, trail_of}
-use Rattle.ringcore.specs.world.World.{Item, World, tail, head, world, control}
-use Rattle.ringcore.specs.world.Allowed.{Ring, IsRun, FindsReady, MayRead, ShareAWord}
-use Rattle.ringcore.specs.world.Laws.{NeverMoreThanFull}
 use Rattle.ring.specs.table.Keeping.{run_by, RunStands}
 use Rattle.ring.specs.Keepers.{KeeperValue, Adds}
-use Rattle.simulator.specs.queue.Reserving.{looked_by}
-use Rattle.simulator.specs.queue.Heads.{Head, Empty, Drained, Unwritten, Ready, raw_at_head, head_of, found_by, head_taken}
+use Rattle.simulator.specs.queue.{looked_by, Head, Empty, Drained, Unwritten, Ready, raw_at_head, head_of, found_by, head_taken}
 
 -- ---- what stands at the head
 

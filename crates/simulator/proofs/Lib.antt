@@ -1,6 +1,5 @@
 pub mod SeatLemmas
 pub mod TryLemmas
-pub mod PublishLemmas
 pub mod Standings
 pub mod Opening
 pub mod Counts

@@ -1,20 +1,17 @@
 -- What is taken and counted once one more command was completed.
 use Rattle.std.proofs.Common.{◌≡◌, refl, ap, sym, ◌∙◌, arith, ℕ, ◌+◌, ◌-◌, Bool, true, false, not, cond, List, [], ◌∷◌, ◌++◌, Option, Some, None}
 use Rattle.std.specs.Prelude.{is_none}
-use Rattle.cmdcodec.specs.declared.raw.Raw.{Raw}
+use Rattle.ring.specs.Runs.{Raw, Consumer, Advance, Acknowledge}
 use Rattle.cmdcodec.specs.declared.ill.Ill.{Ill}
 use Rattle.cmdcodec.specs.declared.command.Command.{Command}
 use Rattle.cmdcodec.specs.Opcodes.{is_sync}
 use Rattle.cmdcodec.specs.Legality.{first_ill}
-use Rattle.ringcore.specs.declared.world.event.Who.TheVariants.{Consumer}
-use Rattle.ringcore.specs.declared.world.event.Event.TheVariants.{Advance, Acknowledge}
 use Rattle.ringcore.specs.declared.world.event.Outcome.TheVariants as outcome
-use Rattle.ringcore.specs.world.Trails.{Run}
-use Rattle.ringcore.specs.world.World.{Taken, outcome_of, taken_as, world}
+use Rattle.ring.specs.Runs.{Run, Taken, outcome_of, taken_as, world}
 use Rattle.ring.specs.consumer.Completing.{sync_sender, sync_number}
 use Rattle.caches.specs.Held.{History, Take, held}
 use Rattle.engine.specs.Counting.{CountsValue, syncs_with, counted_applied, counted_replaced}
-use Rattle.simulator.specs.queue.Heads.{completed}
+use Rattle.simulator.specs.queue.{completed}
 use Rattle.simulator.specs.State.{removed_from, removed_in, is_applied, counts_of}
 use Rattle.simulator.proofs.Counts.{count_by-snoc}
 

@@ -1,17 +1,12 @@
 -- A sender that has just reserved a batch has an open reservation.
 use Rattle.std.proofs.Common.{◌≡◌, refl, ap, ◌∙◌, arith, ℕ, ◌+◌, ◌≤◌, Bool, true, cond, List, ◌∷◌, length, Option, Some, None, Ok, eq-eqb}
-use Rattle.cmdcodec.specs.declared.raw.Raw.{Raw}
-use Rattle.ringcore.specs.declared.world.event.Who.TheVariants.{Sender}
-use Rattle.ringcore.specs.declared.world.event.Event.TheVariants.{Won}
-use Rattle.ringcore.specs.world.Trails.{Trail, Run, trail_of}
-use Rattle.ringcore.specs.world.World.{world}
-use Rattle.ringcore.specs.world.Allowed.{Ring, length_with}
+use Rattle.ring.specs.Runs.{Raw, Sender, Won, Trail, Run, trail_of, world, Ring, length_with}
 use Rattle.ringcore.specs.machine.Open.{is_open}
 use Rattle.ringcore.specs.machine.StepAnswers.{next_number}
 use Rattle.ring.specs.declared.sender.cause.Cause.{Cause}
 use Rattle.simulator.specs.declared.queue.reserved.Reserved.{Reserved}
 use Rattle.simulator.proofs.SeatLemmas.{some_is}
-use Rattle.simulator.specs.queue.Reserving.{looked_by, cause_ahead, cause_seen, unless_seen, unless_ahead, try_to_reserve}
+use Rattle.simulator.specs.queue.{looked_by, cause_ahead, cause_seen, unless_seen, unless_ahead, try_to_reserve}
 
 won_is_open : (body : List Raw) (number : Option ℕ) (es : Trail) → 1 ≤ length body → is_open (Won body number ∷ es) ≡ true
 won_is_open body None es some = some_is (length body) (λ offset. true) some (λ k. refl)

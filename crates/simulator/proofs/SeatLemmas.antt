@@ -4,21 +4,17 @@ use Rattle.std.proofs.lemmas.Bool.{cases_lt, cases_eq, lt-leb}
 use Rattle.std.proofs.lemmas.List.{length-set, get_or-set_same, get_or-set_other, get_or-append_right, length_push}
 use Rattle.std.proofs.Math.ListN.{get_or-append}
 use Rattle.std.specs.Prelude.{None, ◌⊎◌, ◌||◌, nat_lt, slice_index_or, slice_set}
-use Rattle.cmdcodec.specs.declared.raw.Raw.{Raw}
-use Rattle.ringcore.specs.declared.world.event.Who.{Who}
-use Rattle.ringcore.specs.declared.world.event.Who.TheVariants.{Sender, Consumer}
-use Rattle.ringcore.specs.declared.world.event.Event.{Event}
-use Rattle.ringcore.specs.world.Trails.{Trail, trail_of, reserved_length, has_flipped, IsSettled}
-use Rattle.ringcore.specs.world.Allowed.{Ring, length_with}
+use Rattle.ring.specs.Runs.{Raw, Who, Sender, Consumer, Event, Trail, trail_of, reserved_length, has_flipped, IsSettled, Ring, length_with}
 use Rattle.ringcore.specs.machine.Open.{some_below, is_open}
 use Rattle.ring.specs.Rings.{RingValue}
 use Rattle.ring.specs.NewRings.{made_with}
 use Rattle.ring.specs.declared.sender.tally.Tally.{Tally}
 use Rattle.ring.specs.table.Keeping.{RunStands}
+use Rattle.ring.specs.sender.Reservations.{reserved_number, number_when}
 use Rattle.ring.specs.Keepers.{KeeperValue, IdleReservationValue, Adds, has_lent, has_back, with_step, KeepsAll, KeepsOthers, IsIdleSender, IsIdleReservation}
 use Rattle.simulator.specs.declared.queue.Seat.{Seat}
 use Rattle.simulator.specs.declared.queue.Seat.TheVariants.{Idle, Open}
-use Rattle.simulator.specs.queue.Seated.{QueueValue, ring_in, IsIdleSeat, IsOpenSeat, IsSeatOf, IsNewSeat, AreNew, IsQueue, IsBack}
+use Rattle.simulator.specs.queue.{QueueValue, ring_in, IsIdleSeat, IsOpenSeat, IsSeatOf, IsNewSeat, AreNew, IsQueue, IsBack}
 
 -- ---- a seat is lent, and comes back
 
@@ -52,7 +48,7 @@ pub some_is : (n : ℕ) (f : ℕ → Bool) → 1 ≤ n → ((k : ℕ) → f k �
 some_is zero f low all = absurd (omega (arith, low))
 some_is (suc n) f low all = ap (λ (a : Bool). a || some_below n f) (all n)
 
-pub length_some : (body : List Raw) (closes : Bool) → 1 ≤ length body → 1 ≤ length_with closes body
+length_some : (body : List Raw) (closes : Bool) → 1 ≤ length body → 1 ≤ length_with closes body
 length_some body true some = omega (arith, some)
 length_some body false some = some
 
@@ -69,6 +65,12 @@ open_is_open keeper s body idle is =
     subst (λ (n : ℕ). is_open (trail_of (Sender n) keeper.run) ≡ true) is.sender_is
     (some_is (reserved_length mine) (λ k. not (has_flipped k mine)) some
     (λ k. ap not (is.open_is.in_flipped k ∙ ap (λ (n : ℕ). nat_lt k n) is.unflipped ∙ lt-leb (suc k) 0 (omega arith))))
+
+-- the number of what is open there
+pub last_is : (keeper : KeeperValue) (s : ℕ) (body : List Raw) (idle : IdleReservationValue) → idle.tally.sender ≡ s → IsIdleReservation keeper body idle
+    → number_when idle.closes idle.tally.numbers ≡ reserved_number (trail_of (Sender s) keeper.run)
+last_is keeper s body idle sender_is is =
+    sym is.number_is ∙ ap (λ (n : ℕ). reserved_number (trail_of (Sender n) keeper.run)) sender_is
 
 -- ---- the others' seats
 

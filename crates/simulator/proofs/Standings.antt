@@ -1,22 +1,17 @@
 -- What calls of a sender keep of a state, and how a simulator stands after them.
-use Rattle.std.proofs.Common.{◌≡◌, refl, ap, ap₂, sym, subst, ◌∙◌, ℕ, zero, suc, ◌-◌, Bool, List, Option, Some, None, Result, Ok, Err}
-use Rattle.cmdcodec.specs.declared.raw.Raw.{Raw}
-use Rattle.ringcore.specs.declared.world.event.Who.TheVariants.{Sender}
-use Rattle.ringcore.specs.world.Trails.{Run, trail_of, reserved_length}
-use Rattle.ringcore.specs.world.World.{Taken, world}
-use Rattle.ringcore.specs.world.Allowed.{Ring, length_with}
+use Rattle.std.proofs.Common.{◌≡◌, refl, ap, ap₂, sym, subst, ◌∙◌, ℕ, zero, suc, Bool, List, ◌++◌, Option, Some, None, Result, Ok, Err}
+use Rattle.ring.specs.Runs.{Raw, Sender, Trail, Run, trail_of, Taken, world, Ring, length_with}
 use Rattle.ring.specs.declared.sender.cause.Cause.{Cause}
 use Rattle.ring.specs.Rings.{RingValue}
+use Rattle.ring.specs.table.Keeping.{run_by}
+use Rattle.ring.specs.sender.Publishing.{writes_from, flips_from}
 use Rattle.ring.specs.Keepers.{KeeperValue}
 use Rattle.engine.specs.Units.{UnitValue}
 use Rattle.ring.specs.sender.Reservations.{reserved_number}
 use Rattle.simulator.specs.declared.queue.reserved.Reserved.{Reserved}
-use Rattle.simulator.specs.queue.Reserving.{Try, cause_ahead, cause_seen, unless_seen, unless_ahead, try_to_reserve}
-use Rattle.simulator.specs.queue.Trying.{tried_by, HasSent}
-use Rattle.simulator.specs.queue.Publishing.{written, flipped, first_flags, published}
+use Rattle.simulator.specs.queue.{Try, cause_ahead, cause_seen, unless_seen, unless_ahead, try_to_reserve, tried_by, HasSent, published}
 use Rattle.simulator.specs.State.{State, Answered, counts_of, unit_of}
-use Rattle.simulator.specs.Seats.{with_run, handed_over, sent}
-use Rattle.simulator.specs.Standing.{StandFor}
+use Rattle.simulator.specs.{with_run, handed_over, sent, StandFor}
 
 -- Nothing more is taken.
 abbrev pub TakesNone : Run → Run → Type 0
@@ -39,20 +34,17 @@ try_takes_none ring max_batches s body closes run =
 
 -- ---- publish
 
-written_takes_none : (s count : ℕ) (run : Run) → TakesNone run (written s count run)
-written_takes_none s zero run = refl
-written_takes_none s (suc k) run = written_takes_none s k run
+writes_take_none : (s slot count : ℕ) (run : Run) → TakesNone run (run_by (Sender s) (writes_from slot count) ++ run)
+writes_take_none s slot zero run = refl
+writes_take_none s slot (suc k) run = writes_take_none s slot k run
 
-flipped_takes_none : (s offset count : ℕ) (old run : Run) → TakesNone old run → TakesNone old (flipped s offset count run)
-flipped_takes_none s offset zero old run none = none
-flipped_takes_none s offset (suc k) old run none = none
+flips_take_none : (s slot count : ℕ) (more : Trail) (run : Run) → TakesNone run (run_by (Sender s) more ++ run) → TakesNone run (run_by (Sender s) (flips_from slot count ++ more) ++ run)
+flips_take_none s slot zero more run none = none
+flips_take_none s slot (suc k) more run none = none
 
 pub published_takes_none : (geometry s : ℕ) (run : Run) → TakesNone run (published geometry s run)
 unfolding published
-published_takes_none geometry s run =
-    let many = reserved_length (trail_of (Sender s) run) in
-    let first = first_flags geometry s run in
-    flipped_takes_none s first (many - first) run (flipped s 0 first (written s many run)) (flipped_takes_none s 0 first run (written s many run) (written_takes_none s many run))
+published_takes_none geometry s run = search (flips_take_none, writes_take_none)
 
 -- ---- a simulator
 

@@ -1,8 +1,6 @@
 -- What the unit and what is left of the consumer keep together between two calls.
 use Rattle.std.proofs.Common.{rules, ◌≡◌, refl, ap, sym, ◌∙◌, subst, List, [], length, Option, Some, None, append-nil}
-use Rattle.ringcore.specs.declared.world.event.Who.TheVariants.{Consumer}
-use Rattle.ringcore.specs.world.Trails.{Trail, Run, trail_of}
-use Rattle.ringcore.specs.world.World.{Taken}
+use Rattle.ring.specs.Runs.{Consumer, Trail, Run, trail_of, Taken}
 use Rattle.caches.specs.Stored.{Stored}
 use Rattle.ring.specs.Keepers.{KeeperValue, IdleConsumerValue, own_consumer}
 use Rattle.ring.specs.consumer.Consumers.{ConsumerValue}
@@ -11,9 +9,9 @@ use Rattle.engine.specs.Settled.{IsSettled}
 use Rattle.engine.specs.Counting.{taken, AreCountsOf}
 use Rattle.engine.specs.Units.{UnitValue, StaysSettled, new_unit}
 use Rattle.engine.specs.Engines.{AreTogether}
-use Rattle.simulator.specs.queue.Seated.{QueueValue, LeavesConsumer}
+use Rattle.simulator.specs.queue.{QueueValue, LeavesConsumer}
 use Rattle.simulator.specs.State.{State}
-use Rattle.simulator.specs.Standing.{StandFor, IsThere, IsSimulator}
+use Rattle.simulator.specs.{StandFor, IsThere, IsSimulator}
 
 -- They are together by the consumer's trail alone.
 pub still_together : (d e : ConsumerValue UnitValue) (unit : UnitValue) → d.trail ≡ e.trail → AreTogether d unit → AreTogether e unit

@@ -2,17 +2,10 @@
 use Rattle.std.proofs.Common.{◌≡◌, ◌≢◌, ℕ, suc, ◌+◌, ◌-◌, ◌<◌, ◌≤◌, Bool, true, false, List, [], ◌∷◌, Option, Some, None, Ok, sym, ap, ap₂, ◌∙◌, subst, arith}
 use Rattle.std.proofs.lemmas.Bool.{lt-leb, lt-ltb, le-leb}
 use Rattle.std.specs.Prelude.{nat_lt, Result}
-use Rattle.cmdcodec.specs.declared.raw.Raw.{Raw}
-use Rattle.qindex.specs.declared.control.Control.{Control}
+use Rattle.ring.specs.Runs.{Raw, Control, Sender, Look, Won, Lost, Trail, Run, trail_of, batches_made, start_index, tail, head, world, control, Ring, IsRun, MayLose, length_with, NeverMoreThanFull}
 use Rattle.qindex.specs.Positions.{IndexValue, size, index_of}
 use Rattle.qindex.specs.Indexes.{IsGeometry, distance}
 use Rattle.qindex.specs.Laws.{IndexesTellTheQueue}
-use Rattle.ringcore.specs.declared.world.event.Who.TheVariants.{Sender}
-use Rattle.ringcore.specs.declared.world.event.Event.TheVariants.{Look, Won, Lost}
-use Rattle.ringcore.specs.world.Trails.{Trail, Run, trail_of, batches_made, start_index}
-use Rattle.ringcore.specs.world.World.{tail, head, world, control}
-use Rattle.ringcore.specs.world.Allowed.{Ring, IsRun, MayLose, length_with}
-use Rattle.ringcore.specs.world.Laws.{NeverMoreThanFull}
 use Rattle.ringcore.specs.machine.StepAnswers.{next_number}
 use Rattle.ring.specs.Rings.{RingValue}
 use Rattle.ring.specs.Keepers.{KeeperValue, IdleReservationValue, own_sender, IsIdleReservation, IsLeftOf, IsIdleSender}
@@ -23,9 +16,8 @@ use Rattle.ring.specs.sender.Senders.{SenderValue}
 use Rattle.ring.specs.sender.Reservations.{ReservationValue, reserved_number, number_when}
 use Rattle.ring.specs.sender.Reserving.{IsReserved, IsRefused}
 use Rattle.simulator.specs.declared.queue.reserved.Reserved.{Reserved}
-use Rattle.simulator.specs.queue.Reserving.{looked_by, cause_ahead, cause_seen, Try, refused_for, won, unless_seen, unless_ahead, try_to_reserve}
-use Rattle.simulator.specs.queue.Trying.{tried_by, IsTriedWell, IsTriedInVain}
-use Rattle.simulator.proofs.SeatLemmas.{IsCall}
+use Rattle.simulator.specs.queue.{looked_by, cause_ahead, cause_seen, Try, refused_for, won, unless_seen, unless_ahead, try_to_reserve, tried_by, IsTriedWell, IsTriedInVain}
+use Rattle.simulator.proofs.SeatLemmas.{IsCall, last_is}
 
 -- ---- how a try is answered
 
@@ -206,7 +198,7 @@ module _ (tells : IndexesTellTheQueue) (within : NeverMoreThanFull) (old new : K
 
     number_is : (idle : IdleReservationValue) → idle.tally.sender ≡ s → IsIdleReservation new body idle → number_when idle.closes idle.tally.numbers ≡ number
     number_is idle sender_is there =
-        sym there.number_is ∙ ap (λ (n : ℕ). reserved_number (trail_of (Sender n) new.run)) sender_is ∙ ap reserved_number won_trail
+        last_is new s body idle sender_is there ∙ ap reserved_number won_trail
 
   pub well : (r : ReservationValue) (idle : IdleReservationValue) → IsCall s r.trail old new → IsReserved body closes lent r → IsLeftOf r idle → idle.tally.sender ≡ s → IsIdleReservation new r.body idle
       → IsTriedWell old new s body closes idle

@@ -1,17 +1,14 @@
 -- Which way a step goes.
 use Rattle.std.proofs.Common.{◌≡◌, refl, ◌==◌, Bool, true, false, cond, Option, Some, None}
-use Rattle.cmdcodec.specs.declared.raw.Raw.{Raw}
-use Rattle.ringcore.specs.world.Trails.{Run}
-use Rattle.ringcore.specs.world.World.{World, tail, head, world}
+use Rattle.ring.specs.Runs.{Raw, Run, World, tail, head, world}
 use Rattle.engine.specs.declared.answer.StepAnswer.{StepAnswer}
 use Rattle.engine.specs.declared.answer.StepAnswer.TheVariants.{StillStopped}
 use Rattle.engine.specs.declared.stop.Mode.{Mode}
 use Rattle.engine.specs.declared.stop.Mode.TheVariants as mode
 use Rattle.engine.specs.Stops.{IsStopped}
-use Rattle.simulator.specs.queue.Heads.{Head, Empty, Drained, Unwritten, Ready, raw_at_head, ready_with, head_of, found_by, head_taken}
+use Rattle.simulator.specs.queue.{Head, Empty, Drained, Unwritten, Ready, raw_at_head, ready_with, head_of, found_by, head_taken}
 use Rattle.simulator.specs.State.{State, Answered}
-use Rattle.simulator.specs.Seats.{with_run}
-use Rattle.simulator.specs.Steps.{is_stopped, found, going, stepped_in, stepped, unchanged}
+use Rattle.simulator.specs.{with_run, is_stopped, found, going, stepped_in, stepped, unchanged}
 
 in_mode_stopped : (m : Mode) (state : State) → IsStopped m → stepped_in m state ≡ unchanged StillStopped state
 in_mode_stopped mode.Running state is = absurd is

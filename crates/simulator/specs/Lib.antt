@@ -1,3 +1,4 @@
+-- The queue and the caches by their histories: what each call answers, and how things stand after it.
 pub mod Shapes
 pub mod queue
 pub mod Blocks
@@ -6,3 +7,9 @@ pub mod Fills
 pub mod Seats
 pub mod Steps
 pub mod Standing
+pub use Shapes.*
+pub use Blocks.*
+unfoldable pub use Fills.*
+pub use Seats.*
+unfoldable pub use Steps.*
+pub use Standing.*

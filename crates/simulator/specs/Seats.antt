@@ -1,16 +1,10 @@
 -- What a sender does: look, reserve, publish, close and ask.
 use Rattle.std.specs.Prelude.{ℕ, Bool, List, ◌∷◌, ⊤, Option, Result, Ok, Err}
-use Rattle.cmdcodec.specs.declared.raw.Raw.{Raw}
-use Rattle.qindex.specs.declared.control.Control.{Control}
-use Rattle.ringcore.specs.declared.world.event.Who.TheVariants.{Sender}
-use Rattle.ringcore.specs.declared.world.event.Event.TheVariants.{Close, Ask}
-use Rattle.ringcore.specs.world.Trails.{Run}
-use Rattle.ringcore.specs.world.World.{world, control}
+use Rattle.ring.specs.Runs.{Raw, Control, Sender, Close, Ask, Run, world, control}
 use Rattle.ring.specs.declared.sender.cause.Cause.{Cause}
 use Rattle.ring.specs.sender.Reservations.{reserved_number}
 use Rattle.simulator.specs.declared.queue.reserved.Reserved.{Reserved}
-use Rattle.simulator.specs.queue.Reserving.{looked_by, try_to_reserve}
-use Rattle.simulator.specs.queue.Publishing.{published}
+use Rattle.simulator.specs.queue.{looked_by, try_to_reserve, published}
 use Rattle.simulator.specs.State.{State, Answered, mine}
 
 abbrev pub with_run : State → Run → State

@@ -1,13 +1,12 @@
 -- When a simulator stands for a state, and what its calls do.
 use Rattle.std.specs.Prelude.{◌≡◌, ℕ, Bool, Option, Some, None}
-use Rattle.ringcore.specs.declared.world.event.Who.TheVariants.{Sender}
-use Rattle.ringcore.specs.world.Trails.{trail_of}
+use Rattle.ring.specs.Runs.{Sender, trail_of}
 use Rattle.ringcore.specs.machine.Open.{is_open}
 use Rattle.ring.specs.Keepers.{KeeperValue, IdleConsumerValue, IsIdleConsumer, own_consumer}
 use Rattle.engine.specs.declared.answer.StepAnswer.{StepAnswer}
 use Rattle.engine.specs.Units.{UnitValue}
 use Rattle.engine.specs.Engines.{AreTogether}
-use Rattle.simulator.specs.queue.Seated.{QueueValue}
+use Rattle.simulator.specs.queue.{QueueValue}
 use Rattle.simulator.specs.State.{State, Answered, unit_of}
 use Rattle.simulator.specs.Steps.{stepped}
 

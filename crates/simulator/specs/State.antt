@@ -4,12 +4,7 @@ use Rattle.std.specs.FinMap as finite
 use Rattle.cmdcodec.specs.declared.command.Command.{Command}
 use Rattle.cmdcodec.specs.Opcodes.{is_sync}
 use Rattle.qindex.specs.Positions.{index_of}
-use Rattle.ringcore.specs.declared.world.event.Who.TheVariants.{Sender}
-use Rattle.ringcore.specs.declared.world.event.Outcome.{Outcome}
-use Rattle.ringcore.specs.declared.world.event.Outcome.TheVariants.{Applied, Replaced}
-use Rattle.ringcore.specs.world.Trails.{Trail, Run, trail_of}
-use Rattle.ringcore.specs.world.World.{Taken, tail, head, world}
-use Rattle.ringcore.specs.world.Allowed.{Ring}
+use Rattle.ring.specs.Runs.{Sender, Outcome, Applied, Replaced, Trail, Run, trail_of, Taken, tail, head, world, Ring}
 use Rattle.caches.specs.Held.{Entries, History, Fill, Evict, Take, held, without_covered}
 use Rattle.engine.specs.declared.answer.Registers.{Registers}
 use Rattle.engine.specs.Stops.{StopValue, unstopped, err_of, word_of}

@@ -1,11 +1,10 @@
 -- What a step of the unit does, and how a stop is acknowledged.
 use Rattle.std.specs.Prelude.{ℕ, ◌==◌, Bool, true, false, not, ⊤, Result, Ok, Err, if◌then◌else◌}
-use Rattle.cmdcodec.specs.declared.raw.Raw.{Raw}
+use Rattle.ring.specs.Runs.{Raw, world}
 use Rattle.cmdcodec.specs.declared.ill.Ill.{Ill}
 use Rattle.cmdcodec.specs.declared.command.Command.{Command}
 use Rattle.cmdcodec.specs.Words.{decoding}
 use Rattle.ringcore.specs.Limits.{most_reserved}
-use Rattle.ringcore.specs.world.World.{world}
 use Rattle.caches.specs.Held.{Take}
 use Rattle.engine.specs.declared.answer.StepAnswer.{StepAnswer}
 use Rattle.engine.specs.declared.answer.StepAnswer.TheVariants.{Empty, Drained, Unwritten, Applied, Stopped, Replaced, StillStopped, Exhausted}
@@ -16,7 +15,7 @@ use Rattle.engine.specs.declared.remedy.AckFault.{AckFault}
 use Rattle.engine.specs.declared.remedy.AckFault.TheVariants.{NoError, OtherBit}
 use Rattle.engine.specs.Stops.{stopped_at, gone_on, told, command_queue_bit}
 use Rattle.simulator.specs.queue.Heads as head
-use Rattle.simulator.specs.queue.Heads.{Head, head_of, head_taken, completed}
+use Rattle.simulator.specs.queue.{Head, head_of, head_taken, completed}
 use Rattle.simulator.specs.State.{State, Answered, entries, taken_so_far, removed_from}
 use Rattle.simulator.specs.Fills.{with_item}
 

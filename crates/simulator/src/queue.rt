@@ -1,7 +1,6 @@
 //! The command queue on the ring of threads, in one hand: a keeper lends its senders their seats, one call at a time.
 ghost use Rattle.std.specs.Prelude.{◌≡◌, ◌<◌, [], true, false, None, Some, IfOk, IfErr, OnOk, Result};
-ghost use Rattle.ringcore.specs.declared.world.event.Who.TheVariants.{Sender};
-ghost use Rattle.ringcore.specs.world.Trails.{trail_of};
+ghost use Rattle.ring.specs.Runs.{Sender, trail_of};
 ghost use Rattle.ringcore.specs.machine.Open.{is_open};
 ghost use Rattle.ringcore.specs.machine.Faults.{has_sender};
 ghost use Rattle.ringcore.specs.RingFaults.{IsNotMade, number_fault};
@@ -9,9 +8,7 @@ ghost use Rattle.ring.specs.NewRings.{made_with};
 ghost use Rattle.ring.specs.table.Keeping.{RunStands};
 ghost use Rattle.ring.specs.Keepers.{IsIdleConsumer};
 ghost use Rattle.ring.specs.sender.Reservations.{reserved_number};
-ghost use Rattle.simulator.specs.queue.Seated.{ring_in, AreNew, IsIdle, LeavesConsumer};
-ghost use Rattle.simulator.specs.queue.Trying.{tried_by, HasSent};
-ghost use Rattle.simulator.specs.queue.Publishing.{published};
+ghost use Rattle.simulator.specs.queue.{ring_in, AreNew, IsIdle, LeavesConsumer, tried_by, HasSent, published};
 ghost use Rattle.simulator.specs.declared.queue.Seat.TheVariants.{Idle};
 
 mod asking;
@@ -49,7 +46,7 @@ pub(crate) struct Queue {
 }
 
 impl Model for Queue {
-    ghost use Rattle.simulator.specs.queue.Seated.{QueueValue, IsQueue};
+    ghost use Rattle.simulator.specs.queue.{QueueValue, IsQueue};
 
     ghost Value = { QueueValue };
 

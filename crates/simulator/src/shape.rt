@@ -1,6 +1,6 @@
 //! How a ring and its caches are made.
 ghost use Rattle.std.specs.Prelude.{◌≡◌};
-ghost use Rattle.simulator.specs.Shapes.{shape_label};
+ghost use Rattle.simulator.specs.{shape_label};
 
 use ringcore::RingFault;
 use thiserror::Error;

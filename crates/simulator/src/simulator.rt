@@ -4,13 +4,9 @@ ghost use Rattle.std.specs.FinMap as finite;
 ghost use Rattle.ringcore.specs.machine.Open.{is_open};
 ghost use Rattle.ringcore.specs.machine.Faults.{has_sender};
 ghost use Rattle.ring.specs.table.Keeping.{RunStands};
-ghost use Rattle.simulator.specs.Shapes.{shape_fault, IsNotMade};
+ghost use Rattle.simulator.specs.{shape_fault, IsNotMade, filled, evicted, looked, closed, asked, reserved, published_by, sent, stepped, acknowledged, Stands, Does, MayDo, HasOpen, Tells};
 ghost use Rattle.simulator.specs.State.{made, mine, entries, counted, registers_told};
-ghost use Rattle.simulator.specs.Fills.{filled, evicted};
-ghost use Rattle.simulator.specs.Seats.{looked, closed, asked, reserved, published_by, sent};
-ghost use Rattle.simulator.specs.Steps.{stepped, acknowledged};
-ghost use Rattle.simulator.specs.queue.Seated.{ring_in};
-ghost use Rattle.simulator.specs.Standing.{Stands, Does, MayDo, HasOpen, Tells};
+ghost use Rattle.simulator.specs.queue.{ring_in};
 
 use crate::queue::{Queue, Reserved};
 use crate::shape::{Shape, ShapeFault};
@@ -35,7 +31,7 @@ pub struct Simulator {
 impl Model for Simulator {
     ghost use Rattle.std.specs.Coded.{codes};
     ghost use Rattle.caches.specs.Stored.{stored_code};
-    ghost use Rattle.simulator.specs.Standing.{SimulatorValue, IsSimulator};
+    ghost use Rattle.simulator.specs.{SimulatorValue, IsSimulator};
 
     ghost Value = { SimulatorValue };
 

@@ -1,26 +1,24 @@
--- The closing syncs of a run that was taken are acknowledged one after another.
+-- The closing syncs of a run that was taken are acknowledged one after another, and what a completion leaves.
 use Rattle.std.proofs.Common.{◌≡◌, ℕ, suc, ◌+◌, ◌*◌, ◌<◌, ◌≤◌, Bool, true, false, cond, ◌==◌, ◌&&◌, List, [], ◌∷◌, ◌++◌, take, Some, refl, sym, ap, ◌∙◌, subst, append_assoc, eq-eqb, eqb-true, arith}
+use Rattle.std.proofs.Common.{length, map, ap₂}
 use Rattle.std.specs.Prelude.{slice_get}
-use Rattle.cmdcodec.specs.declared.raw.Raw.{Raw}
+use Rattle.std.proofs.lemmas.Bool.{cond_both}
+use Rattle.std.proofs.lemmas.List.{map-append}
+use Rattle.ring.specs.Runs.{Raw, Acknowledge, Advance, Trail, raws_by, acknowledged_by, taken_by, is_sync_to, syncs_in, syncs_taken, SyncsAreInOrder, IsNextSync, SyncsAddUp, SyncsTellTheirBatch}
+use Rattle.ring.specs.Runs.{SyncsOfRawsAreCounted, Outcome, Taken, taken_as}
 use Rattle.cmdcodec.specs.Opcodes.{is_sync}
 use Rattle.cmdcodec.specs.ClosingSync.{cell_address}
-use Rattle.ringcore.specs.declared.world.event.Event.TheVariants.{Acknowledge}
-use Rattle.ringcore.specs.world.Trails.{Trail, raws_by, acknowledged_by}
-use Rattle.ringcore.specs.world.Laws.{is_sync_to, syncs_in, syncs_taken, SyncsAreInOrder, IsNextSync, SyncsAddUp, SyncsTellTheirBatch}
-use Rattle.ringcore.specs.world.ConsumerLaws.{SyncsOfRawsAreCounted}
-use Rattle.ring.specs.table.Ports.{PortValue}
-use Rattle.ring.specs.consumer.Completing.{sync_sender, sync_number, acknowledged, all_acknowledged, without_newest, HasAdvanced, IsClosingSync}
-use Rattle.ring.proofs.ConsumerLemmas.Runs.{take_more, split_at}
+use Rattle.qindex.specs.Positions.{IndexValue, index_of}
+use Rattle.ring.specs.table.{PortValue}
+use Rattle.ring.specs.consumer.{sync_sender, sync_number, acknowledged, all_acknowledged, without_newest, HasAdvanced, IsClosingSync, completed_trail, taken_of, with_outcome, HasOutcome, IsConsumer}
+use Rattle.ring.proofs.Lists.{take_more, split_at}
 
 -- ---- acknowledgements change nothing else
 
 pub acknowledged_keep : {X : Type 0} (f : Trail → X) → ((s n : ℕ) (t : Trail) → f (Acknowledge s n ∷ t) ≡ f t) → (raws : List Raw) (t : Trail) → f (all_acknowledged raws t) ≡ f t
 acknowledged_keep f same [] t = refl
-acknowledged_keep f same (raw ∷ raws) t = acknowledged_keep f same raws (acknowledged raw t) ∙ by_kind (is_sync raw)
-  where
-    by_kind : (b : Bool) → f (cond b (Acknowledge (sync_sender raw) (sync_number raw) ∷ t) t) ≡ f t
-    by_kind true = same (sync_sender raw) (sync_number raw) t
-    by_kind false = refl
+acknowledged_keep f same (raw ∷ raws) t = acknowledged_keep f same raws (acknowledged raw t)
+    ∙ cond_both (is_sync raw) (Acknowledge (sync_sender raw) (sync_number raw) ∷ t) t (λ u. f u ≡ f t) (λ _. same (sync_sender raw) (sync_number raw) t) (λ _. refl)
 
 acknowledged_snoc : (raws : List Raw) (raw : Raw) (t : Trail) → all_acknowledged (raws ++ raw ∷ []) t ≡ acknowledged raw (all_acknowledged raws t)
 acknowledged_snoc [] raw t = refl
@@ -28,14 +26,17 @@ acknowledged_snoc (r ∷ rs) raw t = acknowledged_snoc rs raw (acknowledged r t)
 
 -- ---- one of them: those ahead of it are acknowledged, and those behind aren't
 
+-- it is a closing sync, the next of its sender, which the trail took
+pub record IsDue (senders : ℕ) (now : Trail) (raw : Raw) : Type 0 where
+  pub closing : IsClosingSync raw
+  pub known : sync_sender raw < senders
+  pub next : sync_number raw ≡ suc (acknowledged_by (sync_sender raw) now)
+  pub taken : sync_number raw ≤ syncs_taken (sync_sender raw) now
+
 module _ (add_up : SyncsAddUp) (by_raws : SyncsOfRawsAreCounted) (words : SyncsTellTheirBatch) (senders : ℕ) (few : senders ≤ 256) (before : Trail)
     (ahead behind : List Raw) (raw : Raw) (now : Trail) (acks : (s : ℕ) → acknowledged_by s now ≡ syncs_taken s before + syncs_in s ahead) where
   one_more : (s : ℕ) → syncs_in s (ahead ++ raw ∷ []) ≡ syncs_in s ahead + cond {A = ℕ} (is_sync_to s raw) 1 0
-  one_more s = add_up s ahead (raw ∷ []) ∙ by_kind (is_sync_to s raw)
-    where
-      by_kind : (b : Bool) → syncs_in s ahead + cond {A = ℕ} b (suc 0) 0 ≡ syncs_in s ahead + cond {A = ℕ} b 1 0
-      by_kind true = refl
-      by_kind false = refl
+  one_more s = add_up s ahead (raw ∷ [])
 
   pub passed : is_sync raw ≡ false → (s : ℕ) → acknowledged_by s now ≡ syncs_taken s before + syncs_in s (ahead ++ raw ∷ [])
   passed other s =
@@ -50,9 +51,6 @@ module _ (add_up : SyncsAddUp) (by_raws : SyncsOfRawsAreCounted) (words : SyncsT
     hi_is : raw.hi ≡ cell_address its.sender
     hi_is = ap (λ (r : Raw). r.hi) its.raw_is ∙ (words its.sender its.number).cell
 
-    pub closing : IsClosingSync raw
-    closing = record { sender = its.sender; few = (let k = its.known in omega (arith, k, few)); address = hi_is }
-
     sender_is : sync_sender raw ≡ its.sender
     sender_is = let h : raw.hi ≡ 0x40000000 + 4 * its.sender = hi_is in let x : ℕ = raw.hi in omega (arith, h)
 
@@ -65,19 +63,17 @@ module _ (add_up : SyncsAddUp) (by_raws : SyncsOfRawsAreCounted) (words : SyncsT
     counted : its.number ≡ suc (syncs_taken its.sender before + syncs_in its.sender ahead)
     counted = its.next ∙ ap suc (add_up its.sender (raws_by before) ahead ∙ ap (λ (n : ℕ). n + syncs_in its.sender ahead) (by_raws its.sender before))
 
-    pub known : sync_sender raw < senders
-    known = subst (λ (s : ℕ). s < senders) (sym sender_is) its.known
-
-    pub next : sync_number raw ≡ suc (acknowledged_by (sync_sender raw) now)
-    next = number_is ∙ counted ∙ ap suc (sym (acks its.sender) ∙ ap (λ (s : ℕ). acknowledged_by s now) (sym sender_is))
-
-    pub taken : ((s : ℕ) → syncs_taken s now ≡ syncs_taken s before + syncs_in s (ahead ++ raw ∷ behind)) → sync_number raw ≤ syncs_taken (sync_sender raw) now
-    taken whole =
+    pub due : ((s : ℕ) → syncs_taken s now ≡ syncs_taken s before + syncs_in s (ahead ++ raw ∷ behind)) → IsDue senders now raw
+    due whole =
         let s : ℕ = its.sender in
         let all : syncs_in s (ahead ++ raw ∷ behind) ≡ syncs_in s ahead + syncs_in s (raw ∷ behind) = add_up s ahead (raw ∷ behind) in
         let one : syncs_in s (raw ∷ behind) ≡ suc (syncs_in s behind) = ap (λ (b : Bool). cond {A = ℕ} b (suc (syncs_in s behind)) (syncs_in s behind)) (to s ∙ eq-eqb s s refl) in
-        let n = counted in let w = whole s in
-        subst (λ (t : ℕ × ℕ). t.0 ≤ syncs_taken t.1 now) (λ k. (sym number_is k, sym sender_is k)) (omega (arith, n, w, all, one))
+        let n = counted in let w = whole s in record {
+          closing = record { sender = s; few = (let k = its.known in omega (arith, k, few)); address = hi_is };
+          known = subst (λ (u : ℕ). u < senders) (sym sender_is) its.known;
+          next = number_is ∙ counted ∙ ap suc (sym (acks s) ∙ ap (λ (u : ℕ). acknowledged_by u now) (sym sender_is));
+          taken = subst (λ (t : ℕ × ℕ). t.0 ≤ syncs_taken t.1 now) (λ k. (sym number_is k, sym sender_is k)) (omega (arith, n, w, all, one));
+        }
 
     pub grown : (s : ℕ) → acknowledged_by s (Acknowledge (sync_sender raw) (sync_number raw) ∷ now) ≡ syncs_taken s before + syncs_in s (ahead ++ raw ∷ [])
     grown s = ap (λ (t : ℕ × ℕ). acknowledged_by s (Acknowledge t.0 t.1 ∷ now)) (λ k. (sender_is k, number_is k)) ∙ by_sender (s == its.sender) refl (to s)
@@ -94,66 +90,84 @@ module _ (add_up : SyncsAddUp) (by_raws : SyncsOfRawsAreCounted) (words : SyncsT
 
 -- ---- as the loop has it
 
-module _ (old : PortValue) (raws : List Raw) (n : ℕ) (advanced : HasAdvanced old.trail (take n raws)) where
-  abbrev before : Trail
-  before = without_newest old.trail
-
-  abbrev pub After : PortValue → ℕ → Type 0
+module _ (old : PortValue) (raws : List Raw) where
+  abbrev After : PortValue → ℕ → Type 0
   After now i = record now { history = [] } ≡ record old { trail = all_acknowledged (take i raws) old.trail; history = [] }
 
-  abbrev pub Soon : PortValue → ℕ → Type 0
-  Soon now i = (s : ℕ) → acknowledged_by s now.trail ≡ syncs_taken s before + syncs_in s (take i raws)
+  abbrev Soon : PortValue → ℕ → Type 0
+  Soon now i = (s : ℕ) → acknowledged_by s now.trail ≡ syncs_taken s (without_newest old.trail) + syncs_in s (take i raws)
 
-  whole : (now : PortValue) (i : ℕ) → After now i → (s : ℕ) → syncs_taken s now.trail ≡ syncs_taken s before + syncs_in s (take n raws)
+-- one command of the loop: what acknowledges it needs, and what stays so
+pub record IsTurn (old : PortValue) (raws : List Raw) (senders : ℕ) (now : PortValue) (i : ℕ) (raw : Raw) : Type 0 where
+  pub due : is_sync raw ≡ true → IsDue senders now.trail raw
+  pub then_after : is_sync raw ≡ true → (new : PortValue) → record new { history = [] } ≡ record now { trail = Acknowledge (sync_sender raw) (sync_number raw) ∷ now.trail; history = [] } → After old raws new (i + 1) × Soon old raws new (i + 1)
+  pub else_after : is_sync raw ≡ false → (new : PortValue) → new ≡ now → After old raws new (i + 1) × Soon old raws new (i + 1)
+
+module _ (old : PortValue) (raws : List Raw) (n : ℕ) (advanced : HasAdvanced old.trail (take n raws)) where
+  abbrev start : Trail
+  start = without_newest old.trail
+
+  whole : (now : PortValue) (i : ℕ) → After old raws now i → (s : ℕ) → syncs_taken s now.trail ≡ syncs_taken s start + syncs_in s (take n raws)
   whole now i after s =
       ap (λ (p : PortValue). syncs_taken s p.trail) after ∙ acknowledged_keep (syncs_taken s) (λ u k t. refl) (take i raws) old.trail ∙ ap (syncs_taken s) advanced.trail_is
 
-  pub begins : Soon old 0
-  begins s = ap (acknowledged_by s) advanced.trail_is ∙ advanced.current s ∙ (let e : syncs_taken s before ≡ syncs_taken s before + 0 = omega arith in e)
-
-  pub all_are : (now : PortValue) (i : ℕ) → i ≡ n → After now i → Soon now i → (s : ℕ) → acknowledged_by s now.trail ≡ syncs_taken s now.trail
-  all_are now i end after acks s = acks s ∙ ap (λ (k : ℕ). syncs_taken s before + syncs_in s (take k raws)) end ∙ sym (whole now i after s)
-
-  next_after : (now new : PortValue) (i : ℕ) (raw : Raw) → slice_get raws i ≡ Some raw → After now i → record new { history = [] } ≡ record now { trail = acknowledged raw now.trail; history = [] } → After new (i + 1)
-  next_after now new i raw at after is =
-      is ∙ ap (λ (p : PortValue). let q : PortValue = record p { trail = acknowledged raw p.trail } in q) after
-      ∙ ap (λ (t : Trail). let q : PortValue = record old { trail = t; history = [] } in q) (sym (ap (λ (l : List Raw). all_acknowledged l old.trail) (take_more raws i raw at) ∙ acknowledged_snoc (take i raws) raw old.trail))
-
-  soon_after : (new : PortValue) (i : ℕ) (raw : Raw) → slice_get raws i ≡ Some raw → ((s : ℕ) → acknowledged_by s new.trail ≡ syncs_taken s before + syncs_in s (take i raws ++ raw ∷ [])) → Soon new (i + 1)
-  soon_after new i raw at sums s = sums s ∙ ap (λ (l : List Raw). syncs_taken s before + syncs_in s l) (sym (take_more raws i raw at))
+  pub all_are : (now : PortValue) (i : ℕ) → i ≡ n → After old raws now i → Soon old raws now i → (s : ℕ) → acknowledged_by s now.trail ≡ syncs_taken s now.trail
+  all_are now i end after acks s = acks s ∙ ap (λ (k : ℕ). syncs_taken s start + syncs_in s (take k raws)) end ∙ sym (whole now i after s)
 
   module _ (add_up : SyncsAddUp) (by_raws : SyncsOfRawsAreCounted) (words : SyncsTellTheirBatch) (senders : ℕ) (few : senders ≤ 256) (order : SyncsAreInOrder senders (raws_by old.trail))
-      (now : PortValue) (i : ℕ) (raw : Raw) (low : i < n) (at : slice_get raws i ≡ Some raw) (after : After now i) (acks : Soon now i) where
+      (now : PortValue) (i : ℕ) (raw : Raw) (low : i < n) (at : slice_get raws i ≡ Some raw) (after : After old raws now i) (acks : Soon old raws now i) where
     abbrev behind : List Raw
     behind = (split_at raws i n raw low at).0
 
     split : take n raws ≡ take i raws ++ raw ∷ behind
     split = (split_at raws i n raw low at).1
 
-    ordered : SyncsAreInOrder senders (raws_by before ++ (take i raws ++ raw ∷ behind))
-    ordered = subst (SyncsAreInOrder senders) (ap raws_by advanced.trail_is ∙ ap (λ (l : List Raw). raws_by before ++ l) split) order
+    ordered : SyncsAreInOrder senders (raws_by start ++ (take i raws ++ raw ∷ behind))
+    ordered = subst (SyncsAreInOrder senders) (ap raws_by advanced.trail_is ∙ ap (λ (l : List Raw). raws_by start ++ l) split) order
 
-    pub is_closing : is_sync raw ≡ true → IsClosingSync raw
-    is_closing = closing add_up by_raws words senders few before (take i raws) behind raw now.trail acks ordered
-
-    pub is_known : is_sync raw ≡ true → sync_sender raw < senders
-    is_known = known add_up by_raws words senders few before (take i raws) behind raw now.trail acks ordered
-
-    pub is_next : is_sync raw ≡ true → sync_number raw ≡ suc (acknowledged_by (sync_sender raw) now.trail)
-    is_next = next add_up by_raws words senders few before (take i raws) behind raw now.trail acks ordered
-
-    pub is_taken : is_sync raw ≡ true → sync_number raw ≤ syncs_taken (sync_sender raw) now.trail
-    is_taken sync = taken add_up by_raws words senders few before (take i raws) behind raw now.trail acks ordered sync
-        (λ s. whole now i after s ∙ ap (λ (l : List Raw). syncs_taken s before + syncs_in s l) split)
-
-    pub then_after : is_sync raw ≡ true → (new : PortValue) → record new { history = [] } ≡ record now { trail = Acknowledge (sync_sender raw) (sync_number raw) ∷ now.trail; history = [] } → After new (i + 1) × Soon new (i + 1)
-    then_after sync new is = (
-      next_after now new i raw at after (is ∙ ap (λ (b : Bool). let q : PortValue = record now { trail = cond b (Acknowledge (sync_sender raw) (sync_number raw) ∷ now.trail) now.trail; history = [] } in q) (sym sync)),
-      soon_after new i raw at (λ s. ap (λ (p : PortValue). acknowledged_by s p.trail) is ∙ grown add_up by_raws words senders few before (take i raws) behind raw now.trail acks ordered sync s),
+    goes_on : (new : PortValue) → record new { history = [] } ≡ record now { trail = acknowledged raw now.trail; history = [] }
+        → ((s : ℕ) → acknowledged_by s new.trail ≡ syncs_taken s start + syncs_in s (take i raws ++ raw ∷ [])) → After old raws new (i + 1) × Soon old raws new (i + 1)
+    goes_on new is sums = (
+      is ∙ ap (λ (p : PortValue). let q : PortValue = record p { trail = acknowledged raw p.trail } in q) after
+          ∙ ap (λ (t : Trail). let q : PortValue = record old { trail = t; history = [] } in q) (sym (ap (λ (l : List Raw). all_acknowledged l old.trail) (take_more raws i raw at) ∙ acknowledged_snoc (take i raws) raw old.trail)),
+      λ s. sums s ∙ ap (λ (l : List Raw). syncs_taken s start + syncs_in s l) (sym (take_more raws i raw at)),
     )
 
-    pub else_after : is_sync raw ≡ false → (new : PortValue) → new ≡ now → After new (i + 1) × Soon new (i + 1)
-    else_after other new is = (
-      next_after now new i raw at after (ap (λ (p : PortValue). let q : PortValue = record p { history = [] } in q) is ∙ ap (λ (b : Bool). let q : PortValue = record now { trail = cond b (Acknowledge (sync_sender raw) (sync_number raw) ∷ now.trail) now.trail; history = [] } in q) (sym other)),
-      soon_after new i raw at (λ s. ap (λ (p : PortValue). acknowledged_by s p.trail) is ∙ passed add_up by_raws words senders few before (take i raws) behind raw now.trail acks other s),
-    )
+    by_kind : (b : Bool) → is_sync raw ≡ b → ◌≡◌ {A = PortValue} (record now { trail = cond b (Acknowledge (sync_sender raw) (sync_number raw) ∷ now.trail) now.trail; history = [] }) (record now { trail = acknowledged raw now.trail; history = [] })
+    by_kind b is = ap (λ (v : Bool). let q : PortValue = record now { trail = cond v (Acknowledge (sync_sender raw) (sync_number raw) ∷ now.trail) now.trail; history = [] } in q) (sym is)
+
+    pub turn : IsTurn old raws senders now i raw
+    turn = record {
+      due = λ sync. due add_up by_raws words senders few start (take i raws) behind raw now.trail acks ordered sync (λ s. whole now i after s ∙ ap (λ (l : List Raw). syncs_taken s start + syncs_in s l) split);
+      then_after = λ sync new is. goes_on new (is ∙ by_kind true sync)
+          (λ s. ap (λ (p : PortValue). acknowledged_by s p.trail) is ∙ grown add_up by_raws words senders few start (take i raws) behind raw now.trail acks ordered sync s);
+      else_after = λ other new is. goes_on new (ap (λ (p : PortValue). let q : PortValue = record p { history = [] } in q) is ∙ by_kind false other)
+          (λ s. ap (λ (p : PortValue). acknowledged_by s p.trail) is ∙ passed add_up by_raws words senders few start (take i raws) behind raw now.trail acks other s);
+    }
+
+-- ---- what a completion leaves
+
+-- The taken list grows by these, with this outcome.
+with_outcomes : (outcome : Outcome) (raws : List Raw) → HasOutcome outcome raws → map taken_as raws ≡ map (with_outcome outcome) raws
+with_outcomes outcome [] is = refl
+with_outcomes outcome (raw ∷ raws) is =
+    ap₂ (λ (x : Taken) (l : List Taken). x ∷ l) (ap (λ (o : Outcome). with_outcome o raw) (sym (is 0 raw refl))) (with_outcomes outcome raws (λ i other at. is (suc i) other at))
+
+pub taken_after : (t : Trail) (raws : List Raw) (outcome : Outcome) → HasOutcome outcome raws → taken_of (completed_trail raws t) ≡ taken_of t ++ map (with_outcome outcome) raws
+taken_after t raws outcome is =
+    ap (map taken_as) (acknowledged_keep raws_by (λ s n u. refl) raws (Advance raws ∷ t)) ∙ map-append taken_as (raws_by t) raws
+    ∙ ap (λ (l : List Taken). taken_of t ++ l) (with_outcomes outcome raws is)
+
+pub is_consumer : (old passed new : PortValue) (head further : IndexValue) (taken many : ℕ) (raws : List Raw) → IsConsumer old head taken
+    → record passed { history = [] } ≡ record old { trail = Advance raws ∷ old.trail; history = [] } → (trail : Trail) → trail ≡ completed_trail raws old.trail → record new { history = [] } ≡ record old { trail = trail; history = [] }
+    → length raws ≡ many → further ≡ index_of old.ring.made_with.geometry (taken + many)
+    → ((s : ℕ) → acknowledged_by s new.trail ≡ syncs_taken s new.trail) → IsConsumer new further (taken + many)
+is_consumer old passed new head further taken many raws is passed_is trail trail_is new_is long further_is current = record {
+  who_is = ap (λ (p : PortValue). p.who) new_is ∙ is.who_is;
+  head_is = further_is ∙ ap (λ (p : PortValue). index_of p.ring.made_with.geometry (taken + many)) (sym new_is);
+  taken_is =
+      let counted : taken_by new.trail ≡ taken_by old.trail + length raws =
+      ap (λ (p : PortValue). taken_by p.trail) new_is ∙ ap taken_by trail_is ∙ acknowledged_keep taken_by (λ s n u. refl) raws (Advance raws ∷ old.trail) in
+      let before = is.taken_is in omega (arith, counted, before, long);
+  current = current;
+}

@@ -1,18 +1,12 @@
 -- Reads of a run, one command after another, and what is found again.
-use Rattle.std.proofs.Common.{◌≡◌, ◌≢◌, ◌<◌, ◌≤◌, ◌+◌, ℕ, zero, suc, Bool, true, cond, ◌&&◌, List, [], ◌∷◌, ◌++◌, length, length-append, Some, refl, sym, ap, subst, ◌∙◌, inl, inr, eq-eqb, ne_eqb, arith}
+use Rattle.std.proofs.Common.{◌≡◌, ◌≢◌, ◌<◌, ◌≤◌, ◌+◌, ℕ, suc, Bool, true, cond, ◌&&◌, List, [], ◌∷◌, ◌++◌, length, length-append, Some, refl, sym, ap, subst, ◌∙◌, inl, inr, eq-eqb, ne_eqb, arith}
 use Rattle.std.proofs.lemmas.Bool.{cases_eq}
-use Rattle.std.proofs.lemmas.Option.{slice_get_within}
+use Rattle.std.proofs.lemmas.Option.{slice_get_within, same_Some}
+use Rattle.ring.proofs.Lists.{at_end, in_front}
 use Rattle.std.specs.Prelude.{slice_get}
-use Rattle.cmdcodec.specs.declared.raw.Raw.{Raw}
-use Rattle.ringcore.specs.declared.world.event.Half.{Half}
-use Rattle.ringcore.specs.declared.world.event.Half.TheVariants.{Lo, Hi}
-use Rattle.ringcore.specs.declared.world.event.Event.TheVariants.{Look, Test, Read}
-use Rattle.ringcore.specs.world.Trails.{Trail, half_read, same_half, head_read}
-use Rattle.ringcore.specs.world.World.{half_of}
-use Rattle.ringcore.specs.world.ConsumerLaws.{IsSteady}
-use Rattle.ring.specs.consumer.Pendings.{HasSeen, reads_from}
-use Rattle.ring.specs.table.Ports.{PortValue}
-use Rattle.qindex.specs.declared.control.Control.{Control}
+use Rattle.ring.specs.Runs.{Raw, Half, Lo, Hi, Look, Test, Read, Trail, half_read, same_half, head_read, half_of, IsSteady, Control}
+use Rattle.ring.specs.consumer.{HasSeen, reads_from}
+use Rattle.ring.specs.table.{PortValue}
 
 -- ---- what was read at the head is found again
 
@@ -31,16 +25,6 @@ read_again lo hi limit found c t raw s seen =
 
 -- ---- a run of reads
 
--- an element of a longer list, by its place
-get_behind : {A : Type 0} (xs ys : List A) (i : ℕ) → slice_get (xs ++ ys) (length xs + i) ≡ slice_get ys i
-get_behind [] ys i = ap (slice_get ys) (let e : 0 + i ≡ i = omega arith in e)
-get_behind (x ∷ xs) ys i = ap (slice_get (x ∷ (xs ++ ys))) (let e : length (x ∷ xs) + i ≡ suc (length xs + i) = omega arith in e) ∙ get_behind xs ys i
-
-get_shorter : {A : Type 0} (xs ys : List A) (i : ℕ) → i < length xs → slice_get (xs ++ ys) i ≡ slice_get xs i
-get_shorter [] ys i low = absurd (omega (arith, low))
-get_shorter (x ∷ xs) ys zero low = refl
-get_shorter (x ∷ xs) ys (suc i) low = get_shorter xs ys i (omega (arith, low))
-
 pub reads_snoc : (o : ℕ) (rs : List Raw) (r : Raw) (t : Trail) → reads_from o (rs ++ r ∷ []) t ≡ Read (o + length rs) Hi r.hi ∷ Read (o + length rs) Lo r.lo ∷ reads_from o rs t
 reads_snoc o [] r t = let e : o ≡ o + 0 = omega arith in ap (λ (n : ℕ). let u : Trail = Read n Hi r.hi ∷ Read n Lo r.lo ∷ t in u) e
 reads_snoc o (x ∷ xs) r t =
@@ -50,20 +34,15 @@ reads_snoc o (x ∷ xs) r t =
 
 head_after : (o : ℕ) (rs : List Raw) (t : Trail) (half : Half) → head_read half (reads_from (suc o) rs t) ≡ head_read half t
 head_after o [] t half = refl
-head_after o (x ∷ xs) t half = head_after (suc o) xs (Read (suc o) Hi x.hi ∷ Read (suc o) Lo x.lo ∷ t) half ∙ skips
-  where
-    skips : head_read half (Read (suc o) Hi x.hi ∷ Read (suc o) Lo x.lo ∷ t) ≡ head_read half t
-    skips = ap (λ (b : Bool). cond (b && same_half half Hi) (Some x.hi) (cond (b && same_half half Lo) (Some x.lo) (head_read half t))) (ne_eqb (suc o) 0 (λ e. absurd (omega (arith, e))))
+head_after o (x ∷ xs) t half = head_after (suc o) xs (Read (suc o) Hi x.hi ∷ Read (suc o) Lo x.lo ∷ t) half
+    ∙ ap (λ (b : Bool). cond (b && same_half half Hi) (Some x.hi) (cond (b && same_half half Lo) (Some x.lo) (head_read half t))) (ne_eqb (suc o) 0 (λ e. absurd (omega (arith, e))))
 
 pub seen_first : (t : Trail) (rs : List Raw) (raw : Raw) (rest : List Raw) → rs ≡ raw ∷ rest → HasSeen (reads_from 0 rs t) raw
-seen_first t rs raw rest is = subst (λ (l : List Raw). HasSeen (reads_from 0 l t) raw) (sym is) seen
+seen_first t rs raw rest is = subst (λ (l : List Raw). HasSeen (reads_from 0 l t) raw) (sym is) (λ half. head_after 0 rest (Read 0 Hi raw.hi ∷ Read 0 Lo raw.lo ∷ t) half ∙ here half)
   where
     here : (half : Half) → head_read half (Read 0 Hi raw.hi ∷ Read 0 Lo raw.lo ∷ t) ≡ Some (half_of half raw)
     here Lo = refl
     here Hi = refl
-
-    seen : HasSeen (reads_from 0 (raw ∷ rest) t) raw
-    seen half = head_after 0 rest (Read 0 Hi raw.hi ∷ Read 0 Lo raw.lo ∷ t) half ∙ here half
 
 pub steady_before : (o : ℕ) (rs : List Raw) (t : Trail) → IsSteady (reads_from o rs t) → IsSteady t
 steady_before o [] t s = s
@@ -84,8 +63,7 @@ module _ (lo hi : ℕ) where
       → half_read k half (Read i Hi hi ∷ Read i Lo lo ∷ t) ≡ Some (half_of half raw)
   read_more xs i t long before k raw half at = elim (cases_eq k i) [
     | inl same ↦
-        let place : k ≡ length xs + 0 = omega (arith, same, long) in
-        let is : one ≡ raw = (let e : Some one ≡ Some raw = sym (get_behind xs (one ∷ []) 0) ∙ ap (slice_get (xs ++ one ∷ [])) (sym place) ∙ at in cc) in
+        let is : one ≡ raw = same_Some one raw (sym (at_end xs one []) ∙ ap (slice_get (xs ++ one ∷ [])) (long ∙ sym same) ∙ at) in
         ap (λ (b : Bool). cond (b && same_half half Hi) (Some hi) (cond (b && same_half half Lo) (Some lo) (half_read k half t))) (eq-eqb k i same)
         ∙ now t k half ∙ ap (λ (r : Raw). Some (half_of half r)) is
     | inr other ↦
@@ -93,7 +71,7 @@ module _ (lo hi : ℕ) where
         let many = length-append xs (one ∷ []) in
         let low : k < length xs = omega (arith, within, many, other, long) in
         ap (λ (b : Bool). cond (b && same_half half Hi) (Some hi) (cond (b && same_half half Lo) (Some lo) (half_read k half t))) (ne_eqb k i other)
-        ∙ before k raw half (sym (get_shorter xs (one ∷ []) k low) ∙ at)
+        ∙ before k raw half (sym (in_front xs (one ∷ []) k low) ∙ at)
   ]
 
   pub run_more : (d s s1 s2 : PortValue) (xs ys : List Raw) (i : ℕ) → length xs ≡ i → record s { history = [] } ≡ record d { trail = reads_from 0 xs d.trail; history = [] }

@@ -2,29 +2,22 @@
 use Rattle.std.proofs.Common.{◌≡◌, ℕ, zero, suc, ◌+◌, ◌-◌, ◌<◌, List, [], ◌∷◌, ◌++◌, append-nil, map, length, length-append, Option, Some, None, refl, sym, ap, ◌∙◌, subst, append_assoc, arith}
 use Rattle.std.specs.Prelude.{slice_get, slice_index, SomeIff}
 use Rattle.std.specs.Option.{IsSome}
+use Rattle.std.proofs.lemmas.List.{nil_from_length}
 use mathlib.Core.Option.{some, some-injective, some-ne-none}
 use lib.ListN.{get_elem?}
-use Rattle.atomic_table.specs.Table.{Final, Seen}
-use Rattle.cmdcodec.specs.declared.raw.Raw.{Raw}
-use Rattle.qindex.specs.declared.control.Control.{Control}
+use Rattle.ring.specs.table.{Final, Seen, Participant, participant, WentOn, IsIn, HasTrails, RuleHolds}
+use Rattle.ring.specs.Runs.{Raw, Control, Consumer, Sender, Run, trail_of, raws_by, taken_by, tail, head, world, control, Ring, IsRun, Begins, TakenInOrder, NumberedInOrder, NoneAfterClose}
+use Rattle.ring.specs.Runs.{ToldWhenCompleted, batches, joined, advanced, EveryRun, NeverMoreThanFull, ToldOfAllUpTo, AllOfBatches, ClosedByAClose, BatchesHaveOwners, SendersOrderIsKept, own_batches}
+use Rattle.ring.specs.Runs.{TellsTheHead, TellsWhatIsAdvanced, TellsTheOutcomes, RawsAreCounted, SawDrained, DrainedIsTheEnd}
 use Rattle.qindex.specs.Indexes.{distance}
 use Rattle.qindex.specs.ControlWord.{IsControl, IsControlWord, control_in}
 use Rattle.qindex.specs.Laws.{QueuesHaveAControl, IndexesTellTheQueue, WordsSayTheirControl}
-use Rattle.ringcore.specs.declared.world.event.Who.TheVariants.{Consumer, Sender}
-use Rattle.ringcore.specs.world.Trails.{Run, trail_of, raws_by, taken_by}
-use Rattle.ringcore.specs.world.World.{tail, head, world, control}
-use Rattle.ringcore.specs.world.Allowed.{Ring, IsRun}
-use Rattle.ringcore.specs.world.Delivery.{Begins, TakenInOrder, NumberedInOrder, NoneAfterClose, ToldWhenCompleted, batches, joined, advanced}
-use Rattle.ringcore.specs.world.Laws.{EveryRun, NeverMoreThanFull, ToldOfAllUpTo, AllOfBatches, ClosedByAClose, BatchesHaveOwners, SendersOrderIsKept, own_batches}
-use Rattle.ringcore.specs.world.ConsumerLaws.{TellsTheHead, TellsWhatIsAdvanced, TellsTheOutcomes, RawsAreCounted, SawDrained, DrainedIsTheEnd}
 use Rattle.ringcore.specs.memory.StepLaws.{Always, HasAControlWord}
-use Rattle.ring.specs.declared.table.rule.Participant.{Participant}
 use Rattle.ring.specs.Rings.{RingValue}
-use Rattle.ring.specs.table.Rule.{participant, WentOn, IsIn, HasTrails, RuleHolds}
-use Rattle.ring.specs.sender.Senders.{SenderValue}
-use Rattle.ring.specs.consumer.Consumers.{ConsumerValue}
-use Rattle.ring.specs.consumer.Completing.{taken_of}
+use Rattle.ring.specs.sender.{SenderValue}
+use Rattle.ring.specs.consumer.{ConsumerValue, taken_of}
 use Rattle.ring.specs.Finishing.{AreAll, sender_in, all_in, IsRunOf, IsEnd}
+use Rattle.ring.proofs.Lists.{at_end}
 use Rattle.ring.proofs.FinishLemmas.Told.{was_told}
 
 pub is_there : {A : Type 0} (o : Option A) (P : Type 0) (v : A) → SomeIff o P v → P → IsSome o
@@ -37,25 +30,14 @@ that_there (Some y) P v x iff e = (let same : y ≡ x = cc in sym same) ∙ iff.
 
 -- a beginning that is as long is the whole
 beginning_is_whole : {A : Type 0} (xs ys : List A) → Begins xs ys → length xs ≡ length ys → xs ≡ ys
-beginning_is_whole {A = A} xs ys (rest, is) same = by_rest rest is
-  where
-    by_rest : (rest : List A) → ys ≡ xs ++ rest → xs ≡ ys
-    by_rest [] is = sym (append-nil xs) ∙ sym is
-    by_rest (z ∷ zs) is = let more : length ys ≡ length xs + length (z ∷ zs) = ap length is ∙ length-append xs (z ∷ zs) in absurd (omega (arith, more, same))
+beginning_is_whole xs ys (rest, is) same =
+    let none : rest ≡ [] = nil_from_length rest (omega (arith, same, ap length is ∙ length-append xs rest)) in sym (is ∙ ap (λ l. xs ++ l) none ∙ append-nil xs)
 
 -- ---- the seats, one after the other
 
 pub last_ring : (ring : RingValue) (all items new done : List SenderValue) (s : SenderValue) → AreAll ring all → all ≡ items ++ done → items ≡ new ++ s ∷ [] → s.ring ≡ ring
 last_ring ring all items new done s ok whole last =
-    (ok.each (length new) s (ap (λ (l : List SenderValue). slice_get l (length new)) (whole ∙ ap (λ (l : List SenderValue). l ++ done) last ∙ append_assoc new (s ∷ []) done) ∙ behind new)).0
-  where
-    behind : (xs : List SenderValue) → slice_get (xs ++ s ∷ done) (length xs) ≡ Some s
-    behind [] = refl
-    behind (x ∷ xs) = behind xs
-
-pub empty : {A : Type 0} (xs : List A) → length xs ≡ 0 → xs ≡ []
-empty [] h = refl
-empty (x ∷ xs) h = absurd (omega arith)
+    (ok.each (length new) s (ap (λ (l : List SenderValue). slice_get l (length new)) (whole ∙ ap (λ (l : List SenderValue). l ++ done) last ∙ append_assoc new (s ∷ []) done) ∙ at_end new s done)).0
 
 -- what the run has of the k-th of the senders
 its_trail : (ring : Ring) (run : Run) (all : List SenderValue) (rest : List Participant) (k : ℕ) (s : SenderValue) → slice_get all k ≡ Some s → HasTrails ring run (map sender_in all ++ rest) → IsIn ring run (sender_in s)

@@ -1,13 +1,8 @@
 -- An event of a seat's trail stands in the run, and of an ask that stands there the law tells what was completed before.
-use Rattle.std.proofs.Common.{◌≡◌, ℕ, Bool, true, false, cond, eqb-true, [], ◌∷◌, ◌++◌, refl, sym, ap, ◌∙◌}
-use Rattle.ringcore.specs.declared.world.event.Who.{Who}
-use Rattle.ringcore.specs.declared.world.event.Who.TheVariants.{Consumer, Sender}
-use Rattle.ringcore.specs.declared.world.event.Event.{Event}
-use Rattle.ringcore.specs.declared.world.event.Event.TheVariants.{Ask}
-use Rattle.ringcore.specs.world.Trails.{Run, Trail, same, trail_of}
-use Rattle.ringcore.specs.world.Allowed.{Ring}
-use Rattle.ringcore.specs.world.Laws.{EveryRun, ToldOfAllUpTo}
-use Rattle.ring.specs.table.Histories.{IsHistory}
+use Rattle.std.proofs.Common.{◌≡◌, ℕ, Bool, true, false, cond, arith, [], ◌∷◌, ◌++◌, length, length-append, refl, sym, ap, ◌∙◌}
+use Rattle.ring.specs.Runs.{Who, Sender, Event, Ask, Run, Trail, same, trail_of, Ring, EveryRun, ToldOfAllUpTo}
+use Rattle.ring.proofs.TableLemmas.Trails.{same_is}
+use Rattle.ring.specs.table.{IsHistory}
 use Rattle.ring.specs.Finishing.{WasTold, WasToldAll}
 
 -- where an event of a trail stands in the run
@@ -17,18 +12,8 @@ record StandsAt (who : Who) (e : Event) (run : Run) (older : Trail) : Type 0 whe
   run_is : run ≡ later ++ (who, e) ∷ earlier
   trail_is : trail_of who earlier ≡ older
 
-pub same_is : (u v : Who) → same u v ≡ true → u ≡ v
-same_is Consumer Consumer is = refl
-same_is Consumer (Sender t) is = absurd (cc)
-same_is (Sender s) Consumer is = absurd (cc)
-same_is (Sender s) (Sender t) is = ap Sender (eqb-true s t is)
-
-not_empty : (newer : Trail) (e : Event) (older : Trail) → ◌≡◌ {A = Trail} [] (newer ++ e ∷ older) → ⊥
-not_empty [] e older is = cc
-not_empty (n ∷ ns) e older is = cc
-
 stands_at : (who : Who) (e : Event) (run : Run) (newer older : Trail) → trail_of who run ≡ newer ++ e ∷ older → StandsAt who e run older
-stands_at who e [] newer older is = absurd (not_empty newer e older is)
+stands_at who e [] newer older is = absurd (let long = ap (λ (t : Trail). length t) is in omega (arith, long, length-append newer (e ∷ older)))
 stands_at who e (x ∷ xs) newer older is = by_seat (λ ns at. stands_at who e xs ns older at) (same who x.0) refl is
   where
     longer : StandsAt who e xs older → StandsAt who e (x ∷ xs) older

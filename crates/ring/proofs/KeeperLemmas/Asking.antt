@@ -1,33 +1,19 @@
 -- One step of a sender that asks, looks or closes, and a load of the control word.
-use Rattle.std.proofs.Common.{rules, ◌≡◌, ℕ, ◌<◌, Bool, true, false, cond, List, [], ◌∷◌, refl, sym, ap, ◌∙◌, subst}
-use Rattle.std.specs.Prelude.{◌==◌, Some, None, slice_index}
+use Rattle.std.proofs.Common.{rules, ◌≡◌, ℕ, ◌<◌, Bool, cond, List, [], ◌∷◌, refl, sym, ap, ◌∙◌, subst}
+use Rattle.std.specs.Prelude.{◌==◌, None, slice_index}
+use Rattle.std.proofs.lemmas.Bool.{cond_both}
 use mathlib.Core.Option.{none}
-use Rattle.atomic_table.specs.Table.{step, Allows}
-use Rattle.atomic_table.specs.Seated.{TableId}
-use Rattle.cmdcodec.specs.declared.raw.Raw.{Raw}
-use Rattle.qindex.specs.declared.control.Control.{Control}
-use Rattle.qindex.specs.ControlWord.{IsControlWord, control_in}
-use Rattle.ringcore.specs.declared.world.event.Who.TheVariants.{Consumer, Sender}
-use Rattle.ringcore.specs.declared.world.event.Half.{Half}
-use Rattle.ringcore.specs.declared.world.event.Event.{Event}
-use Rattle.ringcore.specs.declared.world.event.Event.TheVariants.{Look, Close, Ask}
-use Rattle.ringcore.specs.world.Trails.{Trail, Run, trail_of, batches_made, numbers_given, reserved_length, has_written, has_flipped, start_index}
-use Rattle.ringcore.specs.world.World.{world, control}
-use Rattle.ringcore.specs.world.Allowed.{Ring, Allowed, IsRun}
+use Rattle.ring.specs.table.{step, Allows, TableId, Participant, Holding, RuleHolds, Any, ring_of, history_of_first, all_knowing, has_found, RunStands, AllKnow, PortValue}
+use Rattle.ring.specs.Runs.{Raw, Control, Consumer, Sender, Half, Event, Look, Close, Ask, Trail, Run, trail_of, batches_made, numbers_given, reserved_length, has_written, has_flipped, start_index}
+use Rattle.ring.specs.Runs.{world, control, Ring, Allowed, IsRun}
+use Rattle.qindex.specs.ControlWord.{control_in}
 use Rattle.ringcore.specs.memory.Layout.{control_word}
-use Rattle.ringcore.specs.memory.StepLaws.{Always, HasAControlWord, LooksByALoad, reserved_commands}
-use Rattle.ring.specs.declared.table.rule.Participant.{Participant}
-use Rattle.ring.specs.declared.sender.tally.Tally.{Tally}
-use Rattle.ring.specs.table.Rule.{Holding, RuleHolds, Any, ring_of, history_of_first}
-use Rattle.ring.specs.table.Meetings.{all_knowing, AllSit, has_found}
-use Rattle.ring.specs.table.Keeping.{RunStands, AllKnow}
-use Rattle.ring.specs.table.Ports.{PortValue}
-use Rattle.ring.specs.sender.Senders.{IsTallied, IsSender}
-use Rattle.ring.specs.sender.Reservations.{reserved_number, reserved_body, IsOpen}
-use Rattle.ring.specs.Keepers.{KeeperValue, keeper_of, missing, IsKeeper, own_port, has_lent, has_back, with_step, IdleReservationValue, KeepsAll}
+use Rattle.ringcore.specs.memory.StepLaws.{Always, LooksByALoad, reserved_commands}
+use Rattle.ring.specs.sender.{Tally, IsTallied, IsSender, reserved_number, reserved_body, IsOpen}
+use Rattle.ring.specs.Keepers.{KeeperValue, keeper_of, IsKeeper, own_port, has_lent, has_back, with_step, IdleReservationValue, KeepsAll}
 use Rattle.ring.proofs.TableLemmas.Meetings.{finds_at}
 use Rattle.ring.proofs.KeeperLemmas.Growing.{grown_run_is}
-use Rattle.ring.proofs.KeeperLemmas.Seated.{same_history}
+use Rattle.ring.proofs.KeeperLemmas.Seated.{all_sit, same_history}
 
 -- ---- one step of a sender
 
@@ -75,8 +61,7 @@ ask_leaves_all found t = search rules
 
 -- whether the event is its own or not
 leaves_either : (e : Event) → LeavesAll e → (own : Bool) (t : Trail) → Leaves t (cond own (e ∷ t) t)
-leaves_either e leaves true t = leaves t
-leaves_either e leaves false t = search rules
+leaves_either e leaves own t = cond_both own (e ∷ t) t (Leaves t) (λ _. leaves t) (λ _. search rules)
 
 left_tally : (p : PortValue) (u : Trail) (h : Run) (tally : Tally) → Leaves p.trail u → IsTallied p tally → IsTallied (record p { trail = u; history = h }) tally
 left_tally p u h tally leaves is = let batches = is.batches_are ∙ sym leaves.batches in let numbers = is.numbers_are ∙ sym leaves.numbers in search rules
@@ -126,20 +111,14 @@ module _ (table : TableId) (p : KeeperValue) (me : Holding) (is : keeper_of tabl
   abbrev z : Ring
   z = ring_of me.0
 
-  nobody_lent : missing me.0 ≡ None
-  nobody_lent = ap (λ (q : KeeperValue). q.lent) is ∙ whole
-
-  all_sit : AllSit z me.0
-  all_sit u one = keeps.knows.others u one (λ e. (let no : Some u ≡ None = e ∙ nobody_lent in cc))
-
   pub finds_as : (key : Ring) (slots id i : ℕ) → Allows (RuleHolds key) slots id me i (λ x. x) (has_found (step slots i 0 0 none) me)
   finds_as key slots id i =
       subst (λ (m : Holding). Allows (RuleHolds key) slots id m i (λ x. x) (has_found (step slots i 0 0 none) m)) (λ k. let m : Holding = (me.0, sym keeps.no_slots k) in m)
-      (finds_of key slots id i (λ q. q.who ≡ Consumer) me.0 (all_sit Consumer tt))
+      (finds_of key slots id i (λ q. q.who ≡ Consumer) me.0 (all_sit table p me.0 is keeps.knows whole Consumer tt))
 
   module _ (i word : ℕ) (last : Holding) (at : i ≡ control_word) (did : has_found (step 0 i 0 0 none) me word last) where
     met_run : history_of_first me.0 ≡ did.0.0
-    met_run = same_history z (history_of_first me.0) did.0.0 me.0 keeps.knows.each (did.0.4 all_sit)
+    met_run = same_history z (history_of_first me.0) did.0.0 me.0 keeps.knows.each (did.0.4 (all_sit table p me.0 is keeps.knows whole))
 
     stays : last ≡ me
     stays = did.0.3 ∙ (λ k. let m : Holding = (all_knowing (sym met_run k) me.0, me.1) in m)
@@ -153,10 +132,6 @@ module _ (table : TableId) (p : KeeperValue) (me : Holding) (is : keeper_of tabl
 
     word_is : word ≡ slice_index did.0.1 control_word
     word_is = did.1 ∙ ap (slice_index did.0.1) at
-
-    pub says_control : Always HasAControlWord → IsControlWord p.ring.made_with.geometry word
-    says_control says =
-        subst (λ (t : ℕ × KeeperValue). IsControlWord t.1.ring.made_with.geometry t.0) (λ k. (sym word_is k, is k)) (says z did.0.0 did.0.1 did.0.2.after)
 
     pub control_is : Always LooksByALoad → control_in p.ring.made_with.geometry word ≡ control p.ring.made_with.geometry (world p.run)
     control_is finds =

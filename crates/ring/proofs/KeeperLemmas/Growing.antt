@@ -1,14 +1,12 @@
--- What a run has more that only one has grown.
-use Rattle.std.proofs.Common.{◌≡◌, ◌≢◌, ◌⊎◌, ℕ, ◌-◌, [], ◌∷◌, ◌++◌, length, length-append, take, refl, sym, ap, ◌∙◌, inl, inr, arith}
+-- What a run has more that only one has grown, and what is left of the others.
+use Rattle.std.proofs.Common.{◌≡◌, ◌≢◌, ℕ, ◌-◌, [], ◌∷◌, ◌++◌, length, length-append, take, refl, sym, ap, ◌∙◌, inl, inr, arith, rules, subst}
 use Rattle.std.proofs.Math.Seq.{take-append_seam}
-use Rattle.ringcore.specs.declared.world.event.Who.{Who}
-use Rattle.ringcore.specs.world.Trails.{Trail, Run, trail_of}
-use Rattle.ringcore.specs.world.Laws.{IsOne, OnlyOf}
-use Rattle.ring.specs.table.Histories.{EndsWith}
-use Rattle.ring.specs.table.Keeping.{run_by, grown_run}
-use Rattle.ring.specs.Keepers.{Adds}
-use Rattle.ring.proofs.TableLemmas.Trails.{trail_here, trail_else}
-use Rattle.ring.proofs.TableLemmas.OneRun.{alike}
+use Rattle.ring.specs.Runs.{Who, Trail, Run, trail_of, same, IsOne, OnlyOf, Consumer, Sender}
+use Rattle.ring.specs.table.{EndsWith, run_by, grown_run, PortValue}
+use Rattle.ring.specs.Keepers.{Adds, KeeperValue, own_port, KeepsOthers}
+use Rattle.ring.specs.consumer.{IsConsumer}
+use Rattle.ring.specs.sender.{IsSender, IsOpen}
+use Rattle.ring.proofs.TableLemmas.Trails.{alike, trail_here, trail_own, trail_else, not_empty}
 
 -- of a run that only one has grown
 pub trail_since : (who : Who) (added : Trail) (since : Run) → trail_of who (run_by who added ++ since) ≡ added ++ trail_of who since
@@ -20,14 +18,11 @@ pub ends_by : (who : Who) (added : Trail) → EndsWith who (run_by who added)
 ends_by who [] = tt
 ends_by who (e ∷ es) = refl
 
-newest : (added old : Trail) → take (length (added ++ old) - length old) (added ++ old) ≡ added
-newest added old =
-    let n : length (added ++ old) - length old ≡ length added = (let l = length-append added old in omega (arith, l)) in
-    ap (λ (k : ℕ). take k (added ++ old)) n ∙ take-append_seam added old
-
 pub grown_run_is : (who : Who) (since : Run) (trail added : Trail) → trail ≡ added ++ trail_of who since → grown_run who since trail ≡ run_by who added ++ since
 grown_run_is who since trail added is =
-    ap (λ (t : Trail). grown_run who since t) is ∙ ap (λ (t : Trail). run_by who t ++ since) (newest added (trail_of who since))
+    let old : Trail = trail_of who since in
+    let many : length (added ++ old) - length old ≡ length added = omega (arith, length-append added old) in
+    ap (λ (t : Trail). grown_run who since t) is ∙ ap (λ (t : Trail). run_by who t ++ since) (ap (λ (k : ℕ). take k (added ++ old)) many ∙ take-append_seam added old)
 
 pub adds_those : (who : Who) (trail : Trail) (old new : Run) → new ≡ grown_run who old trail → Adds who trail old new
 adds_those who trail old new new_is added is =
@@ -41,14 +36,22 @@ trail_stays who u (e ∷ es) since ne = trail_else u who e (run_by who es ++ sin
 -- a run of one alone is his events
 pub all_of_one : (n : ℕ) (who : Who) (run : Run) → OnlyOf n run → ((u : Who) → IsOne n u → u ≢ who → trail_of u run ≡ []) → run ≡ run_by who (trail_of who run)
 all_of_one n who [] only nothing = refl
-all_of_one n who (x ∷ xs) only nothing = by_first (alike x.0 who) (all_of_one n who xs only.1)
-  where
-    not_none : (x.0 ≢ who) → ⊥
-    not_none ne = (let is : ◌≡◌ {A = Trail} (x.1 ∷ trail_of x.0 xs) [] = sym (trail_here x.0 x.1 xs) ∙ nothing x.0 only.0 ne in cc)
+all_of_one n who (x ∷ xs) only nothing = elim (alike x.0 who) [
+  | inr ne ↦ absurd (not_empty _ _ (sym (trail_here x.0 x.1 xs) ∙ nothing x.0 only.0 ne))
+  | inl is ↦
+      let behind = all_of_one n who xs only.1 (λ u one ne. sym (trail_else u x.0 x.1 xs (λ e. ne (e ∙ is))) ∙ nothing u one ne) in
+      (λ k. let l : Run = (is k, x.1) ∷ behind k in l) ∙ ap (run_by who) (sym (trail_own who x xs is))
+]
 
-    by_first : (x.0 ≡ who) ⊎ (x.0 ≢ who) → (((u : Who) → IsOne n u → u ≢ who → trail_of u xs ≡ []) → xs ≡ run_by who (trail_of who xs)) → x ∷ xs ≡ run_by who (trail_of who (x ∷ xs))
-    by_first (inr ne) rest = absurd (not_none ne)
-    by_first (inl is) rest =
-        let behind = rest (λ u one ne. sym (trail_else u x.0 x.1 xs (λ e. ne (e ∙ is))) ∙ nothing u one ne) in
-        let trail : trail_of who (x ∷ xs) ≡ x.1 ∷ trail_of who xs = ap (λ (w : Who). trail_of who ((w, x.1) ∷ xs)) is ∙ trail_here who x.1 xs in
-        (λ k. let l : Run = (is k, x.1) ∷ behind k in l) ∙ ap (run_by who) (sym trail)
+-- ---- what is left of others than the one who took steps
+
+pub keeps_others : (who : Who) (old new : KeeperValue) (added : Trail) → new.ring ≡ old.ring → new.run ≡ run_by who added ++ old.run → KeepsOthers who old new
+keeps_others who old new added same run_is =
+    -- what is left of one does not depend on what it knows of the run
+    let stays : (u : Who) → u ≢ who → record (own_port u old) { history = new.run } ≡ own_port u new =
+    (λ u ne. (λ k. let q : PortValue = record { ring = sym same k; who = u; trail = (sym (trail_stays who u added old.run ne) ∙ ap (trail_of u) (sym run_is)) k; history = new.run } in q)) in record {
+      trails = λ u ne. ap (trail_of u) run_is ∙ trail_stays who u added old.run ne;
+      senders = λ tally ne is. subst (λ (p : PortValue). IsSender p tally) (stays (Sender tally.sender) ne) record { tallied = (let tallied = is.tallied in search rules); settled = is.settled };
+      reservations = λ body idle ne is. subst (λ (p : PortValue). IsOpen p idle.tally body idle.closes idle.start idle.written idle.flipped) (stays (Sender idle.tally.sender) ne) (search rules);
+      consumer = λ head taken ne is. subst (λ (p : PortValue). IsConsumer p head taken) (stays Consumer ne) (search rules);
+    }

@@ -1,28 +1,17 @@
 -- A seat comes back to its keeper.
-use Rattle.std.proofs.Common.{◌≡◌, ◌≢◌, ◌⊎◌, ℕ, List, [], ◌∷◌, ◌++◌, refl, sym, ap, ◌∙◌, subst, ⊎_elim, inl, inr, arith}
+use Rattle.std.proofs.Common.{◌≡◌, ◌≢◌, List, [], ◌∷◌, ◌++◌, refl, sym, ap, ◌∙◌, subst, ⊎_elim, inl, inr, arith}
 use Rattle.std.specs.Prelude.{Option, Some, None}
-use mathlib.Core.Option.{none}
-use Rattle.atomic_table.specs.Table.{step, Allows}
-use Rattle.atomic_table.specs.Seated.{TableId}
-use Rattle.ringcore.specs.declared.world.event.Who.{Who}
-use Rattle.ringcore.specs.world.Trails.{Trail, Run, same, trail_of}
-use Rattle.ringcore.specs.world.Allowed.{Ring}
-use Rattle.ringcore.specs.world.Laws.{IsOne, OnlyOf}
-use Rattle.ring.specs.declared.table.rule.Participant.{Participant}
+use Rattle.ring.specs.table.{TableId, Participant, Holding, participant, WentOn, IsIn, HasTrails, Any, IsAlone, who_of, ring_of, history_of_first, all_knowing, AllSit, HaveMet, EndsWith, Grew}
+use Rattle.ring.specs.table.{RunStands, one_of_run, run_by, grown_run, PortValue, port_of}
+use Rattle.ring.specs.Runs.{Who, Trail, Run, same, trail_of, Ring, IsOne, OnlyOf}
 use Rattle.ring.specs.Rings.{RingValue}
-use Rattle.ring.specs.table.Rule.{Holding, participant, RuleHolds, WentOn, IsIn, HasTrails, Any, IsAlone, who_of, ring_of, history_of_first}
-use Rattle.ring.specs.table.Meetings.{all_knowing, AllSit, HaveMet, has_met}
-use Rattle.ring.specs.table.Histories.{EndsWith, Grew}
-use Rattle.ring.specs.table.Keeping.{RunStands, one_of_run, run_by, grown_run}
-use Rattle.ring.specs.table.Ports.{PortValue, port_of}
 use Rattle.ring.specs.Keepers.{KeeperValue, keeper_of, missing, AllBut, IsKeeper, has_back, Adds, IsNews, KeepsOthers}
-use Rattle.ring.proofs.TableLemmas.Trails.{trail_append, none_before}
-use Rattle.ring.proofs.TableLemmas.OneRun.{alike, only_left}
-use Rattle.ring.proofs.TableLemmas.Meetings.{knowing_who, meets_at}
+use Rattle.ring.proofs.TableLemmas.Trails.{alike, trail_append, none_before}
+use Rattle.ring.proofs.TableLemmas.OneRun.{only_left}
+use Rattle.ring.proofs.TableLemmas.Meetings.{knowing_who}
 use Rattle.ring.proofs.TableLemmas.Keeping.{its_trail}
 use Rattle.ring.proofs.KeeperLemmas.Seated.{sits_any, none_missing, IsOther, someone, same_history, know_told}
-use Rattle.ring.proofs.KeeperLemmas.Growing.{ends_by, grown_run_is, adds_those, all_of_one}
-use Rattle.ring.proofs.KeeperLemmas.Idle.{keeps_others}
+use Rattle.ring.proofs.KeeperLemmas.Growing.{ends_by, grown_run_is, adds_those, all_of_one, keeps_others}
 
 -- what is known where all sit at one seat again, and have heard of the run
 pub record IsBack (z : Ring) (old : Run) (who : Who) (trail : Trail) (history : Run) (last : Holding) : Type 0 where
@@ -69,12 +58,8 @@ module _ (z : Ring) (old : Run) (who : Who) (v : List Participant) (knows : AllB
     trail_is : trail ≡ added ++ trail_of who old
     trail_is = sym has.0.trail ∙ ap (trail_of who) older.run_is ∙ trail_append who older.newer old
 
-    new_is : new ≡ grown_run who old trail
-    new_is = older.run_is ∙ ap (λ (r : Run). r ++ old) newer_is ∙ sym (grown_run_is who old trail added trail_is)
-
-    known_now : ◌⊎◌ (history ≡ new) (Any (λ p. p.history ≡ new) v) → (history ≡ new) ⊎ (old ≡ new)
-    known_now (inl mine) = inl mine
-    known_now (inr theirs) = inr (same_history z old new v knows.each theirs)
+    new_is : new ≡ run_by who added ++ old
+    new_is = older.run_is ∙ ap (λ (r : Run). r ++ old) newer_is
 
     abbrev told : List Participant
     told = all_knowing new all
@@ -82,19 +67,16 @@ module _ (z : Ring) (old : Run) (who : Who) (v : List Participant) (knows : AllB
     told_sits : (u : Who) → IsOne z.senders u → Any (λ p. p.who ≡ u) told
     told_sits u known = knowing_who u new all (back_sits u known)
 
-    none_now : missing told ≡ None
-    none_now = none_missing z.senders 0 z.senders told (omega arith) (λ u known. sits_any u told (told_sits u known))
-
     is_back : IsBack z old who trail history (told, [])
     is_back = record {
       keeper = record { no_slots = refl; knows = record { some = knows.some; each = know_told z new all has; others = λ u known ne. told_sits u known; stands = stands } };
       ring_is = refl;
-      lent_is = none_now;
-      run_is = new_is;
+      lent_is = none_missing z.senders 0 z.senders told (omega arith) (λ u known. sits_any u told (told_sits u known));
+      run_is = new_is ∙ sym (grown_run_is who old trail added trail_is);
       added = added;
       grew = record { newer = older.newer; run_is = older.run_is; trail_is = trail_is; last = subst (EndsWith who) (sym newer_is) (ends_by who added) };
-      added_is = older.run_is ∙ ap (λ (r : Run). r ++ old) newer_is;
-      news = record { trail_is = has.0.trail; went_on = has.0.went_on; newest = known_now (newest_is back_sits) };
+      added_is = new_is;
+      news = record { trail_is = has.0.trail; went_on = has.0.went_on; newest = ⊎_elim inl (λ theirs. inr (same_history z old new v knows.each theirs)) (newest_is back_sits) };
     }
 
   pub back_by : (me last : Holding) → me ≡ (all, []) → HaveMet me last → IsBack z old who trail history last
@@ -102,9 +84,6 @@ module _ (z : Ring) (old : Run) (who : Who) (v : List Participant) (knows : AllB
       let met : HaveMet (all, []) last = subst (λ (m : Holding). HaveMet m last) me_is did in
       let stands : RunStands z met.0 = record { limits = met.2.limits; words = met.1; after = met.2.after; only = met.2.only } in
       subst (IsBack z old who trail history) (sym met.3) (is_back met.0 stands met.2.has met.4)
-
-pub meets_as : (key : Ring) (slots id i : ℕ) (p : Participant) (ps : List Participant) (me : Holding) → me ≡ (p ∷ ps, []) → Allows (RuleHolds key) slots id me i (λ x. x) (has_met (step slots i 0 0 none) me)
-meets_as key slots id i p ps me is = subst (λ (m : Holding). Allows (RuleHolds key) slots id m i (λ x. x) (has_met (step slots i 0 0 none) m)) (sym is) (meets_at key slots id i p ps)
 
 -- the same by what contracts see
 pub record ComesBack (q : PortValue) (old new : KeeperValue) : Type 0 where
@@ -116,12 +95,6 @@ pub record ComesBack (q : PortValue) (old new : KeeperValue) : Type 0 where
 
 module _ (table : TableId) (p : KeeperValue) (v : List Participant) (is : keeper_of table v ≡ p) (knows : AllBut (missing v) (ring_of v) (history_of_first v) v)
     (q : PortValue) (lent : p.lent ≡ Some q.who) (ours : q.ring ≡ p.ring) (port_table : TableId) (their : Holding) (port_is : port_of port_table their ≡ q) (alone_is : IsAlone their (who_of their.0)) where
-  lends_him : missing v ≡ Some q.who
-  lends_him = ap (λ (k : KeeperValue). k.lent) is ∙ lent
-
-  him : Participant
-  him = participant (ring_of v) q.who q.trail q.history
-
   ring_same : ring_of their.0 ≡ ring_of v
   ring_same = ap (λ (k : PortValue). k.ring.made_with) port_is ∙ ap (λ (r : RingValue). r.made_with) ours ∙ ap (λ (k : KeeperValue). k.ring.made_with) (sym is)
 
@@ -134,7 +107,7 @@ module _ (table : TableId) (p : KeeperValue) (v : List Participant) (is : keeper
 
   pub comes_back : (me last : Holding) → me ≡ (their.0 ++ v, []) → HaveMet me last → IsBack (ring_of v) (history_of_first v) q.who q.trail q.history last
   comes_back me last me_is did =
-      back_by (ring_of v) (history_of_first v) q.who v (subst (λ (o : Option Who). AllBut o (ring_of v) (history_of_first v) v) lends_him knows) q.trail q.history me last (joined_is me me_is) did
+      back_by (ring_of v) (history_of_first v) q.who v (subst (λ (o : Option Who). AllBut o (ring_of v) (history_of_first v) v) (ap (λ (k : KeeperValue). k.lent) is ∙ lent) knows) q.trail q.history me last (joined_is me me_is) did
 
   run_same : history_of_first v ≡ p.run
   run_same = ap (λ (k : KeeperValue). k.run) is

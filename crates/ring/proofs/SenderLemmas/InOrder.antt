@@ -1,35 +1,12 @@
 -- A reservation that is written and flipped in the order of its slots.
-use Rattle.std.proofs.Common.{rules, ◌≡◌, ℕ, zero, suc, ◌+◌, ◌<◌, ◌≤◌, Bool, true, false, ◌==◌, ◌||◌, ◌&&◌, ◌%◌, ◌/◌, ◌^◌, List, [], ◌∷◌, ◌++◌, length, Option, Some, None, refl, sym, ap, ◌∙◌, subst, arith}
-use Rattle.std.proofs.lemmas.Bool.{lt-ltb}
+use Rattle.std.proofs.Common.{rules, ◌≡◌, ℕ, ◌+◌, ◌≤◌, Bool, ◌||◌, List, [], ◌∷◌, sym, ap, ◌∙◌, subst, arith}
+use Rattle.std.proofs.lemmas.Bool.{lt-ltb, le-ltb}
 use Rattle.std.proofs.lemmas.Bool.Decides.{nat_tests}
-use Rattle.std.specs.Prelude.{slice_get, nat_lt}
-use Rattle.cmdcodec.specs.declared.raw.Raw.{Raw}
-use Rattle.qindex.specs.Positions.{IndexValue, index_of}
-use Rattle.ringcore.specs.declared.world.event.Half.TheVariants.{Lo, Hi}
-use Rattle.ringcore.specs.declared.world.event.Event.TheVariants.{Write, Flip}
-use Rattle.ringcore.specs.world.Trails.{Trail, IsSettled, reserved_length, is_among}
-use Rattle.ringcore.specs.world.World.{commands, sync_raw}
-use Rattle.ringcore.specs.world.Allowed.{MayWrite, ShareAWord, length_with}
-use Rattle.ringcore.specs.memory.StepLaws.{reserved_commands}
-use Rattle.ring.specs.declared.sender.tally.Tally.{Tally}
-use Rattle.ring.specs.table.Ports.{PortValue, IsSlotAt, MayFlipAt}
-use Rattle.ring.specs.sender.Reservations.{IsWrittenUpTo, IsFlippedUpTo, IsOpen, number_when}
-
--- a number is below one more where it is this one, or below
-next_below : (k w : ℕ) → (k == w || nat_lt k w) ≡ nat_lt k (w + 1)
-next_below k w = grind (arith, nat_tests)
-
-wrote : (t : Trail) (w : ℕ) → IsWrittenUpTo w t → IsWrittenUpTo (w + 1) (Write w Hi ∷ Write w Lo ∷ t)
-wrote t w is k Lo = ap (λ (b : Bool). (k == w && false) || ((k == w && true) || b)) (is k Lo) ∙ tidy (k == w) (nat_lt k w) ∙ next_below k w
-  where
-    tidy : (a b : Bool) → ((a && false) || ((a && true) || b)) ≡ (a || b)
-    tidy true b = refl
-    tidy false b = refl
-wrote t w is k Hi = ap (λ (b : Bool). (k == w && true) || ((k == w && false) || b)) (is k Hi) ∙ tidy (k == w) (nat_lt k w) ∙ next_below k w
-  where
-    tidy : (a b : Bool) → ((a && true) || ((a && false) || b)) ≡ (a || b)
-    tidy true b = refl
-    tidy false b = refl
+use Rattle.std.specs.Prelude.{nat_lt}
+use Rattle.ring.specs.Runs.{Raw, Flip, Trail, is_among, ShareAWord}
+use Rattle.qindex.specs.Positions.{IndexValue}
+use Rattle.ring.specs.sender.{Tally, IsFlippedUpTo, IsOpen}
+use Rattle.ring.specs.table.{PortValue, MayFlipAt}
 
 flipped_more : (t : Trail) (f n : ℕ) → IsFlippedUpTo f t → IsFlippedUpTo (f + n) (Flip f n ∷ t)
 flipped_more t f n is k = ap (λ (b : Bool). is_among f n k || b) (is k) ∙ until
@@ -37,81 +14,26 @@ flipped_more t f n is k = ap (λ (b : Bool). is_among f n k || b) (is k) ∙ unt
     until : (is_among f n k || nat_lt k f) ≡ nat_lt k (f + n)
     until = grind (arith, nat_tests)
 
-not_below : (a b : ℕ) → b ≤ a → nat_lt a b ≡ false
-not_below a b le = grind (arith, nat_tests)
-
 -- whatever is known of the run, a reservation is open by its trail
 pub knowing : (port : PortValue) (tally : Tally) (body : List Raw) (closes : Bool) (start : IndexValue) (written flipped : ℕ) → IsOpen (record port { history = [] }) tally body closes start written flipped
     → IsOpen port tally body closes start written flipped
 knowing port tally body closes start written flipped is = search rules
 
 module _ (port : PortValue) (tally : Tally) (body : List Raw) (closes : Bool) (start : IndexValue) (written flipped : ℕ) (is : IsOpen port tally body closes start written flipped) where
-  pub may_write : written < reserved_length port.trail → MayWrite port.trail written
-  may_write low = record { inside = low; unflipped = is.in_flipped written ∙ not_below written flipped is.behind }
-
   pub may_flip : (count : ℕ) → 1 ≤ count → count ≤ 64 → flipped + count ≤ written → MayFlipAt port.trail flipped count
   may_flip count some few low = record {
     many = (some, few);
     inside = (let m = is.many in let w = is.within in omega arith);
-    unflipped = λ i less. is.in_flipped (flipped + i) ∙ not_below (flipped + i) flipped (omega arith);
+    unflipped = λ i less. is.in_flipped (flipped + i) ∙ le-ltb (flipped + i) flipped (omega arith);
     written = λ i half less. is.in_written (flipped + i) half ∙ lt-ltb (flipped + i) written (omega arith);
   }
-
-  pub slot_at : (offset : ℕ) (slot : IndexValue) → ((geometry position : ℕ) → start ≡ index_of geometry position → slot ≡ index_of geometry (position + offset)) → IsSlotAt port slot offset
-  slot_at offset slot forward position here = forward port.ring.made_with.geometry position (is.start_is ∙ here)
-
-  pub wrote_is : written < reserved_length port.trail → (new : PortValue) → record new { history = [] } ≡ record port { trail = Write written Hi ∷ Write written Lo ∷ port.trail; history = [] }
-      → IsOpen new tally body closes start (written + 1) flipped
-  wrote_is low new new_is = knowing new tally body closes start (written + 1) flipped (subst (λ (q : PortValue). IsOpen q tally body closes start (written + 1) flipped) (sym new_is)
-      (let more = wrote port.trail written is.in_written in let many = is.many in let within : written + 1 ≤ length_with closes body = omega arith in let behind : flipped ≤ written + 1 = omega arith in search rules))
 
   pub flipped_is : (count : ℕ) → flipped + count ≤ written → (new : PortValue) → record new { history = [] } ≡ record port { trail = Flip flipped count ∷ port.trail; history = [] }
       → IsOpen new tally body closes start written (flipped + count)
   flipped_is count low new new_is = knowing new tally body closes start written (flipped + count) (subst (λ (q : PortValue). IsOpen q tally body closes start written (flipped + count)) (sym new_is)
       (let more = flipped_more port.trail flipped count is.in_flipped in search rules))
 
-  pub settled : flipped ≡ reserved_length port.trail → IsSettled port.trail
-  settled all offset low = is.in_flipped offset ∙ lt-ltb offset flipped (omega arith)
-
--- ---- the next command
-
-in_body : (s : ℕ) (number : Option ℕ) (body : List Raw) (i : ℕ) (raw : Raw) → slice_get body i ≡ Some raw → slice_get (commands s number body) i ≡ Some raw
-in_body s None body i raw at = at
-in_body s (Some n) body i raw at = in_front body i at
-  where
-    in_front : (xs : List Raw) (j : ℕ) → slice_get xs j ≡ Some raw → slice_get (xs ++ sync_raw s n ∷ []) j ≡ Some raw
-    in_front [] j at = absurd (cc)
-    in_front (x ∷ xs) zero at = at
-    in_front (x ∷ xs) (suc j) at = in_front xs j at
-
-past_body : {A : Type 0} (xs : List A) (i : ℕ) → slice_get xs i ≡ None → length xs ≤ i
-past_body [] i at = omega arith
-past_body (x ∷ xs) zero at = absurd (cc)
-past_body (x ∷ xs) (suc i) at = let le = past_body xs i at in omega arith
-
-at_end : {A : Type 0} (xs : List A) (y : A) → slice_get (xs ++ y ∷ []) (length xs) ≡ Some y
-at_end [] y = refl
-at_end (x ∷ xs) y = at_end xs y
-
-module _ (port : PortValue) (tally : Tally) (body : List Raw) (closes : Bool) (start : IndexValue) (written flipped : ℕ) (is : IsOpen port tally body closes start written flipped) where
-  pub next_in_body : (raw : Raw) → slice_get body written ≡ Some raw → slice_get (reserved_commands tally.sender port.trail) written ≡ Some raw
-  next_in_body raw at = ap (λ (l : List Raw). slice_get l written) is.commands_are ∙ in_body tally.sender (number_when closes tally.numbers) body written raw at
-
-  pub next_is_sync : (raw : Raw) → slice_get body written ≡ None → written < reserved_length port.trail → raw ≡ sync_raw tally.sender tally.numbers → slice_get (reserved_commands tally.sender port.trail) written ≡ Some raw
-  next_is_sync raw at low raw_is = ap (λ (l : List Raw). slice_get l written) is.commands_are ∙ by_kind closes is.many ∙ ap Some (sym raw_is)
-    where
-      past : length body ≤ written
-      past = past_body body written at
-
-      by_kind : (v : Bool) → reserved_length port.trail ≡ length_with v body → slice_get (commands tally.sender (number_when v tally.numbers) body) written ≡ Some (sync_raw tally.sender tally.numbers)
-      by_kind true many =
-          ap (slice_get (body ++ sync_raw tally.sender tally.numbers ∷ [])) (let m : reserved_length port.trail ≡ length body + 1 = many in let w : written < reserved_length port.trail = low in let p : length body ≤ written = past in let e : written ≡ length body = omega arith in e) ∙ at_end body (sync_raw tally.sender tally.numbers)
-      by_kind false many = (let m : reserved_length port.trail ≡ length body = many in let w : written < reserved_length port.trail = low in let p : length body ≤ written = past in absurd (omega arith))
-
 -- ---- flags in one word
-
-pub one_shares : (g p : ℕ) → ShareAWord 64 g p 1
-one_shares g p offset low = ap (λ (k : ℕ). k % 2 ^ g / 64) (let e : p + offset ≡ p = omega arith in e)
 
 pub fewer_share : (g p many count : ℕ) → count ≤ many → ShareAWord 64 g p many → ShareAWord 64 g p count
 fewer_share g p many count le share offset low = share offset (omega arith)

@@ -2,26 +2,13 @@
 use Rattle.std.proofs.Common.{rules, ◌≡◌, ℕ, ◌+◌, ◌<◌, ◌≤◌, Bool, true, false, List, [], ◌∷◌, Some, Result, Ok, Err, sym, ap, subst, ◌∙◌, arith}
 use Rattle.std.specs.Prelude.{nat_lt, IfOk, IfErr, MatchResult}
 use Rattle.std.proofs.lemmas.Bool.Decides.{nat_tests}
-use Rattle.cmdcodec.specs.declared.raw.Raw.{Raw}
+use Rattle.ring.specs.Runs.{Raw, Control, Sender, Event, Look, Trail, Run, IsSettled, looked, batches_made, numbers_given, prod_of, commands, world, control, MayTry, length_with}
 use Rattle.cmdcodec.specs.Bodies.{IsBody}
-use Rattle.qindex.specs.declared.control.Control.{Control}
 use Rattle.qindex.specs.Positions.{size}
 use Rattle.qindex.specs.Indexes.{distance}
-use Rattle.ringcore.specs.declared.world.event.Who.TheVariants.{Sender}
-use Rattle.ringcore.specs.declared.world.event.Event.{Event}
-use Rattle.ringcore.specs.declared.world.event.Event.TheVariants.{Look}
-use Rattle.ringcore.specs.world.Trails.{Trail, Run, IsSettled, looked, batches_made, numbers_given, prod_of}
-use Rattle.ringcore.specs.world.World.{commands, world, control}
-use Rattle.ringcore.specs.world.Allowed.{MayTry, length_with}
-use Rattle.ring.specs.declared.sender.tally.Tally.{Tally}
-use Rattle.ring.specs.table.Ports.{PortValue, has_won}
-use Rattle.ring.specs.sender.Senders.{SenderValue, IsTallied, one_more}
-use Rattle.ring.specs.declared.sender.cause.Refused.{Refused}
-use Rattle.ring.specs.declared.sender.cause.Cause.TheVariants.{Contended}
-use Rattle.ring.specs.table.Histories.{GrewBy, Grew}
-use Rattle.ring.specs.sender.Reservations.{IsOpen, ReservationValue}
-use Rattle.ring.specs.sender.Reserving.{ring_size, HasRoom, HasBatchLeft, HasNoRoom, TellsRoom, HasLookedAt, IsWon, IsLost}
-use Rattle.ring.proofs.TableLemmas.Grown.{grew_step, grew_more, sender_step}
+use Rattle.ring.specs.sender.{Tally, SenderValue, IsTallied, one_more, Refused, Contended, IsOpen, ReservationValue, ring_size, HasRoom, HasBatchLeft, HasNoRoom, TellsRoom, HasLookedAt, IsWon, IsLost}
+use Rattle.ring.specs.table.{PortValue, has_won, GrewBy, Grew}
+use Rattle.ring.proofs.TableLemmas.Grown.{grew_step, grew_then, sender_step}
 use Rattle.ring.proofs.SenderLemmas.InOrder.{knowing}
 
 pub may_try : (port : PortValue) (number : ℕ) (s : SenderValue) (body : List Raw) (closes : Bool) (many : ℕ) (seen : Control)
@@ -65,9 +52,7 @@ module _ (body : List Raw) (closes : Bool) (seen : Control) (s t : SenderValue) 
   same_number = ap (λ (u : SenderValue). u.number) looked.trail_is
 
   further : (e : Event) (trail : Trail) (run : Run) → trail ≡ e ∷ t.trail → GrewBy (Sender t.number) e t.history run → Grew (Sender s.number) s.trail trail s.history run
-  further e trail run is grew =
-      grew_more _ _ _ _ _ _ _ looked_grew
-      (subst (λ (n : ℕ). Grew (Sender n) t.trail trail t.history run) same_number (grew_step (Sender t.number) e t.trail trail t.history run is grew))
+  further e trail run is grew = grew_then _ _ _ _ _ _ _ _ same_number looked_grew (grew_step (Sender t.number) e t.trail trail t.history run is grew)
 
   pub exchanged_grew : (result : Result ReservationValue Refused) → IfOk result (λ r. IsWon body closes seen t r) → IfErr result (λ e. (e.cause ≡ Contended) × IsLost body closes seen t e.sender)
       → MatchResult result (λ r. Grew (Sender s.number) s.trail r.trail s.history r.history) (λ e. Grew (Sender s.number) s.trail e.sender.trail s.history e.sender.history)

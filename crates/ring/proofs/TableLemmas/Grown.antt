@@ -1,17 +1,9 @@
--- What a participant knows of the run grows step by step, and what its newest step found stands in it.
-use Rattle.std.proofs.Common.{◌≡◌, ℕ, ◌+◌, ◌/◌, ◌≤◌, false, [], ◌∷◌, ◌++◌, length, refl, sym, ap, ◌∙◌, subst, append_assoc, arith}
-use Rattle.qindex.specs.Positions.{place}
-use Rattle.ringcore.specs.declared.world.event.Who.{Who}
-use Rattle.ringcore.specs.declared.world.event.Who.TheVariants.{Consumer, Sender}
-use Rattle.ringcore.specs.declared.world.event.Event.{Event}
-use Rattle.ringcore.specs.declared.world.event.Event.TheVariants.{Test}
-use Rattle.ringcore.specs.world.Trails.{Trail, Run, trail_of}
-use Rattle.ringcore.specs.world.World.{World, head, world}
-use Rattle.ringcore.specs.world.Allowed.{Ring, IsRun, FindsReady}
-use Rattle.ring.specs.table.Histories.{IsHistory, GrewBy, EndsWith, Grew, OneStepIsLast, NoStepIsNone}
-use Rattle.ring.specs.table.Ports.{PortValue}
-use Rattle.ring.specs.sender.Senders.{SenderValue}
-use Rattle.ring.proofs.TableLemmas.Trails.{trail_here, trail_append, none_before}
+-- What a participant knows of the run grows step by step.
+use Rattle.std.proofs.Common.{◌≡◌, ℕ, [], ◌∷◌, ◌++◌, length, refl, sym, ap, ◌∙◌, subst, append_assoc, arith}
+use Rattle.ring.specs.Runs.{Who, Sender, Event, Trail, Run, trail_of}
+use Rattle.ring.specs.table.{GrewBy, EndsWith, Grew, OneStepIsLast, NoStepIsNone, PortValue}
+use Rattle.ring.specs.sender.{SenderValue}
+use Rattle.ring.proofs.TableLemmas.Trails.{trail_here, trail_own, trail_append, not_empty, none_before}
 
 -- ---- no step, one, and some after others
 
@@ -40,18 +32,16 @@ grew_more who a b c h i j one two = record {
   last = ends_with who two.newer one.newer two.last one.last;
 }
 
--- what a part of a run holds that ends with a step of this participant
-own_first : (who : Who) (x : Who × Event) (xs : Run) → x.0 ≡ who → trail_of who (x ∷ xs) ≡ x.1 ∷ trail_of who xs
-own_first who x xs own = ap (λ (w : Who). trail_of who ((w, x.1) ∷ xs)) own ∙ trail_here who x.1 xs
+-- the second under a number that is the first's
+pub grew_then : (s n : ℕ) (a b c : Trail) (h i j : Run) → n ≡ s → Grew (Sender s) a b h i → Grew (Sender n) b c i j → Grew (Sender s) a c h j
+grew_then s n a b c h i j same one two = grew_more (Sender s) a b c h i j one (subst (λ (k : ℕ). Grew (Sender k) b c i j) same two)
 
 pub none_is_none : NoStepIsNone
 none_is_none who trail older run grew = by_newer grew.newer grew.run_is grew.trail_is grew.last
   where
     by_newer : (n : Run) → run ≡ n ++ older → trail ≡ trail_of who n ++ trail → EndsWith who n → run ≡ older
     by_newer [] is same last = is
-    by_newer (x ∷ xs) is same last =
-        let none : trail_of who (x ∷ xs) ≡ [] = none_before (trail_of who (x ∷ xs)) trail (sym same) in
-        let one : ◌≡◌ {A = Trail} (x.1 ∷ trail_of who xs) [] = sym (own_first who x xs last) ∙ none in absurd (cc)
+    by_newer (x ∷ xs) is same last = absurd (not_empty _ _ (sym (trail_own who x xs last) ∙ none_before (trail_of who (x ∷ xs)) trail (sym same)))
 
 pub one_is_last : OneStepIsLast
 one_is_last who e trail older run grew = by_newer grew.newer grew.run_is grew.trail_is grew.last
@@ -59,7 +49,7 @@ one_is_last who e trail older run grew = by_newer grew.newer grew.run_is grew.tr
     by_newer : (n : Run) → run ≡ n ++ older → e ∷ trail ≡ trail_of who n ++ trail → EndsWith who n → GrewBy who e older run
     by_newer [] is same last = absurd (let n : length (e ∷ trail) ≡ length trail = ap (λ (t : Trail). length t) same in omega (arith, n))
     by_newer (x ∷ xs) is same last =
-        let both : e ∷ trail ≡ x.1 ∷ (trail_of who xs ++ trail) = same ∙ ap (λ (t : Trail). t ++ trail) (own_first who x xs last) in
+        let both : e ∷ trail ≡ x.1 ∷ (trail_of who xs ++ trail) = same ∙ ap (λ (t : Trail). t ++ trail) (trail_own who x xs last) in
         let event : x.1 ≡ e = cc in
         let rest : trail_of who xs ++ trail ≡ trail = cc in
         record {
@@ -67,20 +57,6 @@ one_is_last who e trail older run grew = by_newer grew.newer grew.run_is grew.tr
           went_on = record { newer = xs; run_is = refl; of_others = none_before (trail_of who xs) trail rest };
           run_is = is ∙ (λ k. let l : Run = (last k, event k) ∷ (xs ++ older) in l);
         }
-
--- ---- what a test found
-
-none_turned : (ring : Ring) (w : World) (limit found : ℕ) → 1 ≤ limit → found ≡ 0 → FindsReady ring w limit found → w.flipped (head w) ≡ false
-none_turned ring w limit found some none finds =
-    let here : head w + found ≡ head w = omega (arith, none) in
-    subst (λ (n : ℕ). w.flipped n ≡ false) here
-    (finds.no_more (omega (arith, some, none)) (λ offset low. ap (λ (n : ℕ). place ring.geometry n / ring.flags) (let e : head w + offset ≡ head w = omega (arith, low, none) in e)))
-
-pub unturned_now : (ring : Ring) (trail : Trail) (limit found : ℕ) (older run : Run) → 1 ≤ limit → IsHistory ring Consumer trail run → GrewBy Consumer (Test limit found) older run
-    → found ≡ 0 → (world run).flipped (head (world run)) ≡ false
-unturned_now ring trail limit found older run some is grew none =
-    let ok : IsRun ring ((Consumer, Test limit found) ∷ grew.before) = subst (IsRun ring) grew.run_is is.stands.after.run_is in
-    subst (λ (r : Run). (world r).flipped (head (world r)) ≡ false) (sym grew.run_is) (none_turned ring (world grew.before) limit found some none ok.1)
 
 -- ---- as contracts see a step
 
@@ -92,7 +68,3 @@ port_step p q who e who_is is grew =
 pub sender_step : (s t : SenderValue) (e : Event) → record t { history = [] } ≡ record s { trail = e ∷ s.trail; history = [] } → GrewBy (Sender s.number) e s.history t.history
     → Grew (Sender s.number) s.trail t.trail s.history t.history
 sender_step s t e is grew = grew_step (Sender s.number) e s.trail t.trail s.history t.history (ap (λ (x : SenderValue). x.trail) is) grew
-
-pub consumer_step : (c d : PortValue) (e : Event) → record d { history = [] } ≡ record c { trail = e ∷ c.trail; history = [] } → GrewBy Consumer e c.history d.history
-    → Grew Consumer c.trail d.trail c.history d.history
-consumer_step c d e is grew = grew_step Consumer e c.trail d.trail c.history d.history (ap (λ (x : PortValue). x.trail) is) grew

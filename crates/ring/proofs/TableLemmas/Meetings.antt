@@ -1,22 +1,12 @@
 -- Two seats are joined for a load, and cut again.
-use Rattle.std.proofs.Common.{◌≡◌, ◌≢◌, ℕ, false, List, [], ◌∷◌, refl, sym, ap, ◌∙◌, subst, ⊎_elim, inl, inr}
+use Rattle.std.proofs.Common.{◌≡◌, ℕ, false, List, [], ◌∷◌, refl, sym, ap, ◌∙◌, subst, inl, inr}
 use mathlib.Core.Option.{some, none}
 use lib.ListN.{get_elem?}
-use Rattle.atomic_table.specs.Table.{step, keeps, Allows, Splits}
-use Rattle.atomic_table.specs.Seated.{TableId}
-use Rattle.atomic_table.proofs.Lists.{at_set}
-use Rattle.ringcore.specs.declared.world.event.Who.{Who}
-use Rattle.ringcore.specs.world.Trails.{Run, same}
-use Rattle.ringcore.specs.world.Allowed.{Ring}
-use Rattle.ringcore.specs.world.Laws.{IsOne}
+use Rattle.ring.specs.table.{step, keeps, Allows, Splits, TableId, Participant, TableState, Holding, participant, WentOn, HasTrails, SitAt, Any, RuleHolds, Stands, ring_of, who_of, trail_of_first}
+use Rattle.ring.specs.table.{history_of_first, IsAlone, AreMadeBy, without_first, first_alone, both_of, all_knowing, HasAll, AllSit, HaveMet, has_met, has_found, port_of, PortValue}
+use Rattle.ring.specs.Runs.{Who, Run, same, Ring, IsOne}
 use Rattle.ringcore.specs.memory.Shadow.{AreAfter}
-use Rattle.ring.specs.declared.table.rule.Participant.{Participant}
-use Rattle.ring.specs.table.Rule.{TableState, Holding, participant, WentOn, HasTrails, SitAt, Any, RuleHolds, Stands, ring_of, who_of, trail_of_first, history_of_first, IsAlone}
-use Rattle.ring.specs.table.Operations.{AreMadeBy}
-use Rattle.ring.specs.table.StepEvents.{without_first, first_alone, both_of}
-use Rattle.ring.specs.table.Meetings.{all_knowing, HasAll, AllSit, HaveMet, has_met, has_found}
-use Rattle.ring.specs.table.Ports.{port_of, PortValue}
-use Rattle.ring.proofs.TableLemmas.Seats.{went_on_none, same_place, among_step}
+use Rattle.ring.proofs.TableLemmas.Seats.{went_on_none, seated_after, same_place, among_step}
 use Rattle.ring.proofs.TableLemmas.Steps.{deals_at, set_back}
 
 -- ---- all for whom a seat stands know the run as it is
@@ -74,11 +64,7 @@ finds_at ring slots id i g hs s k _ at _ =
         made = subst (AreMadeBy ring k.run) (sym (set_back s.words i)) k.made;
         only = k.only;
         seat = k.seat;
-        seated = λ j v got. ⊎_elim
-            (λ (own : (j ≡ id) × (w ≡ v)). subst (λ (t : ℕ × List Participant). SitAt k.seat t.0 t.1 × HasTrails ring k.run t.1) (λ q. (sym own.0 q, own.1 q))
-            (knowing_sit k.seat id k.run (g ∷ hs) mine.0, knowing_trails ring k.run (g ∷ hs) mine.1))
-            (λ (else : (j ≢ id) × (get_elem? s.views j ≡ some v)). k.seated j v else.1)
-            (at_set s.views id j w v got);
+        seated = λ j v. seated_after ring k.run k.seat s.views id w (knowing_sit k.seat id k.run (g ∷ hs) mine.0, knowing_trails ring k.run (g ∷ hs) mine.1) j v (λ _. k.seated j v);
         newest = among_step (λ p. p.history ≡ k.run) s.views id (g ∷ hs) w at (knowing_newest k.run (g ∷ hs)) k.newest;
         everyone = λ u one. among_step (λ p. p.who ≡ u) s.views id (g ∷ hs) w at (knowing_who u k.run (g ∷ hs)) (k.everyone u one);
       },
@@ -95,8 +81,9 @@ finds_at ring slots id i g hs s k _ at _ =
     )
 
 -- and the same, where the word that was found doesn't matter
-pub meets_at : (ring : Ring) (slots id i : ℕ) (g : Participant) (hs : List Participant) → Allows (RuleHolds ring) slots id (g ∷ hs, []) i (λ x. x) (has_met (step slots i 0 0 none) (g ∷ hs, []))
-meets_at ring slots id i g hs s k many at low = let did = finds_at ring slots id i g hs s k many at low in (did.0, did.1, did.2, did.3, did.4.0)
+pub meets_as : (ring : Ring) (slots id i : ℕ) (g : Participant) (hs : List Participant) (me : Holding) → me ≡ (g ∷ hs, []) → Allows (RuleHolds ring) slots id me i (λ x. x) (has_met (step slots i 0 0 none) me)
+meets_as ring slots id i g hs me is = subst (λ (m : Holding). Allows (RuleHolds ring) slots id m i (λ x. x) (has_met (step slots i 0 0 none) m)) (sym is)
+    (λ s k many at low. let did = finds_at ring slots id i g hs s k many at low in (did.0, did.1, did.2, did.3, did.4.0))
 
 -- ---- two seats, each of which stands for one alone
 
@@ -129,27 +116,21 @@ module _ (mine theirs : Holding) (my_own : IsAlone mine (who_of mine.0)) (their_
       let their_is : one ≡ (them ∷ [], []) = one_is ∙ ap (λ (m : Holding). let h : Holding = (first_alone m.0, []) in h) their_own.me_is in
       is ∙ (λ k. let h : Holding = (both_of (my_own.me_is k).0 (their_is k).0, (my_own.me_is k).1) in h)
 
-  pub meets_now : (key : Ring) (slots id i : ℕ) (joined : Holding) → joined ≡ both → Allows (RuleHolds key) slots id joined i (λ x. x) (has_met (step slots i 0 0 none) joined)
-  meets_now key slots id i joined is =
-      subst (λ (m : Holding). Allows (RuleHolds key) slots id m i (λ x. x) (has_met (step slots i 0 0 none) m)) (sym is) (meets_at key slots id i them (me ∷ []))
-
   module _ (joined met : Holding) (is : joined ≡ both) (did : HaveMet joined met) where
     known : HaveMet both met
     known = subst (λ (m : Holding). HaveMet m met) is did
 
     -- the run that both know from then on
-    pub run : Run
+    abbrev run : Run
     run = known.0
 
-    pub words : List ℕ
+    abbrev words : List ℕ
     words = known.1
 
     all : HasAll them.ring (them ∷ me ∷ []) run words
-    unfolding run words
     all = known.2
 
     met_is : met ≡ (all_knowing run (them ∷ me ∷ []), [])
-    unfolding run
     met_is = known.3
 
     -- the other has its seat back
@@ -157,9 +138,6 @@ module _ (mine theirs : Holding) (my_own : IsAlone mine (who_of mine.0)) (their_
     parts_now key id apart =
         subst (λ (m : Holding). Splits (RuleHolds key) id m.0 (without_first m.0) (first_alone m.0)) (sym met_is)
         (deals_at key id (record them { history = run }) (record me { history = run } ∷ []) (apart, tt))
-
-    their_stand : Stands them.ring them.who them.trail run words
-    their_stand = record { limits = all.limits; after = all.after; only = all.only; known = all.has.0.known; trail_is = all.has.0.trail }
 
     my_stand : Stands me.ring me.who me.trail run words
     my_stand = subst (λ (r : Ring). Stands r me.who me.trail run words) (sym all.has.1.0.ring_is)
@@ -176,7 +154,11 @@ module _ (mine theirs : Holding) (my_own : IsAlone mine (who_of mine.0)) (their_
       my_seat = subst (λ (m : Holding). IsAlone m (who_of m.0)) (sym i_am) record { me_is = refl; words = words; stands = my_stand }
 
       pub their_seat : IsAlone back (who_of back.0)
-      their_seat = subst (λ (m : Holding). IsAlone m (who_of m.0)) (sym they_are) record { me_is = refl; words = words; stands = their_stand }
+      their_seat = subst (λ (m : Holding). IsAlone m (who_of m.0)) (sym they_are) record {
+        me_is = refl;
+        words = words;
+        stands = record { limits = all.limits; after = all.after; only = all.only; known = all.has.0.known; trail_is = all.has.0.trail };
+      }
 
       -- what contracts see of it
       pub have_met : (my_table my_new_table their_table their_new_table : TableId) → my_new_table ≡ my_table → their_new_table ≡ their_table → (p q : PortValue) → port_of my_table mine ≡ p → port_of their_table theirs ≡ q

@@ -1,24 +1,10 @@
 -- The run of a table's rule is one: between two states it grows at its end, by the event of the seat that stepped.
-use Rattle.std.proofs.Common.{◌≡◌, ◌≢◌, ◌⊎◌, ℕ, Bool, true, false, true≢false, List, [], ◌∷◌, ◌++◌, length, length-append, refl, sym, ap, ◌∙◌, subst, ⊎_elim, inl, inr, arith}
+use Rattle.std.proofs.Common.{◌≡◌, ◌≢◌, ◌⊎◌, ℕ, List, [], ◌∷◌, ◌++◌, length, length-append, refl, sym, ap, ◌∙◌, subst, ⊎_elim, inl, inr, arith}
 use mathlib.Core.Option.{some-injective}
 use lib.ListN.{get_elem?}
-use Rattle.ringcore.specs.declared.world.event.Who.{Who}
-use Rattle.ringcore.specs.declared.world.event.Event.{Event}
-use Rattle.ringcore.specs.world.Trails.{Trail, Run, same, trail_of}
-use Rattle.ringcore.specs.world.Laws.{IsOne, OnlyOf}
-use Rattle.ringcore.specs.world.Allowed.{Ring}
-use Rattle.ring.specs.declared.table.rule.Participant.{Participant}
-use Rattle.ring.specs.table.Rule.{participant, WentOn, HasTrails, Any}
-use Rattle.ring.specs.table.OneRun.{IsOneRun}
-use Rattle.ring.proofs.TableLemmas.Trails.{same_refl, trail_here, trail_else, trail_append, none_before}
-use Rattle.ring.proofs.FinishLemmas.Told.{same_is}
-
-pub alike : (u v : Who) → (u ≡ v) ⊎ (u ≢ v)
-alike u v = by_same (same u v) refl
-  where
-    by_same : (b : Bool) → same u v ≡ b → (u ≡ v) ⊎ (u ≢ v)
-    by_same true e = inl (same_is u v e)
-    by_same false e = inr (λ is. true≢false (sym (same_refl u) ∙ ap (same u) is ∙ e))
+use Rattle.ring.specs.Runs.{Who, Event, Trail, Run, trail_of, IsOne, OnlyOf, Ring}
+use Rattle.ring.specs.table.{Participant, participant, WentOn, HasTrails, Any, IsOneRun}
+use Rattle.ring.proofs.TableLemmas.Trails.{alike, trail_here, trail_own, trail_else, trail_append, not_empty, none_before}
 
 -- ---- lists
 
@@ -32,10 +18,7 @@ only_left senders (x ∷ xs) b all = (all.0, only_left senders xs b all.1)
 
 nobody : (senders : ℕ) (n : Run) → OnlyOf senders n → ((u : Who) → IsOne senders u → trail_of u n ≡ []) → n ≡ []
 nobody senders [] all none = refl
-nobody senders (x ∷ xs) all none = absurd (not_none (sym (trail_here x.0 x.1 xs) ∙ none x.0 all.0))
-  where
-    not_none : ◌≡◌ {A = Trail} (x.1 ∷ trail_of x.0 xs) [] → ⊥
-    not_none is = cc
+nobody senders (x ∷ xs) all none = absurd (not_empty _ _ (sym (trail_here x.0 x.1 xs) ∙ none x.0 all.0))
 
 -- two runs on end that give each the trail of the second alone
 all_told : (senders : ℕ) (a b : Run) → OnlyOf senders (a ++ b) → ((u : Who) → IsOne senders u → trail_of u (a ++ b) ≡ trail_of u b) → a ≡ []
@@ -47,12 +30,7 @@ went_on_own x xs h on = by_newer on.newer on.run_is on.of_others
   where
     by_newer : (n : Run) → x ∷ xs ≡ n ++ h → trail_of x.0 n ≡ [] → x ∷ xs ≡ h
     by_newer [] is none = is
-    by_newer (y ∷ ys) is none =
-        let first : y ≡ x = cc in
-        absurd (not_none (sym (trail_here x.0 x.1 ys) ∙ ap (λ (z : Who × Event). trail_of x.0 (z ∷ ys)) (sym first) ∙ none))
-      where
-        not_none : ◌≡◌ {A = Trail} (x.1 ∷ trail_of x.0 ys) [] → ⊥
-        not_none e = cc
+    by_newer (y ∷ ys) is none = let first : y ≡ x = cc in absurd (not_empty _ _ (sym (trail_own x.0 y ys (ap (λ (z : Who × Event). z.0) first)) ∙ none))
 
 went_on_other : (u : Who) (x : Who × Event) (xs h : Run) → u ≢ x.0 → WentOn u h (x ∷ xs) → (x ∷ xs ≡ h) ⊎ WentOn u h xs
 went_on_other u x xs h ne on = by_newer on.newer on.run_is on.of_others
@@ -111,9 +89,7 @@ module _ (senders : ℕ) (who : Who) where
           (went_on_other u x xs s.h (λ e. ne (e ∙ mine)) s.one)
 
       agree_here : x.0 ≡ who → y.0 ≡ who → ◌≡◌ {A = Trail} (x.1 ∷ trail_of who xs) (y.1 ∷ trail_of who ys)
-      agree_here mine yours =
-          sym (trail_here who x.1 xs) ∙ ap (λ (w : Who). trail_of who ((w, x.1) ∷ xs)) (sym mine) ∙ agree who (subst (IsOne senders) mine only_a.0)
-          ∙ ap (λ (w : Who). trail_of who ((w, y.1) ∷ ys)) yours ∙ trail_here who y.1 ys
+      agree_here mine yours = sym (trail_own who x xs mine) ∙ agree who (subst (IsOne senders) mine only_a.0) ∙ trail_own who y ys yours
 
       agree_behind : x.0 ≡ who → y.0 ≡ who → Agree xs ys
       agree_behind mine yours u one = ⊎_elim
@@ -131,22 +107,21 @@ module _ (senders : ℕ) (who : Who) where
 
   -- a run in which this one has one event more, and with which all others share what they knew
   module _ (e : Event) (old : Run) where
+    -- the older run has nothing of this one behind the newer's step
+    not_whole : (new h : Run) → trail_of who new ≡ e ∷ trail_of who old → new ≡ h → (u : Who) → WentOn u h old → ⊥
+    not_whole new h mine whole u on = not_longer (trail_of who on.newer) (trail_of who old) e
+        (ap (trail_of who) (on.run_is ∙ ap (λ (l : Run). on.newer ++ l) (sym whole)) ∙ trail_append who on.newer new ∙ ap (λ (t : Trail). trail_of who on.newer ++ t) mine)
+
     one_more : (new : Run) → OnlyOf senders old → OnlyOf senders new → trail_of who new ≡ e ∷ trail_of who old → ((u : Who) → IsOne senders u → u ≢ who → trail_of u old ≡ trail_of u new) → Share old new
         → new ≡ (who, e) ∷ old
-    one_more [] only_o only_n mine others share = absurd (not_none (sym mine))
-      where
-        not_none : ◌≡◌ {A = Trail} (e ∷ trail_of who old) [] → ⊥
-        not_none is = cc
+    one_more [] only_o only_n mine others share = absurd (not_empty _ _ (sym mine))
     one_more (y ∷ ys) only_o only_n mine others share = by_first (alike y.0 who)
       where
         by_first : (y.0 ≡ who) ⊎ (y.0 ≢ who) → y ∷ ys ≡ (who, e) ∷ old
         by_first (inr ne) =
-            let s = share y.0 only_n.0 ne in
-            let whole : y ∷ ys ≡ s.h = went_on_own y ys s.h s.two in
-            let is : old ≡ s.one.newer ++ y ∷ ys = s.one.run_is ∙ ap (λ (l : Run). s.one.newer ++ l) (sym whole) in
-            absurd (not_longer (trail_of who s.one.newer) (trail_of who old) e (ap (trail_of who) is ∙ trail_append who s.one.newer (y ∷ ys) ∙ ap (λ (t : Trail). trail_of who s.one.newer ++ t) mine))
+            let s = share y.0 only_n.0 ne in absurd (not_whole (y ∷ ys) s.h mine (went_on_own y ys s.h s.two) y.0 s.one)
         by_first (inl yours) =
-            let both : ◌≡◌ {A = Trail} (y.1 ∷ trail_of who ys) (e ∷ trail_of who old) = sym (trail_here who y.1 ys) ∙ ap (λ (w : Who). trail_of who ((w, y.1) ∷ ys)) (sym yours) ∙ mine in
+            let both : ◌≡◌ {A = Trail} (y.1 ∷ trail_of who ys) (e ∷ trail_of who old) = sym (trail_own who y ys yours) ∙ mine in
             let event : y.1 ≡ e = cc in
             let rest : trail_of who ys ≡ trail_of who old = cc in
             let agree : Agree old ys = (λ u one. ⊎_elim
@@ -154,9 +129,7 @@ module _ (senders : ℕ) (who : Who) where
             (λ (ne : u ≢ who). others u one ne ∙ trail_else u y.0 y.1 ys (λ k. ne (k ∙ yours)))
             (alike u who)) in
             let shared : Share old ys = (λ u one ne. let s = share u one ne in ⊎_elim
-            (λ (whole : y ∷ ys ≡ s.h).
-            let is : old ≡ s.one.newer ++ y ∷ ys = s.one.run_is ∙ ap (λ (l : Run). s.one.newer ++ l) (sym whole) in
-            absurd (not_longer (trail_of who s.one.newer) (trail_of who old) e (ap (trail_of who) is ∙ trail_append who s.one.newer (y ∷ ys) ∙ ap (λ (t : Trail). trail_of who s.one.newer ++ t) mine)))
+            (λ (whole : y ∷ ys ≡ s.h). absurd (not_whole (y ∷ ys) s.h mine whole u s.one))
             (λ (on : WentOn u s.h ys). record { h = s.h; one = s.one; two = on })
             (went_on_other u y ys s.h (λ k. ne (k ∙ yours)) s.two)) in
             let same : old ≡ ys = same_runs old ys only_o only_n.1 agree shared in

@@ -1,53 +1,25 @@
 -- The words that the operations of a run make of zeros are one list.
-use Rattle.std.proofs.Common.{◌≡◌, ℕ, zero, suc, ◌+◌, ◌/◌, ◌%◌, ◌^◌, ◌<◌, List, [], ◌∷◌, length, refl, sym, ap, ◌∙◌, arith}
-use mathlib.Core.Logic.{dite}
-use native.Mathlib.Decide.{ℕ_discrete}
-use Rattle.std.proofs.lemmas.List.{length-set}
+use Rattle.std.proofs.Common.{◌≡◌, ◌≢◌, ⊎_elim, ℕ, ◌+◌, List, [], ◌∷◌, length, sym, ap, ◌∙◌, arith}
+use Rattle.std.proofs.lemmas.List.{length-set, ext_get_or}
 use Rattle.std.specs.Prelude.{slice_index, slice_set, bit_or}
 use Rattle.std.specs.Int.{bit_at}
-use Rattle.std.proofs.lemmas.Nat.Bits.{bit_at-lt, bit_at_lowest, bit_at-suc}
+use Rattle.std.proofs.lemmas.Nat.Bits.{bit_at-lt, same_from_bits}
+use Rattle.std.proofs.lemmas.Bool.{cases_eq}
 use Rattle.qindex.specs.Positions.{index_of}
 use Rattle.qindex.specs.ControlWord.{packed, advance_mask, close_mask}
-use Rattle.ringcore.specs.declared.world.event.Who.{Who}
-use Rattle.ringcore.specs.declared.world.event.Who.TheVariants.{Consumer, Sender}
-use Rattle.ringcore.specs.declared.world.event.Event.{Event}
-use Rattle.ringcore.specs.declared.world.event.Event.TheVariants.{Won, Write, Flip, Advance, Close, Acknowledge}
-use Rattle.ringcore.specs.world.Trails.{Run}
-use Rattle.ringcore.specs.world.World.{head, world, control, half_of}
-use Rattle.ringcore.specs.world.Allowed.{Ring}
+use Rattle.ring.specs.Runs.{Who, Consumer, Sender, Event, Won, Write, Flip, Advance, Close, Acknowledge, Run, head, world, control, half_of, Ring}
 use Rattle.ringcore.specs.memory.Layout.{control_word, flag_word, data_word, cell}
 use Rattle.ringcore.specs.memory.Flags.{IsFlipMask}
 use Rattle.ringcore.specs.memory.StepLaws.{turned}
-use Rattle.ring.specs.table.Operations.{IsOperation}
-use Rattle.ring.specs.table.OneRun.{WordsAreOne}
+use Rattle.ring.specs.table.{IsOperation, WordsAreOne}
 
--- ---- a mask is told by its bits
-
-same_bits : (k a b : ℕ) → a < 2 ^ k → b < 2 ^ k → ((i : ℕ) → bit_at a i ≡ bit_at b i) → a ≡ b
-same_bits zero a b low lower bits = omega arith
-same_bits (suc k) a b low lower bits =
-    let half : a / 2 ≡ b / 2 = same_bits k (a / 2) (b / 2) (omega arith) (omega arith) (λ i. sym (bit_at-suc a i) ∙ bits (suc i) ∙ bit_at-suc b i) in
-    let last : a % 2 ≡ b % 2 = sym (bit_at_lowest a) ∙ bits 0 ∙ bit_at_lowest b in omega (arith, half, last)
-
+-- a mask is told by its bits
 one_mask : (g p count a b : ℕ) → IsFlipMask g p count a → IsFlipMask g p count b → a ≡ b
-one_mask g p count a b one other = same_bits 64 a b one.fits other.fits (λ i.
+one_mask g p count a b one other = same_from_bits a b (λ i.
     let low = bit_at-lt a i in let lower = bit_at-lt b i in
     let there : bit_at a i ≡ 1 → bit_at b i ≡ 1 = (λ is. (other.bits i).1 ((one.bits i).0 is)) in
     let back : bit_at b i ≡ 1 → bit_at a i ≡ 1 = (λ is. (one.bits i).1 ((other.bits i).0 is)) in
-    dite (ℕ_discrete (bit_at a i) 1)
-    (λ set. set ∙ sym (there set))
-    (λ unset. dite (ℕ_discrete (bit_at b i) 1) (λ set. absurd (unset (back set))) (λ neither. omega (arith, low, lower, unset, neither))))
-
--- ---- lists
-
-all_zeros : (a b : List ℕ) → length a ≡ length b → ((i : ℕ) → slice_index a i ≡ 0) → ((i : ℕ) → slice_index b i ≡ 0) → a ≡ b
-all_zeros [] [] same none other = refl
-all_zeros [] (y ∷ ys) same none other = absurd (omega (arith, same))
-all_zeros (x ∷ xs) [] same none other = absurd (omega (arith, same))
-all_zeros (x ∷ xs) (y ∷ ys) same none other =
-    let rest : xs ≡ ys = all_zeros xs ys (omega (arith, same)) (λ i. none (suc i)) (λ i. other (suc i)) in
-    let first : x ≡ y = none 0 ∙ sym (other 0) in
-    (λ k. first k ∷ rest k)
+    ⊎_elim (λ set. set ∙ sym (there set)) (λ (unset : bit_at a i ≢ 1). let none : bit_at b i ≢ 1 = (λ set. unset (back set)) in omega (arith, low, lower, unset, none)) (cases_eq (bit_at a i) 1))
 
 -- ---- one operation
 
@@ -79,7 +51,7 @@ one_operation ring run who e old older new newer same one other = one ∙ same �
 -- ---- all of them
 
 pub words_are_one : WordsAreOne
-words_are_one ring [] words others many made again = all_zeros words others many made again
+words_are_one ring [] words others many made again = ext_get_or 0 words others many (λ i _. made i ∙ sym (again i))
 words_are_one ring (x ∷ xs) words others many made again =
     let before : length made.0 ≡ length again.0 = sym (keeps_length ring xs x.0 x.1 made.0 words made.2) ∙ many ∙ keeps_length ring xs x.0 x.1 again.0 others again.2 in
     one_operation ring xs x.0 x.1 made.0 again.0 words others (words_are_one ring xs made.0 again.0 before made.1 again.1) made.2 again.2

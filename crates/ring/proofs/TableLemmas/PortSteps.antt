@@ -1,30 +1,20 @@
 -- The steps of a seat that stands for one alone, by what contracts see of it.
-use Rattle.std.proofs.Common.{◌≡◌, ℕ, ◌+◌, ◌<◌, Bool, true, false, cond, ◌==◌, List, ◌∷◌, [], Some, refl, sym, ap, ◌∙◌, subst}
+use Rattle.std.proofs.Common.{◌≡◌, ℕ, ◌+◌, ◌<◌, Bool, true, false, cond, ◌==◌, List, ◌∷◌, [], Some, sym, ap, ◌∙◌, subst, ◌^◌, arith}
+use Rattle.std.proofs.lemmas.Option.{same_Some}
 use mathlib.Core.Option.{none}
-use Rattle.atomic_table.specs.Table.{step, Allows}
-use Rattle.atomic_table.specs.Seated.{TableId}
-use Rattle.cmdcodec.specs.declared.raw.Raw.{Raw}
-use Rattle.qindex.specs.declared.control.Control.{Control}
+use mathlib.Core.Logic.{dite}
+use native.Mathlib.Decide.{dec_le}
+use Rattle.ring.specs.table.{step, Allows, TableId, Holding, participant, RuleHolds, ring_of, who_of, trail_of_first, history_of_first, IsAlone, Intent, reserves, tests, asks, IsEventOf, Added}
+use Rattle.ring.specs.table.{IsNewest, adds_for, GrewBy, port_of, PortValue, IsWonOrLost, IsSlotAt, MayFlipAt}
+use Rattle.ring.specs.Runs.{Raw, Control, Who, Sender, Event, Won, Lost, Test, Ask, Trail, Run, trail_of, looked, start_index, taken_by, world, control, ShareAWord, Allowed, MayWin, MayLose, MayFlip}
+use Rattle.ring.specs.Runs.{Ring, IsOne, EveryRun, AcknowledgedAreTaken, NumbersAreFew}
 use Rattle.qindex.specs.Positions.{IndexValue, index_of}
 use Rattle.qindex.specs.ControlWord.{control_in}
-use Rattle.ringcore.specs.declared.world.event.Who.{Who}
-use Rattle.ringcore.specs.declared.world.event.Who.TheVariants.{Sender}
-use Rattle.ringcore.specs.declared.world.event.Event.{Event}
-use Rattle.ringcore.specs.declared.world.event.Event.TheVariants.{Won, Lost, Test}
-use Rattle.ringcore.specs.world.Trails.{Trail, Run, trail_of, looked, start_index, taken_by}
-use Rattle.ringcore.specs.world.World.{world, control}
-use Rattle.ringcore.specs.world.Allowed.{ShareAWord, Allowed, MayWin, MayLose, MayFlip, Ring}
 use Rattle.ringcore.specs.memory.Layout.{words_of}
 use Rattle.ringcore.specs.memory.Flags.{ready_in}
-use Rattle.ringcore.specs.world.Laws.{IsOne}
 use Rattle.ringcore.specs.machine.StepAnswers.{next_number}
-use Rattle.ring.specs.table.Rule.{Holding, participant, RuleHolds, ring_of, who_of, trail_of_first, history_of_first, IsAlone}
-use Rattle.ring.specs.table.Intents.{Intent, reserves, tests}
-use Rattle.ring.specs.table.StepEvents.{IsEventOf, Added, IsNewest, adds_for}
-use Rattle.ring.specs.table.Histories.{GrewBy}
 use Rattle.ring.proofs.TableLemmas.Steps.{MayStep, steps_as}
 use Rattle.ring.specs.Rings.{RingValue}
-use Rattle.ring.specs.table.Ports.{port_of, PortValue, IsWonOrLost, IsSlotAt, MayFlipAt}
 
 -- A step that its law allows by what contracts see of the seat: whatever it is for, it may be taken.
 module _ (table : TableId) (me : Holding) (p : PortValue) (is : port_of table me ≡ p) (alone : IsAlone me (who_of me.0)) (ring : Ring) (slots id : ℕ) (intent sought : Intent) (intent_is : intent ≡ sought) (who : Who) (who_is : p.who ≡ who) where
@@ -54,11 +44,8 @@ sender_known table me p is alone s who =
 -- ---- the words are in the table of the ring that is lent
 
 module _ (key : Ring) (many : ℕ) (words : many ≡ words_of key.geometry key.senders) (a : RingValue) (b : RingValue) (same : a ≡ b) (table : TableId) (b_is : b ≡ record { table = table; made_with = key }) where
-  key_is : a.made_with ≡ key
-  key_is = ap (λ (r : RingValue). r.made_with) (same ∙ b_is)
-
   pub words_are : many ≡ words_of a.made_with.geometry a.made_with.senders
-  words_are = words ∙ ap (λ (r : Ring). words_of r.geometry r.senders) (sym key_is)
+  words_are = words ∙ ap (λ (r : RingValue). words_of r.made_with.geometry r.made_with.senders) (sym (same ∙ b_is))
 
 -- ---- what a step tells, as contracts see it
 
@@ -83,47 +70,39 @@ module _ (table new_table : TableId) (me new : Holding) (s : ℕ) (body : List R
     run_is = ap (λ (m : Holding). history_of_first m.0) took.3 ∙ ap (λ (d : Event). let l : Run = (who_of me.0, d) ∷ took.1 in l) e_is;
   }
 
-  told_by : (v : Bool) → (x == old) ≡ v → Told v
+  trail_grown : (e : Event) → took.0 ≡ e → record (port_of new_table new) { history = [] } ≡ record (port_of table me) { trail = e ∷ t; history = [] }
+  trail_grown e e_is = stepped_is table new_table me new took.0 ((who_of me.0, took.0) ∷ took.1) same took.3 ∙ ap (λ (d : Event). let q : PortValue = record (port_of table me) { trail = d ∷ t; history = [] } in q) e_is
+
+  -- it was this sender's to take, where it stands
+  allowed : (e : Event) → took.0 ≡ e → Allowed (ring_of me.0) (world took.1) (trail_of (Sender s) took.1) (Sender s) e
+  allowed e e_is = subst (λ (q : Who × Event). Allowed (ring_of me.0) (world took.1) (trail_of q.0 took.1) q.0 q.1) (λ k. (who_is k, e_is k)) took.4.after.after.run_is.1
+
+  found_before : looked (trail_of (Sender s) took.1) ≡ Some seen
+  found_before = ap looked (ap (λ (u : Who). trail_of u took.1) (sym who_is) ∙ took.4.before.trail_is) ∙ looked_is
+
+  told_by : (v : Bool) → took.0 ≡ cond v (Won body (next_number t closing)) (Lost body closing (control_in (ring_of me.0).geometry x)) → Told v
   unfolding grown
-  told_by true hit =
-      let e_is : took.0 ≡ Won body (next_number t closing) = took.2 ∙ ap (λ (b : Bool). cond b (Won body (next_number t closing)) (Lost body closing (control_in (ring_of me.0).geometry x))) hit in
-      let run : Run = took.1 in
-      let last : IsNewest (ring_of me.0) (who_of me.0) t (history_of_first me.0) run took.0 = took.4 in
-      let may : MayWin (ring_of me.0) (world run) (trail_of (Sender s) run) body (next_number t closing) =
-      subst (λ (q : Who × Event). Allowed (ring_of me.0) (world run) (trail_of q.0 run) q.0 q.1) (λ k. (who_is k, e_is k)) last.after.after.run_is.1 in
-      let behind : trail_of (Sender s) run ≡ t = ap (λ (u : Who). trail_of u run) (sym who_is) ∙ last.before.trail_is in
-      record {
-        trail_is = stepped_is table new_table me new took.0 ((who_of me.0, took.0) ∷ took.1) same took.3 ∙ ap (λ (e : Event). let q : PortValue = record (port_of table me) { trail = e ∷ t; history = [] } in q) e_is;
-        grew = grown (Won body (next_number t closing)) e_is;
-        stood = (let e : Some seen ≡ Some (control (ring_of me.0).geometry (world run)) = sym looked_is ∙ sym (ap looked behind) ∙ may.looked_at in cc);
-      }
-  told_by false miss =
+  told_by true e_is =
+      let may : MayWin (ring_of me.0) (world took.1) (trail_of (Sender s) took.1) body (next_number t closing) = allowed _ e_is in
+      record { trail_is = trail_grown _ e_is; grew = grown _ e_is; stood = same_Some _ _ (sym found_before ∙ may.looked_at) }
+  told_by false e_is =
       let found : Control = control_in (ring_of me.0).geometry x in
-      let e_is : took.0 ≡ Lost body closing found = took.2 ∙ ap (λ (b : Bool). cond b (Won body (next_number t closing)) (Lost body closing found)) miss in
-      let run : Run = took.1 in
-      let last : IsNewest (ring_of me.0) (who_of me.0) t (history_of_first me.0) run took.0 = took.4 in
-      let may : MayLose (ring_of me.0) (world run) (trail_of (Sender s) run) body closing found =
-      subst (λ (q : Who × Event). Allowed (ring_of me.0) (world run) (trail_of q.0 run) q.0 q.1) (λ k. (who_is k, e_is k)) last.after.after.run_is.1 in
-      let behind : trail_of (Sender s) run ≡ t = ap (λ (u : Who). trail_of u run) (sym who_is) ∙ last.before.trail_is in
-      let before_is : may.before ≡ seen = (let e : Some may.before ≡ Some seen = sym may.tries.looked_at ∙ ap looked behind ∙ looked_is in cc) in
-      let history_is : (port_of new_table new).history ≡ (Sender s, Lost body closing found) ∷ run = ap (λ (m : Holding). history_of_first m.0) took.3 ∙ (λ k. let l : Run = (who_is k, e_is k) ∷ run in l) in
+      let may : MayLose (ring_of me.0) (world took.1) (trail_of (Sender s) took.1) body closing found = allowed _ e_is in
+      let history_is : (port_of new_table new).history ≡ (Sender s, Lost body closing found) ∷ took.1 = ap (λ (m : Holding). history_of_first m.0) took.3 ∙ (λ k. let l : Run = (who_is k, e_is k) ∷ took.1 in l) in
       record {
         found = found;
-        other = λ is. may.other (is ∙ sym before_is);
-        trail_is = stepped_is table new_table me new took.0 ((who_of me.0, took.0) ∷ took.1) same took.3 ∙ ap (λ (e : Event). let q : PortValue = record (port_of table me) { trail = e ∷ t; history = [] } in q) e_is;
-        grew = grown (Lost body closing found) e_is;
+        other = λ is. may.other (is ∙ same_Some _ _ (sym found_before ∙ may.tries.looked_at));
+        trail_is = trail_grown _ e_is;
+        grew = grown _ e_is;
         found_is = may.found_is ∙ sym (ap (λ (r : Run). control (ring_of me.0).geometry (world r)) history_is);
       }
-
-  pub exchange_told : Told (x == old)
-  exchange_told = told_by (x == old) refl
 
 pub exchange_told_as : (table new_table : TableId) (me new : Holding) (p : PortValue) → port_of table me ≡ p → (s : ℕ) (body : List Raw) (closing : Bool) (seen : Control) (intent : Intent) (slots i x old next : ℕ)
     → p.who ≡ Sender s → looked p.trail ≡ Some seen → new_table ≡ table → intent ≡ reserves body closing → adds_for intent (step slots i old next none) me x new
     → IsWonOrLost body closing seen p (port_of new_table new) (x == old)
 exchange_told_as table new_table me new p is s body closing seen intent slots i x old next who_is looked_is same intent_is did =
     subst (λ (q : PortValue). q.who ≡ Sender s → looked q.trail ≡ Some seen → IsWonOrLost body closing seen q (port_of new_table new) (x == old)) is
-    (λ w l. exchange_told table new_table me new s body closing seen x old w l same (subst (λ (n : Intent). adds_for n (step slots i old next none) me x new) intent_is did)) who_is looked_is
+    (λ w l. let took = subst (λ (n : Intent). adds_for n (step slots i old next none) me x new) intent_is did in told_by table new_table me new s body closing seen x old w l same took (x == old) took.2) who_is looked_is
 
 -- a test, of what it answers
 pub tested : (table new_table : TableId) (me new : Holding) (p : PortValue) → port_of table me ≡ p → (intent : Intent) (slots i limit word found : ℕ) → new_table ≡ table → intent ≡ tests limit
@@ -139,17 +118,27 @@ tested table new_table me new p is intent slots i limit word found same intent_i
 
 -- ---- a flip, by what its caller knows
 
-pub may_flip_at : (ring : Ring) (trail : Trail) (p offset count : ℕ) → MayFlipAt trail offset count → ShareAWord 64 ring.geometry (p + offset) count → ring.flags ≡ 64 → MayFlip ring trail p offset count
-may_flip_at ring trail p offset count may share flags = record {
+pub may_flip_all : (q : PortValue) (slot : IndexValue) (offset count : ℕ) → MayFlipAt q.trail offset count → IsSlotAt q slot offset
+    → ((geometry position : ℕ) → slot ≡ index_of geometry position → ShareAWord 64 geometry position count)
+    → (position : ℕ) → start_index q.ring.made_with.geometry q.trail ≡ index_of q.ring.made_with.geometry position → q.ring.made_with.flags ≡ 64 → MayFlip q.ring.made_with q.trail position offset count
+may_flip_all q slot offset count may at share position here flags = record {
   many = may.many;
   inside = may.inside;
-  in_word = subst (λ (f : ℕ). ShareAWord f ring.geometry (p + offset) count) (sym flags) share;
+  in_word = subst (λ (f : ℕ). ShareAWord f q.ring.made_with.geometry (position + offset) count) (sym flags) (share q.ring.made_with.geometry (position + offset) (at position here));
   unflipped = may.unflipped;
   written = may.written;
 }
 
-pub may_flip_all : (q : PortValue) (slot : IndexValue) (offset count : ℕ) → MayFlipAt q.trail offset count → IsSlotAt q slot offset
-    → ((geometry position : ℕ) → slot ≡ index_of geometry position → ShareAWord 64 geometry position count)
-    → (position : ℕ) → start_index q.ring.made_with.geometry q.trail ≡ index_of q.ring.made_with.geometry position → q.ring.made_with.flags ≡ 64 → MayFlip q.ring.made_with q.trail position offset count
-may_flip_all q slot offset count may at share position here =
-    may_flip_at q.ring.made_with q.trail position offset count may (share q.ring.made_with.geometry (position + offset) (at position here))
+-- ---- what an ask finds is a number
+
+last_few : EveryRun AcknowledgedAreTaken → NumbersAreFew → (ring : Ring) (who : Who) (s x : ℕ) (trail : Trail) (older run : Run) (e : Event) → IsNewest ring who trail older run e → who ≡ Sender s → e ≡ Ask x → x < 2 ^ 32
+last_few taken few ring who s x trail older run e last who_is e_is =
+    let found : x ≡ (world run).acknowledged s = subst (λ (q : Who × Event). Allowed ring (world run) (trail_of q.0 run) q.0 q.1) (λ k. (who_is k, e_is k)) last.after.after.run_is.1 in
+    let ok = last.before.after.run_is in let most = last.before.limits.batches in
+    dite (dec_le 1 x)
+    (λ some. let le = few ring run ok s x (taken ring run ok s x some (omega arith)) in omega arith)
+    (λ none_yet. omega arith)
+
+pub ask_few : EveryRun AcknowledgedAreTaken → NumbersAreFew → (table : TableId) (me new : Holding) (p : PortValue) → port_of table me ≡ p → (s slots i x : ℕ) → p.who ≡ Sender s → adds_for asks (step slots i 0 0 none) me x new → x < 2 ^ 32
+ask_few taken few table me new p is s slots i x who did =
+    last_few taken few (ring_of me.0) (who_of me.0) s x (trail_of_first me.0) (history_of_first me.0) did.1 did.0 did.4 (ap (λ (q : PortValue). q.who) is ∙ who) did.2

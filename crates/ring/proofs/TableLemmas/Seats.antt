@@ -4,13 +4,9 @@ use mathlib.Core.Option.{some, some-injective, some-ne-none}
 use mathlib.Core.Logic.{dite}
 use native.Mathlib.Decide.{ℕ_discrete}
 use lib.ListN.{get_elem?}
-use Rattle.atomic_table.proofs.Lists.{set_else, at_longer, at_last}
-use Rattle.ringcore.specs.declared.world.event.Who.{Who}
-use Rattle.ringcore.specs.declared.world.event.Event.{Event}
-use Rattle.ringcore.specs.world.Trails.{Run, same}
-use Rattle.ringcore.specs.world.Allowed.{Ring}
-use Rattle.ring.specs.declared.table.rule.Participant.{Participant}
-use Rattle.ring.specs.table.Rule.{WentOn, HasTrails, SitAt, Any, Among}
+use Rattle.atomic_table.proofs.Lists.{set_else, at_set, at_longer, at_last}
+use Rattle.ring.specs.Runs.{Who, Event, Run, same, Ring}
+use Rattle.ring.specs.table.{Participant, WentOn, HasTrails, SitAt, Any, Among}
 use Rattle.ring.proofs.TableLemmas.Trails.{same_not, trail_else}
 
 -- a run went on by another's step, or has just come
@@ -76,6 +72,14 @@ at_snoc_index [] a b zero e = inr (refl, some-injective a b e)
 at_snoc_index [] a b (suc j) e = absurd (some-ne-none b (sym e))
 at_snoc_index (x ∷ xs) a b zero e = inl e
 at_snoc_index (x ∷ xs) a b (suc j) e = ⊎_elim inl (λ t. inr (ap suc t.0, t.1)) (at_snoc_index xs a b j e)
+
+-- those of a view that was set, or of another
+pub seated_after : (ring : Ring) (run : Run) (seat : Who → ℕ) (views : List (List Participant)) (id : ℕ) (w : List Participant) → SitAt seat id w × HasTrails ring run w
+    → (j : ℕ) (v : List Participant) → (j ≢ id → get_elem? views j ≡ some v → SitAt seat j v × HasTrails ring run v) → get_elem? (set views id w) j ≡ some v → SitAt seat j v × HasTrails ring run v
+seated_after ring run seat views id w here j v else got = ⊎_elim
+    (λ (own : (j ≡ id) × (w ≡ v)). subst (λ (t : ℕ × List Participant). SitAt seat t.0 t.1 × HasTrails ring run t.1) (λ q. (sym own.0 q, own.1 q)) here)
+    (λ (other : (j ≢ id) × (get_elem? views j ≡ some v)). else other.0 other.1)
+    (at_set views id j w v got)
 
 -- ---- one of those who sit at a seat
 

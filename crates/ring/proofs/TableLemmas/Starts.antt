@@ -6,25 +6,17 @@ use mathlib.Core.Option.{some, some-injective, some-ne-none}
 use mathlib.Core.Logic.{dite}
 use native.Mathlib.Decide.{ℕ_discrete}
 use lib.ListN.{get_elem?}
-use Rattle.atomic_table.specs.Table.{opening, Splits}
-use Rattle.atomic_table.specs.Seated.{TableId}
+use Rattle.ring.specs.table.{opening, Splits, TableId, Participant, Holding, participant, participants_from, first_participants, Any, HasTrails, SitAt, RuleHolds, IsWithinLimits, IsAlone, who_of}
+use Rattle.ring.specs.table.{without_first, first_alone, port_of, PortValue}
 use Rattle.qindex.specs.Indexes.{IsGeometry}
-use Rattle.ringcore.specs.declared.world.event.Who.{Who}
-use Rattle.ringcore.specs.declared.world.event.Who.TheVariants.{Consumer, Sender}
-use Rattle.ringcore.specs.world.Laws.{IsOne}
+use Rattle.ring.specs.Runs.{Who, Consumer, Sender, IsOne, Ring}
 use Rattle.ringcore.specs.memory.Layout.{words_of}
-use Rattle.ringcore.specs.world.Allowed.{Ring}
 use Rattle.ringcore.specs.memory.Shadow.{AreAfter}
 use Rattle.ringcore.specs.memory.StepLaws.{OpensAllZero}
-use Rattle.ring.specs.declared.table.rule.Participant.{Participant}
-use Rattle.ring.specs.table.Rule.{Holding, participant, participants_from, first_participants, Any, HasTrails, SitAt, RuleHolds, IsWithinLimits, IsAlone, who_of}
-use Rattle.ring.specs.table.StepEvents.{without_first, first_alone}
-use Rattle.ring.specs.declared.sender.tally.Tally.{Tally}
+use Rattle.ring.specs.sender.{Tally, SenderValue, IsSender}
 use Rattle.ring.proofs.TableLemmas.Seats.{Without, went_on_none}
 use Rattle.ring.proofs.TableLemmas.Steps.{deals_at}
-use Rattle.ring.specs.table.Ports.{port_of, PortValue}
 use Rattle.ring.specs.Rings.{RingValue}
-use Rattle.ring.specs.sender.Senders.{SenderValue, IsSender}
 use Rattle.ring.specs.NewRings.{new_sender, new_senders}
 
 get_zero : (m k : ℕ) → ◌≡◌ {A = ℕ} (slice_index (replicate m 0) k) 0
@@ -59,8 +51,9 @@ all_in_first ring (Sender s) one = sender_in ring 0 ring.senders s (omega arith)
 pub zeros_after : OpensAllZero → (ring : Ring) (m : ℕ) → IsGeometry ring.geometry → ring.flags ≡ 64 → m ≡ words_of ring.geometry ring.senders → AreAfter ring [] (replicate m 0)
 zeros_after opens ring m geometry flags is = opens ring (replicate m 0) geometry flags (length-replicate m 0 ∙ is) (get_zero m)
 
-pub starts : OpensAllZero → (ring : Ring) (m : ℕ) → IsWithinLimits ring → IsGeometry ring.geometry → ring.flags ≡ 64 → m ≡ words_of ring.geometry ring.senders → RuleHolds ring (opening (replicate m 0) [] (first_participants ring))
-starts opens ring m limits geometry flags is = record {
+pub starts : OpensAllZero → (ring : Ring) (m : ℕ) (words : List ℕ) → words ≡ replicate m 0 → IsWithinLimits ring → IsGeometry ring.geometry → ring.flags ≡ 64 → m ≡ words_of ring.geometry ring.senders
+    → RuleHolds ring (opening words [] (first_participants ring))
+starts opens ring m words zeros limits geometry flags is = subst (λ (ws : List ℕ). RuleHolds ring (opening ws [] (first_participants ring))) (sym zeros) record {
   limits = limits;
   run = [];
   after = zeros_after opens ring m geometry flags is;
@@ -84,9 +77,6 @@ pub deals_as : (key : Ring) (id : ℕ) (ring : Ring) (k more : ℕ) (v : List Pa
 deals_as key id ring k more v is = subst (λ (l : List Participant). Splits (RuleHolds key) id l (without_first l) (first_alone l)) (sym is)
     (deals_at key id (participant ring (Sender k) [] []) (participants_from ring (suc k) more) (without_from ring k (suc k) more (omega arith)))
 
-abbrev pub new_tally : ℕ → Tally
-new_tally k = record { sender = k; batches = 0; numbers = 0 }
-
 -- one that has taken no step stands in the empty run
 pub fresh : OpensAllZero → (ring : Ring) (who : Who) (me : Holding) → IsWithinLimits ring → IsGeometry ring.geometry → ring.flags ≡ 64 → IsOne ring.senders who → me ≡ (participant ring who [] [] ∷ [], []) → IsAlone me (who_of me.0)
 fresh opens ring who me limits geometry flags known is = subst (λ (m : Holding). IsAlone m (who_of m.0)) (sym is) record {
@@ -105,7 +95,7 @@ rest_of ring k more m w is told = told ∙ ap (λ (x : Holding). let y : Holding
 pub new_state : (table : TableId) (ring : Ring) (who : Who) (me : Holding) → me ≡ (participant ring who [] [] ∷ [], []) → port_of table me ≡ record { ring = record { table = table; made_with = ring }; who = who; trail = []; history = [] }
 new_state table ring who me is = ap (port_of table) is
 
-pub new_is_sender : (p : PortValue) (ring : RingValue) (k : ℕ) → p ≡ record { ring = ring; who = Sender k; trail = []; history = [] } → (t : Tally) → t ≡ new_tally k → IsSender p t
+pub new_is_sender : (p : PortValue) (ring : RingValue) (k : ℕ) → p ≡ record { ring = ring; who = Sender k; trail = []; history = [] } → (t : Tally) → t ≡ record { sender = k; batches = 0; numbers = 0 } → IsSender p t
 new_is_sender p ring k is t t_is = subst (λ (q : PortValue × Tally). IsSender q.0 q.1) (λ i. (sym is i, sym t_is i)) record {
   tallied = record { who_is = refl; batches_are = refl; numbers_are = refl; numbered = omega arith; most = omega arith };
   settled = λ j h. absurd (omega arith);

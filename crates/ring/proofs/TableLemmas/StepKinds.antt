@@ -1,33 +1,22 @@
 -- What each kind of step may do, by its law.
-use Rattle.std.proofs.Common.{◌≡◌, ℕ, suc, Bool, true, false, cond, eq-eqb, eqb-true, true≢false, ◌+◌, ◌<◌, List, [], ◌∷◌, refl, sym, ap, ◌∙◌, subst, arith, ◌%◌, ◌≤◌, mod-lt}
+use Rattle.std.proofs.Common.{◌≡◌, ℕ, suc, Bool, true, false, cond, eq-eqb, eqb-true, true≢false, ◌+◌, ◌<◌, List, ◌∷◌, refl, sym, ap, ◌∙◌, subst, arith, ◌%◌, ◌≤◌, mod-lt}
 use Rattle.std.proofs.lemmas.Nat.{pow_pos}
 use Rattle.std.specs.Prelude.{◌==◌, Option, Some, length, slice_index, slice_set, slice_get, bit_or, bit_xor}
+use Rattle.std.proofs.lemmas.List.{get_or-set_same}
 use prog.Atomic.{either}
-use Rattle.cmdcodec.specs.declared.raw.Raw.{Raw}
-use Rattle.qindex.specs.declared.control.Control.{Control}
+use Rattle.ring.specs.Runs.{Raw, Control, Who, Consumer, Sender, Event, Look, Won, Lost, Write, Flip, Close, Test, Read, Advance, Acknowledge, Ask, Half, Lo, Hi, Trail, Run, trail_of, batch_length}
+use Rattle.ring.specs.Runs.{found_ready, start_index, taken_by, acknowledged_by, head, world, half_of, IsRunLength, MayTry, IsNextNumber, MayWrite, MayFlip, MayAdvance, SyncIsTaken, length_with, Ring}
+use Rattle.ring.specs.Runs.{EveryRun, SyncsAreCounted, syncs_taken, TellsTheHead, TellsTheNumbers}
 use Rattle.qindex.specs.Positions.{size, index_of}
 use Rattle.qindex.specs.ControlWord.{packed, control_in, advance_mask, close_mask}
-use Rattle.ringcore.specs.declared.world.event.Who.{Who}
-use Rattle.ringcore.specs.declared.world.event.Who.TheVariants.{Consumer, Sender}
-use Rattle.ringcore.specs.declared.world.event.Event.{Event}
-use Rattle.ringcore.specs.declared.world.event.Event.TheVariants.{Look, Won, Lost, Write, Flip, Close, Test, Read, Advance, Acknowledge, Ask}
-use Rattle.ringcore.specs.declared.world.event.Half.{Half}
-use Rattle.ringcore.specs.declared.world.event.Half.TheVariants.{Lo, Hi}
-use Rattle.ringcore.specs.world.Trails.{Trail, Run, trail_of, batch_length, found_ready, start_index, taken_by, acknowledged_by}
-use Rattle.ringcore.specs.world.World.{head, world, half_of}
-use Rattle.ringcore.specs.world.Allowed.{IsRunLength, MayTry, IsNextNumber, MayWrite, MayFlip, MayAdvance, SyncIsTaken, length_with, Ring}
-use Rattle.ringcore.specs.world.Laws.{EveryRun, SyncsAreCounted, syncs_taken}
 use Rattle.ringcore.specs.memory.Layout.{control_word, flag_word, data_word, half_number, cell, words_of}
 use Rattle.ringcore.specs.memory.Flags.{IsFlipMask, ready_in}
 use Rattle.ringcore.specs.memory.Shadow.{AreAfter}
-use Rattle.ringcore.specs.memory.StepLaws.{Always, HasAControlWord, LooksByALoad, ClosesByAnOr, WinsByAnExchange, LosesByAnExchange, WritesByAStore, FlipsByAnExclusiveOr, ReadsByALoad, AdvancesByAnExclusiveOr, AcknowledgesByAStore, AsksByALoad, StartsWhereItLooked, with_reserved, reserved_commands, TestsFindReadyIn}
+use Rattle.ringcore.specs.memory.StepLaws.{Always, HasAControlWord, LooksByALoad, ClosesByAnOr, WinsByAnExchange, LosesByAnExchange, WritesByAStore, FlipsByAnExclusiveOr, ReadsByALoad}
+use Rattle.ringcore.specs.memory.StepLaws.{AdvancesByAnExclusiveOr, AcknowledgesByAStore, AsksByALoad, StartsWhereItLooked, with_reserved, reserved_commands, TestsFindReadyIn}
 use Rattle.ringcore.specs.machine.StepAnswers.{next_number}
-use Rattle.ring.specs.table.Rule.{Stands}
-use Rattle.ring.specs.table.Intents.{looks, closes, tests, reserves, writes, flips, reads, advances, acknowledges, asks}
-use Rattle.ring.specs.table.Operations.{IsOperation}
-use Rattle.ring.specs.table.StepEvents.{IsEventOf}
+use Rattle.ring.specs.table.{Stands, looks, closes, tests, reserves, writes, flips, reads, advances, acknowledges, asks, IsOperation, IsEventOf}
 use Rattle.ring.proofs.TableLemmas.Steps.{MayStep, set_back}
-use Rattle.ringcore.specs.world.ConsumerLaws.{TellsTheHead, TellsTheNumbers}
 
 many_is : (trail : Trail) (closing : Bool) (body : List Raw) → length_with closing body ≡ batch_length body (next_number trail closing)
 many_is trail true body = refl
@@ -81,11 +70,6 @@ module _ (wins : Always WinsByAnExchange) (loses : Always LosesByAnExchange) (ri
   tries : MayTry ring (trail_of (Sender s) run) body (length_with closing body) before
   tries = subst (λ (t : Trail). MayTry ring t body (length_with closing body) before) (sym now.trail_is) may
 
-  -- there is a control word, and what is stored in it stands there
-  stored_there : (ws : List ℕ) (y : ℕ) → 1 ≤ length ws → slice_index (slice_set ws control_word y) control_word ≡ y
-  stored_there [] y some = absurd (omega (arith, some))
-  stored_there (w ∷ ws) y some = refl
-
   by_hit : (v : Bool) → (x == old) ≡ v → Exchanged v
   by_hit true hit =
       let many : length_with closing body ≡ batch_length body number = many_is trail closing body in
@@ -96,11 +80,12 @@ module _ (wins : Always WinsByAnExchange) (loses : Always LosesByAnExchange) (ri
       (subst (λ (k : ℕ). MayTry ring (trail_of (Sender s) run) body k before) many tries)
       (subst (λ (t : Trail). IsNextNumber t number) (sym now.trail_is) (next_is trail closing))
       (eqb-true x old hit ∙ old_is)) in
-      let some : 1 ≤ length words = (let all = now.after.shadow.many in let slots : ℕ = size ring.geometry in omega (arith, all)) in (
+      -- there is a control word, and what is stored in it stands there
+      let some : control_word < length words = (let all = now.after.shadow.many in let slots : ℕ = size ring.geometry in omega (arith, all)) in (
         Won body number,
         refl,
         won,
-        record { found = now.after.shadow.control_is; stored = ap (slice_set words control_word) (sym (stored_there words new some) ∙ won.shadow.control_is) },
+        record { found = now.after.shadow.control_is; stored = ap (slice_set words control_word) (sym (get_or-set_same words control_word new 0 some) ∙ won.shadow.control_is) },
       )
   by_hit false miss = (
     Lost body closing (control_in ring.geometry x),
@@ -226,16 +211,11 @@ control_inside g senders many i m is = let x : ℕ = size g in omega arith
 
 pub flag_inside : (g senders many i p : ℕ) → many ≡ words_of g senders → i ≡ flag_word g p → i < many
 flag_inside g senders many i p m is =
-    let n : ℕ = size g in let pos : 0 < n = pow_pos g in
-    let low : p % n < n = mod-lt p pos in
-    let r : ℕ = p % n in omega arith
+    let n : ℕ = size g in let low : p % n < n = mod-lt p (pow_pos g) in let r : ℕ = p % n in omega arith
 
 pub data_inside : (g senders many i p : ℕ) (half : Half) → many ≡ words_of g senders → i ≡ data_word g p half → i < many
 data_inside g senders many i p half m is =
-    let n : ℕ = size g in let pos : 0 < n = pow_pos g in
-    let low : p % n < n = mod-lt p pos in
-    let h : half_number half < 2 = small half in
-    let r : ℕ = p % n in omega arith
+    let n : ℕ = size g in let low : p % n < n = mod-lt p (pow_pos g) in let h = small half in let r : ℕ = p % n in omega arith
   where
     small : (half : Half) → half_number half < 2
     small Lo = omega arith

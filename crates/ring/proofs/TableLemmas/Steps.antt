@@ -1,22 +1,17 @@
 -- A step that the laws of ringcore allow keeps the rule, whatever kind it is: its event comes to the end of the run.
-use Rattle.std.proofs.Common.{◌≡◌, ◌≢◌, ◌⊎◌, ℕ, Bool, cond, List, [], ◌∷◌, ◌++◌, length, set, zero, suc, refl, sym, ap, ◌∙◌, subst, ⊎_elim, inl, inr}
+use Rattle.std.proofs.Common.{◌≡◌, ◌≢◌, ◌⊎◌, ℕ, Bool, cond, List, [], ◌∷◌, ◌++◌, length, set, refl, sym, ap, ◌∙◌, subst, ⊎_elim, inl, inr}
 use Rattle.std.specs.Prelude.{slice_index, slice_set}
+use Rattle.std.proofs.lemmas.List.{set-get_or}
 use mathlib.Core.Option.{some}
 use lib.ListN.{get_elem?}
-use Rattle.atomic_table.specs.Table.{keeps, Allows, Splits, Joins}
+use Rattle.ring.specs.table.{keeps, Allows, Splits, Joins, Participant, Holding, participant, IsIn, HasTrails, SitAt, Any, RuleHolds, Stands, ring_of, who_of, trail_of_first, history_of_first}
+use Rattle.ring.specs.table.{IsAlone, IsOperation, Added}
 use Rattle.atomic_table.proofs.Lists.{at_set}
-use Rattle.ringcore.specs.declared.world.event.Who.{Who}
-use Rattle.ringcore.specs.declared.world.event.Event.{Event}
-use Rattle.ringcore.specs.world.Trails.{Trail, Run, trail_of}
-use Rattle.ringcore.specs.world.Laws.{OnlyOf}
-use Rattle.ringcore.specs.world.Allowed.{Ring}
+use Rattle.ring.specs.Runs.{Who, Event, Trail, Run, trail_of, OnlyOf, Ring}
 use Rattle.ringcore.specs.memory.Shadow.{AreAfter}
-use Rattle.ring.specs.declared.table.rule.Participant.{Participant}
-use Rattle.ring.specs.table.Rule.{Holding, participant, IsIn, HasTrails, SitAt, Any, RuleHolds, Stands, ring_of, who_of, trail_of_first, history_of_first, IsAlone}
-use Rattle.ring.specs.table.Operations.{IsOperation}
-use Rattle.ring.specs.table.StepEvents.{Added}
 use Rattle.ring.proofs.TableLemmas.Trails.{same_refl, trail_here}
-use Rattle.ring.proofs.TableLemmas.Seats.{trails_else, Without, moved_to, sit_without, sit_else, taken_in, sit_taken, sit_stays, sit_append, trails_append, at_snoc_index, went_on_none, set_there, among_step, among_parted, among_joined}
+use Rattle.ring.proofs.TableLemmas.Seats.{trails_else, Without, moved_to, sit_without, sit_else, taken_in, sit_taken, sit_stays, sit_append, trails_append, at_snoc_index, went_on_none, seated_after}
+use Rattle.ring.proofs.TableLemmas.Seats.{set_there, among_step, among_parted, among_joined}
 
 -- What the laws have to give: wherever the seat has this trail, the word may change so, by an event that is said of
 -- the word that was found.
@@ -57,10 +52,8 @@ module _ (ring : Ring) (slots id : ℕ) (z : Ring) (who : Who) (trail : Trail) (
           made = (s.words, k.made, subst (λ (r : Ring). IsOperation r k.run who e s.words words) zn did.3);
           only = only;
           seat = k.seat;
-          seated = λ j v got. ⊎_elim
-              (λ (own : (j ≡ id) × (w ≡ v)). subst (λ (t : ℕ × List Participant). SitAt k.seat t.0 t.1 × HasTrails ring longer t.1) (λ q. (sym own.0 q, own.1 q)) ((mine.0.0, tt), new))
-              (λ (else : (j ≢ id) × (get_elem? s.views j ≡ some v)). let old = k.seated j v else.1 in (old.0, trails_else ring k.seat j who e k.run v old.0 (λ same_seat. else.0 (sym same_seat ∙ mine.0.0)) old.1))
-              (at_set s.views id j w v got);
+          seated = λ j v. seated_after ring longer k.seat s.views id w ((mine.0.0, tt), new) j v
+              (λ ne was. let old = k.seated j v was in (old.0, trails_else ring k.seat j who e k.run v old.0 (λ same_seat. ne (sym same_seat ∙ mine.0.0)) old.1));
           newest = record { place = id; there = w; at = set_there s.views id (participant z who trail history ∷ []) w at; one = inl refl };
           everyone = λ u one. among_step (λ p. p.who ≡ u) s.views id (participant z who trail history ∷ []) w at (λ was. was) (k.everyone u one);
         },
@@ -96,10 +89,7 @@ parts_at ring id v left one sit has parted s k at =
       only = k.only;
       seat = seat;
       seated = λ j u there. ⊎_elim
-          (λ (old : get_elem? (set s.views id left) j ≡ some u). ⊎_elim
-          (λ (here : (j ≡ id) × (left ≡ u)). subst (λ (t : ℕ × List Participant). SitAt seat t.0 t.1 × HasTrails ring k.run t.1) (λ q. (sym here.0 q, here.1 q)) (sits.1, trails.1))
-          (λ (else : (j ≢ id) × (get_elem? s.views j ≡ some u)). let o = k.seated j u else.1 in (sit_else one.who new k.seat j u (λ e. else.0 (sym e ∙ sits.0)) o.0, o.1))
-          (at_set s.views id j left u old))
+          (seated_after ring k.run seat s.views id left (sits.1, trails.1) j u (λ ne was. let o = k.seated j u was in (sit_else one.who new k.seat j u (λ e. ne (sym e ∙ sits.0)) o.0, o.1)))
           (λ (last : (j ≡ new) × ((one ∷ []) ≡ u)). subst (λ (t : ℕ × List Participant). SitAt seat t.0 t.1 × HasTrails ring k.run t.1) (λ q. (sym last.0 q, last.1 q))
           ((ap (λ (b : Bool). cond b new (k.seat one.who)) (same_refl one.who), tt), (trails.0, tt)))
           (at_snoc_index (set s.views id left) (one ∷ []) u j there);
@@ -126,18 +116,11 @@ gathers_at ring id other v w s k at two there =
       made = k.made;
       only = k.only;
       seat = seat;
-      seated = λ j u e. ⊎_elim
-          (λ (spent : (j ≡ other) × ([] ≡ u)). subst (λ (l : List Participant). SitAt seat j l × HasTrails ring k.run l) spent.1 (tt, tt))
-          (λ (else : (j ≢ other) × (get_elem? (set s.views id both) j ≡ some u)). ⊎_elim
-          (λ (here : (j ≡ id) × (both ≡ u)). subst (λ (t : ℕ × List Participant). SitAt seat t.0 t.1 × HasTrails ring k.run t.1) (λ q. (sym here.0 q, here.1 q)) all)
-          (λ (old : (j ≢ id) × (get_elem? s.views j ≡ some u)). let o = k.seated j u old.1 in (sit_stays other id j k.seat u else.0 o.0, o.1))
-          (at_set s.views id j both u else.1))
-          (at_set (set s.views id both) other j [] u e);
+      seated = λ j u. seated_after ring k.run seat (set s.views id both) other [] (tt, tt) j u (λ away. seated_after ring k.run seat s.views id both all j u
+          (λ ne was. let o = k.seated j u was in (sit_stays other id j k.seat u away o.0, o.1)));
       newest = among_joined (λ p. p.history ≡ k.run) s.views id other v w at two there k.newest;
       everyone = λ who one. among_joined (λ p. p.who ≡ who) s.views id other v w at two there (k.everyone who one);
     }
 
 pub set_back : (ns : List ℕ) (i : ℕ) → slice_set ns i (slice_index ns i) ≡ ns
-set_back [] i = refl
-set_back (x ∷ xs) zero = refl
-set_back (x ∷ xs) (suc i) = ap (λ (l : List ℕ). x ∷ l) (set_back xs i)
+set_back ns i = set-get_or ns i 0

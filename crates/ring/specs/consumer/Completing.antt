@@ -1,14 +1,9 @@
 -- Which events a completion added, and what is taken after it.
 use Rattle.std.specs.Prelude.{◌≡◌, ◌<◌, ℕ, ◌-◌, ◌/◌, ◌^◌, cond, List, [], ◌∷◌, map, take, Some, slice_get}
-use Rattle.cmdcodec.specs.declared.raw.Raw.{Raw}
+use Rattle.ring.specs.Runs.{Raw, Outcome, Advance, Acknowledge, Trail, raws_by, acknowledged_by, syncs_taken, Taken, taken_as, outcome_of}
 use Rattle.cmdcodec.specs.Opcodes.{is_sync}
 use Rattle.cmdcodec.specs.ClosingSync.{cell_address}
 use Rattle.ringcore.specs.Limits.{most_senders}
-use Rattle.ringcore.specs.declared.world.event.Outcome.{Outcome}
-use Rattle.ringcore.specs.declared.world.event.Event.TheVariants.{Advance, Acknowledge}
-use Rattle.ringcore.specs.world.Trails.{Trail, raws_by, acknowledged_by}
-use Rattle.ringcore.specs.world.Laws.{syncs_taken}
-use Rattle.ringcore.specs.world.World.{Taken, taken_as, outcome_of}
 use Rattle.ring.specs.consumer.Consumers.{ConsumerValue}
 use Rattle.ring.specs.consumer.Pendings.{PendingValue}
 

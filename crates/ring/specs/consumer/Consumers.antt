@@ -2,13 +2,9 @@
 use Rattle.std.specs.Prelude.{◌≡◌, ℕ, ◌+◌, ◌≤◌, Option}
 use Rattle.qindex.specs.Positions.{IndexValue, index_of}
 use Rattle.ringcore.specs.Limits.{most_reserved}
-use Rattle.ringcore.specs.declared.world.event.Who.TheVariants.{Consumer}
-use Rattle.ringcore.specs.world.Trails.{Trail, Run, raws_by, taken_by, found_ready, acknowledged_by}
-use Rattle.ringcore.specs.world.Allowed.{Ring}
-use Rattle.ringcore.specs.world.Laws.{syncs_taken, SyncsAreInOrder}
-use Rattle.ringcore.specs.world.ConsumerLaws.{IsSteady}
+use Rattle.ring.specs.Runs.{Consumer, Trail, Run, raws_by, taken_by, found_ready, acknowledged_by, Ring, syncs_taken, SyncsAreInOrder, IsSteady}
 use Rattle.ring.specs.Rings.{RingValue}
-use Rattle.ring.specs.table.Ports.{PortValue}
+use Rattle.ring.specs.table.{PortValue}
 
 -- the consumer: what its port has, and the device that was lent to its newest completion, as it was then
 pub record ConsumerValue (D : Type 0) : Type 0 where

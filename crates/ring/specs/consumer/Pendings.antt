@@ -1,13 +1,8 @@
 -- What was read from the head on, and is not taken yet.
 use Rattle.std.specs.Prelude.{◌≡◌, ◌≤◌, ℕ, suc, List, [], ◌∷◌, length, Some, slice_get}
-use Rattle.cmdcodec.specs.declared.raw.Raw.{Raw}
+use Rattle.ring.specs.Runs.{Raw, Half, Lo, Hi, Read, Trail, found_ready, half_read, head_read, half_of}
 use Rattle.qindex.specs.Positions.{size}
-use Rattle.ringcore.specs.declared.world.event.Half.{Half}
-use Rattle.ringcore.specs.declared.world.event.Half.TheVariants.{Lo, Hi}
-use Rattle.ringcore.specs.declared.world.event.Event.TheVariants.{Read}
-use Rattle.ringcore.specs.world.Trails.{Trail, found_ready, half_read, head_read}
-use Rattle.ringcore.specs.world.World.{half_of}
-use Rattle.ring.specs.table.Ports.{PortValue}
+use Rattle.ring.specs.table.{PortValue}
 use Rattle.ring.specs.consumer.Consumers.{ConsumerValue}
 
 -- This command was read at the head, and not taken.

@@ -1,17 +1,12 @@
 -- Which events a take added, by its answer.
 use Rattle.std.specs.Prelude.{◌≡◌, ◌≢◌, ◌≤◌, ℕ, Bool, true, false, List, [], ◌∷◌, length}
-use Rattle.cmdcodec.specs.declared.raw.Raw.{Raw}
-use Rattle.qindex.specs.declared.control.Control.{Control}
-use Rattle.ringcore.specs.declared.world.event.Who.TheVariants.{Consumer}
-use Rattle.ringcore.specs.declared.world.event.Event.TheVariants.{Look, Test}
-use Rattle.ringcore.specs.world.Trails.{Trail}
-use Rattle.ringcore.specs.world.World.{head, tail, world, control}
+use Rattle.ring.specs.Runs.{Raw, Control, Consumer, Look, Test, Trail, head, tail, world, control}
 use Rattle.ring.specs.declared.consumer.taken.Taken.{Taken}
 use Rattle.ring.specs.declared.consumer.taken.Taken.TheVariants as one
 use Rattle.ring.specs.declared.consumer.taken.TakenRun.{TakenRun}
 use Rattle.ring.specs.declared.consumer.taken.TakenRun.TheVariants.{Empty, Drained, Unwritten, Ready}
 use Rattle.ring.specs.Rings.{RingValue}
-use Rattle.ring.specs.table.Histories.{Grew}
+use Rattle.ring.specs.table.{Grew}
 use Rattle.ring.specs.consumer.Consumers.{ConsumerValue}
 use Rattle.ring.specs.consumer.Pendings.{PendingValue, run_of, reads_from}
 

@@ -1,41 +1,60 @@
--- Which events writes, flips and the rest of a reservation added.
-use Rattle.std.specs.Prelude.{◌≡◌, ℕ, zero, suc, ◌+◌, ◌-◌, nat_lt, cond, min, ◌∷◌}
+-- Which events write a reservation and hand it over, and what they make of it.
+use Rattle.std.specs.Prelude.{◌≡◌, ℕ, zero, suc, ◌+◌, ◌-◌, min, [], ◌∷◌, ◌++◌}
 use Rattle.qindex.specs.Positions.{index_of}
-use Rattle.ringcore.specs.declared.world.event.Half.TheVariants.{Lo, Hi}
-use Rattle.ringcore.specs.declared.world.event.Event.TheVariants.{Write, Flip}
-use Rattle.ringcore.specs.world.Trails.{Trail, reserved_length, start_index, numbers_given}
-use Rattle.ringcore.specs.world.Laws.{own_batches}
+use Rattle.ring.specs.Runs.{Lo, Hi, Write, Flip, Trail, reserved_length, start_index, numbers_given, own_batches}
 use Rattle.ringcore.specs.memory.Flags.{shared_word}
 use Rattle.ring.specs.sender.Senders.{SenderValue}
 use Rattle.ring.specs.sender.Reservations.{ReservationValue}
+
+-- ---- the events, the newest first
+
+-- Both halves of so many slots from this one on are written, in order.
+abbrev pub writes_from : ℕ → ℕ → Trail
+writes_from slot zero = []
+writes_from slot (suc k) = Write (slot + k) Hi ∷ Write (slot + k) Lo ∷ writes_from slot k
+
+-- So many from this one on are flipped by one step, where there are any.
+abbrev pub flips_from : ℕ → ℕ → Trail
+flips_from slot zero = []
+flips_from slot (suc k) = Flip slot (suc k) ∷ []
+
+-- how many of the slots from this one up to that one have their flags in one word with its own
+abbrev pub run_up_to : ℕ → Trail → ℕ → ℕ → ℕ
+run_up_to geometry trail slot end = min (shared_word geometry (index_of geometry ((start_index geometry trail).number + slot)).number) (end - slot)
+
+-- Of a reservation of which so many slots are written, and so many flipped, all that is left is written in order, and
+-- then flipped by one step for each flag word, which are two at most.
+abbrev pub handing_over : ℕ → Trail → ℕ → ℕ → Trail
+handing_over geometry trail written flipped =
+    let all = reserved_length trail in
+    let first = run_up_to geometry trail flipped all in
+    flips_from (flipped + first) (all - (flipped + first)) ++ (flips_from flipped first ++ writes_from written (all - written))
+
+-- ---- a reservation after them
 
 -- both halves of the next slot
 abbrev pub wrote_one : ReservationValue → ReservationValue
 wrote_one r = record r { trail = Write r.written Hi ∷ Write r.written Lo ∷ r.trail; written = r.written + 1 }
 
 abbrev pub wrote_many : ℕ → ReservationValue → ReservationValue
-wrote_many zero r = r
-wrote_many (suc k) r = wrote_one (wrote_many k r)
+wrote_many k r = record r { trail = writes_from r.written k ++ r.trail; written = r.written + k }
 
 abbrev pub flipped_one : ReservationValue → ReservationValue
 flipped_one r = record r { trail = Flip r.flipped 1 ∷ r.trail; flipped = r.flipped + 1 }
 
 -- how many of the slots that are written and not flipped have their flags in one word with the first of them
 abbrev pub next_run : ReservationValue → ℕ
-next_run r =
-    let geometry = r.ring.made_with.geometry in
-    min (shared_word geometry (index_of geometry ((start_index geometry r.trail).number + r.flipped)).number) (r.written - r.flipped)
-
-abbrev pub flipped_run : ReservationValue → ReservationValue
-flipped_run r = record r { trail = Flip r.flipped (next_run r) ∷ r.trail; flipped = r.flipped + next_run r }
+next_run r = run_up_to r.ring.made_with.geometry r.trail r.flipped r.written
 
 -- those in the next flag word, where any are left
 abbrev pub flipped_left : ReservationValue → ReservationValue
-flipped_left r = cond (nat_lt r.flipped r.written) (flipped_run r) r
+flipped_left r = record r { trail = flips_from r.flipped (next_run r) ++ r.trail; flipped = r.flipped + next_run r }
 
--- All that is left is written in order, and then flipped by one step for each flag word, which are two at most.
+-- all of it
 abbrev pub published : ReservationValue → ReservationValue
-published r = flipped_left (flipped_left (wrote_many (reserved_length r.trail - r.written) r))
+published r =
+    let all = reserved_length r.trail in
+    record r { trail = handing_over r.ring.made_with.geometry r.trail r.written r.flipped ++ r.trail; written = all; flipped = all }
 
 -- the sender of a reservation, with its trail
 abbrev pub sender_of : ReservationValue → SenderValue

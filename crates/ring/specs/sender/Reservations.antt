@@ -1,17 +1,12 @@
 -- What contracts see of an open reservation.
 use Rattle.std.specs.Prelude.{◌≡◌, ℕ, ◌≤◌, Bool, true, false, nat_lt, List, [], ◌∷◌, Option, Some, None}
-use Rattle.cmdcodec.specs.declared.raw.Raw.{Raw}
+use Rattle.ring.specs.Runs.{Raw, Half, Won, Trail, Run, reserved_length, has_written, has_flipped, start_index, commands, length_with}
 use Rattle.cmdcodec.specs.Bodies.{IsBody}
 use Rattle.qindex.specs.Positions.{IndexValue, size}
-use Rattle.ringcore.specs.declared.world.event.Half.{Half}
-use Rattle.ringcore.specs.declared.world.event.Event.TheVariants.{Won}
-use Rattle.ringcore.specs.world.Trails.{Trail, Run, reserved_length, has_written, has_flipped, start_index}
-use Rattle.ringcore.specs.world.World.{commands}
-use Rattle.ringcore.specs.world.Allowed.{length_with}
 use Rattle.ringcore.specs.memory.StepLaws.{reserved_commands}
 use Rattle.ring.specs.declared.sender.tally.Tally.{Tally}
 use Rattle.ring.specs.Rings.{RingValue}
-use Rattle.ring.specs.table.Ports.{PortValue}
+use Rattle.ring.specs.table.{PortValue}
 use Rattle.ring.specs.sender.Senders.{IsTallied, ReceiptValue}
 
 -- a reservation: its ring and sender, its batch, and of its slots how many are written and flipped

@@ -1,16 +1,10 @@
 -- Which events a try to reserve added, by its answer.
 use Rattle.std.specs.Prelude.{◌≡◌, ◌≢◌, ℕ, ◌+◌, ◌<◌, ◌≤◌, Bool, true, false, List, [], ◌∷◌}
-use Rattle.cmdcodec.specs.declared.raw.Raw.{Raw}
-use Rattle.qindex.specs.declared.control.Control.{Control}
+use Rattle.ring.specs.Runs.{Raw, Control, Look, Won, Lost, Sender, Trail, Run, batches_made, World, head, tail, world, control, length_with}
 use Rattle.qindex.specs.Positions.{size}
 use Rattle.qindex.specs.Indexes.{distance}
-use Rattle.ringcore.specs.declared.world.event.Event.TheVariants.{Look, Won, Lost}
-use Rattle.ringcore.specs.declared.world.event.Who.TheVariants.{Sender}
-use Rattle.ringcore.specs.world.Trails.{Trail, Run, batches_made}
-use Rattle.ringcore.specs.world.World.{World, head, tail, world, control}
-use Rattle.ringcore.specs.world.Allowed.{length_with}
 use Rattle.ringcore.specs.machine.StepAnswers.{next_number}
-use Rattle.ring.specs.table.Histories.{GrewBy}
+use Rattle.ring.specs.table.{GrewBy}
 use Rattle.ring.specs.declared.sender.cause.Cause.{Cause}
 use Rattle.ring.specs.declared.sender.cause.Cause.TheVariants.{TooLong, Exhausted, Closed, Full, Contended}
 use Rattle.ring.specs.sender.Senders.{SenderValue}

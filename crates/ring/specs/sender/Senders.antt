@@ -1,11 +1,9 @@
 -- What contracts see of a sender and its receipts.
 use Rattle.std.specs.Prelude.{◌≡◌, ℕ, ◌+◌, ◌≤◌, Bool, true, false, [], ◌∷◌, nat_le}
-use Rattle.ringcore.specs.declared.world.event.Who.TheVariants.{Sender}
-use Rattle.ringcore.specs.declared.world.event.Event.TheVariants.{Ask}
-use Rattle.ringcore.specs.world.Trails.{Trail, Run, IsSettled, batches_made, numbers_given}
+use Rattle.ring.specs.Runs.{Sender, Ask, Trail, Run, IsSettled, batches_made, numbers_given}
 use Rattle.ring.specs.declared.sender.tally.Tally.{Tally}
 use Rattle.ring.specs.Rings.{RingValue}
-use Rattle.ring.specs.table.Ports.{PortValue}
+use Rattle.ring.specs.table.{PortValue}
 
 -- a sender: its ring, its number, its trail, and the run up to its newest step
 pub record SenderValue : Type 0 where

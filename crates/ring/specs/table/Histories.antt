@@ -1,11 +1,6 @@
 -- What a participant knows of the run: as it was up to its newest step.
 use Rattle.std.specs.Prelude.{◌≡◌, ℕ, ◌≤◌, List, [], ◌∷◌, ◌++◌, ⊤}
-use Rattle.ringcore.specs.declared.world.event.Who.{Who}
-use Rattle.ringcore.specs.declared.world.event.Event.{Event}
-use Rattle.ringcore.specs.world.Trails.{Trail, Run, trail_of}
-use Rattle.ringcore.specs.world.World.{World, head, tail, control}
-use Rattle.ringcore.specs.world.Allowed.{Ring}
-use Rattle.ringcore.specs.world.Laws.{IsApplied}
+use Rattle.ring.specs.Runs.{Who, Event, Trail, Run, trail_of, World, head, tail, control, Ring, IsApplied}
 use Rattle.ring.specs.table.Rule.{WentOn, Stands}
 
 -- The trail is that of this run, after which the words stood by the rule.

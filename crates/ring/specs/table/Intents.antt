@@ -1,7 +1,6 @@
 -- What a step is for, as its caller knows it. Its event follows from it, the trail and the word that was found.
 use Rattle.std.specs.Prelude.{ℕ, Bool, List}
-use Rattle.cmdcodec.specs.declared.raw.Raw.{Raw}
-use Rattle.ringcore.specs.declared.world.event.Half.{Half}
+use Rattle.ring.specs.Runs.{Raw, Half}
 
 pub data Intent : Type 0 where
   looks : Intent

@@ -1,9 +1,6 @@
 -- A seat of several who know one run: one of them gets a seat of its own, and comes back.
 use Rattle.std.specs.Prelude.{◌≡◌, ℕ, ◌-◌, cond, List, [], ◌∷◌, ◌++◌, length, take, ⊤}
-use Rattle.ringcore.specs.declared.world.event.Who.{Who}
-use Rattle.ringcore.specs.world.Trails.{Trail, Run, same, trail_of}
-use Rattle.ringcore.specs.world.Allowed.{Ring}
-use Rattle.ringcore.specs.world.Laws.{OnlyOf}
+use Rattle.ring.specs.Runs.{Who, Trail, Run, same, trail_of, Ring, OnlyOf}
 use Rattle.ringcore.specs.memory.Shadow.{AreAfter}
 use Rattle.ring.specs.declared.table.rule.Participant.{Participant}
 use Rattle.ring.specs.table.Rule.{participant, IsWithinLimits, ring_of, history_of_first}

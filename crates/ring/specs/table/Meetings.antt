@@ -1,10 +1,7 @@
 -- Seats that are joined for a load: all for whom they stand know the run as it is then.
 use Rattle.std.specs.Prelude.{◌≡◌, ℕ, List, [], ◌∷◌, slice_index}
 use Rattle.atomic_table.specs.Table.{Step}
-use Rattle.ringcore.specs.declared.world.event.Who.{Who}
-use Rattle.ringcore.specs.world.Trails.{Run}
-use Rattle.ringcore.specs.world.Allowed.{Ring}
-use Rattle.ringcore.specs.world.Laws.{IsOne, OnlyOf}
+use Rattle.ring.specs.Runs.{Who, Run, Ring, IsOne, OnlyOf}
 use Rattle.ringcore.specs.memory.Shadow.{AreAfter}
 use Rattle.ring.specs.declared.table.rule.Participant.{Participant}
 use Rattle.ring.specs.table.Rule.{Holding, IsWithinLimits, HasTrails, Any, ring_of}

@@ -2,10 +2,7 @@
 use Rattle.std.specs.Prelude.{◌≡◌, ◌≢◌, ℕ, List, [], ◌∷◌, length}
 use mathlib.Core.Option.{some}
 use lib.ListN.{get_elem?}
-use Rattle.ringcore.specs.declared.world.event.Who.{Who}
-use Rattle.ringcore.specs.declared.world.event.Event.{Event}
-use Rattle.ringcore.specs.world.Trails.{Trail, Run}
-use Rattle.ringcore.specs.world.Allowed.{Ring}
+use Rattle.ring.specs.Runs.{Who, Event, Trail, Run, Ring}
 use Rattle.ring.specs.table.Rule.{TableState, participant, RuleHolds}
 use Rattle.ring.specs.table.Operations.{AreMadeBy}
 

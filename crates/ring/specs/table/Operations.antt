@@ -1,16 +1,8 @@
 -- The one operation on one word that each kind of event is. No other changes a word of a ring.
 use Rattle.std.specs.Prelude.{◌≡◌, ℕ, ◌+◌, List, [], ◌∷◌, length, Option, Some, slice_get, slice_index, slice_set, bit_or}
-use Rattle.cmdcodec.specs.declared.raw.Raw.{Raw}
+use Rattle.ring.specs.Runs.{Raw, Who, Consumer, Sender, Half, Event, Won, Write, Flip, Advance, Close, Acknowledge, Run, trail_of, head, world, control, half_of, Ring}
 use Rattle.qindex.specs.Positions.{index_of}
 use Rattle.qindex.specs.ControlWord.{packed, advance_mask, close_mask}
-use Rattle.ringcore.specs.declared.world.event.Who.{Who}
-use Rattle.ringcore.specs.declared.world.event.Who.TheVariants.{Consumer, Sender}
-use Rattle.ringcore.specs.declared.world.event.Half.{Half}
-use Rattle.ringcore.specs.declared.world.event.Event.{Event}
-use Rattle.ringcore.specs.declared.world.event.Event.TheVariants.{Won, Write, Flip, Advance, Close, Acknowledge}
-use Rattle.ringcore.specs.world.Trails.{Run, trail_of}
-use Rattle.ringcore.specs.world.World.{head, world, control, half_of}
-use Rattle.ringcore.specs.world.Allowed.{Ring}
 use Rattle.ringcore.specs.memory.Layout.{control_word, flag_word, data_word, cell}
 use Rattle.ringcore.specs.memory.Flags.{IsFlipMask}
 use Rattle.ringcore.specs.memory.StepLaws.{reserved_commands, turned}

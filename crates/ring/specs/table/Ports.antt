@@ -1,15 +1,8 @@
 -- What contracts see of a seat that stands for one participant alone, and of its steps.
 use Rattle.std.specs.Prelude.{◌≡◌, ◌≢◌, ℕ, ◌+◌, ◌<◌, ◌≤◌, Bool, true, false, List, [], ◌∷◌}
 use Rattle.atomic_table.specs.Seated.{TableId}
-use Rattle.cmdcodec.specs.declared.raw.Raw.{Raw}
+use Rattle.ring.specs.Runs.{Raw, Control, Who, Half, Won, Lost, Trail, Run, reserved_length, has_written, has_flipped, start_index, world, control, IsRunLength}
 use Rattle.qindex.specs.Positions.{IndexValue, index_of}
-use Rattle.qindex.specs.declared.control.Control.{Control}
-use Rattle.ringcore.specs.declared.world.event.Who.{Who}
-use Rattle.ringcore.specs.declared.world.event.Half.{Half}
-use Rattle.ringcore.specs.declared.world.event.Event.TheVariants.{Won, Lost}
-use Rattle.ringcore.specs.world.Trails.{Trail, Run, reserved_length, has_written, has_flipped, start_index}
-use Rattle.ringcore.specs.world.World.{world, control}
-use Rattle.ringcore.specs.world.Allowed.{IsRunLength}
 use Rattle.ringcore.specs.machine.StepAnswers.{next_number}
 use Rattle.ring.specs.Rings.{RingValue}
 use Rattle.ring.specs.table.Rule.{Holding, participant, ring_of, who_of, trail_of_first, history_of_first}

@@ -5,11 +5,7 @@ use mathlib.Core.Option.{some}
 use lib.ListN.{get_elem?}
 use Rattle.atomic_table.specs.Table.{State, Me}
 use Rattle.ringcore.specs.Limits.{most_senders}
-use Rattle.ringcore.specs.declared.world.event.Who.{Who}
-use Rattle.ringcore.specs.declared.world.event.Who.TheVariants.{Consumer, Sender}
-use Rattle.ringcore.specs.world.Trails.{Trail, Run, trail_of}
-use Rattle.ringcore.specs.world.Allowed.{Ring}
-use Rattle.ringcore.specs.world.Laws.{IsOne, OnlyOf}
+use Rattle.ring.specs.Runs.{Who, Consumer, Sender, Trail, Run, trail_of, Ring, IsOne, OnlyOf}
 use Rattle.ringcore.specs.memory.Shadow.{AreAfter}
 use Rattle.ring.specs.declared.table.rule.Participant.{Participant}
 use Rattle.ring.specs.table.Operations.{AreMadeBy}

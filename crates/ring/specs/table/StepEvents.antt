@@ -2,11 +2,7 @@
 use Rattle.std.specs.Prelude.{◌≡◌, ℕ, cond, ◌==◌, List, [], ◌∷◌, ◌++◌}
 use Rattle.atomic_table.specs.Table.{Step}
 use Rattle.qindex.specs.ControlWord.{IsControlWord, control_in}
-use Rattle.ringcore.specs.declared.world.event.Who.{Who}
-use Rattle.ringcore.specs.declared.world.event.Event.{Event}
-use Rattle.ringcore.specs.declared.world.event.Event.TheVariants.{Look, Won, Lost, Write, Flip, Test, Read, Advance, Close, Acknowledge, Ask}
-use Rattle.ringcore.specs.world.Trails.{Trail, Run, taken_by}
-use Rattle.ringcore.specs.world.Allowed.{Ring}
+use Rattle.ring.specs.Runs.{Who, Event, Look, Won, Lost, Write, Flip, Test, Read, Advance, Close, Acknowledge, Ask, Trail, Run, taken_by, Ring}
 use Rattle.ringcore.specs.memory.Flags.{ready_in}
 use Rattle.ringcore.specs.machine.StepAnswers.{next_number}
 use Rattle.ring.specs.declared.table.rule.Participant.{Participant}

@@ -1,6 +1,6 @@
 //! Room for commands.
 ghost use Rattle.std.specs.Prelude.{◌≡◌, ◌<◌, ◌≤◌, ◌++◌, ◌∷◌, [], ℕ, List, length, slice_get, IfOk};
-ghost use Rattle.cmdcodec.specs.declared.raw.Raw.{Raw as RawOf};
+ghost use Rattle.ring.specs.Runs.{Raw as RawOf};
 
 use cmdcodec::{Raw, RawList};
 use std::alloc::{AllocError, Global};

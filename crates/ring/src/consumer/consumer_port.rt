@@ -3,14 +3,8 @@ ghost use Rattle.std.specs.Prelude.{◌≡◌, ◌∷◌, ◌≤◌, ◌<◌, �
 ghost use Rattle.qindex.specs.Positions.{size};
 ghost use Rattle.qindex.specs.ControlWord.{IsControl};
 ghost use Rattle.ringcore.specs.Limits.{most_reserved};
-ghost use Rattle.ringcore.specs.declared.world.event.Event.TheVariants.{Look, Test, Read};
-ghost use Rattle.ringcore.specs.declared.world.event.Who.TheVariants.{Consumer};
-ghost use Rattle.ringcore.specs.world.Trails.{same, taken_by, found_ready};
-ghost use Rattle.ringcore.specs.world.Allowed.{MayAdvance};
-ghost use Rattle.ring.specs.table.Rule.{StandsInARun, WentOn};
-ghost use Rattle.ring.specs.table.Histories.{IsHistory, GrewBy, Grew, EndsTellAll};
-ghost use Rattle.ringcore.specs.world.World.{world, head, control as control_of};
-ghost use Rattle.ring.specs.table.Ports.{SitsFor};
+ghost use Rattle.ring.specs.Runs.{Look, Test, Read, Consumer, same, taken_by, found_ready, MayAdvance, world, head, control as control_of};
+ghost use Rattle.ring.specs.table.{StandsInARun, WentOn, IsHistory, GrewBy, Grew, EndsTellAll, SitsFor};
 ghost use Rattle.ring.specs.consumer.Pendings.{HasReadRun, reads_from};
 ghost use Rattle.ring.specs.consumer.Consumers.{KnowsItsSteps};
 ghost use Rattle.ring.specs.consumer.Completing.{completed_trail};
@@ -35,7 +29,7 @@ pub struct ConsumerPort {
 }
 
 impl Model for ConsumerPort {
-    ghost use Rattle.ring.specs.table.Ports.{PortValue};
+    ghost use Rattle.ring.specs.table.{PortValue};
     ghost use Rattle.ring.specs.consumer.Consumers.{IsConsumer};
 
     ghost Value = { PortValue };

@@ -1,8 +1,7 @@
 //! A command that is read and not taken.
 ghost use Rattle.std.specs.Prelude.{◌≡◌, ◌∷◌, ◌++◌, []};
-ghost use Rattle.ringcore.specs.declared.world.event.Who.TheVariants.{Consumer as ConsumerOf};
-ghost use Rattle.ringcore.specs.world.World.{outcome_of};
-ghost use Rattle.ring.specs.table.Histories.{Grew};
+ghost use Rattle.ring.specs.Runs.{Consumer as ConsumerOf, outcome_of};
+ghost use Rattle.ring.specs.table.{Grew};
 ghost use Rattle.ring.specs.consumer.Pendings.{HasSeen, run_of};
 ghost use Rattle.ring.specs.consumer.Completing.{completed, unknowing, taken_of};
 

@@ -1,11 +1,8 @@
 //! A run of commands that is read and not taken.
 ghost use Rattle.std.specs.Prelude.{◌≡◌, ◌≤◌, ◌∷◌, ◌++◌, ◌+◌, ℕ, List, length, map, slice_get, take, []};
-ghost use Rattle.cmdcodec.specs.declared.raw.Raw.{Raw as RawOf};
+ghost use Rattle.ring.specs.Runs.{Raw as RawOf, Replaced, Consumer as ConsumerOf, outcome_of};
 ghost use Rattle.ringcore.specs.Limits.{most_reserved};
-ghost use Rattle.ringcore.specs.declared.world.event.Outcome.TheVariants.{Replaced};
-ghost use Rattle.ringcore.specs.declared.world.event.Who.TheVariants.{Consumer as ConsumerOf};
-ghost use Rattle.ringcore.specs.world.World.{outcome_of};
-ghost use Rattle.ring.specs.table.Histories.{Grew};
+ghost use Rattle.ring.specs.table.{Grew};
 ghost use Rattle.ring.specs.consumer.Pendings.{HasSeen};
 ghost use Rattle.ring.specs.consumer.Completing.{completed, unknowing, taken_of, with_outcome, HasOutcome};
 

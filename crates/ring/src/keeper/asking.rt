@@ -1,9 +1,7 @@
 //! Single steps of a sender, between two calls and amid a reservation, and what the control word says.
 ghost use Rattle.std.specs.Prelude.{◌≡◌, ◌<◌, None};
 ghost use Rattle.qindex.specs.ControlWord.{IsControl};
-ghost use Rattle.ringcore.specs.declared.world.event.Who.TheVariants.{Sender as SenderOf};
-ghost use Rattle.ringcore.specs.declared.world.event.Event.TheVariants.{Look, Close, Ask};
-ghost use Rattle.ringcore.specs.world.World.{world, control as control_of};
+ghost use Rattle.ring.specs.Runs.{Sender as SenderOf, Look, Close, Ask, world, control as control_of};
 ghost use Rattle.ring.specs.Keepers.{with_step, KeepsAll};
 
 use crate::keeper::Keeper;

@@ -1,8 +1,7 @@
 //! What is left of the consumer while the keeper has its seat.
 ghost use Rattle.std.specs.Prelude.{◌≡◌, Some, None};
-ghost use Rattle.ringcore.specs.declared.world.event.Who.TheVariants.{Consumer as ConsumerOf};
-ghost use Rattle.ringcore.specs.world.Trails.{trail_of};
-ghost use Rattle.ring.specs.table.Histories.{Grew};
+ghost use Rattle.ring.specs.Runs.{Consumer as ConsumerOf, trail_of};
+ghost use Rattle.ring.specs.table.{Grew};
 ghost use Rattle.ring.specs.Keepers.{own_consumer, has_lent, has_back, Adds, IsNews, KeepsOthers, IsIdleConsumer};
 
 use crate::consumer::{Commands, Consumer, ConsumerPort, Lent};

@@ -1,8 +1,7 @@
 //! What is left of a reservation while the keeper has its sender's seat.
 ghost use Rattle.std.specs.Prelude.{◌≡◌, ◌<◌, Some, None};
-ghost use Rattle.ringcore.specs.declared.world.event.Who.TheVariants.{Sender as SenderOf};
-ghost use Rattle.ringcore.specs.world.Trails.{trail_of};
-ghost use Rattle.ring.specs.table.Histories.{Grew};
+ghost use Rattle.ring.specs.Runs.{Sender as SenderOf, trail_of};
+ghost use Rattle.ring.specs.table.{Grew};
 ghost use Rattle.ring.specs.sender.Reservations.{number_when};
 ghost use Rattle.ring.specs.Keepers.{own_reservation, has_lent, has_back, Adds, IsNews, KeepsOthers, IsIdleReservation, IsLeftOf};
 

@@ -1,7 +1,7 @@
 //! How many slots a batch takes.
 ghost use Rattle.std.specs.Prelude.{◌≡◌, ◌≤◌};
 ghost use Rattle.cmdcodec.specs.Bodies.{IsBody};
-ghost use Rattle.ringcore.specs.world.Allowed.{length_with};
+ghost use Rattle.ring.specs.Runs.{length_with};
 
 use crate::sender::batch_kind::BatchKind;
 use batch::BorrowedBatch;

@@ -1,12 +1,11 @@
 //! The slots of one sender that are to be written and handed over.
 ghost use Rattle.std.specs.Prelude.{◌≡◌, ◌+◌, ◌-◌, ◌<◌, ◌≤◌, Some, slice_get, []};
 ghost use Rattle.qindex.specs.Positions.{size};
-ghost use Rattle.ringcore.specs.declared.world.event.Who.TheVariants.{Sender as SenderOf};
-ghost use Rattle.ringcore.specs.world.Trails.{reserved_length, IsSettled};
+ghost use Rattle.ring.specs.Runs.{Sender as SenderOf, reserved_length, IsSettled};
 ghost use Rattle.ringcore.specs.memory.StepLaws.{reserved_commands};
-ghost use Rattle.ring.specs.table.Histories.{Grew};
+ghost use Rattle.ring.specs.table.{Grew};
 ghost use Rattle.ring.specs.sender.Reservations.{IsWrittenUpTo, IsFlippedUpTo, IsReceiptOf};
-ghost use Rattle.ring.specs.sender.Publishing.{wrote_one, wrote_many, flipped_one, flipped_run, flipped_left, published, sender_of, ReservesNone};
+ghost use Rattle.ring.specs.sender.Publishing.{wrote_one, flipped_one, flipped_left, published, sender_of, ReservesNone};
 
 use crate::ring::Ring;
 use crate::sender::Sender;
@@ -18,6 +17,7 @@ use crate::table::Port;
 use batch::BorrowedBatch;
 use cmdcodec::{Raw, closing_sync, encode};
 use qindex::Index;
+use ringcore::laws::sender_trail;
 use ringcore::{Half, shared_word};
 use std::marker::{Brand, Model, PhantomData};
 
@@ -92,33 +92,6 @@ impl<'b, K: BatchKind> OpenReservation<'b, K> {
         self.flipped += 1;
     }
 
-    /// Flips the flags of the next slots that are written, as many as stand in one flag word.
-    fn flip_run(&mut self, ring: &Ring)
-        requires ring { self.old.ring ≡ ring.now }
-        requires left { self.old.flipped < self.old.written }
-        ensures new { record self.new { history = [] } ≡ flipped_run (record self.old { history = [] }) }
-        ensures history { Grew (SenderOf self.old.sender) self.old.trail self.new.trail self.old.history self.new.history }
-    {
-        let slot = self.start.forward(self.flipped);
-        let count = shared_word(slot).min(self.written - self.flipped);
-        self.port
-            .flip::<Brand>(ring, self.tally.sender, slot, self.flipped, count);
-        self.flipped += count;
-    }
-
-    /// Writes what is left.
-    fn write_left(self, ring: &Ring) -> OpenReservation<'b, K>
-        requires { self.ring ≡ ring.now }
-        ensures new { record result { history = [] } ≡ wrote_many (reserved_length self.entry.trail - self.entry.written) (record self.entry { history = [] }) }
-        ensures history { Grew (SenderOf self.entry.sender) self.entry.trail result.trail self.entry.history result.history }
-    {
-        let mut reservation = self;
-        for done in 0..reservation.unwritten() {
-            reservation.write_next(ring);
-        }
-        reservation
-    }
-
     /// Flips what is written and not flipped, as far as it stands in one flag word.
     fn flip_left(&mut self, ring: &Ring)
         requires { self.old.ring ≡ ring.now }
@@ -126,7 +99,11 @@ impl<'b, K: BatchKind> OpenReservation<'b, K> {
         ensures history { Grew (SenderOf self.old.sender) self.old.trail self.new.trail self.old.history self.new.history }
     {
         if self.flipped < self.written {
-            self.flip_run(ring);
+            let slot = self.start.forward(self.flipped);
+            let count = shared_word(slot).min(self.written - self.flipped);
+            self.port
+                .flip::<Brand>(ring, self.tally.sender, slot, self.flipped, count);
+            self.flipped += count;
         }
     }
 
@@ -141,9 +118,13 @@ impl<'b, K: BatchKind> OpenReservation<'b, K> {
         ensures id { result.number ≡ self.entry.sender }
         ensures batches { ReservesNone self.entry.trail result.trail }
     {
-        // For its clauses `few` and `fits`: two flag words hold all flags of a batch.
+        // For the clauses of both: two flag words hold all flags of a batch.
         self.len();
-        let mut reservation = self.write_left(ring);
+        sender_trail();
+        let mut reservation = self;
+        for done in 0..reservation.unwritten() {
+            reservation.write_next(ring);
+        }
         reservation.flip_left(ring);
         reservation.flip_left(ring);
         reservation.into_sender()

@@ -1,8 +1,7 @@
 //! A whole batch by one call.
 ghost use Rattle.std.specs.Prelude.{◌≡◌, ◌≤◌, true, false, IfOk, IfErr, MatchResult};
-ghost use Rattle.ringcore.specs.declared.world.event.Who.TheVariants.{Sender as SenderOf};
-ghost use Rattle.ringcore.specs.world.Trails.{IsSettled};
-ghost use Rattle.ring.specs.table.Histories.{Grew};
+ghost use Rattle.ring.specs.Runs.{Sender as SenderOf, IsSettled};
+ghost use Rattle.ring.specs.table.{Grew};
 ghost use Rattle.ring.specs.sender.Sending.{IsReservedWithin, IsSent, IsSentBare, IsGivenUp};
 
 use crate::ring::Ring;

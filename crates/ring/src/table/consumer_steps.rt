@@ -2,11 +2,7 @@
 ghost use Rattle.std.specs.Prelude.{◌≡◌, ◌∷◌, ◌+◌, ◌<◌, ◌≤◌, ℕ, suc, length, take, []};
 ghost use Rattle.cmdcodec.specs.Opcodes.{is_sync};
 ghost use Rattle.qindex.specs.Positions.{size, index_of};
-ghost use Rattle.ringcore.specs.declared.world.event.Who.TheVariants.{Consumer};
-ghost use Rattle.ringcore.specs.declared.world.event.Event.TheVariants.{Test, Read, Advance, Acknowledge};
-ghost use Rattle.ringcore.specs.world.Trails.{taken_by, acknowledged_by, found_ready};
-ghost use Rattle.ringcore.specs.world.Allowed.{MayAdvance};
-ghost use Rattle.ringcore.specs.world.Laws.{syncs_taken};
+ghost use Rattle.ring.specs.Runs.{Consumer, Test, Read, Advance, Acknowledge, taken_by, acknowledged_by, found_ready, MayAdvance, syncs_taken};
 ghost use Rattle.ringcore.specs.memory.Flags.{ready_in};
 ghost use Rattle.ring.specs.table.Intents.{tests, reads, advances, acknowledges};
 ghost use Rattle.ring.specs.table.Rule.{IsWithinLimits};

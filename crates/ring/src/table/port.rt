@@ -2,13 +2,9 @@
 ghost use Rattle.std.specs.Prelude.{◌≡◌, ◌∷◌, ◌<◌, ◌≤◌, ◌^◌, ℕ, false, Some, slice_get, []};
 ghost use Rattle.qindex.specs.Positions.{size, index_of};
 ghost use Rattle.qindex.specs.ControlWord.{IsControl};
-ghost use Rattle.ringcore.specs.declared.world.event.Who.TheVariants.{Sender};
-ghost use Rattle.ringcore.specs.declared.world.event.Event.TheVariants.{Look, Write, Flip, Close, Ask};
-ghost use Rattle.ringcore.specs.world.World.{half_of, world, control as control_of};
-ghost use Rattle.ringcore.specs.world.Allowed.{MayTry, MayWrite, ShareAWord, length_with};
+ghost use Rattle.ring.specs.Runs.{Sender, Look, Write, Flip, Close, Ask, half_of, world, control as control_of, MayTry, MayWrite, ShareAWord, length_with, same};
 ghost use Rattle.ringcore.specs.memory.StepLaws.{reserved_commands};
 ghost use Rattle.ring.specs.table.Intents.{reserves, writes, flips};
-ghost use Rattle.ringcore.specs.world.Trails.{same};
 ghost use Rattle.ring.specs.table.Rule.{StandsInARun, WentOn};
 ghost use Rattle.ring.specs.table.Histories.{IsHistory, GrewBy, EndsTellAll};
 ghost use Rattle.ring.specs.sender.Reserving.{TellsRoom};

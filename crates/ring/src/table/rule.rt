@@ -19,7 +19,7 @@ pub struct Parameters {
 }
 
 impl Model for Parameters {
-    ghost use Rattle.ringcore.specs.world.Allowed.{Ring};
+    ghost use Rattle.ring.specs.Runs.{Ring};
 
     ghost Value = { Ring };
 

@@ -88,13 +88,13 @@ impl Join<Participants> for Gathers {
 
 /// For whom a seat is lent. A call at `Brand` picks it from its arguments.
 pub trait HasWho {
-    ghost use Rattle.ringcore.specs.declared.world.event.Who.{Who};
+    ghost use Rattle.ring.specs.Runs.{Who};
 
     ghost who: { Who };
 }
 
 impl HasWho for Brand {
-    ghost use Rattle.ringcore.specs.declared.world.event.Who.TheVariants.{Consumer};
+    ghost use Rattle.ring.specs.Runs.{Consumer};
 
     ghost who = { Consumer };
 }

@@ -1,12 +1,7 @@
 -- What stands at the head of the queue, how the consumer finds it, and how it takes it.
 use Rattle.std.specs.Prelude.{ℕ, ◌==◌, cond, [], ◌∷◌, Option, Some, None, option_map, slice_get, if◌then◌else◌}
-use Rattle.cmdcodec.specs.declared.raw.Raw.{Raw}
+use Rattle.ring.specs.Runs.{Raw, Consumer, Lo, Hi, Test, Read, Advance, Acknowledge, Run, Item, World, tail, head, world}
 use Rattle.cmdcodec.specs.Opcodes.{is_sync}
-use Rattle.ringcore.specs.declared.world.event.Who.TheVariants.{Consumer}
-use Rattle.ringcore.specs.declared.world.event.Half.TheVariants.{Lo, Hi}
-use Rattle.ringcore.specs.declared.world.event.Event.TheVariants.{Test, Read, Advance, Acknowledge}
-use Rattle.ringcore.specs.world.Trails.{Run}
-use Rattle.ringcore.specs.world.World.{Item, World, tail, head, world}
 use Rattle.ring.specs.consumer.Completing.{sync_sender, sync_number}
 use Rattle.simulator.specs.queue.Reserving.{looked_by}
 

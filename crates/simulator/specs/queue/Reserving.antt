@@ -1,13 +1,7 @@
 -- A try to reserve a batch: how it is answered, and which events it is.
 use Rattle.std.specs.Prelude.{ℕ, ◌+◌, Bool, nat_lt, nat_le, List, ◌∷◌, Option, Some, None, Result, Ok, Err, if◌then◌else◌}
-use Rattle.cmdcodec.specs.declared.raw.Raw.{Raw}
+use Rattle.ring.specs.Runs.{Raw, Who, Sender, Look, Won, Trail, Run, trail_of, batches_made, World, tail, head, world, control, Ring, length_with}
 use Rattle.qindex.specs.Positions.{size, index_of}
-use Rattle.ringcore.specs.declared.world.event.Who.{Who}
-use Rattle.ringcore.specs.declared.world.event.Who.TheVariants.{Sender}
-use Rattle.ringcore.specs.declared.world.event.Event.TheVariants.{Look, Won}
-use Rattle.ringcore.specs.world.Trails.{Trail, Run, trail_of, batches_made}
-use Rattle.ringcore.specs.world.World.{World, tail, head, world, control}
-use Rattle.ringcore.specs.world.Allowed.{Ring, length_with}
 use Rattle.ringcore.specs.machine.StepAnswers.{next_number}
 use Rattle.ring.specs.declared.sender.cause.Cause.{Cause}
 use Rattle.ring.specs.declared.sender.cause.Cause.TheVariants.{TooLong, Exhausted, Closed, Full}

@@ -1,10 +1,7 @@
 -- The queue by a keeper: what is left of each sender between two calls.
 use Rattle.std.specs.Prelude.{◌≡◌, ℕ, ◌<◌, List, [], length, slice_index_or, None}
-use Rattle.cmdcodec.specs.declared.raw.Raw.{Raw}
+use Rattle.ring.specs.Runs.{Raw, trail_of, Ring, Consumer, Sender}
 use Rattle.qindex.specs.Positions.{IndexValue}
-use Rattle.ringcore.specs.world.Trails.{trail_of}
-use Rattle.ringcore.specs.world.Allowed.{Ring}
-use Rattle.ringcore.specs.declared.world.event.Who.TheVariants.{Consumer, Sender}
 use Rattle.ring.specs.declared.sender.tally.Tally.{Tally}
 use Rattle.ring.specs.Rings.{RingValue}
 use Rattle.ring.specs.Keepers.{KeeperValue, IdleReservationValue, KeepsOthers, IsIdleSender, IsIdleReservation, IsIdleConsumer}

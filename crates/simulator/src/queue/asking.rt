@@ -1,11 +1,8 @@
 //! Single steps of a sender, and what the control word says.
 ghost use Rattle.std.specs.Prelude.{◌≡◌, ◌<◌, ◌∷◌};
 ghost use Rattle.qindex.specs.ControlWord.{IsControl};
-ghost use Rattle.ringcore.specs.declared.world.event.Who.TheVariants.{Sender};
-ghost use Rattle.ringcore.specs.declared.world.event.Event.TheVariants.{Close, Ask};
-ghost use Rattle.ringcore.specs.world.World.{world, control};
-ghost use Rattle.simulator.specs.queue.Reserving.{looked_by};
-ghost use Rattle.simulator.specs.queue.Seated.{ring_in, LeavesConsumer};
+ghost use Rattle.ring.specs.Runs.{Sender, Close, Ask, world, control};
+ghost use Rattle.simulator.specs.queue.{looked_by, ring_in, LeavesConsumer};
 
 use crate::queue::Queue;
 use qindex::Control;

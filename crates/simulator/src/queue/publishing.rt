@@ -1,13 +1,10 @@
 //! How an open reservation is written and handed over, by a sender whose seat the keeper lends.
 ghost use Rattle.std.specs.Prelude.{◌≡◌, ◌<◌, None};
 ghost use Rattle.ring.specs.Keepers.{IsIdleSender, IsIdleReservation};
-ghost use Rattle.simulator.specs.queue.Publishing.{published};
-ghost use Rattle.simulator.specs.queue.Seated.{IsBack};
+ghost use Rattle.simulator.specs.queue.{published, IsBack};
 
 use batch::BorrowedBatch;
-use qindex::indexes_tell_place_and_wrap_bit;
 use ring::{Bare, BatchKind, Closing, IdleReservation, IdleSender, Keeper, Ring};
-use ringcore::laws::sender_trail;
 
 /// A sender writes its reservation, of which nothing is written, and hands it over.
 pub(super) fn hand_over(
@@ -53,9 +50,6 @@ fn publish_as<K: BatchKind>(
     ensures number { result.sender ≡ idle.tally.sender }
     ensures idle { IsIdleSender keeper.new result }
 {
-    indexes_tell_place_and_wrap_bit();
-    sender_trail();
-    keeper.run_stands();
     let reservation = keeper.lend_reservation::<K>(ring, idle, batch);
     let sender = reservation.hand_over(ring);
     let idle = keeper.take_sender(ring, sender);

@@ -1,8 +1,7 @@
 //! A try to reserve, and what was reserved handed over, by a sender whose seat the keeper lends.
 ghost use Rattle.std.specs.Prelude.{◌≡◌, ◌<◌, None};
 ghost use Rattle.ring.specs.Keepers.{IsIdleSender};
-ghost use Rattle.simulator.specs.queue.Seated.{IsBack, IsIdleSeat};
-ghost use Rattle.simulator.specs.queue.Trying.{HasSent};
+ghost use Rattle.simulator.specs.queue.{IsBack, IsIdleSeat, HasSent};
 
 use crate::queue::publishing::hand_over;
 use crate::queue::trying::try_once;

@@ -1,9 +1,9 @@
 //! A step of the unit: the engine's own, with a consumer that is lent its seat.
 ghost use Rattle.std.specs.Prelude.{◌≡◌, None};
-ghost use Rattle.ringcore.specs.declared.world.event.Who.TheVariants.{Consumer as ConsumerOf};
+ghost use Rattle.ring.specs.Runs.{Consumer as ConsumerOf};
 ghost use Rattle.ring.specs.Keepers.{own_consumer, IsIdleConsumer, KeepsOthers};
 ghost use Rattle.engine.specs.Engines.{AreTogether};
-ghost use Rattle.simulator.specs.Standing.{AreStepped};
+ghost use Rattle.simulator.specs.{AreStepped};
 
 use crate::queue::Queue;
 use cmdcodec::legal_words_spell_one_command;

@@ -1,8 +1,7 @@
 //! A try to reserve, by a sender whose seat the keeper lends.
 ghost use Rattle.std.specs.Prelude.{◌≡◌, ◌<◌, None};
 ghost use Rattle.ring.specs.Keepers.{IsIdleSender};
-ghost use Rattle.simulator.specs.queue.Seated.{IsBack};
-ghost use Rattle.simulator.specs.queue.Trying.{HasTried};
+ghost use Rattle.simulator.specs.queue.{IsBack, HasTried};
 
 use batch::BorrowedBatch;
 use qindex::indexes_tell_the_queue;

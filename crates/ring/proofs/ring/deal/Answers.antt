@@ -1,12 +1,10 @@
 use Rattle.std.proofs.Common.{◌≡◌, ℕ, suc, ◌+◌, ◌-◌, [], arith, rules, refl, ap, ◌∙◌}
-use Rattle.ring.specs.table.Rule.{Holding, participants_from}
-use Rattle.ringcore.specs.declared.world.event.Who.TheVariants.{Sender}
-use Rattle.ringcore.specs.world.Allowed.{Ring}
-use Rattle.atomic_table.specs.Seated.{TableId}
+use Rattle.ring.specs.table.{Holding, participants_from, TableId}
+use Rattle.ring.specs.Runs.{Sender, Ring}
 use Rattle.ring.proofs.TableLemmas.StepKinds.{control_inside}
 use Rattle.ring.proofs.TableLemmas.Starts.{deals_as, fresh, first_of, rest_of, new_state, new_is_sender, pushed}
 use Rattle.ring.proofs.ring.deal.Goals as goal
-use Rattle.ring.specs.sender.Senders.{SenderValue}
+use Rattle.ring.specs.sender.{SenderValue}
 use Rattle.ring.specs.NewRings.{new_sender}
 
 pub split_seat-one-requires : goal.split_seat-one-requires

@@ -1,6 +1,6 @@
 use Rattle.std.proofs.Common.{◌≡◌, ◌≤◌, ◌-◌, [], vec_len}
 use Rattle.std.specs.Prelude.{vec_capacity}
-use Rattle.ring.specs.table.Rule.{participants_from}
+use Rattle.ring.specs.table.{participants_from}
 use Rattle.ring.proofs.ring.deal.Given as goal
 use Rattle.ring.specs.NewRings.{new_senders}
 

@@ -1,6 +1,6 @@
 use Rattle.std.proofs.Common.{sym, subst, ◌+◌}
 use Rattle.simulator.specs.declared.queue.Seat.TheVariants.{Idle}
-use Rattle.simulator.specs.queue.Seated.{AreNew}
+use Rattle.simulator.specs.queue.{AreNew}
 use Rattle.simulator.proofs.SeatLemmas.{new_seat, one_more_seat}
 use Rattle.simulator.proofs.queue.new_seats.Goals as goal
 

@@ -1,4 +1,4 @@
-use Rattle.simulator.specs.queue.Seated.{AreNew}
+use Rattle.simulator.specs.queue.{AreNew}
 use Rattle.simulator.proofs.queue.new_seats.Given as goal
 
 abbrev pub invariant-loop-sender : goal.invariant-loop-sender

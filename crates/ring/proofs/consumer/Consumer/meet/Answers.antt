@@ -1,6 +1,6 @@
 use Rattle.std.proofs.Common.{rules}
-use Rattle.ringcore.specs.declared.world.event.Who.TheVariants.{Sender}
-use Rattle.ring.specs.table.Histories.{IsHistory}
+use Rattle.ring.specs.Runs.{Sender}
+use Rattle.ring.specs.table.{IsHistory}
 use Rattle.ring.proofs.FinishLemmas.Told.{was_told_all}
 use Rattle.ring.proofs.consumer.Consumer.meet.Goals as goal
 

@@ -1,9 +1,13 @@
-use Rattle.std.proofs.Common.{List, ap, subst}
-use Rattle.cmdcodec.specs.declared.raw.Raw.{Raw}
-use Rattle.ring.specs.consumer.Pendings.{first_of}
-use Rattle.ring.specs.consumer.Taking.{TookRun}
-use Rattle.ring.proofs.ConsumerLemmas.Runs.{only_one}
+use Rattle.std.proofs.Common.{◌≡◌, ◌≤◌, List, [], ◌∷◌, length, refl, ap, subst, arith}
+use Rattle.ring.specs.Runs.{Raw}
+use Rattle.ring.specs.consumer.{first_of, TookRun}
 use Rattle.ring.proofs.consumer.Consumer.take.Goals as goal
+
+-- a run of one command is its first alone
+only_one : (raws : List Raw) → 1 ≤ length raws → length raws ≤ 1 → raws ≡ first_of raws ∷ []
+only_one [] some few = absurd (omega (arith, some))
+only_one (raw ∷ []) some few = refl
+only_one (raw ∷ other ∷ raws) some few = absurd (omega (arith, few))
 
 pub invariant_of-result : goal.invariant_of-result
 invariant_of-result g c = let run = c.in-Ready.ensures.taken in only_one c.in-Ready.run'.raws run.some run.few

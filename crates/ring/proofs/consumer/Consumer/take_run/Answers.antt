@@ -1,23 +1,24 @@
-use Rattle.std.proofs.Common.{rules, ◌≡◌, ◌∷◌, sym, ap, subst, ◌∙◌}
-use Rattle.ringcore.specs.declared.world.event.Event.TheVariants.{Look, Test}
-use Rattle.ringcore.specs.world.ConsumerLaws.{IsSteady}
-use Rattle.ringcore.specs.declared.world.event.Who.TheVariants.{Consumer}
-use Rattle.ring.specs.table.Histories.{Grew}
-use Rattle.ring.specs.consumer.Consumers.{ConsumerValue}
-use Rattle.ring.specs.consumer.Pendings.{reads_from}
-use Rattle.ring.proofs.TableLemmas.Grown.{grew_step, grew_more, consumer_step}
+use Rattle.std.proofs.Common.{rules, ◌≡◌, Bool, true, false, ◌∷◌, sym, ap, subst, ◌∙◌}
+use Rattle.ring.specs.Runs.{Raw, Look, Test, IsSteady, Consumer}
+use Rattle.ring.specs.table.{Grew, PortValue}
+use Rattle.ring.specs.consumer.{ConsumerValue, reads_from, HasSeen, TookNone}
+use Rattle.ring.proofs.TableLemmas.Grown.{grew_step, grew_more}
 use Rattle.ring.proofs.ConsumerLemmas.Reads.{look_again, test_again, run_again}
+use Rattle.ring.proofs.consumer.Consumer.take_run.Given.{Over}
+use Rattle.ring.proofs.consumer.Consumer.take_run.Goals.{After-look-seen, After-test-found, Then-get}
 use Rattle.ring.proofs.consumer.Consumer.take_run.Goals as goal
 
-pub returns-then-seen-clause-again : goal.returns-then-seen-clause-again
-returns-then-seen-clause-again g c raw seen =
+-- what was seen before is not gone
+still_there : (g : Over) (c : Then-get g) (raw : Raw) → HasSeen c.args.self.trail raw → ⊥
+still_there g c raw seen =
     let e : c.consumer.inside.port.trail ≡ Look c.look-seen.result ∷ c.args.self.trail = search rules in
     look_again c.look-seen.result _ raw (subst IsSteady e c.knows_its_steps.ensures.steady) seen (sym c.get.ensures.value ∙ c.if-get.true ∙ c.get-2.ensures.value)
 
+pub returns-then-seen-clause-again : goal.returns-then-seen-clause-again
+returns-then-seen-clause-again g c = still_there g (goal.at.returns-then-seen-clause-again g c).Then-get
+
 pub returns-else-seen-clause-again : goal.returns-else-seen-clause-again
-returns-else-seen-clause-again g c raw seen =
-    let e : c.consumer.inside.port.trail ≡ Look c.look-seen.result ∷ c.args.self.trail = search rules in
-    look_again c.look-seen.result _ raw (subst IsSteady e c.knows_its_steps.ensures.steady) seen (sym c.get.ensures.value ∙ c.if-get.true ∙ c.get-2.ensures.value)
+returns-else-seen-clause-again g c = still_there g (goal.at.returns-else-seen-clause-again g c).Then-get
 
 pub returns-then-found-eq0-clause-again : goal.returns-then-found-eq0-clause-again
 returns-then-found-eq0-clause-again g c raw seen =
@@ -29,59 +30,49 @@ returns-clause-again g c raw seen =
     let e : c.read_run.new.self.trail ≡ reads_from 0 c.read_run.new.commands (Test c.args.most c.test-found.result ∷ Look c.look-seen.result ∷ c.args.self.trail) = search rules in
     run_again c.args.most c.test-found.result c.look-seen.result _ _ _ raw e c.read_run.ensures.read.some c.knows_its_steps-3.ensures.steady seen
 
+looked : (g : Over) (c : After-look-seen g) → Grew Consumer c.args.self.trail c.look-seen.new.self.trail c.args.self.history c.look-seen.new.self.history
+looked g c = grew_step Consumer _ _ _ _ _ (ap (λ (d : ConsumerValue g.row.D.Denot). d.trail) c.look-seen.ensures.trail) c.look-seen.ensures.history
+
+tested : (g : Over) (c : After-test-found g) → Grew Consumer c.look-seen.new.self.trail c.test-found.new.self.trail c.look-seen.new.self.history c.test-found.new.self.history
+tested g c = subst (λ (d : ConsumerValue g.row.D.Denot). Grew Consumer d.trail c.test-found.new.self.trail d.history c.test-found.new.self.history) c.consumer.view_is
+    (grew_step _ _ _ _ _ _ (ap (λ (p : PortValue). p.trail) c.test-found.ensures.trail) c.test-found.ensures.history)
+
+took_none : (g : Over) (c : Then-get g) (closed : Bool) → c.look-seen.result.closed ≡ closed → TookNone closed c.args.self c.look-seen.new.self
+took_none g c closed is = record {
+  seen = c.look-seen.result;
+  nothing = search rules;
+  closed_is = is;
+  seen_is = search rules;
+  all_taken = search rules;
+  trail_is = search rules;
+  grew = looked g (goal.at.Then-get g c).After-look-seen;
+}
+
 pub returns-then-seen-clause-taken : goal.returns-then-seen-clause-taken
-returns-then-seen-clause-taken g c =
-    let looked : Grew Consumer c.args.self.trail c.look-seen.new.self.trail c.args.self.history c.look-seen.new.self.history =
-    grew_step Consumer _ _ _ _ _ (ap (λ (d : ConsumerValue g.row.D.Denot). d.trail) c.look-seen.ensures.trail) c.look-seen.ensures.history in
-    record {
-      seen = c.look-seen.result;
-      nothing = search rules;
-      closed_is = search rules;
-      seen_is = search rules;
-      all_taken = search rules;
-      trail_is = search rules;
-      grew = looked;
-    }
+returns-then-seen-clause-taken g c = took_none g (goal.at.returns-then-seen-clause-taken g c).Then-get true c.if-seen.true
 
 pub returns-else-seen-clause-taken : goal.returns-else-seen-clause-taken
-returns-else-seen-clause-taken g c =
-    let looked : Grew Consumer c.args.self.trail c.look-seen.new.self.trail c.args.self.history c.look-seen.new.self.history =
-    grew_step Consumer _ _ _ _ _ (ap (λ (d : ConsumerValue g.row.D.Denot). d.trail) c.look-seen.ensures.trail) c.look-seen.ensures.history in
-    record {
-      seen = c.look-seen.result;
-      nothing = search rules;
-      closed_is = search rules;
-      seen_is = search rules;
-      all_taken = search rules;
-      trail_is = search rules;
-      grew = looked;
-    }
+returns-else-seen-clause-taken g c = took_none g (goal.at.returns-else-seen-clause-taken g c).Then-get false c.if-seen.false
 
 pub returns-then-found-eq0-clause-taken : goal.returns-then-found-eq0-clause-taken
 returns-then-found-eq0-clause-taken g c =
-    let looked : Grew Consumer c.args.self.trail c.look-seen.new.self.trail c.args.self.history c.look-seen.new.self.history =
-    grew_step Consumer _ _ _ _ _ (ap (λ (d : ConsumerValue g.row.D.Denot). d.trail) c.look-seen.ensures.trail) c.look-seen.ensures.history in
-    let tested = subst (λ (d : ConsumerValue g.row.D.Denot). Grew Consumer d.trail c.test-found.new.self.trail d.history c.test-found.new.self.history) c.consumer.view_is
-    (consumer_step c.consumer.inside.port c.test-found.new.self _ c.test-found.ensures.trail c.test-found.ensures.history) in
+    let at = goal.at.returns-then-found-eq0-clause-taken g c in
     record {
       seen = c.look-seen.result;
       something = search rules;
       unturned = c.test-found.ensures.unturned c.if-found-eq0.true;
       trail_is = search rules;
-      grew = grew_more _ _ _ _ _ _ _ looked tested;
+      grew = grew_more _ _ _ _ _ _ _ (looked g at.After-look-seen) (tested g at.After-test-found);
     }
 
 pub returns-clause-taken : goal.returns-clause-taken
 returns-clause-taken g c =
-    let looked : Grew Consumer c.args.self.trail c.look-seen.new.self.trail c.args.self.history c.look-seen.new.self.history =
-    grew_step Consumer _ _ _ _ _ (ap (λ (d : ConsumerValue g.row.D.Denot). d.trail) c.look-seen.ensures.trail) c.look-seen.ensures.history in
-    let tested = subst (λ (d : ConsumerValue g.row.D.Denot). Grew Consumer d.trail c.test-found.new.self.trail d.history c.test-found.new.self.history) c.consumer.view_is
-    (consumer_step c.consumer.inside.port c.test-found.new.self _ c.test-found.ensures.trail c.test-found.ensures.history) in
+    let at = goal.at.returns-clause-taken g c in
     record {
       seen = c.look-seen.result;
       something = search rules;
       some = search rules;
       few = search rules;
       trail_is = search rules;
-      grew = grew_more _ _ _ _ _ _ _ looked (grew_more _ _ _ _ _ _ _ tested c.read_run.ensures.history);
+      grew = grew_more _ _ _ _ _ _ _ (looked g at.After-look-seen) (grew_more _ _ _ _ _ _ _ (tested g at.After-test-found) c.read_run.ensures.history);
     }

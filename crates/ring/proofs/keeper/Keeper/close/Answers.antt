@@ -1,4 +1,4 @@
-use Rattle.ringcore.specs.declared.world.event.Event.TheVariants.{Close}
+use Rattle.ring.specs.Runs.{Close}
 use Rattle.ring.proofs.KeeperLemmas.Asking.{IsStep, is_step, keeps_all, close_leaves_all}
 use Rattle.ring.proofs.keeper.Keeper.close.Goals as goal
 

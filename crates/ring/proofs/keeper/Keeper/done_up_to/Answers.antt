@@ -1,4 +1,4 @@
-use Rattle.ringcore.specs.declared.world.event.Event.TheVariants.{Ask}
+use Rattle.ring.specs.Runs.{Ask}
 use Rattle.ring.proofs.KeeperLemmas.Asking.{IsStep, is_step, keeps_all, ask_leaves_all}
 use Rattle.ring.proofs.keeper.Keeper.done_up_to.Goals as goal
 

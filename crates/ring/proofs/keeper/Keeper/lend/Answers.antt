@@ -1,5 +1,5 @@
 use Rattle.std.proofs.Common.{rules, refl, ap}
-use Rattle.ring.specs.table.Rule.{Holding}
+use Rattle.ring.specs.table.{Holding}
 use Rattle.ring.proofs.TableLemmas.StepKinds.{control_inside}
 use Rattle.ring.proofs.KeeperLemmas.Lending.{lends_as, left_keeps, left_is}
 use Rattle.ring.proofs.keeper.Keeper.lend.Goals as goal

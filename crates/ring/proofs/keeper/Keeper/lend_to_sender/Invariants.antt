@@ -1,4 +1,4 @@
-use Rattle.ringcore.specs.declared.world.event.Who.TheVariants.{Sender}
+use Rattle.ring.specs.Runs.{Sender}
 use Rattle.ring.proofs.keeper.Keeper.lend_to_sender.Given as goal
 
 abbrev pub ghosts-lend_sender_for : goal.ghosts-lend_sender_for

@@ -1,4 +1,4 @@
-use Rattle.ringcore.specs.declared.world.event.Event.TheVariants.{Look}
+use Rattle.ring.specs.Runs.{Look}
 use Rattle.ring.proofs.KeeperLemmas.Asking.{IsStep, is_step, keeps_all, look_leaves_all}
 use Rattle.ring.proofs.keeper.Keeper.look.Goals as goal
 

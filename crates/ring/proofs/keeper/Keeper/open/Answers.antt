@@ -1,19 +1,16 @@
-use Rattle.std.proofs.Common.{rules, ◌≡◌, ℕ, List, [], replicate, refl, sym, subst}
-use Rattle.atomic_table.specs.Table.{opening}
-use Rattle.ringcore.specs.world.Allowed.{Ring}
-use Rattle.ring.specs.table.Rule.{RuleHolds, first_participants, IsWithinLimits}
+use Rattle.std.proofs.Common.{rules, ◌≡◌, [], replicate, refl}
+use Rattle.ring.specs.Runs.{Ring}
+use Rattle.ring.specs.table.{first_participants, IsWithinLimits}
 use Rattle.ring.specs.NewRings.{made_with}
 use Rattle.qindex.specs.Positions.{index_of}
 use Rattle.ring.proofs.TableLemmas.Starts.{starts, zeros_after}
-use Rattle.ring.proofs.KeeperLemmas.Starting.{starts_kept, starts_as, starts_idle}
+use Rattle.ring.proofs.KeeperLemmas.Seated.{starts_kept, starts_as, starts_idle}
 use Rattle.ring.proofs.keeper.Keeper.open.Goals as goal
 
 pub of_words-requires : goal.of_words-requires
 of_words-requires g c =
     let key : Ring = made_with c.args.geometry c.args.senders c.args.max_batches in
-    let is : c.as_slice.result.now ≡ replicate c.words.result 0 = search rules in
-    let limits : IsWithinLimits key = record { senders = c.requires.senders; batches = c.ranges.max_batches.fits } in
-    subst (λ (ws : List ℕ). RuleHolds key (opening ws [] (first_participants key))) (sym is) (starts c.begin.ensures key c.words.result limits c.requires.geometry refl c.words.ensures)
+    starts c.begin.ensures key c.words.result _ (search rules) (record { senders = c.requires.senders; batches = c.ranges.max_batches.fits }) c.requires.geometry refl c.words.ensures
 
 pub invariant_of-result-2 : goal.invariant_of-result-2
 invariant_of-result-2 g c =

@@ -1,8 +1,9 @@
 use Rattle.std.proofs.Common.{rules, ◌≡◌, [], ◌++◌, refl, sym, ap, ◌∙◌}
-use Rattle.ring.specs.table.Rule.{Holding, ring_of, history_of_first}
+use Rattle.ring.specs.table.{Holding, ring_of, history_of_first}
 use Rattle.ring.proofs.TableLemmas.StepKinds.{control_inside}
 use Rattle.ring.proofs.TableLemmas.Steps.{gathers_at}
-use Rattle.ring.proofs.KeeperLemmas.Returning.{IsBack, joined_is, comes_back, meets_as, comes_as}
+use Rattle.ring.proofs.TableLemmas.Meetings.{meets_as}
+use Rattle.ring.proofs.KeeperLemmas.Returning.{IsBack, joined_is, comes_back, comes_as}
 use Rattle.ring.proofs.keeper.Keeper.take_back.Goals as goal
 
 pub join_seat-requires : goal.join_seat-requires

@@ -1,19 +1,19 @@
 use Rattle.std.proofs.Common.{◌≡◌, ◌++◌, [], ℕ, List, rules, refl, ap, sym, subst, ◌∙◌}
 use Rattle.std.specs.Slots.{slots_items}
+use Rattle.std.proofs.lemmas.List.{nil_from_length}
 use mathlib.Core.Option.{some}
 use lib.ListN.{get_elem?}
-use Rattle.atomic_table.specs.Table.{Final, Seen}
-use Rattle.ringcore.specs.world.Allowed.{Ring}
-use Rattle.ring.specs.table.Rule.{Holding, RuleHolds}
+use Rattle.ring.specs.table.{Final, Seen, Holding, RuleHolds}
+use Rattle.ring.specs.Runs.{Ring}
 use Rattle.ring.specs.Finishing.{all_in}
 use Rattle.ring.proofs.TableLemmas.StepKinds.{control_inside}
 use Rattle.ring.proofs.TableLemmas.Steps.{gathers_at}
-use Rattle.ring.proofs.FinishLemmas.Ends.{last_ring, empty, is_control_word, end_is, is_there, that_there}
+use Rattle.ring.proofs.FinishLemmas.Ends.{last_ring, is_control_word, end_is, is_there, that_there}
 use Rattle.qindex.specs.ControlWord.{IsControlWord, control_in}
 use Rattle.ring.proofs.ring.Ring.finish.Given.{Over}
 use Rattle.ring.proofs.ring.Ring.finish.Goals as goal
 use Rattle.ring.specs.Rings.{RingValue}
-use Rattle.ring.specs.sender.Senders.{SenderValue}
+use Rattle.ring.specs.sender.{SenderValue}
 
 pub join_seat-requires : goal.join_seat-requires
 join_seat-requires g c =
@@ -27,10 +27,7 @@ join_seat-requires g c =
     )
 
 -- the rule, by the ring that was handed in
-abbrev pub whole : (g : Over) (c : goal.After-unpack g) → Type 0
-whole g c = Final (Seen (RuleHolds c.args.self.made_with) c.loop-sender.seat.id c.loop-sender.seat.me.0) (slots_items c.close_with-closed.result.words) (slots_items c.close_with-closed.result.slots)
-
-ended : (g : Over) (c : goal.After-unpack g) → whole g c
+ended : (g : Over) (c : goal.After-unpack g) → Final (Seen (RuleHolds c.args.self.made_with) c.loop-sender.seat.id c.loop-sender.seat.me.0) (slots_items c.close_with-closed.result.words) (slots_items c.close_with-closed.result.slots)
 ended g c =
     let key_is : c.self.inside.table.shared.key ≡ c.args.self.made_with = c.self.invariant.key_is ∙ ap (λ (r : RingValue). r.made_with) c.self.view_is in
     subst (λ (r : Ring). Final (Seen (RuleHolds r) c.loop-sender.seat.id c.loop-sender.seat.me.0) (slots_items c.close_with-closed.result.words) (slots_items c.close_with-closed.result.slots)) key_is c.close_with-closed.ensures.values.2
@@ -38,7 +35,7 @@ ended g c =
 all_joined : (g : Over) (c : goal.After-unpack g) → c.loop-sender.seat.me.0 ≡ all_in c.args.self.made_with c.args.consumer.trail c.args.consumer.history c.args.senders.items
 all_joined g c =
     let i = c.loop-sender.invariant in
-    let none : c.loop-sender.senders.items ≡ [] = empty c.loop-sender.senders.items (search rules) in
+    let none : c.loop-sender.senders.items ≡ [] = nil_from_length c.loop-sender.senders.items (search rules) in
     let all : c.args.senders.items ≡ i.gathered.0 = i.gathered.1 ∙ ap (λ (l : List SenderValue). l ++ i.gathered.0) none in
     let ours : c.args.consumer.ring ≡ c.args.self = c.requires.consumer in
     ap (λ (m : Holding). m.0) i.gathered.2 ∙ (λ k. all_in (ours k).made_with c.args.consumer.trail c.args.consumer.history (sym all k))

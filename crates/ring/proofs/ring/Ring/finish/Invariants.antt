@@ -1,5 +1,5 @@
 use Rattle.std.proofs.Common.{◌≡◌, [], ◌++◌, List, vec_len}
-use Rattle.ring.specs.sender.Senders.{SenderValue}
+use Rattle.ring.specs.sender.{SenderValue}
 use Rattle.ring.specs.Finishing.{all_in}
 use Rattle.ring.proofs.ring.Ring.finish.Given as goal
 

@@ -1,16 +1,9 @@
 use Rattle.std.proofs.Common.{rules, ◌≡◌, ◌∷◌, sym, subst}
-use Rattle.ring.specs.sender.Senders.{SenderValue}
-use Rattle.ring.specs.sender.Reserving.{HasBatchLeft, Fits, IsWon}
-use Rattle.ring.specs.table.Rule.{WentOn}
-use Rattle.ringcore.specs.declared.world.event.Who.{Who}
-use Rattle.ringcore.specs.declared.world.event.Who.TheVariants.{Sender}
-use Rattle.ringcore.specs.declared.world.event.Event.TheVariants.{Won}
+use Rattle.ring.specs.sender.{SenderValue, HasBatchLeft, Fits, IsWon, Tally, IsOpen, ReservationValue}
+use Rattle.ring.specs.table.{WentOn, PortValue, HasWon, IsWonOrLost}
+use Rattle.ring.specs.Runs.{Who, Sender, Won, looked}
 use Rattle.ringcore.specs.machine.StepAnswers.{next_number}
 use Rattle.std.specs.Prelude.{Some, Bool, true}
-use Rattle.ring.specs.declared.sender.tally.Tally.{Tally}
-use Rattle.ring.specs.table.Ports.{PortValue, HasWon, IsWonOrLost}
-use Rattle.ring.specs.sender.Reservations.{IsOpen, ReservationValue}
-use Rattle.ringcore.specs.world.Trails.{looked}
 use Rattle.ring.proofs.SenderLemmas.Tries.{may_try, opens}
 use Rattle.ring.proofs.sender.Sender.exchange.Goals as goal
 

@@ -1,4 +1,4 @@
-use Rattle.ring.specs.table.Intents.{reserves}
+use Rattle.ring.specs.table.{reserves}
 use Rattle.ring.proofs.sender.Sender.exchange.Given as goal
 
 abbrev pub ghosts-exchange : goal.ghosts-exchange

@@ -1,10 +1,7 @@
 use Rattle.std.proofs.Common.{rules, sym, subst}
-use Rattle.ringcore.specs.declared.world.event.Who.TheVariants.{Sender}
-use Rattle.ring.specs.declared.sender.cause.Cause.{Cause}
-use Rattle.ring.specs.table.Histories.{Grew}
-use Rattle.ring.specs.sender.Senders.{SenderValue}
-use Rattle.ring.specs.sender.Reserving.{HasLookedAt, IsFull, IsRefused, TellsRoom}
-use Rattle.ringcore.specs.world.World.{world}
+use Rattle.ring.specs.Runs.{Sender, world}
+use Rattle.ring.specs.sender.{Cause, SenderValue, HasLookedAt, IsFull, IsRefused, TellsRoom}
+use Rattle.ring.specs.table.{Grew}
 use Rattle.ring.proofs.SenderLemmas.Tries.{looked_grew, exchanged_grew, full_then}
 use Rattle.ring.proofs.sender.Sender.reserve_as.Goals as goal
 

@@ -1,10 +1,5 @@
-use Rattle.std.proofs.Common.{ℕ, subst}
-use Rattle.ringcore.specs.declared.world.event.Who.TheVariants.{Sender}
-use Rattle.ring.specs.table.Histories.{Grew}
-use Rattle.ring.proofs.TableLemmas.Grown.{grew_more}
+use Rattle.ring.proofs.TableLemmas.Grown.{grew_then}
 use Rattle.ring.proofs.sender.Sender.send_borrowed.Goals as goal
 
 pub returns-in-Ok-clause-history : goal.returns-in-Ok-clause-history
-returns-in-Ok-clause-history c =
-    grew_more _ _ _ _ _ _ _ c.in-Ok.ensures.history
-    (subst (λ (s : ℕ). Grew (Sender s) c.in-Ok.reservation.trail c.publish.result.0.trail c.in-Ok.reservation.history c.publish.result.0.history) c.in-Ok.ensures.id c.publish.ensures.history)
+returns-in-Ok-clause-history c = grew_then _ _ _ _ _ _ _ _ c.in-Ok.ensures.id c.in-Ok.ensures.history c.publish.ensures.history

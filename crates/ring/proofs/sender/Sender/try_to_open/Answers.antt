@@ -1,23 +1,14 @@
 use Rattle.std.proofs.Common.{rules, ℕ, List, sym, subst, add-one, ◌∙◌, arith}
-use Rattle.cmdcodec.specs.declared.raw.Raw.{Raw}
-use Rattle.ringcore.specs.declared.world.event.Who.TheVariants.{Sender}
-use Rattle.ring.specs.table.Histories.{Grew}
-use Rattle.ring.specs.sender.Reserving.{IsRefused}
-use Rattle.ring.specs.sender.Sending.{HasTried}
-use Rattle.ring.proofs.TableLemmas.Grown.{grew_more}
+use Rattle.ring.specs.Runs.{Raw}
+use Rattle.ring.specs.sender.{IsRefused, HasTried}
+use Rattle.ring.proofs.TableLemmas.Grown.{grew_then}
 use Rattle.ring.proofs.sender.Sender.try_to_open.Goals as goal
 
 pub returns-in-Ok-clause-history : goal.returns-in-Ok-clause-history
-returns-in-Ok-clause-history g c =
-    let s = c.loop-tried.sender in let r = c.in-Ok.reservation in
-    grew_more _ _ _ _ _ _ _ c.loop-tried.invariant.history
-    (subst (λ (n : ℕ). Grew (Sender n) s.trail r.trail s.history r.history) c.loop-tried.invariant.number c.in-Ok.ensures.history)
+returns-in-Ok-clause-history g c = grew_then _ _ _ _ _ _ _ _ c.loop-tried.invariant.number c.loop-tried.invariant.history c.in-Ok.ensures.history
 
 pub returns-then-tried-tries-clause-history : goal.returns-then-tried-tries-clause-history
-returns-then-tried-tries-clause-history g c =
-    let s = c.loop-tried.sender in let t = c.in-Err.refused.sender in
-    grew_more _ _ _ _ _ _ _ c.loop-tried.invariant.history
-    (subst (λ (n : ℕ). Grew (Sender n) s.trail t.trail s.history t.history) c.loop-tried.invariant.number c.in-Err.ensures.history)
+returns-then-tried-tries-clause-history g c = grew_then _ _ _ _ _ _ _ _ c.loop-tried.invariant.number c.loop-tried.invariant.history c.in-Err.ensures.history
 
 pub loop-tried-preserved : goal.loop-tried-preserved
 loop-tried-preserved g c =
@@ -27,6 +18,5 @@ loop-tried-preserved g c =
       number = c.in-Err.ensures.id ∙ c.loop-tried.invariant.number;
       left = (let not_last = c.if-tried-tries.false in let more = c.loop-tried-test.true in omega arith);
       tried = subst (λ (k : ℕ). HasTried c.args.batch g.K.BatchKind.closes k c.args.self t) (sym (add-one c.loop-tried.tried)) (s, c.in-Err.refused.cause, c.loop-tried.invariant.tried, search rules, subst (λ (b : List Raw). IsRefused b g.K.BatchKind.closes s c.in-Err.refused.cause t) c.reborrow.ensures c.in-Err.ensures.refused);
-      history = grew_more _ _ _ _ _ _ _ c.loop-tried.invariant.history
-          (subst (λ (n : ℕ). Grew (Sender n) s.trail t.trail s.history t.history) c.loop-tried.invariant.number c.in-Err.ensures.history);
+      history = grew_then _ _ _ _ _ _ _ _ c.loop-tried.invariant.number c.loop-tried.invariant.history c.in-Err.ensures.history;
     }

@@ -1,7 +1,7 @@
 use Rattle.std.proofs.Common.{◌≡◌, ◌<◌}
-use Rattle.ringcore.specs.declared.world.event.Who.TheVariants.{Sender}
-use Rattle.ring.specs.table.Histories.{Grew}
-use Rattle.ring.specs.sender.Sending.{HasTried}
+use Rattle.ring.specs.Runs.{Sender}
+use Rattle.ring.specs.table.{Grew}
+use Rattle.ring.specs.sender.{HasTried}
 use Rattle.ring.proofs.sender.Sender.try_to_open.Given as goal
 
 abbrev pub invariant-loop-tried : goal.invariant-loop-tried

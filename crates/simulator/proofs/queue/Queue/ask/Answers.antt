@@ -1,4 +1,4 @@
-use Rattle.ringcore.specs.declared.world.event.Event.TheVariants.{Ask}
+use Rattle.ring.specs.Runs.{Ask}
 use Rattle.simulator.proofs.SeatLemmas.{is_queue_stepped}
 use Rattle.simulator.proofs.queue.Queue.ask.Goals as goal
 

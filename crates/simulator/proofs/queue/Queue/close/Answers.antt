@@ -1,4 +1,4 @@
-use Rattle.ringcore.specs.declared.world.event.Event.TheVariants.{Close}
+use Rattle.ring.specs.Runs.{Close}
 use Rattle.simulator.proofs.SeatLemmas.{is_queue_stepped}
 use Rattle.simulator.proofs.queue.Queue.close.Goals as goal
 

@@ -1,4 +1,4 @@
-use Rattle.ringcore.specs.declared.world.event.Event.TheVariants.{Look}
+use Rattle.ring.specs.Runs.{Look}
 use Rattle.simulator.proofs.SeatLemmas.{is_queue_stepped}
 use Rattle.simulator.proofs.queue.Queue.look.Goals as goal
 

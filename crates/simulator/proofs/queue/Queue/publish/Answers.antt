@@ -1,8 +1,7 @@
 use Rattle.std.proofs.Common.{◌≡◌, sym, ◌∙◌, true, false}
 use Rattle.simulator.specs.declared.queue.Seat.TheVariants.{Open}
-use Rattle.simulator.specs.queue.Seated.{IsOpenSeat}
-use Rattle.simulator.proofs.SeatLemmas.{found_at, shut_at, seat_at}
-use Rattle.simulator.proofs.PublishLemmas.{last_is}
+use Rattle.simulator.specs.queue.{IsOpenSeat}
+use Rattle.simulator.proofs.SeatLemmas.{found_at, shut_at, seat_at, last_is}
 use Rattle.simulator.proofs.queue.Queue.publish.Goals as goal
 
 pub unreachable-requires : goal.unreachable-requires

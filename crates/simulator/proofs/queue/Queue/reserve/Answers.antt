@@ -1,8 +1,8 @@
 use Rattle.std.proofs.Common.{◌≡◌, ◌<◌, List, sym, subst}
-use Rattle.cmdcodec.specs.declared.raw.Raw.{Raw}
+use Rattle.ring.specs.Runs.{Raw}
 use Rattle.simulator.specs.declared.queue.Queue.TheInside.{Inside}
 use Rattle.simulator.specs.declared.queue.Seat.TheVariants.{Open}
-use Rattle.simulator.specs.queue.Seated.{QueueValue, ring_in, IsOpenSeat, IsQueue}
+use Rattle.simulator.specs.queue.{QueueValue, ring_in, IsOpenSeat, IsQueue}
 use Rattle.simulator.proofs.SeatLemmas.{IsFound, sender_of_idle, is_queue_after}
 use Rattle.simulator.proofs.queue.Queue.reserve.Goals as goal
 use Rattle.simulator.proofs.queue.Queue.reserve.Goals.{in-Ok, in-Err}

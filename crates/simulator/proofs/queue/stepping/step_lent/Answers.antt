@@ -1,5 +1,5 @@
 use Rattle.std.proofs.Common.{◌≡◌, ap, sym, ◌∙◌, subst, None}
-use Rattle.ringcore.specs.declared.world.event.Who.TheVariants.{Consumer}
+use Rattle.ring.specs.Runs.{Consumer}
 use Rattle.ring.specs.Rings.{RingValue}
 use Rattle.ring.specs.Keepers.{KeeperValue, Adds, own_consumer}
 use Rattle.ring.specs.table.Keeping.{RunStands}

@@ -5,8 +5,7 @@ use Rattle.engine.specs.declared.remedy.AckFault.{AckFault}
 use Rattle.engine.specs.declared.remedy.Remedy.{Remedy}
 use Rattle.engine.specs.Stops.{told}
 use Rattle.engine.specs.Units.{UnitValue}
-use Rattle.simulator.specs.Steps.{acknowledged}
-use Rattle.simulator.specs.Standing.{SimulatorValue, Stands}
+use Rattle.simulator.specs.{acknowledged, SimulatorValue, Stands}
 use Rattle.simulator.proofs.Acknowledging.{acknowledged_is}
 use Rattle.simulator.proofs.Together.{after_unit}
 use Rattle.simulator.proofs.simulator.Simulator.acknowledge.Goals as goal

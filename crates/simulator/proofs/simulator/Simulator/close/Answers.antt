@@ -1,10 +1,7 @@
 use Rattle.std.proofs.Common.{refl, ap, sym, ◌∙◌, subst, ◌∷◌}
-use Rattle.ringcore.specs.declared.world.event.Who.TheVariants.{Sender}
-use Rattle.ringcore.specs.declared.world.event.Event.TheVariants.{Close}
-use Rattle.ringcore.specs.world.Trails.{Run}
+use Rattle.ring.specs.Runs.{Sender, Close, Run}
 use Rattle.simulator.specs.State.{State}
-use Rattle.simulator.specs.Seats.{closed}
-use Rattle.simulator.specs.Standing.{SimulatorValue, StandFor, Stands}
+use Rattle.simulator.specs.{closed, SimulatorValue, StandFor, Stands}
 use Rattle.simulator.proofs.Standings.{stands_after}
 use Rattle.simulator.proofs.Together.{after_call}
 use Rattle.simulator.proofs.simulator.Simulator.close.Goals as goal

@@ -1,11 +1,7 @@
 use Rattle.std.proofs.Common.{◌≡◌, refl, ap, ap₂, sym, ◌∙◌, subst, ℕ, ◌∷◌}
-use Rattle.ringcore.specs.declared.world.event.Who.TheVariants.{Sender}
-use Rattle.ringcore.specs.declared.world.event.Event.TheVariants.{Ask}
-use Rattle.ringcore.specs.world.Trails.{Run}
-use Rattle.ringcore.specs.world.World.{world}
+use Rattle.ring.specs.Runs.{Sender, Ask, Run, world}
 use Rattle.simulator.specs.State.{State}
-use Rattle.simulator.specs.Seats.{asked}
-use Rattle.simulator.specs.Standing.{SimulatorValue, StandFor, Stands}
+use Rattle.simulator.specs.{asked, SimulatorValue, StandFor, Stands}
 use Rattle.simulator.proofs.Standings.{stands_after}
 use Rattle.simulator.proofs.Together.{after_call}
 use Rattle.simulator.proofs.simulator.Simulator.done_up_to.Goals as goal

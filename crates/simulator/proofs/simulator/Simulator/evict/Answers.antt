@@ -2,8 +2,7 @@ use Rattle.std.proofs.Common.{ap, sym, ◌∙◌, subst}
 use Rattle.std.specs.FinMap as finite
 use Rattle.caches.specs.Held.{Evict}
 use Rattle.engine.specs.Units.{UnitValue}
-use Rattle.simulator.specs.Fills.{with_item}
-use Rattle.simulator.specs.Standing.{SimulatorValue, Stands}
+use Rattle.simulator.specs.{with_item, SimulatorValue, Stands}
 use Rattle.simulator.proofs.Filling.{after_evict}
 use Rattle.simulator.proofs.Together.{after_unit}
 use Rattle.simulator.proofs.simulator.Simulator.evict.Goals as goal

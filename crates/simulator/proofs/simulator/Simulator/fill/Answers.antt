@@ -4,8 +4,7 @@ use Rattle.caches.specs.declared.tag.Entry.{Entry}
 use Rattle.caches.specs.declared.fault.CacheFault.{CacheFault}
 use Rattle.caches.specs.Held.{Entries}
 use Rattle.engine.specs.Units.{UnitValue, with_entries}
-use Rattle.simulator.specs.Fills.{filled}
-use Rattle.simulator.specs.Standing.{SimulatorValue, Stands}
+use Rattle.simulator.specs.{filled, SimulatorValue, Stands}
 use Rattle.simulator.proofs.Filling.{filled_is}
 use Rattle.simulator.proofs.Together.{after_unit}
 use Rattle.simulator.proofs.simulator.Simulator.fill.Goals as goal

@@ -1,8 +1,7 @@
 use Rattle.std.proofs.Common.{ap, sym, ◌∙◌, subst}
-use Rattle.ringcore.specs.declared.world.event.Who.TheVariants.{Sender}
-use Rattle.ringcore.specs.world.Trails.{Run, trail_of}
+use Rattle.ring.specs.Runs.{Sender, Run, trail_of}
 use Rattle.ringcore.specs.machine.Open.{is_open}
-use Rattle.simulator.specs.Standing.{SimulatorValue, Stands}
+use Rattle.simulator.specs.{SimulatorValue, Stands}
 use Rattle.simulator.proofs.simulator.Simulator.is_open.Goals as goal
 
 pub returns-clause-told : goal.returns-clause-told

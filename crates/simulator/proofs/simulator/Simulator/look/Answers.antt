@@ -1,12 +1,8 @@
 use Rattle.std.proofs.Common.{refl, ap₂, sym, ◌∙◌, subst}
-use Rattle.ringcore.specs.declared.world.event.Who.TheVariants.{Sender}
-use Rattle.ringcore.specs.world.Allowed.{Ring}
-use Rattle.ringcore.specs.world.Trails.{Run}
-use Rattle.ringcore.specs.world.World.{world, control}
-use Rattle.simulator.specs.queue.Reserving.{looked_by}
+use Rattle.ring.specs.Runs.{Sender, Ring, Run, world, control}
+use Rattle.simulator.specs.queue.{looked_by}
 use Rattle.simulator.specs.State.{State}
-use Rattle.simulator.specs.Seats.{looked}
-use Rattle.simulator.specs.Standing.{SimulatorValue, StandFor, Stands}
+use Rattle.simulator.specs.{looked, SimulatorValue, StandFor, Stands}
 use Rattle.simulator.proofs.Standings.{stands_after}
 use Rattle.simulator.proofs.Together.{after_call}
 use Rattle.simulator.proofs.simulator.Simulator.look.Goals as goal

@@ -1,12 +1,9 @@
 use Rattle.std.proofs.Common.{ap, ap₂, sym, ◌∙◌, subst}
-use Rattle.ringcore.specs.declared.world.event.Who.TheVariants.{Sender}
-use Rattle.ringcore.specs.world.Allowed.{Ring}
-use Rattle.ringcore.specs.world.Trails.{Run, trail_of}
+use Rattle.ring.specs.Runs.{Sender, Ring, Run, trail_of}
 use Rattle.ring.specs.sender.Reservations.{reserved_number}
-use Rattle.simulator.specs.queue.Publishing.{published}
+use Rattle.simulator.specs.queue.{published}
 use Rattle.simulator.specs.State.{State}
-use Rattle.simulator.specs.Seats.{published_by}
-use Rattle.simulator.specs.Standing.{SimulatorValue, StandFor, Stands}
+use Rattle.simulator.specs.{published_by, SimulatorValue, StandFor, Stands}
 use Rattle.simulator.proofs.Standings.{published_takes_none, stands_after}
 use Rattle.simulator.proofs.Together.{after_call}
 use Rattle.simulator.proofs.simulator.Simulator.publish.Goals as goal

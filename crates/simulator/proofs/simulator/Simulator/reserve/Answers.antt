@@ -1,16 +1,12 @@
 use Rattle.std.proofs.Common.{◌≡◌, ap, ap₂, refl, sym, ◌∙◌, subst, true, Result, Ok, Err}
 use Rattle.std.specs.Result.{OnOk}
-use Rattle.ringcore.specs.declared.world.event.Who.TheVariants.{Sender}
-use Rattle.ringcore.specs.world.Allowed.{Ring}
-use Rattle.ringcore.specs.world.Trails.{Run, trail_of}
+use Rattle.ring.specs.Runs.{Sender, Ring, Run, trail_of}
 use Rattle.ringcore.specs.machine.Open.{is_open}
 use Rattle.ring.specs.declared.sender.cause.Cause.{Cause}
 use Rattle.simulator.specs.declared.queue.reserved.Reserved.{Reserved}
-use Rattle.simulator.specs.queue.Reserving.{Try, try_to_reserve}
-use Rattle.simulator.specs.queue.Seated.{ring_in}
+use Rattle.simulator.specs.queue.{Try, try_to_reserve, ring_in}
 use Rattle.simulator.specs.State.{State}
-use Rattle.simulator.specs.Seats.{reserved}
-use Rattle.simulator.specs.Standing.{SimulatorValue, StandFor, Stands, HasOpen}
+use Rattle.simulator.specs.{reserved, SimulatorValue, StandFor, Stands, HasOpen}
 use Rattle.simulator.proofs.Standings.{try_takes_none, stands_after}
 use Rattle.simulator.proofs.Opening.{try_is_open}
 use Rattle.simulator.proofs.Together.{after_call}

@@ -1,7 +1,7 @@
 use Rattle.std.proofs.Common.{sym, subst}
-use Rattle.ringcore.specs.world.Allowed.{Ring}
+use Rattle.ring.specs.Runs.{Ring}
 use Rattle.ring.specs.table.Keeping.{RunStands}
-use Rattle.simulator.specs.Standing.{SimulatorValue, Stands}
+use Rattle.simulator.specs.{SimulatorValue, Stands}
 use Rattle.simulator.proofs.simulator.Simulator.run_stands.Goals as goal
 
 pub returns : goal.returns

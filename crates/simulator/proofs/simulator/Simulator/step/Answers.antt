@@ -1,6 +1,5 @@
 use Rattle.std.proofs.Common.{sym, subst}
-use Rattle.simulator.specs.Steps.{stepped}
-use Rattle.simulator.specs.Standing.{SimulatorValue, Stands}
+use Rattle.simulator.specs.{stepped, SimulatorValue, Stands}
 use Rattle.simulator.proofs.simulator.Simulator.step.Goals as goal
 
 pub invariant_of-self : goal.invariant_of-self

@@ -1,12 +1,9 @@
 use Rattle.std.proofs.Common.{[], ◌≡◌, ◌+◌, ℕ, List, take, refl, sym, ap, ◌∙◌, subst, length-take-le}
-use Rattle.cmdcodec.specs.declared.raw.Raw.{Raw}
-use Rattle.ring.specs.table.Ports.{PortValue}
-use Rattle.ringcore.specs.declared.world.event.Who.TheVariants.{Consumer}
-use Rattle.ring.specs.table.Histories.{Grew}
-use Rattle.ring.specs.consumer.Consumers.{IsConsumer}
+use Rattle.ring.specs.Runs.{Raw, Consumer}
+use Rattle.ring.specs.table.{PortValue, Grew}
+use Rattle.ring.specs.consumer.{IsConsumer, all_acknowledged, completed_trail}
 use Rattle.ring.proofs.TableLemmas.Grown.{grew_step, grew_more}
-use Rattle.ring.specs.consumer.Completing.{all_acknowledged, completed_trail}
-use Rattle.ring.proofs.ConsumerLemmas.Completing.{is_consumer}
+use Rattle.ring.proofs.ConsumerLemmas.Acknowledging.{is_consumer}
 use Rattle.ring.proofs.consumer.consumer_port.ConsumerPort.complete_run.Goals as goal
 
 pub invariant_of-result : goal.invariant_of-result

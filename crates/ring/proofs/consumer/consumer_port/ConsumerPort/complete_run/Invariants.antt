@@ -1,5 +1,5 @@
 use Rattle.std.specs.Prelude.{take}
-use Rattle.ring.specs.table.Intents.{advances}
+use Rattle.ring.specs.table.{advances}
 use Rattle.ring.proofs.consumer.consumer_port.ConsumerPort.complete_run.Given as goal
 
 abbrev pub ghosts-advance : goal.ghosts-advance

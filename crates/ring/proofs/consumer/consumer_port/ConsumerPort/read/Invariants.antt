@@ -1,4 +1,4 @@
-use Rattle.ring.specs.table.Intents.{reads}
+use Rattle.ring.specs.table.{reads}
 use Rattle.ring.proofs.consumer.consumer_port.ConsumerPort.read.Given as goal
 
 abbrev pub ghosts-read : goal.ghosts-read

@@ -1,12 +1,9 @@
 use Rattle.std.proofs.Common.{◌≡◌, ◌+◌, ℕ, List, [], ◌∷◌, length, length-append, Some, sym, ap, subst, ◌∙◌, arith}
 use Rattle.std.specs.Prelude.{slice_get}
-use Rattle.cmdcodec.specs.declared.raw.Raw.{Raw}
-use Rattle.ringcore.specs.declared.world.event.Half.{Half}
-use Rattle.ringcore.specs.world.Trails.{Trail, found_ready, half_read}
-use Rattle.ringcore.specs.world.World.{half_of}
-use Rattle.ring.specs.table.Ports.{PortValue}
-use Rattle.ring.specs.consumer.Pendings.{HasSeen}
-use Rattle.ring.proofs.TableLemmas.Grown.{grew_more, consumer_step}
+use Rattle.ring.specs.Runs.{Raw, Half, Trail, found_ready, half_read, half_of}
+use Rattle.ring.specs.table.{PortValue}
+use Rattle.ring.specs.consumer.{HasSeen}
+use Rattle.ring.proofs.TableLemmas.Grown.{grew_more, grew_step}
 use Rattle.ring.proofs.ConsumerLemmas.Reads.{read_more, run_more, trail_more, seen_first}
 use Rattle.ring.proofs.consumer.consumer_port.ConsumerPort.read_run.Goals as goal
 
@@ -21,8 +18,8 @@ loop-offset-preserved c =
           let grown : length c.push.new.self ≡ length c.loop-offset.commands + 1 = ap (λ (l : List Raw). length l) c.push.ensures ∙ length-append c.loop-offset.commands (one ∷ []) in
           omega (arith, m, grown);
       port = run_more c.read-lo.result c.read-hi.result c.args.self.now c.loop-offset.self c.read-lo.new.self c.read-hi.new.self c.loop-offset.commands _ _ i.many i.port c.read-lo.ensures.trail c.read-hi.ensures.trail c.push.ensures;
-      history = grew_more _ _ _ _ _ _ _ i.history
-          (grew_more _ _ _ _ _ _ _ (consumer_step c.loop-offset.self c.read-lo.new.self _ c.read-lo.ensures.trail c.read-lo.ensures.history) (consumer_step c.read-lo.new.self c.read-hi.new.self _ c.read-hi.ensures.trail c.read-hi.ensures.history));
+      history = grew_more _ _ _ _ _ _ _ i.history (grew_more _ _ _ _ _ _ _ (grew_step _ _ _ _ _ _ (ap (λ (p : PortValue). p.trail) c.read-lo.ensures.trail) c.read-lo.ensures.history)
+          (grew_step _ _ _ _ _ _ (ap (λ (p : PortValue). p.trail) c.read-hi.ensures.trail) c.read-hi.ensures.history));
       ready = ap found_ready trail ∙ i.ready;
       read = subst (λ (x : List Raw × Trail). (k : ℕ) (raw : Raw) (half : Half) → slice_get x.0 k ≡ Some raw → half_read k half x.1 ≡ Some (half_of half raw))
           (λ k. (sym c.push.ensures k, sym trail k))

@@ -1,12 +1,8 @@
 use Rattle.std.proofs.Common.{[], ◌≡◌, ℕ, length, Some}
 use Rattle.std.specs.Prelude.{slice_get}
-use Rattle.cmdcodec.specs.declared.raw.Raw.{Raw}
-use Rattle.ringcore.specs.declared.world.event.Half.{Half}
-use Rattle.ringcore.specs.world.Trails.{found_ready, half_read}
-use Rattle.ringcore.specs.world.World.{half_of}
-use Rattle.ringcore.specs.declared.world.event.Who.TheVariants.{Consumer}
-use Rattle.ring.specs.table.Histories.{Grew}
-use Rattle.ring.specs.consumer.Pendings.{reads_from}
+use Rattle.ring.specs.Runs.{Raw, Half, found_ready, half_read, half_of, Consumer}
+use Rattle.ring.specs.table.{Grew}
+use Rattle.ring.specs.consumer.{reads_from}
 use Rattle.ring.proofs.consumer.consumer_port.ConsumerPort.read_run.Given as goal
 
 abbrev pub invariant-loop-offset : goal.invariant-loop-offset

@@ -1,4 +1,4 @@
-use Rattle.ring.specs.table.Intents.{tests}
+use Rattle.ring.specs.table.{tests}
 use Rattle.ring.proofs.consumer.consumer_port.ConsumerPort.test.Given as goal
 
 abbrev pub ghosts-test : goal.ghosts-test

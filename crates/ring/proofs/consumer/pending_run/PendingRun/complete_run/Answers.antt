@@ -1,8 +1,7 @@
 use Rattle.std.proofs.Common.{ap, ◌∙◌, take}
-use Rattle.ring.specs.table.Ports.{PortValue}
-use Rattle.ring.specs.consumer.Completing.{taken_of, completed_trail}
-use Rattle.ring.specs.consumer.Pendings.{PendingValue}
-use Rattle.ring.proofs.ConsumerLemmas.Completing.{taken_after}
+use Rattle.ring.specs.table.{PortValue}
+use Rattle.ring.specs.consumer.{taken_of, completed_trail, PendingValue}
+use Rattle.ring.proofs.ConsumerLemmas.Acknowledging.{taken_after}
 use Rattle.ring.proofs.consumer.pending_run.PendingRun.complete_run.Goals as goal
 
 pub returns-clause-taken : goal.returns-clause-taken

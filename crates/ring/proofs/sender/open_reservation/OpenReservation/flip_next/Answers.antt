@@ -1,7 +1,7 @@
 use Rattle.std.proofs.Common.{subst}
-use Rattle.ringcore.specs.declared.world.event.Who.TheVariants.{Sender}
-use Rattle.ring.specs.table.Histories.{Grew}
-use Rattle.ring.specs.sender.Reservations.{ReservationValue}
+use Rattle.ring.specs.Runs.{Sender}
+use Rattle.ring.specs.table.{Grew}
+use Rattle.ring.specs.sender.{ReservationValue}
 use Rattle.ring.proofs.TableLemmas.Grown.{port_step}
 use Rattle.ring.proofs.sender.open_reservation.OpenReservation.flip_next.Goals as goal
 

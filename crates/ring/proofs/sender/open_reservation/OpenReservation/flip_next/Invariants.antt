@@ -1,4 +1,4 @@
-use Rattle.ring.specs.table.Intents.{flips}
+use Rattle.ring.specs.table.{flips}
 use Rattle.ring.proofs.sender.open_reservation.OpenReservation.flip_next.Given as goal
 
 abbrev pub ghosts-flip : goal.ghosts-flip

@@ -1,4 +1,4 @@
-use Rattle.ring.specs.table.Intents.{writes}
+use Rattle.ring.specs.table.{writes}
 use Rattle.ring.proofs.sender.open_reservation.OpenReservation.write_next.Given as goal
 
 abbrev pub ghosts-write : goal.ghosts-write

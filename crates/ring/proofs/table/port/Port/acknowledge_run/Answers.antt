@@ -1,63 +1,48 @@
 use Rattle.std.proofs.Common.{[], arith, ◌≡◌, ◌<◌, ◌≤◌, ℕ, suc, ◌∷◌, sym, ap, subst, ◌∙◌}
-use Rattle.ringcore.specs.declared.world.event.Who.TheVariants.{Consumer}
-use Rattle.ringcore.specs.declared.world.event.Event.TheVariants.{Acknowledge}
-use Rattle.ringcore.specs.world.Trails.{acknowledged_by}
-use Rattle.ringcore.specs.world.Laws.{syncs_taken}
+use Rattle.ring.specs.Runs.{Consumer, Acknowledge, acknowledged_by, syncs_taken}
 use Rattle.ring.specs.Rings.{RingValue}
-use Rattle.ring.specs.table.Ports.{PortValue}
-use Rattle.ring.specs.table.Histories.{Grew}
+use Rattle.ring.specs.table.{PortValue, Grew}
 use Rattle.ring.proofs.TableLemmas.Grown.{grew_step, grew_more}
-use Rattle.ring.proofs.ConsumerLemmas.Acknowledging.{all_are, is_closing, is_known, is_next, is_taken, then_after, else_after}
-use Rattle.ring.proofs.table.port.Port.acknowledge_run.Goals.{then-is_sync, else-is_sync}
+use Rattle.ring.proofs.ConsumerLemmas.Acknowledging.{all_are, IsDue, IsTurn, turn as turn_of}
+use Rattle.ring.proofs.table.port.Port.acknowledge_run.Goals.{After-is_sync, Then-is_sync, then-is_sync, else-is_sync}
 use Rattle.ring.proofs.table.port.Port.acknowledge_run.Goals as goal
 
-pub closing_sender-requires : goal.closing_sender-requires
-closing_sender-requires c =
-    is_closing c.args.self.now _ _ c.requires.advanced c.counts_law.ensures.sum c.consumer_trail.ensures.syncs c.counts_law.ensures.words _ c.knows_its_steps.ensures.limits.senders (c.knows_its_steps.ensures.steps c.requires.who).order
+turn : (c : After-is_sync) → IsTurn c.args.self.now c.args.commands.now c.args.self.now.ring.made_with.senders c.loop-place.self c.loop-place.place c.unwrap-raw.result
+turn c = turn_of c.args.self.now _ _ c.requires.advanced c.counts_law.ensures.sum c.consumer_trail.ensures.syncs c.counts_law.ensures.words _ c.knows_its_steps.ensures.limits.senders (c.knows_its_steps.ensures.steps c.requires.who).order
     c.loop-place.self c.loop-place.place c.unwrap-raw.result c.loop-place-test.true (sym c.get.ensures ∙ c.unwrap-raw.ensures) c.loop-place.invariant.trail c.loop-place.invariant.acks
-    (sym c.is_sync.ensures ∙ c.if-is_sync.true)
+
+due : (c : Then-is_sync) → IsDue c.args.self.now.ring.made_with.senders c.loop-place.self.trail c.unwrap-raw.result
+due c = (turn (goal.at.Then-is_sync c).After-is_sync).due (sym c.is_sync.ensures ∙ c.if-is_sync.true)
+
+pub closing_sender-requires : goal.closing_sender-requires
+closing_sender-requires c = (due (goal.at.closing_sender-requires c).Then-is_sync).closing
 
 pub acknowledge-requires-clause-known : goal.acknowledge-requires-clause-known
-acknowledge-requires-clause-known c =
-    subst (λ (t : ℕ × RingValue). t.0 < t.1.made_with.senders) (λ k. (sym c.closing_sender.ensures k, c.requires.ring k))
-    (is_known c.args.self.now _ _ c.requires.advanced c.counts_law.ensures.sum c.consumer_trail.ensures.syncs c.counts_law.ensures.words _ c.knows_its_steps.ensures.limits.senders (c.knows_its_steps.ensures.steps c.requires.who).order
-    c.loop-place.self c.loop-place.place c.unwrap-raw.result c.loop-place-test.true (sym c.get.ensures ∙ c.unwrap-raw.ensures) c.loop-place.invariant.trail c.loop-place.invariant.acks
-    (sym c.is_sync.ensures ∙ c.if-is_sync.true))
+acknowledge-requires-clause-known c = subst (λ (t : ℕ × RingValue). t.0 < t.1.made_with.senders) (λ k. (sym c.closing_sender.ensures k, c.requires.ring k)) (due (goal.at.acknowledge-requires-clause-known c).Then-is_sync).known
 
 pub acknowledge-requires-clause-next : goal.acknowledge-requires-clause-next
 acknowledge-requires-clause-next c =
-    c.closing_number.ensures
-    ∙ is_next c.args.self.now _ _ c.requires.advanced c.counts_law.ensures.sum c.consumer_trail.ensures.syncs c.counts_law.ensures.words _ c.knows_its_steps.ensures.limits.senders (c.knows_its_steps.ensures.steps c.requires.who).order
-    c.loop-place.self c.loop-place.place c.unwrap-raw.result c.loop-place-test.true (sym c.get.ensures ∙ c.unwrap-raw.ensures) c.loop-place.invariant.trail c.loop-place.invariant.acks
-    (sym c.is_sync.ensures ∙ c.if-is_sync.true)
-    ∙ ap (λ (s : ℕ). suc (acknowledged_by s c.loop-place.self.trail)) (sym c.closing_sender.ensures)
+    c.closing_number.ensures ∙ (due (goal.at.acknowledge-requires-clause-next c).Then-is_sync).next ∙ ap (λ (s : ℕ). suc (acknowledged_by s c.loop-place.self.trail)) (sym c.closing_sender.ensures)
 
 pub acknowledge-requires-clause-taken : goal.acknowledge-requires-clause-taken
 acknowledge-requires-clause-taken c =
-    subst (λ (t : ℕ × ℕ). t.0 ≤ syncs_taken t.1 c.loop-place.self.trail) (λ k. (sym c.closing_number.ensures k, sym c.closing_sender.ensures k))
-    (is_taken c.args.self.now _ _ c.requires.advanced c.counts_law.ensures.sum c.consumer_trail.ensures.syncs c.counts_law.ensures.words _ c.knows_its_steps.ensures.limits.senders (c.knows_its_steps.ensures.steps c.requires.who).order
-    c.loop-place.self c.loop-place.place c.unwrap-raw.result c.loop-place-test.true (sym c.get.ensures ∙ c.unwrap-raw.ensures) c.loop-place.invariant.trail c.loop-place.invariant.acks
-    (sym c.is_sync.ensures ∙ c.if-is_sync.true))
+    subst (λ (t : ℕ × ℕ). t.0 ≤ syncs_taken t.1 c.loop-place.self.trail) (λ k. (sym c.closing_number.ensures k, sym c.closing_sender.ensures k)) (due (goal.at.acknowledge-requires-clause-taken c).Then-is_sync).taken
 
 pub loop-place-preserved : goal.loop-place-preserved
 loop-place-preserved c =
-    let order = (c.knows_its_steps.ensures.steps c.requires.who).order in
-    let at = sym c.get.ensures ∙ c.unwrap-raw.ensures in
+    let its = turn (goal.at.loop-place-preserved c).After-is_sync in let mid : PortValue = c.loop-place.self in
     elim c.if-is_sync.branch [
       | then-is_sync w ↦
-          let its = then_after c.args.self.now _ _ c.requires.advanced c.counts_law.ensures.sum c.consumer_trail.ensures.syncs c.counts_law.ensures.words _ c.knows_its_steps.ensures.limits.senders order
-          c.loop-place.self c.loop-place.place c.unwrap-raw.result c.loop-place-test.true at c.loop-place.invariant.trail c.loop-place.invariant.acks (sym c.is_sync.ensures ∙ w.if-is_sync.true) c.if-is_sync.self
+          let kept = its.then_after (sym c.is_sync.ensures ∙ w.if-is_sync.true) c.if-is_sync.self
           (ap (λ (p : PortValue). let q : PortValue = record p { history = [] } in q) w.self-is ∙ w.acknowledge.ensures.trail
-          ∙ (λ k. let q : PortValue = record c.loop-place.self { trail = Acknowledge (w.closing_sender.ensures k) (w.closing_number.ensures k) ∷ c.loop-place.self.trail; history = [] } in q)) in
-          let mid : PortValue = c.loop-place.self in
+          ∙ (λ k. let q : PortValue = record mid { trail = Acknowledge (w.closing_sender.ensures k) (w.closing_number.ensures k) ∷ mid.trail; history = [] } in q)) in
           let one = grew_step Consumer _ _ _ _ _ (ap (λ (p : PortValue). p.trail) w.acknowledge.ensures.trail) w.acknowledge.ensures.history in
           let grown = subst (λ (p : PortValue). Grew Consumer mid.trail p.trail mid.history p.history) (sym w.self-is) one in
-          record { trail = its.0; acks = its.1; history = grew_more _ _ _ _ _ _ _ c.loop-place.invariant.history grown }
+          record { trail = kept.0; acks = kept.1; history = grew_more _ _ _ _ _ _ _ c.loop-place.invariant.history grown }
       | else-is_sync w ↦
-          let its = else_after c.args.self.now _ _ c.requires.advanced c.counts_law.ensures.sum c.consumer_trail.ensures.syncs c.counts_law.ensures.words _ c.knows_its_steps.ensures.limits.senders order
-          c.loop-place.self c.loop-place.place c.unwrap-raw.result c.loop-place-test.true at c.loop-place.invariant.trail c.loop-place.invariant.acks (sym c.is_sync.ensures ∙ w.if-is_sync.false) c.if-is_sync.self w.self-is in
+          let kept = its.else_after (sym c.is_sync.ensures ∙ w.if-is_sync.false) c.if-is_sync.self w.self-is in
           let old : PortValue = c.args.self.now in
-          record { trail = its.0; acks = its.1; history = subst (λ (p : PortValue). Grew Consumer old.trail p.trail old.history p.history) (sym w.self-is) c.loop-place.invariant.history }
+          record { trail = kept.0; acks = kept.1; history = subst (λ (p : PortValue). Grew Consumer old.trail p.trail old.history p.history) (sym w.self-is) c.loop-place.invariant.history }
     ]
 
 pub returns-clause-current : goal.returns-clause-current

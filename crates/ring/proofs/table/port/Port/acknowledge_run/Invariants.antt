@@ -1,10 +1,7 @@
 use Rattle.std.proofs.Common.{◌≡◌, [], ◌+◌, ℕ, take}
-use Rattle.ringcore.specs.world.Trails.{acknowledged_by}
-use Rattle.ringcore.specs.world.Laws.{syncs_taken, syncs_in}
-use Rattle.ringcore.specs.declared.world.event.Who.TheVariants.{Consumer}
-use Rattle.ring.specs.table.Histories.{Grew}
-use Rattle.ring.specs.table.Intents.{acknowledges}
-use Rattle.ring.specs.consumer.Completing.{all_acknowledged, without_newest}
+use Rattle.ring.specs.Runs.{acknowledged_by, syncs_taken, syncs_in, Consumer}
+use Rattle.ring.specs.table.{Grew, acknowledges}
+use Rattle.ring.specs.consumer.{all_acknowledged, without_newest}
 use Rattle.ring.proofs.table.port.Port.acknowledge_run.Given as goal
 
 abbrev pub invariant-loop-place : goal.invariant-loop-place

@@ -2,7 +2,7 @@ use Rattle.std.proofs.Common.{rules, ◌≡◌, ◌+◌, ℕ, take, length, sym,
 use Rattle.std.specs.Prelude.{bit_xor}
 use Rattle.qindex.specs.Positions.{index_of}
 use Rattle.qindex.specs.ControlWord.{advance_mask}
-use Rattle.ringcore.specs.world.Trails.{taken_by}
+use Rattle.ring.specs.Runs.{taken_by}
 use Rattle.ring.proofs.TableLemmas.StepKinds.{advances_may, control_inside}
 use Rattle.ring.proofs.TableLemmas.PortSteps.{may_change}
 use Rattle.ring.proofs.table.port.Port.advance.Goals as goal

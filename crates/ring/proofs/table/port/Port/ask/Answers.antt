@@ -1,9 +1,8 @@
 use Rattle.std.proofs.Common.{rules, ◌<◌, ◌^◌, refl, sym, ap, ◌∙◌}
 use Rattle.ringcore.specs.memory.Layout.{cell}
-use Rattle.ring.proofs.TableLemmas.PortSteps.{may_change, words_are, sender_known}
+use Rattle.ring.proofs.TableLemmas.PortSteps.{may_change, words_are, sender_known, ask_few}
 use Rattle.ring.proofs.TableLemmas.StepKinds.{asks_may, cell_inside}
-use Rattle.ring.specs.table.Intents.{asks}
-use Rattle.ring.proofs.TableLemmas.Asks.{ask_few}
+use Rattle.ring.specs.table.{asks}
 use Rattle.ring.proofs.table.port.Port.ask.Goals as goal
 use Rattle.ring.specs.Rings.{RingValue}
 

@@ -1,6 +1,6 @@
 use Rattle.std.proofs.Common.{rules, refl}
 use Rattle.std.specs.Prelude.{bit_or}
-use Rattle.ring.specs.table.Intents.{closes}
+use Rattle.ring.specs.table.{closes}
 use Rattle.ring.proofs.TableLemmas.StepKinds.{closes_may, control_inside}
 use Rattle.ring.proofs.TableLemmas.PortSteps.{may_change}
 use Rattle.ring.proofs.table.port.Port.close.Goals as goal

@@ -1,10 +1,9 @@
 use Rattle.std.proofs.Common.{rules, ◌+◌, ℕ, ap, ◌∙◌, subst}
 use Rattle.std.specs.Prelude.{◌==◌}
 use prog.Atomic.{either}
-use Rattle.qindex.specs.declared.control.Control.{Control}
+use Rattle.ring.specs.Runs.{Control, MayTry}
 use Rattle.qindex.specs.Positions.{IndexValue, index_of}
 use Rattle.qindex.specs.ControlWord.{packed}
-use Rattle.ringcore.specs.world.Allowed.{MayTry}
 use Rattle.ring.proofs.TableLemmas.StepKinds.{reserves_may, control_inside}
 use Rattle.ring.proofs.TableLemmas.PortSteps.{may_change, exchange_told_as}
 use Rattle.ring.proofs.table.port.Port.exchange.Goals as goal

@@ -13,6 +13,3 @@ fetch_xor-requires g c = (
       (flips_may c.flip.ensures c.start.ensures _ _ _ _ _ _ _ (may_flip_all c.args.self.now c.args.slot _ _ c.requires.may c.requires.slot c.requires.share_at_position)
       (λ position here. c.flag_word.ensures.position _ _ (c.requires.slot position here)) (λ position here. c.flip_mask.ensures.position _ _ (c.requires.slot position here))),
 )
-
-pub flip_mask-requires-clause-some : goal.flip_mask-requires-clause-some
-flip_mask-requires-clause-some g c = c.requires.may.many.0

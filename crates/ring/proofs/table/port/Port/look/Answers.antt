@@ -1,5 +1,5 @@
 use Rattle.std.proofs.Common.{rules, refl}
-use Rattle.ring.specs.table.Intents.{looks}
+use Rattle.ring.specs.table.{looks}
 use Rattle.ring.proofs.TableLemmas.PortSteps.{may_change}
 use Rattle.ring.proofs.TableLemmas.StepKinds.{looks_may, control_inside}
 use Rattle.ring.proofs.table.port.Port.look.Goals as goal

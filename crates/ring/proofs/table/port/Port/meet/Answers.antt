@@ -1,9 +1,10 @@
 use Rattle.std.proofs.Common.{rules, ◌≡◌, refl, ap, ◌∙◌}
-use Rattle.ringcore.specs.world.Trails.{same}
-use Rattle.ring.specs.table.Rule.{Holding}
+use Rattle.ring.specs.Runs.{same}
+use Rattle.ring.specs.table.{Holding}
 use Rattle.ring.proofs.TableLemmas.StepKinds.{control_inside}
 use Rattle.ring.proofs.TableLemmas.Steps.{gathers_at}
-use Rattle.ring.proofs.TableLemmas.Meetings.{both, leaves_now, joined_is, meets_now, parts_now, my_seat, their_seat, have_met}
+use Rattle.ring.proofs.TableLemmas.Meetings.{both, leaves_now, joined_is, meets_as, parts_now, my_seat, their_seat, have_met}
+use Rattle.ring.proofs.table.port.Port.meet.Goals.{After-join_seat}
 use Rattle.ring.proofs.table.port.Port.meet.Goals as goal
 
 pub split_seat-one-requires : goal.split_seat-one-requires
@@ -22,35 +23,32 @@ join_seat-requires c = (
   gathers_at _ _ _ _ _,
 )
 
-is_both : (c : goal.After-control_word) → c.join_seat.new.seat.me ≡ both _ _ c.self.invariant c.other.invariant
+is_both : (c : After-join_seat) → c.join_seat.new.seat.me ≡ both _ _ c.self.invariant c.other.invariant
 is_both c = joined_is _ _ c.self.invariant c.other.invariant c.split_seat-one.result.me c.join_seat.new.seat.me c.split_seat-one.ensures.4 c.join_seat.ensures.2
 
 pub load-requires : goal.load-requires
 load-requires c = (
   search rules,
   control_inside _ _ _ _ c.ring.invariant.words c.control_word.ensures,
-  meets_now _ _ c.self.invariant c.other.invariant _ _ _ _ _ (is_both c),
+  meets_as _ _ _ _ _ _ _ (is_both (goal.at.load-requires c).After-join_seat),
 )
 
 pub split_seat-requires : goal.split_seat-requires
 split_seat-requires c = (
   search rules,
   control_inside _ _ _ 0 c.ring.invariant.words refl,
-  parts_now _ _ c.self.invariant c.other.invariant _ _ (is_both c.before.before) c.load.ensures.2 _ _ ((λ k. same (c.self.view_is k).who (c.other.view_is k).who) ∙ c.requires.apart),
+  parts_now _ _ c.self.invariant c.other.invariant _ _ (is_both (goal.at.split_seat-requires c).After-join_seat) c.load.ensures.2 _ _ ((λ k. same (c.self.view_is k).who (c.other.view_is k).who) ∙ c.requires.apart),
 )
 
-joined : (c : goal.After-drop-other-inside) → c.join_seat.new.seat.me ≡ both _ _ c.self.invariant c.other.invariant
-joined c = joined_is _ _ c.self.invariant c.other.invariant c.split_seat-one.result.me c.join_seat.new.seat.me c.split_seat-one.ensures.4 c.join_seat.ensures.2
-
 pub invariant_of-self : goal.invariant_of-self
-invariant_of-self c = my_seat _ _ c.self.invariant c.other.invariant _ _ (joined c) c.load.ensures.2 _ _ c.split_seat.ensures.2 c.split_seat.ensures.4
+invariant_of-self c = my_seat _ _ c.self.invariant c.other.invariant _ _ (is_both (goal.at.invariant_of-self c).After-join_seat) c.load.ensures.2 _ _ c.split_seat.ensures.2 c.split_seat.ensures.4
 
 pub invariant_of-other : goal.invariant_of-other
-invariant_of-other c = their_seat _ _ c.self.invariant c.other.invariant _ _ (joined c) c.load.ensures.2 _ _ c.split_seat.ensures.2 c.split_seat.ensures.4
+invariant_of-other c = their_seat _ _ c.self.invariant c.other.invariant _ _ (is_both (goal.at.invariant_of-other c).After-join_seat) c.load.ensures.2 _ _ c.split_seat.ensures.2 c.split_seat.ensures.4
 
 pub returns : goal.returns
 returns c =
     let mine : c.split_seat.new.seat.table_id ≡ c.self.inside.seat.table_id = search rules in
     let theirs : c.split_seat.result.table_id ≡ c.other.inside.seat.table_id = search rules in
-    let met = have_met _ _ c.self.invariant c.other.invariant _ _ (joined c) c.load.ensures.2 _ _ c.split_seat.ensures.2 c.split_seat.ensures.4 _ _ _ _ mine theirs _ _ c.self.view_is c.other.view_is in
+    let met = have_met _ _ c.self.invariant c.other.invariant _ _ (is_both (goal.at.returns c).After-join_seat) c.load.ensures.2 _ _ c.split_seat.ensures.2 c.split_seat.ensures.4 _ _ _ _ mine theirs _ _ c.self.view_is c.other.view_is in
     record { mine = met.mine; theirs = met.theirs; one = met.one; i_knew = met.i_knew; they_knew = met.they_knew }

@@ -1,8 +1,8 @@
 use Rattle.std.proofs.Common.{[], ◌≡◌}
-use Rattle.ringcore.specs.declared.world.event.Who.TheVariants.{Sender}
-use Rattle.ring.specs.table.Histories.{Grew}
-use Rattle.ring.specs.sender.Publishing.{wrote_many}
-use Rattle.ring.proofs.sender.open_reservation.OpenReservation.write_left.Given as goal
+use Rattle.ring.specs.Runs.{Sender}
+use Rattle.ring.specs.table.{Grew}
+use Rattle.ring.specs.sender.{wrote_many}
+use Rattle.ring.proofs.sender.open_reservation.OpenReservation.hand_over.Given as goal
 
 abbrev pub invariant-loop-done : goal.invariant-loop-done
 invariant-loop-done g l = record {

@@ -1,5 +1,0 @@
-use Rattle.ring.specs.table.Intents.{flips}
-use Rattle.ring.proofs.sender.open_reservation.OpenReservation.flip_run.Given as goal
-
-abbrev pub ghosts-flip : goal.ghosts-flip
-ghosts-flip g a = record { intent = flips a.offset a.count }
