@@ -24,12 +24,12 @@ unfolding acknowledged
 tests_say gerrorn remedy state stopped same s e =
     ap (λ x. by_tests x (same_bit (command_queue_bit gerrorn) state.stop.error) remedy state) s ∙ ap (λ x. by_tests stopped x remedy state) e
 
-stopped_by : (m : Mode) → IsStopped m → is_stopped m ≡ true
+pub stopped_by : (m : Mode) → IsStopped m → is_stopped m ≡ true
 stopped_by mode.Running is = absurd is
 stopped_by (mode.Stopped ill) is = refl
 stopped_by mode.Replacing is = absurd is
 
-not_stopped : (m : Mode) → ¬ IsStopped m → is_stopped m ≡ false
+pub not_stopped : (m : Mode) → ¬ IsStopped m → is_stopped m ≡ false
 not_stopped mode.Running no_stop = refl
 not_stopped (mode.Stopped ill) no_stop = absurd (no_stop tt)
 not_stopped mode.Replacing no_stop = refl

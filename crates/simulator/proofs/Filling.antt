@@ -16,7 +16,7 @@ use Rattle.caches.specs.Held.{Fill, Evict}
 use Rattle.engine.specs.Units.{UnitValue, with_entries, filled as filled_in_unit}
 use Rattle.simulator.specs.queue.{QueueValue}
 use Rattle.simulator.specs.State.{State, Answered, entries, taken_so_far, unit_of}
-use Rattle.simulator.proofs.Counts.{all_counted}
+use Rattle.simulator.proofs.Standings.{all_counted}
 
 -- ---- blocks
 

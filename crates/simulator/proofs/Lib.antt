@@ -2,11 +2,8 @@ pub mod SeatLemmas
 pub mod TryLemmas
 pub mod Standings
 pub mod Opening
-pub mod Counts
-pub mod OneMore
-pub mod Ways
-pub mod HeadLemmas
-pub mod EngineSteps
+pub mod Looks
+pub mod Stepping
 pub mod Together
 pub mod Filling
 pub mod Acknowledging

@@ -1,5 +1,5 @@
 -- What calls of a sender keep of a state, and how a simulator stands after them.
-use Rattle.std.proofs.Common.{◌≡◌, refl, ap, ap₂, sym, subst, ◌∙◌, ℕ, zero, suc, Bool, List, ◌++◌, Option, Some, None, Result, Ok, Err}
+use Rattle.std.proofs.Common.{◌≡◌, refl, ap, ap₂, sym, subst, ◌∙◌, arith, ℕ, zero, suc, ◌+◌, ◌-◌, Bool, true, false, not, cond, List, [], ◌∷◌, ◌++◌, length, Option, Some, None, Result, Ok, Err}
 use Rattle.cmdcodec.specs.declared.raw.Raw.{Raw}
 use Rattle.ring.specs.Runs.{Sender, Trail, Run, trail_of, Taken, world, Ring, length_with}
 use Rattle.ring.specs.declared.sender.cause.Cause.{Cause}
@@ -7,12 +7,41 @@ use Rattle.ring.specs.Rings.{RingValue}
 use Rattle.ring.specs.table.Keeping.{run_by}
 use Rattle.ring.specs.sender.Publishing.{writes_from, flips_from}
 use Rattle.ring.specs.Keepers.{KeeperValue}
+use Rattle.caches.specs.Held.{History}
+use Rattle.engine.specs.Counting.{taken, is_applied}
 use Rattle.engine.specs.Units.{UnitValue}
 use Rattle.ring.specs.sender.Reservations.{reserved_number}
 use Rattle.simulator.specs.declared.queue.reserved.Reserved.{Reserved}
 use Rattle.simulator.specs.queue.{Try, cause_ahead, cause_seen, unless_seen, unless_ahead, try_to_reserve, tried_by, HasSent, published}
 use Rattle.simulator.specs.State.{State, Answered, counts_of, unit_of}
 use Rattle.simulator.specs.{with_run, handed_over, sent, StandFor}
+
+-- ---- a state, by its keeper
+
+-- A state with the keeper's ring and run: where he stands for it that is the state itself.
+abbrev pub own : KeeperValue → State → State
+own keeper state = record state { ring = keeper.ring.made_with; run = keeper.run }
+
+pub of_own : (keeper : KeeperValue) (unit : UnitValue) (P : State → Type 0) → ((state : State) → unit ≡ unit_of (own keeper state) → P (own keeper state)) → (state : State) → StandFor keeper unit state → P state
+of_own keeper unit P so state s =
+    let is : own keeper state ≡ state = (λ k. record state { ring = s.ring k; run = s.run k }) in subst P is (so state (s.unit_is ∙ ap unit_of (sym is)))
+
+-- ---- what is counted
+
+-- All that is taken is applied or replaced.
+pub all_counted : (list : List Taken) (history : History) → taken (counts_of list history) ≡ length list
+all_counted [] history = refl
+all_counted (t ∷ list) history = one_more (is_applied t.outcome) _ _ _ (all_counted list history)
+  where
+    one_more : (b : Bool) (m n length : ℕ) → m + n ≡ length → (cond b 1 0 + m) + (cond (not b) 1 0 + n) ≡ suc length
+    one_more true m n length e = omega (arith, e)
+    one_more false m n length e = omega (arith, e)
+
+-- how many a command removed
+pub removed_is : (removed before after : ℕ) → removed + after ≡ before → removed ≡ before - after
+removed_is removed before after e = omega (arith, e)
+
+-- ---- nothing more is taken
 
 -- Nothing more is taken.
 abbrev pub TakesNone : Run → Run → Type 0

@@ -59,20 +59,15 @@ going state =
     if taken_so_far state == most_reserved then unchanged Exhausted state
     else found (head_of (world state.run)) (record state { run = head_taken state.ring.geometry state.run })
 
-abbrev pub stepped_in : Mode → State → Answered StepAnswer
-stepped_in mode.Running state = going state
-stepped_in (mode.Stopped ill) state = unchanged StillStopped state
-stepped_in mode.Replacing state = going state
-
-unfoldable pub stepped : State → Answered StepAnswer
-stepped state = stepped_in state.stop.mode state
-
--- ---- an acknowledgement
-
 abbrev pub is_stopped : Mode → Bool
 is_stopped mode.Running = false
 is_stopped (mode.Stopped ill) = true
 is_stopped mode.Replacing = false
+
+unfoldable pub stepped : State → Answered StepAnswer
+stepped state = if is_stopped state.stop.mode then unchanged StillStopped state else going state
+
+-- ---- an acknowledgement
 
 abbrev pub same_bit : Bool → Bool → Bool
 same_bit true b = b
