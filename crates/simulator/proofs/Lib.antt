@@ -1,8 +1,7 @@
 pub mod SeatLemmas
-pub mod TryLemmas
-pub mod Standings
-pub mod Opening
 pub mod Looks
+pub mod Trying
+pub mod Standings
 pub mod Stepping
 pub mod Together
 pub mod Filling

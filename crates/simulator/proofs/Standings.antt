@@ -12,9 +12,10 @@ use Rattle.engine.specs.Counting.{taken, is_applied}
 use Rattle.engine.specs.Units.{UnitValue}
 use Rattle.ring.specs.sender.Reservations.{reserved_number}
 use Rattle.simulator.specs.declared.queue.reserved.Reserved.{Reserved}
-use Rattle.simulator.specs.queue.{Try, cause_ahead, cause_seen, unless_seen, unless_ahead, try_to_reserve, tried_by, HasSent, published}
+use Rattle.simulator.specs.queue.{Try, try_to_reserve, tried_by, HasSent, published}
 use Rattle.simulator.specs.State.{State, Answered, counts_of, unit_of}
 use Rattle.simulator.specs.{with_run, handed_over, sent, StandFor}
+use Rattle.simulator.proofs.Trying.{by_way}
 
 -- ---- a state, by its keeper
 
@@ -47,20 +48,8 @@ removed_is removed before after e = omega (arith, e)
 abbrev pub TakesNone : Run → Run → Type 0
 TakesNone old new = (world new).taken ≡ (world old).taken
 
--- ---- reserve
-
-seen_takes_none : (ring : Ring) (s : ℕ) (body : List Raw) (closes : Bool) (run : Run) (cause : Option Cause) → TakesNone run (unless_seen ring s body closes run cause).run
-seen_takes_none ring s body closes run (Some cause) = refl
-seen_takes_none ring s body closes run None = refl
-
-ahead_takes_none : (ring : Ring) (s : ℕ) (body : List Raw) (closes : Bool) (run : Run) (cause : Option Cause) → TakesNone run (unless_ahead ring s body closes run cause).run
-ahead_takes_none ring s body closes run (Some cause) = refl
-ahead_takes_none ring s body closes run None = seen_takes_none ring s body closes run (cause_seen ring (world run) (length_with closes body))
-
-pub try_takes_none : (ring : Ring) (max_batches s : ℕ) (body : List Raw) (closes : Bool) (run : Run) → TakesNone run (try_to_reserve ring max_batches s body closes run).run
-unfolding try_to_reserve
-try_takes_none ring max_batches s body closes run =
-    ahead_takes_none ring s body closes run (cause_ahead ring max_batches (trail_of (Sender s) run) (length_with closes body))
+pub try_takes_none : (ring : Ring) (s : ℕ) (body : List Raw) (closes : Bool) (run : Run) → TakesNone run (try_to_reserve ring s body closes run).run
+try_takes_none ring s body closes run = by_way ring s body closes run (λ t. TakesNone run t.run) (λ cause. refl) (λ cause. refl) refl
 
 -- ---- publish
 
@@ -91,13 +80,13 @@ stands_after old new unit state run ring is none s = record {
 
 module _ (old new : KeeperValue) (unit : UnitValue) (state : State) (s : ℕ) (body : List Raw) (closes : Bool) (ring_is : new.ring ≡ old.ring) (is : StandFor old unit state) where
   abbrev tried : Try
-  tried = try_to_reserve state.ring state.ring.max_batches s body closes state.run
+  tried = try_to_reserve state.ring s body closes state.run
 
   same : tried_by old s body closes ≡ tried
-  same = ap₂ (λ (ring : Ring) (run : Run). try_to_reserve ring ring.max_batches s body closes run) is.ring is.run
+  same = ap₂ (λ (ring : Ring) (run : Run). try_to_reserve ring s body closes run) is.ring is.run
 
   took_none : TakesNone state.run tried.run
-  took_none = try_takes_none state.ring state.ring.max_batches s body closes state.run
+  took_none = try_takes_none state.ring s body closes state.run
 
   abbrev IsDone : Result (Option ℕ) Cause → Answered (Result (Option ℕ) Cause) → Type 0
   IsDone result done = (result ≡ done.answer) × StandFor new unit done.state

@@ -29,7 +29,7 @@ asked s state =
 -- a batch of this body, which closes with a CMD_SYNC or doesn't
 abbrev pub reserved : ℕ → List Raw → Bool → State → Answered (Result Reserved Cause)
 reserved s body closes state =
-    let tried = try_to_reserve state.ring state.ring.max_batches s body closes state.run in
+    let tried = try_to_reserve state.ring s body closes state.run in
     record { answer = tried.answer; state = with_run state tried.run }
 
 -- the batch that is reserved

@@ -14,10 +14,10 @@ looked_by who geometry run = (who, Look (control geometry (world run))) ∷ run
 
 -- Why a batch of so many commands isn't reserved, ahead of a look: the ring is too short for it, or the sender has
 -- no batch left.
-abbrev pub cause_ahead : Ring → ℕ → Trail → ℕ → Option Cause
-cause_ahead ring max_batches mine many =
+abbrev pub cause_ahead : Ring → Trail → ℕ → Option Cause
+cause_ahead ring mine many =
     if nat_lt (size ring.geometry) many then Some TooLong
-    else if nat_le max_batches (batches_made mine) then Some Exhausted
+    else if nat_le ring.max_batches (batches_made mine) then Some Exhausted
     else None
 
 -- And by what a look finds: the ring is closed, or has too little room.
@@ -52,8 +52,7 @@ abbrev pub unless_ahead : Ring → ℕ → List Raw → Bool → Run → Option 
 unless_ahead ring s body closes run (Some cause) = refused_for cause run
 unless_ahead ring s body closes run None = unless_seen ring s body closes run (cause_seen ring (world run) (length_with closes body))
 
--- A sender tries to reserve a batch of this body, which closes with a CMD_SYNC or doesn't; each sender may reserve at
--- most so many.
-unfoldable pub try_to_reserve : Ring → ℕ → ℕ → List Raw → Bool → Run → Try
-try_to_reserve ring max_batches s body closes run =
-    unless_ahead ring s body closes run (cause_ahead ring max_batches (trail_of (Sender s) run) (length_with closes body))
+-- A sender tries to reserve a batch of this body, which closes with a CMD_SYNC or doesn't.
+unfoldable pub try_to_reserve : Ring → ℕ → List Raw → Bool → Run → Try
+try_to_reserve ring s body closes run =
+    unless_ahead ring s body closes run (cause_ahead ring (trail_of (Sender s) run) (length_with closes body))

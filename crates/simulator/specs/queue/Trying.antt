@@ -13,7 +13,7 @@ use Rattle.simulator.specs.queue.Seated.{IsIdleSeat, IsOpenSeat}
 
 -- a try by a sender of the keeper's ring
 abbrev pub tried_by : KeeperValue → ℕ → List Raw → Bool → Try
-tried_by keeper s body closes = let ring = keeper.ring.made_with in try_to_reserve ring ring.max_batches s body closes keeper.run
+tried_by keeper s body closes = try_to_reserve keeper.ring.made_with s body closes keeper.run
 
 -- the first slot and the number of a reservation
 abbrev pub reserved_as : IdleReservationValue → Reserved
