@@ -3,6 +3,5 @@ pub mod Looks
 pub mod Trying
 pub mod Standings
 pub mod Stepping
-pub mod Together
 pub mod Filling
 pub mod Acknowledging

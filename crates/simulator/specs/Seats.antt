@@ -1,12 +1,12 @@
 -- What a sender does: look, reserve, publish, close and ask.
-use Rattle.std.specs.Prelude.{ℕ, Bool, List, ◌∷◌, ⊤, Option, Result, Ok, Err}
+use Rattle.std.specs.Prelude.{ℕ, Bool, List, ◌∷◌, ⊤, Option, Result}
 use Rattle.cmdcodec.specs.declared.raw.Raw.{Raw}
 use Rattle.qindex.specs.declared.control.Control.{Control}
 use Rattle.ring.specs.Runs.{Sender, Close, Ask, Run, world, control}
 use Rattle.ring.specs.declared.sender.cause.Cause.{Cause}
 use Rattle.ring.specs.sender.Reservations.{reserved_number}
 use Rattle.simulator.specs.declared.queue.reserved.Reserved.{Reserved}
-use Rattle.simulator.specs.queue.{looked_by, try_to_reserve, published}
+use Rattle.simulator.specs.queue.{looked_by, try_to_reserve, published, sent_by}
 use Rattle.simulator.specs.State.{State, Answered, mine}
 
 abbrev pub with_run : State → Run → State
@@ -36,11 +36,6 @@ reserved s body closes state =
 abbrev pub published_by : ℕ → State → Answered (Option ℕ)
 published_by s state = record { answer = reserved_number (mine s state); state = with_run state (published state.ring.geometry s state.run) }
 
--- what was reserved is written and handed over
-abbrev pub handed_over : ℕ → Result Reserved Cause → State → Answered (Result (Option ℕ) Cause)
-handed_over s (Ok told) state = let done = published_by s state in record { answer = Ok done.answer; state = done.state }
-handed_over s (Err cause) state = record { answer = Err cause; state = state }
-
 -- a batch of this body, which is handed over at once
 abbrev pub sent : ℕ → List Raw → Bool → State → Answered (Result (Option ℕ) Cause)
-sent s body closes state = let tried = reserved s body closes state in handed_over s tried.answer tried.state
+sent s body closes state = let done = sent_by state.ring s body closes state.run in record { answer = done.answer; state = with_run state done.run }

@@ -1,9 +1,12 @@
--- A try to reserve a batch: how it is answered, and which events it is.
-use Rattle.std.specs.Prelude.{ℕ, ◌+◌, Bool, nat_lt, nat_le, List, ◌∷◌, Option, Some, None, Result, Ok, Err, if◌then◌else◌}
+-- A try to reserve a batch, and how what was reserved is handed over: how they are answered, and which events they are.
+use Rattle.std.specs.Prelude.{ℕ, ◌+◌, Bool, nat_lt, nat_le, List, ◌∷◌, ◌++◌, Option, Some, None, Result, Ok, Err, if◌then◌else◌}
 use Rattle.cmdcodec.specs.declared.raw.Raw.{Raw}
 use Rattle.qindex.specs.Positions.{size, index_of}
 use Rattle.ring.specs.Runs.{Who, Sender, Look, Won, Trail, Run, trail_of, batches_made, World, tail, head, world, control, Ring, length_with}
 use Rattle.ringcore.specs.machine.StepAnswers.{next_number}
+use Rattle.ring.specs.table.Keeping.{run_by}
+use Rattle.ring.specs.sender.Publishing.{handing_over}
+use Rattle.ring.specs.sender.Reservations.{reserved_number}
 use Rattle.ring.specs.declared.sender.cause.Cause.{Cause}
 use Rattle.ring.specs.declared.sender.cause.Cause.TheVariants.{TooLong, Exhausted, Closed, Full}
 use Rattle.simulator.specs.declared.queue.reserved.Reserved.{Reserved}
@@ -27,10 +30,13 @@ cause_seen ring w many =
     else if nat_lt (head w + size ring.geometry) (tail w + many) then Some Full
     else None
 
--- how the try is answered, and the run after it
-pub record Try : Type 0 where
-  pub answer : Result Reserved Cause
+-- how a sender's call is answered, and the run after it
+pub record Ran (Answer : Type 0) : Type 0 where
+  pub answer : Answer
   pub run : Run
+
+abbrev pub Try : Type 0
+Try = Ran (Result Reserved Cause)
 
 abbrev pub refused_for : Cause → Run → Try
 refused_for cause run = record { answer = Err cause; run = run }
@@ -56,3 +62,16 @@ unless_ahead ring s body closes run None = unless_seen ring s body closes run (c
 unfoldable pub try_to_reserve : Ring → ℕ → List Raw → Bool → Run → Try
 try_to_reserve ring s body closes run =
     unless_ahead ring s body closes run (cause_ahead ring (trail_of (Sender s) run) (length_with closes body))
+
+-- The sender hands its open reservation over, of which nothing is written yet and nothing flipped.
+unfoldable pub published : ℕ → ℕ → Run → Run
+published geometry s run = run_by (Sender s) (handing_over geometry (trail_of (Sender s) run) 0 0) ++ run
+
+-- What a try reserved is handed over.
+abbrev pub handed_over : Ring → ℕ → Result Reserved Cause → Run → Ran (Result (Option ℕ) Cause)
+handed_over ring s (Ok told) run = record { answer = Ok (reserved_number (trail_of (Sender s) run)); run = published ring.geometry s run }
+handed_over ring s (Err cause) run = record { answer = Err cause; run = run }
+
+-- A sender tries once, and hands over at once what it reserved.
+abbrev pub sent_by : Ring → ℕ → List Raw → Bool → Run → Ran (Result (Option ℕ) Cause)
+sent_by ring s body closes run = let tried = try_to_reserve ring s body closes run in handed_over ring s tried.answer tried.run

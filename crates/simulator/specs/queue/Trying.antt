@@ -1,14 +1,12 @@
 -- What a try to reserve comes to, by the keeper.
-use Rattle.std.specs.Prelude.{◌≡◌, ℕ, Bool, List, Option, Result, Ok, Err}
+use Rattle.std.specs.Prelude.{◌≡◌, ℕ, Bool, List, Result, Ok, Err}
 use Rattle.cmdcodec.specs.declared.raw.Raw.{Raw}
-use Rattle.ring.specs.Runs.{Sender, trail_of}
 use Rattle.ring.specs.declared.sender.cause.Cause.{Cause}
 use Rattle.ring.specs.declared.sender.tally.Tally.{Tally}
-use Rattle.ring.specs.sender.Reservations.{reserved_number, number_when}
+use Rattle.ring.specs.sender.Reservations.{number_when}
 use Rattle.ring.specs.Keepers.{KeeperValue, IdleReservationValue}
 use Rattle.simulator.specs.declared.queue.reserved.Reserved.{Reserved}
 use Rattle.simulator.specs.queue.Reserving.{Try, try_to_reserve}
-use Rattle.simulator.specs.queue.Publishing.{published}
 use Rattle.simulator.specs.queue.Seated.{IsIdleSeat, IsOpenSeat}
 
 -- a try by a sender of the keeper's ring
@@ -35,10 +33,3 @@ pub record IsTriedInVain (old new : KeeperValue) (s : ℕ) (body : List Raw) (cl
 abbrev pub HasTried : KeeperValue → KeeperValue → ℕ → List Raw → Bool → Result IdleReservationValue (Tally × Cause) → Type 0
 HasTried old new s body closes (Ok idle) = IsTriedWell old new s body closes idle
 HasTried old new s body closes (Err refused) = IsTriedInVain old new s body closes refused.0 refused.1
-
--- A batch was reserved and then handed over, and this is its number, if it has one; or this is why not.
-abbrev pub HasSent : KeeperValue → KeeperValue → ℕ → List Raw → Bool → Result (Option ℕ) Cause → Type 0
-HasSent old new s body closes (Ok number) =
-    let tried = tried_by old s body closes in
-    (told : Reserved) × (tried.answer ≡ Ok told) × (new.run ≡ published old.ring.made_with.geometry s tried.run) × (number ≡ reserved_number (trail_of (Sender s) tried.run))
-HasSent old new s body closes (Err cause) = let tried = tried_by old s body closes in (tried.answer ≡ Err cause) × (new.run ≡ tried.run)

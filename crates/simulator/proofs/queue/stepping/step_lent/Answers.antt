@@ -9,7 +9,7 @@ use Rattle.engine.specs.Counting.{AreCountsOf}
 use Rattle.engine.specs.Units.{UnitValue}
 use Rattle.simulator.proofs.Stepping.{engine_steps}
 use Rattle.simulator.proofs.SeatLemmas.{others_stay}
-use Rattle.simulator.proofs.Together.{still_together}
+use Rattle.simulator.proofs.Standings.{still_together}
 use Rattle.simulator.proofs.queue.stepping.step_lent.Goals as goal
 
 -- the ring stays

@@ -7,7 +7,7 @@ use Rattle.engine.specs.Stops.{told}
 use Rattle.engine.specs.Units.{UnitValue}
 use Rattle.simulator.specs.{acknowledged, SimulatorValue, Stands}
 use Rattle.simulator.proofs.Acknowledging.{acknowledged_is}
-use Rattle.simulator.proofs.Together.{after_unit}
+use Rattle.simulator.proofs.Standings.{after_unit}
 use Rattle.simulator.proofs.simulator.Simulator.acknowledge.Goals as goal
 
 -- Whatever was answered, the counts stay, and so do the words that come next.

@@ -4,7 +4,7 @@ use Rattle.caches.specs.Held.{Evict}
 use Rattle.engine.specs.Units.{UnitValue}
 use Rattle.simulator.specs.{with_item, SimulatorValue, Stands}
 use Rattle.simulator.proofs.Filling.{after_evict}
-use Rattle.simulator.proofs.Together.{after_unit}
+use Rattle.simulator.proofs.Standings.{after_unit}
 use Rattle.simulator.proofs.simulator.Simulator.evict.Goals as goal
 
 pub invariant_of-self : goal.invariant_of-self

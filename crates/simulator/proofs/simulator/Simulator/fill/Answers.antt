@@ -6,7 +6,7 @@ use Rattle.caches.specs.Held.{Entries}
 use Rattle.engine.specs.Units.{UnitValue, with_entries}
 use Rattle.simulator.specs.{filled, SimulatorValue, Stands}
 use Rattle.simulator.proofs.Filling.{filled_is}
-use Rattle.simulator.proofs.Together.{after_unit}
+use Rattle.simulator.proofs.Standings.{after_unit}
 use Rattle.simulator.proofs.simulator.Simulator.fill.Goals as goal
 
 -- Whatever was answered, the counts and the stop stay.
