@@ -3,5 +3,4 @@ pub mod Looks
 pub mod Trying
 pub mod Standings
 pub mod Stepping
-pub mod Filling
-pub mod Acknowledging
+pub mod UnitCalls

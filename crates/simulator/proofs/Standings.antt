@@ -116,21 +116,3 @@ after_call queue new consumer unit state leaves is stands = record {
   state = state;
   stands = stands;
 }
-
--- ---- a call of the unit that takes nothing
-
-pub after_unit : (queue : QueueValue) (consumer : Option (IdleConsumerValue UnitValue)) (old new : UnitValue) (state : State) → new.counts ≡ old.counts → new.stop.next ≡ old.stop.next
-    → StaysSettled old new [] → IsSimulator queue consumer old → StandFor queue.keeper new state → IsSimulator queue consumer new
-after_unit queue consumer old new state counts next keeps is stands =
-    let t : List Taken = taken_of (trail_of Consumer queue.keeper.run) in
-    record {
-      there = is.there;
-      together = record {
-        many = ap taken counts ∙ is.together.many;
-        counted = subst (AreCountsOf t) (sym counts) is.together.counted;
-        settled = subst (λ (l : List Taken). IsSettled new.caches.entries l) (append-nil t) (keeps t (sym is.together.many) is.together.settled);
-        seen = λ raw e. is.together.seen raw (sym next ∙ e);
-      };
-      state = state;
-      stands = stands;
-    }

@@ -35,7 +35,6 @@ use Rattle.simulator.specs.queue.Heads as head
 use Rattle.simulator.specs.queue.{Head, raw_at_head, head_of, found_by, head_taken}
 use Rattle.simulator.specs.State.{State, Answered, entries, taken_so_far, removed_from, removed_in, counted, unit_of}
 use Rattle.simulator.specs.{with_run, is_stopped, found, going, illegal, judged, applied, stepped, unchanged, StandFor, AreStepped}
-use Rattle.simulator.proofs.Acknowledging.{stopped_by, not_stopped}
 use Rattle.simulator.proofs.Looks.{nothing_is, something_is, closed_is}
 use Rattle.simulator.proofs.Standings.{own, of_own, all_counted, removed_is}
 
@@ -108,6 +107,18 @@ completed_behind raw t = by_sync (is_sync raw)
 only_one : (raws rest : List Raw) (raw : Raw) → raws ≡ raw ∷ rest → length raws ≤ 1 → raws ≡ raw ∷ []
 only_one raws [] raw is few = is
 only_one raws (other ∷ rest) raw is few = let long = ap (length {A = Raw}) is in absurd (omega (arith, long, few))
+
+-- ---- the mode
+
+stopped_by : (m : Mode) → IsStopped m → is_stopped m ≡ true
+stopped_by mode.Running is = absurd is
+stopped_by (mode.Stopped ill) is = refl
+stopped_by mode.Replacing is = absurd is
+
+not_stopped : (m : Mode) → ¬ IsStopped m → is_stopped m ≡ false
+not_stopped mode.Running no_stop = refl
+not_stopped (mode.Stopped ill) no_stop = absurd (no_stop tt)
+not_stopped mode.Replacing no_stop = refl
 
 -- ---- what the engine's step did
 

@@ -73,9 +73,12 @@ abbrev pub same_bit : Bool → Bool → Bool
 same_bit true b = b
 same_bit false b = not b
 
+-- by whether it is stopped, and whether the bits agree
+abbrev pub acknowledged_if : Bool → Bool → Remedy → State → Answered (Result ⊤ AckFault)
+acknowledged_if false same remedy state = record { answer = Err NoError; state = state }
+acknowledged_if true false remedy state = record { answer = Err OtherBit; state = state }
+acknowledged_if true true remedy state = record { answer = Ok tt; state = record state { stop = told remedy state.stop } }
+
 -- It is refused where no error is active, and where CMDQ_ERR of the word isn't that of SMMU_GERROR.
 unfoldable pub acknowledged : ℕ → Remedy → State → Answered (Result ⊤ AckFault)
-acknowledged gerrorn remedy state =
-    if not (is_stopped state.stop.mode) then record { answer = Err NoError; state = state }
-    else if not (same_bit (command_queue_bit gerrorn) state.stop.error) then record { answer = Err OtherBit; state = state }
-    else record { answer = Ok tt; state = record state { stop = told remedy state.stop } }
+acknowledged gerrorn remedy state = acknowledged_if (is_stopped state.stop.mode) (same_bit (command_queue_bit gerrorn) state.stop.error) remedy state
