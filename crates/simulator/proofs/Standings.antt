@@ -75,15 +75,15 @@ sent_takes_none ring s body closes run = by_answer (try_to_reserve ring s body c
 
 -- ---- a sender's call
 
--- It is answered by this of a state, and leaves this run, in which nothing more is taken.
-pub by_run : {Answer : Type 0} (queue new : QueueValue) (unit : UnitValue) (answer : Answer) (f : State → Answer) (g : State → Run) → LeavesConsumer queue.keeper new.keeper
-    → ((state : State) → answer ≡ f (own queue.keeper state)) → ((state : State) → new.keeper.run ≡ g (own queue.keeper state)) → ((state : State) → TakesNone state.run (g state))
-    → Does (record { queue = queue; unit = unit }) (record { queue = new; unit = unit }) answer (λ state. record { answer = f state; state = with_run state (g state) })
-by_run queue new unit answer f g leaves answered ran none =
-    of_own queue.keeper unit (λ state. (answer ≡ f state) × StandFor new.keeper unit (with_run state (g state))) (λ state unit_is. (answered state, record {
+-- Of a state with the keeper's own run it tells this answer and leaves this run, in which nothing more is taken.
+pub by_run : {Answer : Type 0} (queue new : QueueValue) (unit : UnitValue) (then : State → Answered Answer) {answer told : Answer} {run : Run} → LeavesConsumer queue.keeper new.keeper
+    → answer ≡ told → new.keeper.run ≡ run → TakesNone queue.keeper.run run → ((state : State) → then (own queue.keeper state) ≡ record { answer = told; state = with_run (own queue.keeper state) run })
+    → Does (record { queue = queue; unit = unit }) (record { queue = new; unit = unit }) answer then
+by_run {Answer} queue new unit then {answer} leaves answered ran none is = of_own queue.keeper unit (λ state. (answer ≡ (then state).answer) × StandFor new.keeper unit (then state).state)
+    (λ state unit_is. subst (λ (a : Answered Answer). (answer ≡ a.answer) × StandFor new.keeper unit a.state) (sym (is state)) (answered, record {
       ring = ap (λ (r : RingValue). r.made_with) leaves.ring_is;
-      run = ran state;
-      unit_is = unit_is ∙ sym (ap (λ (taken : List Taken). record (unit_of (own queue.keeper state)) { counts = counts_of taken state.history }) (none (own queue.keeper state)));
+      run = ran;
+      unit_is = unit_is ∙ sym (ap (λ (list : List Taken). record (unit_of (own queue.keeper state)) { counts = counts_of list state.history }) none);
     }))
 
 -- ---- unit and consumer
@@ -108,11 +108,15 @@ there_after : (old new : KeeperValue) (consumer : Option (IdleConsumerValue Unit
 there_after old new None leaves is = is
 there_after old new (Some idle) leaves is = leaves.left idle.head idle.taken is
 
-pub after_call : (queue new : QueueValue) (consumer : Option (IdleConsumerValue UnitValue)) (unit : UnitValue) (state : State) → LeavesConsumer queue.keeper new.keeper
-    → IsSimulator queue consumer unit → StandFor new.keeper unit state → IsSimulator new consumer unit
-after_call queue new consumer unit state leaves is stands = record {
+pub after_call : (queue new : QueueValue) (consumer : Option (IdleConsumerValue UnitValue)) (unit : UnitValue) {run : Run} → LeavesConsumer queue.keeper new.keeper → new.keeper.run ≡ run
+    → TakesNone queue.keeper.run run → IsSimulator queue consumer unit → IsSimulator new consumer unit
+after_call queue new consumer unit {run} leaves ran none is = record {
   there = there_after queue.keeper new.keeper consumer leaves is.there;
   together = still_together (own_consumer None queue.keeper) (own_consumer None new.keeper) unit (sym leaves.trail_is) is.together;
-  state = state;
-  stands = stands;
+  state = with_run is.state run;
+  stands = record {
+    ring = ap (λ (r : RingValue). r.made_with) leaves.ring_is ∙ is.stands.ring;
+    run = ran;
+    unit_is = is.stands.unit_is ∙ ap (λ (list : List Taken). record (unit_of is.state) { counts = counts_of list is.state.history }) (ap (λ (r : Run). (world r).taken) (sym is.stands.run) ∙ sym none);
+  };
 }

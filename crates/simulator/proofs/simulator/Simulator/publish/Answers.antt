@@ -1,13 +1,13 @@
-use Rattle.std.proofs.Common.{sym, subst}
-use Rattle.simulator.specs.{published_by, SimulatorValue, Stands, Does}
+use Rattle.std.proofs.Common.{refl, sym, subst}
+use Rattle.simulator.specs.queue.{ring_in}
+use Rattle.simulator.specs.{published_by, SimulatorValue, Stands}
 use Rattle.simulator.proofs.Standings.{by_run, after_call, published_takes_none}
 use Rattle.simulator.proofs.simulator.Simulator.publish.Goals as goal
 
-done : (c : goal.After-publish) → Does (record { queue = c.self.inside.queue; unit = c.self.inside.unit }) (record { queue = c.publish.new.self; unit = c.self.inside.unit }) c.publish.result (published_by c.args.sender)
-done c = by_run c.self.inside.queue c.publish.new.self c.self.inside.unit c.publish.result _ _ c.publish.ensures.consumer (λ state. c.publish.ensures.number) (λ state. c.publish.ensures.run) (λ state. published_takes_none state.ring.geometry c.args.sender state.run)
-
 pub invariant_of-self : goal.invariant_of-self
-invariant_of-self c = let is = c.self.invariant in after_call c.self.inside.queue c.publish.new.self c.self.inside.consumer c.self.inside.unit _ c.publish.ensures.consumer is (done c is.state is.stands).1
+invariant_of-self c = after_call c.self.inside.queue c.publish.new.self c.self.inside.consumer c.self.inside.unit c.publish.ensures.consumer c.publish.ensures.run (published_takes_none (ring_in c.self.inside.queue).geometry c.args.sender c.self.inside.queue.keeper.run) c.self.invariant
 
 pub returns : goal.returns
-returns c state stands = done c state (subst (λ (m : SimulatorValue). Stands m state) (sym c.self.view_is) stands)
+returns c state stands =
+    by_run c.self.inside.queue c.publish.new.self c.self.inside.unit (published_by c.args.sender) c.publish.ensures.consumer c.publish.ensures.number c.publish.ensures.run
+    (published_takes_none (ring_in c.self.inside.queue).geometry c.args.sender c.self.inside.queue.keeper.run) (λ then. refl) state (subst (λ (m : SimulatorValue). Stands m state) (sym c.self.view_is) stands)

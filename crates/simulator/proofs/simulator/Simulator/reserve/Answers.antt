@@ -1,23 +1,22 @@
-use Rattle.std.proofs.Common.{◌≡◌, ap, refl, sym, ◌∙◌, subst, true, Result, Ok, Err}
+use Rattle.std.proofs.Common.{◌≡◌, refl, sym, ◌∙◌, subst, true, Result, Ok, Err}
 use Rattle.std.specs.Result.{OnOk}
 use Rattle.ring.specs.Runs.{Sender, Run, trail_of}
 use Rattle.ringcore.specs.machine.Open.{is_open}
 use Rattle.ring.specs.declared.sender.cause.Cause.{Cause}
 use Rattle.simulator.specs.declared.queue.reserved.Reserved.{Reserved}
 use Rattle.simulator.specs.queue.{ring_in}
-use Rattle.simulator.specs.{reserved, SimulatorValue, Stands, Does, HasOpen}
+use Rattle.simulator.specs.{reserved, SimulatorValue, Stands, HasOpen}
 use Rattle.simulator.proofs.Standings.{by_run, after_call, try_takes_none}
 use Rattle.simulator.proofs.Trying.{try_is_open}
 use Rattle.simulator.proofs.simulator.Simulator.reserve.Goals as goal
 
-done : (c : goal.After-reserve) → Does (record { queue = c.self.inside.queue; unit = c.self.inside.unit }) (record { queue = c.reserve.new.self; unit = c.self.inside.unit }) c.reserve.result (reserved c.args.sender c.args.batch c.args.closes)
-done c = by_run c.self.inside.queue c.reserve.new.self c.self.inside.unit c.reserve.result _ _ c.reserve.ensures.consumer (λ state. c.reserve.ensures.answer) (λ state. c.reserve.ensures.run) (λ state. try_takes_none state.ring c.args.sender c.args.batch c.args.closes state.run)
-
 pub invariant_of-self : goal.invariant_of-self
-invariant_of-self c = let is = c.self.invariant in after_call c.self.inside.queue c.reserve.new.self c.self.inside.consumer c.self.inside.unit _ c.reserve.ensures.consumer is (done c is.state is.stands).1
+invariant_of-self c = after_call c.self.inside.queue c.reserve.new.self c.self.inside.consumer c.self.inside.unit c.reserve.ensures.consumer c.reserve.ensures.run (try_takes_none (ring_in c.self.inside.queue) c.args.sender c.args.batch c.args.closes c.self.inside.queue.keeper.run) c.self.invariant
 
 pub returns-clause-done : goal.returns-clause-done
-returns-clause-done c state stands = done c state (subst (λ (m : SimulatorValue). Stands m state) (sym c.self.view_is) stands)
+returns-clause-done c state stands =
+    by_run c.self.inside.queue c.reserve.new.self c.self.inside.unit (reserved c.args.sender c.args.batch c.args.closes) c.reserve.ensures.consumer c.reserve.ensures.answer c.reserve.ensures.run
+    (try_takes_none (ring_in c.self.inside.queue) c.args.sender c.args.batch c.args.closes c.self.inside.queue.keeper.run) (λ then. refl) state (subst (λ (m : SimulatorValue). Stands m state) (sym c.self.view_is) stands)
 
 on_ok : (r : Result Reserved Cause) (P : Type 0) → ((x : Reserved) → r ≡ Ok x → P) → OnOk r P
 on_ok (Ok x) P f = f x refl
