@@ -5,14 +5,14 @@ use Rattle.std.proofs.lemmas.List.{length-set, get_or-set_same, get_or-set_other
 use Rattle.std.proofs.Math.ListN.{get_or-append}
 use Rattle.std.specs.Prelude.{None, ◌⊎◌, ◌||◌, nat_lt, slice_index_or, slice_set}
 use Rattle.cmdcodec.specs.declared.raw.Raw.{Raw}
-use Rattle.ring.specs.Runs.{Who, Sender, Consumer, Event, Trail, trail_of, reserved_length, has_flipped, IsSettled, Ring, length_with}
+use Rattle.ring.specs.Runs.{Who, Sender, Trail, trail_of, reserved_length, has_flipped, IsSettled, Ring, length_with}
 use Rattle.ringcore.specs.machine.Open.{some_below, is_open}
 use Rattle.ring.specs.Rings.{RingValue}
 use Rattle.ring.specs.NewRings.{made_with}
 use Rattle.ring.specs.declared.sender.tally.Tally.{Tally}
 use Rattle.ring.specs.table.Keeping.{RunStands}
 use Rattle.ring.specs.sender.Reservations.{reserved_number, number_when}
-use Rattle.ring.specs.Keepers.{KeeperValue, IdleReservationValue, Adds, has_lent, has_back, with_step, KeepsAll, KeepsOthers, IsIdleSender, IsIdleReservation}
+use Rattle.ring.specs.Keepers.{KeeperValue, IdleReservationValue, Adds, has_lent, has_back, KeepsOthers, IsIdleSender, IsIdleReservation}
 use Rattle.simulator.specs.declared.queue.Queue.TheInside.{Inside}
 use Rattle.simulator.specs.declared.queue.Seat.{Seat}
 use Rattle.simulator.specs.declared.queue.Seat.TheVariants.{Idle, Open}

@@ -1,6 +1,5 @@
 -- What a simulator stands for after a call, and what its unit and what is left of its consumer keep together.
-use Rattle.std.proofs.Common.{rules, ◌≡◌, refl, ap, sym, subst, ◌∙◌, arith, ℕ, zero, suc, ◌+◌, ◌-◌, Bool, true, false, not, cond, List, [], ◌∷◌, ◌++◌, length, Option, Some, None, Result, Ok, Err, append-nil}
-use Rattle.std.specs.Prelude.{OnOk, OnErr}
+use Rattle.std.proofs.Common.{rules, ◌≡◌, refl, ap, sym, subst, ◌∙◌, arith, ℕ, zero, suc, ◌+◌, ◌-◌, Bool, true, false, not, cond, List, [], ◌∷◌, ◌++◌, length, Option, Some, None, Result, Ok, Err}
 use Rattle.cmdcodec.specs.declared.raw.Raw.{Raw}
 use Rattle.ring.specs.Runs.{Consumer, Sender, Trail, Run, trail_of, Taken, world, Ring}
 use Rattle.ring.specs.declared.sender.cause.Cause.{Cause}
@@ -14,7 +13,7 @@ use Rattle.caches.specs.Stored.{Stored}
 use Rattle.caches.specs.Held.{History}
 use Rattle.engine.specs.Settled.{IsSettled}
 use Rattle.engine.specs.Counting.{taken, is_applied, AreCountsOf}
-use Rattle.engine.specs.Units.{UnitValue, StaysSettled, new_unit}
+use Rattle.engine.specs.Units.{UnitValue, new_unit}
 use Rattle.engine.specs.Engines.{AreTogether}
 use Rattle.simulator.specs.declared.queue.reserved.Reserved.{Reserved}
 use Rattle.simulator.specs.queue.{QueueValue, LeavesConsumer, try_to_reserve, published, handed_over, sent_by}
@@ -80,11 +79,14 @@ pub by_run : {Answer : Type 0} (queue new : QueueValue) (unit : UnitValue) (then
     → answer ≡ told → new.keeper.run ≡ run → TakesNone queue.keeper.run run → ((state : State) → then (own queue.keeper state) ≡ record { answer = told; state = with_run (own queue.keeper state) run })
     → Does (record { queue = queue; unit = unit }) (record { queue = new; unit = unit }) answer then
 by_run {Answer} queue new unit then {answer} leaves answered ran none is = of_own queue.keeper unit (λ state. (answer ≡ (then state).answer) × StandFor new.keeper unit (then state).state)
-    (λ state unit_is. subst (λ (a : Answered Answer). (answer ≡ a.answer) × StandFor new.keeper unit a.state) (sym (is state)) (answered, record {
-      ring = ap (λ (r : RingValue). r.made_with) leaves.ring_is;
-      run = ran;
-      unit_is = unit_is ∙ sym (ap (λ (list : List Taken). record (unit_of (own queue.keeper state)) { counts = counts_of list state.history }) none);
-    }))
+    (λ state unit_is. subst (λ (a : Answered Answer). (answer ≡ a.answer) × StandFor new.keeper unit a.state) (sym (is state)) (
+      answered,
+      record {
+        ring = ap (λ (r : RingValue). r.made_with) leaves.ring_is;
+        run = ran;
+        unit_is = unit_is ∙ sym (ap (λ (list : List Taken). record (unit_of (own queue.keeper state)) { counts = counts_of list state.history }) none);
+      },
+    ))
 
 -- ---- unit and consumer
 

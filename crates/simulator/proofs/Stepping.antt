@@ -1,5 +1,5 @@
 -- What a step of the engine comes to, in a state.
-use Rattle.std.proofs.Common.{◌≡◌, ◌≢◌, ◌≤◌, ◌^◌, refl, ap, sym, ◌∙◌, subst, eq-eqb, append_assoc, arith, ℕ, ◌+◌, ◌-◌, ◌==◌, Bool, true, false, cond, List, [], ◌∷◌, ◌++◌, length, Option, Some, Result, Ok, Err}
+use Rattle.std.proofs.Common.{◌≡◌, ◌≢◌, ◌≤◌, ◌^◌, refl, ap, sym, ◌∙◌, subst, eq-eqb, append_assoc, arith, ℕ, ◌+◌, ◌-◌, ◌==◌, Bool, true, false, cond, List, [], ◌∷◌, ◌++◌, length, Option, Some, Result}
 use Rattle.std.specs.Prelude.{◌↔◌, ◌/◌, take, slice_get, option_map}
 use Rattle.std.specs.FinMap as finite
 use Rattle.std.proofs.lemmas.Bool.{ne_eqb}
@@ -14,14 +14,14 @@ use Rattle.qindex.specs.declared.control.Control.{Control}
 use Rattle.qindex.specs.Indexes.{IsGeometry}
 use Rattle.qindex.specs.Positions.{place}
 use Rattle.qindex.specs.Laws.{IndexesTellTheQueue}
-use Rattle.ring.specs.Runs.{Consumer, Lo, Hi, Look, Test, Read, Advance, Acknowledge, Trail, Run, trail_of, Item, World, tail, head, world, control, Ring, IsRun, MayRead, ShareAWord, NeverMoreThanFull}
-use Rattle.caches.specs.Held.{Take, without_covered}
+use Rattle.ring.specs.Runs.{Consumer, Lo, Hi, Look, Test, Advance, Acknowledge, Trail, Run, trail_of, Item, World, head, world, control, Ring, IsRun, MayRead, ShareAWord, NeverMoreThanFull}
+use Rattle.caches.specs.Held.{without_covered}
 use Rattle.ring.specs.Rings.{RingValue}
 use Rattle.ring.specs.table.Keeping.{run_by, RunStands}
 use Rattle.ring.specs.Keepers.{KeeperValue, Adds}
 use Rattle.ring.specs.consumer.Consumers.{ConsumerValue}
 use Rattle.ring.specs.consumer.Pendings.{PendingValue, reads_from}
-use Rattle.ring.specs.consumer.Taking.{TookNone, TookUnwritten}
+use Rattle.ring.specs.consumer.Taking.{TookNone}
 use Rattle.ring.specs.consumer.Completing.{completed as completed_by_ring, completed_trail, unknowing, sync_sender, sync_number}
 use Rattle.engine.specs.declared.answer.StepAnswer.{StepAnswer}
 use Rattle.engine.specs.declared.answer.StepAnswer.TheVariants.{Empty, Drained, Unwritten, Applied, Stopped, Replaced, StillStopped, Exhausted}
@@ -29,7 +29,7 @@ use Rattle.engine.specs.declared.stop.Mode.{Mode}
 use Rattle.engine.specs.declared.stop.Mode.TheVariants as mode
 use Rattle.engine.specs.Stops.{IsStopped, stopped_at, gone_on}
 use Rattle.engine.specs.Counting.{CountsValue, taken, AreCountsOf, counted_applied, counted_replaced}
-use Rattle.engine.specs.Units.{UnitValue, IsApplied, IsStoppedAt, IsReplaced}
+use Rattle.engine.specs.Units.{UnitValue}
 use Rattle.engine.specs.Engines.{EngineValue, IsFirst, HasStepped}
 use Rattle.simulator.specs.queue.Heads as head
 use Rattle.simulator.specs.queue.{Head, raw_at_head, head_of, found_by, head_taken}

@@ -1,5 +1,5 @@
 -- What a try by the sender of the ring comes to, by the run that it left.
-use Rattle.std.proofs.Common.{◌≡◌, ◌≢◌, refl, ap, sym, ◌∙◌, subst, arith, eq-eqb, ℕ, suc, ◌+◌, ◌<◌, ◌≤◌, Bool, true, false, cond, List, [], ◌∷◌, ◌++◌, length, Option, Some, None, Result, Ok}
+use Rattle.std.proofs.Common.{◌≡◌, refl, ap, sym, ◌∙◌, subst, arith, eq-eqb, ℕ, suc, ◌+◌, ◌<◌, ◌≤◌, Bool, true, false, cond, List, [], ◌∷◌, ◌++◌, length, Option, Some, None, Result, Ok}
 use Rattle.std.specs.Prelude.{nat_lt}
 use Rattle.std.proofs.lemmas.Bool.{lt-leb, lt-ltb, le-leb}
 use Rattle.cmdcodec.specs.declared.raw.Raw.{Raw}
@@ -7,7 +7,7 @@ use Rattle.qindex.specs.declared.control.Control.{Control}
 use Rattle.qindex.specs.Positions.{size, index_of}
 use Rattle.qindex.specs.Indexes.{IsGeometry, distance}
 use Rattle.qindex.specs.Laws.{IndexesTellTheQueue}
-use Rattle.ring.specs.Runs.{Sender, Look, Won, Lost, Trail, Run, trail_of, batches_made, start_index, World, tail, head, world, control, Ring, IsRun, length_with, NeverMoreThanFull}
+use Rattle.ring.specs.Runs.{Sender, Look, Won, Lost, Trail, Run, trail_of, batches_made, start_index, World, tail, head, world, Ring, IsRun, length_with, NeverMoreThanFull}
 use Rattle.ringcore.specs.machine.Open.{is_open}
 use Rattle.ringcore.specs.machine.StepAnswers.{next_number}
 use Rattle.ring.specs.table.Keeping.{run_by}

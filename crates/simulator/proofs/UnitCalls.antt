@@ -68,11 +68,14 @@ module _ (keeper : KeeperValue) (unit new : UnitValue) (remedy : Remedy) (r : Re
   refused fault e = (e, record { ring = s.ring; run = s.run; unit_is = subst (λ (q : Result ⊤ AckFault). OnErr q (new ≡ unit)) e err ∙ s.unit_is })
 
   granted : ¬ (r ≡ Err NoError) → ¬ (r ≡ Err OtherBit) → IsDone (acknowledged_if true true remedy state)
-  granted active same = (e, record {
-    ring = s.ring;
-    run = s.run;
-    unit_is = subst (λ (q : Result ⊤ AckFault). OnOk q (new ≡ record unit { stop = told remedy unit.stop })) e ok ∙ ap (λ (u : UnitValue). record u { stop = told remedy u.stop }) s.unit_is;
-  })
+  granted active same = (
+    e,
+    record {
+      ring = s.ring;
+      run = s.run;
+      unit_is = subst (λ (q : Result ⊤ AckFault). OnOk q (new ≡ record unit { stop = told remedy unit.stop })) e ok ∙ ap (λ (u : UnitValue). record u { stop = told remedy u.stop }) s.unit_is;
+    },
+  )
     where
       no_fault : (q : Result ⊤ AckFault) → ¬ (q ≡ Err NoError) → ¬ (q ≡ Err OtherBit) → q ≡ Ok tt
       no_fault (Ok t) active same = refl
@@ -152,12 +155,15 @@ module _ (keeper : KeeperValue) (unit new : UnitValue) (state : State) (tag : Ta
   IsFilled r done = (r ≡ done.answer) × StandFor keeper new done.state
 
   by_fault : (r : Result (Option Entry) CacheFault) → IsFillAnswer unit.caches tag r → OnOk r (new ≡ with_entries unit (filled_in_unit tag value unit)) → OnErr r (new ≡ unit) → IsFilled r (filled_unless (fault_in r) tag value state)
-  by_fault (Ok was) answer ok err = (ap Ok (answer.was ∙ ap (λ (u : UnitValue). finite.get u.caches.entries tag) s.unit_is), record {
-    ring = s.ring;
-    run = s.run;
-    unit_is = ok ∙ ap (λ (u : UnitValue). with_entries u (filled_in_unit tag value u)) s.unit_is
-        ∙ ap (λ n. with_entries (unit_of state) (finite.insert (entries state) tag (record { tag = tag; value = value; born = n }))) (all_counted (world state.run).taken state.history);
-  })
+  by_fault (Ok was) answer ok err = (
+    ap Ok (answer.was ∙ ap (λ (u : UnitValue). finite.get u.caches.entries tag) s.unit_is),
+    record {
+      ring = s.ring;
+      run = s.run;
+      unit_is = ok ∙ ap (λ (u : UnitValue). with_entries u (filled_in_unit tag value u)) s.unit_is
+          ∙ ap (λ n. with_entries (unit_of state) (finite.insert (entries state) tag (record { tag = tag; value = value; born = n }))) (all_counted (world state.run).taken state.history);
+    },
+  )
   by_fault (Err fault) answer ok err = (refl, record { ring = s.ring; run = s.run; unit_is = err ∙ s.unit_is })
 
   pub filled_is : (r : Result (Option Entry) CacheFault) → IsFillAnswer unit.caches tag r → OnOk r (new ≡ with_entries unit (filled_in_unit tag value unit)) → OnErr r (new ≡ unit)

@@ -1,4 +1,4 @@
-use Rattle.std.proofs.Common.{◌≡◌, List, sym, subst}
+use Rattle.std.proofs.Common.{List, sym, subst}
 use Rattle.cmdcodec.specs.declared.raw.Raw.{Raw}
 use Rattle.simulator.specs.declared.queue.Queue.TheInside.{Inside}
 use Rattle.simulator.specs.declared.queue.Seat.TheVariants.{Idle, Open}
