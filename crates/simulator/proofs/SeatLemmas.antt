@@ -76,18 +76,17 @@ last_is keeper s body idle sender_is is =
 
 -- ---- the others' seats
 
--- A seat stays where what is left of its sender does.
-seat_stays : (t : ℕ) (old new : KeeperValue) (seat : Seat) → ((tally : Tally) → tally.sender ≡ t → IsIdleSender old tally → IsIdleSender new tally)
-    → ((body : List Raw) (idle : IdleReservationValue) → idle.tally.sender ≡ t → IsIdleReservation old body idle → IsIdleReservation new body idle) → IsSeatOf old t seat → IsSeatOf new t seat
-seat_stays t old new (Idle tally) senders reservations is = record { sender_is = is.sender_is; idle = senders tally is.sender_is is.idle }
-seat_stays t old new (Open idle body) senders reservations is =
-    record { sender_is = is.sender_is; open_is = reservations body idle is.sender_is is.open_is; unwritten = is.unwritten; unflipped = is.unflipped }
-
 not_his : (s t n : ℕ) → (t ≡ s → ⊥) → n ≡ t → Sender n ≢ Sender s
 not_his s t n other is e = let same : n ≡ s = cc in other (sym is ∙ same)
 
+-- Where another's seat was lent one's own stays.
+seat_stays : (s t : ℕ) (old new : KeeperValue) (seat : Seat) → (t ≡ s → ⊥) → KeepsOthers (Sender s) old new → IsSeatOf old t seat → IsSeatOf new t seat
+seat_stays s t old new (Idle tally) other keeps is = record { sender_is = is.sender_is; idle = keeps.senders tally (not_his s t tally.sender other is.sender_is) is.idle }
+seat_stays s t old new (Open idle body) other keeps is =
+    record { sender_is = is.sender_is; open_is = keeps.reservations body idle (not_his s t idle.tally.sender other is.sender_is) is.open_is; unwritten = is.unwritten; unflipped = is.unflipped }
+
 -- One seat is another's now, and the rest stay.
-pub is_queue : (ring : RingValue) (old : QueueValue) (s : ℕ) (new : KeeperValue) (seat : Seat) → IsQueue ring old → s < length old.seats → IsBack s old.keeper new → IsSeatOf new s seat
+is_queue : (ring : RingValue) (old : QueueValue) (s : ℕ) (new : KeeperValue) (seat : Seat) → IsQueue ring old → s < length old.seats → IsBack s old.keeper new → IsSeatOf new s seat
     → IsQueue ring (record { keeper = new; seats = slice_set old.seats s seat })
 is_queue ring old s new seat is known back mine = record {
   ring_is = back.ring_is ∙ is.ring_is;
@@ -100,8 +99,7 @@ is_queue ring old s new seat is known back mine = record {
     by_one t other less (inl same) =
         subst (λ (n : ℕ). IsSeatOf new n (slice_index_or (slice_set old.seats s seat) n other)) (sym same) (subst (IsSeatOf new s) (sym (get_or-set_same old.seats s seat other known)) mine)
     by_one t other less (inr else) =
-        subst (IsSeatOf new t) (sym (get_or-set_other old.seats s t seat other else)) (seat_stays t old.keeper new (slice_index_or old.seats t other) (λ tally mine. back.others.senders tally (not_his s t tally.sender else mine))
-        (λ body idle mine. back.others.reservations body idle (not_his s t idle.tally.sender else mine)) (is.each t other less))
+        subst (IsSeatOf new t) (sym (get_or-set_other old.seats s t seat other else)) (seat_stays s t old.keeper new (slice_index_or old.seats t other) else back.others (is.each t other less))
 
 -- ---- new seats
 
@@ -132,8 +130,8 @@ inside : (ring : RingValue) (queue : QueueValue) (s : ℕ) → IsQueue ring queu
 inside ring queue s is known = subst (λ (n : ℕ). s < n) (sym is.many) known
 
 -- what was found at its place
-pub seat_at : (q : Inside) (now : QueueValue) (s : ℕ) (found seat : Seat) → queue_in q ≡ now → IsQueue q.ring (queue_in q) → s < (ring_in now).senders → found ≡ slice_index_or q.seats.items s found → found ≡ seat
-    → IsSeatOf now.keeper s seat
+pub seat_at : (q : Inside) (now : QueueValue) (s : ℕ) (found seat : Seat) → queue_in q ≡ now → IsQueue q.ring (queue_in q) → s < (ring_in now).senders
+    → found ≡ slice_index_or q.seats.items s found → found ≡ seat → IsSeatOf now.keeper s seat
 seat_at q now s found seat same is known at found_is =
     let here : IsQueue q.ring now = subst (IsQueue q.ring) same is in
     let there = at ∙ ap (λ (v : QueueValue). slice_index_or v.seats s found) same in
@@ -149,8 +147,8 @@ new_queue log2 senders max_batches ring keeper seats made is all = record {
 }
 
 -- the seat was lent, by whoever sat there
-pub is_queue_after : (q : Inside) (now : QueueValue) (s t : ℕ) (new : KeeperValue) (seat : Seat) → queue_in q ≡ now → IsQueue q.ring (queue_in q) → s < (ring_in now).senders → t ≡ s → IsBack t q.keeper new → IsSeatOf new t seat
-    → IsQueue q.ring (record { keeper = new; seats = slice_set q.seats.items s seat })
+pub is_queue_after : (q : Inside) (now : QueueValue) (s t : ℕ) (new : KeeperValue) (seat : Seat) → queue_in q ≡ now → IsQueue q.ring (queue_in q) → s < (ring_in now).senders
+    → t ≡ s → IsBack t q.keeper new → IsSeatOf new t seat → IsQueue q.ring (record { keeper = new; seats = slice_set q.seats.items s seat })
 is_queue_after q now s t new seat same is known one back mine =
     is_queue q.ring (queue_in q) s new seat is (inside q.ring (queue_in q) s is (subst (λ (v : QueueValue). s < (ring_in v).senders) (sym same) known))
     (subst (λ (n : ℕ). IsBack n q.keeper new) one back) (subst (λ (n : ℕ). IsSeatOf new n seat) one mine)

@@ -127,7 +127,8 @@ module _ (state : State) (tag : Tag) where
   well_formed : (r : Result (Option Entry) CacheFault) → IsFillAnswer stored tag r → ¬ (r ≡ Err BadBlock) → is_block tag ≡ true
   well_formed r answer other = true_from_ne_false (is_block tag) (λ e. other (answer.bad.1 (not_from_Decides (is_block tag) (block tag) e)))
 
-  not_full : (r : Result (Option Entry) CacheFault) → IsFillAnswer stored tag r → is_block tag ≡ true → finite.get (entries state) tag ≡ None → ¬ (r ≡ Err Full) → (finite.len (entries state) == state.capacity) ≡ false
+  not_full : (r : Result (Option Entry) CacheFault) → IsFillAnswer stored tag r → is_block tag ≡ true → finite.get (entries state) tag ≡ None → ¬ (r ≡ Err Full)
+      → (finite.len (entries state) == state.capacity) ≡ false
   not_full r answer formed absent other = ne_eqb (finite.len (entries state)) state.capacity (λ same. other (answer.full.1 ((block tag).0 formed, absent, same)))
 
   accepted : (was given : Option Entry) → IsFillAnswer stored tag (Ok given) → finite.get (entries state) tag ≡ was → fill_fault false tag state ≡ None
@@ -154,7 +155,8 @@ module _ (keeper : KeeperValue) (unit new : UnitValue) (state : State) (tag : Ta
   abbrev IsFilled : Result (Option Entry) CacheFault → Answered (Result (Option Entry) CacheFault) → Type 0
   IsFilled r done = (r ≡ done.answer) × StandFor keeper new done.state
 
-  by_fault : (r : Result (Option Entry) CacheFault) → IsFillAnswer unit.caches tag r → OnOk r (new ≡ with_entries unit (filled_in_unit tag value unit)) → OnErr r (new ≡ unit) → IsFilled r (filled_unless (fault_in r) tag value state)
+  by_fault : (r : Result (Option Entry) CacheFault) → IsFillAnswer unit.caches tag r → OnOk r (new ≡ with_entries unit (filled_in_unit tag value unit)) → OnErr r (new ≡ unit)
+      → IsFilled r (filled_unless (fault_in r) tag value state)
   by_fault (Ok was) answer ok err = (
     ap Ok (answer.was ∙ ap (λ (u : UnitValue). finite.get u.caches.entries tag) s.unit_is),
     record {

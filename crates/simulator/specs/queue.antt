@@ -2,8 +2,6 @@
 pub mod Reserving
 pub mod Heads
 pub mod Seated
-pub mod Trying
 unfoldable pub use Reserving.*
 pub use Heads.*
 pub use Seated.*
-pub use Trying.*

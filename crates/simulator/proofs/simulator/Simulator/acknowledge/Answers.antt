@@ -4,7 +4,8 @@ use Rattle.simulator.specs.{acknowledged, SimulatorValue, Stands, Does}
 use Rattle.simulator.proofs.UnitCalls.{stays, after_unit, acknowledged_is}
 use Rattle.simulator.proofs.simulator.Simulator.acknowledge.Goals as goal
 
-done : (c : goal.After-acknowledge) → Does (record { queue = c.self.inside.queue; unit = c.self.inside.unit }) (record { queue = c.self.inside.queue; unit = c.acknowledge.new.self }) c.acknowledge.result (acknowledged c.args.gerrorn c.args.remedy)
+done : (c : goal.After-acknowledge) → Does (record { queue = c.self.inside.queue; unit = c.self.inside.unit }) (record { queue = c.self.inside.queue; unit = c.acknowledge.new.self })
+    c.acknowledge.result (acknowledged c.args.gerrorn c.args.remedy)
 done c state s =
     acknowledged_is c.self.inside.queue.keeper c.self.inside.unit c.acknowledge.new.self c.args.remedy c.acknowledge.result c.acknowledge.ensures.ok c.acknowledge.ensures.err state s c.args.gerrorn c.acknowledge.ensures.answer
 
@@ -13,7 +14,8 @@ invariant_of-self c =
     let is = c.self.invariant in
     let old = c.self.inside.unit in
     after_unit c.self.inside.queue c.self.inside.consumer old c.acknowledge.new.self _
-    (stays c.acknowledge.result old (record old { stop = told c.args.remedy old.stop }) c.acknowledge.new.self refl c.acknowledge.ensures.ok c.acknowledge.ensures.err) c.acknowledge.ensures.settled is (done c is.state is.stands).1
+    (stays c.acknowledge.result old (record old { stop = told c.args.remedy old.stop }) c.acknowledge.new.self refl c.acknowledge.ensures.ok c.acknowledge.ensures.err)
+    c.acknowledge.ensures.settled is (done c is.state is.stands).1
 
 pub returns : goal.returns
 returns c state stands = done c state (subst (λ (m : SimulatorValue). Stands m state) (sym c.self.view_is) stands)

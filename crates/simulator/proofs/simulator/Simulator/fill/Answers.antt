@@ -4,7 +4,8 @@ use Rattle.simulator.specs.{filled, SimulatorValue, Stands, MayDo}
 use Rattle.simulator.proofs.UnitCalls.{stays, after_unit, filled_is}
 use Rattle.simulator.proofs.simulator.Simulator.fill.Goals as goal
 
-done : (c : goal.After-fill) → MayDo (record { queue = c.self.inside.queue; unit = c.self.inside.unit }) (record { queue = c.self.inside.queue; unit = c.fill.new.self }) c.fill.result (λ wanting. filled wanting c.args.tag c.args.value)
+done : (c : goal.After-fill) → MayDo (record { queue = c.self.inside.queue; unit = c.self.inside.unit }) (record { queue = c.self.inside.queue; unit = c.fill.new.self })
+    c.fill.result (λ wanting. filled wanting c.args.tag c.args.value)
 done c state s = filled_is c.self.inside.queue.keeper c.self.inside.unit c.fill.new.self state c.args.tag c.args.value s c.fill.result c.fill.ensures.answer c.fill.ensures.ok c.fill.ensures.err
 
 pub invariant_of-self : goal.invariant_of-self

@@ -5,7 +5,9 @@ use Rattle.simulator.proofs.Standings.{by_run, after_call, published_takes_none}
 use Rattle.simulator.proofs.simulator.Simulator.publish.Goals as goal
 
 pub invariant_of-self : goal.invariant_of-self
-invariant_of-self c = after_call c.self.inside.queue c.publish.new.self c.self.inside.consumer c.self.inside.unit c.publish.ensures.consumer c.publish.ensures.run (published_takes_none (ring_in c.self.inside.queue).geometry c.args.sender c.self.inside.queue.keeper.run) c.self.invariant
+invariant_of-self c =
+    after_call c.self.inside.queue c.publish.new.self c.self.inside.consumer c.self.inside.unit c.publish.ensures.consumer c.publish.ensures.run
+    (published_takes_none (ring_in c.self.inside.queue).geometry c.args.sender c.self.inside.queue.keeper.run) c.self.invariant
 
 pub returns : goal.returns
 returns c state stands =

@@ -11,7 +11,9 @@ use Rattle.simulator.proofs.Trying.{try_is_open}
 use Rattle.simulator.proofs.simulator.Simulator.reserve.Goals as goal
 
 pub invariant_of-self : goal.invariant_of-self
-invariant_of-self c = after_call c.self.inside.queue c.reserve.new.self c.self.inside.consumer c.self.inside.unit c.reserve.ensures.consumer c.reserve.ensures.run (try_takes_none (ring_in c.self.inside.queue) c.args.sender c.args.batch c.args.closes c.self.inside.queue.keeper.run) c.self.invariant
+invariant_of-self c =
+    after_call c.self.inside.queue c.reserve.new.self c.self.inside.consumer c.self.inside.unit c.reserve.ensures.consumer c.reserve.ensures.run
+    (try_takes_none (ring_in c.self.inside.queue) c.args.sender c.args.batch c.args.closes c.self.inside.queue.keeper.run) c.self.invariant
 
 pub returns-clause-done : goal.returns-clause-done
 returns-clause-done c state stands =

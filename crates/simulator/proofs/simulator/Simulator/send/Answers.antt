@@ -5,7 +5,9 @@ use Rattle.simulator.proofs.Standings.{by_run, after_call, sent_takes_none}
 use Rattle.simulator.proofs.simulator.Simulator.send.Goals as goal
 
 pub invariant_of-self : goal.invariant_of-self
-invariant_of-self c = after_call c.self.inside.queue c.send.new.self c.self.inside.consumer c.self.inside.unit c.send.ensures.consumer c.send.ensures.run (sent_takes_none (ring_in c.self.inside.queue) c.args.sender c.args.batch c.args.closes c.self.inside.queue.keeper.run) c.self.invariant
+invariant_of-self c =
+    after_call c.self.inside.queue c.send.new.self c.self.inside.consumer c.self.inside.unit c.send.ensures.consumer c.send.ensures.run
+    (sent_takes_none (ring_in c.self.inside.queue) c.args.sender c.args.batch c.args.closes c.self.inside.queue.keeper.run) c.self.invariant
 
 pub returns : goal.returns
 returns c state stands =
