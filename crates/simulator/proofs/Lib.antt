@@ -1,12 +1,6 @@
 pub mod SeatLemmas
-pub mod TryLemmas
+pub mod Looks
+pub mod Trying
 pub mod Standings
-pub mod Opening
-pub mod Counts
-pub mod OneMore
-pub mod Ways
-pub mod HeadLemmas
-pub mod EngineSteps
-pub mod Together
-pub mod Filling
-pub mod Acknowledging
+pub mod Stepping
+pub mod UnitCalls

@@ -4,14 +4,15 @@ use Rattle.std.proofs.lemmas.Bool.{cases_lt, cases_eq, lt-leb}
 use Rattle.std.proofs.lemmas.List.{length-set, get_or-set_same, get_or-set_other, get_or-append_right, length_push}
 use Rattle.std.proofs.Math.ListN.{get_or-append}
 use Rattle.std.specs.Prelude.{None, ◌⊎◌, ◌||◌, nat_lt, slice_index_or, slice_set}
-use Rattle.ring.specs.Runs.{Raw, Who, Sender, Consumer, Event, Trail, trail_of, reserved_length, has_flipped, IsSettled, Ring, length_with}
+use Rattle.ring.specs.Runs.{Raw, Who, Sender, Trail, trail_of, reserved_length, has_flipped, IsSettled, Ring, length_with}
 use Rattle.ringcore.specs.machine.Open.{some_below, is_open}
 use Rattle.ring.specs.Rings.{RingValue}
 use Rattle.ring.specs.NewRings.{made_with}
 use Rattle.ring.specs.declared.sender.tally.Tally.{Tally}
 use Rattle.ring.specs.table.Keeping.{RunStands}
 use Rattle.ring.specs.sender.Reservations.{reserved_number, number_when}
-use Rattle.ring.specs.Keepers.{KeeperValue, IdleReservationValue, Adds, has_lent, has_back, with_step, KeepsAll, KeepsOthers, IsIdleSender, IsIdleReservation}
+use Rattle.ring.specs.Keepers.{KeeperValue, IdleReservationValue, Adds, has_lent, has_back, KeepsOthers, IsIdleSender, IsIdleReservation}
+use Rattle.simulator.specs.declared.queue.Queue.TheInside.{Inside}
 use Rattle.simulator.specs.declared.queue.Seat.{Seat}
 use Rattle.simulator.specs.declared.queue.Seat.TheVariants.{Idle, Open}
 use Rattle.simulator.specs.queue.{QueueValue, ring_in, IsIdleSeat, IsOpenSeat, IsSeatOf, IsNewSeat, AreNew, IsQueue, IsBack}
@@ -74,18 +75,17 @@ last_is keeper s body idle sender_is is =
 
 -- ---- the others' seats
 
--- A seat stays where what is left of its sender does.
-seat_stays : (t : ℕ) (old new : KeeperValue) (seat : Seat) → ((tally : Tally) → tally.sender ≡ t → IsIdleSender old tally → IsIdleSender new tally)
-    → ((body : List Raw) (idle : IdleReservationValue) → idle.tally.sender ≡ t → IsIdleReservation old body idle → IsIdleReservation new body idle) → IsSeatOf old t seat → IsSeatOf new t seat
-seat_stays t old new (Idle tally) senders reservations is = record { sender_is = is.sender_is; idle = senders tally is.sender_is is.idle }
-seat_stays t old new (Open idle body) senders reservations is =
-    record { sender_is = is.sender_is; open_is = reservations body idle is.sender_is is.open_is; unwritten = is.unwritten; unflipped = is.unflipped }
-
 not_his : (s t n : ℕ) → (t ≡ s → ⊥) → n ≡ t → Sender n ≢ Sender s
 not_his s t n other is e = let same : n ≡ s = cc in other (sym is ∙ same)
 
+-- Where another's seat was lent one's own stays.
+seat_stays : (s t : ℕ) (old new : KeeperValue) (seat : Seat) → (t ≡ s → ⊥) → KeepsOthers (Sender s) old new → IsSeatOf old t seat → IsSeatOf new t seat
+seat_stays s t old new (Idle tally) other keeps is = record { sender_is = is.sender_is; idle = keeps.senders tally (not_his s t tally.sender other is.sender_is) is.idle }
+seat_stays s t old new (Open idle body) other keeps is =
+    record { sender_is = is.sender_is; open_is = keeps.reservations body idle (not_his s t idle.tally.sender other is.sender_is) is.open_is; unwritten = is.unwritten; unflipped = is.unflipped }
+
 -- One seat is another's now, and the rest stay.
-pub is_queue : (ring : RingValue) (old : QueueValue) (s : ℕ) (new : KeeperValue) (seat : Seat) → IsQueue ring old → s < length old.seats → IsBack s old.keeper new → IsSeatOf new s seat
+is_queue : (ring : RingValue) (old : QueueValue) (s : ℕ) (new : KeeperValue) (seat : Seat) → IsQueue ring old → s < length old.seats → IsBack s old.keeper new → IsSeatOf new s seat
     → IsQueue ring (record { keeper = new; seats = slice_set old.seats s seat })
 is_queue ring old s new seat is known back mine = record {
   ring_is = back.ring_is ∙ is.ring_is;
@@ -98,31 +98,7 @@ is_queue ring old s new seat is known back mine = record {
     by_one t other less (inl same) =
         subst (λ (n : ℕ). IsSeatOf new n (slice_index_or (slice_set old.seats s seat) n other)) (sym same) (subst (IsSeatOf new s) (sym (get_or-set_same old.seats s seat other known)) mine)
     by_one t other less (inr else) =
-        subst (IsSeatOf new t) (sym (get_or-set_other old.seats s t seat other else)) (seat_stays t old.keeper new (slice_index_or old.seats t other) (λ tally mine. back.others.senders tally (not_his s t tally.sender else mine))
-        (λ body idle mine. back.others.reservations body idle (not_his s t idle.tally.sender else mine)) (is.each t other less))
-
--- All stay with another keeper of the ring.
-all_stay : (ring : RingValue) (old : QueueValue) (new : KeeperValue) → IsQueue ring old → new.ring ≡ old.keeper.ring → new.lent ≡ None → ((t : ℕ) (seat : Seat) → IsSeatOf old.keeper t seat → IsSeatOf new t seat)
-    → IsQueue ring (record { keeper = new; seats = old.seats })
-all_stay ring old new is same whole still = record {
-  ring_is = same ∙ is.ring_is;
-  whole = whole;
-  many = is.many ∙ ap (λ (r : RingValue). r.made_with.senders) (sym same);
-  each = λ t other less. still t (slice_index_or old.seats t other) (is.each t other less);
-}
-
--- where the consumer alone took steps
-pub is_queue_still : (ring : RingValue) (old : QueueValue) (new : KeeperValue) → IsQueue ring old → new.ring ≡ old.keeper.ring → new.lent ≡ None → KeepsOthers Consumer old.keeper new
-    → IsQueue ring (record { keeper = new; seats = old.seats })
-is_queue_still ring old new is same whole others =
-    all_stay ring old new is same whole (λ t seat. seat_stays t old.keeper new seat (λ tally mine. others.senders tally (λ e. cc)) (λ body idle mine. others.reservations body idle (λ e. cc)))
-
--- where one sender took a step, of whom a reservation may be open
-pub is_queue_stepped : (ring : RingValue) (old : QueueValue) (new : KeeperValue) (s : ℕ) (e : Event) → IsQueue ring old → new ≡ with_step (Sender s) e old.keeper → KeepsAll old.keeper new
-    → IsQueue ring (record { keeper = new; seats = old.seats })
-is_queue_stepped ring old new s e is step all =
-    all_stay ring old new is (ap (λ (k : KeeperValue). k.ring) step) (ap (λ (k : KeeperValue). k.lent) step ∙ is.whole)
-    (λ t seat. seat_stays t old.keeper new seat (λ tally mine. all.senders tally) (λ body idle mine. all.reservations body idle))
+        subst (IsSeatOf new t) (sym (get_or-set_other old.seats s t seat other else)) (seat_stays s t old.keeper new (slice_index_or old.seats t other) else back.others (is.each t other less))
 
 -- ---- new seats
 
@@ -146,32 +122,19 @@ one_more_seat s seats seat is one = record {
 
 -- ---- the seat of a sender
 
+abbrev pub queue_in : Inside → QueueValue
+queue_in q = record { keeper = q.keeper; seats = q.seats.items }
+
+inside : (ring : RingValue) (queue : QueueValue) (s : ℕ) → IsQueue ring queue → s < (ring_in queue).senders → s < length queue.seats
+inside ring queue s is known = subst (λ (n : ℕ). s < n) (sym is.many) known
+
 -- what was found at its place
-pub record IsFound (ring : RingValue) (queue : QueueValue) (s : ℕ) (found : Seat) : Type 0 where
-  pub is_queue : IsQueue ring queue
-  pub known : s < (ring_in queue).senders
-  pub found_is : found ≡ slice_index_or queue.seats s found
-
-pub found_at : (ring : RingValue) (view queue : QueueValue) (s : ℕ) (found : Seat) → view ≡ queue → IsQueue ring view → s < (ring_in queue).senders → found ≡ slice_index_or view.seats s found
-    → IsFound ring queue s found
-found_at ring view queue s found same is known at = record {
-  is_queue = subst (IsQueue ring) same is;
-  known = known;
-  found_is = at ∙ ap (λ (q : QueueValue). slice_index_or q.seats s found) same;
-}
-
-pub inside : (ring : RingValue) (queue : QueueValue) (s : ℕ) (found : Seat) → IsFound ring queue s found → s < length queue.seats
-inside ring queue s found is = subst (λ (n : ℕ). s < n) (sym is.is_queue.many) is.known
-
-pub seat_at : (ring : RingValue) (queue : QueueValue) (s : ℕ) (found seat : Seat) → IsFound ring queue s found → found ≡ seat → IsSeatOf queue.keeper s seat
-seat_at ring queue s found seat is same = subst (IsSeatOf queue.keeper s) (sym is.found_is ∙ same) (is.is_queue.each s found (inside ring queue s found is))
-
-pub shut_at : (ring : RingValue) (queue : QueueValue) (s : ℕ) (found : Seat) (tally : Tally) → IsFound ring queue s found → found ≡ Idle tally → is_open (trail_of (Sender s) queue.keeper.run) ≡ false
-shut_at ring queue s found tally is same = idle_is_shut queue.keeper s tally (seat_at ring queue s found (Idle tally) is same)
-
-pub open_at : (ring : RingValue) (queue : QueueValue) (s : ℕ) (found : Seat) (idle : IdleReservationValue) (body : List Raw) → IsFound ring queue s found → found ≡ Open idle body
-    → is_open (trail_of (Sender s) queue.keeper.run) ≡ true
-open_at ring queue s found idle body is same = open_is_open queue.keeper s body idle (seat_at ring queue s found (Open idle body) is same)
+pub seat_at : (q : Inside) (now : QueueValue) (s : ℕ) (found seat : Seat) → queue_in q ≡ now → IsQueue q.ring (queue_in q) → s < (ring_in now).senders
+    → found ≡ slice_index_or q.seats.items s found → found ≡ seat → IsSeatOf now.keeper s seat
+seat_at q now s found seat same is known at found_is =
+    let here : IsQueue q.ring now = subst (IsQueue q.ring) same is in
+    let there = at ∙ ap (λ (v : QueueValue). slice_index_or v.seats s found) same in
+    subst (IsSeatOf now.keeper s) (sym there ∙ found_is) (here.each s found (inside q.ring now s here known))
 
 pub new_queue : (log2 senders max_batches : ℕ) (ring : RingValue) (keeper : KeeperValue) (seats : List Seat) → ring.made_with ≡ made_with log2 senders max_batches
     → keeper ≡ record { ring = ring; lent = None; run = [] } → AreNew senders seats → IsQueue ring (record { keeper = keeper; seats = seats })
@@ -182,15 +145,9 @@ new_queue log2 senders max_batches ring keeper seats made is all = record {
   each = λ s other less. all.each s other less keeper (ap (λ (k : KeeperValue). k.run) is);
 }
 
--- ---- the seat was lent, by whoever sat there
-
-pub sender_of_idle : (ring : RingValue) (queue : QueueValue) (s : ℕ) (found : Seat) (tally : Tally) → IsFound ring queue s found → found ≡ Idle tally → tally.sender ≡ s
-sender_of_idle ring queue s found tally is same =
-    let seat : IsIdleSeat queue.keeper s tally = seat_at ring queue s found (Idle tally) is same in seat.sender_is
-
-pub is_queue_after : (ring : RingValue) (queue : QueueValue) (s t : ℕ) (found : Seat) (new : KeeperValue) (seat : Seat) → IsFound ring queue s found → t ≡ s → IsBack t queue.keeper new → IsSeatOf new t seat
-    → IsQueue ring (record { keeper = new; seats = slice_set queue.seats s seat })
-is_queue_after ring queue s t found new seat is one back mine =
-    is_queue ring queue s new seat is.is_queue (inside ring queue s found is)
-    (subst (λ (n : ℕ). IsBack n queue.keeper new) one back)
-    (subst (λ (n : ℕ). IsSeatOf new n seat) one mine)
+-- the seat was lent, by whoever sat there
+pub is_queue_after : (q : Inside) (now : QueueValue) (s t : ℕ) (new : KeeperValue) (seat : Seat) → queue_in q ≡ now → IsQueue q.ring (queue_in q) → s < (ring_in now).senders
+    → t ≡ s → IsBack t q.keeper new → IsSeatOf new t seat → IsQueue q.ring (record { keeper = new; seats = slice_set q.seats.items s seat })
+is_queue_after q now s t new seat same is known one back mine =
+    is_queue q.ring (queue_in q) s new seat is (inside q.ring (queue_in q) s is (subst (λ (v : QueueValue). s < (ring_in v).senders) (sym same) known))
+    (subst (λ (n : ℕ). IsBack n q.keeper new) one back) (subst (λ (n : ℕ). IsSeatOf new n seat) one mine)

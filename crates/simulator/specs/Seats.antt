@@ -1,10 +1,10 @@
 -- What a sender does: look, reserve, publish, close and ask.
-use Rattle.std.specs.Prelude.{ℕ, Bool, List, ◌∷◌, ⊤, Option, Result, Ok, Err}
+use Rattle.std.specs.Prelude.{ℕ, Bool, List, ◌∷◌, ⊤, Option, Result}
 use Rattle.ring.specs.Runs.{Raw, Control, Sender, Close, Ask, Run, world, control}
 use Rattle.ring.specs.declared.sender.cause.Cause.{Cause}
 use Rattle.ring.specs.sender.Reservations.{reserved_number}
 use Rattle.simulator.specs.declared.queue.reserved.Reserved.{Reserved}
-use Rattle.simulator.specs.queue.{looked_by, try_to_reserve, published}
+use Rattle.simulator.specs.queue.{looked_by, try_to_reserve, published, sent_by}
 use Rattle.simulator.specs.State.{State, Answered, mine}
 
 abbrev pub with_run : State → Run → State
@@ -27,18 +27,13 @@ asked s state =
 -- a batch of this body, which closes with a CMD_SYNC or doesn't
 abbrev pub reserved : ℕ → List Raw → Bool → State → Answered (Result Reserved Cause)
 reserved s body closes state =
-    let tried = try_to_reserve state.ring state.ring.max_batches s body closes state.run in
+    let tried = try_to_reserve state.ring s body closes state.run in
     record { answer = tried.answer; state = with_run state tried.run }
 
 -- the batch that is reserved
 abbrev pub published_by : ℕ → State → Answered (Option ℕ)
 published_by s state = record { answer = reserved_number (mine s state); state = with_run state (published state.ring.geometry s state.run) }
 
--- what was reserved is written and handed over
-abbrev pub handed_over : ℕ → Result Reserved Cause → State → Answered (Result (Option ℕ) Cause)
-handed_over s (Ok told) state = let done = published_by s state in record { answer = Ok done.answer; state = done.state }
-handed_over s (Err cause) state = record { answer = Err cause; state = state }
-
 -- a batch of this body, which is handed over at once
 abbrev pub sent : ℕ → List Raw → Bool → State → Answered (Result (Option ℕ) Cause)
-sent s body closes state = let tried = reserved s body closes state in handed_over s tried.answer tried.state
+sent s body closes state = let done = sent_by state.ring s body closes state.run in record { answer = done.answer; state = with_run state done.run }

@@ -1,14 +1,14 @@
 -- The SMMU's queue and caches, by their histories: what happened to each, and what is read off that.
-use Rattle.std.specs.Prelude.{ℕ, ◌+◌, ◌-◌, ◌*◌, ◌^◌, Bool, true, false, not, List, [], ◌∷◌, count_by}
+use Rattle.std.specs.Prelude.{ℕ, ◌+◌, ◌-◌, ◌*◌, ◌^◌, not, List, [], ◌∷◌}
 use Rattle.std.specs.FinMap as finite
 use Rattle.cmdcodec.specs.declared.command.Command.{Command}
 use Rattle.cmdcodec.specs.Opcodes.{is_sync}
 use Rattle.qindex.specs.Positions.{index_of}
-use Rattle.ring.specs.Runs.{Sender, Outcome, Applied, Replaced, Trail, Run, trail_of, Taken, tail, head, world, Ring}
+use Rattle.ring.specs.Runs.{Sender, Trail, Run, trail_of, Taken, tail, head, world, Ring}
 use Rattle.caches.specs.Held.{Entries, History, Fill, Evict, Take, held, without_covered}
 use Rattle.engine.specs.declared.answer.Registers.{Registers}
 use Rattle.engine.specs.Stops.{StopValue, unstopped, err_of, word_of}
-use Rattle.engine.specs.Counting.{CountsValue}
+use Rattle.engine.specs.Counting.{CountsValue, how_many, is_applied}
 use Rattle.engine.specs.Units.{UnitValue}
 use Rattle.ring.specs.NewRings.{made_with}
 use Rattle.simulator.specs.declared.shape.Shape.{Shape}
@@ -60,16 +60,12 @@ removed_in (Fill entry ∷ history) = removed_in history
 removed_in (Evict tag ∷ history) = removed_in history
 removed_in (Take command ∷ history) = removed_in history + removed_from command (held history)
 
-abbrev pub is_applied : Outcome → Bool
-is_applied Applied = true
-is_applied Replaced = false
-
 -- what is counted of the commands that were taken
 abbrev pub counts_of : List Taken → History → CountsValue
 counts_of taken history = record {
-  applied = count_by (λ (t : Taken). is_applied t.outcome) taken;
-  replaced = count_by (λ (t : Taken). not (is_applied t.outcome)) taken;
-  syncs = count_by (λ (t : Taken). is_sync t.raw) taken;
+  applied = how_many (λ t. is_applied t.outcome) taken;
+  replaced = how_many (λ t. not (is_applied t.outcome)) taken;
+  syncs = how_many (λ t. is_sync t.raw) taken;
   removed = removed_in history;
 }
 

@@ -58,28 +58,26 @@ going state =
     if taken_so_far state == most_reserved then unchanged Exhausted state
     else found (head_of (world state.run)) (record state { run = head_taken state.ring.geometry state.run })
 
-abbrev pub stepped_in : Mode → State → Answered StepAnswer
-stepped_in mode.Running state = going state
-stepped_in (mode.Stopped ill) state = unchanged StillStopped state
-stepped_in mode.Replacing state = going state
-
-unfoldable pub stepped : State → Answered StepAnswer
-stepped state = stepped_in state.stop.mode state
-
--- ---- an acknowledgement
-
 abbrev pub is_stopped : Mode → Bool
 is_stopped mode.Running = false
 is_stopped (mode.Stopped ill) = true
 is_stopped mode.Replacing = false
 
+unfoldable pub stepped : State → Answered StepAnswer
+stepped state = if is_stopped state.stop.mode then unchanged StillStopped state else going state
+
+-- ---- an acknowledgement
+
 abbrev pub same_bit : Bool → Bool → Bool
 same_bit true b = b
 same_bit false b = not b
 
+-- by whether it is stopped, and whether the bits agree
+abbrev pub acknowledged_if : Bool → Bool → Remedy → State → Answered (Result ⊤ AckFault)
+acknowledged_if false same remedy state = record { answer = Err NoError; state = state }
+acknowledged_if true false remedy state = record { answer = Err OtherBit; state = state }
+acknowledged_if true true remedy state = record { answer = Ok tt; state = record state { stop = told remedy state.stop } }
+
 -- It is refused where no error is active, and where CMDQ_ERR of the word isn't that of SMMU_GERROR.
 unfoldable pub acknowledged : ℕ → Remedy → State → Answered (Result ⊤ AckFault)
-acknowledged gerrorn remedy state =
-    if not (is_stopped state.stop.mode) then record { answer = Err NoError; state = state }
-    else if not (same_bit (command_queue_bit gerrorn) state.stop.error) then record { answer = Err OtherBit; state = state }
-    else record { answer = Ok tt; state = record state { stop = told remedy state.stop } }
+acknowledged gerrorn remedy state = acknowledged_if (is_stopped state.stop.mode) (same_bit (command_queue_bit gerrorn) state.stop.error) remedy state

@@ -1,11 +1,7 @@
 -- The queue by a keeper: what each call does to its run.
 pub mod Reserving
-pub mod Publishing
 pub mod Heads
 pub mod Seated
-pub mod Trying
 unfoldable pub use Reserving.*
-unfoldable pub use Publishing.*
 pub use Heads.*
 pub use Seated.*
-pub use Trying.*

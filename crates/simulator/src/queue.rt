@@ -8,7 +8,7 @@ ghost use Rattle.ring.specs.NewRings.{made_with};
 ghost use Rattle.ring.specs.table.Keeping.{RunStands};
 ghost use Rattle.ring.specs.Keepers.{IsIdleConsumer};
 ghost use Rattle.ring.specs.sender.Reservations.{reserved_number};
-ghost use Rattle.simulator.specs.queue.{ring_in, AreNew, IsIdle, LeavesConsumer, tried_by, HasSent, published};
+ghost use Rattle.simulator.specs.queue.{ring_in, AreNew, IsIdle, LeavesConsumer, tried_by, published, sent_by};
 ghost use Rattle.simulator.specs.declared.queue.Seat.TheVariants.{Idle};
 
 mod asking;
@@ -159,7 +159,8 @@ impl Queue {
     ) -> Result<Option<u32>, Cause>
         requires known { sender < (ring_in self.old).senders }
         requires settled { is_open (trail_of (Sender sender) self.old.keeper.run) ≡ false }
-        ensures sent { HasSent self.old.keeper self.new.keeper sender batch.entry closes result }
+        ensures run { self.new.keeper.run ≡ (sent_by (ring_in self.old) sender batch.entry closes self.old.keeper.run).run }
+        ensures answer { result ≡ (sent_by (ring_in self.old) sender batch.entry closes self.old.keeper.run).answer }
         ensures consumer { LeavesConsumer self.old.keeper self.new.keeper }
     {
         let Queue {

@@ -1,9 +1,9 @@
 -- What stands at the head of the queue, how the consumer finds it, and how it takes it.
-use Rattle.std.specs.Prelude.{ℕ, ◌==◌, cond, [], ◌∷◌, Option, Some, None, option_map, slice_get, if◌then◌else◌}
-use Rattle.ring.specs.Runs.{Raw, Consumer, Lo, Hi, Test, Read, Advance, Acknowledge, Run, Item, World, tail, head, world}
-use Rattle.cmdcodec.specs.Opcodes.{is_sync}
-use Rattle.ring.specs.consumer.Completing.{sync_sender, sync_number}
-use Rattle.simulator.specs.queue.Reserving.{looked_by}
+use Rattle.std.specs.Prelude.{ℕ, ◌==◌, [], ◌∷◌, ◌++◌, Option, Some, None, option_map, slice_get, if◌then◌else◌}
+use Rattle.ring.specs.Runs.{Raw, Consumer, Look, Test, Trail, Run, Item, World, tail, head, world, control}
+use Rattle.ring.specs.table.Keeping.{run_by}
+use Rattle.ring.specs.consumer.Pendings.{reads_from}
+use Rattle.ring.specs.consumer.Completing.{completed_trail}
 
 -- what stands at the head: nothing, for now or for good; a command that isn't handed over yet; or one that may be taken
 pub data Head : Type 0 where
@@ -26,18 +26,17 @@ head_of w =
     if tail w == head w then (if w.closed then Drained else Empty)
     else if w.flipped (head w) then ready_with (raw_at_head w) else Unwritten
 
--- The consumer looks; where something is reserved it tests the head; and where that is ready it reads both halves.
-abbrev pub found_by : Head → Run → Run
-found_by Empty run = run
-found_by Drained run = run
-found_by Unwritten run = (Consumer, Test 1 0) ∷ run
-found_by (Ready raw) run = (Consumer, Read 0 Hi raw.hi) ∷ (Consumer, Read 0 Lo raw.lo) ∷ (Consumer, Test 1 1) ∷ run
+-- The events that found it, the newest first: the consumer looks; where something is reserved it tests the head; and
+-- where that is ready it reads both halves.
+abbrev pub found_by : Head → Trail → Trail
+found_by Empty looked = looked
+found_by Drained looked = looked
+found_by Unwritten looked = Test 1 0 ∷ looked
+found_by (Ready raw) looked = reads_from 0 (raw ∷ []) (Test 1 1 ∷ looked)
 
 abbrev pub head_taken : ℕ → Run → Run
-head_taken geometry run = found_by (head_of (world run)) (looked_by Consumer geometry run)
+head_taken geometry run = run_by Consumer (found_by (head_of (world run)) (Look (control geometry (world run)) ∷ [])) ++ run
 
--- It advances past a command, and acknowledges it where it is a CMD_SYNC.
+-- The ring's completion of one command is added.
 abbrev pub completed : Raw → Run → Run
-completed raw run =
-    let advanced = (Consumer, Advance (raw ∷ [])) ∷ run in
-    cond (is_sync raw) ((Consumer, Acknowledge (sync_sender raw) (sync_number raw)) ∷ advanced) advanced
+completed raw run = run_by Consumer (completed_trail (raw ∷ []) []) ++ run

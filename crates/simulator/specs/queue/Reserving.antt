@@ -1,8 +1,11 @@
--- A try to reserve a batch: how it is answered, and which events it is.
-use Rattle.std.specs.Prelude.{ℕ, ◌+◌, Bool, nat_lt, nat_le, List, ◌∷◌, Option, Some, None, Result, Ok, Err, if◌then◌else◌}
+-- A try to reserve a batch, and how what was reserved is handed over: how they are answered, and which events they are.
+use Rattle.std.specs.Prelude.{ℕ, ◌+◌, Bool, nat_lt, nat_le, List, ◌∷◌, ◌++◌, Option, Some, None, Result, Ok, Err, if◌then◌else◌}
 use Rattle.ring.specs.Runs.{Raw, Who, Sender, Look, Won, Trail, Run, trail_of, batches_made, World, tail, head, world, control, Ring, length_with}
 use Rattle.qindex.specs.Positions.{size, index_of}
 use Rattle.ringcore.specs.machine.StepAnswers.{next_number}
+use Rattle.ring.specs.table.Keeping.{run_by}
+use Rattle.ring.specs.sender.Publishing.{handing_over}
+use Rattle.ring.specs.sender.Reservations.{reserved_number}
 use Rattle.ring.specs.declared.sender.cause.Cause.{Cause}
 use Rattle.ring.specs.declared.sender.cause.Cause.TheVariants.{TooLong, Exhausted, Closed, Full}
 use Rattle.simulator.specs.declared.queue.reserved.Reserved.{Reserved}
@@ -13,10 +16,10 @@ looked_by who geometry run = (who, Look (control geometry (world run))) ∷ run
 
 -- Why a batch of so many commands isn't reserved, ahead of a look: the ring is too short for it, or the sender has
 -- no batch left.
-abbrev pub cause_ahead : Ring → ℕ → Trail → ℕ → Option Cause
-cause_ahead ring max_batches mine many =
+abbrev pub cause_ahead : Ring → Trail → ℕ → Option Cause
+cause_ahead ring mine many =
     if nat_lt (size ring.geometry) many then Some TooLong
-    else if nat_le max_batches (batches_made mine) then Some Exhausted
+    else if nat_le ring.max_batches (batches_made mine) then Some Exhausted
     else None
 
 -- And by what a look finds: the ring is closed, or has too little room.
@@ -26,10 +29,13 @@ cause_seen ring w many =
     else if nat_lt (head w + size ring.geometry) (tail w + many) then Some Full
     else None
 
--- how the try is answered, and the run after it
-pub record Try : Type 0 where
-  pub answer : Result Reserved Cause
+-- how a sender's call is answered, and the run after it
+pub record Ran (Answer : Type 0) : Type 0 where
+  pub answer : Answer
   pub run : Run
+
+abbrev pub Try : Type 0
+Try = Ran (Result Reserved Cause)
 
 abbrev pub refused_for : Cause → Run → Try
 refused_for cause run = record { answer = Err cause; run = run }
@@ -51,8 +57,20 @@ abbrev pub unless_ahead : Ring → ℕ → List Raw → Bool → Run → Option 
 unless_ahead ring s body closes run (Some cause) = refused_for cause run
 unless_ahead ring s body closes run None = unless_seen ring s body closes run (cause_seen ring (world run) (length_with closes body))
 
--- A sender tries to reserve a batch of this body, which closes with a CMD_SYNC or doesn't; each sender may reserve at
--- most so many.
-unfoldable pub try_to_reserve : Ring → ℕ → ℕ → List Raw → Bool → Run → Try
-try_to_reserve ring max_batches s body closes run =
-    unless_ahead ring s body closes run (cause_ahead ring max_batches (trail_of (Sender s) run) (length_with closes body))
+-- A sender tries to reserve a batch of this body, which closes with a CMD_SYNC or doesn't.
+unfoldable pub try_to_reserve : Ring → ℕ → List Raw → Bool → Run → Try
+try_to_reserve ring s body closes run =
+    unless_ahead ring s body closes run (cause_ahead ring (trail_of (Sender s) run) (length_with closes body))
+
+-- The sender hands its open reservation over, of which nothing is written yet and nothing flipped.
+unfoldable pub published : ℕ → ℕ → Run → Run
+published geometry s run = run_by (Sender s) (handing_over geometry (trail_of (Sender s) run) 0 0) ++ run
+
+-- What a try reserved is handed over.
+abbrev pub handed_over : Ring → ℕ → Result Reserved Cause → Run → Ran (Result (Option ℕ) Cause)
+handed_over ring s (Ok told) run = record { answer = Ok (reserved_number (trail_of (Sender s) run)); run = published ring.geometry s run }
+handed_over ring s (Err cause) run = record { answer = Err cause; run = run }
+
+-- A sender tries once, and hands over at once what it reserved.
+abbrev pub sent_by : Ring → ℕ → List Raw → Bool → Run → Ran (Result (Option ℕ) Cause)
+sent_by ring s body closes run = let tried = try_to_reserve ring s body closes run in handed_over ring s tried.answer tried.run

@@ -1,12 +1,16 @@
--- The queue by a keeper: what is left of each sender between two calls.
-use Rattle.std.specs.Prelude.{◌≡◌, ℕ, ◌<◌, List, [], length, slice_index_or, None}
+-- The queue by a keeper: what is left of each sender between two calls, and what a try to reserve comes to.
+use Rattle.std.specs.Prelude.{◌≡◌, ℕ, ◌<◌, Bool, List, [], length, slice_index_or, None, Result, Ok, Err}
 use Rattle.ring.specs.Runs.{Raw, trail_of, Ring, Consumer, Sender}
 use Rattle.qindex.specs.Positions.{IndexValue}
+use Rattle.ring.specs.declared.sender.cause.Cause.{Cause}
 use Rattle.ring.specs.declared.sender.tally.Tally.{Tally}
+use Rattle.ring.specs.sender.Reservations.{number_when}
 use Rattle.ring.specs.Rings.{RingValue}
 use Rattle.ring.specs.Keepers.{KeeperValue, IdleReservationValue, KeepsOthers, IsIdleSender, IsIdleReservation, IsIdleConsumer}
+use Rattle.simulator.specs.declared.queue.reserved.Reserved.{Reserved}
 use Rattle.simulator.specs.declared.queue.Seat.{Seat}
 use Rattle.simulator.specs.declared.queue.Seat.TheVariants.{Idle, Open}
+use Rattle.simulator.specs.queue.Reserving.{Try, try_to_reserve}
 
 -- ---- one seat
 
@@ -68,3 +72,30 @@ pub record LeavesConsumer (old new : KeeperValue) : Type 0 where
   pub ring_is : new.ring ≡ old.ring
   pub left : (head : IndexValue) (taken : ℕ) → IsIdleConsumer old head taken → IsIdleConsumer new head taken
   pub trail_is : trail_of Consumer new.run ≡ trail_of Consumer old.run
+
+-- ---- what a try to reserve comes to
+
+-- a try by a sender of the keeper's ring
+abbrev pub tried_by : KeeperValue → ℕ → List Raw → Bool → Try
+tried_by keeper s body closes = try_to_reserve keeper.ring.made_with s body closes keeper.run
+
+-- the first slot and the number of a reservation
+abbrev pub reserved_as : IdleReservationValue → Reserved
+reserved_as idle = record { first = idle.start; number = number_when idle.closes idle.tally.numbers }
+
+-- It is answered by a reservation, which is left of the sender.
+pub record IsTriedWell (old new : KeeperValue) (s : ℕ) (body : List Raw) (closes : Bool) (idle : IdleReservationValue) : Type 0 where
+  pub run_is : new.run ≡ (tried_by old s body closes).run
+  pub answer_is : (tried_by old s body closes).answer ≡ Ok (reserved_as idle)
+  pub closes_is : idle.closes ≡ closes
+  pub seat : IsOpenSeat new s body idle
+
+-- It is answered by a cause, and the sender is idle.
+pub record IsTriedInVain (old new : KeeperValue) (s : ℕ) (body : List Raw) (closes : Bool) (tally : Tally) (cause : Cause) : Type 0 where
+  pub run_is : new.run ≡ (tried_by old s body closes).run
+  pub answer_is : (tried_by old s body closes).answer ≡ Err cause
+  pub seat : IsIdleSeat new s tally
+
+abbrev pub HasTried : KeeperValue → KeeperValue → ℕ → List Raw → Bool → Result IdleReservationValue (Tally × Cause) → Type 0
+HasTried old new s body closes (Ok idle) = IsTriedWell old new s body closes idle
+HasTried old new s body closes (Err refused) = IsTriedInVain old new s body closes refused.0 refused.1

@@ -1,7 +1,6 @@
 //! How an open reservation is written and handed over, by a sender whose seat the keeper lends.
 ghost use Rattle.std.specs.Prelude.{◌≡◌, ◌<◌, None};
-ghost use Rattle.ring.specs.Keepers.{IsIdleSender, IsIdleReservation};
-ghost use Rattle.simulator.specs.queue.{published, IsBack};
+ghost use Rattle.simulator.specs.queue.{published, IsBack, IsIdleSeat, IsOpenSeat};
 
 use batch::BorrowedBatch;
 use ring::{Bare, BatchKind, Closing, IdleReservation, IdleSender, Keeper, Ring};
@@ -16,13 +15,10 @@ pub(super) fn hand_over(
     requires ring { keeper.old.ring ≡ ring.now }
     requires whole { keeper.old.lent ≡ None }
     requires known { idle.tally.sender < keeper.old.ring.made_with.senders }
-    requires idle { IsIdleReservation keeper.old batch idle }
-    requires unwritten { idle.written ≡ 0 }
-    requires unflipped { idle.flipped ≡ 0 }
+    requires open { IsOpenSeat keeper.old idle.tally.sender batch idle }
     ensures run { keeper.new.run ≡ published keeper.old.ring.made_with.geometry idle.tally.sender keeper.old.run }
     ensures back { IsBack idle.tally.sender keeper.old keeper.new }
-    ensures number { result.sender ≡ idle.tally.sender }
-    ensures idle { IsIdleSender keeper.new result }
+    ensures idle { IsIdleSeat keeper.new idle.tally.sender result }
 {
     if idle.closes() {
         publish_as::<Closing>(keeper, ring, idle, batch)
@@ -42,13 +38,10 @@ fn publish_as<K: BatchKind>(
     requires whole { keeper.old.lent ≡ None }
     requires known { idle.tally.sender < keeper.old.ring.made_with.senders }
     requires closes { idle.closes ≡ K.closes }
-    requires idle { IsIdleReservation keeper.old batch idle }
-    requires unwritten { idle.written ≡ 0 }
-    requires unflipped { idle.flipped ≡ 0 }
+    requires open { IsOpenSeat keeper.old idle.tally.sender batch idle }
     ensures run { keeper.new.run ≡ published keeper.old.ring.made_with.geometry idle.tally.sender keeper.old.run }
     ensures back { IsBack idle.tally.sender keeper.old keeper.new }
-    ensures number { result.sender ≡ idle.tally.sender }
-    ensures idle { IsIdleSender keeper.new result }
+    ensures idle { IsIdleSeat keeper.new idle.tally.sender result }
 {
     let reservation = keeper.lend_reservation::<K>(ring, idle, batch);
     let sender = reservation.hand_over(ring);

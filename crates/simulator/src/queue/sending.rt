@@ -1,7 +1,7 @@
 //! A try to reserve, and what was reserved handed over, by a sender whose seat the keeper lends.
 ghost use Rattle.std.specs.Prelude.{◌≡◌, ◌<◌, None};
 ghost use Rattle.ring.specs.Keepers.{IsIdleSender};
-ghost use Rattle.simulator.specs.queue.{IsBack, IsIdleSeat, HasSent};
+ghost use Rattle.simulator.specs.queue.{IsBack, IsIdleSeat, sent_by};
 
 use crate::queue::publishing::hand_over;
 use crate::queue::trying::try_once;
@@ -21,7 +21,8 @@ pub(super) fn send_once(
     requires whole { keeper.old.lent ≡ None }
     requires known { idle.sender < keeper.old.ring.made_with.senders }
     requires idle { IsIdleSender keeper.old idle }
-    ensures sent { HasSent keeper.old keeper.new idle.sender batch.entry closes result.1 }
+    ensures run { keeper.new.run ≡ (sent_by keeper.old.ring.made_with idle.sender batch.entry closes keeper.old.run).run }
+    ensures answer { result.1 ≡ (sent_by keeper.old.ring.made_with idle.sender batch.entry closes keeper.old.run).answer }
     ensures back { IsBack idle.sender keeper.old keeper.new }
     ensures seat { IsIdleSeat keeper.new idle.sender result.0 }
 {

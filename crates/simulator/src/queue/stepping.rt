@@ -10,6 +10,7 @@ use cmdcodec::legal_words_spell_one_command;
 use engine::{StepAnswer, Unit, step_with};
 use qindex::indexes_tell_the_queue;
 use ring::{IdleConsumer, Keeper, Ring};
+use ringcore::laws::consumer_trail;
 use ringcore::world_law;
 
 impl Queue {
@@ -49,6 +50,7 @@ fn step_lent(
     ensures ring { keeper.new.ring ≡ keeper.old.ring }
 {
     world_law();
+    consumer_trail();
     indexes_tell_the_queue();
     legal_words_spell_one_command();
     let consumer = keeper.lend_consumer(ring, idle);

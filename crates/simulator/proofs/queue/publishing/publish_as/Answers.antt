@@ -23,7 +23,7 @@ returns-clause-run g c =
     let trail_is : c.hand_over-sender.result.trail ≡ events 0 0 ++ before =
     ap (λ (t : SenderValue). t.trail) c.hand_over-sender.ensures.sender
     ∙ ap (λ (r : ReservationValue). (published_by_ring (record r { history = [] })).trail) c.lend_reservation-reservation.ensures.reservation
-    ∙ ap₂ (λ (w f : ℕ). events w f ++ before) c.requires.unwritten c.requires.unflipped in
+    ∙ ap₂ (λ (w f : ℕ). events w f ++ before) c.requires.open.unwritten c.requires.open.unflipped in
     ((known g c).adds (events 0 0) trail_is).run_is
 
 pub returns-clause-back : goal.returns-clause-back

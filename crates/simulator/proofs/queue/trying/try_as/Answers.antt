@@ -1,7 +1,7 @@
 use Rattle.std.proofs.Common.{◌≡◌, ap, ◌∙◌}
 use Rattle.ring.specs.sender.Senders.{SenderValue}
 use Rattle.simulator.proofs.SeatLemmas.{IsCall, is_call}
-use Rattle.simulator.proofs.TryLemmas.{well, in_vain}
+use Rattle.simulator.proofs.Trying.{well, in_vain}
 use Rattle.simulator.proofs.queue.trying.try_as.Given.{Over}
 use Rattle.simulator.proofs.queue.trying.try_as.Goals as goal
 

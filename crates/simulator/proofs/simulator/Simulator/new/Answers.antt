@@ -1,7 +1,7 @@
 use Rattle.std.proofs.Common.{◌∙◌}
 use Rattle.engine.specs.Units.{new_unit}
 use Rattle.simulator.specs.State.{made}
-use Rattle.simulator.proofs.Together.{together_first}
+use Rattle.simulator.proofs.Standings.{together_first}
 use Rattle.simulator.proofs.simulator.Simulator.new.Goals as goal
 
 pub invariant_of-result : goal.invariant_of-result
