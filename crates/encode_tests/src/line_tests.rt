@@ -70,6 +70,14 @@ fn expect_fault<R: AllocGlobal + Abort>(rt: &R, line: &str, words: &str) {
     assert_eq!(rt; told.as_str(), words, "{line}");
 }
 
+/// Wants each line of a text to be refused in the words behind its ` = `.
+fn expect_faults<R: AllocGlobal + Abort>(rt: &R, lines: &str) {
+    for line in lines.lines() {
+        let (line, words) = line.split_once(" = ").unwrap_or((line, ""));
+        expect_fault(rt, line, words);
+    }
+}
+
 const NH_VA: Raw = Raw {
     lo: 0x0002_0001_0000_0012,
     hi: 0x1234_5001,
@@ -112,132 +120,60 @@ fn what_is_bad_is_told_and_the_run_goes_on(rt: HostRuntime) {
 
 #[test]
 fn names_and_fields_that_are_unknown(rt: HostRuntime) {
-    expect_fault(&rt, "CFGI_ST sid=5 leaf=1", "unknown command \"CFGI_ST\"");
-    expect_fault(&rt, "cfgi_ste sid=5 leaf=1", "unknown command \"cfgi_ste\"");
-    expect_fault(&rt, "sid=5\x07", "unknown command \"sid=5\\x07\"");
-    expect_fault(
+    expect_faults(
         &rt,
-        "CFGI_STE sid=5 leaf=1 ssid=0",
-        "CFGI_STE: unknown field \"ssid=0\"",
+        "CFGI_ST sid=5 leaf=1 = unknown command \"CFGI_ST\"
+cfgi_ste sid=5 leaf=1 = unknown command \"cfgi_ste\"
+sid=5\x07 = unknown command \"sid=5\\x07\"
+CFGI_STE sid=5 leaf=1 ssid=0 = CFGI_STE: unknown field \"ssid=0\"
+CFGI_STE sid 5 leaf=1 = CFGI_STE: unknown field \"sid\"
+TLBI_NSNH_ALL vmid=0 = TLBI_NSNH_ALL: unknown field \"vmid=0\"
+ATC_INV tg=1 = ATC_INV: unknown field \"tg=1\"",
     );
-    expect_fault(
-        &rt,
-        "CFGI_STE sid 5 leaf=1",
-        "CFGI_STE: unknown field \"sid\"",
-    );
-    expect_fault(
-        &rt,
-        "TLBI_NSNH_ALL vmid=0",
-        "TLBI_NSNH_ALL: unknown field \"vmid=0\"",
-    );
-    expect_fault(&rt, "ATC_INV tg=1", "ATC_INV: unknown field \"tg=1\"");
 }
 
 #[test]
 fn fields_that_are_missing_or_stand_twice(rt: HostRuntime) {
-    expect_fault(
+    expect_faults(
         &rt,
-        "TLBI_NH_VA vmid=1 leaf=0 addr=0",
-        "TLBI_NH_VA: asid is missing",
+        "TLBI_NH_VA vmid=1 leaf=0 addr=0 = TLBI_NH_VA: asid is missing
+CFGI_STE = CFGI_STE: sid is missing
+CFGI_STE sid=5 leaf=1 sid=5 = CFGI_STE: sid: stands twice
+TLBI_EL2_VAA leaf=0 addr=0 num=0 scale=0 = TLBI_EL2_VAA: tg is missing
+TLBI_EL2_VAA leaf=0 addr=0 tg=1 scale=0 = TLBI_EL2_VAA: num is missing
+TLBI_EL2_VAA leaf=0 addr=0 tg=1 num=0 = TLBI_EL2_VAA: scale is missing
+RESUME lo=0x44 = RESUME: hi is missing",
     );
-    expect_fault(&rt, "CFGI_STE", "CFGI_STE: sid is missing");
-    expect_fault(
-        &rt,
-        "CFGI_STE sid=5 leaf=1 sid=5",
-        "CFGI_STE: sid: stands twice",
-    );
-    expect_fault(
-        &rt,
-        "TLBI_EL2_VAA leaf=0 addr=0 num=0 scale=0",
-        "TLBI_EL2_VAA: tg is missing",
-    );
-    expect_fault(
-        &rt,
-        "TLBI_EL2_VAA leaf=0 addr=0 tg=1 scale=0",
-        "TLBI_EL2_VAA: num is missing",
-    );
-    expect_fault(
-        &rt,
-        "TLBI_EL2_VAA leaf=0 addr=0 tg=1 num=0",
-        "TLBI_EL2_VAA: scale is missing",
-    );
-    expect_fault(&rt, "RESUME lo=0x44", "RESUME: hi is missing");
 }
 
 #[test]
 fn numbers_out_of_their_ranges(rt: HostRuntime) {
-    expect_fault(
+    expect_faults(
         &rt,
-        "TLBI_NH_ALL vmid=65536",
-        "TLBI_NH_ALL: vmid: 0 to 65535",
-    );
-    expect_fault(&rt, "TLBI_NH_ALL vmid=", "TLBI_NH_ALL: vmid: 0 to 65535");
-    expect_fault(&rt, "TLBI_NH_ALL vmid=-1", "TLBI_NH_ALL: vmid: 0 to 65535");
-    expect_fault(&rt, "TLBI_NH_ALL vmid=0x", "TLBI_NH_ALL: vmid: 0 to 65535");
-    expect_fault(
-        &rt,
-        "CFGI_STE sid=0x100000000 leaf=0",
-        "CFGI_STE: sid: 0 to 4294967295",
-    );
-    expect_fault(&rt, "CFGI_STE sid=0 leaf=2", "CFGI_STE: leaf: 0 to 1");
-    expect_fault(
-        &rt,
-        "CFGI_CD sid=0 ssid=0x100000 leaf=0",
-        "CFGI_CD: ssid: 0 to 1048575",
-    );
-    expect_fault(
-        &rt,
-        "CFGI_STE_RANGE sid=0 range=32",
-        "CFGI_STE_RANGE: range: 0 to 31",
-    );
-    expect_fault(
-        &rt,
-        "TLBI_EL2_VAA leaf=0 addr=0 tg=0 num=0 scale=0",
-        "TLBI_EL2_VAA: tg: 1 to 3",
-    );
-    expect_fault(
-        &rt,
-        "TLBI_EL2_VAA leaf=0 addr=0 tg=4 num=0 scale=0",
-        "TLBI_EL2_VAA: tg: 1 to 3",
-    );
-    expect_fault(
-        &rt,
-        "CMD_SYNC cs=3 msh=0 attr=0 data=0 addr=0",
-        "CMD_SYNC: cs: 0 to 2",
-    );
-    expect_fault(
-        &rt,
-        "RESUME lo=0x44 hi=0x10000000000000000",
-        "RESUME: hi: 0 to 18446744073709551615",
+        "TLBI_NH_ALL vmid=65536 = TLBI_NH_ALL: vmid: 0 to 65535
+TLBI_NH_ALL vmid= = TLBI_NH_ALL: vmid: 0 to 65535
+TLBI_NH_ALL vmid=-1 = TLBI_NH_ALL: vmid: 0 to 65535
+TLBI_NH_ALL vmid=0x = TLBI_NH_ALL: vmid: 0 to 65535
+CFGI_STE sid=0x100000000 leaf=0 = CFGI_STE: sid: 0 to 4294967295
+CFGI_STE sid=0 leaf=2 = CFGI_STE: leaf: 0 to 1
+CFGI_CD sid=0 ssid=0x100000 leaf=0 = CFGI_CD: ssid: 0 to 1048575
+CFGI_STE_RANGE sid=0 range=32 = CFGI_STE_RANGE: range: 0 to 31
+TLBI_EL2_VAA leaf=0 addr=0 tg=0 num=0 scale=0 = TLBI_EL2_VAA: tg: 1 to 3
+TLBI_EL2_VAA leaf=0 addr=0 tg=4 num=0 scale=0 = TLBI_EL2_VAA: tg: 1 to 3
+CMD_SYNC cs=3 msh=0 attr=0 data=0 addr=0 = CMD_SYNC: cs: 0 to 2
+RESUME lo=0x44 hi=0x10000000000000000 = RESUME: hi: 0 to 18446744073709551615",
     );
 }
 
 #[test]
 fn sizes_and_addresses_out_of_their_ranges(rt: HostRuntime) {
-    expect_fault(
+    expect_faults(
         &rt,
-        "TLBI_EL2_VAA leaf=0 addr=0x800",
-        "TLBI_EL2_VAA: addr: a multiple of 4096",
-    );
-    expect_fault(
-        &rt,
-        "TLBI_S2_IPA vmid=0 leaf=0 addr=0x10000000000000",
-        "TLBI_S2_IPA: addr: 0 to 4503599627366400",
-    );
-    expect_fault(
-        &rt,
-        "CMD_SYNC cs=0 msh=0 attr=0 data=0 addr=2",
-        "CMD_SYNC: addr: a multiple of 4",
-    );
-    expect_fault(
-        &rt,
-        "CMD_SYNC cs=0 msh=0 attr=0 data=0 addr=0x10000000000000",
-        "CMD_SYNC: addr: 0 to 4503599627370492",
-    );
-    expect_fault(
-        &rt,
-        "ATC_INV sid=0 ssv=0 ssid=0 global=0 size=53 addr=0",
-        "ATC_INV: size: 0 to 52",
+        "TLBI_EL2_VAA leaf=0 addr=0x800 = TLBI_EL2_VAA: addr: a multiple of 4096
+TLBI_S2_IPA vmid=0 leaf=0 addr=0x10000000000000 = TLBI_S2_IPA: addr: 0 to 4503599627366400
+CMD_SYNC cs=0 msh=0 attr=0 data=0 addr=2 = CMD_SYNC: addr: a multiple of 4
+CMD_SYNC cs=0 msh=0 attr=0 data=0 addr=0x10000000000000 = CMD_SYNC: addr: 0 to 4503599627370492
+ATC_INV sid=0 ssv=0 ssid=0 global=0 size=53 addr=0 = ATC_INV: size: 0 to 52",
     );
 }
 

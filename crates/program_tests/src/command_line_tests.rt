@@ -63,9 +63,13 @@ fn command_lines_that_are_not_understood(rt: HostRuntime) {
     expect_not_understood(&rt, "a word behind schedule", &["schedule", "more"]);
 }
 
-/// Asks for help, and wants a text with this in it.
-fn expect_help<R: Threads + AllocGlobal + Abort + Sync>(rt: &R, words: &[&str], wanted: &str) {
-    let ran = run(rt, words, "", (1, 0));
+/// Asks for help by the words of a line, and wants a text with this in it.
+fn expect_help<R: Threads + AllocGlobal + Abort + Sync>(rt: &R, line: &str, wanted: &str) {
+    let words: Vec<&str> = line
+        .split(' ')
+        .collect(rt.alloc())
+        .expect(rt, "there is memory");
+    let ran = run(rt, words.as_slice(), "", (1, 0));
     let (status, text, is_silent) = ran.told();
     assert_eq!(rt;
         (status, text.contains(wanted), is_silent),
@@ -76,29 +80,21 @@ fn expect_help<R: Threads + AllocGlobal + Abort + Sync>(rt: &R, words: &[&str], 
 
 #[test]
 fn help(rt: HostRuntime) {
-    expect_help(&rt, &["--help"], "smmuq replay < examples/first-run.script");
-    expect_help(&rt, &["replay", "--help"], "Usage: smmuq replay");
-    expect_help(&rt, &["schedule", "--help"], "Usage: smmuq schedule");
-    expect_help(&rt, &["decode", "--help"], "Usage: smmuq decode <HEX>");
-    expect_help(&rt, &["stress", "--help"], "Usage: smmuq stress --log2 <L>");
-    // What a subcommand's help lists, by either way to it.
-    expect_help(
-        &rt,
-        &["help", "replay"],
-        "\n    Q2  the ring has too little room\n",
-    );
-    expect_help(
-        &rt,
-        &["help", "schedule"],
-        "\n    F10  a reservation is open, or no batch left\n",
-    );
-    expect_help(
-        &rt,
-        &["help", "stress"],
-        "A turn of a sender is one try to reserve a batch",
-    );
-    expect_help(&rt, &["--version"], "smmuq 0.1.0 (rattle-kit-");
-    expect_help(&rt, &["-V"], "smmuq 0.1.0 (rattle-kit-");
+    // What a subcommand's help lists comes by either way to it.
+    let asked = "--help = smmuq replay < examples/first-run.script
+replay --help = Usage: smmuq replay
+schedule --help = Usage: smmuq schedule
+decode --help = Usage: smmuq decode <HEX>
+stress --help = Usage: smmuq stress --log2 <L>
+help replay =     Q2  the ring has too little room
+help schedule =     F10  a reservation is open, or no batch left
+help stress = A turn of a sender is one try to reserve a batch
+--version = smmuq 0.1.0 (rattle-kit-
+-V = smmuq 0.1.0 (rattle-kit-";
+    for line in asked.lines() {
+        let (words, wanted) = line.split_once(" = ").unwrap_or((line, ""));
+        expect_help(&rt, words, wanted);
+    }
 }
 
 /// Runs the program on one word, where the read and the write of these numbers fail, and wants this status, and what is

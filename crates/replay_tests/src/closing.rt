@@ -1,27 +1,22 @@
 //! Rings that are closed.
-use crate::transcripts::expect_transcript;
-use script::Status;
+use crate::transcripts::expect_transcripts;
 
 #[test]
 fn closed_rings(rt: HostRuntime) {
-    expect_transcript(
+    expect_transcripts(
         &rt,
-        "a ring that is full is told to be closed",
-        Status::Good,
-        "> ring 1 2 8 4
+        "# good: a ring that is full is told to be closed
+> ring 1 2 8 4
 ring size 2
 > send 0 03000000050000000100000000000000
 sent 0 number 1
 > close 1
 closed
 > send 1 03000000050000000100000000000000
-refused Q1",
-    );
-    expect_transcript(
-        &rt,
-        "what was reserved before is published and taken",
-        Status::Good,
-        "> ring 3 2 4 4
+refused Q1
+
+# good: what was reserved before is published and taken
+> ring 3 2 4 4
 ring size 8
 > open 0 03000000050000000100000000000000
 opened 0 number 1 first 0
@@ -42,13 +37,10 @@ prod 0x00000002
 cons 0x00000002
 gerror 0 gerrorn 0
 taken 2 applied 2 replaced 0 syncs 1 removed 0
-end",
-    );
-    expect_transcript(
-        &rt,
-        "a closed ring, whose commands are taken all the same",
-        Status::Good,
-        "> ring 3 2 4 4
+end
+
+# good: a closed ring, whose commands are taken all the same
+> ring 3 2 4 4
 ring size 8
 > send 0 03000000050000000100000000000000
 sent 0 number 1

@@ -1,14 +1,13 @@
 //! Entries that are filled, looked up, evicted and dumped.
-use crate::transcripts::expect_transcript;
+use crate::transcripts::{expect_transcript, expect_transcripts};
 use script::Status;
 
 #[test]
 fn entries(rt: HostRuntime) {
-    expect_transcript(
+    expect_transcripts(
         &rt,
-        "the last page of stage 2 and one behind it, all pages and twice as many",
-        Status::Good,
-        "> ring 4 1 4 8
+        "# good: the last page of stage 2 and one behind it, all pages and twice as many
+> ring 4 1 4 8
 ring size 16
 > fill s2 1 0xffffffffff 0 1
 filled
@@ -17,13 +16,10 @@ refused C2
 > fill s1 1 2 0 52 1
 filled
 > fill s1 1 2 0 53 1
-refused C2",
-    );
-    expect_transcript(
-        &rt,
-        "what is no block is neither filled nor found",
-        Status::Good,
-        "> ring 3 1 4 4
+refused C2
+
+# good: what is no block is neither filled nor found
+> ring 3 1 4 4
 ring size 8
 > fill s1 1 2 0 255 1
 refused C2
@@ -34,48 +30,36 @@ absent
 > fill s2 1 0 40 1
 filled
 > fill s2 1 0 41 1
-refused C2",
-    );
-    expect_transcript(
-        &rt,
-        "a span that no field holds",
-        Status::Refused,
-        "> ring 3 1 4 4
+refused C2
+
+# refused: a span that no field holds
+> ring 3 1 4 4
 ring size 8
 > lookup s1 1 2 0 256
-line 2: bad line",
-    );
-    expect_transcript(
-        &rt,
-        "full caches take another value for what they hold",
-        Status::Good,
-        "> ring 3 1 4 1
+line 2: bad line
+
+# good: full caches take another value for what they hold
+> ring 3 1 4 1
 ring size 8
 > fill ste 1 10
 filled
 > fill ste 1 11
 replaced value=10 born=0
 > fill ste 2 12
-refused C1",
-    );
-    expect_transcript(
-        &rt,
-        "what is no block is told ahead of full caches",
-        Status::Good,
-        "> ring 3 1 4 1
+refused C1
+
+# good: what is no block is told ahead of full caches
+> ring 3 1 4 1
 ring size 8
 > fill ste 1 1
 filled
 > fill atc 1 - 1 1 1
 refused C2
 > fill atc 1 - 1 0 1
-refused C1",
-    );
-    expect_transcript(
-        &rt,
-        "what is held, and what isn't",
-        Status::Good,
-        "> ring 3 1 4 9
+refused C1
+
+# good: what is held, and what isn't
+> ring 3 1 4 9
 ring size 8
 > fill s2 1 0x30 4 4
 filled
@@ -90,13 +74,10 @@ evicted value=4 born=0
 > lookup s2 1 0x30 4
 absent
 > fill s2 1 0x31 4 4
-refused C2",
-    );
-    expect_transcript(
-        &rt,
-        "the order of a dump, in whose reverse the entries are filled",
-        Status::Good,
-        "> ring 3 1 4 20
+refused C2
+
+# good: the order of a dump, in whose reverse the entries are filled
+> ring 3 1 4 20
 ring size 8
 > fill atc 1 0 0 0 1
 filled

@@ -1,77 +1,55 @@
 //! What a line has to be: its bytes, its words and its numbers.
-use crate::transcripts::{expect_answer, expect_transcript};
+use crate::transcripts::{expect_answer, expect_transcripts};
 use script::Status;
 
 #[test]
 fn words_and_numbers(rt: HostRuntime) {
-    expect_transcript(
+    expect_transcripts(
         &rt,
-        "a command of two digits",
-        Status::Refused,
-        "> ring 3 1 1 1
+        "# refused: a command of two digits
+> ring 3 1 1 1
 ring size 8
 > send 0 03
-line 2: bad line",
-    );
-    expect_transcript(
-        &rt,
-        "a first word that means nothing",
-        Status::Refused,
-        "> ring 3 1 1 1
+line 2: bad line
+
+# refused: a first word that means nothing
+> ring 3 1 1 1
 ring size 8
 > stare 0
-line 2: bad line",
-    );
-    expect_transcript(
-        &rt,
-        "a tag of no kind",
-        Status::Refused,
-        "> ring 3 1 1 1
+line 2: bad line
+
+# refused: a tag of no kind
+> ring 3 1 1 1
 ring size 8
 > fill s3 5 1 9
-line 2: bad line",
-    );
-    expect_transcript(
-        &rt,
-        "a million steps end at the first that finds nothing",
-        Status::Good,
-        "> ring 3 1 4 1
+line 2: bad line
+
+# good: a million steps end at the first that finds nothing
+> ring 3 1 4 1
 ring size 8
 > step 1000000
-empty",
-    );
-    expect_transcript(
-        &rt,
-        "hexadecimal digits of both cases, 20 decimal digits, and the largest number",
-        Status::Good,
-        "> ring 0x3 1 00000000000000000001 0x0000000000000001
+empty
+
+# good: hexadecimal digits of both cases, 20 decimal digits, and the largest number
+> ring 0x3 1 00000000000000000001 0x0000000000000001
 ring size 8
 > fill ste 0xABCdef 18446744073709551615
 filled
 > fill ste 0xabcDEF 0xffffffffffffffff
-replaced value=18446744073709551615 born=0",
-    );
-    expect_transcript(
-        &rt,
-        "2^64",
-        Status::Refused,
-        "> ring 3 1 1 1
+replaced value=18446744073709551615 born=0
+
+# refused: 2^64
+> ring 3 1 1 1
 ring size 8
 > fill ste 1 18446744073709551616
-line 2: bad line",
-    );
-    expect_transcript(
-        &rt,
-        "21 digits",
-        Status::Refused,
-        "> ring 000000000000000000003 1 1 1
-line 1: bad line",
-    );
-    expect_transcript(
-        &rt,
-        "a capital X",
-        Status::Refused,
-        "> ring 0X3 1 1 1
+line 2: bad line
+
+# refused: 21 digits
+> ring 000000000000000000003 1 1 1
+line 1: bad line
+
+# refused: a capital X
+> ring 0X3 1 1 1
 line 1: bad line",
     );
 }

@@ -1,14 +1,12 @@
 //! Ranges of pages, and streams that are detached.
-use crate::transcripts::expect_transcript;
-use script::Status;
+use crate::transcripts::expect_transcripts;
 
 #[test]
 fn ranges(rt: HostRuntime) {
-    expect_transcript(
+    expect_transcripts(
         &rt,
-        "33 pages are one page and a range of 32",
-        Status::Good,
-        "> ring 4 1 4 8
+        "# good: 33 pages are one page and a range of 32
+> ring 4 1 4 8
 ring size 16
 > inval 0 1 2 0x10 33
 sent 0 number 1
@@ -16,46 +14,34 @@ sent 0 number 1
 applied TLBI_NH_VA vmid=1 asid=2 leaf=1 addr=0x10000 removed=0
 applied TLBI_NH_VA vmid=1 asid=2 leaf=1 addr=0x11000 tg=1 num=0 scale=5 removed=0
 applied CMD_SYNC cs=1 msh=0 attr=0 data=1 addr=0x40000000 removed=0
-empty",
-    );
-    expect_transcript(
-        &rt,
-        "64 pages are one range",
-        Status::Good,
-        "> ring 4 1 4 8
+empty
+
+# good: 64 pages are one range
+> ring 4 1 4 8
 ring size 16
 > inval 0 1 2 0x10 64
 sent 0 number 1
 > look 0
-control 2 0 open",
-    );
-    expect_transcript(
-        &rt,
-        "2^41 pages take 32 commands, and twice as many pages take too many",
-        Status::Good,
-        "> ring 6 1 4 4
+control 2 0 open
+
+# good: 2^41 pages take 32 commands, and twice as many pages take too many
+> ring 6 1 4 4
 ring size 64
 > inval 0 1 2 0 2199023255552
 sent 0 number 1
 > look 0
 control 33 0 open
 > inval 0 1 2 0 4398046511104
-refused B1",
-    );
-    expect_transcript(
-        &rt,
-        "a range of no page",
-        Status::Good,
-        "> ring 3 1 1 1
+refused B1
+
+# good: a range of no page
+> ring 3 1 1 1
 ring size 8
 > inval 0 1 2 0 0
-refused B3",
-    );
-    expect_transcript(
-        &rt,
-        "a range that leaves the address space",
-        Status::Good,
-        "> ring 3 1 1 1
+refused B3
+
+# good: a range that leaves the address space
+> ring 3 1 1 1
 ring size 8
 > inval 0 1 2 0xfffffffffffff 2
 refused B4",
@@ -64,11 +50,10 @@ refused B4",
 
 #[test]
 fn detaching(rt: HostRuntime) {
-    expect_transcript(
+    expect_transcripts(
         &rt,
-        "the entry of a stream, its context descriptors, and all that its endpoint holds",
-        Status::Good,
-        "> ring 4 1 4 8
+        "# good: the entry of a stream, its context descriptors, and all that its endpoint holds
+> ring 4 1 4 8
 ring size 16
 > detach 0 5
 sent 0 number 1
@@ -76,13 +61,10 @@ sent 0 number 1
 applied CFGI_STE sid=5 leaf=1 removed=0
 applied CFGI_CD_ALL sid=5 removed=0
 applied ATC_INV sid=5 ssv=0 ssid=0 global=0 size=52 addr=0x0 removed=0
-applied CMD_SYNC cs=1 msh=0 attr=0 data=1 addr=0x40000000 removed=0",
-    );
-    expect_transcript(
-        &rt,
-        "a range, a detached stream, and a batch that is held open, as another is asked for",
-        Status::Refused,
-        "> ring 4 1 4 8
+applied CMD_SYNC cs=1 msh=0 attr=0 data=1 addr=0x40000000 removed=0
+
+# refused: a range, a detached stream, and a batch that is held open, as another is asked for
+> ring 4 1 4 8
 ring size 16
 > fill s1 1 2 0x10 0 5
 filled

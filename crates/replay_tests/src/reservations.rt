@@ -1,15 +1,14 @@
 //! Reservations that are held open, and batches without a CMD_SYNC.
-use crate::transcripts::{expect_answer, expect_transcript};
+use crate::transcripts::{expect_answer, expect_transcript, expect_transcripts};
 use script::Status;
 use std::process::Abort;
 
 #[test]
 fn reservations_held_open(rt: HostRuntime) {
-    expect_transcript(
+    expect_transcripts(
         &rt,
-        "the batch that was reserved first is taken first, however late it is written",
-        Status::Good,
-        "> ring 3 2 4 4
+        "# good: the batch that was reserved first is taken first, however late it is written
+> ring 3 2 4 4
 ring size 8
 > open 0 03000000050000000100000000000000
 opened 0 number 1 first 0
@@ -24,13 +23,10 @@ applied CFGI_STE sid=5 leaf=1 removed=0
 applied CMD_SYNC cs=1 msh=0 attr=0 data=1 addr=0x40000000 removed=0
 applied CFGI_STE sid=5 leaf=1 removed=0
 applied CMD_SYNC cs=1 msh=0 attr=0 data=1 addr=0x40000004 removed=0
-empty",
-    );
-    expect_transcript(
-        &rt,
-        "the ring fills up behind a reservation that is held open",
-        Status::Good,
-        "> ring 3 2 8 4
+empty
+
+# good: the ring fills up behind a reservation that is held open
+> ring 3 2 8 4
 ring size 8
 > open 0 03000000050000000100000000000000
 opened 0 number 1 first 0
@@ -55,33 +51,24 @@ applied CFGI_STE sid=5 leaf=1 removed=0
 applied CMD_SYNC cs=1 msh=0 attr=0 data=2 addr=0x40000004 removed=0
 applied CFGI_STE sid=5 leaf=1 removed=0
 applied CMD_SYNC cs=1 msh=0 attr=0 data=3 addr=0x40000004 removed=0
-empty",
-    );
-    expect_transcript(
-        &rt,
-        "nothing is open that could be published",
-        Status::Refused,
-        "> ring 3 1 4 1
+empty
+
+# refused: nothing is open that could be published
+> ring 3 1 4 1
 ring size 8
 > publish 0
-line 2: sender not open",
-    );
-    expect_transcript(
-        &rt,
-        "an open reservation is told ahead of an empty batch",
-        Status::Refused,
-        "> ring 3 1 4 1
+line 2: sender not open
+
+# refused: an open reservation is told ahead of an empty batch
+> ring 3 1 4 1
 ring size 8
 > open 0 03000000050000000100000000000000
 opened 0 number 1 first 0
 > send 0
-line 3: sender open",
-    );
-    expect_transcript(
-        &rt,
-        "a batch without a CMD_SYNC is held open, and another one asked for",
-        Status::Refused,
-        "> ring 3 1 4 4
+line 3: sender open
+
+# refused: a batch without a CMD_SYNC is held open, and another one asked for
+> ring 3 1 4 4
 ring size 8
 > openbare 0 03000000050000000100000000000000
 opened 0 bare first 0
@@ -92,11 +79,10 @@ line 3: sender open",
 
 #[test]
 fn bare_batches(rt: HostRuntime) {
-    expect_transcript(
+    expect_transcripts(
         &rt,
-        "two commands fill a ring of two slots, and three never have room",
-        Status::Good,
-        "> ring 1 2 4 4
+        "# good: two commands fill a ring of two slots, and three never have room
+> ring 1 2 4 4
 ring size 2
 > bare 0 03000000050000000100000000000000 03000000050000000100000000000000
 sent 0 bare
@@ -117,13 +103,10 @@ applied CMD_SYNC cs=1 msh=0 attr=0 data=1 addr=0x40000000 removed=0
 03000000050000000100000000000000
 refused Q4
 > done 0
-done 0 up to 1",
-    );
-    expect_transcript(
-        &rt,
-        "as many as the ring has slots, one more while it is full, one too many, and none",
-        Status::Good,
-        "> ring 2 1 9 4
+done 0 up to 1
+
+# good: as many as the ring has slots, one more while it is full, one too many, and none
+> ring 2 1 9 4
 ring size 4
 > bare 0 03000000050000000100000000000000 03000000050000000100000000000000 \
 03000000050000000100000000000000 03000000050000000100000000000000
@@ -140,13 +123,10 @@ empty
 03000000050000000100000000000000 03000000050000000100000000000000 03000000050000000100000000000000
 refused Q4
 > bare 0
-refused B5",
-    );
-    expect_transcript(
-        &rt,
-        "a batch without a CMD_SYNC takes no number",
-        Status::Good,
-        "> ring 3 1 9 4
+refused B5
+
+# good: a batch without a CMD_SYNC takes no number
+> ring 3 1 9 4
 ring size 8
 > send 0 03000000050000000100000000000000
 sent 0 number 1
@@ -164,13 +144,10 @@ applied CFGI_STE sid=5 leaf=1 removed=0
 applied CMD_SYNC cs=1 msh=0 attr=0 data=2 addr=0x40000000 removed=0
 empty
 > done 0
-done 0 up to 2",
-    );
-    expect_transcript(
-        &rt,
-        "a batch without a CMD_SYNC is held open, and then the one of number 1",
-        Status::Good,
-        "> ring 3 1 4 4
+done 0 up to 2
+
+# good: a batch without a CMD_SYNC is held open, and then the one of number 1
+> ring 3 1 4 4
 ring size 8
 > openbare 0 03000000050000000100000000000000
 opened 0 bare first 0

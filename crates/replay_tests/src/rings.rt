@@ -1,63 +1,40 @@
 //! Making a ring, and what may stand ahead of it and behind it.
-use crate::transcripts::expect_transcript;
-use script::Status;
+use crate::transcripts::expect_transcripts;
 
 #[test]
 fn rings_that_are_not_made(rt: HostRuntime) {
-    expect_transcript(
+    expect_transcripts(
         &rt,
-        "a ring of one slot",
-        Status::Refused,
-        "> ring 0 1 1 1
-line 1: N1",
-    );
-    expect_transcript(
-        &rt,
-        "a ring of 2^20 slots",
-        Status::Refused,
-        "> ring 20 1 1 1
-line 1: N1",
-    );
-    expect_transcript(
-        &rt,
-        "a ring of 257 senders",
-        Status::Refused,
-        "> ring 3 257 1 1
-line 1: N2",
-    );
-    expect_transcript(
-        &rt,
-        "no batches, which is told ahead of caches with room for nothing",
-        Status::Refused,
-        "> ring 3 1 0 0
-line 1: N3",
-    );
-    expect_transcript(
-        &rt,
-        "caches with room for nothing",
-        Status::Refused,
-        "> ring 3 1 1 0
-line 1: C4",
-    );
-    expect_transcript(
-        &rt,
-        "a dump while there is no ring",
-        Status::Refused,
-        "> dump
-line 1: no ring",
-    );
-    expect_transcript(
-        &rt,
-        "a bad line is told ahead of the ring that is missing",
-        Status::Refused,
-        "> step 0
-line 1: bad line",
-    );
-    expect_transcript(
-        &rt,
-        "a comment ahead of the ring, and a second ring, whose numbers are not looked at",
-        Status::Refused,
-        "> #c
+        "# refused: a ring of one slot
+> ring 0 1 1 1
+line 1: N1
+
+# refused: a ring of 2^20 slots
+> ring 20 1 1 1
+line 1: N1
+
+# refused: a ring of 257 senders
+> ring 3 257 1 1
+line 1: N2
+
+# refused: no batches, which is told ahead of caches with room for nothing
+> ring 3 1 0 0
+line 1: N3
+
+# refused: caches with room for nothing
+> ring 3 1 1 0
+line 1: C4
+
+# refused: a dump while there is no ring
+> dump
+line 1: no ring
+
+# refused: a bad line is told ahead of the ring that is missing
+> step 0
+line 1: bad line
+
+# refused: a comment ahead of the ring, and a second ring, whose numbers are not looked at
+> #c
 > ring 3 1 1 1
 ring size 8
 > ring 0 0 0 0
@@ -67,11 +44,10 @@ line 3: second ring",
 
 #[test]
 fn the_largest_ring(rt: HostRuntime) {
-    expect_transcript(
+    expect_transcripts(
         &rt,
-        "2^19 slots, and the last of 256 senders",
-        Status::Refused,
-        "> ring 19 256 4294967295 65536
+        "# refused: 2^19 slots, and the last of 256 senders
+> ring 19 256 4294967295 65536
 ring size 524288
 > fill ste 5 70
 filled
@@ -82,13 +58,10 @@ sent 255 number 1
 > send 0 03000000050000000100000000000000
 sent 0 number 1
 > send 256 03000000050000000100000000000000
-line 6: no sender",
-    );
-    expect_transcript(
-        &rt,
-        "2^19 slots, and what the last of 256 senders is told",
-        Status::Good,
-        "> ring 19 256 4294967295 65536
+line 6: no sender
+
+# good: 2^19 slots, and what the last of 256 senders is told
+> ring 19 256 4294967295 65536
 ring size 524288
 > fill ste 5 70
 filled
@@ -115,11 +88,10 @@ end",
 
 #[test]
 fn the_smallest_ring(rt: HostRuntime) {
-    expect_transcript(
+    expect_transcripts(
         &rt,
-        "a ring of two slots is full, is emptied, and is full again with its index back at 0",
-        Status::Good,
-        "> ring 1 2 8 4
+        "# good: a ring of two slots is full, is emptied, and is full again with its index back at 0
+> ring 1 2 8 4
 ring size 2
 > fill ste 5 70
 filled
@@ -137,13 +109,10 @@ prod 0x00000000
 cons 0x00000002
 gerror 0 gerrorn 0
 taken 2 applied 2 replaced 0 syncs 1 removed 1
-end",
-    );
-    expect_transcript(
-        &rt,
-        "five batches in a ring of two slots, each of them a lap",
-        Status::Good,
-        "> ring 1 1 8 4
+end
+
+# good: five batches in a ring of two slots, each of them a lap
+> ring 1 1 8 4
 ring size 2
 > open 0 03000000050000000100000000000000
 opened 0 number 1 first 0

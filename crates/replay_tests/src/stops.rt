@@ -1,14 +1,13 @@
 //! Illegal commands, at which the unit stops.
-use crate::transcripts::{expect_answer, expect_transcript};
+use crate::transcripts::{expect_answer, expect_transcripts};
 use script::Status;
 
 #[test]
 fn stops(rt: HostRuntime) {
-    expect_transcript(
+    expect_transcripts(
         &rt,
-        "an illegal command inside a batch is replaced, and the rest is taken",
-        Status::Good,
-        "> ring 4 1 4 4
+        "# good: an illegal command inside a batch is replaced, and the rest is taken
+> ring 4 1 4 4
 ring size 16
 > send 0 03000000050000000100000000000000 03000000050000000100000000000000 \
 ff000000000000000000000000000000 03000000050000000100000000000000
@@ -24,13 +23,10 @@ replaced ILL1
 > step 64
 applied CFGI_STE sid=5 leaf=1 removed=0
 applied CMD_SYNC cs=1 msh=0 attr=0 data=1 addr=0x40000000 removed=0
-empty",
-    );
-    expect_transcript(
-        &rt,
-        "a command that is tried again, stops the unit again, and is then replaced",
-        Status::Good,
-        "> ring 3 1 4 4
+empty
+
+# good: a command that is tried again, stops the unit again, and is then replaced
+> ring 3 1 4 4
 ring size 8
 > send 0 03000000050000000100000000000000 ff000000000000000000000000000000
 sent 0 number 1
@@ -72,13 +68,10 @@ prod 0x00000003
 cons 0x00000003
 gerror 0 gerrorn 0
 taken 3 applied 2 replaced 1 syncs 1 removed 0
-end",
-    );
-    expect_transcript(
-        &rt,
-        "the first command is tried again and then replaced, and no CMD_SYNC follows it",
-        Status::Good,
-        "> ring 3 1 4 4
+end
+
+# good: the first command is tried again and then replaced, and no CMD_SYNC follows it
+> ring 3 1 4 4
 ring size 8
 > ack 1 retry
 refused G1
@@ -111,26 +104,20 @@ prod 0x00000002
 cons 0x00000002
 gerror 0 gerrorn 0
 taken 2 applied 1 replaced 1 syncs 0 removed 0
-end",
-    );
-    expect_transcript(
-        &rt,
-        "commands of two illegal kinds, which stay where they are",
-        Status::Good,
-        "> ring 3 1 4 1
+end
+
+# good: commands of two illegal kinds, which stay where they are
+> ring 3 1 4 1
 ring size 8
 > bare 0 ff000000000000000000000000000000 03040000050000000100000000000000
 sent 0 bare
 > send 0 46300000000000000000000000000000
 refused B2
 > step
-stopped ILL1",
-    );
-    expect_transcript(
-        &rt,
-        "a stop that is acknowledged shows until the step, and a second stop",
-        Status::Good,
-        "> ring 3 1 4 4
+stopped ILL1
+
+# good: a stop that is acknowledged shows until the step, and a second stop
+> ring 3 1 4 4
 ring size 8
 > send 0 ff000000000000000000000000000000
 sent 0 number 1
@@ -158,13 +145,10 @@ prod 0x00000004
 cons 0x01000002
 gerror 0 gerrorn 1
 taken 2 applied 1 replaced 1 syncs 1 removed 0
-end",
-    );
-    expect_transcript(
-        &rt,
-        "an acknowledgement in which other bits differ, while the ring is closed",
-        Status::Good,
-        "> ring 3 1 4 4
+end
+
+# good: an acknowledgement in which other bits differ, while the ring is closed
+> ring 3 1 4 4
 ring size 8
 > send 0 ff000000000000000000000000000000
 sent 0 number 1

@@ -1,14 +1,12 @@
 //! What commands for streams and for their endpoints remove, and what they leave.
-use crate::transcripts::expect_transcript;
-use script::Status;
+use crate::transcripts::expect_transcripts;
 
 #[test]
 fn commands_for_endpoints(rt: HostRuntime) {
-    expect_transcript(
+    expect_transcripts(
         &rt,
-        "two pages of a substream remove the block around them, and nothing without a substream",
-        Status::Good,
-        "> ring 4 1 4 8
+        "# good: two pages of a substream remove the block around them, and nothing without a substream
+> ring 4 1 4 8
 ring size 16
 > fill atc 7 - 0 0 1
 filled
@@ -21,13 +19,10 @@ sent 0 number 1
 > step
 applied ATC_INV sid=7 ssv=1 ssid=9 global=0 size=1 addr=0xa000 removed=1
 > lookup atc 7 - 0 0
-found value=1 born=0",
-    );
-    expect_transcript(
-        &rt,
-        "all substreams, and then what is held without one",
-        Status::Good,
-        "> ring 4 1 4 8
+found value=1 born=0
+
+# good: all substreams, and then what is held without one
+> ring 4 1 4 8
 ring size 16
 > fill atc 7 - 0 0 1
 filled
@@ -49,11 +44,10 @@ applied ATC_INV sid=7 ssv=0 ssid=0 global=0 size=52 addr=0x0 removed=1",
 
 #[test]
 fn commands_for_streams(rt: HostRuntime) {
-    expect_transcript(
+    expect_transcripts(
         &rt,
-        "a block of two streams, and not the one behind it",
-        Status::Good,
-        "> ring 4 1 4 8
+        "# good: a block of two streams, and not the one behind it
+> ring 4 1 4 8
 ring size 16
 > fill ste 4 1
 filled
@@ -73,13 +67,10 @@ cons 0x00000002
 gerror 0 gerrorn 0
 taken 2 applied 2 replaced 0 syncs 1 removed 2
 entry ste sid=6 value=3 born=0
-end",
-    );
-    expect_transcript(
-        &rt,
-        "a block of two streams with their context descriptors, and nothing that is filled later",
-        Status::Good,
-        "> ring 4 1 4 8
+end
+
+# good: a block of two streams with their context descriptors, and nothing that is filled later
+> ring 4 1 4 8
 ring size 16
 > fill ste 4 1
 filled
@@ -103,13 +94,10 @@ gerror 0 gerrorn 0
 taken 2 applied 2 replaced 0 syncs 1 removed 3
 entry ste sid=5 value=8 born=2
 entry ste sid=6 value=3 born=0
-end",
-    );
-    expect_transcript(
-        &rt,
-        "the upper half of all streams",
-        Status::Good,
-        "> ring 4 1 4 8
+end
+
+# good: the upper half of all streams
+> ring 4 1 4 8
 ring size 16
 > fill ste 2147483648 1
 filled
@@ -122,13 +110,10 @@ applied CFGI_STE_RANGE sid=4294967295 range=30 removed=1
 > lookup ste 2147483648
 absent
 > lookup ste 2147483647
-found value=2 born=0",
-    );
-    expect_transcript(
-        &rt,
-        "all streams",
-        Status::Good,
-        "> ring 4 1 4 8
+found value=2 born=0
+
+# good: all streams
+> ring 4 1 4 8
 ring size 16
 > fill ste 4294967295 1
 filled
@@ -143,11 +128,10 @@ applied CFGI_STE_RANGE sid=0 range=31 removed=2",
 
 #[test]
 fn commands_for_two_streams_and_for_all_of_one(rt: HostRuntime) {
-    expect_transcript(
+    expect_transcripts(
         &rt,
-        "a range covers the two streams that differ in their lowest bit",
-        Status::Good,
-        "> ring 4 1 4 8
+        "# good: a range covers the two streams that differ in their lowest bit
+> ring 4 1 4 8
 ring size 16
 > fill ste 4 1
 filled
@@ -167,13 +151,10 @@ cons 0x00000002
 gerror 0 gerrorn 0
 taken 2 applied 2 replaced 0 syncs 1 removed 2
 entry ste sid=6 value=3 born=0
-end",
-    );
-    expect_transcript(
-        &rt,
-        "a page of one address space, and all that is cached for a stream",
-        Status::Good,
-        "> ring 3 1 4 9
+end
+
+# good: a page of one address space, and all that is cached for a stream
+> ring 3 1 4 9
 ring size 8
 > fill s1 1 2 0x10 0 1
 filled

@@ -1,14 +1,12 @@
 //! What commands for translations remove, and what they leave.
-use crate::transcripts::expect_transcript;
-use script::Status;
+use crate::transcripts::expect_transcripts;
 
 #[test]
 fn commands_for_translations(rt: HostRuntime) {
-    expect_transcript(
+    expect_transcripts(
         &rt,
-        "a range of 16 pages, by what lies at both its ends and beside them",
-        Status::Good,
-        "> ring 4 1 4 8
+        "# good: a range of 16 pages, by what lies at both its ends and beside them
+> ring 4 1 4 8
 ring size 16
 > fill s1 1 2 0xf 0 1
 filled
@@ -31,13 +29,10 @@ found value=1 born=0
 > lookup s1 1 2 0x20 0
 found value=5 born=0
 > lookup s1 1 2 0 4
-found value=6 born=0",
-    );
-    expect_transcript(
-        &rt,
-        "a granule of 16 KiB, by the last page in it",
-        Status::Good,
-        "> ring 4 1 4 8
+found value=6 born=0
+
+# good: a granule of 16 KiB, by the last page in it
+> ring 4 1 4 8
 ring size 16
 > fill s1 1 2 0xf 0 1
 filled
@@ -54,13 +49,10 @@ applied TLBI_NH_VA vmid=1 asid=2 leaf=0 addr=0x13000 tg=2 num=0 scale=0 removed=
 > lookup s1 1 2 0xf 0
 found value=1 born=0
 > lookup s1 1 2 0x14 0
-found value=4 born=0",
-    );
-    expect_transcript(
-        &rt,
-        "a page removes each block around it, also the global one",
-        Status::Good,
-        "> ring 4 1 4 8
+found value=4 born=0
+
+# good: a page removes each block around it, also the global one
+> ring 4 1 4 8
 ring size 16
 > fill s1 1 2 0 52 1
 filled
@@ -77,13 +69,10 @@ sent 0 number 1
 > step
 applied TLBI_NH_VA vmid=1 asid=2 leaf=0 addr=0x1c000 removed=4
 > lookup s1 1 2 0 0
-found value=2 born=0",
-    );
-    expect_transcript(
-        &rt,
-        "a global translation outlives an address space, and goes with its page in any",
-        Status::Good,
-        "> ring 4 1 4 8
+found value=2 born=0
+
+# good: a global translation outlives an address space, and goes with its page in any
+> ring 4 1 4 8
 ring size 16
 > fill s1 1 2 0x10 0 100
 filled

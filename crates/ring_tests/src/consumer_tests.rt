@@ -53,22 +53,21 @@ fn five_laps_of_two_slots(rt: HostRuntime) -> Result<(), AllocError> {
     Ok(())
 }
 
+/// Makes calls of sender 1 and the consumer while sender 0 has a batch reserved, and further ones once it is published.
+fn expect_around_a_publish<R: AllocGlobal + Abort>(rt: &R, ahead: &str, behind: &str) {
+    let (ring, first, seats) = ring_of_two(rt, 3, 4);
+    let one = batch_of(rt, 1);
+    let reservation = reserve(rt, &ring, first, &one);
+    let seats = play(rt, &ring, seats, ahead);
+    let (_first, _receipt) = reservation.publish(&ring);
+    play(rt, &ring, seats, behind);
+}
+
 #[test]
 fn a_stalled_sender(rt: HostRuntime) {
-    let (ring, first, seats) = ring_of_two(&rt, 3, 4);
-    let one = batch_of(&rt, 1);
-    let reservation = reserve(&rt, &ring, first, &one);
-    let seats = play(
+    expect_around_a_publish(
         &rt,
-        &ring,
-        seats,
         "send 1 = number 1\nconsumer take = unwritten",
-    );
-    let (_first, _receipt) = reservation.publish(&ring);
-    play(
-        &rt,
-        &ring,
-        seats,
         "consumer take = 0x700000003 0x1\n\
          consumer take = 0x100001046 0x40000000\n\
          consumer take = 0x700000003 0x1\n\
@@ -79,20 +78,9 @@ fn a_stalled_sender(rt: HostRuntime) {
 
 #[test]
 fn a_close_while_a_reservation_is_open(rt: HostRuntime) {
-    let (ring, first, seats) = ring_of_two(&rt, 3, 4);
-    let one = batch_of(&rt, 1);
-    let reservation = reserve(&rt, &ring, first, &one);
-    let seats = play(
+    expect_around_a_publish(
         &rt,
-        &ring,
-        seats,
         "close = closed\nsend 1 = Q1\nconsumer take = unwritten",
-    );
-    let (_first, _receipt) = reservation.publish(&ring);
-    play(
-        &rt,
-        &ring,
-        seats,
         "consumer take = 0x700000003 0x1\n\
          consumer take = 0x100001046 0x40000000\n\
          consumer take = drained\n\

@@ -1,22 +1,27 @@
 //! What a line has to be, and what may stand before a ring is made and after.
-use super::playing::expect_lines;
+use super::playing::{expect_lines, expect_schedules};
 use crate::served::expect_answer;
 use script::Status;
 use std::process::Abort;
 
 #[test]
 fn rings(rt: HostRuntime) {
-    expect_lines(&rt, "ring 20 2", "line 1: N1", Status::Refused);
-    expect_lines(&rt, "ring 0 0", "line 1: N1", Status::Refused);
-    expect_lines(&rt, "ring 1 257", "line 1: N2", Status::Refused);
-    expect_lines(&rt, "ring 1 0", "line 1: N2", Status::Refused);
-    expect_lines(&rt, "look 0", "line 1: no ring", Status::Refused);
-    expect_lines(&rt, "#//ring 1 1", "ring size 2", Status::Good);
-    expect_lines(
+    expect_schedules(
         &rt,
-        "ring 1 1/ring 0 0",
-        "ring size 2/line 2: second ring",
-        Status::Refused,
+        "ring 20 2
+= line 1: N1
+ring 0 0
+= line 1: N1
+ring 1 257
+= line 1: N2
+ring 1 0
+= line 1: N2
+look 0
+= line 1: no ring
+#//ring 1 1
+= ring size 2
+ring 1 1/ring 0 0
+= ring size 2/line 2: second ring",
     );
 }
 

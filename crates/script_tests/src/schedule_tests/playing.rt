@@ -25,3 +25,25 @@ pub fn expect_lines<R: AllocGlobal + Abort>(rt: &R, script: &str, text: &str, st
     let wanted = spelled(rt, text);
     expect_answer(rt, script, lines.as_bytes(), wanted.as_str(), status);
 }
+
+/// Plays each schedule of a text and wants the answers on the line below it, behind `= `. One that is refused ends in a
+/// line that tells of a line.
+pub fn expect_schedules<R: AllocGlobal + Abort>(rt: &R, schedules: &str) {
+    let mut script = "";
+    for line in schedules.lines() {
+        match line.strip_prefix("= ") {
+            Some(text) => expect_lines(rt, script, text, status_told(text)),
+            None => script = line,
+        }
+    }
+}
+
+/// How a run with these answers ends.
+fn status_told(text: &str) -> Status {
+    let (_, last) = text.rsplit_once("/").unwrap_or(("", text));
+    if last.starts_with("line ") {
+        Status::Refused
+    } else {
+        Status::Good
+    }
+}
