@@ -72,19 +72,20 @@ pub fn expect_transcript<R: AllocGlobal + Abort>(
 /// Replays each transcript of a text, with an empty line between two. The first line of each, as `# good: NAME` or
 /// `# refused: NAME`, says how its run ends.
 pub fn expect_transcripts<R: AllocGlobal + Abort>(rt: &R, transcripts: &str) {
-    let mut heading = "";
+    let mut heading = String::new(rt.alloc());
     let mut transcript = String::new(rt.alloc());
     for line in transcripts.lines() {
         if line.is_empty() {
-            expect_headed(rt, heading, transcript.as_str());
+            expect_headed(rt, heading.as_str(), transcript.as_str());
+            heading.clear();
             transcript.clear();
         } else if let Some(text) = line.strip_prefix("# ") {
-            heading = text;
+            heading.push_str(text).expect(rt, line);
         } else {
             writeln!(transcript, "{line}").expect(rt, line);
         }
     }
-    expect_headed(rt, heading, transcript.as_str());
+    expect_headed(rt, heading.as_str(), transcript.as_str());
 }
 
 /// Replays the script of a transcript whose heading says how its run ends.

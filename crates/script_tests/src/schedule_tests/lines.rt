@@ -8,19 +8,19 @@ use std::process::Abort;
 fn rings(rt: HostRuntime) {
     expect_schedules(
         &rt,
-        "ring 20 2
+        "ring 20 2 \
 = line 1: N1
-ring 0 0
+ring 0 0 \
 = line 1: N1
-ring 1 257
+ring 1 257 \
 = line 1: N2
-ring 1 0
+ring 1 0 \
 = line 1: N2
-look 0
+look 0 \
 = line 1: no ring
-#//ring 1 1
+#//ring 1 1 \
 = ring size 2
-ring 1 1/ring 0 0
+ring 1 1/ring 0 0 \
 = ring size 2/line 2: second ring",
     );
 }

@@ -26,15 +26,12 @@ pub fn expect_lines<R: AllocGlobal + Abort>(rt: &R, script: &str, text: &str, st
     expect_answer(rt, script, lines.as_bytes(), wanted.as_str(), status);
 }
 
-/// Plays each schedule of a text and wants the answers on the line below it, behind `= `. One that is refused ends in a
-/// line that tells of a line.
+/// Plays each schedule of a text, a line each, and wants the answers behind its ` = `. One that is refused ends in a line
+/// that tells of a line.
 pub fn expect_schedules<R: AllocGlobal + Abort>(rt: &R, schedules: &str) {
-    let mut script = "";
     for line in schedules.lines() {
-        match line.strip_prefix("= ") {
-            Some(text) => expect_lines(rt, script, text, status_told(text)),
-            None => script = line,
-        }
+        let (script, text) = line.split_once(" = ").unwrap_or((line, ""));
+        expect_lines(rt, script, text, status_told(text));
     }
 }
 

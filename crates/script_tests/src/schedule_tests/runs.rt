@@ -46,12 +46,12 @@ fn runs_of_commands(rt: HostRuntime) {
 fn exchanges_that_are_lost(rt: HostRuntime) {
     expect_schedules(
         &rt,
-        "ring 1 2/look 0/look 1/reserve 1 X/reserve 0 X
+        "ring 1 2/look 0/look 1/reserve 1 X/reserve 0 X \
 = ring size 2/control 0 0 open/control 0 0 open/reserved 0 number 1/\
          lost 2 0 open
-ring 1 2/look 0/look 1/bare 0 X X/bare 1 X
+ring 1 2/look 0/look 1/bare 0 X X/bare 1 X \
 = ring size 2/control 0 0 open/control 0 0 open/reserved 0 bare/lost 2 0 open
-ring 1 2/look 0/close 1/reserve 0 X/look 0/reserve 0 X
+ring 1 2/look 0/close 1/reserve 0 X/look 0/reserve 0 X \
 = ring size 2/control 0 0 open/closed 0 0 closed/lost 0 0 closed/\
          control 0 0 closed/line 6: F9",
     );
