@@ -49,7 +49,7 @@ static uint32_t serve(struct model *model) {
 
 /* The guest writes SMMU_CMDQ_PROD. */
 static uint32_t doorbell(struct model *model, uint32_t prod) {
-    model->prod = prod;
+    model->prod = prod & ((2u << model->log2) - 1); /* the bits above the wrap bit don't count */
     return serve(model);
 }
 
