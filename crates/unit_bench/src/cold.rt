@@ -2,14 +2,17 @@
 ghost use Rattle.std.specs.Prelude.{◌≡◌, ◌≤◌, ◌<◌, OnOk};
 ghost use Rattle.engine.specs.Stops.{unstopped};
 
-use crate::contents::{full_unit, invalidation, tag};
-use crate::walking::Other;
+mod contents;
+mod walking;
+
+use contents::{full_unit, invalidation, tag};
 use engine::{Unit, Verdict};
 use ringcore::MOST_RESERVED;
 use std::io;
 use std::io::ErrorKind;
 use std::rt::Clock;
 use std::time::Instant;
+use walking::Other;
 
 /// How often each is timed.
 const TURNS: u32 = 1_000;

@@ -1,7 +1,9 @@
-//! Times of commands.
-use crate::contents::Contents;
+//! Times of commands in caches of several sizes.
+mod contents;
+
 use caches::Caches;
 use cmdcodec::{Command, Raw, decode};
+use contents::Contents;
 use std::alloc::Global;
 use std::io;
 use std::io::ErrorKind;

@@ -1,6 +1,6 @@
 use Rattle.std.proofs.Common.{◌≡◌}
 use Rattle.engine.specs.Stops.{unstopped}
-use Rattle.cold_bench.proofs.timing.time_all.Given as goal
+use Rattle.unit_bench.proofs.cold.time_all.Given as goal
 
 abbrev pub invariant-loop-turn : goal.invariant-loop-turn
 invariant-loop-turn g l = (l.small.stop ≡ unstopped) × (l.large.stop ≡ unstopped)

@@ -1,0 +1,20 @@
+//! `unit_bench`: times commands that remove nothing in caches of several sizes by the word `sizes`, and commands and look-ups
+//! of a unit, each alone and behind a walk over other memory, by the word `cold`. Without a word it does nothing.
+#![tactic(auto)]
+
+mod cold;
+mod sizes;
+
+use std::{env, io};
+
+fn main(rt: HostRuntime) -> io::Result<()> {
+    let words: Vec<String> = env::args(&rt)?.collect(rt.alloc())?;
+    for word in words.iter().skip(1) {
+        if word.as_str() == "sizes" {
+            sizes::time_all(&rt)?;
+        } else if word.as_str() == "cold" {
+            cold::time_all(&rt)?;
+        }
+    }
+    Ok(())
+}
