@@ -150,7 +150,8 @@ static void play_a_guest(struct model *model) {
     /* An opcode that nobody knows, and a CMD_SYNC behind it. */
     *slot(model, prod) = (smmuq_words){0xff, 0};
     prod = put(model, (prod + 1) & ((2u << model->log2) - 1), sync);
-    printf("stopped: status 0x%02" PRIx32 "\n", doorbell(model, prod));
+    /* Whatever a guest writes above the wrap bit means nothing to the queue. */
+    printf("stopped: status 0x%02" PRIx32 "\n", doorbell(model, prod | 1u << 31));
     print_queue(model);
 
     /* As Linux does: a CMD_SYNC over it, and then the acknowledgement. */
