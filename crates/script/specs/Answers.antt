@@ -11,7 +11,7 @@ pub record Answer : Type 0 where
 abbrev pub with_text : List ℕ → Answer → Answer
 with_text text answer = record { text = text ++ answer.text; is_good = answer.is_good }
 
--- The answer is this text and ends so; where no ending is given, it begins with the text.
+-- The answer is this text and ends so; without an ending, it begins with the text.
 abbrev pub EndsAs : Answer → List ℕ → Option Ending → Type 0
 EndsAs answer text (Some Finished) = answer ≡ record { text = text; is_good = true }
 EndsAs answer text (Some Refused) = answer ≡ record { text = text; is_good = false }

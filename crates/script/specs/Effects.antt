@@ -2,8 +2,7 @@
 use Rattle.std.specs.Prelude.{ℕ, List, Bool, true, false, Option, Some}
 use Rattle.script.specs.Outcome.{fault_line}
 
--- The text that a line is answered with, how things stand after it, once a ring is made, and whether the
--- run goes on.
+-- A line's answer, the state after it once a ring is made, and whether the run goes on.
 pub record Effect (State : Type 0) : Type 0 where
   pub text : List ℕ
   pub state : Option State

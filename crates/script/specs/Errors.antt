@@ -31,6 +31,6 @@ is_endless (Memory e) = false
 is_endless (Read e) = false
 is_endless (Write e) = false
 
--- Memory was wanting, or a number for a line: a line of at most this number was the 2^64th.
+-- Memory ran out, or line numbers did: a line of at most this number was the 2^64th.
 abbrev pub WantsMemoryOrNumber : ServeError → ℕ → Type 0
 WantsMemoryOrNumber e number = (is_memory e ≡ true) ⊎ ((is_endless e ≡ true) × (2 ^ 64 ≤ number))

@@ -15,14 +15,14 @@ None >>= f = None
 abbrev pub guard : {A : Type 0} → Bool → A → Option A
 guard test x = if test then Some x else None
 
--- the number that the next word says, where it is below the limit, and the words after it
+-- the next word as a number, if it is below the limit, and the words after it
 unfoldable pub next_below : ℕ → List (List ℕ) → Option (ℕ × List (List ℕ))
 next_below limit [] = None
 next_below limit (word ∷ words) = do
   number ← number_of word
   guard (nat_lt number limit) (number, words)
 
--- none where the next word is this one, else the number below the limit that it says, and the words after it
+-- None if the next word is `mark`, else the number below the limit that it says; and the words after it
 unfoldable pub next_below_or : List ℕ → ℕ → List (List ℕ) → Option (Option ℕ × List (List ℕ))
 next_below_or mark limit [] = None
 next_below_or mark limit (word ∷ words) =

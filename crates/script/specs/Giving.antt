@@ -20,7 +20,7 @@ MayCome kind state number lines outcome =
 abbrev pub MayAnswer : {State Request : Type 0} → Kind State Request → ℕ → List (List ℕ) → Outcome → Type 0
 MayAnswer kind number lines outcome = MayCome kind None number lines outcome
 
--- what the lines of a script come to where memory is never wanting, as where the kind has no choice
+-- what the lines of a script come to if memory never runs out, as when the kind has no choice
 abbrev pub Answers : {State Request : Type 0} → Kind State Request → ℕ → List (List ℕ) → Outcome → Type 0
 Answers kind number lines outcome = EndsAs (answer_from kind number [] None lines) outcome.text outcome.ending
 

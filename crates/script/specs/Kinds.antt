@@ -7,10 +7,10 @@ use Rattle.script.specs.Lines.{lines_of}
 use Rattle.script.specs.Answers.{Answer, with_text}
 use Rattle.script.specs.Effects.{Effect, faults}
 
--- How things stand once the ring is made, and what a line may ask for: what one asks for that says nothing, what
--- one asks for by its first word and the others (None is a bad line), and what a request does in the line of a
--- number: before the ring is made, and after, memory being wanting or not. And what holds of each state that a run comes
--- to.
+-- `State` is how things stand once the ring is made, `Request` what a line may ask for. `nothing` is what a comment or
+-- an empty line asks for, `named` what others ask for by the first word and those after it (None is a bad line). What a
+-- request does in the line of a number: `first_served` before the ring is made, `served` after, with memory running out
+-- or not. `holds` is true of each state that a run comes to.
 pub record Kind (State Request : Type 0) : Type 1 where
   pub nothing : Request
   pub named : List ℕ → List (List ℕ) → Option Request
@@ -48,7 +48,7 @@ abbrev pub after_effect : {State : Type 0} → Effect State → (Option State �
 after_effect effect rest =
     if effect.goes_on then with_text effect.text (rest effect.state) else record { text = effect.text; is_good = false }
 
--- whether memory runs out at the first of some lines: a choice that says nothing of a line is no
+-- whether memory runs out at the first of some lines; it doesn't if the choice is empty
 abbrev pub first_choice : List Bool → Bool
 first_choice [] = false
 first_choice (wanting ∷ choice) = wanting
@@ -63,14 +63,14 @@ answer_from kind number choice state [] = record { text = []; is_good = true }
 answer_from kind number choice state (line ∷ lines) =
     after_effect (line_effect kind number (first_choice choice) line state) (λ left. answer_from kind (number + 1) (later_choice choice) left lines)
 
--- After each of these lines behind which the run goes on, the kind's `holds` holds.
+-- The kind's `holds` holds after each of these lines that the run goes on from.
 unfoldable pub AllHold : {State Request : Type 0} → Kind State Request → ℕ → List Bool → Option State → List (List ℕ) → Type 0
 AllHold kind number choice state [] = ⊤
 AllHold kind number choice state (line ∷ lines) =
     let effect = line_effect kind number (first_choice choice) line state in
     effect.goes_on ≡ true → IfSome effect.state kind.holds × AllHold kind (number + 1) (later_choice choice) effect.state lines
 
--- The answer to a script. Where memory is never wanting the choice is [].
+-- The answer to a script. If memory never runs out the choice is [].
 abbrev pub answer_to : {State Request : Type 0} → Kind State Request → List Bool → List ℕ → Answer
 answer_to kind choice script = answer_from kind 1 choice None (lines_of script)
 

@@ -6,7 +6,7 @@ use Rattle.script.specs.Outcome.{Outcome}
 use Rattle.script.specs.Endings.{EndsKnown}
 use Rattle.script.specs.Writing.{WritesAnswer}
 
--- It is the line of this number. Of one that is too long its bytes aren't kept.
+-- It is the line of this number. The bytes of one that is too long aren't kept.
 pub record IsLine (last : LastLine) (number : ℕ) (line : List ℕ) : Type 0 where
   pub has_number : last.number ≡ number
   pub has_text : length line ≤ 4096 → last.text.items ≡ line

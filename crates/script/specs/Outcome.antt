@@ -3,8 +3,7 @@ use Rattle.std.specs.Prelude.{◌≡◌, ℕ, ◌+◌, List, ◌∷◌, ◌++◌
 use Rattle.script.specs.declared.ending.Ending.{Ending}
 use Rattle.script.specs.declared.ending.Ending.TheVariants.{Refused}
 
--- The text that is written, and how the run ends. Where no ending is given, the text is a beginning
--- of what is written.
+-- The text that is written, and how the run ends. Without an ending, the text is a beginning of what is written.
 pub record Outcome : Type 0 where
   pub text : List ℕ
   pub ending : Option Ending
@@ -21,8 +20,8 @@ fault_line number name = codes "line " ++ decimal number ++ codes ": " ++ name +
 abbrev pub fault : ℕ → List ℕ → Outcome
 fault number name = record { text = fault_line number name; ending = Some Refused }
 
--- A line was answered and the run goes on: what the lines after it may come to, `new` says, and `old`
--- gives it with this line's answer ahead.
+-- A line was answered and the run goes on: `new` says what the lines after it may come to, and `old` gives that with
+-- this line's answer ahead.
 pub record Continues (old new : ℕ → List (List ℕ) → Outcome → Type 0) (number : ℕ) (line before after : List ℕ) : Type 0 where
   pub answer : List ℕ
   pub text : after ≡ before ++ answer

@@ -9,11 +9,11 @@ use Rattle.script.specs.Outcome.{Outcome}
 use Rattle.script.specs.Writing.{WritesAnswer, WritesNoMemory, WritesBeginning, AnswersWholeLines, ReadsAtLeast}
 
 -- Of a reader that had this input and has `rest` left, and a writer that held `before` and holds `after`:
--- - where no error came, what was written is the text of the script;
--- - where memory ran out, the answers to whole lines and then `no memory`;
+-- - if no error came, what was written is the text of the script;
+-- - if memory ran out, the answers to whole lines and then `no memory`;
 -- - after any error, a beginning of one of these, whatever follows what was read;
--- - where the reader failed, just the lines whose ends were read were answered, all of them;
--- - any other error than being out of memory, a failed read or a failed write takes a script of 2^63 bytes or more.
+-- - if the reader failed, exactly the lines whose ends were read were answered;
+-- - any error but being out of memory, a failed read or a failed write takes a script of 2^63 bytes or more.
 pub record Serves (may : ℕ → List (List ℕ) → Outcome → Type 0) (result : Result Ending ServeError) (input rest before after : Option (List ℕ)) : Type 0 where
   pub answer : IfOk result (λ ending. WritesAnswer may input before after ending)
   pub end : IfOk result (λ ending. ending ≡ Finished → IsAtEnd rest)

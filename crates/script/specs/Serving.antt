@@ -9,24 +9,24 @@ use Rattle.script.specs.Lines.{lines_of, IsWhole}
 use Rattle.script.specs.Outcome.{Outcome, with_front}
 use Rattle.script.specs.Writing.{WritesAnswer, WritesNoMemory, WritesBeginning}
 
--- what the run comes to, its gathered text ahead, if these bytes are what is not served yet
+-- what the run comes to, its gathered text ahead, if these bytes are still to be served
 pub record RunGives (may : ℕ → List (List ℕ) → Outcome → Type 0) (run : Run) (bytes : List ℕ) (outcome : Outcome) : Type 0 where
   pub rest : Outcome
   pub gives : may (run.lines + 1) (lines_of bytes) rest
   pub same : outcome ≡ with_front (string_bytes run.text) rest
 
--- The front of what was pending, whole lines, was served.
+-- Whole lines at the front of what was pending were served.
 pub record Advances (before after : ℕ → List (List ℕ) → Outcome → Type 0) (old new : Run) : Type 0 where
   pub used : List ℕ
   pub split : old.pending ≡ used ++ new.pending
   pub whole : IsWhole used
   pub gives : (bytes : List ℕ) (outcome : Outcome) → RunGives after new bytes outcome → RunGives before old (used ++ bytes) outcome
 
--- A line ended the run, whatever comes, and the text is all that is still to be written.
+-- A line ended the run, whatever follows, and the text is all that is still to be written.
 abbrev pub Stops : (ℕ → List (List ℕ) → Outcome → Type 0) → Run → Run → Type 0
 Stops before old new = (more : List ℕ) → RunGives before old (old.pending ++ more) (record { text = string_bytes new.text; ending = Some Refused })
 
--- Memory was wanting at a line; the text is what the whole lines before it come to.
+-- Memory ran out at a line; the text is what the whole lines before it come to.
 pub record Halts (before : ℕ → List (List ℕ) → Outcome → Type 0) (old new : Run) : Type 0 where
   pub used : List ℕ
   pub left : List ℕ
@@ -48,17 +48,17 @@ pub record IsUnderWay (may now_may : ℕ → List (List ℕ) → Outcome → Typ
 abbrev pub Closes : (ℕ → List (List ℕ) → Outcome → Type 0) → Run → Run → Ending → Type 0
 Closes before old new ending = RunGives before old old.pending (record { text = string_bytes new.text; ending = Some ending })
 
--- Lines were served, and each of them took away a byte at least.
+-- Lines were served, and each of them used up at least a byte.
 pub record TakesBytes (old new : Run) : Type 0 where
   pub lines : old.lines ≤ new.lines
   pub bytes : new.lines + length new.pending ≤ old.lines + length old.pending
 
--- only the text is another
+-- only the text differs
 pub record SameButText (old new : Run) : Type 0 where
   pub pending : new.pending ≡ old.pending
   pub lines : new.lines ≡ old.lines
 
--- only what is pending is another
+-- only what is pending differs
 pub record SameButPending (old new : Run) : Type 0 where
   pub lines : new.lines ≡ old.lines
   pub text : string_bytes new.text ≡ string_bytes old.text

@@ -20,7 +20,7 @@ WritesAnswer may input before after ending =
 abbrev pub no_memory_line : List ℕ
 no_memory_line = codes "no memory\n"
 
--- the answers to the lines before some line, whole, and then the line that tells of memory
+-- the answers to whole lines, and then the line that tells of memory
 pub record StopsForMemory (may : ℕ → List (List ℕ) → Outcome → Type 0) (script text : List ℕ) : Type 0 where
   pub whole : List ℕ
   pub rest : List ℕ
@@ -43,8 +43,8 @@ IsBeginning may script front =
 abbrev pub MayFollow : Option (List ℕ) → List ℕ → Type 0
 MayFollow rest more = IsAtEnd rest → more ≡ []
 
--- What was written is a beginning of one of these texts, whatever follows the bytes that were read. So of a last
--- line that was cut nothing was answered.
+-- What was written is a beginning of one of these texts, whatever follows the bytes that were read. So a last line that
+-- was cut was not answered.
 pub record WritesBeginning (may : ℕ → List (List ℕ) → Outcome → Type 0) (input rest before after : Option (List ℕ)) : Type 0 where
   pub seen : List ℕ
   pub front : List ℕ
@@ -52,7 +52,7 @@ pub record WritesBeginning (may : ℕ → List (List ℕ) → Outcome → Type 0
   pub written : Appends before after front
   pub beginning : (more : List ℕ) → MayFollow rest more → IsBeginning may (seen ++ more) front
 
--- Just the lines whose ends were read were answered, and none of them ended the run.
+-- Exactly the lines whose ends were read were answered, and none of them ended the run.
 pub record AnswersWholeLines (may : ℕ → List (List ℕ) → Outcome → Type 0) (input rest before after : Option (List ℕ)) : Type 0 where
   pub whole : List ℕ
   pub part : List ℕ

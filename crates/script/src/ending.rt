@@ -1,4 +1,4 @@
-/// How the run of a script ended, where nothing failed.
+/// How the run of a script ended, if nothing failed.
 #[derive(Clone, Copy, Debug, PartialEq, Eq)]
 pub enum Ending {
     /// The script was served to its end.

@@ -1,4 +1,4 @@
-//! What the words of a line say, one after another.
+//! Parses the words of a line, one after another.
 ghost use Rattle.std.specs.Prelude.{◌≡◌, ◌^◌, option_map};
 ghost use Rattle.std.specs.List.{list_all};
 ghost use Rattle.script.specs.Words.{words_of};
@@ -7,8 +7,8 @@ ghost use Rattle.script.specs.Fields.{next_below, next_below_or, is_end, one_num
 use crate::words::{next_word, number};
 use cmdcodec::{Raw, from_bytes};
 
-/// The number below 2^64 that the next word says, and the rest of the text after it. None where no word
-/// is left, or where it says no such number.
+/// Parses the next word as a number below 2^64, and returns it with the rest of the text. Returns None if no word is
+/// left or it is no such number.
 #[tactic(auto, unfolding(crate::specs::Fields::next_below))]
 pub fn next_u64(text: &[u8]) -> Option<(u64, &[u8])>
     ensures { option_map (λ found. (found.0, words_of found.1.now)) result ≡ next_below (2 ^ 64) (words_of text.now) }
@@ -17,8 +17,8 @@ pub fn next_u64(text: &[u8]) -> Option<(u64, &[u8])>
     Some((number(word)?, rest))
 }
 
-/// The number below 2^32 that the next word says, and the rest of the text after it. None where no word
-/// is left, or where it says no such number.
+/// Parses the next word as a number below 2^32, and returns it with the rest of the text. Returns None if no word is
+/// left or it is no such number.
 #[tactic(auto, unfolding(crate::specs::Fields::next_below))]
 pub fn next_u32(text: &[u8]) -> Option<(u32, &[u8])>
     ensures { option_map (λ found. (found.0, words_of found.1.now)) result ≡ next_below (2 ^ 32) (words_of text.now) }
@@ -28,8 +28,8 @@ pub fn next_u32(text: &[u8]) -> Option<(u32, &[u8])>
     Some((number, rest))
 }
 
-/// The number below 2^8 that the next word says, and the rest of the text after it. None where no word
-/// is left, or where it says no such number.
+/// Parses the next word as a number below 2^8, and returns it with the rest of the text. Returns None if no word is
+/// left or it is no such number.
 #[tactic(auto, unfolding(crate::specs::Fields::next_below))]
 pub fn next_u8(text: &[u8]) -> Option<(u8, &[u8])>
     ensures { option_map (λ found. (found.0, words_of found.1.now)) result ≡ next_below (2 ^ 8) (words_of text.now) }
@@ -39,8 +39,8 @@ pub fn next_u8(text: &[u8]) -> Option<(u8, &[u8])>
     Some((number, rest))
 }
 
-/// The number below a limit that the next word says, and the rest of the text after it. None where no word
-/// is left, or where it says no such number.
+/// Parses the next word as a number below `limit`, and returns it with the rest of the text. Returns None if no word is
+/// left or it is no such number.
 #[tactic(auto, unfolding(crate::specs::Fields::next_below))]
 pub fn next_below(limit: u64, text: &[u8]) -> Option<(u64, &[u8])>
     ensures { option_map (λ found. (found.0, words_of found.1.now)) result ≡ next_below limit (words_of text.now) }
@@ -54,8 +54,8 @@ pub fn next_below(limit: u64, text: &[u8]) -> Option<(u64, &[u8])>
     }
 }
 
-/// What the next word says, and the rest of the text after it: none where the word is `mark`, else a number
-/// below a limit. None where no word is left, or where it says neither.
+/// Parses the next word as None if it is `mark`, else as a number below `limit`, and returns that with the rest of the
+/// text. Returns None if no word is left or it is neither.
 #[tactic(auto, unfolding(crate::specs::Fields::next_below_or))]
 pub fn next_below_or<'a>(mark: &[u8], limit: u64, text: &'a [u8]) -> Option<(Option<u64>, &'a [u8])>
     ensures { option_map (λ found. (found.0, words_of found.1.now)) result ≡ next_below_or mark.now limit (words_of text.now) }
@@ -75,7 +75,7 @@ pub fn is_end(text: &[u8]) -> bool
     next_word(text).is_none()
 }
 
-/// The number below 2^32 that a text says, and nothing more. None of any other text.
+/// Parses a text that is one number below 2^32 and nothing more. Returns None for any other.
 #[tactic(auto, unfolding(crate::specs::Fields::one_number))]
 pub fn one_number(text: &[u8]) -> Option<u32>
     ensures { result ≡ one_number (words_of text.now) }
@@ -84,7 +84,7 @@ pub fn one_number(text: &[u8]) -> Option<u32>
     if is_end(rest) { Some(number) } else { None }
 }
 
-/// The command whose bytes a word of 32 hexadecimal digits says, whatever it is. None of any other word.
+/// Parses a word of 32 hexadecimal digits as the bytes of a command, legal or not. Returns None for any other word.
 pub fn raw(word: &[u8]) -> Option<Raw>
     ensures { result ≡ hex_of word.now }
 {
@@ -102,12 +102,12 @@ pub fn is_comment(name: &[u8]) -> bool
     !name.is_empty() && name[0] == b'#'
 }
 
-/// Whether a line holds no bytes but those from the space to the tilde.
+/// Whether all bytes of a line are in the range from space to tilde.
 pub fn is_text(line: &[u8]) -> bool
     ensures { result ≡ list_all is_printable line.now }
 {
     let mut printable = true;
-    // It looks at each byte, whatever it found before, so that the compiler can look at many at once.
+    // No early exit, so that the compiler can look at many bytes at once.
     'bytes: for byte in line {
         printable &= 0x20 <= *byte && *byte <= 0x7e;
     }

@@ -1,4 +1,4 @@
-/// What a request comes to where no ring is made yet.
+/// The result of a request before the ring is made.
 #[derive(Drop)]
 pub enum First<Kept> {
     /// Nothing.

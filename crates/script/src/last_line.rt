@@ -3,22 +3,22 @@ ghost use Rattle.std.specs.Prelude.{◌≡◌, IfOk};
 
 use std::alloc::{AllocError, Global};
 
-/// How many bytes of an answer are kept, the last ones.
+/// How many of an answer's last bytes are kept.
 const KEPT_OF_ANSWER: usize = 64;
 
-/// The line that ended the run of a script, as it stands there.
+/// The line that ended the run of a script, verbatim.
 #[derive(Debug, Drop)]
 pub struct LastLine {
     /// Its number, counted from 1.
     pub number: u64,
-    /// Its bytes without its end; none where they are more than 4,096.
+    /// Its bytes without its end; empty if there are more than 4,096.
     pub text: Vec<u8>,
-    /// The last bytes of what it was answered with, at most 64.
+    /// The last bytes of its answer, at most 64.
     pub answer: Vec<u8>,
 }
 
 impl LastLine {
-    /// Keeps a line with the answer to it.
+    /// Copies a line and the end of its answer.
     pub(crate) fn new(
         alloc: Global,
         number: u64,

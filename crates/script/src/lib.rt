@@ -1,4 +1,4 @@
-//! Scripts of lines: they are read from any reader, served line by line, and answered to any writer.
+//! Scripts of lines: read from any reader, served line by line, and answered to any writer.
 #![tactic(auto)]
 
 mod ending;

@@ -1,4 +1,4 @@
-//! What was read and is not served yet.
+//! Bytes that were read and not served yet.
 ghost use Rattle.std.specs.Prelude.{◌≡◌, ◌++◌, ◌≤◌, ◌<◌, ◌+◌, ℕ, List, [], IfOk, OnOk, OnErr, length, take, drop, true, false};
 ghost use Rattle.std.specs.Io.KnownBytes.{Consumes, IsAtEnd, Keeps};
 
@@ -7,10 +7,10 @@ use std::io;
 use std::io::{ErrorKind, Read};
 use std::marker::Model;
 
-/// How many bytes are held at most.
+/// The most bytes that are held.
 const CAPACITY: usize = 65_536;
 
-/// The bytes that were read and not served yet. They are seen as the list of them.
+/// The bytes that were read and not served yet. Contracts see it as the list of them.
 #[derive(Drop)]
 pub(crate) struct Pending {
     buffer: Vec<u8>,
@@ -46,7 +46,7 @@ impl Pending {
         &self.buffer[self.at..self.filled]
     }
 
-    /// Takes bytes away from the front.
+    /// Removes bytes from the front.
     pub(crate) fn skip(&mut self, count: usize)
         requires { count ≤ length self.old }
         ensures { self.new ≡ drop count self.old }
@@ -54,7 +54,7 @@ impl Pending {
         self.at += count;
     }
 
-    /// Adds what one read gives, and says whether it gave anything.
+    /// Reads once and appends the bytes. Returns false at the end of the input.
     pub(crate) fn fill<R: Read>(&mut self, reader: &mut R) -> io::Result<bool>
         requires { length self.old ≤ 4096 }
         ensures part { OnOk result ((part : List ℕ) × (self.new ≡ self.old ++ part) × Consumes (R.remaining reader.old) (R.remaining reader.new) part) }
@@ -71,7 +71,7 @@ impl Pending {
     }
 }
 
-// One read into the rest of a buffer, behind what it holds already.
+// Reads once into the buffer, behind its first `held` bytes.
 fn read_behind<R: Read>(reader: &mut R, buffer: &mut [u8], held: usize) -> io::Result<usize>
     requires { held < length buffer.old }
     ensures front { take held buffer.new ≡ take held buffer.old }
@@ -83,7 +83,7 @@ fn read_behind<R: Read>(reader: &mut R, buffer: &mut [u8], held: usize) -> io::R
     read_once(reader, &mut buffer[held..])
 }
 
-/// One read. A read that a signal interrupts is made again.
+/// Reads once, and again if a signal interrupts the read.
 pub fn read_once<R: Read>(reader: &mut R, buffer: &mut [u8]) -> io::Result<usize>
     ensures bound { IfOk result (λ count. count ≤ length buffer.new) }
     ensures ok { IfOk result (λ count. Consumes (R.remaining reader.old) (R.remaining reader.new) (take count buffer.new)) }

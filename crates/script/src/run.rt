@@ -19,28 +19,28 @@ use std::alloc::{AllocError, Global};
 use std::fmt::Write as _;
 use std::io::{Read, Write};
 
-/// How much text is gathered before it is written.
+/// How many bytes of text are gathered before they are written.
 const LONG_TEXT: usize = 65_536;
 
-/// Why no more lines are served for now.
+/// Why serving paused.
 #[derive(Clone, Copy, PartialEq, Eq)]
 pub(crate) enum Pause {
     /// A line ended the run.
     Ended,
-    /// Much text is gathered.
+    /// More than `LONG_TEXT` bytes of text are gathered.
     Full,
     /// No whole line is pending.
     Drained,
 }
 
-/// What was read and is not served yet, how many lines were served, and what they said.
+/// The bytes not served yet, how many lines were served, and the answers not written yet.
 #[derive(Drop)]
 pub(crate) struct Run {
     pending: Pending,
     lines: u64,
-    /// The answers that are not written yet, each of them whole.
+    /// The answers that are not written yet, each whole.
     text: String,
-    /// The answer to the line that is being served.
+    /// The answer to the line being served.
     reply: String,
 }
 
@@ -72,7 +72,7 @@ impl Run {
         }
     }
 
-    // Serves the first `end` bytes that are pending as a line, and leaves them there. Says whether the run goes on.
+    // Serves the first `end` pending bytes as a line, and leaves them there. Returns whether the run goes on.
     fn answer_line<I: Interpreter>(
         &mut self,
         interpreter: &mut I,
@@ -124,7 +124,7 @@ impl Run {
         self.gather()
     }
 
-    // Serves the line that ends at a place, and takes it away. Says whether the run goes on.
+    // Serves the line that ends at a place, and removes it. Returns whether the run goes on.
     fn serve_next<I: Interpreter>(
         &mut self,
         interpreter: &mut I,
@@ -155,7 +155,7 @@ impl Run {
         Ok(true)
     }
 
-    /// Serves whole lines that are pending, until much text is gathered, and says why it stopped.
+    /// Serves pending whole lines until much text is gathered, and returns why it stopped.
     fn serve_lines<I: Interpreter>(&mut self, interpreter: &mut I) -> Result<Pause, ServeError>
         ensures goes_on { IfOk result (λ pause. pause ≢ Pause.Ended → Advances (I.gives interpreter.old) (I.gives interpreter.new) self.old self.new) }
         ensures learns { IfOk result (λ pause. pause ≢ Pause.Ended → (last : I)
@@ -187,7 +187,7 @@ impl Run {
         Ok(Pause::Drained)
     }
 
-    /// Serves what is pending as the last line, if anything is, and says how the run ends.
+    /// Serves what is pending, if anything, as the last line, and returns how the run ends.
     fn serve_last<I: Interpreter>(&mut self, interpreter: &mut I) -> Result<Ending, ServeError>
         requires no_end { HasNoEnd self.old.pending }
         requires short { length self.old.pending ≤ 4096 }
@@ -208,7 +208,7 @@ impl Run {
         }
     }
 
-    /// Reads more, where nothing is left to be written, and says whether there was any. An `Err` changes nothing.
+    /// Reads more, once nothing is left to write, and returns whether anything came. An `Err` changes nothing.
     pub(crate) fn read_more<R: Read>(&mut self, input: &mut R) -> Result<bool, ServeError>
         requires short { length self.old.pending ≤ 4096 }
         requires written { string_bytes self.old.text ≡ [] }
@@ -225,7 +225,7 @@ impl Run {
         }
     }
 
-    // Writes the text and takes it away. After an `Err` a front of it was written.
+    // Writes the text and clears it. After an `Err` a front of it was written.
     fn send_text<W: Write>(&mut self, output: &mut W) -> Result<(), ServeError>
         ensures same { SameButText self.old self.new }
         ensures ok { OnOk result ((string_bytes self.new.text ≡ []) × Appends (W.contents output.old) (W.contents output.new) (string_bytes self.old.text)) }
@@ -237,7 +237,7 @@ impl Run {
         Ok(())
     }
 
-    // Writes the text, and where memory ran out the line that tells of it. Gives the error that ends the run.
+    // Writes the text, and then `no memory` if memory ran out. Returns the error that ends the run.
     fn give_up<W: Write>(&mut self, output: &mut W, e: ServeError) -> ServeError
         ensures same { SameButText self.old self.new }
         ensures told { is_memory result ≡ true → Appends (W.contents output.old) (W.contents output.new) (string_bytes self.old.text ++ no_memory_line) }
@@ -253,7 +253,7 @@ impl Run {
         }
     }
 
-    /// Serves lines that are pending, and writes what they say.
+    /// Serves pending lines and writes their answers.
     pub(crate) fn deliver<I: Interpreter, W: Write>(
         &mut self,
         interpreter: &mut I,
@@ -290,7 +290,7 @@ impl Run {
         }
     }
 
-    /// Serves the last line and writes what it says, where nothing is left to read.
+    /// Serves the last line and writes its answer, once nothing is left to read.
     pub(crate) fn finish<I: Interpreter, W: Write>(
         &mut self,
         interpreter: &mut I,

@@ -1,4 +1,4 @@
-//! Writing bytes to their end.
+//! Writing all of some bytes.
 ghost use Rattle.std.specs.Prelude.{◌≡◌, ◌≤◌, ◌⊎◌, IfErr, OnOk, OnErr, length, take, true, false};
 ghost use Rattle.std.specs.Io.KnownBytes.{Appends};
 ghost use Rattle.script.specs.Errors.{is_memory, is_write};
@@ -10,7 +10,7 @@ use std::alloc::AllocError;
 use std::io;
 use std::io::{ErrorKind, Write};
 
-/// Writes the line that tells that memory ran out, with no memory. Gives the error that ends the run.
+/// Writes the line `no memory`, and takes no memory for it. Returns the error that ends the run.
 pub fn tell_of_memory<W: Write>(output: &mut W, e: AllocError) -> ServeError
     ensures told { is_memory result ≡ true → Appends (W.contents output.old) (W.contents output.new) no_memory_line }
     ensures part { WritesFront (W.contents output.old) (W.contents output.new) no_memory_line }
@@ -38,7 +38,7 @@ pub fn write_whole<W: Write>(output: &mut W, bytes: &[u8]) -> Result<(), ServeEr
     }
 }
 
-// Writes all of the bytes, and gives how many of them were taken: those before the error, if one comes.
+// Writes all of the bytes, and returns how many were taken: on an error, those before it.
 fn send<W: Write>(output: &mut W, bytes: &[u8]) -> (usize, io::Result<()>)
     ensures bound { result.0 ≤ length bytes.now }
     ensures taken { Appends (W.contents output.old) (W.contents output.new) (take result.0 bytes.now) }

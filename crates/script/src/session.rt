@@ -33,7 +33,7 @@ fn parse_words<K: ScriptKind>(alloc: Global, line: &[u8]) -> Result<Option<K::Re
     }
 }
 
-/// What a line asks for, in a script of this kind. None is a bad line.
+/// Parses a line of a script of this kind. Returns `Ok(None)` for a bad line.
 #[tactic(auto, unfolding(crate::specs::Kinds::request_of))]
 pub fn parse<K: ScriptKind>(alloc: Global, line: &[u8]) -> Result<Option<K::Request>, AllocError>
     ensures { IfOk result (λ request. request ≡ request_of K.kind line.now) }
@@ -49,9 +49,9 @@ pub fn parse<K: ScriptKind>(alloc: Global, line: &[u8]) -> Result<Option<K::Requ
 #[derive(Drop)]
 struct Session<K: ScriptKind> {
     alloc: Global,
-    /// What is kept, once a line made the ring.
+    /// What is kept once a line made the ring.
     kept: Option<K::Kept>,
-    /// The line that ended the run, where there was memory to keep it.
+    /// The line that ended the run, if there was memory to keep it.
     last: Option<LastLine>,
 }
 
@@ -66,7 +66,7 @@ impl<K: ScriptKind> Session<K> {
         }
     }
 
-    // Serves a request where no ring is made yet.
+    // Serves a request before the ring is made.
     fn serve_first(
         &mut self,
         number: u64,
@@ -124,7 +124,7 @@ impl<K: ScriptKind> Session<K> {
 }
 
 impl<K: ScriptKind> Session<K> {
-    /// Keeps the line that ended the run, where there is memory for it.
+    /// Keeps the line that ended the run, if there is memory for it.
     fn keep(&mut self, number: u64, line: &[u8], answer: &[u8])
         ensures kept { self.new.kept ≡ self.old.kept }
         ensures number { IfSome self.new.last (λ last. last.number ≡ number) }
@@ -152,7 +152,7 @@ impl<K: ScriptKind> Session<K> {
         Ok(goes_on)
     }
 
-    /// A witness that what the kind says of each state holds of the one that is kept. It does nothing.
+    /// Shows that the kind's `holds` holds of each state that what is kept stands for. It does nothing.
     fn holds(&self)
         ensures { Holds K.kind K.stands self.now.kept }
     {
@@ -197,11 +197,11 @@ impl<K: ScriptKind> Interpreter for Session<K> {
     }
 }
 
-/// Reads a script of this kind, serves its lines in order, and writes their answers. Tells the line that ended the run too:
-/// none where no line did, or where there is no memory to keep it.
+/// Reads a script of this kind, serves its lines in order, and writes their answers. Also returns the line that ended
+/// the run, or None if no line did or there is no memory to keep it.
 ///
-/// Each answer is written and flushed before the read that follows its line. A `write` may take any
-/// count from 1 on, and an interrupted call is made again.
+/// Each answer is written and flushed before the read that follows its line. A `write` may take any count from 1 on,
+/// and interrupted calls are retried.
 pub fn serve_to_last_line<K: ScriptKind, R: Read, W: Write>(
     alloc: Global,
     input: &mut R,

@@ -10,20 +10,20 @@ use crate::error::ServeError;
 pub enum Status {
     /// The input was served to its end.
     Good,
-    /// The input was refused, which is told in the answer.
+    /// The input was refused; the answer says so.
     Refused,
-    /// Memory was wanting, which is told by the line `no memory`.
+    /// Memory ran out; the line `no memory` says so.
     NoMemory,
     /// A read failed. The lines whose ends were read were answered.
     ReadFailed,
     /// A write failed. What was written stays.
     WriteFailed,
-    /// The input had 2^63 bytes or more, and no end was in sight.
+    /// The input had 2^63 bytes or more, with no end in sight.
     Endless,
 }
 
 impl Status {
-    /// The exit status of a program that ended so.
+    /// Returns the exit status of a program that ended so.
     pub fn exit_status(self) -> u8
         ensures { result ≡ exit_status self }
     {
@@ -36,7 +36,7 @@ impl Status {
     }
 }
 
-/// The status of a script, by how it was served.
+/// Returns the status of a script, given how it was served.
 pub fn status_of(served: &Result<Ending, ServeError>) -> Status
     ensures { result ≡ status_of served.now }
 {

@@ -6,14 +6,14 @@ ghost use Rattle.script.specs.Texts.{ring_text};
 use std::alloc::AllocError;
 use std::fmt::Write;
 
-/// Tells a fault of the line of this number, which ends the run.
+/// Appends the fault of the line of this number, which ends the run.
 pub fn say_fault(number: u64, name: &str, reply: &mut String) -> Result<(), AllocError>
     ensures { OnOk result (string_bytes reply.new ≡ string_bytes reply.old ++ fault_line number name.now) }
 {
     write!(reply, "line {number}: {name}\n")
 }
 
-/// Tells the size of a ring of `2^log2` slots that was made. `log2` is at most 19.
+/// Appends the size of the new ring of `2^log2` slots. `log2` is at most 19.
 pub fn say_ring(log2: u32, reply: &mut String) -> Result<(), AllocError>
     requires { log2 ≤ 19 }
     ensures { OnOk result (string_bytes reply.new ≡ string_bytes reply.old ++ ring_text log2) }

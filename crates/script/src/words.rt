@@ -1,11 +1,11 @@
-//! The words of a line, and the numbers that words say.
+//! Splitting a line into words, and parsing numbers.
 ghost use Rattle.std.specs.Prelude.{◌≡◌, ◌≢◌, ◌≤◌, [], ◌∷◌, length, slice_index, MatchOption, true};
 ghost use Rattle.std.specs.Char.{digit_value};
 ghost use Rattle.script.specs.Words.{words_of, number_in, number_of, is_hex};
 
 use memchr::memchr;
 
-/// The first word of a text, and the rest of the text after it.
+/// Returns the first word of a text and the rest after it, or None if there is no word.
 pub fn next_word(text: &[u8]) -> Option<(&[u8], &[u8])>
     ensures { MatchOption result (words_of text.now ≡ []) (λ found. words_of text.now ≡ found.0.now ∷ words_of found.1.now) }
 {
@@ -28,7 +28,7 @@ fn without_leading_spaces(text: &[u8]) -> &[u8]
     rest
 }
 
-/// The number that a word says: 1 to 20 decimal digits, or `0x` and 1 to 16 hexadecimal digits, below 2^64.
+/// Parses a number below 2^64: 1 to 20 decimal digits, or `0x` and 1 to 16 hexadecimal digits.
 pub fn number(word: &[u8]) -> Option<u64>
     ensures { result ≡ number_of word.now }
 {
@@ -46,7 +46,7 @@ fn is_hex(word: &[u8]) -> bool
     word.len() >= 2 && word[0] == b'0' && word[1] == b'x'
 }
 
-// The number that at most so many digits say.
+// Parses 1 to `most` digits as a number below 2^64.
 fn number_in(radix: u64, most: usize, digits: &[u8]) -> Option<u64>
     requires low { 2 ≤ radix }
     requires high { radix ≤ 36 }
@@ -66,7 +66,7 @@ fn number_in(radix: u64, most: usize, digits: &[u8]) -> Option<u64>
     Some(total)
 }
 
-// What a digit is worth, up to radix 36; any other byte is worth 36.
+// Returns the value of a digit, up to radix 36, or 36 for any other byte.
 fn digit(byte: u8) -> u64
     ensures { result ≡ digit_value byte }
 {
