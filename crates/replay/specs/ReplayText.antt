@@ -32,17 +32,17 @@ served number wanting (asks.Look sender) state = look_effect number sender state
 served number wanting (asks.Close sender) state = close_effect number sender state
 served number wanting asks.Dump state = dump_effect state
 
--- what a request does before that
+-- what a request does before the ring is made
 unfoldable pub first_served : ℕ → Request → Effect State
 first_served number asks.Nothing = record { text = []; state = None; goes_on = true }
 first_served number (asks.Ring shape) = ring_or_fault number shape (shape_fault shape)
 first_served number request = faults number (codes "no ring") None
 
--- Memory may be wanting for a fill of a new tag that there is room for. The events of each state are a run of the ring:
--- with some words the ring stands as after them, and nobody but its senders and its consumer took a step.
+-- Memory may run out at a fill of a new tag that there is room for. The events of each state are a run of the ring:
+-- with some words the ring stands as after them, and only its senders and its consumer took steps.
 abbrev pub replays : Kind State Request
 replays = record { nothing = asks.Nothing; named = named; first_served = first_served; served = served; holds = λ state. RunStands state.ring state.run }
 
--- The answer to a script. Where memory is never wanting the choice is [].
+-- The answer to a script. If memory never runs out the choice is [].
 abbrev pub answer_to : List Bool → List ℕ → Answer
 answer_to choice script = kinds.answer_to replays choice script

@@ -10,7 +10,7 @@ pub record Stepped (step : Step) (new : SimulatorValue) (answer : List ℕ) (may
   pub follows : step.may_follow ≡ may_follow
   pub after : Stands new step.state
 
--- What was appended is what the step says, at each state that `old` stands for.
+-- What was appended is what the step says, from each state that `old` stands for.
 pub record Steps (step : State → Step) (old new : SimulatorValue) (before after : List ℕ) (may_follow : Bool) : Type 0 where
   pub answer : List ℕ
   pub text : after ≡ before ++ answer

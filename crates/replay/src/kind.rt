@@ -13,7 +13,7 @@ use script::{First, ScriptKind};
 use simulator::{Shape, ShapeFault, Simulator};
 use std::alloc::{AllocError, Global};
 
-/// Makes a ring and its unit, where the numbers are in range.
+/// Makes a ring and its unit, if the numbers are in range.
 fn first_ring(alloc: Global, shape: &Shape) -> Result<First<Simulator>, AllocError>
     ensures { IfOk result (λ first. Begins Stands first (λ number. ring_or_fault number shape.now (shape_fault shape.now))) }
 {

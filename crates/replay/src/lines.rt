@@ -18,7 +18,7 @@ use simulator::Simulator;
 use std::alloc::AllocError;
 use unit_lines::{acknowledge, dump, steps};
 
-/// Serves a request, and says whether the run goes on.
+/// Serves a request, and returns whether the run goes on.
 #[tactic(auto, unfolding(crate::specs::ReplayText::served))]
 pub(crate) fn serve_made(
     simulator: &mut Simulator,

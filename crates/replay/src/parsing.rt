@@ -1,4 +1,4 @@
-//! From a line to what it asks for.
+//! Parsing a line into a request.
 ghost use Rattle.std.specs.Prelude.{◌≡◌, IfOk};
 ghost use Rattle.script.specs.Words.{words_of};
 ghost use Rattle.replay.specs.requests.Whole.{unit_line, sender_line, send_line, plain_line, named};
@@ -81,7 +81,7 @@ fn parse_plain_line(name: &[u8], rest: &[u8]) -> Option<Request>
     }
 }
 
-/// What a line asks for by its first word and the text after it. None is a bad line.
+/// Parses a line by its first word and the text after it. Returns `Ok(None)` for a bad line.
 #[tactic(auto, unfolding(crate::specs::requests::Whole::named))]
 pub(crate) fn parse_named(
     alloc: Global,

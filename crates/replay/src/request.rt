@@ -11,46 +11,46 @@ use std::marker::Model;
 /// What a line asks for.
 #[derive(Drop)]
 pub(crate) enum Request {
-    /// Nothing, as a comment or a line without words does.
+    /// Nothing: a comment or a line without words.
     Nothing,
-    /// That the ring, its senders and the unit are made.
+    /// Make the ring, its senders and the unit.
     Ring(Shape),
-    /// That an entry is put into the caches.
+    /// Put an entry into the caches.
     Fill { tag: Tag, value: u64 },
-    /// That the entry of a tag is taken out.
+    /// Remove the entry of a tag.
     Evict { tag: Tag },
-    /// What the entry of a tag is.
+    /// Tell the entry of a tag.
     Lookup { tag: Tag },
-    /// That a sender sends a batch, or reserves it alone.
+    /// Send a batch, or only reserve it.
     Send(Sending),
-    /// That a sender hands over what it reserved.
+    /// Publish what a sender reserved.
     Publish { sender: u32 },
-    /// That the unit takes commands, at most so many.
+    /// Let the unit take at most `count` commands.
     Step { count: u64 },
-    /// That software acknowledges an error stop with this SMMU_GERRORN.
+    /// Acknowledge an error stop, as software, with this SMMU_GERRORN.
     Acknowledge { gerrorn: u32, remedy: Remedy },
-    /// Up to which batch a sender's commands are done.
+    /// Tell up to which batch a sender's commands are done.
     Done { sender: u32 },
-    /// What a sender sees of the ring.
+    /// Tell what a sender sees of the ring.
     Look { sender: u32 },
-    /// That a sender closes the ring.
+    /// Close the ring, as a sender.
     Close { sender: u32 },
-    /// The registers, the totals and the entries.
+    /// Tell the registers, the totals and the entries.
     Dump,
 }
 
-/// A batch that a sender is to send, or to reserve alone.
+/// A batch for a sender to send, or only to reserve.
 #[derive(Drop)]
 pub(crate) struct Sending {
     pub sender: u32,
     pub content: Content,
-    /// Whether a CMD_SYNC of the ring's own closes it.
+    /// Whether the ring's own CMD_SYNC closes it.
     pub closes: bool,
-    /// Whether it is handed over at once.
+    /// Whether it is published at once.
     pub publishes: bool,
 }
 
-/// The commands of a batch, ahead of its closing CMD_SYNC.
+/// The commands of a batch, without its closing CMD_SYNC.
 #[derive(Drop)]
 pub(crate) enum Content {
     /// Those of the line, legal or not.
@@ -87,7 +87,7 @@ impl Body {
         Body { raws }
     }
 
-    /// The commands, in order.
+    /// Returns the commands, in order.
     pub(crate) fn as_slice(&self) -> &[Raw]
         ensures { result.now ≡ self.now }
     {

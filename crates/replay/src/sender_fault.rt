@@ -6,12 +6,12 @@ ghost use Rattle.replay.specs.effects.SenderFaults.{sender_label, settled_fault,
 
 use simulator::Simulator;
 
-/// Why a line of a sender ends the run. The first that applies is told.
+/// Why a line of a sender ends the run: the first fault that applies.
 #[derive(Clone, Copy, Debug, PartialEq, Eq)]
 pub(crate) enum SenderFault {
     /// The ring has no sender of this number.
     NoSender,
-    /// The sender has a reservation that isn't handed over.
+    /// The sender has a reservation that isn't published.
     HasOpen,
     /// The sender has no such reservation.
     HasNoneOpen,
@@ -29,7 +29,7 @@ impl SenderFault {
     }
 }
 
-/// What is wrong with a line for which a sender may have no open reservation, if something is.
+/// The fault of a line that needs a sender without an open reservation, if any.
 pub(crate) fn settled_fault(simulator: &Simulator, sender: u32) -> Option<SenderFault>
     ensures told { Tells simulator.now (λ state. result ≡ settled_fault sender state) }
     ensures there { result ≡ None → sender < (ring_in simulator.now.queue).senders }
@@ -44,7 +44,7 @@ pub(crate) fn settled_fault(simulator: &Simulator, sender: u32) -> Option<Sender
     }
 }
 
-/// What is wrong with a line for which a sender has an open reservation, if something is.
+/// The fault of a line that needs a sender with an open reservation, if any.
 pub(crate) fn reserved_fault(simulator: &Simulator, sender: u32) -> Option<SenderFault>
     ensures told { Tells simulator.now (λ state. result ≡ reserved_fault sender state) }
     ensures there { result ≡ None → sender < (ring_in simulator.now.queue).senders }

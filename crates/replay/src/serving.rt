@@ -13,8 +13,8 @@ use std::io::{Read, Write};
 
 /// Reads a script, serves its lines in order, and writes their answers.
 ///
-/// Each answer is written and flushed before the read that follows its line. A `write` may take any
-/// count from 1 on, and an interrupted call is made again.
+/// Each answer is written and flushed before the read that follows its line. A `write` may take any count from 1 on,
+/// and interrupted calls are retried.
 pub fn serve<R: Read, W: Write>(
     alloc: Global,
     input: &mut R,
@@ -25,8 +25,8 @@ pub fn serve<R: Read, W: Write>(
     serve_script::<Replay, R, W>(alloc, input, output)
 }
 
-/// Reads a script and writes its answers, the line `no memory` among them, and says how it went. Tells the line that ended
-/// the run too: none where no line did, or where there is no memory to keep it.
+/// Reads a script and writes its answers, the line `no memory` among them, and returns how it went. Also returns the
+/// line that ended the run, or None if no line did or there is no memory to keep it.
 pub fn replay_to_last_line<R: Read, W: Write>(
     alloc: Global,
     input: &mut R,
@@ -40,7 +40,7 @@ pub fn replay_to_last_line<R: Read, W: Write>(
     (status_of(&served), last)
 }
 
-/// Reads a script and writes its answers, the line `no memory` among them, and says how it went.
+/// Reads a script and writes its answers, the line `no memory` among them, and returns how it went.
 pub fn replay<R: Read, W: Write>(alloc: Global, input: &mut R, output: &mut W) -> Status
     ensures { Replays result (R.remaining input.old) (R.remaining input.new) (W.contents output.old) (W.contents output.new) }
 {

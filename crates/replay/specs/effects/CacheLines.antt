@@ -12,7 +12,7 @@ use Rattle.replay.specs.texts.CacheLines.{filled_text, evicted_text, found_text}
 use Rattle.replay.specs.texts.Refusals.{refused_text}
 use Rattle.replay.specs.effects.Answering.{tells}
 
--- of the entry of the tag that was held before, or why the new one isn't put in
+-- given the entry of the tag that was held before, or why the new one isn't put in
 abbrev pub fill_text : Result (Option Entry) CacheFault → List ℕ
 fill_text (Ok was) = filled_text was
 fill_text (Err fault) = refused_text (label_of fault)

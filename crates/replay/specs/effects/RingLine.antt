@@ -7,7 +7,7 @@ use Rattle.simulator.specs.declared.shape.ShapeFault.{ShapeFault}
 use Rattle.simulator.specs.Shapes.{shape_label}
 use Rattle.simulator.specs.State.{State, made}
 
--- by which of its numbers is out of range, if one is
+-- given which of its numbers is out of range, if one is
 abbrev pub ring_or_fault : ℕ → Shape → Option ShapeFault → Effect State
 ring_or_fault number shape (Some fault) = faults number (shape_label fault) None
 ring_or_fault number shape None = answers (ring_text shape.log2) (made shape)

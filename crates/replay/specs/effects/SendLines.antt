@@ -27,13 +27,13 @@ body_of (Commands raws) = unless (list_refusal raws) raws
 body_of (Range vmid asid page pages) = unless (range_refusal [] vmid asid page pages) (map encoding (range_commands vmid asid page pages))
 body_of (Detach sid) = Ok (map encoding (detach_commands sid))
 
--- What was reserved is handed over, where the line says so.
+-- What was reserved is published, if the line says so.
 abbrev pub reserved_effect : Sending → Reserved → State → Effect State
 reserved_effect sending told state =
     if sending.publishes then tells (sent_text sending.sender) (published_by sending.sender state)
     else answers (opened_text sending.sender told.number told.first.number) state
 
--- A refusal leaves a look behind, where one was taken.
+-- A refusal leaves a look behind, if one was taken.
 abbrev pub tried_effect : Sending → Result Reserved Cause → State → Effect State
 tried_effect sending (Ok told) state = reserved_effect sending told state
 tried_effect sending (Err cause) state = answers (refused_text (cause_label cause)) state

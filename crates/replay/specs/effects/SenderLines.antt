@@ -1,4 +1,4 @@
--- What the lines do by which a sender looks, closes and asks, and hands over what it reserved.
+-- What the lines do by which a sender looks, closes, asks, and publishes what it reserved.
 use Rattle.std.specs.Prelude.{ℕ, ⊤}
 use Rattle.script.specs.Effects.{Effect}
 use Rattle.simulator.specs.State.{State}

@@ -43,7 +43,7 @@ followed step rest =
     if step.may_follow then record { text = step.text ++ (rest step.state).text; state = (rest step.state).state; may_follow = (rest step.state).may_follow }
     else step
 
--- that many steps, fewer where one may not be followed
+-- `count` steps, but none after one that none may follow
 unfoldable pub steps_of : ℕ → State → Step
 steps_of zero state = record { text = []; state = state; may_follow = true }
 steps_of (suc count) state = followed (step_of state) (steps_of count)

@@ -6,12 +6,12 @@ use Rattle.replay.specs.declared.request.Content.TheVariants.{Commands, Range, D
 use Rattle.replay.specs.declared.request.Request.{Request}
 use Rattle.replay.specs.declared.request.Request.TheVariants.{Send}
 
--- a batch that a sender hands over at once, its closing CMD_SYNC with it
+-- a batch that a sender publishes at once, with its closing CMD_SYNC
 abbrev pub whole_batch : ℕ → Content → Request
 whole_batch sender content = Send (record { sender = sender; content = content; closes = true; publishes = true })
 
--- S HEX .., behind the word that says whether a closing CMD_SYNC follows and whether the batch is handed over at once:
--- `send` that both are so, `bare` the second alone, `open` the first alone, `openbare` neither
+-- S HEX .., given whether a closing CMD_SYNC follows and whether the batch is published at once: `send` is both, `bare`
+-- only the second, `open` only the first, `openbare` neither
 unfoldable pub commands_of : Bool → Bool → List (List ℕ) → Option Request
 commands_of closes publishes words = do
   sender ← next_below (2 ^ 32) words

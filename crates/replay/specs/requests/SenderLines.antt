@@ -1,4 +1,4 @@
--- What the lines ask for by which a sender hands over what it reserved, asks, looks and closes.
+-- What the lines ask for by which a sender publishes what it reserved, asks, looks and closes.
 use Rattle.std.specs.Prelude.{ℕ, List, Option, option_map}
 use Rattle.script.specs.Fields.{one_number}
 use Rattle.replay.specs.declared.request.Request.{Request}

@@ -1,4 +1,4 @@
--- What any line of a replay asks for that says something.
+-- What any line of a replay asks for that isn't a comment or empty.
 use Rattle.std.specs.Prelude.{ℕ, List, true, false, Option, None, codes, if◌then◌else◌}
 use Rattle.std.specs.Str.{bytes_eq}
 use Rattle.replay.specs.declared.request.Request.{Request}
@@ -16,7 +16,7 @@ unit_line name words =
     else if bytes_eq name (codes "dump") then dump_of words
     else None
 
--- a line by which a sender hands over what it reserved, asks, looks or closes, or else one of the unit
+-- a line by which a sender publishes what it reserved, asks, looks or closes, or else one of the unit
 unfoldable pub sender_line : List ℕ → List (List ℕ) → Option Request
 sender_line name words =
     if bytes_eq name (codes "publish") then publish_of words
@@ -25,7 +25,7 @@ sender_line name words =
     else if bytes_eq name (codes "close") then close_of words
     else unit_line name words
 
--- a line that sends what stands in no hexadecimal digits, or else another one of a sender or of the unit
+-- a line that sends a batch without hexadecimal digits, or else another one of a sender or of the unit
 unfoldable pub send_line : List ℕ → List (List ℕ) → Option Request
 send_line name words =
     if bytes_eq name (codes "inval") then inval_of words

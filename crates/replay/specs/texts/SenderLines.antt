@@ -17,6 +17,6 @@ done_text sender number = codes "done " ++ decimal sender ++ codes " up to " ++ 
 abbrev pub closed_text : List ℕ
 closed_text = codes "closed\n"
 
--- of a batch that was handed over after it was reserved alone
+-- of a batch that was published after it was only reserved
 abbrev pub published_text : ℕ → Option ℕ → List ℕ
 published_text sender number = codes "published " ++ decimal sender ++ number_text number ++ codes "\n"

@@ -13,7 +13,7 @@ use script::say_fault;
 use simulator::Simulator;
 use std::alloc::AllocError;
 
-/// The commands of a batch, or why they are refused.
+/// Returns the commands of a batch, or why they are refused.
 fn batch_of(content: &Content) -> Result<Batch, BatchFault>
     ensures { result ≡ body_of content.now }
 {
@@ -29,7 +29,7 @@ fn batch_of(content: &Content) -> Result<Batch, BatchFault>
     }
 }
 
-/// Sends a batch, which is handed over at once.
+/// Sends a batch and publishes it at once.
 fn send_now(
     simulator: &mut Simulator,
     sending: &Sending,
@@ -47,7 +47,7 @@ fn send_now(
     }
 }
 
-/// Reserves a batch, which stays open.
+/// Reserves a batch and leaves it open.
 fn open(
     simulator: &mut Simulator,
     sending: &Sending,
@@ -65,7 +65,7 @@ fn open(
     }
 }
 
-/// Sends what the line says, or reserves it alone.
+/// Sends what the line says, or only reserves it.
 fn send_content(
     simulator: &mut Simulator,
     sending: &Sending,
@@ -76,7 +76,7 @@ fn send_content(
     ensures { OnOk result (Acts Stands (λ wanting. body_effect sending.now (body_of sending.now.content)) simulator.old simulator.new (string_bytes reply.old) (string_bytes reply.new) true) }
 {
     match &sending.content {
-        // So no batch is made, and no command is copied but into its slot.
+        // Makes no batch: each command is copied only into its slot.
         Content::Commands(body) if sending.publishes => {
             match BorrowedBatch::new(body.as_slice()) {
                 Ok(batch) => send_now(simulator, sending, batch, reply),

@@ -1,4 +1,4 @@
-//! The lines by which a sender looks, closes and asks, and hands over what it reserved.
+//! The lines by which a sender looks, closes, asks, and publishes what it reserved.
 ghost use Rattle.std.specs.Prelude.{◌≡◌, IfOk, string_bytes};
 ghost use Rattle.script.specs.Standing.{Acts};
 ghost use Rattle.simulator.specs.Standing.{Stands};

@@ -17,7 +17,7 @@ fn completes(answer: &StepAnswer) -> bool
     matches!(answer, StepAnswer::Applied { .. } | StepAnswer::Replaced(_))
 }
 
-/// Takes one command at most, and says whether another step may follow.
+/// Takes at most one command, and returns whether another step may follow.
 fn step(simulator: &mut Simulator, reply: &mut String) -> Result<bool, AllocError>
     ensures { IfOk result (λ may_follow. Steps step_of simulator.old simulator.new (string_bytes reply.old) (string_bytes reply.new) may_follow) }
 {
@@ -26,7 +26,7 @@ fn step(simulator: &mut Simulator, reply: &mut String) -> Result<bool, AllocErro
     Ok(completes(&answer))
 }
 
-/// Takes that many steps, fewer where one may not be followed.
+/// Takes `count` steps, but stops after one that none may follow.
 pub(super) fn steps(
     simulator: &mut Simulator,
     count: u64,

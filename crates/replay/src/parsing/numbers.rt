@@ -53,7 +53,7 @@ pub(super) fn next_page(text: &[u8]) -> Option<(Page, &[u8])>
     Some((page, rest))
 }
 
-/// Whose a stage 1 translation is: that of all address spaces, `g`, or that of one.
+/// Parses the scope of a translation: `g` for all address spaces, or one ASID.
 #[tactic(auto, unfolding(crate::specs::requests::Numbers::scope_of, script::specs::Fields::next_below_or))]
 pub(super) fn next_scope(text: &[u8]) -> Option<(Scope, &[u8])>
     ensures { option_map (λ found. (found.0, words_of found.1.now)) result ≡ scope_of (words_of text.now) }
@@ -68,7 +68,7 @@ pub(super) fn next_scope(text: &[u8]) -> Option<(Scope, &[u8])>
     Some((Scope::Of(asid), rest))
 }
 
-/// A substream, or none, `-`.
+/// Parses a substream: `-` for none, or its number.
 #[tactic(auto, unfolding(crate::specs::requests::Numbers::substream_of, script::specs::Fields::next_below_or))]
 pub(super) fn next_substream(text: &[u8]) -> Option<(Option<Ssid>, &[u8])>
     ensures { option_map (λ found. (found.0, words_of found.1.now)) result ≡ substream_of (words_of text.now) }

@@ -9,7 +9,7 @@ use crate::request::{Body, Content, Request, Sending};
 use script::{is_end, next_u32, next_u64, next_word, raw};
 use std::alloc::{AllocError, Global};
 
-/// The commands that the words of a text say, if each word is one.
+/// Parses the words of a text as commands. Returns `Ok(None)` if a word is none.
 fn parse_body(alloc: Global, text: &[u8]) -> Result<Option<Body>, AllocError>
     ensures { IfOk result (λ body. body ≡ raws_of (words_of text.now)) }
 {
@@ -48,7 +48,7 @@ pub(super) fn parse_commands(
     })))
 }
 
-// What a line asks for that sends a whole batch.
+// The request to send a whole batch.
 fn whole_batch(sender: u32, content: Content) -> Request
     ensures { result ≡ whole_batch sender content }
 {

@@ -1,4 +1,4 @@
-//! The lines by which a sender hands over what it reserved, asks, looks and closes.
+//! The lines by which a sender publishes what it reserved, asks, looks and closes.
 ghost use Rattle.std.specs.Prelude.{◌≡◌};
 ghost use Rattle.script.specs.Words.{words_of};
 ghost use Rattle.replay.specs.requests.SenderLines.{publish_of, done_of, look_of, close_of};

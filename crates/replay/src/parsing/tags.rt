@@ -104,7 +104,7 @@ fn next_atc(text: &[u8]) -> Option<(Tag, &[u8])>
     Some((tag, rest))
 }
 
-/// A tag, and the rest of the text after it.
+/// Parses a tag, and returns it with the rest of the text.
 #[tactic(auto, unfolding(crate::specs::requests::Tags::tag_of))]
 pub(super) fn next_tag(text: &[u8]) -> Option<(Tag, &[u8])>
     ensures { option_map (λ found. (found.0, words_of found.1.now)) result ≡ tag_of (words_of text.now) }

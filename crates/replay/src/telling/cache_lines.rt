@@ -1,4 +1,4 @@
-//! The texts of what the lines of the caches answer.
+//! The answers to the lines of the caches.
 ghost use Rattle.std.specs.Prelude.{◌≡◌, ◌++◌, OnOk, string_bytes};
 ghost use Rattle.replay.specs.texts.CacheLines.{filled_text, evicted_text, found_text};
 
@@ -6,7 +6,7 @@ use super::entries::say_value;
 use caches::Entry;
 use std::alloc::AllocError;
 
-/// Tells of a fill, by the entry of the tag that was held before.
+/// Appends the answer to a fill, given the entry that the tag had before.
 pub(crate) fn say_filled(was: Option<Entry>, reply: &mut String) -> Result<(), AllocError>
     ensures { OnOk result (string_bytes reply.new ≡ string_bytes reply.old ++ filled_text was) }
 {
@@ -16,7 +16,7 @@ pub(crate) fn say_filled(was: Option<Entry>, reply: &mut String) -> Result<(), A
     }
 }
 
-/// Tells of an eviction, by the entry that was held.
+/// Appends the answer to an eviction, given the entry that was held.
 pub(crate) fn say_evicted(was: Option<Entry>, reply: &mut String) -> Result<(), AllocError>
     ensures { OnOk result (string_bytes reply.new ≡ string_bytes reply.old ++ evicted_text was) }
 {
@@ -26,7 +26,7 @@ pub(crate) fn say_evicted(was: Option<Entry>, reply: &mut String) -> Result<(), 
     }
 }
 
-/// Tells of a lookup, by the entry that is held.
+/// Appends the answer to a lookup, given the entry that is held.
 pub(crate) fn say_found(found: Option<Entry>, reply: &mut String) -> Result<(), AllocError>
     ensures { OnOk result (string_bytes reply.new ≡ string_bytes reply.old ++ found_text found) }
 {

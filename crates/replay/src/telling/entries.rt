@@ -70,7 +70,7 @@ fn say_tag(tag: &Tag, reply: &mut String) -> Result<(), AllocError>
     }
 }
 
-/// The value of an entry, behind what is told of it.
+/// Appends a name and the value of an entry.
 pub(super) fn say_value(name: &str, entry: &Entry, reply: &mut String) -> Result<(), AllocError>
     ensures { OnOk result (string_bytes reply.new ≡ string_bytes reply.old ++ (name.now ++ value_text entry.now)) }
 {
@@ -78,7 +78,7 @@ pub(super) fn say_value(name: &str, entry: &Entry, reply: &mut String) -> Result
     write!(reply, "{name} value={value} born={born}\n")
 }
 
-/// Tells an entry on a line of a dump.
+/// Appends an entry as a line of a dump.
 pub(crate) fn say_entry(entry: &Entry, reply: &mut String) -> Result<(), AllocError>
     ensures { OnOk result (string_bytes reply.new ≡ string_bytes reply.old ++ entry_line entry.now) }
 {

@@ -1,4 +1,4 @@
-//! The texts of what the lines that send answer. A batch without a closing CMD_SYNC has no number.
+//! The answers to the lines that send. A batch without a closing CMD_SYNC has no number.
 ghost use Rattle.std.specs.Prelude.{◌≡◌, ◌++◌, OnOk, string_bytes};
 ghost use Rattle.replay.specs.texts.SendLines.{sent_text, opened_text};
 
@@ -6,7 +6,7 @@ use qindex::Index;
 use std::alloc::AllocError;
 use std::fmt::Write;
 
-/// Tells of a batch that was reserved and handed over.
+/// Appends the answer for a batch that was reserved and published.
 pub(crate) fn say_sent(
     sender: u32,
     number: Option<u32>,
@@ -20,7 +20,7 @@ pub(crate) fn say_sent(
     }
 }
 
-/// Tells of a batch that was reserved alone, from this index on.
+/// Appends the answer for a batch that was only reserved, with the index of its first slot.
 pub(crate) fn say_opened(
     sender: u32,
     number: Option<u32>,

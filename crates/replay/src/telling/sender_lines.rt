@@ -1,4 +1,4 @@
-//! The texts of what the lines of a sender answer.
+//! The answers to the lines of a sender.
 ghost use Rattle.std.specs.Prelude.{◌≡◌, ◌++◌, OnOk, string_bytes};
 ghost use Rattle.replay.specs.texts.SenderLines.{control_text, done_text, closed_text, published_text};
 
@@ -6,7 +6,7 @@ use qindex::Control;
 use std::alloc::AllocError;
 use std::fmt::Write;
 
-/// Tells what the control word says.
+/// Appends what the control word says.
 pub(crate) fn say_control(control: &Control, reply: &mut String) -> Result<(), AllocError>
     ensures { OnOk result (string_bytes reply.new ≡ string_bytes reply.old ++ control_text control.now) }
 {
@@ -18,21 +18,21 @@ pub(crate) fn say_control(control: &Control, reply: &mut String) -> Result<(), A
     }
 }
 
-/// Tells up to which number a sender's batches are done.
+/// Appends the number up to which a sender's batches are done.
 pub(crate) fn say_done(sender: u32, number: u32, reply: &mut String) -> Result<(), AllocError>
     ensures { OnOk result (string_bytes reply.new ≡ string_bytes reply.old ++ done_text sender number) }
 {
     write!(reply, "done {sender} up to {number}\n")
 }
 
-/// Tells that the ring is closed.
+/// Appends that the ring is closed.
 pub(crate) fn say_closed(reply: &mut String) -> Result<(), AllocError>
     ensures { OnOk result (string_bytes reply.new ≡ string_bytes reply.old ++ closed_text) }
 {
     reply.push_str("closed\n")
 }
 
-/// Tells of a batch that was handed over after it was reserved alone.
+/// Appends the answer for a batch that was published after it was only reserved.
 pub(crate) fn say_published(
     sender: u32,
     number: Option<u32>,

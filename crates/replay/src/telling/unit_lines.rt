@@ -1,4 +1,4 @@
-//! The texts of what the lines of the unit answer.
+//! The answers to the lines of the unit.
 ghost use Rattle.std.specs.Prelude.{◌≡◌, ◌++◌, OnOk, flat_map, string_bytes};
 ghost use Rattle.replay.specs.texts.Entries.{entry_line};
 ghost use Rattle.replay.specs.texts.UnitLines.{step_text, acknowledged_text, register_line, errors_line, registers_text, totals_line, dump_text};
@@ -9,7 +9,7 @@ use engine::{Counts, Registers, StepAnswer};
 use std::alloc::AllocError;
 use std::fmt::Write;
 
-/// Tells what a step did.
+/// Appends what a step did.
 pub(crate) fn say_step(answer: &StepAnswer, reply: &mut String) -> Result<(), AllocError>
     ensures { OnOk result (string_bytes reply.new ≡ string_bytes reply.old ++ step_text answer.now) }
 {
@@ -33,7 +33,7 @@ pub(crate) fn say_step(answer: &StepAnswer, reply: &mut String) -> Result<(), Al
     }
 }
 
-/// Tells of an acknowledgement that wasn't refused.
+/// Appends the answer to an acknowledgement that wasn't refused.
 pub(crate) fn say_acknowledged(reply: &mut String) -> Result<(), AllocError>
     ensures { OnOk result (string_bytes reply.new ≡ string_bytes reply.old ++ acknowledged_text) }
 {
@@ -79,7 +79,7 @@ fn say_entries(entries: &[Entry], reply: &mut String) -> Result<(), AllocError>
     Ok(())
 }
 
-/// Tells the registers, the totals, and the entries in the order that they stand in.
+/// Appends the registers, the totals, and the entries in the order given.
 pub(crate) fn say_dump(
     registers: &Registers,
     counts: &Counts,
