@@ -24,19 +24,19 @@ three_numbers words = do
   others ← two_numbers first.1
   Some (first.0, others.0, others.1)
 
--- COUNT, 1 to 64, where the line has one, and no more words
+-- COUNT, 1 to 64, for a line that has one, and no more words
 unfoldable pub given_count : List (List ℕ) → Option ℕ
 given_count words = do
   count ← one_number words
   guard (nat_le 1 count && nat_le count 64) count
 
--- COUNT, which is 1 where the line has none, and whether the line has one
+-- COUNT, or 1 if the line has none, and whether the line has one
 unfoldable pub count_of : List (List ℕ) → Option (ℕ × Bool)
 count_of words = if is_end words then Some (1, false) else option_map (λ count. (count, true)) (given_count words)
 
 -- ---- commands
 
--- The first 64 are handed in, which are too many all the same.
+-- Only the first 64 are handed in; they are too many anyway.
 abbrev pub body_of : List (List ℕ) → Option (ArrayVec Raw)
 body_of words = option_map (λ raws. record { items = take 64 raws }) (raws_of words)
 
@@ -56,7 +56,7 @@ look_of [] = None
 look_of (who ∷ words) =
     if bytes_eq who (codes "c") then guard (is_end words) (asks.Step (steps.Look None) false) else look_of_sender (who ∷ words)
 
--- `reserve S HEX ..`, which closes its batch, or `bare S HEX ..`, which doesn't
+-- `reserve S HEX ..`, whose batch has a closing sync, or `bare S HEX ..`, whose batch has none
 unfoldable pub reserve_of : Bool → List (List ℕ) → Option Request
 reserve_of closes words = do
   sender ← next_below (2 ^ 32) words
@@ -102,7 +102,7 @@ ack_of words = option_map (λ numbers. asks.Step (steps.Acknowledge numbers.0 nu
 unfoldable pub ask_of : List (List ℕ) → Option Request
 ask_of words = option_map (λ sender. asks.Step (steps.Ask sender) false) (one_number words)
 
--- a line of the consumer's, by its first word
+-- a line of the consumer, by its first word
 unfoldable pub consumer_line : List ℕ → List (List ℕ) → Option Request
 consumer_line name words =
     if bytes_eq name (codes "test") then test_of words
@@ -111,7 +111,7 @@ consumer_line name words =
     else if bytes_eq name (codes "ack") then ack_of words
     else None
 
--- a line of a sender's, or else of the consumer's
+-- a line of a sender, or else of the consumer
 unfoldable pub sender_line : List ℕ → List (List ℕ) → Option Request
 sender_line name words =
     if bytes_eq name (codes "write") then write_of words

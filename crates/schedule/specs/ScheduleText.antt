@@ -21,7 +21,7 @@ use Rattle.schedule.specs.Lines.{named}
 use Rattle.schedule.specs.Steps.{step_of}
 use Rattle.schedule.specs.Texts.{answer_line}
 
--- how things stand once the ring is made: the ring, and what happened to it so far
+-- the state once the ring is made: the ring, and what happened to it so far
 pub record State : Type 0 where
   pub ring : Ring
   pub run : Run
@@ -32,14 +32,14 @@ pub record State : Type 0 where
 abbrev pub made : ℕ → ℕ → State
 made log2 senders = record { ring = ring_with log2 senders; run = [] }
 
--- by which of its numbers is out of range, if one is
+-- given which of its numbers is out of range, if one is
 abbrev pub ring_or_fault : ℕ → ℕ → ℕ → Option RingFault → Effect State
 ring_or_fault number log2 senders (Some fault) = faults number (fault_label fault) None
 ring_or_fault number log2 senders None = answers (ring_text log2) (made log2 senders)
 
 -- ---- steps
 
--- how things stand once the step is taken
+-- the state after the step
 abbrev pub taken : State → Step → State
 taken state step = record { ring = state.ring; run = event_of state.ring state.run step ∷ state.run }
 
@@ -59,13 +59,13 @@ served number asks.Nothing state = answers [] state
 served number (asks.Ring log2 senders) state = faults number (codes "second ring") (Some state)
 served number (asks.Step asked is_counted) state = step_effect number (step_of asked) is_counted state
 
--- what a request does before that
+-- what a request does before the ring is made
 unfoldable pub first_served : ℕ → Request → Effect State
 first_served number asks.Nothing = record { text = []; state = None; goes_on = true }
 first_served number (asks.Ring log2 senders) = ring_or_fault number log2 senders (core_fault log2 senders)
 first_served number (asks.Step asked is_counted) = faults number (codes "no ring") None
 
--- A schedule's requests don't look at whether memory runs out, so that a script has one answer.
+-- A schedule's requests ignore whether memory runs out, so a script has one answer.
 abbrev pub schedules : Kind State Request
 schedules = record { nothing = asks.Nothing; named = named; first_served = first_served; served = λ number wanting. served number; holds = λ state. ⊤ }
 

@@ -12,7 +12,7 @@ abbrev pub control_text : Control → List ℕ
 control_text control =
     decimal control.prod.number ++ codes " " ++ decimal control.cons.number ++ (if control.closed then codes " closed" else codes " open")
 
--- so many flags as digits, that of bit 0 first
+-- `count` flags as digits, that of bit 0 first
 abbrev pub flags_text : ℕ → ℕ → List ℕ
 flags_text zero flags = []
 flags_text (suc count) flags = decimal (flags % 2) ++ flags_text count (flags / 2)
@@ -25,7 +25,7 @@ abbrev pub ready_text : Bool → ℕ → List ℕ
 ready_text is_counted zero = codes "not ready"
 ready_text is_counted (suc more) = if is_counted then codes "ready " ++ decimal (suc more) else codes "ready"
 
--- what the control word in a step's answer is
+-- the name of the control word in a step's answer
 abbrev pub word_name : Step → List ℕ
 word_name (steps.Advance count) = codes "advanced "
 word_name (steps.Close sender) = codes "closed "
@@ -36,7 +36,7 @@ abbrev pub flags_of : Step → ℕ
 flags_of (steps.Flip sender slot count) = count
 flags_of step = 0
 
--- of what a step with such a word and so many flags was answered
+-- what a step with such a word name and so many flags saw
 abbrev pub seen_text : List ℕ → ℕ → Bool → Seen → List ℕ
 seen_text name flags is_counted (Word control) = name ++ control_text control
 seen_text name flags is_counted (Reserved first number) = codes "reserved " ++ decimal first.number ++ number_text number
@@ -48,6 +48,6 @@ seen_text name flags is_counted (Half word) = codes "word 0x" ++ digits 16 false
 seen_text name flags is_counted Acknowledged = codes "acknowledged"
 seen_text name flags is_counted (Done number) = codes "done " ++ decimal number
 
--- the line that answers a step, with a COUNT in its own line or without
+-- the line that answers a step; `is_counted` says whether its own line has a COUNT
 abbrev pub answer_line : Step → Bool → Seen → List ℕ
 answer_line step is_counted seen = seen_text (word_name step) (flags_of step) is_counted seen ++ codes "\n"

@@ -5,7 +5,7 @@ use cmdcodec::{Raw, RawList};
 use std::alloc::{AllocError, Global};
 use std::marker::Model;
 
-/// The commands that a line reserves, apart from it: so a request is small, whatever it asks for.
+/// The commands that a line reserves, boxed, so that every request is small.
 #[derive(Debug, Drop)]
 pub struct Body {
     commands: Box<RawList>,
@@ -21,7 +21,7 @@ impl Model for Body {
 }
 
 impl Body {
-    /// A body of these commands.
+    /// Returns a body of these commands.
     ///
     /// Errors: out of memory.
     pub(crate) fn new(alloc: Global, commands: RawList) -> Result<Body, AllocError>
@@ -32,7 +32,7 @@ impl Body {
         })
     }
 
-    /// The commands, in order.
+    /// Returns the commands, in order.
     pub fn commands(&self) -> &[Raw]
         ensures { result.now ≡ self.now.items }
     {

@@ -13,7 +13,7 @@ use ringcore::{Core, CoreFault, Seen, StepFault};
 use script::{First, ScriptKind, say_fault};
 use std::alloc::{AllocError, Global};
 
-/// Makes a ring, where its numbers are in range.
+/// Makes a ring, if its numbers are in range.
 fn first_ring(alloc: Global, log2: u32, senders: u32) -> Result<First<Core>, AllocError>
     ensures { IfOk result (λ first. Begins Stands first (λ number. ring_or_fault number log2 senders (core_fault log2 senders))) }
 {
@@ -50,7 +50,7 @@ fn take(core: &mut Core, asked: &Asked) -> Result<Seen, StepFault>
     }
 }
 
-/// Serves a step, and says whether the run goes on.
+/// Serves a step, and returns whether the run goes on.
 fn serve_step(
     core: &mut Core,
     number: u64,

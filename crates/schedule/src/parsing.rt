@@ -1,4 +1,4 @@
-//! From a line to what it asks for.
+//! Parsing a line into a request.
 ghost use Rattle.std.specs.Prelude.{◌≡◌, ◌≤◌, false, [], ◌∷◌, ◌++◌, length, take, option_map, IfOk};
 ghost use Rattle.script.specs.Words.{words_of};
 ghost use Rattle.schedule.specs.Lines.{two_numbers, three_numbers, given_count, count_of, body_of, ring_of, look_of_sender, look_of, reserve_of, write_of, flip_of, test_of, read_of, advance_of, close_of, ack_of, ask_of, consumer_line, sender_line, plain_line, named};
@@ -14,7 +14,7 @@ use std::alloc::{AllocError, Global};
 /// The most flags that one step goes over.
 const MOST_FLAGS: u32 = 64;
 
-/// What a line without a COUNT asks for.
+/// The request of a line without a COUNT.
 fn step(asked: Asked) -> Request
     ensures { result ≡ Request.Step asked false }
 {
@@ -53,7 +53,7 @@ fn given_count(text: &[u8]) -> Option<u32>
     }
 }
 
-/// The count of a line, which is 1 where it has none, and whether it has one.
+/// Parses a line's COUNT, or 1 if it has none, and returns whether it has one.
 #[tactic(auto, unfolding(crate::specs::Lines::count_of))]
 fn parse_count(text: &[u8]) -> Option<(u32, bool)>
     ensures { result ≡ count_of (words_of text.now) }
@@ -64,7 +64,7 @@ fn parse_count(text: &[u8]) -> Option<(u32, bool)>
     Some((given_count(text)?, true))
 }
 
-// Adds a command, where there are fewer than 64.
+// Adds a command, unless there are 64 already.
 fn hand_in(body: &mut RawList, raw: Raw)
     ensures items { body.new.items ≡ take 64 (body.old.items ++ raw ∷ []) }
     ensures fits { length body.new.items ≤ 64 }
@@ -75,7 +75,7 @@ fn hand_in(body: &mut RawList, raw: Raw)
     body.push(raw);
 }
 
-/// The first 64 commands that the words of a text say, if each word is one.
+/// Parses the words of a text as commands, and returns the first 64. Returns None if a word is none.
 fn parse_body(text: &[u8]) -> Option<RawList>
     ensures { result ≡ body_of (words_of text.now) }
 {
@@ -260,7 +260,7 @@ fn parse_plain_line(name: &[u8], rest: &[u8]) -> Option<Request>
     }
 }
 
-/// What a line asks for by its first word and the text after it. None is a bad line.
+/// Parses a line by its first word and the text after it. Returns `Ok(None)` for a bad line.
 #[tactic(auto, unfolding(crate::specs::Lines::named))]
 pub(crate) fn parse_named(
     alloc: Global,
@@ -278,7 +278,7 @@ pub(crate) fn parse_named(
     }
 }
 
-/// What a line asks for. None is a bad line.
+/// Parses a line. Returns `Ok(None)` for a bad line.
 ///
 /// Errors: out of memory for the commands of a line that reserves.
 pub fn parse(alloc: Global, line: &[u8]) -> Result<Option<Request>, AllocError>

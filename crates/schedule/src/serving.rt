@@ -11,7 +11,7 @@ use script::{Ending, LastLine, ServeError, Status, serve_to_last_line, status_of
 use std::alloc::Global;
 use std::io::{Read, Write};
 
-/// Plays a script as `serve` does. Tells the line that ended the run too.
+/// Plays a script as `serve` does. Also returns the line that ended the run.
 fn play<R: Read, W: Write>(
     alloc: Global,
     input: &mut R,
@@ -26,8 +26,8 @@ fn play<R: Read, W: Write>(
 
 /// Reads a script, plays its lines in order, and writes their answers.
 ///
-/// Each answer is written and flushed before the read that follows its line. A `write` may take any
-/// count from 1 on, and an interrupted call is made again.
+/// Each answer is written and flushed before the read that follows its line. A `write` may take any count from 1 on,
+/// and interrupted calls are retried.
 pub fn serve<R: Read, W: Write>(
     alloc: Global,
     input: &mut R,
@@ -38,9 +38,8 @@ pub fn serve<R: Read, W: Write>(
     play(alloc, input, output).0
 }
 
-/// Reads a script, plays it as a schedule of a ring's steps, and writes its answers, the line `no memory`
-/// among them. Says how it went. Tells the line that ended the run too: none where no line did, or where there is no memory to
-/// keep it.
+/// Reads a script, plays it as a schedule of a ring's steps, and writes its answers, the line `no memory` among them.
+/// Returns how it went, and the line that ended the run, or None if no line did or there is no memory to keep it.
 pub fn schedule_to_last_line<R: Read, W: Write>(
     alloc: Global,
     input: &mut R,
@@ -54,8 +53,8 @@ pub fn schedule_to_last_line<R: Read, W: Write>(
     (status_of(&served), last)
 }
 
-/// Reads a script, plays it as a schedule of a ring's steps, and writes its answers, the line `no memory`
-/// among them. Says how it went.
+/// Reads a script, plays it as a schedule of a ring's steps, and writes its answers, the line `no memory` among them.
+/// Returns how it went.
 pub fn schedule<R: Read, W: Write>(alloc: Global, input: &mut R, output: &mut W) -> Status
     ensures { Schedules result (R.remaining input.old) (R.remaining input.new) (W.contents output.old) (W.contents output.new) }
 {

@@ -1,4 +1,4 @@
-//! The texts that the steps of a schedule are answered with.
+//! The answers to the steps of a schedule.
 ghost use Rattle.std.specs.Prelude.{◌≡◌, ◌++◌, OnOk, codes, decimal, string_bytes};
 ghost use Rattle.ringcore.specs.machine.FaultNames.{label_of};
 ghost use Rattle.script.specs.Outcome.{fault_line};
@@ -56,7 +56,7 @@ fn say_ready(is_counted: bool, found: u32, reply: &mut String) -> Result<(), All
     }
 }
 
-/// What the control word in the answer to a step is.
+/// The name of the control word in the answer to a step.
 fn word_name(asked: &Asked) -> &'static str
     ensures { result.now ≡ word_name (step_of asked.now) }
 {
@@ -108,7 +108,7 @@ fn say_seen(
     }
 }
 
-/// Tells what a step was answered, on a line of its own.
+/// Appends what a step was answered, as a line.
 pub(crate) fn say_answer(
     asked: &Asked,
     is_counted: bool,
@@ -121,7 +121,7 @@ pub(crate) fn say_answer(
     reply.push_str("\n")
 }
 
-/// Tells the fault of a step, which ends the run.
+/// Appends the fault of a step, which ends the run.
 pub(crate) fn say_step_fault(
     number: u64,
     fault: StepFault,
