@@ -12,8 +12,8 @@ use Rattle.simulator.specs.State.{State, Answered, entries, taken_so_far}
 abbrev pub with_item : Item → State → State
 with_item item state = record state { history = item ∷ state.history }
 
--- Why an entry isn't put in: its block isn't well formed; or its tag is new, and there is no room for it, or memory is
--- wanting.
+-- Why an entry isn't put in: its block isn't well formed; or its tag is new, and there is no room for it, or memory
+-- runs out.
 abbrev pub fill_fault : Bool → Tag → State → Option CacheFault
 fill_fault wanting tag state =
     if not (is_block tag) then Some BadBlock
@@ -22,7 +22,7 @@ fill_fault wanting tag state =
     else if wanting then Some NoMemory
     else None
 
--- The one of its tag that was held before is told. It is born after the commands that were taken so far.
+-- The answer is the entry of its tag that was held before. The new one is born after the commands taken so far.
 abbrev pub filled_unless : Option CacheFault → Tag → ℕ → State → Answered (Result (Option Entry) CacheFault)
 filled_unless (Some fault) tag value state = record { answer = Err fault; state = state }
 filled_unless None tag value state = record {

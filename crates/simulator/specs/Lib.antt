@@ -1,4 +1,4 @@
--- The queue and the caches by their histories: what each call answers, and how things stand after it.
+-- The queue and the caches by their histories: what each call answers, and the state after it.
 pub mod Shapes
 pub mod queue
 pub mod Blocks

@@ -24,7 +24,7 @@ asked s state =
     let number = (world state.run).acknowledged s in
     record { answer = number; state = with_run state ((Sender s, Ask number) ∷ state.run) }
 
--- a batch of this body, which closes with a CMD_SYNC or doesn't
+-- a batch of this body, closed with a CMD_SYNC or not
 abbrev pub reserved : ℕ → List Raw → Bool → State → Answered (Result Reserved Cause)
 reserved s body closes state =
     let tried = try_to_reserve state.ring s body closes state.run in
@@ -34,6 +34,6 @@ reserved s body closes state =
 abbrev pub published_by : ℕ → State → Answered (Option ℕ)
 published_by s state = record { answer = reserved_number (mine s state); state = with_run state (published state.ring.geometry s state.run) }
 
--- a batch of this body, which is handed over at once
+-- a batch of this body, which is published at once
 abbrev pub sent : ℕ → List Raw → Bool → State → Answered (Result (Option ℕ) Cause)
 sent s body closes state = let done = sent_by state.ring s body closes state.run in record { answer = done.answer; state = with_run state done.run }

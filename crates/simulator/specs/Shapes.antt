@@ -20,7 +20,7 @@ first_fault None capacity = if not (nat_le 1 capacity && nat_le capacity most_en
 abbrev pub shape_fault : Shape → Option ShapeFault
 shape_fault shape = first_fault (number_fault shape.log2 shape.senders shape.max_batches) shape.capacity
 
--- Nothing is made for that fault, or where there is none because memory ran out.
+-- Nothing is made for that fault, or, if there is none, because memory ran out.
 abbrev pub IsNotMade : Option ShapeFault → ShapeFault → Type 0
 IsNotMade numbers (Ring (Memory error)) = numbers ≡ None
 IsNotMade numbers fault = numbers ≡ Some fault

@@ -25,12 +25,12 @@ Stands simulator state = StandFor simulator.queue.keeper simulator.unit state
 
 -- ---- what always holds
 
--- what is left of the consumer between two calls, which is there
+-- what is left of the consumer between two calls: it is there
 abbrev pub IsThere : KeeperValue → Option (IdleConsumerValue UnitValue) → Type 0
 IsThere keeper None = ⊥
 IsThere keeper (Some idle) = IsIdleConsumer keeper idle.head idle.taken
 
--- The unit has taken what the consumer has, and is settled for it; and both stand for some state.
+-- The unit has taken what the consumer has, and is settled for it; both stand for some state.
 pub record IsSimulator (queue : QueueValue) (consumer : Option (IdleConsumerValue UnitValue)) (unit : UnitValue) : Type 0 where
   pub there : IsThere queue.keeper consumer
   pub together : AreTogether (own_consumer None queue.keeper) unit
@@ -43,11 +43,11 @@ pub record IsSimulator (queue : QueueValue) (consumer : Option (IdleConsumerValu
 abbrev pub Does : {Answer : Type 0} → SimulatorValue → SimulatorValue → Answer → (State → Answered Answer) → Type 0
 Does old new answer then = (state : State) → Stands old state → (answer ≡ (then state).answer) × Stands new (then state).state
 
--- The same, memory being wanting or not.
+-- The same, with memory running out or not.
 abbrev pub MayDo : {Answer : Type 0} → SimulatorValue → SimulatorValue → Answer → (Bool → State → Answered Answer) → Type 0
 MayDo old new answer then = (state : State) → Stands old state → (wanting : Bool) × (answer ≡ (then wanting state).answer) × Stands new (then wanting state).state
 
--- This is told of whatever state it stands for.
+-- P holds of any state that it stands for.
 abbrev pub Tells : SimulatorValue → (State → Type 0) → Type 0
 Tells simulator P = (state : State) → Stands simulator state → P state
 
@@ -55,7 +55,7 @@ Tells simulator P = (state : State) → Stands simulator state → P state
 abbrev pub HasOpen : SimulatorValue → ℕ → Bool → Type 0
 HasOpen simulator s whether = is_open (trail_of (Sender s) simulator.queue.keeper.run) ≡ whether
 
--- Whatever state a keeper and a unit stood for, a step of that is answered so, and they stand for the state after it.
+-- Whatever state a keeper and a unit stood for, its step is answered so, and they stand for the state after it.
 abbrev pub AreStepped : KeeperValue → UnitValue → KeeperValue → UnitValue → StepAnswer → Type 0
 AreStepped keeper unit kept moved answer =
     (state : State) → StandFor keeper unit state → (answer ≡ (stepped state).answer) × StandFor kept moved (stepped state).state

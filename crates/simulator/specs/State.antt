@@ -13,8 +13,8 @@ use Rattle.engine.specs.Units.{UnitValue}
 use Rattle.ring.specs.NewRings.{made_with}
 use Rattle.simulator.specs.declared.shape.Shape.{Shape}
 
--- The ring, and how many entries the caches may hold; all that happened to the ring, the newest first, and to the caches;
--- and how the stop at an illegal command stands.
+-- The ring, and how many entries the caches may hold; all that happened to the ring, the newest first, and to the
+-- caches; and the state of the stop at an illegal command.
 pub record State : Type 0 where
   pub ring : Ring
   pub capacity : ℕ
@@ -32,7 +32,7 @@ made shape = record {
   stop = unstopped;
 }
 
--- How a call is answered, and how things stand after it.
+-- the answer to a call, and the state after it
 pub record Answered (Answer : Type 0) : Type 0 where
   pub answer : Answer
   pub state : State
@@ -60,7 +60,7 @@ removed_in (Fill entry ∷ history) = removed_in history
 removed_in (Evict tag ∷ history) = removed_in history
 removed_in (Take command ∷ history) = removed_in history + removed_from command (held history)
 
--- what is counted of the commands that were taken
+-- the counts of the commands that were taken
 abbrev pub counts_of : List Taken → History → CountsValue
 counts_of taken history = record {
   applied = how_many (λ t. is_applied t.outcome) taken;

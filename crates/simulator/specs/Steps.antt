@@ -34,7 +34,7 @@ applied raw command state = record {
   state = with_item (Take command) (completes raw state);
 }
 
--- An illegal command stops consumption, which leaves it at the head; or it is replaced, where software said so.
+-- An illegal command stops consumption and stays at the head; or it is replaced, if software said so.
 abbrev pub illegal : Raw → Ill → Mode → State → Answered StepAnswer
 illegal raw ill mode.Running state = record { answer = Stopped ill; state = record state { stop = stopped_at raw ill state.stop } }
 illegal raw ill (mode.Stopped other) state = record { answer = Stopped ill; state = record state { stop = stopped_at raw ill state.stop } }
@@ -52,7 +52,7 @@ found (head.Ready raw) state = judged raw (decoding raw) state
 
 -- ---- a step
 
--- Once as many commands were taken as a ring ever has, no more are.
+-- Once as many commands were taken as a ring ever has, no more are taken.
 abbrev pub going : State → Answered StepAnswer
 going state =
     if taken_so_far state == most_reserved then unchanged Exhausted state
@@ -72,12 +72,12 @@ abbrev pub same_bit : Bool → Bool → Bool
 same_bit true b = b
 same_bit false b = not b
 
--- by whether it is stopped, and whether the bits agree
+-- given whether it is stopped, and whether the bits agree
 abbrev pub acknowledged_if : Bool → Bool → Remedy → State → Answered (Result ⊤ AckFault)
 acknowledged_if false same remedy state = record { answer = Err NoError; state = state }
 acknowledged_if true false remedy state = record { answer = Err OtherBit; state = state }
 acknowledged_if true true remedy state = record { answer = Ok tt; state = record state { stop = told remedy state.stop } }
 
--- It is refused where no error is active, and where CMDQ_ERR of the word isn't that of SMMU_GERROR.
+-- It is refused if no error is active, or if CMDQ_ERR of the word isn't that of SMMU_GERROR.
 unfoldable pub acknowledged : ℕ → Remedy → State → Answered (Result ⊤ AckFault)
 acknowledged gerrorn remedy state = acknowledged_if (is_stopped state.stop.mode) (same_bit (command_queue_bit gerrorn) state.stop.error) remedy state

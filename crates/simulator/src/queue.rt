@@ -1,4 +1,4 @@
-//! The command queue on the ring of threads, in one hand: a keeper lends its senders their seats, one call at a time.
+//! The command queue on the ring of threads, owned by one: its keeper lends a sender its seat for each call.
 ghost use Rattle.std.specs.Prelude.{◌≡◌, ◌<◌, [], true, false, None, Some, IfOk, IfErr, OnOk, Result};
 ghost use Rattle.ring.specs.Runs.{Sender, trail_of};
 ghost use Rattle.ringcore.specs.machine.Open.{is_open};
@@ -56,9 +56,9 @@ impl Model for Queue {
 }
 
 impl Queue {
-    /// A queue to which nothing has happened yet, and what is left of its consumer.
+    /// Returns a queue to which nothing has happened yet, and what is left of its consumer.
     ///
-    /// Errors: as of `Keeper::new`, and out of memory.
+    /// Errors: those of `Keeper::new`, and out of memory.
     pub(crate) fn new(
         alloc: Global,
         log2: u32,
@@ -86,7 +86,7 @@ impl Queue {
         }
     }
 
-    /// A witness that the keeper's run is a run of the ring. It does nothing.
+    /// Shows that the keeper's run is a run of the ring. It does nothing.
     pub(crate) fn run_stands(&self)
         ensures { RunStands (ring_in self.now) self.now.keeper.run }
     {
@@ -111,7 +111,7 @@ impl Queue {
         }
     }
 
-    /// A sender tries once to reserve a batch, which closes with a CMD_SYNC or doesn't, and keeps the batch.
+    /// Tries once, as a sender, to reserve a batch, closed with a CMD_SYNC or not, and keeps the batch.
     ///
     /// Errors, in this order: Q4 and Q5 without a step, Q1 and Q2 after a look.
     pub(crate) fn reserve(
@@ -148,9 +148,9 @@ impl Queue {
         }
     }
 
-    /// A sender tries once to reserve a batch, hands it over where it could, and tells its number, if it has one.
+    /// Tries once, as a sender, to reserve a batch and publishes it if that worked. Returns its number, if it has one.
     ///
-    /// Errors: as of `reserve`.
+    /// Errors: those of `reserve`.
     pub(crate) fn send(
         &mut self,
         sender: u32,
@@ -178,7 +178,7 @@ impl Queue {
         }
     }
 
-    /// A sender writes its open reservation and hands it over, and tells the number of its batch, if it has one.
+    /// Writes and publishes a sender's open reservation. Returns the number of its batch, if it has one.
     pub(crate) fn publish(&mut self, sender: u32) -> Option<u32>
         requires known { sender < (ring_in self.old).senders }
         requires opened { is_open (trail_of (Sender sender) self.old.keeper.run) ≡ true }
@@ -203,7 +203,7 @@ impl Queue {
     }
 }
 
-/// The sender of a seat that has no reservation.
+/// Returns the sender of a seat that has no reservation.
 fn idle_in(seat: &Seat) -> IdleSender
     requires { IsIdle seat.now }
     ensures { seat.now ≡ Idle result }
@@ -214,7 +214,7 @@ fn idle_in(seat: &Seat) -> IdleSender
     }
 }
 
-/// What is left of so many senders of a ring in which nothing has happened.
+/// Returns what is left of each sender of a ring in which nothing has happened.
 fn new_seats(alloc: Global, senders: u32) -> Result<Vec<Seat>, AllocError>
     ensures { IfOk result (λ seats. AreNew senders seats.items) }
 {

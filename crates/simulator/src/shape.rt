@@ -1,11 +1,11 @@
-//! How a ring and its caches are made.
+//! The numbers that a ring and its caches are made with.
 ghost use Rattle.std.specs.Prelude.{◌≡◌};
 ghost use Rattle.simulator.specs.{shape_label};
 
 use ringcore::RingFault;
 use thiserror::Error;
 
-/// The numbers with which a ring and its caches are made.
+/// The numbers that a ring and its caches are made with.
 #[derive(Clone, Copy, Debug, PartialEq, Eq)]
 pub struct Shape {
     /// The ring has `2^log2` slots, 1 to 19.
@@ -18,7 +18,7 @@ pub struct Shape {
     pub capacity: u32,
 }
 
-/// Why nothing is made. The first that applies is told, in the order of these lines.
+/// Why nothing is made: the first fault that applies, in this order.
 #[derive(Clone, Copy, Debug, PartialEq, Eq, Error)]
 pub enum ShapeFault {
     /// N1 to N4: no ring is made.
@@ -30,7 +30,7 @@ pub enum ShapeFault {
 }
 
 impl ShapeFault {
-    /// Its label alone, `N1` to `N4` or `C4`.
+    /// Returns its label, `N1` to `N4` or `C4`.
     pub fn label(self) -> &'static str
         ensures { result.now ≡ shape_label self }
     {

@@ -23,7 +23,7 @@ use std::marker::Model;
 #[derive(Drop)]
 pub struct Simulator {
     queue: Queue,
-    /// It is lent its seat for each step, and comes back.
+    /// Borrows its seat for each step, and is back after it.
     consumer: Option<IdleConsumer<Unit>>,
     unit: Unit,
 }
@@ -43,9 +43,9 @@ impl Model for Simulator {
 }
 
 impl Simulator {
-    /// A simulator to which nothing has happened yet.
+    /// Returns a simulator to which nothing has happened yet.
     ///
-    /// Errors, in this order: N1, N2, N3 and C4 where a number of the shape is out of range; out of memory.
+    /// Errors, in this order: N1, N2, N3 and C4 if a number of the shape is out of range; out of memory.
     pub fn new(alloc: Global, shape: &Shape) -> Result<Simulator, ShapeFault>
         ensures made { IfOk result (λ simulator. Stands simulator (made shape.now)) }
         ensures numbers { IfOk result (λ simulator. shape_fault shape.now ≡ None) }
@@ -67,8 +67,8 @@ impl Simulator {
         }
     }
 
-    /// A witness that the run of whatever state it stands for is a run of the ring: with some words the ring stands as
-    /// after it, and nobody but the ring's senders and its consumer took a step. It does nothing.
+    /// Shows that the run of any state it stands for is a run of the ring: with some words the ring stands as after it,
+    /// and only the ring's senders and its consumer took steps. It does nothing.
     pub fn run_stands(&self)
         ensures { Tells self.now (λ state. RunStands state.ring state.run) }
     {
@@ -92,7 +92,7 @@ impl Simulator {
         self.queue.is_open(sender)
     }
 
-    /// A sender tries once to reserve a batch, which closes with a CMD_SYNC or doesn't.
+    /// Tries once, as a sender, to reserve a batch, closed with a CMD_SYNC or not.
     ///
     /// Errors, in this order: Q4, Q5, Q1, Q2.
     pub fn reserve(&mut self, sender: u32, batch: Batch, closes: bool) -> Result<Reserved, Cause>
@@ -107,9 +107,9 @@ impl Simulator {
         self.queue.reserve(sender, batch, closes)
     }
 
-    /// A sender tries once to reserve a batch, hands it over where it could, and tells its number, if it has one.
+    /// Tries once, as a sender, to reserve a batch and publishes it if that worked. Returns its number, if it has one.
     ///
-    /// Errors: as of `reserve`.
+    /// Errors: those of `reserve`.
     pub fn send(
         &mut self,
         sender: u32,
@@ -123,7 +123,7 @@ impl Simulator {
         self.queue.send(sender, batch, closes)
     }
 
-    /// A sender writes its open reservation and hands it over, and tells the number of its batch, if it has one.
+    /// Writes and publishes a sender's open reservation. Returns the number of its batch, if it has one.
     pub fn publish(&mut self, sender: u32) -> Option<u32>
         requires sender { sender < (ring_in self.old.queue).senders }
         requires opened { HasOpen self.old sender true }
@@ -132,7 +132,7 @@ impl Simulator {
         self.queue.publish(sender)
     }
 
-    /// A sender looks: both indexes, and whether the ring is closed.
+    /// Looks as a sender: returns both indexes, and whether the ring is closed.
     pub fn look(&mut self, sender: u32) -> Control
         requires { sender < (ring_in self.old.queue).senders }
         ensures { Does self.old self.new result (looked sender) }
@@ -140,7 +140,7 @@ impl Simulator {
         self.queue.look(sender)
     }
 
-    /// A sender closes: nothing is reserved after it.
+    /// Closes as a sender: nothing is reserved after it.
     pub fn close(&mut self, sender: u32)
         requires { sender < (ring_in self.old.queue).senders }
         ensures { Does self.old self.new tt (closed sender) }
@@ -148,7 +148,7 @@ impl Simulator {
         self.queue.close(sender)
     }
 
-    /// A sender asks up to which number its batches are completed.
+    /// Asks as a sender, and returns the number up to which its batches are completed.
     pub fn done_up_to(&mut self, sender: u32) -> u32
         requires { sender < (ring_in self.old.queue).senders }
         ensures { Does self.old self.new result (asked sender) }
@@ -158,33 +158,33 @@ impl Simulator {
 }
 
 impl Simulator {
-    /// Puts in an entry that is born now, and answers the one of its tag that was held before.
+    /// Inserts an entry, born now, and returns the one of its tag that was held before.
     ///
-    /// Errors, in this order: C2 where its block isn't well formed; C1 where its tag is new and the caches are full; C3
-    /// out of memory, where its tag is new.
+    /// Errors, in this order: C2 if its block isn't well formed; C1 if its tag is new and the caches are full; C3 if
+    /// its tag is new and memory runs out.
     pub fn fill(&mut self, tag: Tag, value: u64) -> Result<Option<Entry>, CacheFault>
         ensures { MayDo self.old self.new result (λ wanting. filled wanting tag value) }
     {
         self.unit.fill(tag, value)
     }
 
-    /// Removes the entry of this tag, and answers it.
+    /// Removes the entry of this tag, and returns it.
     pub fn evict(&mut self, tag: &Tag) -> Option<Entry>
         ensures { Does self.old self.new result (evicted tag.now) }
     {
         self.unit.evict(tag)
     }
 
-    /// The entry of this tag that is held, if one is.
+    /// Returns the entry of this tag, if one is held.
     pub fn lookup(&self, tag: &Tag) -> Option<Entry>
         ensures { Tells self.now (λ state. result ≡ finite.get (entries state) tag.now) }
     {
         self.unit.lookup(tag)
     }
 
-    /// All entries that are held, in the order of their tags.
+    /// Returns all entries that are held, in the order of their tags.
     ///
-    /// Errors: C3 when out of memory, and no other.
+    /// Errors: C3 if memory runs out, and no other.
     pub fn entries(&self) -> Result<Vec<Entry>, CacheFault>
         ensures ok { IfOk result (λ list. Tells self.now (λ state. list.items ≡ finite.values (entries state))) }
         ensures err { OnErr result (result ≡ Err CacheFault.NoMemory) }
@@ -192,17 +192,17 @@ impl Simulator {
         self.unit.entries()
     }
 
-    /// Software writes SMMU_GERRORN, and says what is to become of the command at which consumption stopped.
+    /// Writes SMMU_GERRORN, as software, and says what becomes of the command at which consumption stopped.
     ///
-    /// Errors, in this order: G1 where no error is active; G2 where CMDQ_ERR of the word isn't that of SMMU_GERROR.
+    /// Errors, in this order: G1 if no error is active; G2 if CMDQ_ERR of the word isn't that of SMMU_GERROR.
     pub fn acknowledge(&mut self, gerrorn: u32, remedy: Remedy) -> Result<(), AckFault>
         ensures { Does self.old self.new result (acknowledged gerrorn remedy) }
     {
         self.unit.acknowledge(gerrorn, remedy)
     }
 
-    /// Takes one command at most: applies it and completes it, or stops at it, or completes it without effect where
-    /// software said so. It is the engine's own step.
+    /// Takes at most one command: applies and completes it, or stops at it, or completes it without effect if software
+    /// said so. It is the engine's own step.
     pub fn step(&mut self) -> StepAnswer
         ensures { Does self.old self.new result stepped }
     {
@@ -212,7 +212,7 @@ impl Simulator {
         answer
     }
 
-    /// The queue's registers.
+    /// Returns the queue's registers.
     pub fn registers(&mut self) -> Registers
         ensures { Does self.old self.new result registers_told }
     {
@@ -226,7 +226,7 @@ impl Simulator {
         }
     }
 
-    /// What was counted of the commands taken.
+    /// Returns the counts of the commands taken.
     pub fn counts(&self) -> Counts
         ensures { Tells self.now (λ state. result ≡ counted state.run state.history) }
     {

@@ -5,14 +5,14 @@ use Rattle.ring.specs.table.Keeping.{run_by}
 use Rattle.ring.specs.consumer.Pendings.{reads_from}
 use Rattle.ring.specs.consumer.Completing.{completed_trail}
 
--- what stands at the head: nothing, for now or for good; a command that isn't handed over yet; or one that may be taken
+-- the head of the queue: nothing, for now or for good; a command that isn't published yet; or one that may be taken
 pub data Head : Type 0 where
   Empty : Head
   Drained : Head
   Unwritten : Head
   Ready : Raw → Head
 
--- the command that is taken next, if one is reserved
+-- the command that is taken next, if any is reserved
 abbrev pub raw_at_head : World → Option Raw
 raw_at_head w = option_map (λ (item : Item). item.raw) (slice_get w.reserved (head w))
 
@@ -20,14 +20,14 @@ abbrev pub ready_with : Option Raw → Head
 ready_with None = Unwritten
 ready_with (Some raw) = Ready raw
 
--- Nothing is reserved, or the command at the head isn't handed over yet, or it is.
+-- Nothing is reserved, or the command at the head isn't published yet, or it is.
 abbrev pub head_of : World → Head
 head_of w =
     if tail w == head w then (if w.closed then Drained else Empty)
     else if w.flipped (head w) then ready_with (raw_at_head w) else Unwritten
 
--- The events that found it, the newest first: the consumer looks; where something is reserved it tests the head; and
--- where that is ready it reads both halves.
+-- The events that found it, the newest first: the consumer looks; if something is reserved it tests the head; and if
+-- that is ready it reads both halves.
 abbrev pub found_by : Head → Trail → Trail
 found_by Empty looked = looked
 found_by Drained looked = looked
@@ -37,6 +37,6 @@ found_by (Ready raw) looked = reads_from 0 (raw ∷ []) (Test 1 1 ∷ looked)
 abbrev pub head_taken : ℕ → Run → Run
 head_taken geometry run = run_by Consumer (found_by (head_of (world run)) (Look (control geometry (world run)) ∷ [])) ++ run
 
--- The ring's completion of one command is added.
+-- The ring's completion of one command is added to the run.
 abbrev pub completed : Raw → Run → Run
 completed raw run = run_by Consumer (completed_trail (raw ∷ []) []) ++ run

@@ -14,22 +14,22 @@ use Rattle.simulator.specs.declared.queue.reserved.Reserved.{Reserved}
 abbrev pub looked_by : Who → ℕ → Run → Run
 looked_by who geometry run = (who, Look (control geometry (world run))) ∷ run
 
--- Why a batch of so many commands isn't reserved, ahead of a look: the ring is too short for it, or the sender has
--- no batch left.
+-- Why a batch of so many commands isn't reserved, before a look: the ring is too short for it, or the sender has no
+-- batch left.
 abbrev pub cause_ahead : Ring → Trail → ℕ → Option Cause
 cause_ahead ring mine many =
     if nat_lt (size ring.geometry) many then Some TooLong
     else if nat_le ring.max_batches (batches_made mine) then Some Exhausted
     else None
 
--- And by what a look finds: the ring is closed, or has too little room.
+-- And after a look: the ring is closed, or has too little room.
 abbrev pub cause_seen : Ring → World → ℕ → Option Cause
 cause_seen ring w many =
     if w.closed then Some Closed
     else if nat_lt (head w + size ring.geometry) (tail w + many) then Some Full
     else None
 
--- how a sender's call is answered, and the run after it
+-- the answer to a sender's call, and the run after it
 pub record Ran (Answer : Type 0) : Type 0 where
   pub answer : Answer
   pub run : Run
@@ -40,7 +40,7 @@ Try = Ran (Result Reserved Cause)
 abbrev pub refused_for : Cause → Run → Try
 refused_for cause run = record { answer = Err cause; run = run }
 
--- The batch stands from the tail on, with the next of its sender's numbers where it closes.
+-- The batch begins at the tail; if it closes, it has its sender's next number.
 abbrev pub won : Ring → ℕ → List Raw → Bool → Run → Run → Try
 won ring s body closes before run =
     let number = next_number (trail_of (Sender s) before) closes in
@@ -57,20 +57,20 @@ abbrev pub unless_ahead : Ring → ℕ → List Raw → Bool → Run → Option 
 unless_ahead ring s body closes run (Some cause) = refused_for cause run
 unless_ahead ring s body closes run None = unless_seen ring s body closes run (cause_seen ring (world run) (length_with closes body))
 
--- A sender tries to reserve a batch of this body, which closes with a CMD_SYNC or doesn't.
+-- A sender tries to reserve a batch of this body, closed with a CMD_SYNC or not.
 unfoldable pub try_to_reserve : Ring → ℕ → List Raw → Bool → Run → Try
 try_to_reserve ring s body closes run =
     unless_ahead ring s body closes run (cause_ahead ring (trail_of (Sender s) run) (length_with closes body))
 
--- The sender hands its open reservation over, of which nothing is written yet and nothing flipped.
+-- The sender publishes its open reservation, of which nothing is written or flipped yet.
 unfoldable pub published : ℕ → ℕ → Run → Run
 published geometry s run = run_by (Sender s) (handing_over geometry (trail_of (Sender s) run) 0 0) ++ run
 
--- What a try reserved is handed over.
+-- What a try reserved is published.
 abbrev pub handed_over : Ring → ℕ → Result Reserved Cause → Run → Ran (Result (Option ℕ) Cause)
 handed_over ring s (Ok told) run = record { answer = Ok (reserved_number (trail_of (Sender s) run)); run = published ring.geometry s run }
 handed_over ring s (Err cause) run = record { answer = Err cause; run = run }
 
--- A sender tries once, and hands over at once what it reserved.
+-- A sender tries once, and publishes at once what it reserved.
 abbrev pub sent_by : Ring → ℕ → List Raw → Bool → Run → Ran (Result (Option ℕ) Cause)
 sent_by ring s body closes run = let tried = try_to_reserve ring s body closes run in handed_over ring s tried.answer tried.run

@@ -43,7 +43,7 @@ pub record QueueValue : Type 0 where
 abbrev pub ring_in : QueueValue → Ring
 ring_in queue = queue.keeper.ring.made_with
 
--- The ring is the keeper's, who has all seats, and one is left of each sender.
+-- The ring is the keeper's, who has all seats, and there is one seat for each sender.
 pub record IsQueue (ring : RingValue) (queue : QueueValue) : Type 0 where
   pub ring_is : queue.keeper.ring ≡ ring
   pub whole : queue.keeper.lent ≡ None
@@ -61,7 +61,7 @@ pub record AreNew (senders : ℕ) (seats : List Seat) : Type 0 where
 
 -- ---- around a call
 
--- A sender's seat was lent and has come back: the ring stays, and what is left of the others.
+-- A sender's seat was lent and is back: the ring stays, and so does what is left of the others.
 pub record IsBack (s : ℕ) (old new : KeeperValue) : Type 0 where
   pub ring_is : new.ring ≡ old.ring
   pub whole : new.lent ≡ None
@@ -83,14 +83,14 @@ tried_by keeper s body closes = try_to_reserve keeper.ring.made_with s body clos
 abbrev pub reserved_as : IdleReservationValue → Reserved
 reserved_as idle = record { first = idle.start; number = number_when idle.closes idle.tally.numbers }
 
--- It is answered by a reservation, which is left of the sender.
+-- The answer is a reservation, which is left of the sender.
 pub record IsTriedWell (old new : KeeperValue) (s : ℕ) (body : List Raw) (closes : Bool) (idle : IdleReservationValue) : Type 0 where
   pub run_is : new.run ≡ (tried_by old s body closes).run
   pub answer_is : (tried_by old s body closes).answer ≡ Ok (reserved_as idle)
   pub closes_is : idle.closes ≡ closes
   pub seat : IsOpenSeat new s body idle
 
--- It is answered by a cause, and the sender is idle.
+-- The answer is a cause, and the sender is idle.
 pub record IsTriedInVain (old new : KeeperValue) (s : ℕ) (body : List Raw) (closes : Bool) (tally : Tally) (cause : Cause) : Type 0 where
   pub run_is : new.run ≡ (tried_by old s body closes).run
   pub answer_is : (tried_by old s body closes).answer ≡ Err cause

@@ -8,7 +8,7 @@ use crate::queue::Queue;
 use qindex::Control;
 
 impl Queue {
-    /// What the control word says. Nobody takes a step.
+    /// Returns what the control word says. Nobody takes a step.
     pub(crate) fn control(&mut self) -> Control
         ensures says { result ≡ control (ring_in self.old).geometry (world self.old.keeper.run) }
         ensures geometry { IsControl (ring_in self.old).geometry result }
@@ -17,7 +17,7 @@ impl Queue {
         self.keeper.control(&self.ring)
     }
 
-    /// A sender looks. It may have an open reservation.
+    /// Looks as a sender, which may have an open reservation.
     pub(crate) fn look(&mut self, sender: u32) -> Control
         requires { sender < (ring_in self.old).senders }
         ensures run { self.new.keeper.run ≡ looked_by (Sender sender) (ring_in self.old).geometry self.old.keeper.run }
@@ -28,7 +28,7 @@ impl Queue {
         self.keeper.look(&self.ring, sender)
     }
 
-    /// A sender closes. It may have an open reservation.
+    /// Closes as a sender, which may have an open reservation.
     pub(crate) fn close(&mut self, sender: u32)
         requires { sender < (ring_in self.old).senders }
         ensures run { self.new.keeper.run ≡ (Sender sender, Close) ∷ self.old.keeper.run }
@@ -37,7 +37,7 @@ impl Queue {
         self.keeper.close(&self.ring, sender);
     }
 
-    /// A sender asks for the number in its completion cell. It may have an open reservation.
+    /// Loads the number in a sender's completion cell. The sender may have an open reservation.
     pub(crate) fn ask(&mut self, sender: u32) -> u32
         requires { sender < (ring_in self.old).senders }
         ensures run { self.new.keeper.run ≡ (Sender sender, Ask result) ∷ self.old.keeper.run }

@@ -1,11 +1,11 @@
-//! How an open reservation is written and handed over, by a sender whose seat the keeper lends.
+//! Publishing an open reservation, by a sender whose seat the keeper lends.
 ghost use Rattle.std.specs.Prelude.{◌≡◌, ◌<◌, None};
 ghost use Rattle.simulator.specs.queue.{published, IsBack, IsIdleSeat, IsOpenSeat};
 
 use batch::BorrowedBatch;
 use ring::{Bare, BatchKind, Closing, IdleReservation, IdleSender, Keeper, Ring};
 
-/// A sender writes its reservation, of which nothing is written, and hands it over.
+/// Writes and publishes a sender's reservation, of which nothing is written.
 pub(super) fn hand_over(
     keeper: &mut Keeper,
     ring: &Ring,
@@ -27,7 +27,7 @@ pub(super) fn hand_over(
     }
 }
 
-/// Of a reservation of this kind.
+/// The same for a reservation of this kind.
 fn publish_as<K: BatchKind>(
     keeper: &mut Keeper,
     ring: &Ring,

@@ -1,4 +1,4 @@
-//! What a batch that was reserved tells.
+//! What a reserved batch tells.
 use qindex::Index;
 
 /// What was reserved.
@@ -6,6 +6,6 @@ use qindex::Index;
 pub struct Reserved {
     /// The index of the first slot.
     pub first: Index,
-    /// The number of the batch, where it closes with a CMD_SYNC.
+    /// The batch's number, if it closes with a CMD_SYNC.
     pub number: Option<u32>,
 }

@@ -1,4 +1,4 @@
-//! A try to reserve, and what was reserved handed over, by a sender whose seat the keeper lends.
+//! Trying to reserve a batch and publishing it, by a sender whose seat the keeper lends.
 ghost use Rattle.std.specs.Prelude.{◌≡◌, ◌<◌, None};
 ghost use Rattle.ring.specs.Keepers.{IsIdleSender};
 ghost use Rattle.simulator.specs.queue.{IsBack, IsIdleSeat, sent_by};
@@ -8,8 +8,8 @@ use crate::queue::trying::try_once;
 use batch::BorrowedBatch;
 use ring::{Cause, IdleSender, Keeper, Ring};
 
-/// A sender tries once to reserve a batch, and hands it over where it could: what is left of it, and the batch's number,
-/// if it has one.
+/// Tries once to reserve a batch and publishes it if that worked. Returns what is left of the sender, and the batch's
+/// number, if it has one.
 pub(super) fn send_once(
     keeper: &mut Keeper,
     ring: &Ring,

@@ -1,4 +1,4 @@
-//! A step of the unit: the engine's own, with a consumer that is lent its seat.
+//! A step of the unit: the engine's own, with a consumer to which the keeper lends its seat.
 ghost use Rattle.std.specs.Prelude.{◌≡◌, None};
 ghost use Rattle.ring.specs.Runs.{Consumer as ConsumerOf};
 ghost use Rattle.ring.specs.Keepers.{own_consumer, IsIdleConsumer, KeepsOthers};
@@ -14,7 +14,7 @@ use ringcore::laws::consumer_trail;
 use ringcore::world_law;
 
 impl Queue {
-    /// A step of a unit, which takes one command at most.
+    /// Takes a step of a unit, at most one command.
     pub(crate) fn step(
         &mut self,
         idle: IdleConsumer<Unit>,
@@ -31,7 +31,7 @@ impl Queue {
     }
 }
 
-/// Of a keeper, who lends the consumer its seat.
+/// The same for a keeper, which lends the consumer its seat.
 fn step_lent(
     keeper: &mut Keeper,
     ring: &Ring,

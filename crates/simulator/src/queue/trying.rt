@@ -1,4 +1,4 @@
-//! A try to reserve, by a sender whose seat the keeper lends.
+//! Trying to reserve, by a sender whose seat the keeper lends.
 ghost use Rattle.std.specs.Prelude.{◌≡◌, ◌<◌, None};
 ghost use Rattle.ring.specs.Keepers.{IsIdleSender};
 ghost use Rattle.simulator.specs.queue.{IsBack, HasTried};
@@ -8,7 +8,7 @@ use qindex::indexes_tell_the_queue;
 use ring::{Bare, BatchKind, Cause, Closing, IdleReservation, IdleSender, Keeper, Refused, Ring};
 use ringcore::world_law;
 
-/// A sender tries once to reserve a batch, which closes with a CMD_SYNC or doesn't.
+/// Tries once to reserve a batch, closed with a CMD_SYNC or not.
 pub(super) fn try_once(
     keeper: &mut Keeper,
     ring: &Ring,
@@ -30,7 +30,7 @@ pub(super) fn try_once(
     }
 }
 
-/// Of a batch of this kind.
+/// The same for a batch of this kind.
 fn try_as<K: BatchKind>(
     keeper: &mut Keeper,
     ring: &Ring,
