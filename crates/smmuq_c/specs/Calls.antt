@@ -43,7 +43,7 @@ abbrev pub OfConsumer : (HeldConsumer → HeldConsumer → Status → Type 0) �
 OfConsumer does (ConsumerOf old) new status = (after : HeldConsumer) × (new ≡ ConsumerOf after) × does old after status
 OfConsumer does other new status = (new ≡ other) × (status ≡ WrongHandle)
 
--- Of a unit, also of that of an engine, whose consumer stays. Entries that were settled are.
+-- For a unit, or that of an engine, whose consumer stays. Settled entries stay settled.
 abbrev pub OfAnyUnit : (UnitValue → UnitValue → Status → Type 0) → Object → Object → Status → Type 0
 OfAnyUnit does (UnitOf h) new status =
     (after : UnitValue) × (new ≡ UnitOf (record h { unit = after })) × StaysSettled h.unit after [] × does h.unit after status
@@ -51,13 +51,13 @@ OfAnyUnit does (EngineOf e) new status =
     (after : UnitValue) × (new ≡ EngineOf (record e { unit = after })) × IsSettled after.caches.entries (taken_of e.consumer.trail) × does e.unit after status
 OfAnyUnit does other new status = (new ≡ other) × (status ≡ WrongHandle)
 
--- Its stop is acknowledged. Nothing rewrites what was handed over in an engine's ring: there Reread is Retry.
+-- Its stop is acknowledged. Nothing rewrites what was published in an engine's ring, so there Reread is Retry.
 abbrev pub OfStop : ℕ → StopRemedy → Object → Object → Status → Type 0
 OfStop gerrorn remedy (UnitOf old) new status =
     (after : HeldValue) × (new ≡ UnitOf after) × StaysSettled old.unit after.unit [] × HasAcknowledgedHeld gerrorn remedy old after status
 OfStop gerrorn remedy other new status = OfAnyUnit (HasAcknowledged gerrorn (remedy_for remedy)) other new status
 
--- It did this with what its words say; where they say nothing, it did nothing.
+-- It did this with what its words say; if they say nothing, it did nothing.
 abbrev pub BySaid : {X : Type 0} → (Option X → Type 0) → (X → Object → Object → Status → Type 0) → Object → Object → Status → Type 0
 BySaid {X} said does old new status =
     (found : Option X) × said found × MatchOption found ((new ≡ old) × (status ≡ BadField)) (λ x. does x old new status)

@@ -26,12 +26,12 @@ SaysSpace f asid = (f.asid ≡ asid) × (asid < 2 ^ 16)
 abbrev pub SaysSubstream : Fields → ℕ → Type 0
 SaysSubstream f ssid = (f.ssid ≡ ssid) × (ssid < 2 ^ 20)
 
--- the page at the address, of so many
+-- the page at the address, below `pages`
 pub record SaysPage (f : Fields) (pages page : ℕ) : Type 0 where
   pub address_is : f.address ≡ page * 4096
   pub in_range : page < pages
 
--- TG is 0 where one page is meant.
+-- TG is 0 for a single page.
 abbrev pub SaysReachBy : ℕ → ℕ → ℕ → Reach → Type 0
 SaysReachBy tg num scale Page = tg ≡ 0
 SaysReachBy tg num scale (Range granule count power) = (tg ≡ granule_number granule) × (num ≡ count) × (count < 32) × (scale ≡ power) × (power < 32)
@@ -76,7 +76,7 @@ abbrev pub decode_status : Result Command Ill → Status
 decode_status (Ok command) = Done
 decode_status (Err ill) = Illegal ill
 
--- The words of legal words' command have these fields; of illegal ones they stay.
+-- The fields are those of the command that legal words spell; for illegal words they stay.
 abbrev pub HasDecoded : Result Command Ill → Fields → Fields → Type 0
 HasDecoded (Ok command) old new = SaysCommand new command
 HasDecoded (Err ill) old new = new ≡ old

@@ -1,4 +1,4 @@
--- Throwing out all entries whose tags are of some kinds.
+-- Evicting all entries whose tags are of some kinds.
 use Rattle.std.specs.Prelude.{◌≡◌, ◌<◌, ◌+◌, ◌-◌, ◌/◌, ◌%◌, ◌^◌, ◌==◌, ℕ, Bool, not, Option, None, Some}
 use Rattle.std.specs.FinMap as finite
 use Rattle.caches.specs.declared.fault.CacheFault.TheVariants.{NoMemory}
@@ -23,7 +23,7 @@ has_kind kinds tag = kinds.mask / 2 ^ ((tag_words tag).kind - 1) % 2 == 1
 abbrev pub without_kinds : Kinds → Entries → Entries
 without_kinds kinds entries = finite.retain_keys entries (λ tag. not (has_kind kinds tag))
 
--- The entries of these kinds are gone, so many, and nothing else changed.
+-- The entries of these kinds, `count` of them, are gone, and nothing else changed.
 pub record HasLost (kinds : Kinds) (count : ℕ) (old new : UnitValue) : Type 0 where
   pub new_is : new ≡ with_entries old (without_kinds kinds old.caches.entries)
   pub count_is : count + finite.len new.caches.entries ≡ finite.len old.caches.entries

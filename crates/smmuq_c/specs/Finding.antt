@@ -41,7 +41,7 @@ own_tag (S2 vmid) page span = tag.S2 vmid (block_at page span) span
 own_tag (El2 asid) page span = tag.El2 (Of asid) (block_at page span) span
 own_tag (Atc sid ssid) page span = tag.Atc sid (Some ssid) (block_at page span) span
 
--- the global one, or that of no substream; of stage 2 there is one alone
+-- the global one, or that of no substream; for stage 2 there is only one
 abbrev pub shared_tag : Owner → ℕ → ℕ → Tag
 shared_tag (S1 vmid asid) page span = tag.S1 vmid Global (block_at page span) span
 shared_tag (S2 vmid) page span = tag.S2 vmid (block_at page span) span

@@ -12,7 +12,7 @@ pub record HeldValue : Type 0 where
 
 -- ---- in between
 
--- Where the next words decide, the unit below is stopped until they come. This is how it stands for C.
+-- If the next words decide, the unit below is stopped until they come. This is how C sees it.
 abbrev pub shown_stop : Bool → StopValue → StopValue
 shown_stop false stop = stop
 shown_stop true stop = told Retry stop

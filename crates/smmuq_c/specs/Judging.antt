@@ -35,7 +35,7 @@ abbrev pub took_by : Raw → Result Verdict Refusal → List Taken
 took_by raw (Ok verdict) = took raw verdict
 took_by raw (Err refusal) = []
 
--- ---- where the next words decide what becomes of those at which it stopped
+-- ---- if the next words decide what becomes of those at which it stopped
 
 -- the old words, without effect
 abbrev pub took_old : Raw → List Taken
@@ -62,7 +62,7 @@ pub record HasJudgedOthers (raw : Raw) (old new : UnitValue) (verdict : Verdict)
   pub judged : HasJudged raw between new verdict
   pub settled : StaysSettled old new (took_old awaited ++ took raw verdict)
 
--- Too many commands were taken for one more, or, where others came, for two.
+-- Too many commands were taken for one more, or, if others came, for two.
 pub record IsRereadRefusal (raw : Raw) (unit : UnitValue) (refusal : Refusal) : Type 0 where
   pub refusal_is : refusal ≡ Exhausted
   pub two : most_reserved ≤ taken unit.counts + 1
@@ -72,9 +72,9 @@ abbrev pub IsRereading : Raw → UnitValue → UnitValue → Result Verdict Refu
 IsRereading raw old new (Ok verdict) = HasJudgedAgain raw old new verdict ⊎ HasJudgedOthers raw old new verdict
 IsRereading raw old new (Err refusal) = IsRereadRefusal raw old refusal
 
--- ---- of a unit that a handle holds
+-- ---- for a unit that a handle holds
 
--- by whether the next words decide what becomes of those at which it stopped
+-- depending on whether the next words decide what becomes of those at which it stopped
 abbrev pub IsJudgementBy : Bool → Raw → UnitValue → UnitValue → Result Verdict Refusal → Type 0
 IsJudgementBy false raw old new answer = IsJudgement raw old new answer × StaysSettled old new (took_by raw answer)
 IsJudgementBy true raw old new answer = IsRereading raw old new answer

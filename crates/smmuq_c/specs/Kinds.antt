@@ -12,7 +12,7 @@ kind_of (ReservationOf r) = 2
 kind_of (EngineOf e) = 3
 kind_of (ConsumerOf c) = 4
 
--- 0 where it is empty
+-- 0 if it is empty
 abbrev pub kind_in : Option Object → ℕ
 kind_in None = 0
 kind_in (Some object) = kind_of object

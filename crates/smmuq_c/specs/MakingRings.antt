@@ -24,7 +24,7 @@ use Rattle.smmuq_c.specs.Making.{IsNewUnit}
 abbrev pub IsNewEngine : ℕ → ConsumerValue UnitValue → Object → Type 0
 IsNewEngine capacity consumer object = (unit : UnitValue) × IsNewUnit capacity unit × (object ≡ EngineOf (record { consumer = consumer; unit = unit }))
 
--- the consumer alone, of which nothing is pending
+-- the consumer, with nothing pending
 abbrev pub IsNewConsumer : ConsumerValue CallersDevice → Object → Type 0
 IsNewConsumer consumer object = object ≡ ConsumerOf (with_none consumer)
 
@@ -42,7 +42,7 @@ pub record AreNewSeats {D : Type 0} (is_taker : ConsumerValue D → Object → T
 abbrev pub objects_in : List Handle → List (Option Object)
 objects_in handles = map (λ (h : Handle). h.object) handles
 
--- as many as the handles are, cut to 32 bits
+-- the number of handles, at most 2^32 - 1
 abbrev pub sender_count : List Handle → ℕ
 sender_count handles = min (length handles) (2 ^ 32 - 1)
 

@@ -35,7 +35,7 @@ remedy_number Retry = 0
 remedy_number Replace = 1
 remedy_number Reread = 2
 
--- how the unit stands by it, until the next words come
+-- how the unit stands until the next words come
 abbrev pub remedy_for : StopRemedy → Remedy
 remedy_for Retry = engine.Retry
 remedy_for Replace = engine.Replace
@@ -61,7 +61,7 @@ pub record HasAcknowledged (gerrorn : ℕ) (remedy : Remedy) (old new : UnitValu
   pub err : OnErr answer (new ≡ old)
   pub status_is : status ≡ acknowledgement_status answer
 
--- The same of a unit that a handle holds.
+-- The same for a unit that a handle holds.
 pub record HasAcknowledgedHeld (gerrorn : ℕ) (remedy : StopRemedy) (old new : HeldValue) (status : Status) : Type 0 where
   pub answer : Result ⊤ AckFault
   pub answered : IsAcknowledgementAnswer old.unit.stop gerrorn answer

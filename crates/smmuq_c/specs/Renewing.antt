@@ -42,7 +42,7 @@ pub record IsRenewed (sizes : Sizes) (senders : List Handle) (old new : EngineVa
   pub own : AreOwn old.unit.caches.entries
   pub goes_on : IsRing (GoesOnFrom old.unit sizes.capacity) sizes.log2 sizes.max_batches senders (Some (EngineOf new))
 
--- why it isn't renewed, where nothing waits
+-- why it isn't renewed if nothing waits
 abbrev pub IsNotRenewed : Sizes → ℕ → EngineValue → Status → Type 0
 IsNotRenewed sizes senders old (Ring why) = IsUnmade sizes senders old.unit.caches.entries (fault.Ring why)
 IsNotRenewed sizes senders old (Cache why) = IsUnmade sizes senders old.unit.caches.entries (fault.Caches why)
@@ -50,8 +50,8 @@ IsNotRenewed sizes senders old NoMemory =
     IsCapacity sizes.capacity × (number_fault sizes.log2 senders sizes.max_batches ≡ None) × (finite.len old.unit.caches.entries ≤ sizes.capacity)
 IsNotRenewed sizes senders old other = ⊥
 
--- It is renewed; or the engine has looked and goes on, and all handles are as before: since a command waits, by that look, or
--- since no new ring was made.
+-- It is renewed; or the engine has looked and goes on, and all handles are as before: a command waits, by that look, or
+-- no new ring was made.
 abbrev pub HasRenewed : Sizes → List Handle → List Handle → EngineValue → EngineValue → Status → Type 0
 HasRenewed sizes old_senders senders old new Done = IsRenewed sizes senders old new
 HasRenewed sizes old_senders senders old new Waiting = EngineHasLooked old new × SawWaiting new.consumer.trail × (senders ≡ old_senders)

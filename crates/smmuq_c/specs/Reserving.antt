@@ -40,7 +40,7 @@ HasReserved commands other new status = (new ≡ other) × (status ≡ WrongHand
 
 -- ---- publishing
 
--- All of the reservation was written and handed over, and this is the number of its CMD_SYNC.
+-- All of the reservation was written and published, and this is the number of its CMD_SYNC.
 pub record IsPublished (number : ℕ) (old : ReservationValue) (new : SenderValue) : Type 0 where
   pub sender_is : record new { history = [] } ≡ sender_of (published (record old { history = [] }))
   pub settled : IsSettled new.trail

@@ -52,7 +52,7 @@ HasTakenRun old_buffer new_buffer told old new status =
 
 -- ---- completing
 
--- The first so many of the pending commands were taken, all with this outcome, and then each CMD_SYNC among them was
+-- The first `count` pending commands were taken, all with this outcome, and then each CMD_SYNC among them was
 -- acknowledged. None is pending then.
 pub record HasCompleted (count : ℕ) (outcome : Outcome) (old new : HeldConsumer) : Type 0 where
   pub device : CallersDevice
@@ -64,11 +64,11 @@ pub record HasCompleted (count : ℕ) (outcome : Outcome) (old new : HeldConsume
   pub taken_are : taken_of new.consumer.trail ≡ taken_of old.consumer.trail ++ map (with_outcome outcome) (take count old.raws)
   pub none_pending : new.raws ≡ []
 
--- the first so many commands are legal
+-- the first `count` commands are legal
 abbrev pub AreLegal : ℕ → List Raw → Type 0
 AreLegal count raws = (i : ℕ) (raw : Raw) → i < count → slice_get raws i ≡ Some raw → first_ill raw ≡ None
 
--- This is illegal in one of the first so many commands, and those ahead of that one are legal.
+-- This is illegal in one of the first `count` commands, and those before that one are legal.
 pub record IsFirstIllegal (count : ℕ) (raws : List Raw) (ill : Ill) : Type 0 where
   pub place : ℕ
   pub raw : Raw
@@ -77,8 +77,8 @@ pub record IsFirstIllegal (count : ℕ) (raws : List Raw) (ill : Ill) : Type 0 w
   pub ill_is : first_ill raw ≡ Some ill
   pub legal : AreLegal place raws
 
--- So many commands were completed: legal ones, or one illegal one, without effect. An illegal one among several is
--- refused, as is a number that isn't one of pending commands.
+-- `count` commands were completed: legal ones, or one illegal one, without effect. An illegal one among several is
+-- refused, as is a count of 0 or above that of the pending commands.
 abbrev pub HasCompletedFor : ℕ → HeldConsumer → HeldConsumer → Status → Type 0
 HasCompletedFor count old new Done = HasCompleted count Applied old new
 HasCompletedFor count old new status.Replaced = (count ≡ 1) × HasCompleted count Replaced old new

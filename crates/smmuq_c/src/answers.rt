@@ -73,7 +73,7 @@ pub(crate) fn fill_status(filled: Result<Option<Entry>, CacheFault>) -> Status
     }
 }
 
-/// Tells the entry, where there is one.
+/// Tells the entry, if there is one.
 pub(crate) fn tell_entry(entry: Option<Entry>, told: &mut Held) -> Status
     ensures status { result ≡ entry_status entry }
     ensures told { IfSome entry (λ entry. told.new ≡ entry_words entry) }

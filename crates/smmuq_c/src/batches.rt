@@ -8,7 +8,7 @@ use crate::status::Status;
 use batch::Batch;
 use cmdcodec::{Asid, Page, Raw, Sid, Vmid};
 
-/// Writes a batch's commands to a buffer, and tells how many they are.
+/// Writes a batch's commands to a buffer, and their number to `count`.
 fn give(batch: &Batch, buffer: &mut [Raw], count: &mut usize) -> Status
     ensures { IsGiven batch.now buffer.old buffer.new count.new result }
 {
@@ -20,9 +20,9 @@ fn give(batch: &Batch, buffer: &mut [Raw], count: &mut usize) -> Status
     Status::Done
 }
 
-/// The commands that invalidate `pages` pages of an address space from the one that holds `address` on, at most 63, and
-/// how many they are. B3, B4 or B1 where there are none; `BAD_FIELD` where `vmid` or `asid` has more than 16 bits.
-/// Where the buffer is too short, the number of commands is told all the same.
+/// Writes the commands that invalidate `pages` pages of an address space from the one that holds `address` on, at most
+/// 63, and their number. B3, B4 or B1 if there are none; `BAD_FIELD` if `vmid` or `asid` has more than 16 bits. If the
+/// buffer is too short, the number of commands is told all the same.
 #[unsafe(no_mangle)]
 pub extern "C" fn smmuq_range(
     vmid: u32,
@@ -60,8 +60,8 @@ fn write_range(
     }
 }
 
-/// The three commands that detach a stream, and that they are three. Where the buffer is too short, that is told all
-/// the same.
+/// Writes the three commands that detach a stream, and their number, 3. If the buffer is too short, the number is told
+/// all the same.
 #[unsafe(no_mangle)]
 pub extern "C" fn smmuq_detach(sid: u32, buffer: &mut [Raw], count: &mut usize) -> u32
     ensures { Answers (HasDetach sid buffer.old buffer.new count.new) result }

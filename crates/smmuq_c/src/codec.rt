@@ -28,7 +28,7 @@ fn decode_status(decoded: Result<Command, Ill>) -> Status
     }
 }
 
-/// 0 where the words are legal, else what is first illegal in them, 1 to 4.
+/// Returns 0 if the words are legal, else the number of the first fault in them, 1 to 4.
 #[unsafe(no_mangle)]
 pub extern "C" fn smmuq_check(lo: u64, hi: u64) -> u32
     ensures { result ≡ number_of (decode_status (decoding (record { lo = lo; hi = hi }))) }
@@ -36,7 +36,7 @@ pub extern "C" fn smmuq_check(lo: u64, hi: u64) -> u32
     decode_status(decode(Raw { lo, hi })).number()
 }
 
-/// The same, and the fields of legal words.
+/// The same, and writes the fields of legal words.
 #[unsafe(no_mangle)]
 pub extern "C" fn smmuq_decode(lo: u64, hi: u64, fields: &mut Fields) -> u32
     ensures status { result ≡ number_of (decode_status (decoding (record { lo = lo; hi = hi }))) }
@@ -51,8 +51,8 @@ pub extern "C" fn smmuq_decode(lo: u64, hi: u64, fields: &mut Fields) -> u32
     }
 }
 
-/// The words of the command that the fields say, all free bits 0. Fields that it doesn't have don't matter. `BAD_FIELD`
-/// where they say none.
+/// Writes the words of the command that the fields say, all free bits 0. Fields that it doesn't have are ignored.
+/// `BAD_FIELD` if they say none.
 #[unsafe(no_mangle)]
 pub extern "C" fn smmuq_encode(fields: &Fields, words: &mut Raw) -> u32
     ensures { Answers (HasEncoded fields.now words.old words.new) result }
@@ -70,8 +70,8 @@ fn encode_fields(fields: &Fields, words: &mut Raw) -> Status
     Status::Done
 }
 
-/// The text of legal words, ended by a 0, and its length without it. Where the buffer is too short, the length that it
-/// wants is told all the same.
+/// Writes the text of legal words, ended by a 0, and its length without that. If the buffer is too short, the length is
+/// told all the same.
 #[unsafe(no_mangle)]
 pub extern "C" fn smmuq_text(
     alloc: Global,
@@ -97,7 +97,7 @@ fn write_text(alloc: Global, raw: Raw, buffer: &mut [u8], written: &mut usize) -
     }
 }
 
-/// Copies a text and a 0 behind it, and tells its length.
+/// Copies a text and a 0 after it, and tells its length.
 pub(crate) fn copy_text(line: &[u8], buffer: &mut [u8], written: &mut usize) -> Status
     ensures { IsCopied line.now buffer.old buffer.new written.new result }
 {

@@ -8,9 +8,9 @@ use crate::status::Status;
 use cmdcodec::Raw;
 use std::alloc::Global;
 
-/// Tells the words of the commands that are ready from the ring's head on, as many as the buffer has room for, up to 64,
-/// and how many they are. They stay in the ring until they are completed, and the next take finds them again.
-/// `SHORT_BUFFER` where there is no room; `RING_EMPTY`, `RING_DRAINED` or `RING_UNWRITTEN` where no command is ready.
+/// Writes the commands that are ready from the ring's head on, as many as the buffer has room for, up to 64, and their
+/// number. They stay in the ring until they are completed, and the next take finds them again. `SHORT_BUFFER` if there
+/// is no room; `RING_EMPTY`, `RING_DRAINED` or `RING_UNWRITTEN` if no command is ready.
 #[unsafe(no_mangle)]
 pub extern "C" fn smmuq_take_run(
     alloc: Global,
@@ -38,9 +38,9 @@ fn take_run(object: &mut Object, buffer: &mut [Raw], count: &mut usize) -> Statu
     }
 }
 
-/// Completes the first `count` of the commands that the last take told: they leave the ring, and then each CMD_SYNC among
-/// them is acknowledged to its sender. The caller has given them their effect before. `REPLACED` where it is a single
-/// illegal one, which had none; 1 to 4 where an illegal one is among several, `BAD_FIELD` where `count` is 0 or more than
+/// Completes the first `count` of the commands that the last take told: they leave the ring, and then each CMD_SYNC
+/// among them is acknowledged to its sender. The caller must have given them their effect before. `REPLACED` if it is a
+/// single illegal one, which had none; 1 to 4 if one of several is illegal, `BAD_FIELD` if `count` is 0 or more than
 /// were told: then none is completed.
 #[unsafe(no_mangle)]
 pub extern "C" fn smmuq_complete(alloc: Global, consumer: &mut Handle, count: usize) -> u32

@@ -8,9 +8,9 @@ use crate::status::Status;
 use crate::words::{RegisterWords, RunWords};
 use std::alloc::Global;
 
-/// Takes up to `most` commands, cut to 1 to 64, and applies them: 0 where some were applied, 1 to 4 where the engine
-/// stopped at one, `REPLACED` where one was taken without effect; `RING_EMPTY`, `RING_DRAINED`, `RING_UNWRITTEN`,
-/// `STILL_STOPPED` or `EXHAUSTED` where none was taken.
+/// Takes up to `most` commands, cut to 1 to 64, and applies them: 0 if some were applied, 1 to 4 if the engine stopped
+/// at one, `REPLACED` if one was taken without effect; `RING_EMPTY`, `RING_DRAINED`, `RING_UNWRITTEN`, `STILL_STOPPED`
+/// or `EXHAUSTED` if none was taken.
 #[unsafe(no_mangle)]
 pub extern "C" fn smmuq_run(
     alloc: Global,

@@ -10,8 +10,8 @@ use crate::tags::{TagWords, tag_of};
 use crate::words::Held;
 use std::alloc::Global;
 
-/// Puts an entry into the caches of a unit or an engine. It is born now. `BAD_FIELD` where the tag isn't one; C2, C1 or
-/// C3 as of `Caches::fill`.
+/// Puts an entry, born now, into the caches of a unit or an engine. `BAD_FIELD` if the tag isn't one; C2, C1 or C3 as
+/// for `Caches::fill`.
 #[unsafe(no_mangle)]
 pub extern "C" fn smmuq_fill(alloc: Global, handle: &mut Handle, tag: &TagWords, value: u64) -> u32
     ensures { HasCalled (OfSaid (IsTagOf tag.now) (λ t. HasFilled t value)) handle.old.object handle.new.object result }
@@ -37,8 +37,7 @@ fn fill(object: &mut Object, tag: &TagWords, value: u64) -> Status
     }
 }
 
-/// Tells what a unit or an engine holds under a tag. `NOT_HELD` where it holds nothing, `BAD_FIELD` where the tag isn't
-/// one.
+/// Tells what a unit or an engine holds under a tag. `NOT_HELD` if it holds nothing, `BAD_FIELD` if the tag isn't one.
 #[unsafe(no_mangle)]
 pub extern "C" fn smmuq_lookup(
     alloc: Global,
@@ -69,8 +68,8 @@ fn lookup(object: &Object, tag: &TagWords, held: &mut Held) -> Status
     }
 }
 
-/// Removes what a unit or an engine holds under a tag, and tells it. `NOT_HELD` where it holds nothing, `BAD_FIELD`
-/// where the tag isn't one.
+/// Removes what a unit or an engine holds under a tag, and tells it. `NOT_HELD` if it holds nothing, `BAD_FIELD` if the
+/// tag isn't one.
 #[unsafe(no_mangle)]
 pub extern "C" fn smmuq_evict(
     alloc: Global,

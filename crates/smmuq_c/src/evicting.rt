@@ -1,4 +1,4 @@
-//! Throwing entries out by their kinds, and the export that does it.
+//! Evicting entries by their kinds, and the export that does it.
 ghost use Rattle.std.specs.Prelude.{◌≡◌};
 ghost use Rattle.smmuq_c.specs.Calls.{HasCalled, OfSaid};
 ghost use Rattle.smmuq_c.specs.Evicting.{AreKindsOf, has_kind, HasEvictedAll};
@@ -17,7 +17,7 @@ pub(crate) struct Kinds {
 }
 
 impl Kinds {
-    /// Those of a mask, where it has no other bit.
+    /// Returns the kinds of a mask, or None if it has another bit.
     fn of(mask: u32) -> Option<Kinds>
         ensures { AreKindsOf mask result }
     {
@@ -37,9 +37,9 @@ impl Kinds {
     }
 }
 
-/// Throws out all entries of a unit or an engine whose tags are of some kinds, and tells how many they were. Bit
-/// `kind - 1` of `kinds` stands for each of the kinds 1 to 6: 0x3f throws out all entries, 0 none. `BAD_FIELD` where
-/// another bit is set, C3 where memory is wanting: then nothing changed.
+/// Evicts all entries of a unit or an engine whose tags are of some kinds, and tells how many they were. Bit `kind - 1`
+/// of `kinds` stands for each of the kinds 1 to 6: 0x3f evicts all entries, 0 none. `BAD_FIELD` if another bit is set,
+/// C3 if memory runs out: then nothing changed.
 #[unsafe(no_mangle)]
 pub extern "C" fn smmuq_evict_all(
     alloc: Global,

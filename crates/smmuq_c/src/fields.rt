@@ -4,7 +4,7 @@ mod to_command;
 
 pub(crate) use to_command::command_of;
 
-/// The fields of a command, 0 where it has no such field.
+/// The fields of a command, 0 for those it doesn't have.
 #[repr(C)]
 #[derive(Clone, Copy)]
 pub struct Fields {

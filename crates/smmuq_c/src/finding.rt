@@ -15,7 +15,7 @@ use caches::{Entry, Scope, Tag};
 use cmdcodec::{Asid, Page, Sid, Ssid, Vmid};
 use std::alloc::Global;
 
-/// Whose translations are looked for.
+/// The owner whose translations are looked up.
 #[derive(Clone, Copy)]
 pub(crate) enum Owner {
     /// Stage 1 of an address space of a virtual machine.
@@ -140,7 +140,7 @@ fn find_at(object: &Object, owner: &Owner, page: Page, span: u8) -> Option<Entry
     held_under(object, &shared)
 }
 
-/// The entry that holds a page, of the greatest of these spans at which one is held.
+/// Returns the entry that holds a page, at the greatest of these spans that has one.
 fn find_entry(object: &Object, owner: &Owner, page: Page, spans: u64) -> Option<Entry>
     ensures { IsFound (entries_of object.now) owner.now page spans result }
 {
@@ -180,7 +180,7 @@ fn page_of(address: u64) -> Page
     Page::new(address / 4096).unwrap()
 }
 
-/// What is looked for: an address, the spans to be tried, and whose translations, by three words.
+/// What is looked up: an address, the spans to try, and the owner, as three words.
 #[derive(Clone, Copy)]
 struct Sought {
     kind: u32,
@@ -191,10 +191,10 @@ struct Sought {
 }
 
 /// Tells the entry of a unit or an engine that holds an address, and its tag. `kind` is 3 to 6, as in a tag; `owner` is
-/// the VMID, of kind 6 the stream, and doesn't matter of kind 5; `space` is the ASID, of kind 6 the substream, and
-/// doesn't matter of kind 4. Each span whose bit is set in `spans`, 0 to 52, is tried, the greatest first, and of each
-/// the entry of that space ahead of the global one, or of that of no substream. `NOT_HELD` where none is held,
-/// `BAD_FIELD` where the words say no owner.
+/// the VMID, or for kind 6 the stream, and is ignored for kind 5; `space` is the ASID, or for kind 6 the substream, and
+/// is ignored for kind 4. Each span whose bit is set in `spans`, 0 to 52, is tried, the greatest first, and at each the
+/// entry of that space before the global one, or before that of no substream. `NOT_HELD` if none is held, `BAD_FIELD`
+/// if the words say no owner.
 #[unsafe(no_mangle)]
 pub extern "C" fn smmuq_find(
     alloc: Global,

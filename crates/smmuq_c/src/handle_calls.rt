@@ -8,8 +8,8 @@ use crate::object::Object;
 use crate::status::Status;
 use std::alloc::Global;
 
-/// Frees what a handle of any kind owns, and leaves it empty. An empty one stays so. `OPEN_RESERVATION` of a sender that has
-/// one: then nothing is freed.
+/// Frees what a handle of any kind owns, and leaves it empty. An empty one stays so. `OPEN_RESERVATION` for a sender
+/// that has one: then nothing is freed.
 #[unsafe(no_mangle)]
 pub extern "C" fn smmuq_free(alloc: Global, handle: &mut Handle) -> u32
     ensures { Answers (HasFreed handle.old.object handle.new.object) result }
@@ -31,7 +31,7 @@ fn is_reservation(object: &Object) -> bool
     matches!(object, Object::Reservation(_))
 }
 
-/// 0 for an empty handle, 1 for a unit, 2 for a sender, 3 for an engine, 4 for a consumer.
+/// Returns 0 for an empty handle, 1 for a unit, 2 for a sender, 3 for an engine, 4 for a consumer.
 #[unsafe(no_mangle)]
 pub extern "C" fn smmuq_kind(alloc: Global, handle: &mut Handle) -> u32
     ensures kind { result ≡ kind_in handle.old.object }

@@ -64,7 +64,7 @@ pub(crate) enum Refusal {
     Exhausted,
 }
 
-/// Empty caches for so many entries, 1 to 65,536: C4 refuses another number.
+/// Returns empty caches for `capacity` entries. C4 if that isn't 1 to 65,536.
 pub(crate) fn new_caches(alloc: Global, capacity: u32) -> Result<Caches, Status>
     ensures ok { IfOk result (λ caches. AreNewCaches capacity caches) }
     ensures err { OnErr result (result ≡ Err (Status.Cache CacheFault.BadCapacity)) }
@@ -76,7 +76,7 @@ pub(crate) fn new_caches(alloc: Global, capacity: u32) -> Result<Caches, Status>
     }
 }
 
-/// Evicts the entries of these kinds from a unit, all of whose entries are listed: how many they were.
+/// Evicts the entries of these kinds from a unit, and returns how many they were. `all` lists all its entries.
 fn evict_kinds(unit: &mut Unit, all: &[Entry], kinds: Kinds) -> usize
     requires listed { all.now ≡ finite.values unit.old.caches.entries }
     requires own { AreOwn unit.old.caches.entries }
@@ -93,7 +93,7 @@ fn evict_kinds(unit: &mut Unit, all: &[Entry], kinds: Kinds) -> usize
 }
 
 impl HeldUnit {
-    /// A unit with empty caches for so many entries, 1 to 65,536: C4 refuses another number.
+    /// Returns a unit with empty caches for `capacity` entries. C4 if that isn't 1 to 65,536.
     pub(crate) fn new(alloc: Global, capacity: u32) -> Result<HeldUnit, Status>
         ensures ok { IfOk result (λ held. IsNewUnit capacity held.unit) }
         ensures told { IfOk result (λ held. held.rereads ≡ false) }
@@ -126,7 +126,7 @@ impl HeldUnit {
         verdict
     }
 
-    /// Judges a command, where it is one that may come next.
+    /// Judges a command, if it may come next.
     fn judge_next(&mut self, raw: Raw) -> Result<Verdict, Refusal>
         requires decided { self.old.rereads ≡ false }
         ensures judged { IsJudgement raw self.old.unit self.new.unit result }
@@ -147,18 +147,18 @@ impl HeldUnit {
         Ok(self.judge_now(raw))
     }
 
-    /// The unit, which is stopped, is told what becomes of the words at which it stopped.
+    /// Tells the stopped unit what becomes of the words at which it stopped.
     fn decide(&mut self, remedy: Remedy)
         requires undecided { self.old.rereads ≡ true }
         ensures { self.new ≡ record { unit = record self.old.unit { stop = told remedy self.old.unit.stop }; rereads = false } }
     {
         let (_, gerror, _) = self.unit.error();
-        // CMDQ_ERR of this word is that of SMMU_GERROR: it isn't refused.
+        // CMDQ_ERR of this word is that of SMMU_GERROR, so it isn't refused.
         let _ = self.unit.acknowledge(gerror, remedy);
         self.rereads = false;
     }
 
-    /// Takes the words at which the unit stopped without effect.
+    /// Takes, without effect, the words at which the unit stopped.
     fn replace(&mut self, awaited: Raw)
         requires undecided { self.old.rereads ≡ true }
         requires next { self.old.unit.stop.next ≡ Some awaited }
@@ -237,7 +237,7 @@ impl HeldUnit {
         tell_entry(self.unit.evict(tag), told)
     }
 
-    /// Throws out the entries of these kinds, and tells how many they were.
+    /// Evicts the entries of these kinds, and tells how many they were.
     pub(crate) fn evict_all(&mut self, kinds: Kinds, count: &mut usize) -> Status
         ensures evicted { HasEvictedAll kinds count.new self.old.unit self.new.unit result }
         ensures rereads { self.new ≡ record self.old { unit = self.new.unit } }
@@ -259,21 +259,21 @@ impl HeldUnit {
         tell_entry(self.unit.lookup(tag), told)
     }
 
-    /// A witness that its entries are settled as they are. It does nothing.
+    /// Shows that its entries are settled as they are. It does nothing.
     pub(crate) fn is_settled(&self)
         ensures { StaysSettled self.now.unit self.now.unit [] }
     {
         let _ = &self.unit;
     }
 
-    /// The entry of this tag that is held, if one is.
+    /// Returns the entry of this tag, if one is held.
     pub(crate) fn entry(&self, tag: &Tag) -> Option<Entry>
         ensures { result ≡ finite.get self.now.unit.caches.entries tag.now }
     {
         self.unit.lookup(tag)
     }
 
-    /// Tells all entries, and how many they are.
+    /// Writes all entries to the buffer, and tells how many they are.
     pub(crate) fn entries(&self, buffer: &mut [EntryWords], count: &mut usize) -> Status
         ensures listed { IsListed (finite.values self.now.unit.caches.entries) buffer.old buffer.new count.new result }
         ensures settled { StaysSettled self.now.unit self.now.unit [] }
@@ -309,7 +309,7 @@ impl HeldUnit {
         Tallies::from(self.unit.counts())
     }
 
-    /// What an acknowledgement with this word is answered.
+    /// Returns the answer to an acknowledgement with this word.
     fn acknowledgement(&self, gerrorn: u32) -> Result<(), AckFault>
         ensures { IsAcknowledgementAnswer self.now.unit.stop gerrorn result }
     {

@@ -136,7 +136,7 @@ impl EntryWords {
     }
 }
 
-/// Writes entries to a buffer, and tells how many they are.
+/// Writes entries to a buffer, and their number to `count`.
 pub(crate) fn give_entries(
     entries: &[Entry],
     buffer: &mut [EntryWords],
@@ -161,8 +161,8 @@ fn write_entries(entries: &[Entry], buffer: &mut [EntryWords])
     }
 }
 
-/// Tells all entries that a unit or an engine holds, in the order of their tags, and how many they are. Where the
-/// buffer is too short, the number of entries is told all the same; C3 where memory ran out.
+/// Tells all entries that a unit or an engine holds, in the order of their tags, and how many they are. If the buffer
+/// is too short, the number of entries is told all the same; C3 if memory ran out.
 #[unsafe(no_mangle)]
 pub extern "C" fn smmuq_entries(
     alloc: Global,

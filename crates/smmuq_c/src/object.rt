@@ -18,7 +18,7 @@ pub(crate) enum Object {
 
 fn may_cross_threads<T: Send>(_value: &T) {}
 
-/// A witness that C may hand a handle from one thread to another. It does nothing.
+/// Shows that C may pass a handle from one thread to another. It does nothing.
 pub(crate) fn objects_may_cross_threads(object: &Object) {
     may_cross_threads(object);
 }

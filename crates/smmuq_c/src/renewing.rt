@@ -9,10 +9,10 @@ use crate::status::Status;
 use renewal::Sizes;
 use std::alloc::Global;
 
-/// Where nothing waits in an engine's ring, makes a new one as `smmuq_ring_new` does, and fills these handles with its
-/// senders. The engine goes on in it with the same entries, each older than whatever comes. Q6 where a command is reserved
-/// that isn't taken; C4, N1, N2, N3, N4, C1, C3 or `NO_MEMORY` where no ring or no caches are made for it: then all handles
-/// are as before.
+/// If nothing waits in an engine's ring, makes a new one as `smmuq_ring_new` does, and fills these handles with its
+/// senders. The engine goes on in it with the same entries, each older than whatever comes. Q6 if a command is reserved
+/// that isn't taken; C4, N1, N2, N3, N4, C1, C3 or `NO_MEMORY` if no ring or no caches are made for it: then all
+/// handles are as before.
 #[unsafe(no_mangle)]
 pub extern "C" fn smmuq_renew(
     alloc: Global,

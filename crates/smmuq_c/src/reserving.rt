@@ -11,9 +11,9 @@ use cmdcodec::Raw;
 use core::mem::replace_with;
 use std::alloc::Global;
 
-/// Reserves the slots of a batch of 1 to 63 commands and its closing CMD_SYNC, by one try, and keeps the commands: nothing of
-/// it is written until it is published. B5, B1 or B2 where the commands are no batch; Q1 to Q5; `OPEN_RESERVATION` where the
-/// sender has one already.
+/// Reserves the slots of a batch of 1 to 63 commands and its closing CMD_SYNC, in one try, and keeps the commands:
+/// nothing of it is written until it is published. B5, B1 or B2 if the commands are no batch; Q1 to Q5;
+/// `OPEN_RESERVATION` if the sender has one already.
 #[unsafe(no_mangle)]
 pub extern "C" fn smmuq_reserve(alloc: Global, sender: &mut Handle, commands: &[Raw]) -> u32
     ensures { HasCalled (HasReserved commands.now) sender.old.object sender.new.object result }
@@ -39,8 +39,8 @@ fn reserve(object: Object, commands: &[Raw]) -> (Object, Status)
     }
 }
 
-/// Writes what the sender reserved and hands it over, and tells the number of its CMD_SYNC. `NO_RESERVATION` where nothing
-/// is reserved.
+/// Writes and publishes what the sender reserved, and tells the number of its CMD_SYNC. `NO_RESERVATION` if nothing is
+/// reserved.
 #[unsafe(no_mangle)]
 pub extern "C" fn smmuq_publish(alloc: Global, sender: &mut Handle, number: &mut u32) -> u32
     ensures { HasCalled (HasPublished number.new) sender.old.object sender.new.object result }

@@ -29,8 +29,8 @@ struct Seats {
 }
 
 /// Makes a ring of `2^log2` slots, and fills a handle for each sender, in the order of their numbers, and one for its
-/// engine, whose caches hold `capacity` entries. Each sender may reserve `max_batches` batches. What the handles held is
-/// dropped. C4, N1, N2, N3, N4 or `NO_MEMORY` where none is made: then all handles are as before.
+/// engine, whose caches hold `capacity` entries. Each sender may reserve `max_batches` batches. What the handles held
+/// is dropped. C4, N1, N2, N3, N4 or `NO_MEMORY` if none is made: then all handles are as before.
 #[unsafe(no_mangle)]
 pub extern "C" fn smmuq_ring_new(
     alloc: Global,
@@ -64,8 +64,8 @@ fn make_ring(
     }
 }
 
-/// The same with a consumer's handle in place of the engine's: who has it takes the commands himself. N1, N2, N3, N4 or
-/// `NO_MEMORY` where none is made: then all handles are as before.
+/// The same with a consumer's handle instead of the engine's: its holder takes the commands. N1, N2, N3, N4 or
+/// `NO_MEMORY` if none is made: then all handles are as before.
 #[unsafe(no_mangle)]
 pub extern "C" fn smmuq_consumer_ring_new(
     alloc: Global,
@@ -103,7 +103,7 @@ pub(crate) fn count_of(handles: &[Handle]) -> u32
     handles.len().min(u32::MAX as usize) as u32
 }
 
-/// All that a ring with an engine takes memory for.
+/// Allocates all that a ring with an engine needs.
 fn engine_seats(
     alloc: Global,
     log2: u32,
@@ -134,7 +134,7 @@ fn engine_seats(
     }
 }
 
-/// All that a ring without one takes memory for.
+/// Allocates all that a ring without an engine needs.
 fn consumer_seats(alloc: Global, log2: u32, senders: u32, max_batches: u32) -> Result<Seats, Status>
     ensures made { IfOk result (λ s. AreNewSeats IsNewConsumer log2 senders max_batches (boxed s.senders.items) s.taker.value) }
     ensures refused { IfErr result (λ status. IsNoRing log2 senders max_batches status) }
@@ -160,7 +160,7 @@ fn consumer_seats(alloc: Global, log2: u32, senders: u32, max_batches: u32) -> R
     }
 }
 
-/// The ring for all of its seats, and a seat for each sender.
+/// Shares the ring among its seats, and makes a seat for each sender.
 pub(crate) fn share(
     alloc: Global,
     ring: Ring,
@@ -175,7 +175,7 @@ pub(crate) fn share(
     Ok((ring, seats))
 }
 
-/// A seat for each sender, the last first.
+/// Makes a seat for each sender, the last first.
 fn seat_all(
     alloc: Global,
     ring: &Arc<Ring>,

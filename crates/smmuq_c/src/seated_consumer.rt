@@ -14,8 +14,8 @@ use ring::{Consumer, Device, Outcome, PendingRun, Ring, TakenRun};
 use std::marker::Model;
 use std::sync::Arc;
 
-/// What has the effect of the commands: hardware or a queue of the caller's, of which nothing is known here. That it
-/// has had their effect before they are completed is what the caller owes.
+/// What gives the commands their effect: hardware or a queue of the caller's, of which nothing is known here. The
+/// caller must see to it that they have had their effect before they are completed.
 #[derive(Drop)]
 pub(crate) struct CallersDevice;
 
@@ -33,7 +33,7 @@ enum Stand {
 }
 
 impl Stand {
-    /// The consumer alone: what is pending stays in the ring.
+    /// Returns the consumer; what is pending stays in the ring.
     fn into_consumer(self) -> Consumer<CallersDevice>
         ensures consumer { result ≡ (standing self).consumer }
         ensures seen { (raw : RawOf) (rest : List RawOf) → (standing self).raws ≡ raw ∷ rest → HasSeen result.trail raw }
@@ -82,7 +82,7 @@ impl Drop for Stand {
     }
 }
 
-/// Writes the commands of a run to a buffer: how many they are.
+/// Writes the commands of a run to a buffer, and returns how many they are.
 fn tell(run: &PendingRun<CallersDevice>, buffer: &mut [Raw]) -> usize
     requires room { length run.now.raws ≤ length buffer.old }
     ensures count { result ≡ length run.now.raws }
@@ -95,7 +95,7 @@ fn tell(run: &PendingRun<CallersDevice>, buffer: &mut [Raw]) -> usize
     count
 }
 
-/// What is illegal in the first illegal one of the first `count` commands of a run, if one is.
+/// Returns the fault of the first illegal command among the first `count` of a run, if any.
 fn first_illegal(run: &PendingRun<CallersDevice>, count: u32) -> Option<Ill>
     requires within { count ≤ length run.now.raws }
     ensures { MatchOption result (HasOutcome Applied (take count run.now.raws)) (λ ill. IsFirstIllegal count run.now.raws ill) }
@@ -109,7 +109,7 @@ fn first_illegal(run: &PendingRun<CallersDevice>, count: u32) -> Option<Ill>
     None
 }
 
-/// Completes the first `count` commands of a run: legal ones as applied, and an illegal one alone as replaced.
+/// Completes the first `count` commands of a run: legal ones as applied, a single illegal one as replaced.
 fn complete_first(run: PendingRun<CallersDevice>, ring: &Ring, count: usize) -> (Stand, Status)
     requires ring { run.consumer.ring ≡ ring.now }
     ensures completed { HasCompletedFor count run (standing result.0) result.1 }

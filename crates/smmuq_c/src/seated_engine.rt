@@ -51,7 +51,7 @@ impl Model for SeatedEngine {
     ghost invariant = { λ e. (e.engine.consumer.ring ≡ arc_value e.ring) × AreOwn e.engine.unit.caches.entries };
 }
 
-/// Evicts the entries of these kinds from an engine, all of whose entries are listed: how many they were.
+/// Evicts the entries of these kinds from an engine, and returns how many they were. `all` lists all its entries.
 fn evict_kinds(engine: &mut Engine, all: &[Entry], kinds: Kinds) -> usize
     requires listed { all.now ≡ finite.values engine.old.unit.caches.entries }
     requires own { AreOwn engine.old.unit.caches.entries }
@@ -79,7 +79,7 @@ impl SeatedEngine {
         SeatedEngine { ring, engine }
     }
 
-    /// Takes up to so many commands, cut to 1 to 64, and applies them.
+    /// Takes up to `most` commands, cut to 1 to 64, and applies them.
     pub(crate) fn run(&mut self, most: u32, told: &mut RunWords) -> Status
         ensures { HasRunFor most told.new self.old self.new result }
     {
@@ -136,7 +136,7 @@ impl SeatedEngine {
         tell_entry(self.engine.evict(tag), told)
     }
 
-    /// Throws out the entries of these kinds, and tells how many they were.
+    /// Evicts the entries of these kinds, and tells how many they were.
     pub(crate) fn evict_all(&mut self, kinds: Kinds, count: &mut usize) -> Status
         ensures evicted { HasEvictedAll kinds count.new self.old.unit self.new.unit result }
         ensures consumer { self.new ≡ record self.old { unit = self.new.unit } }
@@ -160,21 +160,21 @@ impl SeatedEngine {
         tell_entry(self.engine.lookup(tag), told)
     }
 
-    /// A witness that its entries are settled as they are. It does nothing.
+    /// Shows that its entries are settled as they are. It does nothing.
     pub(crate) fn is_settled(&self)
         ensures { IsSettled self.now.unit.caches.entries (taken_of self.now.consumer.trail) }
     {
         self.engine.is_settled();
     }
 
-    /// The entry of this tag that is held, if one is.
+    /// Returns the entry of this tag, if one is held.
     pub(crate) fn entry(&self, tag: &Tag) -> Option<Entry>
         ensures { result ≡ finite.get self.now.unit.caches.entries tag.now }
     {
         self.engine.lookup(tag)
     }
 
-    /// Tells all entries, and how many they are.
+    /// Writes all entries to the buffer, and tells how many they are.
     pub(crate) fn entries(&self, buffer: &mut [EntryWords], count: &mut usize) -> Status
         ensures listed { IsListed (finite.values self.now.unit.caches.entries) buffer.old buffer.new count.new result }
         ensures settled { IsSettled self.now.unit.caches.entries (taken_of self.now.consumer.trail) }

@@ -9,7 +9,7 @@ use ring::{Closing, Ring, UnboundReservation};
 use std::marker::Model;
 use std::sync::Arc;
 
-/// An open reservation with its batch and its ring. Where it is dropped it is handed over first, so that nothing is lost.
+/// An open reservation with its batch and its ring. Dropping it publishes it first, so that nothing is lost.
 pub(crate) struct SeatedReservation {
     ring: Arc<Ring>,
     batch: Batch,
@@ -45,7 +45,7 @@ impl SeatedReservation {
         }
     }
 
-    /// Writes the batch and hands it over: the sender, and the number of its CMD_SYNC.
+    /// Writes and publishes the batch. Returns the sender, and the number of its CMD_SYNC.
     pub(crate) fn publish(self) -> (SeatedSender, u32)
         ensures { IsPublished result.1 self result.0 }
     {

@@ -44,7 +44,7 @@ impl SeatedSender {
         }
     }
 
-    /// Reserves a batch of these commands with its closing CMD_SYNC, by one try.
+    /// Reserves a batch of these commands with its closing CMD_SYNC, in one try.
     pub(crate) fn reserve(
         self,
         commands: &[Raw],
@@ -68,7 +68,7 @@ impl SeatedSender {
         }
     }
 
-    /// Sends a batch of these commands with its closing CMD_SYNC, by at most so many tries, 0 being 1.
+    /// Sends a batch of these commands with its closing CMD_SYNC, in at most `tries` tries, 0 meaning 1.
     pub(crate) fn send(&mut self, commands: &[Raw], tries: u32, number: &mut u32) -> Status
         ensures { HasSent commands.now tries number.new self.old self.new result }
     {
@@ -122,7 +122,7 @@ impl SeatedSender {
         Status::Done
     }
 
-    /// How many batches it may still reserve.
+    /// Tells how many batches it may still reserve.
     pub(crate) fn left(&mut self, batches: &mut u32) -> Status
         ensures { HasToldLeft batches.new self.old self.new result }
     {

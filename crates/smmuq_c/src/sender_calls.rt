@@ -9,9 +9,9 @@ use crate::words::ControlWords;
 use cmdcodec::Raw;
 use std::alloc::Global;
 
-/// Sends a batch of 1 to 63 commands with its closing CMD_SYNC, and tells that one's number. Where the ring has too
-/// little room or another came first it tries again, up to `tries` times in all, 0 being 1. B5, B1 or B2 where the
-/// commands are no batch; Q1 to Q5 as of the last try. Then nothing was reserved.
+/// Sends a batch of 1 to 63 commands with its closing CMD_SYNC, and tells the number of that. If the ring has too
+/// little room or another came first it tries again, up to `tries` times in all, 0 meaning 1. B5, B1 or B2 if the
+/// commands are no batch; Q1 to Q5 for the last try. Then nothing was reserved.
 #[unsafe(no_mangle)]
 pub extern "C" fn smmuq_send(
     alloc: Global,
@@ -68,7 +68,7 @@ fn send_bare(object: &mut Object, commands: &[Raw], tries: u32) -> Status
     }
 }
 
-/// Tells the number of the sender's last CMD_SYNC that completed, 0 where none did.
+/// Tells the number of the sender's last CMD_SYNC that completed, or 0 if none did.
 #[unsafe(no_mangle)]
 pub extern "C" fn smmuq_done_up_to(alloc: Global, sender: &mut Handle, number: &mut u32) -> u32
     ensures { HasCalled (OfSender (HasTold number.new)) sender.old.object sender.new.object result }
@@ -91,7 +91,7 @@ fn done_up_to(object: &mut Object, number: &mut u32) -> Status
     }
 }
 
-/// Tells how many batches the sender may still reserve, with a CMD_SYNC or without. Behind the last it is answered Q5.
+/// Tells how many batches the sender may still reserve, with a CMD_SYNC or without. After the last, the answer is Q5.
 #[unsafe(no_mangle)]
 pub extern "C" fn smmuq_left(alloc: Global, sender: &mut Handle, batches: &mut u32) -> u32
     ensures { HasCalled (OfSender (HasToldLeft batches.new)) sender.old.object sender.new.object result }

@@ -1,4 +1,4 @@
-//! What a call answers, and the number that C gets of it: an enum doesn't cross to C.
+//! A call's status, and its number for C: an enum doesn't cross to C.
 ghost use Rattle.std.specs.Prelude.{◌≡◌, ◌<◌};
 ghost use Rattle.smmuq_c.specs.Statuses.{number_of, ill_number, cache_number, batch_number, cause_number, ring_number, acknowledgement_number};
 
@@ -8,7 +8,7 @@ use cmdcodec::Ill;
 use engine::AckFault;
 use ring::{Cause, RingFault};
 
-/// What a call answers: that it did what it was asked, or why not.
+/// A call's status: it did what it was asked, or why not.
 #[derive(Clone, Copy, Debug, PartialEq, Eq)]
 pub(crate) enum Status {
     /// It did what it was asked.
@@ -42,7 +42,7 @@ pub(crate) enum Status {
     NoReservation,
     /// Consumption is stopped, and nothing was done.
     StillStopped,
-    /// Behind a stop another command was handed in than the one at which it stopped.
+    /// After a stop, another command came than the one at which it stopped.
     OtherCommand,
     /// As many commands were taken as may be.
     Exhausted,
@@ -50,7 +50,7 @@ pub(crate) enum Status {
     RingEmpty,
     /// Nothing is reserved, and nothing will be.
     RingDrained,
-    /// The command at the head isn't handed over.
+    /// The command at the head isn't published.
     RingUnwritten,
     /// An illegal command was taken without effect.
     Replaced,

@@ -63,7 +63,7 @@ impl Status {
     }
 }
 
-/// The status of this number.
+/// Returns the status of this number, if any.
 fn numbered(number: u32) -> Option<Status>
     ensures { IsNumbered number result }
 {
@@ -113,8 +113,8 @@ fn numbered(number: u32) -> Option<Status>
     }
 }
 
-/// The words of a status, ended by a 0, and their length without it, as `Q2: too little room`. Where the buffer is too
-/// short, the length that they want is told all the same. `BAD_FIELD` where no status has this number.
+/// Writes the words of a status, such as `Q2: too little room`, ended by a 0, and their length without that. If the
+/// buffer is too short, the length is told all the same. `BAD_FIELD` if no status has this number.
 #[unsafe(no_mangle)]
 pub extern "C" fn smmuq_status_text(status: u32, buffer: &mut [u8], written: &mut usize) -> u32
     ensures { Answers (HasToldStatus status buffer.old buffer.new written.new) result }

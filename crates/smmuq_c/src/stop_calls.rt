@@ -9,9 +9,9 @@ use crate::stop_remedy::StopRemedy;
 use crate::words::{Errors, Tallies};
 use std::alloc::Global;
 
-/// Software writes SMMU_GERRORN. `remedy` 0 has the illegal command come again, 1 has it replaced, 2 leaves that to the
-/// words that come next: the same ones come again, and others replace it. Of an engine 2 is 0. G1 where no error is
-/// active, G2 where CMDQ_ERR of the word isn't that of SMMU_GERROR, `BAD_FIELD` where the remedy isn't one.
+/// Writes SMMU_GERRORN, as software. `remedy` 0 has the illegal command come again, 1 has it replaced, 2 leaves that to
+/// the words that come next: the same ones come again, and others replace it. For an engine 2 is 0. G1 if no error is
+/// active, G2 if CMDQ_ERR of the word isn't that of SMMU_GERROR, `BAD_FIELD` if the remedy isn't one.
 #[unsafe(no_mangle)]
 pub extern "C" fn smmuq_acknowledge(
     alloc: Global,

@@ -7,17 +7,17 @@ use engine::Remedy;
 /// What is to become of the illegal command at which consumption stopped.
 #[derive(Clone, Copy)]
 pub(crate) enum StopRemedy {
-    /// It comes next once more, as it is.
+    /// It comes next again, as it is.
     Retry,
-    /// It comes next once more, and is taken without effect.
+    /// It comes next again, and is taken without effect.
     Replace,
-    /// The next words say it: where they are the same, they are judged anew; where they are others, what they were
-    /// written over is taken without effect.
+    /// The next words decide: if they are the same, they are judged anew; if not, what they were written over is taken
+    /// without effect.
     Reread,
 }
 
 impl StopRemedy {
-    /// How the unit stands by it, until the next words come.
+    /// How the unit stands until the next words come.
     pub(crate) fn remedy(self) -> Remedy
         ensures { result ≡ remedy_for self }
     {

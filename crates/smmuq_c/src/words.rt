@@ -20,7 +20,7 @@ pub struct VerdictWords {
 }
 
 impl VerdictWords {
-    /// Of a command that wasn't judged.
+    /// For a command that wasn't judged.
     pub(crate) const NONE: VerdictWords = VerdictWords { removed: 0, ill: 0 };
 
     pub(crate) fn of(verdict: &Verdict) -> VerdictWords
@@ -65,7 +65,7 @@ pub struct Errors {
     pub gerrorn: u32,
 }
 
-/// What was counted of the commands taken.
+/// The counts of the commands taken.
 #[repr(C)]
 #[derive(Clone, Copy)]
 pub struct Tallies {
@@ -101,7 +101,7 @@ pub struct RunWords {
 }
 
 impl RunWords {
-    /// Of a run that took nothing, and stopped at nothing.
+    /// For a run that took nothing, and stopped at nothing.
     const NONE: RunWords = RunWords {
         count: 0,
         removed: 0,

@@ -104,7 +104,7 @@ impl Fields {
         }
     }
 
-    /// Of an invalidation by address.
+    /// The fields of an invalidation by address.
     fn by_page(opcode: Opcode, leaf: bool, page: u64, reach: Reach) -> Fields
         requires { page < 2 ^ 52 }
         ensures opcode { result.opcode ≡ number_of opcode }

@@ -271,7 +271,7 @@ fn kept(opcode: Opcode, fields: &Fields) -> Option<Command>
     }
 }
 
-/// The command that the fields say, where those that it has are in range.
+/// Returns the command that the fields say, if those that it has are in range.
 pub(crate) fn command_of(fields: &Fields) -> Option<Command>
     ensures { IsCommandOf fields.now result }
 {
