@@ -1,4 +1,4 @@
--- What is covered and begins ahead of a page, as the spans rise.
+-- Covered entries that begin before a page, span by span.
 use Rattle.std.proofs.Common.{◌≡◌, ℕ, ◌+◌, ◌-◌, ◌%◌, ◌^◌, ◌<◌, ◌≤◌, ◌≢◌, Bool, true, inl, inr, Option, Some, None, sym, ◌∙◌, ap, arith}
 use Rattle.std.specs.Option.{MatchOption}
 use Rattle.std.specs.BTreeMap.{BTreeMap, get}
@@ -15,22 +15,22 @@ use Rattle.caches.proofs.Sweeping.{none_of}
 use Rattle.caches.proofs.Pruned.{aligned_key, none_pruned, none_unless}
 
 module _ (p : Key → Bool) (w : Owner) (page : ℕ) where
-  -- nothing is left of a span below this one
+  -- Nothing is left with a span below this one.
   abbrev pub AreGone : BTreeMap Key Entry → ℕ → Type 0
   AreGone m span = (q : Key) → span_of q < span → p q ≡ true → page_of q < page → get key_cmp m q ≡ None
 
-  -- what is left begins before a bound
+  -- What is left begins before a bound.
   abbrev pub AreBelow : BTreeMap Key Entry → ℕ → Type 0
   AreBelow m bound = (q : Key) (e : Entry) → p q ≡ true → page_of q < page → get key_cmp m q ≡ Some e → page_of q < bound
 
-  -- what is left begins at or before the last page that was found, or nothing is left
+  -- What is left begins at or before the last page found, or nothing is left.
   abbrev pub AreFound : BTreeMap Key Entry → Option ℕ → Type 0
   AreFound m found = MatchOption found
       ((q : Key) → p q ≡ true → page_of q < page → get key_cmp m q ≡ None)
       (λ last. (last < page) × AreBelow m (last + 1))
 
   module _ (reach : (q : Key) → p q ≡ true → (owner_of q ≡ Some w) × (page < page_of q + 2 ^ span_of q)) where
-    -- a look before a bound finds them where they begin before it
+    -- A look before a bound finds what is left if it begins before that bound.
     pub found_before : (m : BTreeMap Key Entry) (bound : ℕ) (found : Option ℕ) → bound ≤ page → AreBelow m bound → IsLastPage key_cmp m w bound found → AreFound m found
     found_before m bound None at below is = λ q covered before. none_unless (get key_cmp m q) (λ e there. is q (reach q covered).0 (below q e covered before there))
     found_before m bound (Some last) at below is = (
@@ -44,7 +44,7 @@ module _ (p : Key → Bool) (w : Owner) (page : ℕ) where
     starts_at m keeping q e covered before there = aligned_start (page_of q) page (span_of q) (aligned_key q (keeping q e there).well_formed).1 (omega arith) (reach q covered).1
 
     module _ (span start : ℕ) (is : start ≡ page - page % 2 ^ span) where
-      -- none of a span is left where all begin before the page rounded down to it
+      -- Nothing of a span is left if everything begins before the page rounded down to it.
       pub gone_below : (m : BTreeMap Key Entry) → IsKeeping key_cmp m → AreBelow m start → AreGone m (span + 1)
       gone_below m keeping below q h covered before = none_unless (get key_cmp m q) (λ e there.
           let a = starts_at m keeping q e covered before there in
@@ -52,14 +52,14 @@ module _ (p : Key → Bool) (w : Owner) (page : ℕ) where
           let c = below q e covered before there in
           absurd (omega arith))
 
-      -- nor where no block has that span
+      -- Nor if no block has that span.
       pub gone_unused : (m : BTreeMap Key Entry) → AreGone m span → ((q : Key) → span_of q ≡ span → get key_cmp m q ≡ None) → AreGone m (span + 1)
       gone_unused m gone unused q h covered before = elim (cases_lt (span_of q) span) as (λ _. get key_cmp m q ≡ None) [
         | inl less ↦ gone q less covered before
         | inr more ↦ unused q (omega arith)
       ]
 
-      -- what is left begins before a page at which none is left of this span or a longer one
+      -- What is left begins before a page if nothing of this span or a longer one is left there.
       pub below_start : (m n : BTreeMap Key Entry) → IsKeeping key_cmp n → AreGone m span → IsPruned key_cmp p m n
           → ((q : Key) → p q ≡ true → owner_of q ≡ Some w → page_of q ≡ start → span ≤ span_of q → get key_cmp n q ≡ None) → AreBelow n start
       below_start m n keeping gone pruned clean q e covered before there =
@@ -76,7 +76,7 @@ module _ (p : Key → Bool) (w : Owner) (page : ℕ) where
             ]
           ]
 
--- the last page up to a page that isn't that page is the last before it, and nothing begins there
+-- If the last page up to a page isn't that page, it is the last before it, and nothing begins there.
 pub last_passes : (m : BTreeMap Key Entry) (w : Owner) (start : ℕ) (found : Option ℕ) → IsLastPage key_cmp m w (start + 1) found → (found ≡ Some start → ⊥)
     → IsLastPage key_cmp m w start found × ((q : Key) → owner_of q ≡ Some w → page_of q ≡ start → get key_cmp m q ≡ None)
 last_passes m w start None is other = (λ q o before. is q o (omega arith), λ q o at. is q o (omega arith))

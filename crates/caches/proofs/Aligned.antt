@@ -1,4 +1,4 @@
--- A block that its length divides and that holds a page begins at that page rounded down.
+-- A block that starts at a multiple of its length and holds a page starts at that page rounded down.
 use Rattle.std.proofs.Common.{◌≡◌, ℕ, ◌+◌, ◌-◌, ◌*◌, ◌/◌, ◌%◌, ◌^◌, ◌<◌, ◌≤◌, ◌∙◌, ap, subst, arith}
 use Rattle.std.proofs.Math.Nat.{div-add-mod'}
 use Rattle.std.proofs.lemmas.Nat.{div-mul-add, mod-pow-add}
@@ -14,7 +14,7 @@ aligned_start p f s z low high =
     let joined : p / 2 ^ s * 2 ^ s + f % 2 ^ s ≡ f = subst (λ q. q * 2 ^ s + f % 2 ^ s ≡ f) quotient again in
     omega arith
 
--- a page rounded down by more is no greater
+-- Rounding a page down by more gives no greater page.
 pub start_falls : (f n s : ℕ) → n ≤ s → f - f % 2 ^ s ≤ f - f % 2 ^ n
 start_falls f n s h =
     let m : ℕ = s - n in

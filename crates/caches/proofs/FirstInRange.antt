@@ -1,4 +1,4 @@
--- What the last entry of a range says.
+-- What follows from the last entry of a range.
 use Rattle.std.proofs.Common.{◌≡◌, true, false, IsSome, Option, Some, None, refl, sym, ◌∙◌, ap, subst, List, [], ◌∷◌, ◌++◌}
 use Rattle.std.specs.declared.cmp.Ordering.{Ordering}
 use Rattle.std.specs.declared.cmp.Ordering.TheVariants.{Less, Equal, Greater}

@@ -1,4 +1,4 @@
--- Entries in the order of their tags are those of the finite map, in its own order.
+-- Entries sorted by tag are those of the finite map, in its own order.
 use Rattle.std.proofs.Common.{◌≡◌, ℕ, ◌+◌, ◌<◌, Bool, true, false, T, ◌&&◌, Some, refl, sym, ◌∙◌, ap, subst, List, [], ◌∷◌, length, arith, All}
 use Rattle.std.specs.Prelude.{map}
 use Rattle.std.specs.List.{AllByRecursion, IsDistinct, slice_index_or}
@@ -121,14 +121,14 @@ in_order es xs o own p s =
     let strict : IsStrictlySortedBy tag_cmp (keys_of (paired xs)) = subst (IsStrictlySortedBy tag_cmp) (sym (keys-paired xs)) (strictly xs s (subst (IsDistinct (eq_by_cmp tag_cmp)) (keys-paired xs) distinct)) in
     ap (map (λ (e : Tag × Entry). e.1)) (sorted_list tag_cmp_total tag_cmp_exact (tagged es) (paired xs) pairs (from_strict tag_cmp (paired xs) strict)) ∙ values-paired xs
 
--- each entry of the caches stands under its own tag
+-- Each entry of the caches is under its own tag.
 pub all_own : (a : Inside) → AreCaches a → IsStrictlySortedBy key_cmp (keys_of a.map.entries) → All (λ (e : Key × Entry). e.1.tag ≡ tag_of e.0) a.map.entries
 all_own a h o = λ k e lt.
     let here : Key × Entry = slice_index_or a.map.entries k e in
     let kept : IsKept (tag_of here.0) here.1 = keeping a h.kept here.0 here.1 (found a.map.entries (IsDistinct-from_sorted key_cmp (keys_of a.map.entries) o) k e lt) in
     kept.own
 
--- and is found under it
+-- And it is found under it.
 pub values_own : (a : Inside) → AreCaches a → All (λ (e : Entry). finite.get (stored a).entries e.tag ≡ Some e) (finite.values (stored a).entries)
 values_own a h = λ k e lt.
     let m : Entries = (stored a).entries in

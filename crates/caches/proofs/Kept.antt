@@ -1,4 +1,4 @@
--- What the calls leave are caches: within the capacity, and each entry under its tag.
+-- The calls leave valid caches: within the capacity, and each entry under its tag.
 use Rattle.std.proofs.Common.{◌≡◌, ℕ, ◌+◌, ◌≤◌, ◌<◌, ◌^◌, Bool, true, false, T, ◌&&◌, cond, ◌⊎◌, inl, inr, IsSome, Option, Some, None, is_some, refl, sym, ◌∙◌, ap, subst, List, [], ◌∷◌, arith}
 use Rattle.std.specs.Prelude.{Result, Ok, Err}
 use Rattle.std.specs.declared.cmp.Ordering.{Ordering}
@@ -74,7 +74,7 @@ some_within false o h = h
 spans_same : (a b : Inside) (n : ℕ) → b.spans ≡ a.spans → IsSpanOf a.spans n → IsSpanOf b.spans n
 spans_same a b n same h = subst (λ s. IsSpanOf s n) (sym same) h
 
--- what some test takes away leaves caches
+-- Removing what passes a test leaves valid caches.
 less_are : (a b : Inside) → b.capacity ≡ a.capacity → b.spans ≡ a.spans → AreCaches a → (p : Tag → Bool) → ((t : Tag) → finite.get (stored b).entries t ≡ cond (p t) None (finite.get (stored a).entries t)) → AreCaches b
 less_are a b same spans h p less =
     let shrinks = shorter tag_cmp_total (stored a).entries (stored b).entries (λ t s. some_within (p t) _ (subst IsSome (less t) s)) in

@@ -1,4 +1,4 @@
--- The order of keys: which are equal, and which stand in a range.
+-- The order of keys: which are equal, and which are in a range.
 use Rattle.std.proofs.Common.{◌≡◌, ℕ, ◌+◌, ◌<◌, ◌≤◌, Bool, true, false, not, ◌&&◌, inl, inr, Option, Some, None, refl, sym, ◌∙◌, ap, subst, arith}
 use Rattle.std.specs.declared.cmp.Ordering.{Ordering}
 use Rattle.std.specs.declared.cmp.Ordering.TheVariants.{Less, Equal, Greater}
@@ -209,7 +209,7 @@ le_owners v u p r page o s l =
       | Greater ↦ λ e a b. cc
     ] refl
 
--- k is of the same owner, and its page stands between q's and that one
+-- k has the same owner, and its page is between q's and that one.
 abbrev pub StandsBefore : Owner → ℕ → Key → Key → Type 0
 StandsBefore w page q k = is_le (key_cmp q k) ≡ true → is_le (key_cmp (least w page 0) k) ≡ false → (owner_of k ≡ Some w) × (page_of q ≤ page_of k) × (page_of k < page)
 
@@ -242,7 +242,7 @@ owner_of-least (Guest v) page span = refl
 owner_of-least Host page span = refl
 owner_of-least (Device s) page span = refl
 
--- an owner's keys are not before its least
+-- No key of an owner is before its least.
 pub from_least : (w : Owner) (k : Key) → owner_of k ≡ Some w → is_le (key_cmp (least w 0 0) k) ≡ true
 from_least w k o = first_true _ _ (in_pages w 0 (page_of k + 1) k o (omega arith) (omega arith))
 

@@ -1,4 +1,4 @@
--- Maps that lost some of what passes a test.
+-- Maps that lost some of the entries that pass a test.
 use Rattle.std.proofs.Common.{◌≡◌, ◌≤◌, ◌%◌, ◌^◌, Bool, true, false, ◌&&◌, ◌⊎◌, inl, inr, cond, IsSome, Option, Some, None, refl, sym, ◌∙◌, ap, subst, List, [], ◌∷◌, length, arith}
 use Rattle.std.specs.declared.cmp.Ordering.{Ordering}
 use Rattle.std.specs.declared.ops.Bound.{Bound}
@@ -43,7 +43,7 @@ module _ {K X : Type 0} (R : K → K → Ordering) (p : K → Bool) where
           | false ↦ λ e h. h ∙ elim (range_contains R lo hi q) as (λ t. cond (t && false) None (get R m q) ≡ get R m q) [ true ↦ refl | false ↦ refl ]
         ] refl (after q)
 
-    -- the same where only what the map has need be in the range
+    -- The same if only the map's own keys need be in the range.
     pub without_from_kept : ((q : K) (e : X) → p q ≡ true → get R m q ≡ Some e → range_contains R lo hi q ≡ true) → IsWithout R p m n
     without_from_kept reach q =
         elim (get R m q) as (λ o. get R m q ≡ o → get R n q ≡ cond (p q) None (get R m q)) [
@@ -60,7 +60,7 @@ module _ {K X : Type 0} (R : K → K → Ordering) (p : K → Bool) where
     pub none_comes : (q : K) → p q ≡ true → range_contains R lo hi q ≡ true → get R n q ≡ None
     none_comes q c r = after q ∙ ap (λ b. cond b None (get R m q)) (both_true _ _ r c)
 
-  -- nothing is taken of an empty map
+  -- Nothing is removed from an empty map.
   pub without_nothing : (m : BTreeMap K X) → length m.entries ≡ 0 → IsWithout R p m m
   without_nothing m e q =
       let none : get R m q ≡ None = none_of_empty (is_at (R q)) m.entries e in
@@ -117,7 +117,7 @@ keeping_pruned p m n f h q e is =
       | inr gone ↦ let no_entry : None ≡ Some e = sym gone.1 ∙ is in cc
     ]
 
--- an option is none where whatever it has is refuted
+-- An option is none if each value it could have is refuted.
 pub none_unless : {X : Type 0} (o : Option X) → ((x : X) → o ≡ Some x → o ≡ None) → o ≡ None
 none_unless None h = refl
 none_unless (Some x) h = h x refl

@@ -1,4 +1,4 @@
--- A command by address covers what its one-page commands cover together.
+-- A command by address covers exactly what its one-page commands cover.
 use Rattle.std.proofs.Common.{◌≡◌, ℕ, ◌+◌, ◌^◌, ◌<◌, ◌==◌, ◌&&◌, ◌↔◌, Bool, true, false, refl, subst, arith}
 use Rattle.std.proofs.lemmas.Nat.{pow_pos, mul-le}
 use Rattle.std.proofs.lemmas.Bool.{lt-ltb, and_from, and_parts, ltb-true}

@@ -1,4 +1,4 @@
--- Where the keys stand that a command covers.
+-- Where the keys are that a command covers.
 use Rattle.std.proofs.Common.{◌≡◌, ℕ, ◌+◌, ◌^◌, ◌<◌, ◌≤◌, ◌==◌, ◌&&◌, Bool, true, Option, Some, None, refl, ◌∙◌, ap, arith}
 use Rattle.std.proofs.lemmas.Bool.{eqb-true, ltb-true, ltb-false, and_parts, not-true}
 use Rattle.cmdcodec.specs.declared.reach.PageRun.{PageRun}

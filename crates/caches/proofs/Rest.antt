@@ -1,4 +1,4 @@
--- What is left of a range while it is gone along.
+-- What is left of a range during a walk along it.
 use Rattle.std.proofs.Common.{◌≡◌, Bool, true, false, cond, IsSome, Option, Some, None, refl, sym, ◌∙◌, ap, subst, List, [], ◌∷◌, All}
 use Rattle.std.specs.declared.cmp.Ordering.{Ordering}
 use Rattle.std.specs.declared.cmp.Ordering.TheVariants.{Less, Equal, Greater}
@@ -35,7 +35,7 @@ none_some None e s = cc
 none_some (Some x) e s = cc
 
 module _ {K X : Type 0} (R : K → K → Ordering) (p : K → Bool) (m : BTreeMap K X) (lo hi : Bound K) where
-  -- t is left: entries of the range, which has no other that passes the test
+  -- t is what is left: entries of the range, which has no others that pass the test.
   pub record IsRest (t : List (K × X)) : Type 0 where
     pub sorted : IsStrictlySortedBy R (keys_of t)
     pub among : All (IsEntryInRange R lo hi m) t
@@ -60,7 +60,7 @@ module _ {K X : Type 0} (R : K → K → Ordering) (p : K → Bool) (m : BTreeMa
       ] refl;
     }
 
-    -- a key that the rest has is behind the first
+    -- Every key of the rest is after the first.
     behind : (k q : K) (t : List (K × X)) → AllByRecursion (λ y. R k y ≡ Less) (keys_of t) → IsSome (lookup (is_at (R q)) t) → R k q ≡ Less
     behind k q [] h s = cc
     behind k q (e ∷ t) h s = elim (is_at (R q) e.0) as (λ b. is_at (R q) e.0 ≡ b → IsSome (cond b (Some e.1) (lookup (is_at (R q)) t)) → R k q ≡ Less) [

@@ -11,7 +11,7 @@ use Rattle.caches.specs.Held.{Item, Fill, Evict, Take, History, held, ends, IsSt
 use Rattle.caches.specs.TagOrder.{tag_cmp, tag_cmp_total, tag_cmp_exact}
 use Rattle.caches.proofs.Viewed.{get_without_covered, same_option}
 
--- an item that ends no entry of a tag leaves it, and one that ends it leaves none or its own
+-- An item that doesn't end the entry of a tag leaves it; one that does leaves none, or its own entry.
 standing_more : (i : Item) (h : History) (e : Entry) → ends i e.tag ≡ false → IsStanding h e → IsStanding (i ∷ h) e
 standing_more i h e n s = record { later = i ∷ s.later; earlier = s.earlier; split = ap (λ r. i ∷ r) s.split; unended = All-cons (λ j. ends j e.tag ≡ false) i s.later n s.unended }
 

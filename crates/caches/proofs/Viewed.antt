@@ -1,4 +1,4 @@
--- The ordered map as a finite map of tags: what it has at a tag, and how long it is.
+-- The ordered map as a finite map of tags: its entry at a tag, and its length.
 use Rattle.std.proofs.Common.{IfSome, IsSome, ◌≡◌, ◌+◌, Bool, true, false, not, Option, Some, None, is_some, refl, sym, ◌∙◌, ap, subst, List, [], ◌∷◌, length, arith, cond}
 use Rattle.std.specs.declared.cmp.Ordering.{Ordering}
 use Rattle.std.specs.declared.cmp.Ordering.TheVariants.{Less, Equal, Greater}
@@ -139,7 +139,7 @@ stored_insert a b t e u = same_map tag_cmp_total tag_cmp_exact _ _ (λ q. update
 pub stored_remove : (a b : Inside) (t : Tag) → Updates key_cmp a.map b.map (key_of t) None → (stored b).entries ≡ finite.remove (stored a).entries t
 stored_remove a b t u = same_map tag_cmp_total tag_cmp_exact _ _ (λ q. updated a b t None u q ∙ sym (get-remove tag_cmp_total (stored a).entries t q))
 
--- what is found under a tag has it, where each that is found does
+-- An entry found under a tag has that tag, if every one found does.
 pub own_tag : (found : Option Entry) (t : Tag) → ((e : Entry) → found ≡ Some e → e.tag ≡ t) → IfSome found (λ e. e.tag ≡ t)
 own_tag None t own = tt
 own_tag (Some e) t own = own e refl

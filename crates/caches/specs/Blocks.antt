@@ -1,10 +1,10 @@
--- Blocks and runs are intervals of numbers, from `first` up to `end`, `end` not with them.
+-- Blocks and runs: intervals of numbers from `first` up to, but not including, `end`.
 use Rattle.std.specs.Prelude.{◌≡◌, ◌≤◌, ℕ, ◌+◌, ◌*◌, ◌/◌, ◌%◌, ◌^◌, ◌&&◌, not, nat_lt, Bool}
 use Rattle.cmdcodec.specs.declared.reach.PageRun.{PageRun}
 use Rattle.caches.specs.declared.tag.Tag.{Tag}
 use Rattle.caches.specs.declared.tag.Tag.TheVariants.{Ste, Cd, S1, S2, El2, Atc}
 
--- the block of 2^span pages from this page on
+-- the block of 2^span pages that starts at this page
 abbrev pub block : ℕ → ℕ → PageRun
 block page span = record { first = page; end = page + 2 ^ span }
 
@@ -20,7 +20,7 @@ holds run number = not (nat_lt number run.first) && nat_lt number run.end
 abbrev pub meets : PageRun → PageRun → Bool
 meets a b = nat_lt a.first b.end && nat_lt b.first a.end
 
--- at most 2^52 pages, from a multiple of their number on
+-- at most 2^52 pages, starting at a multiple of their number
 pub record IsAligned (page span : ℕ) : Type 0 where
   pub at_most : span ≤ 52
   pub multiple : page % 2 ^ span ≡ 0

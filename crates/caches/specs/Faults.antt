@@ -1,4 +1,4 @@
--- What a fault is called.
+-- The label of each fault.
 use Rattle.std.specs.Prelude.{ℕ, List, codes}
 use Rattle.caches.specs.declared.fault.CacheFault.{CacheFault}
 use Rattle.caches.specs.declared.fault.CacheFault.TheVariants.{Full, BadBlock, NoMemory, BadCapacity}

@@ -1,4 +1,4 @@
--- What a history still holds.
+-- Which entries are held after a history.
 use Rattle.std.specs.Prelude.{◌≡◌, Bool, false, not, List, [], ◌∷◌, ◌++◌, Some}
 use Rattle.std.specs.Ordering.{eq_by_cmp}
 use Rattle.std.specs.FinMap as finite
@@ -14,7 +14,7 @@ use Rattle.caches.specs.TagOrder.{tag_cmp}
 abbrev pub Entries : Type 0
 Entries = FinMap tag_cmp Entry
 
--- A history is a list of fills, evictions and commands, the newest first. A refused fill is none of them.
+-- A history is a list of fills, evictions and commands, newest first. A refused fill isn't in it.
 pub data Item : Type 0 where
   Fill : Entry → Item
   Evict : Tag → Item
@@ -23,7 +23,7 @@ pub data Item : Type 0 where
 abbrev pub History : Type 0
 History = List Item
 
--- the entries without those that the command covers
+-- the entries that the command doesn't cover
 abbrev pub without_covered : Command → Entries → Entries
 without_covered command entries = finite.retain_keys entries (λ tag. not (covers command tag))
 
@@ -47,7 +47,7 @@ pub record IsStanding (history : History) (entry : Entry) : Type 0 where
   pub split : history ≡ later ++ Fill entry ∷ earlier
   pub unended : All (λ item. ends item entry.tag ≡ false) later
 
--- These are the fills that no later item ends, each under its tag, and nothing else.
+-- The entries are exactly the fills that no later item ends, each under its tag.
 abbrev pub HeldAre : History → Entries → Type 0
 HeldAre history entries = (tag : Tag) (entry : Entry) → (finite.get entries tag ≡ Some entry → (entry.tag ≡ tag) × IsStanding history entry)
     × (IsStanding history entry → finite.get entries entry.tag ≡ Some entry)

@@ -1,4 +1,4 @@
--- Tags and their keys, and where keys stand.
+-- The key of each tag, and the owner, page and span of a key.
 use Rattle.std.specs.Prelude.{◌≡◌, ◌<◌, ◌≤◌, ◌^◌, ℕ, Bool, Option, Some, None}
 use Rattle.cmdcodec.specs.declared.command.Command.{Command}
 use Rattle.cmdcodec.specs.declared.reach.PageRun.{PageRun}
@@ -39,7 +39,7 @@ tag_of (Machine vmid page span (One asid)) = S1 vmid (scope_of asid) page span
 tag_of (Hypervisor page span asid) = El2 (scope_of asid) page span
 tag_of (Endpoint sid page span ssid) = Atc sid ssid page span
 
--- whose translation it is, of which page and span
+-- the owner of a translation, its page and its span
 abbrev pub owner_of : Key → Option Owner
 owner_of (Configuration sid ssid) = None
 owner_of (Machine vmid page span stage) = Some (Guest vmid)
@@ -58,7 +58,7 @@ span_of (Machine vmid page span stage) = span
 span_of (Hypervisor page span asid) = span
 span_of (Endpoint sid page span ssid) = span
 
--- the least key of an owner, page and span
+-- the least key with this owner, page and span
 abbrev pub least : Owner → ℕ → ℕ → Key
 least (Guest vmid) page span = Machine vmid page span Two
 least Host page span = Hypervisor page span None
@@ -77,7 +77,7 @@ IsOfMachines other = ⊥
 abbrev pub covers_key : Command → Key → Bool
 covers_key command key = covers command (tag_of key)
 
--- an entry that may stand under a tag
+-- an entry that may be held under the tag
 pub record IsKept (tag : Tag) (entry : Entry) : Type 0 where
   pub own : entry.tag ≡ tag
   pub well_formed : IsBlock tag

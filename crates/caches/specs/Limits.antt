@@ -1,4 +1,4 @@
--- How many entries caches may be made for (own).
+-- The capacities that caches may have (own).
 use Rattle.std.specs.Prelude.{ℕ, ◌<◌, ◌≤◌}
 
 -- the most entries that caches may hold

@@ -1,4 +1,4 @@
--- The number of a key, and the key of a number.
+-- Keys as numbers, and back.
 use Rattle.std.specs.Prelude.{◌≡◌, ℕ, zero, suc, ◌+◌, ◌*◌, ◌/◌, ◌%◌, ◌^◌, ◌<◌, Option, Some, None}
 use Rattle.caches.specs.declared.key.Stage.{Stage}
 use Rattle.caches.specs.declared.key.Stage.TheVariants.{Two, One}
@@ -6,7 +6,7 @@ use Rattle.caches.specs.declared.key.Key.{Key}
 use Rattle.caches.specs.declared.key.Key.TheVariants.{Configuration, Machine, Hypervisor, Endpoint}
 use Rattle.caches.specs.Keys.{page_of, span_of}
 
--- ---- what a key is made of, as numbers
+-- ---- the parts of a key as numbers
 abbrev pub kind_of : Key → ℕ
 kind_of (Configuration sid ssid) = 0
 kind_of (Machine vmid page span stage) = 1
@@ -58,14 +58,14 @@ key_from (suc (suc (suc n))) id page span part = Endpoint id page span (option_a
 abbrev pub key_at : ℕ → Key
 key_at n = key_from (n / 2 ^ 22 / 2 ^ 8 / 2 ^ 64 / 2 ^ 32) (n / 2 ^ 22 / 2 ^ 8 / 2 ^ 64 % 2 ^ 32) (n / 2 ^ 22 / 2 ^ 8 % 2 ^ 64) (n / 2 ^ 22 % 2 ^ 8) (n % 2 ^ 22)
 
--- what a key is made of has room in its number
+-- Each part of the key fits its bits of the number.
 pub record IsRoomy (key : Key) : Type 0 where
   pub id : id_of key < 2 ^ 32
   pub page : page_of key < 2 ^ 64
   pub span : span_of key < 2 ^ 8
   pub part : part_of key < 2 ^ 22
 
--- the number of a key
+-- The number is that of a key.
 pub record IsRank (n : ℕ) : Type 0 where
   pub same : number_of (key_at n) ≡ n
   pub roomy : IsRoomy (key_at n)

@@ -13,7 +13,7 @@ use Rattle.caches.specs.Blocks.{IsBlock}
 use Rattle.caches.specs.TagOrder.{tag_code, entry_code}
 use Rattle.caches.specs.Held.{Entries}
 
--- caches: how many entries they may hold, and the entries that they hold
+-- caches: their capacity and the entries they hold
 pub record Stored : Type 0 where
   pub capacity : ℕ
   pub entries : Entries
@@ -21,16 +21,17 @@ pub record Stored : Type 0 where
 abbrev pub stored_code : Coded Stored
 stored_code = code_by (ℕ × Entries) (coded× coded_ℕ (finite.code tag_code entry_code)) (λ s. (s.capacity, s.entries)) (λ p. record { capacity = p.0; entries = p.1 }) (λ _. refl)
 
--- an entry put in, with the one of its tag that was there before, or no memory for a new tag
+-- The entry is put in and the result is the one held under its tag before, or there is no memory for a new
+-- tag.
 abbrev pub IsFilled : Entries → Entry → Entries → Result (Option Entry) CacheFault → Type 0
 IsFilled old entry new result = MatchResult result
     (λ was. (was ≡ finite.get old entry.tag) × (new ≡ finite.insert old entry.tag entry))
     (λ fault. (fault ≡ NoMemory) × (new ≡ old) × (finite.get old entry.tag ≡ None))
 
--- ---- what callers are answered
+-- ---- the answers of calls
 
--- The entry of this tag that was held before; or C2, exactly where its block isn't well formed; C1, exactly where it is,
--- and its tag is new and the caches are full; or C3, where its tag is new.
+-- The entry that was held under this tag before, if any; C2 exactly if the tag's block isn't well formed; C1
+-- exactly if it is, the tag is new and the caches are full; C3 only if the tag is new.
 pub record IsFillAnswer (held : Stored) (tag : Tag) (answer : Result (Option Entry) CacheFault) : Type 0 where
   pub was : IfOk answer (λ was. was ≡ finite.get held.entries tag)
   pub bad : (answer ≡ Err BadBlock) ↔ ¬ IsBlock tag
@@ -38,7 +39,7 @@ pub record IsFillAnswer (held : Stored) (tag : Tag) (answer : Result (Option Ent
   pub named : ¬ (answer ≡ Err BadCapacity)
   pub new_only : answer ≡ Err NoMemory → finite.get held.entries tag ≡ None
 
--- All entries in the order of their tags, each of which stands under its own tag; or C3, and no other.
+-- All entries in tag order, each held under its own tag. The only error is C3.
 pub record IsListAnswer (held : Entries) (answer : Result (Vec Entry) CacheFault) : Type 0 where
   pub ok : IfOk answer (λ list. list.items ≡ finite.values held)
   pub own : IfOk answer (λ list. All (λ entry. finite.get held entry.tag ≡ Some entry) list.items)

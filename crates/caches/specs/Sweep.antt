@@ -1,4 +1,5 @@
--- The next entry of a map, the last ahead of a page, and the words of a removal by ranges.
+-- What removal by ranges uses: the next key that passes a test, the last page before a page, and what a sweep
+-- removes.
 use Rattle.std.specs.Prelude.{◌≡◌, ◌⊎◌, ℕ, ◌<◌, ◌≤◌, cond, Bool, true, not, ◌&&◌, IsSome, Option, Some, None}
 use Rattle.std.specs.declared.cmp.Ordering.{Ordering}
 use Rattle.std.specs.declared.ops.Bound.{Bound}
@@ -11,24 +12,24 @@ use Rattle.caches.specs.declared.key.Key.{Key}
 use Rattle.caches.specs.declared.key.Owner.{Owner}
 use Rattle.caches.specs.Keys.{tag_of, owner_of, page_of, IsKept}
 
--- each entry of the map stands under the key of its tag, whose block is well formed
+-- Each entry of the map is under the key of its tag, whose block is well formed.
 abbrev pub IsKeeping : (Key → Key → Ordering) → BTreeMap Key Entry → Type 0
 IsKeeping cmp m = (key : Key) (entry : Entry) → tree.get cmp m key ≡ Some entry → IsKept (tag_of key) entry
 
--- This key of the map is within the bounds and passes the test, and no other such key comes before it.
+-- The key is in the map, within the bounds, and passes the test, and no other such key comes before it.
 pub record IsNextKey {K X : Type 0} (cmp : K → K → Ordering) (p : K → Bool) (m : BTreeMap K X) (from end : Bound K) (key : K) : Type 0 where
   pub within : range_contains cmp from end key ≡ true
   pub passes : p key ≡ true
   pub there : IsSome (tree.get cmp m key)
   pub least : (q : K) → range_contains cmp from end q ≡ true → p q ≡ true → IsSome (tree.get cmp m q) → IsLeBy cmp key q
 
--- the least key of the map from a bound on and below the end that passes the test, or none
+-- the least key of the map that is within the bounds and passes the test, or none
 abbrev pub IsNext : {K X : Type 0} → (K → K → Ordering) → (K → Bool) → BTreeMap K X → Bound K → Bound K → Option K → Type 0
 IsNext {K} cmp p m from end found = MatchOption found
     ((q : K) → range_contains cmp from end q ≡ true → p q ≡ true → tree.get cmp m q ≡ None)
     (IsNextKey cmp p m from end)
 
--- the greatest page below this one at which a block of this owner begins that the map has, or none
+-- the greatest page below this one at which a block of the owner in the map begins, or none
 abbrev pub IsLastPage : (Key → Key → Ordering) → BTreeMap Key Entry → Owner → ℕ → Option ℕ → Type 0
 IsLastPage cmp m owner page found = MatchOption found
     ((q : Key) → owner_of q ≡ Some owner → page_of q < page → tree.get cmp m q ≡ None)
@@ -40,14 +41,14 @@ module _ {K : Type 0} (cmp : K → K → Ordering) where
   abbrev pub is_swept : (K → Bool) → Bound K → Bound K → K → Bool
   is_swept p first end q = range_contains cmp first end q && p q
 
-  -- what it has removed before it comes to a bound
+  -- what it has removed before it reaches a bound
   abbrev pub is_gone : (K → Bool) → Bound K → Bound K → Bound K → K → Bool
   is_gone p first end from q = not (is_from_start cmp from q) && is_swept p first end q
 
--- n is m, or lacks what passes the test
+-- n is m without some of what passes the test.
 abbrev pub IsPruned : {K X : Type 0} → (K → K → Ordering) → (K → Bool) → BTreeMap K X → BTreeMap K X → Type 0
 IsPruned {K} cmp p m n = (q : K) → (tree.get cmp n q ≡ tree.get cmp m q) ⊎ ((p q ≡ true) × (tree.get cmp n q ≡ None))
 
--- n is m without what passes the test
+-- n is m without everything that passes the test.
 abbrev pub IsWithout : {K X : Type 0} → (K → K → Ordering) → (K → Bool) → BTreeMap K X → BTreeMap K X → Type 0
 IsWithout {K} cmp p m n = (q : K) → tree.get cmp n q ≡ cond (p q) None (tree.get cmp m q)

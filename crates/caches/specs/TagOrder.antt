@@ -21,7 +21,7 @@ abbrev pub substream_number : Option ℕ → ℕ
 substream_number None = 0
 substream_number (Some ssid) = suc ssid
 
--- a tag as numbers, which stand in the tags' order
+-- a tag as numbers, which are ordered as tags are
 abbrev pub numbers : Tag → List ℕ
 numbers (Ste sid) = 0 ∷ sid ∷ 0 ∷ 0 ∷ 0 ∷ []
 numbers (Cd sid ssid) = 1 ∷ sid ∷ ssid ∷ 0 ∷ 0 ∷ []

@@ -17,8 +17,8 @@ tagged es = map {B = Tag × Entry} (λ (e : Key × Entry). (tag_of e.0, e.1)) es
 abbrev pub stored : Inside → Stored
 stored inside = record { capacity = inside.capacity; entries = finite.from_entries (tagged inside.map.entries) }
 
--- There are no more entries than the capacity allows, each may stand under its tag, and the span of each is among those
--- that were put in.
+-- The capacity is within its limit and the number of entries within the capacity; each entry may be held
+-- under its tag, and its span is among those put in.
 pub record AreCaches (inside : Inside) : Type 0 where
   pub limit : inside.capacity ≤ most_entries
   pub room : finite.len (stored inside).entries ≤ inside.capacity

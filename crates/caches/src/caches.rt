@@ -1,4 +1,4 @@
-//! The caches: each entry in one ordered map.
+//! The caches: all entries in one ordered map.
 ghost use Rattle.std.specs.Prelude.{◌≡◌, ◌+◌, ◌<◌, ◌≤◌, ◌↔◌, IfOk, IfSome, OnOk, OnErr, Err, None, [], ◌∷◌};
 ghost use Rattle.std.specs.FinMap as finite;
 ghost use Rattle.std.specs.List.Sorted.{IsPermutation, IsSortedByKey};
@@ -24,13 +24,13 @@ use std::marker::Model;
 /// The most entries that caches may hold (own).
 pub const MOST_ENTRIES: u32 = 65_536;
 
-/// What an SMMU and the endpoints behind it remember: at most `capacity` entries, of each tag one.
+/// The caches of an SMMU and of the endpoints behind it: at most `capacity` entries, one per tag.
 #[derive(Drop)]
 pub struct Caches {
     alloc: Global,
     capacity: u32,
     map: BTreeMap<Rank, Entry>,
-    /// Those of the blocks in the map, and of blocks that were in it.
+    /// The spans of the blocks that are or were in the map.
     spans: Spans,
 }
 
@@ -49,9 +49,9 @@ impl Model for Caches {
 }
 
 impl Caches {
-    /// Empty caches for so many entries, 1 to 65,536.
+    /// Creates empty caches with a capacity of 1 to 65,536 entries.
     ///
-    /// Errors: C4 where the capacity isn't one of these, and no other.
+    /// Errors: only C4, if the capacity is out of this range.
     pub fn new(alloc: Global, capacity: u32) -> Result<Caches, CacheFault>
         ensures ok { IfOk result (λ caches. (caches.capacity ≡ capacity) × (caches.entries ≡ held [])) }
         ensures err { OnErr result (result ≡ Err CacheFault.BadCapacity) }
@@ -68,7 +68,7 @@ impl Caches {
         })
     }
 
-    /// The entry of this tag that is held, if one is.
+    /// Returns the entry held under `tag`, if any.
     pub fn lookup(&self, tag: &Tag) -> Option<Entry>
         ensures value { result ≡ finite.get self.now.entries tag.now }
         ensures own { IfSome result (λ entry. entry.tag ≡ tag.now) }
@@ -76,7 +76,7 @@ impl Caches {
         self.map.get(&Rank::of(tag)).copied()
     }
 
-    /// How many entries are held.
+    /// Returns the number of entries held.
     pub fn len(&self) -> usize
         ensures len { result ≡ finite.len self.now.entries }
         ensures within { result ≤ self.now.capacity }
@@ -85,9 +85,9 @@ impl Caches {
         self.map.len()
     }
 
-    /// All entries that are held, in the order of their tags.
+    /// Returns all entries held, in tag order.
     ///
-    /// Errors: C3 when out of memory, and no other.
+    /// Errors: only C3, if memory runs out.
     pub fn entries(&self) -> Result<Vec<Entry>, CacheFault>
         ensures { IsListAnswer self.now.entries result }
     {
@@ -100,7 +100,7 @@ impl Caches {
         }
     }
 
-    /// Removes the entries that the command covers, and answers how many they were.
+    /// Removes the entries that `command` covers and returns how many there were.
     #[inline]
     pub fn apply(&mut self, command: &Command) -> u32
         ensures after { self.new.entries ≡ without_covered command.now self.old.entries }
@@ -114,7 +114,7 @@ impl Caches {
         (before - self.len()) as u32
     }
 
-    /// Removes the entry of this tag, and answers it.
+    /// Removes and returns the entry held under `tag`, if any.
     pub fn evict(&mut self, tag: &Tag) -> Option<Entry>
         ensures was { result ≡ finite.get self.old.entries tag.now }
         ensures after { self.new.entries ≡ finite.remove self.old.entries tag.now }
@@ -124,10 +124,10 @@ impl Caches {
         self.map.remove(&Rank::of(tag))
     }
 
-    /// Puts an entry in, and answers the one of its tag that was held before.
+    /// Puts `entry` in and returns the one held under its tag before, if any.
     ///
-    /// Errors, in this order, which leave the caches as they were: C2 where its block isn't well formed;
-    /// C1 where its tag is new and the caches are full; C3 when out of memory, where its tag is new.
+    /// Errors, in this order, each leaving the caches unchanged: C2 if the tag's block isn't well formed; C1
+    /// if the tag is new and the caches are full; C3 if the tag is new and memory runs out.
     pub fn fill(&mut self, entry: Entry) -> Result<Option<Entry>, CacheFault>
         ensures answer { IsFillAnswer self.old entry.tag result }
         ensures after { OnOk result (self.new.entries ≡ finite.insert self.old.entries entry.tag entry) }
@@ -144,7 +144,7 @@ impl Caches {
         self.put(entry)
     }
 
-    /// Puts an entry in where there is room.
+    /// Puts in an entry for which there is room.
     fn put(&mut self, entry: Entry) -> Result<Option<Entry>, CacheFault>
         requires block { IsBlock entry.tag }
         requires room { finite.get self.old.entries entry.tag ≡ None → finite.len self.old.entries < self.old.capacity }
@@ -157,7 +157,7 @@ impl Caches {
     }
 }
 
-/// Puts entries in the order of their tags. It takes no memory.
+/// Sorts entries by tag. Takes no memory.
 fn sort_by_tag(list: &mut Vec<Entry>)
     ensures permutation { IsPermutation list.old.items list.new.items }
     ensures sorted { IsSortedByKey (λ (entry : Entry). entry.tag) tag_cmp list.new.items }
@@ -169,7 +169,7 @@ fn sort_by_tag(list: &mut Vec<Entry>)
     );
 }
 
-/// Puts an entry into the map under this key.
+/// Puts `entry` into the map under `key`; C3 if memory runs out.
 fn put_entry(
     map: &mut BTreeMap<Rank, Entry>,
     key: Rank,

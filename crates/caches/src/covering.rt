@@ -9,7 +9,7 @@ ghost use Rattle.caches.specs.declared.tag.Tag.TheVariants.{Ste, Cd, S1, S2, El2
 use crate::tag::{Scope, Tag};
 use cmdcodec::{Asid, Command, Page, PageRun, Sid, Ssid, Vmid};
 
-/// The block of `2^span` pages from a page on.
+/// The block of `2^span` pages that starts at `page`.
 fn block(page: Page, span: u8) -> PageRun
     requires { span ≤ 52 }
     ensures { result ≡ block page span }
@@ -20,7 +20,7 @@ fn block(page: Page, span: u8) -> PageRun
     }
 }
 
-/// The aligned block of `2^power` numbers that holds a number.
+/// The aligned block of `2^power` numbers that holds `number`.
 pub(crate) fn aligned(number: u64, power: u8) -> PageRun
     requires power { power ≤ 52 }
     requires number { number < 2 ^ 52 }
@@ -182,7 +182,7 @@ fn covers_atc(command: &Command, sid: Sid, ssid: Option<Ssid>, page: Page, span:
     }
 }
 
-/// Whether the command covers the tag.
+/// Whether `command` covers `tag`.
 pub(crate) fn covers(command: &Command, tag: &Tag) -> bool
     requires { IsBlock tag.now }
     ensures { result ≡ covers command.now tag.now }

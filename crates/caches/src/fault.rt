@@ -1,13 +1,13 @@
-//! Why a call of the caches is refused.
+//! Why the caches refuse a call.
 ghost use Rattle.std.specs.Prelude.{◌≡◌};
 ghost use Rattle.caches.specs.Faults.{label_of};
 
 use thiserror::Error;
 
-/// A refused call, which changed nothing.
+/// Why a call was refused. It changed nothing.
 #[derive(Clone, Copy, PartialEq, Eq, Debug, Error)]
 pub enum CacheFault {
-    /// C1: the tag is new, and the caches hold as many entries as they may.
+    /// C1: the tag is new and the caches are full.
     #[error("C1: the caches are full")]
     Full,
     /// C2: the block of the tag isn't well formed.
@@ -22,7 +22,7 @@ pub enum CacheFault {
 }
 
 impl CacheFault {
-    /// Its label alone, `C1` to `C4`.
+    /// Returns its label, `C1` to `C4`.
     pub fn label(self) -> &'static str
         ensures { result.now ≡ label_of self }
     {

@@ -1,4 +1,4 @@
-//! The keys of the ordered map, in the order in which commands look for entries.
+//! The keys of the ordered map. They are ordered by what commands look for.
 ghost use Rattle.std.specs.Prelude.{◌≡◌, ◌<◌, ◌^◌};
 ghost use Rattle.caches.specs.Keys.{key_of, page_of, span_of, asid_of, least};
 ghost use Rattle.caches.specs.Ranks.{id_of, option_number, owner_number, part_of};
@@ -6,18 +6,18 @@ ghost use Rattle.caches.specs.Ranks.{id_of, option_number, owner_number, part_of
 use crate::rank::Rank;
 use crate::tag::{Scope, Tag};
 
-/// How many streams, or virtual machines, there is room for in an owner's number.
+/// The number of streams or virtual machines that an owner's number has room for.
 const IDS: u64 = 1 << 32;
 
-/// Which stage of a virtual machine's translation; of stage 1 also the address space, `None` for all.
+/// The stage of a virtual machine's translation. Stage 1 has an address space, or `None` for all.
 #[derive(Clone, Copy, PartialEq, Eq, PartialOrd, Ord, Debug)]
 pub(crate) enum Stage {
     Two,
     One(Option<u16>),
 }
 
-/// Where an entry stands in the map. Stream table entries and context descriptors stand by stream,
-/// translations by their owner and then by page.
+/// Where an entry is in the map: stream table entries and context descriptors are ordered by stream,
+/// translations by owner and then by page.
 #[derive(Clone, Copy, PartialEq, Eq, PartialOrd, Ord, Debug)]
 pub(crate) enum Key {
     Configuration {
@@ -43,7 +43,7 @@ pub(crate) enum Key {
     },
 }
 
-/// Whose translations: a virtual machine's, the hypervisor's, or those of the endpoint of a stream.
+/// The owner of translations: a virtual machine, the hypervisor, or the endpoint of a stream.
 #[derive(Clone, Copy)]
 pub(crate) enum Owner {
     Guest(u16),
@@ -61,7 +61,7 @@ fn asid_of(scope: Scope) -> Option<u16>
 }
 
 impl Key {
-    /// The key of a tag.
+    /// Returns the key of `tag`.
     pub(crate) fn of(tag: &Tag) -> Key
         ensures key { result ≡ key_of tag.now }
         ensures page { page_of result < 2 ^ 52 }
@@ -115,7 +115,7 @@ impl Key {
         }
     }
 
-    /// The span of its block; 0 where it has none.
+    /// Returns the span of its block, or 0 if it has none.
     pub(crate) fn span(&self) -> u8
         ensures { result ≡ span_of self.now }
     {
@@ -126,7 +126,7 @@ impl Key {
         }
     }
 
-    /// The page at which its block begins; 0 where it has none.
+    /// Returns the first page of its block, or 0 if it has none.
     pub(crate) fn page(&self) -> u64
         ensures { result ≡ page_of self.now }
     {
@@ -137,7 +137,7 @@ impl Key {
         }
     }
 
-    /// A number for its kind and whose it is.
+    /// Returns its kind and id as one number.
     pub(crate) fn owner_number(&self) -> u64
         ensures value { result ≡ owner_number self.now }
         ensures id { id_of self.now < 2 ^ 32 }
@@ -151,7 +151,8 @@ impl Key {
         }
     }
 
-    /// A number for the rest of it.
+    /// Returns the rest of the key as a number: its substream, its address space, or its stage with the
+    /// address space.
     pub(crate) fn part(&self) -> u32
         requires { part_of self.now < 2 ^ 22 }
         ensures { result ≡ part_of self.now }
@@ -188,7 +189,7 @@ fn asid_number(asid: Option<u16>) -> u32
 }
 
 impl Owner {
-    /// The rank of the least key of this owner, page and span.
+    /// Returns the rank of the least key with this owner, page and span.
     pub(crate) fn least(self, page: u64, span: u8) -> Rank
         ensures { result ≡ least self page span }
     {

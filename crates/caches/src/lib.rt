@@ -1,13 +1,13 @@
-//! What an SMMU remembers, and what each command takes away: the configuration cache, the TLB and the
-//! caches of endpoints.
+//! What an SMMU caches and what each command removes: the configuration cache, the TLB and the endpoints'
+//! caches.
 //!
-//! What is held follows from the history alone: a fill stands until its tag is filled again or evicted, or a command
-//! comes that covers it. `Covers.antt` says for each command which tags it covers.
+//! What is held depends only on the history: a fill stands until its tag is filled again or evicted, or a
+//! command covers it. `Covers.antt` defines which tags each command covers.
 //!
-//! All entries lie in one ordered map, by keys that put next to one another what one command takes: by stream, by
-//! virtual machine and page, by page of the hypervisor, by endpoint and page. A command goes over the ranges of keys in
-//! which something covered may lie, and tests each entry that it meets; so a range that is too wide costs time alone. A
-//! block that begins ahead of an address is found at the multiples of the lengths that were ever filled.
+//! All entries are in one ordered map. Its keys keep together what one command removes: by stream, by virtual
+//! machine and page, by page of the hypervisor, by endpoint and page. A command walks the ranges of keys that
+//! may hold covered entries and tests each entry it meets, so a range that is too wide only costs time.
+//! Blocks that begin before an address are found at the multiples of the lengths that were ever filled.
 #![tactic(auto)]
 
 mod caches;

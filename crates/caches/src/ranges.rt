@@ -19,7 +19,7 @@ use cmdcodec::{Command, PageRun, Sid};
 use std::collections::BTreeMap;
 use std::ops::Bound;
 
-/// Removes what is covered, for a command that covers entries of these streams alone.
+/// Removes what `command` covers, which must be entries of `streams` only.
 fn sweep_streams(map: &mut BTreeMap<Rank, Entry>, streams: PageRun, command: &Command)
     requires keeping { IsKeeping ⟦<Rank as Ord>⟧.cmp map.old }
     requires begins { streams.first < 2 ^ 32 }
@@ -38,7 +38,7 @@ fn sweep_streams(map: &mut BTreeMap<Rank, Entry>, streams: PageRun, command: &Co
     remove_covered(map, first, end, command);
 }
 
-/// Removes what is covered, for a command that covers entries of this owner alone.
+/// Removes what `command` covers, which must be entries of `owner` only.
 fn sweep_owner(map: &mut BTreeMap<Rank, Entry>, owner: Owner, command: &Command)
     requires keeping { IsKeeping ⟦<Rank as Ord>⟧.cmp map.old }
     requires reach { (q : Key) → covers_key command.now q ≡ true → owner_of q ≡ Some owner }
@@ -47,7 +47,7 @@ fn sweep_owner(map: &mut BTreeMap<Rank, Entry>, owner: Owner, command: &Command)
     remove_covered(map, owner.least(0, 0), owner.least(1 << 52, 0), command);
 }
 
-/// Removes what is covered, for a command that covers translations of virtual machines alone.
+/// Removes what `command` covers, which must be translations of virtual machines only.
 fn sweep_machines(map: &mut BTreeMap<Rank, Entry>, command: &Command)
     requires keeping { IsKeeping ⟦<Rank as Ord>⟧.cmp map.old }
     requires reach { (q : Key) → covers_key command.now q ≡ true → IsOfMachines q }
@@ -61,7 +61,7 @@ fn sweep_machines(map: &mut BTreeMap<Rank, Entry>, command: &Command)
     );
 }
 
-/// The first page of the block of `2^span` pages that holds a page.
+/// Returns the first page of the aligned block of `2^span` pages that holds `page`.
 fn block_start(page: u64, span: u8) -> u64
     requires { span ≤ 52 }
     ensures { result ≡ page - page % 2 ^ span }
@@ -69,7 +69,7 @@ fn block_start(page: u64, span: u8) -> u64
     page - page % (1 << span)
 }
 
-/// The greatest page before this one at which an entry of this owner begins.
+/// Returns the last page before `page` at which an entry of `owner` begins.
 fn last_page_before(map: &BTreeMap<Rank, Entry>, owner: Owner, page: u64) -> Option<u64>
     ensures { IsLastPage ⟦<Rank as Ord>⟧.cmp map.now owner page result }
 {
@@ -85,8 +85,8 @@ fn last_page_before(map: &BTreeMap<Rank, Entry>, owner: Owner, page: u64) -> Opt
     }
 }
 
-/// Removes what is covered and begins at this page in a block of this span or a longer one, and tells the greatest page
-/// before it at which an entry of this owner begins. An entry of the owner begins at `last`.
+/// Removes the covered entries of `owner` that begin at `start` and have at least this span. Returns the last
+/// page before `start` at which an entry of `owner` begins. An entry of `owner` begins at page `last`.
 fn sweep_start(
     map: &mut BTreeMap<Rank, Entry>,
     owner: Owner,
@@ -116,12 +116,12 @@ fn sweep_start(
     last_page_before(map, owner, start)
 }
 
-/// Removes what is covered and begins before a page, for a command that covers blocks of this owner alone
-/// that end behind that page.
+/// Removes the covered entries that begin before `page`, for a command that covers only blocks of `owner`
+/// that end past `page`.
 ///
-/// A block begins at a multiple of its length, so one that begins before the page and holds it begins at
-/// the page rounded down to a power of two, its length. These starts fall as the powers rise, and one is passed
-/// over where no block of that length was put in, or where the owner's next entry lies further down.
+/// A block begins at a multiple of its length, so one that begins before the page and holds it begins at the
+/// page rounded down to a power of two, its length. These starts fall as the powers rise. A start is skipped
+/// if no block of that length was put in, or if the owner's next entry is further down.
 fn sweep_before(
     map: &mut BTreeMap<Rank, Entry>,
     spans: &Spans,
@@ -152,10 +152,10 @@ fn sweep_before(
     }
 }
 
-/// Removes what is covered and begins in this run, and tells the greatest page before it at which an entry of this
-/// owner begins.
+/// Removes the covered entries that begin in `run`, and returns the last page before it at which an entry of
+/// `owner` begins.
 ///
-/// One look from the end of the run finds that page where no entry begins in it, as is so most often.
+/// If no entry begins in the run, which is the usual case, one look-up from its end finds that page.
 fn sweep_within(
     map: &mut BTreeMap<Rank, Entry>,
     owner: Owner,
@@ -168,7 +168,7 @@ fn sweep_within(
     ensures clean { (q : Key) → covers_key command.now q ≡ true → run.first ≤ page_of q → page_of q < run.end → tree.get ⟦<Rank as Ord>⟧.cmp map.new q ≡ None }
     ensures before { IsLastPage ⟦<Rank as Ord>⟧.cmp map.new owner run.first result }
 {
-    // A range of the map may not run backward.
+    // A range of the map must not run backward.
     let end = run.end.max(run.first);
     let Some(last) = last_page_before(map, owner, end) else {
         return None;
@@ -180,7 +180,7 @@ fn sweep_within(
     last_page_before(map, owner, run.first)
 }
 
-/// Removes what is covered, for a command that covers blocks of this owner alone that meet this run.
+/// Removes what `command` covers, which must be blocks of `owner` that meet `run`.
 fn sweep_run(
     map: &mut BTreeMap<Rank, Entry>,
     spans: &Spans,
@@ -197,7 +197,7 @@ fn sweep_run(
     sweep_before(map, spans, owner, run.first, before, command);
 }
 
-/// Removes what is covered, for a command by address that covers blocks of this owner alone.
+/// Removes what `command` covers, which must be blocks of `owner` that meet the command's run.
 fn sweep_address(map: &mut BTreeMap<Rank, Entry>, spans: &Spans, owner: Owner, command: &Command)
     requires keeping { IsKeeping ⟦<Rank as Ord>⟧.cmp map.old }
     requires spans { AreSpansOf spans.now ⟦<Rank as Ord>⟧.cmp map.old }
@@ -209,7 +209,7 @@ fn sweep_address(map: &mut BTreeMap<Rank, Entry>, spans: &Spans, owner: Owner, c
     }
 }
 
-/// The run of one stream.
+/// The run of a single stream.
 fn one_stream(sid: Sid) -> PageRun
     ensures run { result ≡ record { first = sid; end = sid + 1 } }
     ensures in_range { result.first < 2 ^ 32 }
@@ -221,9 +221,10 @@ fn one_stream(sid: Sid) -> PageRun
     }
 }
 
-/// Removes what the command covers, from a map whose blocks have these spans. It takes no memory.
+/// Removes what `command` covers. `spans` has the span of every block in the map. Takes no memory.
 ///
-/// Over an empty map it doesn't look at the command, so that one which is only judged never has to be put together.
+/// If the map is empty it doesn't look at the command, so that a command that is only judged never has to be
+/// built.
 #[inline]
 pub(crate) fn remove_all_covered(map: &mut BTreeMap<Rank, Entry>, spans: &Spans, command: &Command)
     requires keeping { IsKeeping ⟦<Rank as Ord>⟧.cmp map.old }
@@ -235,7 +236,7 @@ pub(crate) fn remove_all_covered(map: &mut BTreeMap<Rank, Entry>, spans: &Spans,
     }
 }
 
-/// The same of a map that may hold something.
+/// The same for a map that may hold entries.
 #[inline(never)]
 fn sweep_covered(map: &mut BTreeMap<Rank, Entry>, spans: &Spans, command: &Command)
     requires keeping { IsKeeping ⟦<Rank as Ord>⟧.cmp map.old }

@@ -1,4 +1,4 @@
-//! Keys as numbers, by which they stand in the map.
+//! Keys as numbers, by which the map orders them.
 ghost use Rattle.std.specs.Prelude.{◌≡◌, ◌<◌, ◌^◌, refl};
 ghost use Rattle.std.specs.Ordering.{eq_by_cmp, as_partial_cmp};
 ghost use Rattle.std.specs.Cmp.{eq_by_cmp_equiv, partial_equiv_from_equiv, partial_order_from_agreeing_total};
@@ -11,16 +11,17 @@ use crate::tag::Tag;
 use std::cmp::Ordering;
 use std::marker::Model;
 
-/// How many pages there is room for in a rank.
+/// The number of pages that a rank has room for.
 const PAGES: u128 = 1 << 64;
 
-/// How many spans there is room for beside each page.
+/// The number of spans that a rank has room for beside each page.
 const SPANS: u128 = 1 << 8;
 
-/// How many substreams, or stages with their address spaces, there is room for beside each span.
+/// The number of substreams, or of stages with their address spaces, that a rank has room for beside each
+/// span.
 const PARTS: u128 = 1 << 22;
 
-/// A key as one number, so that two are compared at once. It is seen as the key.
+/// A key as one number, so that comparing two takes one operation. Contracts see it as the key.
 #[derive(Clone, Copy)]
 pub(crate) struct Rank {
     number: u128,
@@ -81,7 +82,7 @@ impl Ord for Rank {
 }
 
 impl Rank {
-    /// The rank of a key.
+    /// Returns the rank of `key`.
     pub(crate) fn at(key: Key) -> Rank
         requires { part_of key < 2 ^ 22 }
         ensures { result ≡ key }
@@ -95,7 +96,7 @@ impl Rank {
         }
     }
 
-    /// The rank of the key of a tag.
+    /// Returns the rank of the key of `tag`.
     pub(crate) fn of(tag: &Tag) -> Rank
         ensures key { result ≡ key_of tag.now }
         ensures page { page_of result < 2 ^ 52 }
@@ -103,7 +104,7 @@ impl Rank {
         Rank::at(Key::of(tag))
     }
 
-    /// The page at which its block begins; 0 where it has none.
+    /// Returns the first page of its block, or 0 if it has none.
     pub(crate) fn page(&self) -> u64
         ensures { result ≡ page_of self.now }
     {

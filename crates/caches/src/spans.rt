@@ -1,11 +1,11 @@
-//! Which spans the blocks of the caches have.
+//! The spans of the blocks in the caches.
 ghost use Rattle.std.specs.Prelude.{◌≡◌, ◌<◌, ◌≤◌, ℕ, slice_index_or, false};
 
-/// The spans of all blocks that were put in: those of the entries that are held are among them.
+/// The spans of all blocks ever put in, which include those of the entries held.
 #[derive(Clone, Copy)]
 pub(crate) struct Spans {
     used: [bool; 53],
-    /// Above each of them.
+    /// Above all of them.
     end: u8,
     ghost few: { end ≤ 53 },
 }
@@ -13,7 +13,7 @@ pub(crate) struct Spans {
 impl Spans {
     ghost use Rattle.caches.specs.Spanned.{IsSpanOf};
 
-    /// Before the first block.
+    /// No spans, for caches that never had a block.
     pub(crate) fn none() -> Spans {
         Spans {
             used: [false; 53],
@@ -21,7 +21,7 @@ impl Spans {
         }
     }
 
-    /// A number above each of them.
+    /// Returns a number above all of them, at most 53.
     pub(crate) fn end(&self) -> u8
         ensures value { result ≡ self.now.end }
         ensures few { result ≤ 53 }
@@ -29,7 +29,7 @@ impl Spans {
         self.end
     }
 
-    /// Whether blocks of this span were put in.
+    /// Whether a block of this span was put in.
     pub(crate) fn has(&self, span: u8) -> bool
         requires { span < 53 }
         ensures { result ≡ slice_index_or self.now.used span false }
@@ -37,7 +37,7 @@ impl Spans {
         self.used[span as usize]
     }
 
-    /// A block of this span is put in.
+    /// Adds the span of a block that is put in.
     pub(crate) fn add(&mut self, span: u8)
         requires { span ≤ 52 }
         ensures added { IsSpanOf self.new span }

@@ -1,4 +1,4 @@
-//! Removal of what a command covers, among the keys of a range.
+//! Removes what a command covers in a range of keys.
 ghost use Rattle.std.specs.Prelude.{◌≡◌, cond, None};
 ghost use Rattle.std.specs.BTreeMap as tree;
 ghost use Rattle.std.specs.BTreeMap.Range.{IsLeBy, IsLtBy};
@@ -14,7 +14,7 @@ use cmdcodec::Command;
 use std::collections::BTreeMap;
 use std::ops::Bound;
 
-/// The first key of a range whose entry the command covers. It goes along the map, from one entry to the next.
+/// Returns the first key of a range whose entry `command` covers. Walks the map from one entry to the next.
 fn next_covered(
     map: &BTreeMap<Rank, Entry>,
     from: Bound<Rank>,
@@ -33,7 +33,7 @@ fn next_covered(
     None
 }
 
-/// Removes the entries that the command covers, of those from the first key on and before the end. It takes no memory.
+/// Removes the covered entries with keys from `first` up to, but not including, `end`. Takes no memory.
 pub(crate) fn remove_covered(
     map: &mut BTreeMap<Rank, Entry>,
     first: Rank,

@@ -1,21 +1,21 @@
-//! What the caches hold, and under which tags.
+//! Cached entries and their tags.
 ghost use Rattle.std.specs.Prelude.{◌≡◌, IsTrue, ◌↔◌};
 ghost use Rattle.caches.specs.Blocks.{IsAligned, IsBlock};
 ghost use Rattle.caches.specs.TagOrder.{numbers, scope_number, substream_number};
 
 use cmdcodec::{Asid, Page, Sid, Ssid, Vmid};
 
-/// Whose a stage 1 translation is.
+/// The address spaces that a stage 1 translation is for.
 #[derive(Clone, Copy, PartialEq, Eq, Debug)]
 pub enum Scope {
-    /// That of all address spaces, `nG` 0.
+    /// All address spaces, `nG` 0.
     Global,
-    /// That of one address space.
+    /// One address space.
     Of(Asid),
 }
 
-/// What tells one entry from the others. An entry with a page is for the block of `2^span` pages of
-/// 4,096 bytes from that page on.
+/// Identifies an entry. An entry with a page is for the block of `2^span` pages of 4,096 bytes that starts at
+/// that page.
 #[derive(Clone, Copy, PartialEq, Eq, Debug)]
 pub enum Tag {
     /// The stream table entry of a stream, in the configuration cache.
@@ -46,7 +46,7 @@ pub enum Tag {
         page: Page,
         span: u8,
     },
-    /// A translation that the endpoint of a stream caches, for a substream or for none.
+    /// A translation cached by the endpoint of a stream, for a substream or for none.
     Atc {
         sid: Sid,
         ssid: Option<Ssid>,
@@ -89,7 +89,7 @@ fn substream_number(substream: Option<Ssid>) -> u64
 }
 
 impl Tag {
-    /// Numbers that stand in the order of tags.
+    /// Returns the tag as numbers, which are ordered as tags are.
     pub(crate) fn numbers(&self) -> [u64; 5]
         ensures { result ≡ numbers self.now }
     {
@@ -129,8 +129,8 @@ impl Tag {
         }
     }
 
-    /// Whether its block, if it has one, is well formed: at most `2^52` pages, from a multiple of its
-    /// length on, and of stage 2 below intermediate physical page `2^40`.
+    /// Whether its block, if any, is well formed: at most `2^52` pages, starting at a multiple of its length,
+    /// and for stage 2 within the first `2^40` intermediate physical pages.
     pub(crate) fn is_block(&self) -> bool
         ensures { IsTrue result ↔ IsBlock self.now }
     {

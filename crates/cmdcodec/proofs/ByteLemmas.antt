@@ -1,4 +1,4 @@
--- Sixteen bytes that are read as two words and written again are the same bytes.
+-- Sixteen bytes read as two words and written back are the same bytes.
 use Rattle.std.proofs.Common.{◌≡◌, ℕ, ◌+◌, ◌<◌, List, ◌++◌, length, get_or, take, drop, ap, ◌∙◌, arith, length-take, length-drop, get_or-take, get_or-drop, take-append-drop, inl, inr}
 use Rattle.std.proofs.lemmas.Bool.{cases_lt}
 use Rattle.std.proofs.lemmas.List.{get_or_past}
@@ -18,7 +18,7 @@ IsBytes-take n bytes are i =
 IsBytes-drop : (n : ℕ) (bytes : List ℕ) → IsBytes bytes → IsBytes (drop n bytes)
 IsBytes-drop n bytes are i = rw get_or-drop (are (n + i))
 
--- eight bytes, as a number, and written again
+-- eight bytes read as a number and written back
 eight_again : (bytes : List ℕ) → length bytes ≡ 8 → IsBytes bytes → little_bytes 8 (little_number 8 bytes) ≡ bytes
 eight_again bytes len are = le_bytes_8 bytes (little_number 8 bytes) len are (omega arith)
 

@@ -1,4 +1,4 @@
--- What the words of a closing sync say.
+-- The words of a closing sync.
 use Rattle.std.proofs.Common.{◌≡◌, ℕ, true, eq-eqb, arith}
 use Rattle.cmdcodec.specs.ClosingSync.{cell_address, closing_sync}
 use Rattle.cmdcodec.specs.Opcodes.{opcode_of, is_sync}

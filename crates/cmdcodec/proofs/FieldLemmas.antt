@@ -1,4 +1,4 @@
--- A field is cut out by a shift and a mask.
+-- A shift and a mask cut out a field.
 use Rattle.std.proofs.Common.{◌≡◌, ℕ, zero, suc, ◌+◌, ◌-◌, ◌*◌, ◌/◌, ◌%◌, ◌^◌, ◌<◌, ◌≤◌, nat_lt, Bool, true, false, ◌&&◌, ◌||◌, [], ◌∷◌, inl, inr, refl, ap, sym, ◌∙◌, arith}
 use Rattle.std.proofs.lemmas.Bool.{and_parts, and_left, and_right, or_from, or_cases, ltb-true, lt-leb}
 use Rattle.std.specs.Prelude.{bit_and, nat_le}
@@ -16,7 +16,7 @@ masked word high low order width =
 pub field-lt : (word high low : ℕ) → field word high low < 2 ^ (high + 1 - low)
 field-lt word high low = let some = pow_pos (high + 1 - low) in omega arith
 
--- ---- A field is its bits.
+-- ---- A field is determined by its bits.
 
 split_top : (x n : ℕ) → x % 2 ^ suc n ≡ x / 2 ^ n % 2 * 2 ^ n + x % 2 ^ n
 split_top x n =
@@ -37,7 +37,7 @@ one_bit word i =
     let width : i + 1 - i ≡ 1 = omega arith in
     ap (λ n. word / 2 ^ i % 2 ^ n) width
 
--- none of the runs has a bit of these
+-- No run contains any of these bits.
 abbrev pub is_apart : ℕ → ℕ → Runs → Bool
 is_apart high low [] = true
 is_apart high low (run ∷ runs) = (nat_lt high run.1 || nat_lt run.0 low) && is_apart high low runs
@@ -53,7 +53,7 @@ apart_among i high low (run ∷ runs) apart from to =
     ])
     (apart_among i high low runs parts.1 from to)
 
--- A field that has no free bit is alike in words that differ in free bits alone.
+-- A field without free bits is the same in words that differ only in free bits.
 pub field_alike : (runs : Runs) (word other high low : ℕ) → IsAlikeBeside runs word other → is_apart high low runs ≡ true → low ≤ high → high < 64
     → field word high low ≡ field other high low
 field_alike runs word other high low alike apart order width =

@@ -1,4 +1,4 @@
--- Words that spell one command differ in free bits alone.
+-- Words that spell the same command differ only in free bits.
 use Rattle.std.proofs.Common.{◌≡◌, ℕ, suc, ◌+◌, ◌-◌, ◌/◌, ◌%◌, ◌^◌, ◌≤◌, Bool, true, false, ◌&&◌, ◌||◌, [], ◌∷◌, inl, inr, refl, ap, sym, ◌∙◌, arith}
 use Rattle.std.proofs.lemmas.Bool.{agree_below, agree_below_at, and_parts, or_cases, leb-true, both_ways}
 use Rattle.std.proofs.lemmas.Nat.{mod-pow-add, field_of, shr-shr}
@@ -19,7 +19,7 @@ low_bit x n =
     let split = ap (λ m. x % 2 ^ m) next ∙ mod-pow-add x n 1 in
     ap (λ m. m % 2) split ∙ omega arith
 
--- a bit, from a field that has it
+-- a bit of a field that contains it
 bit_in : (word high low i : ℕ) → low ≤ i → i ≤ high → field word i i ≡ field word high low / 2 ^ (i - low) % 2
 bit_in word high low i from to =
     let width : high + 1 - low ≡ suc (high - i) + (i - low) = omega (arith, from, to) in
@@ -29,7 +29,7 @@ bit_in word high low i from to =
     ∙ sym (ap (λ x. x % 2) (ap (λ n. word / 2 ^ low % 2 ^ n / 2 ^ (i - low)) width ∙ field_of (word / 2 ^ low) (suc (high - i)) (i - low)
     ∙ ap (λ x. x % 2 ^ suc (high - i)) moved))
 
--- The two words have these fields alike.
+-- The two words agree in these fields.
 Same : Runs → ℕ → ℕ → Type 0
 Same [] word other = Unit
 Same (run ∷ runs) word other = (field word run.0 run.1 ≡ field other run.0 run.1) × Same runs word other

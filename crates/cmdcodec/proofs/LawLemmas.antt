@@ -98,7 +98,7 @@ is_beside high low runs = nat_le low high && nat_lt high 64 && is_apart high low
 record Alike (runs : Runs) (word other : ℕ) : Type 0 where
   beside : IsAlikeBeside runs word other
 
--- A field that is named is the same in the other word.
+-- A named field is the same in the other word.
 same : {runs : Runs} {word other value : ℕ} → Alike runs word other → (high low : ℕ) → is_beside high low runs ≡ true → field word high low ≡ value → field other high low ≡ value
 unfolding is_beside
 same {runs} {word} {other} {value} alike high low beside is =

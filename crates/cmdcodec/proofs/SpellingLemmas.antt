@@ -1,4 +1,4 @@
--- The functions of words and commands are the relation of spelling.
+-- Decoding and encoding agree with the spelling.
 use Rattle.std.proofs.Common.{◌≡◌, ℕ, ◌<◌, ◌≤◌, ◌==◌, ◌||◌, zero, suc, inl, inr, Bool, true, false, refl, ap, sym, subst, ◌∙◌, arith, Option, Some, None, Ok, Err}
 use Rattle.std.specs.Prelude.{is_none}
 use Rattle.std.proofs.lemmas.Option.{same_Some}
@@ -171,7 +171,7 @@ steps_by : (lo : ℕ) (named : Option Granule) → SpellsSteps lo (reach_by name
 steps_by lo None = tt
 steps_by lo (Some tg) = (refl, refl)
 
--- TG is one of four
+-- TG has four values.
 granule_by : (hi num scale : ℕ) → SpellsGranule hi (reach_by (granule_named (field hi 11 10)) num scale)
 granule_by hi num scale =
     let tg = field hi 11 10 in

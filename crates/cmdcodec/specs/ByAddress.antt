@@ -1,4 +1,4 @@
--- Which pages an invalidation by address is for.
+-- The fields that say which pages an invalidation by address reaches.
 use Rattle.std.specs.Prelude.{Option, Some, None}
 use Rattle.cmdcodec.specs.declared.by_address.ByAddress.{ByAddress}
 use Rattle.cmdcodec.specs.declared.command.Command.{Command}

@@ -1,4 +1,4 @@
--- A command is 16 bytes in memory: lo first, each word with its lowest byte first.
+-- The 16 bytes of a command in memory: lo first, each word little-endian.
 use Rattle.std.specs.Prelude.{ℕ, List, ◌++◌, take, drop}
 use Rattle.byteorder.specs.Endian.{little_bytes, little_number}
 use Rattle.cmdcodec.specs.declared.raw.Raw.{Raw}

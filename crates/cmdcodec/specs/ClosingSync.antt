@@ -7,7 +7,7 @@ use Rattle.cmdcodec.specs.declared.command.Command.TheVariants.{CmdSync}
 abbrev pub cell_address : ℕ → ℕ
 cell_address sender = 0x40000000 + 4 * sender
 
--- It writes the number of the batch into the completion cell of the sender; MSIADDR has the cell's address
--- without its two low bits.
+-- Writes the batch's number into the sender's completion cell; MSIADDR is the cell's address without its two
+-- low bits.
 abbrev pub closing_sync : ℕ → ℕ → Command
 closing_sync sender number = CmdSync 1 0 0 number (0x10000000 + sender)

@@ -1,4 +1,4 @@
--- Which bits of the words are free in the spelling of a command: those that no equation names.
+-- Which bits are free in the spelling of a command: those that no equation of the spelling names.
 use Rattle.std.specs.Prelude.{◌≡◌, ◌<◌, ℕ, ◌&&◌, ◌||◌, nat_le, List, [], ◌∷◌, Bool, false}
 use Rattle.cmdcodec.specs.declared.raw.Raw.{Raw}
 use Rattle.cmdcodec.specs.declared.command.Command.{Command}
@@ -7,11 +7,11 @@ use Rattle.cmdcodec.specs.declared.reach.Reach.{Reach}
 use Rattle.cmdcodec.specs.declared.reach.Reach.TheVariants.{Page, Range}
 use Rattle.cmdcodec.specs.Fields.{field}
 
--- runs of bits, each high and low
+-- runs of bits, each as high and low, both inclusive
 abbrev pub Runs : Type 0
 Runs = List (ℕ × ℕ)
 
--- NUM and SCALE are named where a range is reached alone.
+-- NUM and SCALE have equations only in a Range.
 abbrev pub free_beside : Reach → Runs
 free_beside Page = (31, 8) ∷ []
 free_beside (Range tg num scale) = (11, 8) ∷ (19, 17) ∷ (31, 25) ∷ []
@@ -50,12 +50,12 @@ free_in_hi (Kept words) = []
 free_in_hi (CmdSync cs msh attr «data» address) = (1, 0) ∷ (63, 52) ∷ []
 free_in_hi without_fields = (63, 0) ∷ []
 
--- These runs of a word are 0.
+-- All these runs of the word are 0.
 abbrev pub AreZero : ℕ → Runs → Type 0
 AreZero word [] = Unit
 AreZero word (run ∷ runs) = (field word run.0 run.1 ≡ 0) × AreZero word runs
 
--- The bits that are free in the spelling of this command are all 0.
+-- All bits that are free in the spelling of this command are 0.
 abbrev pub HasFreeBitsZero : Raw → Command → Type 0
 HasFreeBitsZero raw command = AreZero raw.lo (free_in_lo command) × AreZero raw.hi (free_in_hi command)
 
@@ -63,11 +63,11 @@ abbrev pub is_among : ℕ → Runs → Bool
 is_among i [] = false
 is_among i (run ∷ runs) = nat_le run.1 i && nat_le i run.0 || is_among i runs
 
--- The two words are alike in each bit that is in none of these runs.
+-- The two words agree in every bit outside these runs.
 abbrev pub IsAlikeBeside : Runs → ℕ → ℕ → Type 0
 IsAlikeBeside runs word other = (i : ℕ) → i < 64 → is_among i runs ≡ false → field word i i ≡ field other i i
 
--- The words differ at most in bits that are free in the spelling of this command.
+-- The words differ only in bits that are free in the spelling of this command.
 abbrev pub DifferInFreeBits : Command → Raw → Raw → Type 0
 DifferInFreeBits command raw other =
     IsAlikeBeside (free_in_lo command) raw.lo other.lo × IsAlikeBeside (free_in_hi command) raw.hi other.hi

@@ -10,7 +10,7 @@ is_configuration (CfgiCd sid ssid leaf) = true
 is_configuration (CfgiCdAll sid) = true
 is_configuration other = false
 
--- an invalidation of translations that has no address
+-- an invalidation of translations without an address
 abbrev pub is_of_all_pages : Command → Bool
 is_of_all_pages (TlbiNhAll vmid) = true
 is_of_all_pages (TlbiNhAsid vmid asid) = true

@@ -1,4 +1,4 @@
--- What is illegal in the words of a command, by its label alone.
+-- The label of each fault that makes the words of a command illegal.
 use Rattle.std.specs.Prelude.{ℕ, List, codes}
 use Rattle.cmdcodec.specs.declared.ill.Ill.{Ill}
 use Rattle.cmdcodec.specs.declared.ill.Ill.TheVariants.{UnknownOpcode, SecureStream, ReservedSignal, OversizedSpan}

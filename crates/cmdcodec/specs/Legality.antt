@@ -1,4 +1,4 @@
--- What is illegal in two words: the first of the faults that stands in them, if one does.
+-- What makes two words illegal: the first fault that applies, if any.
 use Rattle.std.specs.Prelude.{◌≡◌, ℕ, ◌==◌, ◌&&◌, ◌||◌, nat_le, nat_lt, Bool, true, Option, Some, None, is_none, if◌then◌else◌}
 use Rattle.cmdcodec.specs.declared.raw.Raw.{Raw}
 use Rattle.cmdcodec.specs.declared.ill.Ill.{Ill}
@@ -6,8 +6,8 @@ use Rattle.cmdcodec.specs.declared.ill.Ill.TheVariants.{UnknownOpcode, SecureStr
 use Rattle.cmdcodec.specs.Fields.{field}
 use Rattle.cmdcodec.specs.Opcodes.{opcode_of, opcode_named, is_kept}
 
--- The prefetches, the commands on configurations and ATC_INV have SSec, bit 10 of lo, for a Secure
--- stream, of which the profile has none.
+-- The prefetches, the CFGI commands and ATC_INV have SSec in bit 10 of lo, for a Secure stream; the profile
+-- has no Secure streams.
 abbrev pub has_secure_bit : ℕ → Bool
 has_secure_bit opcode = nat_le 0x01 opcode && nat_le opcode 0x06 || opcode == 0x40
 
@@ -19,6 +19,6 @@ first_ill raw =
     else if opcode_of raw == 0x40 && nat_lt 52 (field raw.hi 5 0) then Some OversizedSpan
     else None
 
--- legal words with an opcode that is kept
+-- legal words of a kept command
 abbrev pub IsKept : Raw → Type 0
 IsKept raw = (is_kept (opcode_of raw) ≡ true) × (first_ill raw ≡ None)

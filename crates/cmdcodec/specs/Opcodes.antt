@@ -1,4 +1,4 @@
--- The opcodes of the profile, from the chapter on commands. They stand in bits 7:0 of lo.
+-- The opcodes of the profile, from the chapter on commands. The opcode is bits 7:0 of lo.
 use Rattle.std.specs.Prelude.{ℕ, ◌==◌, ◌||◌, Bool, Option, Some, None, if◌then◌else◌}
 use Rattle.cmdcodec.specs.declared.raw.Raw.{Raw}
 use Rattle.cmdcodec.specs.declared.opcode.Opcode.{Opcode}
@@ -58,10 +58,10 @@ opcode_named number =
     else if number == 0x46 then Some CmdSync
     else None
 
--- a CMD_SYNC, by its opcode alone, whatever the other fields say
+-- Whether the opcode is CMD_SYNC's, whatever the other fields say.
 abbrev pub is_sync : Raw → Bool
 is_sync raw = opcode_of raw == number_of CmdSync
 
--- Commands that the profile keeps as they are: it says nothing of their fields.
+-- Opcodes whose commands are kept as they are: the profile says nothing about their fields.
 abbrev pub is_kept : ℕ → Bool
 is_kept number = number == 0x01 || number == 0x02 || number == 0x41 || number == 0x44 || number == 0x45

@@ -1,5 +1,5 @@
--- Which command two words spell, from the chapter on commands: the opcode stands in bits 7:0 of lo, and
--- each field of a command has an equation. Bits that no equation names are free.
+-- Which command two words spell, from the chapter on commands: the opcode is bits 7:0 of lo, and each field
+-- of a command has an equation. Bits that no equation names are free.
 use Rattle.std.specs.Prelude.{◌≡◌, ◌<◌, ◌≤◌, ℕ, ◌==◌, Option, Some, None, if◌then◌else◌}
 use Rattle.cmdcodec.specs.declared.raw.Raw.{Raw}
 use Rattle.cmdcodec.specs.declared.command.Command.{Command}
@@ -28,7 +28,7 @@ granule_named tg =
 abbrev pub IsNotSecure : ℕ → Type 0
 IsNotSecure lo = field lo 10 10 ≡ 0
 
--- NUM and SCALE, which are free where TG is 0 and one page is meant
+-- NUM and SCALE, which are free if TG is 0 and only the page is meant
 abbrev pub SpellsSteps : ℕ → Reach → Type 0
 SpellsSteps lo Page = Unit
 SpellsSteps lo (Range tg num scale) = (field lo 16 12 ≡ num) × (field lo 24 20 ≡ scale)
@@ -55,7 +55,7 @@ SpellsInLo lo (Kept words) = (lo ≡ words.lo) × IsKept words
 SpellsInLo lo (CmdSync cs msh attr «data» address) =
     (field lo 7 0 ≡ 0x46) × (field lo 13 12 ≡ cs) × (cs < 3) × (field lo 23 22 ≡ msh) × (field lo 27 24 ≡ attr) × (field lo 63 32 ≡ «data»)
 
--- TG: 0 where one page is meant
+-- TG: 0 for a single page
 abbrev pub SpellsGranule : ℕ → Reach → Type 0
 SpellsGranule hi Page = field hi 11 10 ≡ 0
 SpellsGranule hi (Range tg num scale) = field hi 11 10 ≡ granule_number tg
@@ -74,6 +74,6 @@ SpellsInHi hi (Kept words) = hi ≡ words.hi
 SpellsInHi hi (CmdSync cs msh attr «data» address) = field hi 51 2 ≡ address
 SpellsInHi hi without_fields = Unit
 
--- These two words spell this command.
+-- The words spell the command.
 abbrev pub Spells : Raw → Command → Type 0
 Spells raw command = SpellsInLo raw.lo command × SpellsInHi raw.hi command

@@ -1,4 +1,4 @@
--- The text of a command: one line, its fields joined by one space.
+-- The text of a command: one line, its fields separated by single spaces.
 use Rattle.std.specs.Prelude.{ℕ, ◌*◌, ◌==◌, List, [], ◌++◌, codes, decimal, false, if◌then◌else◌}
 use Rattle.std.specs.Fmt.{digits}
 use Rattle.cmdcodec.specs.declared.raw.Raw.{Raw}
@@ -23,7 +23,7 @@ kept_name opcode =
     else if opcode == 0x44 then codes "RESUME"
     else codes "STALL_TERM"
 
--- a command with an opcode that is kept
+-- a kept command: its two words
 abbrev pub kept_text : Raw → List ℕ
 kept_text raw = kept_name (opcode_of raw) ++ codes " lo=" ++ hexadecimal raw.lo ++ codes " hi=" ++ hexadecimal raw.hi
 
@@ -31,7 +31,7 @@ abbrev pub reach_text : Reach → List ℕ
 reach_text Page = []
 reach_text (Range tg num scale) = codes " tg=" ++ decimal (granule_number tg) ++ codes " num=" ++ decimal num ++ codes " scale=" ++ decimal scale
 
--- what ends the text of an invalidation by address
+-- the end of the text of an invalidation by address
 abbrev pub pages_text : ByAddress → List ℕ
 pages_text pages = codes " leaf=" ++ decimal (bit pages.leaf) ++ codes " addr=" ++ hexadecimal (pages.page * 4096) ++ reach_text pages.reach
 

@@ -1,5 +1,4 @@
--- The command of two words, and the two words of a command, as functions. That they are those of the
--- spelling is what `decode` and `encode` ensure.
+-- Decoding and encoding as functions. `decode` and `encode` ensure that they agree with the spelling.
 use Rattle.std.specs.Prelude.{ℕ, ◌+◌, ◌*◌, ◌^◌, ◌==◌, Option, Some, None, Result, Ok, Err}
 use Rattle.cmdcodec.specs.declared.raw.Raw.{Raw}
 use Rattle.cmdcodec.specs.declared.ill.Ill.{Ill}
@@ -24,7 +23,7 @@ reach_by (Some tg) num scale = Range tg num scale
 abbrev pub reach_in : Raw → Reach
 reach_in raw = reach_by (granule_named (field raw.hi 11 10)) (field raw.lo 16 12) (field raw.lo 24 20)
 
--- the fields that a command of this opcode has
+-- the command of this opcode, with its fields read from the words
 abbrev pub command_with : Opcode → Raw → Command
 command_with op.CfgiSte raw = CfgiSte (field raw.lo 63 32) (field raw.hi 0 0 == 1)
 command_with op.CfgiSteRange raw = CfgiSteRange (field raw.lo 63 32) (field raw.hi 4 0)
@@ -56,7 +55,7 @@ command_or_ill None ill raw = Err UnknownOpcode
 command_or_ill (Some opcode) (Some ill) raw = Err ill
 command_or_ill (Some opcode) None raw = Ok (command_with opcode raw)
 
--- the command that the words spell where they are legal, else what is illegal in them
+-- the command that the words spell, or the fault of illegal words
 unfoldable pub decoding : Raw → Result Command Ill
 decoding raw = command_or_ill (opcode_named (opcode_of raw)) (first_ill raw) raw
 
@@ -70,7 +69,7 @@ abbrev pub granule_word : Reach → ℕ
 granule_word Page = 0
 granule_word (Range tg num scale) = granule_number tg * 2 ^ 10
 
--- the words that spell the command, with all free bits 0
+-- the words that spell the command, with every free bit 0
 unfoldable pub encoding : Command → Raw
 encoding (CfgiSte sid leaf) = record { lo = 0x03 + sid * 2 ^ 32; hi = bit leaf }
 encoding (CfgiSteRange sid range) = record { lo = 0x04 + sid * 2 ^ 32; hi = range }

@@ -2,7 +2,7 @@
 ghost use Rattle.std.specs.Prelude.{◌≡◌, ◌<◌, ◌≤◌, ◌+◌, ◌-◌, ◌^◌};
 ghost use Rattle.cmdcodec.specs.Fields.{field};
 
-/// Bits `high` to `low` of a word.
+/// Returns bits `high:low` of `word`.
 pub(crate) fn field(word: u64, high: u32, low: u32) -> u64
     requires order { low ≤ high }
     requires width { high < 64 }

@@ -1,4 +1,4 @@
-//! What the invalidations by address have in common.
+//! The fields common to all invalidations by address.
 ghost use Rattle.std.specs.Prelude.{◌≡◌};
 ghost use Rattle.cmdcodec.specs.ByAddress.{by_address};
 
@@ -6,7 +6,7 @@ use crate::command::Command;
 use crate::fields::Page;
 use crate::reach::Reach;
 
-/// The fields that say which pages an invalidation by address is for.
+/// The fields that say which pages an invalidation by address reaches.
 #[derive(Clone, Copy)]
 pub(crate) struct ByAddress {
     pub(crate) leaf: bool,
@@ -15,7 +15,7 @@ pub(crate) struct ByAddress {
 }
 
 impl Command {
-    /// Which pages it is for; `None` where it isn't by address.
+    /// Returns its pages, or `None` if it isn't an invalidation by address.
     pub(crate) fn by_address(&self) -> Option<ByAddress>
         ensures { result ≡ by_address self.now }
     {

@@ -1,4 +1,4 @@
-//! The CMD_SYNC that ends a batch, and the cell that it writes into.
+//! The CMD_SYNC that ends a batch, and the completion cell it writes to.
 ghost use Rattle.std.specs.Prelude.{◌≡◌, ◌≢◌, ℕ, true, MatchOption};
 ghost use Rattle.cmdcodec.specs.ClosingSync.{cell_address, closing_sync};
 ghost use Rattle.cmdcodec.specs.Opcodes.{is_sync};
@@ -10,17 +10,17 @@ use crate::fields::{Attr, Cs, Msh, MsiWord};
 /// The address of sender 0's completion cell.
 const FIRST_CELL: u64 = 0x4000_0000;
 
-/// How many bytes a completion cell has.
+/// The size of a completion cell in bytes.
 const CELL_BYTES: u64 = 4;
 
-/// The address of a sender's completion cell: the cells follow one another, 4 bytes each (own).
+/// Returns the address of a sender's completion cell. The cells are contiguous, 4 bytes each (own).
 pub fn cell_address(sender: u32) -> u64
     ensures { result ≡ cell_address sender }
 {
     FIRST_CELL + CELL_BYTES * u64::from(sender)
 }
 
-/// Whose completion cell begins at an address, where one does.
+/// Returns the sender whose completion cell begins at `address`, if there is one.
 pub fn cell_owner(address: u64) -> Option<u64>
     ensures { MatchOption result ((sender : ℕ) → address ≢ cell_address sender) (λ sender. address ≡ cell_address sender) }
 {
@@ -31,8 +31,8 @@ pub fn cell_owner(address: u64) -> Option<u64>
     Some(offset / CELL_BYTES)
 }
 
-/// The CMD_SYNC that ends the batch of this number of a sender: it writes the number into the
-/// sender's completion cell (own).
+/// Returns the CMD_SYNC that ends batch `number` of a sender: it writes the number into the sender's
+/// completion cell (own).
 pub fn closing_sync(sender: u32, number: u32) -> Command
     ensures value { result ≡ closing_sync sender number }
     // Its words are those of a CMD_SYNC to the cell.

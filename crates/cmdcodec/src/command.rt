@@ -8,10 +8,9 @@ use crate::fields::{
 use crate::kept::KeptRaw;
 use crate::reach::{PageRun, Reach};
 
-/// A command, which is always legal: its fields are in range by their types.
+/// A command. It is always legal: the field types keep every field in range.
 ///
-/// `leaf` says that entries of the last level alone are meant; no command of this profile is narrowed by
-/// it (own).
+/// `leaf` asks for last-level entries only; it narrows no command of this profile (own).
 #[derive(Clone, Copy, Debug, PartialEq, Eq)]
 pub enum Command {
     /// CMD_CFGI_STE: the stream table entry of a stream is no longer valid.
@@ -19,32 +18,32 @@ pub enum Command {
         sid: Sid,
         leaf: bool,
     },
-    /// CMD_CFGI_STE_RANGE: nor are those of the aligned block of `2^(range+1)` streams that holds this
-    /// one.
+    /// CMD_CFGI_STE_RANGE: the stream table entries of the aligned block of `2^(range+1)` streams that holds
+    /// `sid` are no longer valid.
     CfgiSteRange {
         sid: Sid,
         range: StreamRange,
     },
-    /// CMD_CFGI_CD: nor is the context descriptor of a substream.
+    /// CMD_CFGI_CD: the context descriptor of a substream is no longer valid.
     CfgiCd {
         sid: Sid,
         ssid: Ssid,
         leaf: bool,
     },
-    /// CMD_CFGI_CD_ALL: nor are those of a stream.
+    /// CMD_CFGI_CD_ALL: all context descriptors of a stream are no longer valid.
     CfgiCdAll {
         sid: Sid,
     },
-    /// CMD_TLBI_NH_ALL: the stage 1 translations of a virtual machine.
+    /// CMD_TLBI_NH_ALL: drop the stage 1 translations of a virtual machine.
     TlbiNhAll {
         vmid: Vmid,
     },
-    /// CMD_TLBI_NH_ASID: those of one of its address spaces.
+    /// CMD_TLBI_NH_ASID: drop a virtual machine's stage 1 translations of one address space.
     TlbiNhAsid {
         vmid: Vmid,
         asid: Asid,
     },
-    /// CMD_TLBI_NH_VA: those of an address space and some pages.
+    /// CMD_TLBI_NH_VA: drop a virtual machine's stage 1 translations of some pages in one address space.
     TlbiNhVa {
         vmid: Vmid,
         asid: Asid,
@@ -52,46 +51,46 @@ pub enum Command {
         page: Page,
         reach: Reach,
     },
-    /// CMD_TLBI_NH_VAA: those of some pages, of all its address spaces.
+    /// CMD_TLBI_NH_VAA: drop a virtual machine's stage 1 translations of some pages in all address spaces.
     TlbiNhVaa {
         vmid: Vmid,
         leaf: bool,
         page: Page,
         reach: Reach,
     },
-    /// CMD_TLBI_EL2_ALL: the translations of the hypervisor.
+    /// CMD_TLBI_EL2_ALL: drop the hypervisor's translations.
     TlbiEl2All,
-    /// CMD_TLBI_EL2_ASID: those of one of its address spaces.
+    /// CMD_TLBI_EL2_ASID: drop the hypervisor's translations of one address space.
     TlbiEl2Asid {
         asid: Asid,
     },
-    /// CMD_TLBI_EL2_VA: those of an address space and some pages.
+    /// CMD_TLBI_EL2_VA: drop the hypervisor's translations of some pages in one address space.
     TlbiEl2Va {
         asid: Asid,
         leaf: bool,
         page: Page,
         reach: Reach,
     },
-    /// CMD_TLBI_EL2_VAA: those of some pages, of all its address spaces.
+    /// CMD_TLBI_EL2_VAA: drop the hypervisor's translations of some pages in all address spaces.
     TlbiEl2Vaa {
         leaf: bool,
         page: Page,
         reach: Reach,
     },
-    /// CMD_TLBI_S12_VMALL: the translations of a virtual machine, of both stages.
+    /// CMD_TLBI_S12_VMALL: drop the translations of a virtual machine, of both stages.
     TlbiS12Vmall {
         vmid: Vmid,
     },
-    /// CMD_TLBI_S2_IPA: the stage 2 translations of some intermediate physical pages.
+    /// CMD_TLBI_S2_IPA: drop a virtual machine's stage 2 translations of some intermediate physical pages.
     TlbiS2Ipa {
         vmid: Vmid,
         leaf: bool,
         page: IpaPage,
         reach: Reach,
     },
-    /// CMD_TLBI_NSNH_ALL: the translations of all virtual machines.
+    /// CMD_TLBI_NSNH_ALL: drop the translations of all virtual machines.
     TlbiNsnhAll,
-    /// CMD_ATC_INV: what an endpoint caches of the aligned block of `2^size` pages that holds this one.
+    /// CMD_ATC_INV: drop what an endpoint caches of the aligned block of `2^size` pages that holds `page`.
     AtcInv {
         sid: Sid,
         /// `SSV`, whether `ssid` and `global` mean anything.
@@ -109,17 +108,17 @@ pub enum Command {
         cs: Cs,
         msh: Msh,
         attr: Attr,
-        /// `MSIDATA`, what the completing write writes.
+        /// `MSIDATA`, the value of the completing write.
         data: u32,
-        /// `MSIADDR`, where it writes it.
+        /// `MSIADDR`, the address of the completing write, without its two low bits.
         address: MsiWord,
     },
 }
 
 impl Command {
-    /// The pages that an invalidation by address reaches, by their numbers; `None` for any other command.
+    /// Returns the page numbers that an invalidation by address reaches, or `None` for any other command.
     ///
-    /// The run is cut at the end of the address space, `2^52` pages or `2^40` intermediate physical ones
+    /// The run is cut at the end of the address space, `2^52` pages or `2^40` intermediate physical pages
     /// (own).
     pub fn pages(&self) -> Option<PageRun>
         ensures { result ≡ run_of self.now }

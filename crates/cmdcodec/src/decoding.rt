@@ -1,4 +1,4 @@
-//! The command of two words.
+//! Decodes two words into a command.
 ghost use Rattle.std.specs.Prelude.{◌≡◌, ◌<◌, ◌≤◌, Some, None, Ok, Err, IfOk, IfErr};
 ghost use Rattle.cmdcodec.specs.Fields.{field};
 ghost use Rattle.cmdcodec.specs.Opcodes.{opcode_of, number_of};
@@ -18,7 +18,7 @@ use crate::legality::first_ill;
 use crate::opcode::Opcode;
 use crate::raw::Raw;
 
-/// The command that the words spell, or the first thing that is illegal in them.
+/// Returns the command that the words spell, or their first fault.
 #[inline(always)]
 #[tactic(auto, unfolding(crate::specs::Words::decoding))]
 pub fn decode(raw: Raw) -> Result<Command, Ill>
@@ -37,7 +37,7 @@ pub fn decode(raw: Raw) -> Result<Command, Ill>
     }
 }
 
-/// The fields that a command of this opcode has.
+/// Reads the fields of a command with this opcode.
 #[inline]
 fn command_with(opcode: Opcode, raw: Raw) -> Command
     requires opcode { number_of opcode ≡ opcode_of raw }

@@ -12,7 +12,7 @@ use std::alloc::{AllocError, Global};
 use std::fmt;
 use translations::{write_by_address, write_translations};
 
-/// The text of a command, on one line.
+/// Returns the text of a command, on one line, or `AllocError` if memory runs out.
 pub fn text(alloc: Global, command: &Command) -> Result<String, AllocError>
     ensures { IfOk result (λ text. string_bytes text ≡ text_of command.now) }
 {

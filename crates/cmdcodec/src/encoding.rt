@@ -1,4 +1,4 @@
-//! The words of a command.
+//! Encodes a command into its two words.
 ghost use Rattle.std.specs.Prelude.{◌≡◌, ◌<◌, ◌≤◌, ◌*◌, ◌-◌, ◌^◌, true, Ok};
 ghost use Rattle.cmdcodec.specs.Spelling.{Spells, SpellsInLo, SpellsInHi};
 ghost use Rattle.cmdcodec.specs.FreeBits.{HasFreeBitsZero, AreZero, free_in_lo, free_in_hi};
@@ -12,7 +12,7 @@ use crate::opcode::Opcode;
 use crate::raw::Raw;
 use crate::reach::Reach;
 
-/// The words that spell a command, with all free bits 0.
+/// Returns the words that spell `command`, with every free bit 0.
 #[tactic(auto, unfolding(crate::specs::Words::encoding, crate::specs::Words::decoding))]
 pub fn encode(command: &Command) -> Raw
     ensures words { result ≡ encoding command.now }
@@ -157,7 +157,7 @@ fn space_word(asid: Asid) -> u64
     u64::from(asid.get()) << 48
 }
 
-/// `NUM` and `SCALE`.
+/// `NUM` and `SCALE`, at their place in lo.
 fn steps_word(reach: Reach) -> u64
     ensures value { result ≡ steps_word reach }
     ensures in_range { result < 2 ^ 25 }
@@ -169,7 +169,7 @@ fn steps_word(reach: Reach) -> u64
     }
 }
 
-/// `TG`.
+/// `TG`, at its place in hi.
 fn granule_word(reach: Reach) -> u64
     ensures value { result ≡ granule_word reach }
     ensures in_range { result < 2 ^ 12 }

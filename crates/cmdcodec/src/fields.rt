@@ -1,4 +1,4 @@
-//! The fields of commands, each in range by its type.
+//! The fields of commands. Each type keeps its field in range.
 mod page;
 mod range;
 mod signal;

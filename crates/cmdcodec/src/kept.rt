@@ -1,4 +1,4 @@
-//! Commands that are kept as they are.
+//! Commands kept as their two words.
 ghost use Rattle.std.specs.Prelude.{◌≡◌, Some};
 ghost use Rattle.std.specs.Option.{SomeIff};
 ghost use Rattle.cmdcodec.specs.declared.raw.Raw.{Raw};
@@ -9,8 +9,8 @@ use crate::opcode::Opcode;
 use crate::raw::Raw;
 use std::marker::Model;
 
-/// The words of a command of which the profile says nothing: a prefetch, a response to a page request,
-/// or the end of a stall. They are legal, and kept bit for bit (own).
+/// The words of a command whose fields the profile says nothing about: a prefetch, a response to a page
+/// request, or the end of a stall. They are legal, and kept bit for bit (own).
 #[derive(Clone, Copy, Debug, PartialEq, Eq)]
 pub struct KeptRaw {
     raw: Raw,
@@ -27,7 +27,7 @@ impl Model for KeptRaw {
 }
 
 impl KeptRaw {
-    /// These words, where their opcode is one of those that are kept and they are legal.
+    /// Returns `raw` as a kept command if its opcode is a kept one and the words are legal, else `None`.
     pub fn new(raw: Raw) -> Option<KeptRaw>
         ensures { SomeIff result (IsKept raw) raw }
     {
@@ -46,7 +46,7 @@ impl KeptRaw {
         }
     }
 
-    /// The words.
+    /// Returns the words.
     pub fn get(self) -> Raw
         ensures value { result ≡ self }
         ensures kept { IsKept result }

@@ -1,7 +1,7 @@
-//! Laws of the definitions, each the contract of a function that does nothing.
+//! Laws of the definitions. Each is the contract of a function that does nothing.
 ghost use Rattle.cmdcodec.specs.Laws.{LegalWordsSpellOneCommand, SpelledWordsAreLegal, WordsDecodeToWhatTheySpell, IllegalWordsDecodeToTheirFault, FreeBitsAreIgnored, AllOtherBitsAreNamed, RunsAreOfWholeGranules};
 
-/// Words are legal exactly where they spell a command, and then they spell one alone: that to which they decode.
+/// Words are legal exactly if they spell a command, and then they spell exactly one: the one they decode to.
 pub fn legal_words_spell_one_command()
     ensures one { LegalWordsSpellOneCommand }
     ensures legal { SpelledWordsAreLegal }
@@ -9,15 +9,15 @@ pub fn legal_words_spell_one_command()
     ensures faults { IllegalWordsDecodeToTheirFault }
 {}
 
-/// Two pairs of words that differ in free bits alone spell the same and decode alike; and two that spell
-/// one command differ in free bits alone.
+/// Two pairs of words that differ only in free bits spell the same command and decode alike; two pairs that
+/// spell the same command differ only in free bits.
 pub fn free_bits_are_ignored()
     ensures ignored { FreeBitsAreIgnored }
     ensures no_others { AllOtherBitsAreNamed }
 {}
 
-/// The run of pages of an invalidation by address is the pages of the granules that it reaches, as far as
-/// the address space goes.
+/// The run of an invalidation by address is the pages of the granules that it reaches, up to the end of the
+/// address space.
 pub fn runs_are_of_whole_granules()
     ensures { RunsAreOfWholeGranules }
 {}

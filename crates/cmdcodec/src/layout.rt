@@ -1,4 +1,4 @@
-//! The fields that several commands have, each at its one place.
+//! The fields that several commands share, each always at the same bits.
 ghost use Rattle.std.specs.Prelude.{◌≡◌, ◌==◌};
 ghost use Rattle.cmdcodec.specs.Fields.{field};
 ghost use Rattle.cmdcodec.specs.Words.{reach_in};
@@ -45,7 +45,7 @@ impl Raw {
         Page::new(field(self.hi, 63, 12)).unwrap()
     }
 
-    /// How far an invalidation by address reaches: `TG` 0 is the one page.
+    /// How far an invalidation by address reaches: just its page if `TG` is 0.
     pub(crate) fn reach(self) -> Reach
         ensures { result ≡ reach_in self }
     {

@@ -1,4 +1,4 @@
-//! What is illegal in two words.
+//! What makes two words illegal.
 ghost use Rattle.std.specs.Prelude.{◌≡◌, ◌==◌, IfSome};
 ghost use Rattle.cmdcodec.specs.Fields.{field};
 ghost use Rattle.cmdcodec.specs.Opcodes.{opcode_of, opcode_named, number_of, is_sync};
@@ -12,11 +12,11 @@ use crate::raw::Raw;
 /// The reserved value of `CS`.
 const RESERVED_SIGNAL: u64 = 3;
 
-/// The greatest `Size` of an ATC_INV, which is for all pages.
+/// The largest `Size` of an ATC_INV, which covers all pages.
 const ALL_PAGES: u64 = 52;
 
 impl Raw {
-    /// The opcode, where it is one of the profile.
+    /// Returns the opcode, or `None` if it isn't in the profile.
     #[inline]
     pub fn opcode(self) -> Option<Opcode>
         ensures named { result ≡ opcode_named (opcode_of self) }
@@ -25,7 +25,7 @@ impl Raw {
         Opcode::new(field(self.lo, 7, 0))
     }
 
-    /// Whether it is a CMD_SYNC, legal or not.
+    /// Whether the opcode is CMD_SYNC's, even if the words are illegal.
     pub fn is_sync(self) -> bool
         ensures { result ≡ is_sync self }
     {
@@ -33,14 +33,14 @@ impl Raw {
     }
 }
 
-/// `SSec`, which a command for a Secure stream has set.
+/// Whether `SSec` is set, which marks a command for a Secure stream.
 fn is_secure(raw: Raw) -> bool
     ensures { result ≡ (field raw.lo 10 10 == 1) }
 {
     field(raw.lo, 10, 10) == 1
 }
 
-/// The first thing that is illegal in the words.
+/// Returns the first fault of the words, if any.
 #[inline]
 #[tactic(auto, unfolding(crate::specs::Opcodes::opcode_named))]
 pub(crate) fn first_ill(raw: Raw) -> Option<Ill>

@@ -1,9 +1,9 @@
 //! The limits of a batch (own).
 
-/// The most commands of a batch's body.
+/// The most commands in a batch's body.
 pub const MOST_BODY_COMMANDS: usize = 63;
 
-/// The most commands of a batch: its body, and the CMD_SYNC that closes it.
+/// The most commands in a batch: its body and the CMD_SYNC that closes it.
 pub const MOST_BATCH_COMMANDS: usize = 64;
 
 /// The most batches that a sender may make.

@@ -2,7 +2,7 @@
 ghost use Rattle.std.specs.Prelude.{◌≡◌, IfSome};
 ghost use Rattle.cmdcodec.specs.Opcodes.{opcode_named, number_of};
 
-/// What a command is, by the number in bits 7:0 of its low word.
+/// The opcode of a command, from bits 7:0 of its low word.
 #[derive(Clone, Copy, Debug, PartialEq, Eq)]
 pub enum Opcode {
     /// CMD_PREFETCH_CONFIG.
@@ -52,7 +52,7 @@ pub enum Opcode {
 }
 
 impl Opcode {
-    /// The opcode of this number, where the profile has one.
+    /// Returns the opcode with this number, or `None` if it isn't in the profile.
     #[inline]
     #[tactic(auto, unfolding(crate::specs::Opcodes::opcode_named))]
     pub fn new(number: u64) -> Option<Opcode>

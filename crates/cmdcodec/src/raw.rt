@@ -1,4 +1,4 @@
-//! The two words of a command, and its sixteen bytes.
+//! The two words of a command and its 16 bytes.
 ghost use Rattle.std.specs.Prelude.{◌≡◌};
 ghost use Rattle.cmdcodec.specs.Bytes.{bytes_of, raw_of};
 
@@ -6,20 +6,20 @@ use crate::limits::MOST_BATCH_COMMANDS;
 use arrayvec::ArrayVec;
 use byteorder::{ByteOrder, LittleEndian};
 
-/// The two 64-bit words of a command, whatever they say, laid out as C does.
+/// The two 64-bit words of a command, legal or not, laid out as in C.
 #[repr(C)]
 #[derive(Clone, Copy, Debug, Default, PartialEq, Eq)]
 pub struct Raw {
-    /// The low word, which has the opcode in bits 7:0.
+    /// The low word, with the opcode in bits 7:0.
     pub lo: u64,
     /// The high word.
     pub hi: u64,
 }
 
-/// At most as many commands as a batch has, kept without memory of their own.
+/// A list of at most a batch's commands that takes no memory from the heap.
 pub type RawList = ArrayVec<Raw, MOST_BATCH_COMMANDS>;
 
-/// The bytes of a command as they lie in the queue: lo first, each word with its lowest byte first.
+/// Returns the bytes of a command as the queue holds them: lo first, each word little-endian.
 pub fn to_bytes(raw: Raw) -> [u8; 16]
     ensures bytes { result ≡ bytes_of raw }
     ensures read_again { raw_of result ≡ raw }
@@ -30,7 +30,7 @@ pub fn to_bytes(raw: Raw) -> [u8; 16]
     bytes
 }
 
-/// The words of a command from its bytes.
+/// Reads the words of a command from its bytes.
 #[tactic(auto, using(crate::proofs::ByteLemmas::written_again))]
 pub fn from_bytes(bytes: &[u8; 16]) -> Raw
     ensures words { result ≡ raw_of bytes.now }

@@ -5,7 +5,7 @@ ghost use Rattle.cmdcodec.specs.PageRuns.{granule_pages, run_from};
 
 use crate::fields::{RangeCount, RangeScale};
 
-/// `TG` of an invalidation by range: the size of its granules.
+/// `TG` of an invalidation by range: the granule size.
 #[derive(Clone, Copy, Debug, PartialEq, Eq)]
 pub enum Granule {
     /// 4 KiB, a page.
@@ -16,10 +16,10 @@ pub enum Granule {
     Kib64,
 }
 
-/// How far an invalidation by address reaches, from its page on.
+/// How far an invalidation by address reaches, counted from its page.
 #[derive(Clone, Copy, Debug, PartialEq, Eq)]
 pub enum Reach {
-    /// The one page.
+    /// Just the page.
     Page,
     /// `(num + 1) * 2^scale` granules, from the one that holds the page.
     Range {
@@ -29,7 +29,7 @@ pub enum Reach {
     },
 }
 
-/// The pages from `first` up to `end`, `end` not with them.
+/// The pages from `first` up to, but not including, `end`.
 #[derive(Clone, Copy, Debug, PartialEq, Eq)]
 pub struct PageRun {
     pub first: u64,
@@ -37,7 +37,7 @@ pub struct PageRun {
 }
 
 impl Granule {
-    /// The granule of this number, 1 to 3.
+    /// Returns the granule with this number, 1 to 3, or `None` for any other number.
     pub fn new(value: u64) -> Option<Granule>
         ensures { result ≡ granule_named value }
     {
@@ -49,7 +49,7 @@ impl Granule {
         }
     }
 
-    /// Its number, 1 to 3.
+    /// Returns its number, 1 to 3.
     pub fn get(self) -> u8
         ensures value { result ≡ granule_number self }
         ensures in_range { result < 4 }
@@ -61,7 +61,7 @@ impl Granule {
         }
     }
 
-    /// How many pages it has.
+    /// Returns its size in pages.
     pub fn pages(self) -> u64
         ensures { result ≡ granule_pages self }
     {
@@ -74,7 +74,7 @@ impl Granule {
 }
 
 impl Reach {
-    /// The pages that are reached from this one in an address space of so many.
+    /// Returns the pages reached from `page` in an address space of `space` pages.
     pub(crate) fn run_from(self, page: u64, space: u64) -> PageRun
         requires inside { page < space }
         requires size { space ≤ 2 ^ 52 }
@@ -95,7 +95,7 @@ impl Reach {
     }
 }
 
-/// How many granules a range has: `(num + 1) * 2^scale`.
+/// Returns the number of granules in a range: `(num + 1) * 2^scale`.
 #[tactic(auto, using(crate::proofs::PageRunLemmas::granules_fit))]
 fn granules(num: RangeCount, scale: RangeScale) -> u64
     ensures value { result ≡ (num + 1) * 2 ^ scale }

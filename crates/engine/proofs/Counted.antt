@@ -1,4 +1,4 @@
--- What is counted of the commands taken, and what becomes of the entries, through a step.
+-- The counts of the commands taken, and the entries, through a step.
 use Rattle.std.proofs.Common.{◌≡◌, ◌+◌, ℕ, Bool, true, false, cond, not, List, [], ◌∷◌, ◌++◌, map, Option, Some, None, sym, ap, subst, ◌∙◌, refl, arith}
 use Rattle.std.proofs.lemmas.List.{append_assoc, append-nil}
 use Rattle.std.specs.FinMap as finite
@@ -22,7 +22,7 @@ as_applied raws = map (with_outcome Applied) raws
 
 -- ---- counts
 
--- For every list whose counts the old ones are, the new ones are those of the list with these.
+-- For every list that has the old counts, the list with these appended has the new ones.
 abbrev pub StaysCounted : UnitValue → UnitValue → List Taken → Type 0
 StaysCounted old new more = (list : List Taken) → AreCountsOf list old.counts → AreCountsOf (list ++ more) new.counts
 

@@ -1,4 +1,4 @@
--- An engine may go to another thread.
+-- An engine may move to another thread.
 use denote.Param.Send.{IsSend, sendable}
 use Rattle.std.proofs.Crossing.{crosses}
 use Rattle.std.proofs.MapsCrossing as maps

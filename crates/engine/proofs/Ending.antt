@@ -1,4 +1,4 @@
--- What a run that has all steps says of the entries at its end.
+-- What a run with all steps says of the entries at its end.
 use Rattle.std.proofs.Common.{◌≡◌, ◌≤◌, ◌<◌, ℕ, zero, suc, List, [], ◌∷◌, ◌++◌, length, map, Some, None, sym, ap, subst, ◌∙◌, arith}
 use Rattle.std.proofs.lemmas.List.{append_assoc, append-nil, length-map}
 use Rattle.std.specs.Prelude.{slice_get}
@@ -51,7 +51,7 @@ get_map (y ∷ xs) (suc i) x at = get_map xs i x at
 is_applied : (r : Raw) → first_ill r ≡ None → outcome_of r ≡ Applied
 is_applied r none = search
 
--- A command that was taken covers no entry that is as old.
+-- A command covers no entry that was filled before it was taken.
 pub none_is_older : (entries : Entries) (first all : List Raw) → Begins first all → IsSettled entries (map taken_as all) → NoneIsOlder entries first
 none_is_older entries first all begins settled tag entry held place raw command at legal spelled covered =
     let there = get_map all place raw (get_begun first all begins place raw at) in
@@ -93,7 +93,7 @@ ends ring senders engine end counts entries advances outcomes is settled many co
     outcomes_now : (world is.run).taken ≡ map taken_as (advanced is.run)
     outcomes_now = outcomes ring.made_with is.run is.run_of.run_is ∙ ap (map taken_as) (sym (advances ring.made_with is.run is.run_of.run_is))
 
--- While the ring runs: of a run that has the steps of the consumer.
+-- While the ring runs: a run that has the consumer's steps.
 module _ (advances : EveryRun TellsWhatIsAdvanced) (outcomes : EveryRun TellsTheOutcomes) (ring : Ring) (run : Run) (trail : Trail) (entries : Entries)
     (is : IsHistory ring Consumer trail run) (settled : IsSettled entries (taken_of trail)) where
   taken_is : (world run).taken ≡ taken_of trail

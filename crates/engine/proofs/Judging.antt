@@ -1,4 +1,4 @@
--- How the stop stands when a command is judged, and what is counted of it.
+-- The state of the stop when a command is judged, and the counts after.
 use Rattle.std.proofs.Common.{◌≡◌, ◌≤◌, ◌+◌, ℕ, Bool, true, false, cond, Option, Some, None, ap, sym, subst, ◌∙◌, arith}
 use Rattle.cmdcodec.specs.declared.raw.Raw.{Raw}
 use Rattle.cmdcodec.specs.Opcodes.{is_sync}
@@ -10,7 +10,7 @@ use Rattle.engine.specs.declared.remedy.Remedy.{Remedy}
 use Rattle.engine.specs.declared.remedy.Remedy.TheVariants.{Retry, Replace}
 use Rattle.engine.specs.Counting.{syncs_with}
 
--- A legal command comes while it is running.
+-- A legal command comes only while it is running.
 pub goes_on : (mode : Mode) (next : Option Raw) (raw : Raw) → ¬ IsStopped mode → ((awaited : Raw) → next ≡ Some awaited → raw ≡ awaited) → IsKept mode next
     → first_ill raw ≡ None → mode ≡ Running
 goes_on Running next raw going comes kept legal = λ _. Running
@@ -26,11 +26,11 @@ not_stopped Running is stopped = stopped
 not_stopped (Stopped ill) is stopped = absurd (cc)
 not_stopped Replacing is stopped = stopped
 
--- Where no words are kept, any may come.
+-- If no words are kept, any may come.
 pub any_next : (stop : StopValue) (raw : Raw) → stop.next ≡ None → MayComeNext raw stop
 any_next stop raw none awaited is = let no_words = sym none ∙ is in absurd (cc)
 
--- An illegal command that it wasn't told to replace comes while it is running.
+-- An illegal command that it wasn't told to replace comes only while it is running.
 pub stops : (mode : Mode) → ¬ IsStopped mode → ¬ (mode ≡ Replacing) → mode ≡ Running
 stops Running going other = λ _. Running
 stops (Stopped ill) going other = absurd (going tt)

@@ -1,4 +1,4 @@
--- What commands that are applied one after another leave.
+-- What commands leave that are applied one after another.
 use Rattle.std.proofs.Common.{◌≡◌, ◌+◌, ◌≤◌, ℕ, zero, suc, List, [], ◌∷◌, ◌++◌, length, Option, Some, None, IsSome, refl, sym, ap, subst, ◌∙◌, arith, length-append}
 use Rattle.std.proofs.lemmas.List.{append_assoc}
 use Rattle.std.proofs.lemmas.Option.{slice_get_within}
@@ -19,7 +19,7 @@ use Rattle.engine.proofs.Settlings.{settled_applied, settled_as_before}
 use Rattle.engine.proofs.Counted.{as_applied}
 use Rattle.engine.proofs.Stepping.{applied_more}
 
--- A command's words spell it alone, so what it covers is gone.
+-- A command's words spell only that command, so what it covers is gone.
 pub applied_settled : (raw : Raw) (command : Command) (removed : ℕ) (old new : UnitValue) → IsApplied raw command removed old new
     → StaysSettled old new (with_outcome Applied raw ∷ [])
 applied_settled raw command removed old new is list many s =
@@ -43,7 +43,7 @@ all_settled (raw ∷ raws) removed old new (between, command, first, rest, one, 
     subst (λ (l : List Taken). IsSettled new.caches.entries l) (append_assoc list (with_outcome Applied raw ∷ []) (as_applied raws))
     (all_settled raws rest between new more longer long (applied_settled raw command first old between one list many s))
 
--- Applied is for legal commands.
+-- Only legal commands are applied.
 pub all_legal : (raws : List Raw) (removed : ℕ) (old new : UnitValue) → AreApplied raws removed old new → HasOutcome Applied raws
 all_legal (raw ∷ raws) removed old new (between, command, first, rest, one, more, sum) zero other at =
     let same : raw ≡ other = some_raw raw other at in
@@ -57,7 +57,7 @@ all_legal (raw ∷ raws) removed old new (between, command, first, rest, one, mo
 all_legal (raw ∷ raws) removed old new (between, command, first, rest, one, more, sum) (suc i) other at = all_legal raws rest between new more i other at
 all_legal [] removed old new is i other at = absurd (cc)
 
--- One more is applied behind them.
+-- One more is applied after them.
 pub one_more : (raws : List Raw) (removed : ℕ) (old between new : UnitValue) → AreApplied raws removed old between
     → (raw : Raw) (command : Command) (more : ℕ) → IsApplied raw command more between new → AreApplied (raws ++ raw ∷ []) (removed + more) old new
 one_more [] removed old between new is raw command more last =
@@ -68,7 +68,7 @@ one_more [] removed old between new is raw command more last =
 one_more (r ∷ raws) removed old between new (u, c, first, rest, one, others, sum) raw command more last =
     (u, c, first, rest + more, one, one_more raws rest u between new others raw command more last, (let s = sum in let e : removed + more ≡ first + (rest + more) = omega (arith, s) in e))
 
--- Once one is taken, no words are kept.
+-- Once a command is taken, no words are kept.
 pub none_kept : (raws : List Raw) (removed : ℕ) (old new : UnitValue) → AreApplied raws removed old new → old.stop.next ≡ None → new.stop.next ≡ None
 none_kept [] removed old new is none = ap (λ (u : UnitValue). u.stop.next) is.1 ∙ none
 none_kept (raw ∷ raws) removed old new (between, command, first, rest, one, more, sum) none =
@@ -84,7 +84,7 @@ take_suc (y ∷ xs) (suc n) x at = ap (λ l. y ∷ l) (take_suc xs n x at)
 pub take_one_more : {A : Type 0} (xs : List A) (n : ℕ) (x : A) → slice_get xs n ≡ Some x → take (n + 1) xs ≡ take n xs ++ x ∷ []
 take_one_more xs n x at = ap (λ (k : ℕ). take k xs) (let e : n + 1 ≡ suc n = omega arith in e) ∙ take_suc xs n x at
 
--- behind the first
+-- after the first
 pub get_behind_first : {A : Type 0} (xs : List A) (n : ℕ) → slice_get xs (n + 1) ≡ slice_get (drop 1 xs) n
 get_behind_first {A} xs n = ap (slice_get xs) (let e : n + 1 ≡ suc n = omega arith in e) ∙ behind xs
   where
@@ -96,7 +96,7 @@ pub length_behind_first : {A : Type 0} (xs : List A) → 1 ≤ length xs → len
 length_behind_first [] some = absurd (omega (arith, some))
 length_behind_first (x ∷ xs) some = let e : suc (length xs) ≡ length xs + 1 = omega arith in e
 
--- There is none behind the last.
+-- There is none after the last.
 pub none_behind : {A P : Type 0} (xs : List A) (n : ℕ) (x : A) → n ≡ length xs → slice_get xs n ≡ Some x → P
 none_behind xs n x end at = let low = slice_get_within xs n x at in absurd (omega (arith, low, end))
 
@@ -119,13 +119,13 @@ take_with_first xs x n at = ap (λ (k : ℕ). take k xs) (let e : n + 1 ≡ suc 
 pub take_first : {A : Type 0} (xs : List A) (x : A) → slice_get xs 0 ≡ Some x → take 1 xs ≡ x ∷ []
 take_first xs x at = ap (take 1) (first_and_rest xs x at)
 
--- Behind the first, which was applied, more were.
+-- After the first, which was applied, more were.
 pub all_applied : (raws : List Raw) (raw : Raw) (command : Command) (n first more : ℕ) (old between new : UnitValue) → slice_get raws 0 ≡ Some raw
     → IsApplied raw command first old between → AreApplied (take n (drop 1 raws)) more between new → AreApplied (take (n + 1) raws) (first + more) old new
 all_applied raws raw command n first more old between new at one others =
     subst (λ (xs : List Raw). AreApplied xs (first + more) old new) (sym (take_with_first raws raw n at)) (between, command, first, more, one, others, refl)
 
--- Replaced is for an illegal command.
+-- Only an illegal command is replaced.
 pub first_replaced : (raws : List Raw) (raw : Raw) (ill : Ill) → slice_get raws 0 ≡ Some raw → first_ill raw ≡ Some ill → HasOutcome Replaced (take 1 raws)
 first_replaced raws raw ill at is = subst (HasOutcome Replaced) (sym (take_first raws raw at)) alone
   where

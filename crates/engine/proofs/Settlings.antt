@@ -24,7 +24,7 @@ settled_empty tag entry is = let none = get-empty {X = Entry} tag_cmp tag in abs
 same_entry : (a b : Entry) → Some a ≡ Some b → a ≡ b
 same_entry a b e = cc
 
--- what one changed place of a map has
+-- what a map has with one key changed
 at_changed : (b : Bool) (w old : Option Entry) (e : Entry) → cond b w old ≡ Some e → ((b ≡ true) × (w ≡ Some e)) ⊎ (old ≡ Some e)
 at_changed true w old e is = inl (refl, is)
 at_changed false w old e is = inr is
@@ -36,7 +36,7 @@ settled_evict entries taken tag s u e is =
     (λ (old : finite.get entries u ≡ Some e). s u e old)
     (at_changed (eq_by_cmp tag_cmp u tag) None (finite.get entries u) e (sym (get-remove tag_cmp_total entries tag u) ∙ is))
 
--- an entry that is as old as the list has nothing in the list behind it
+-- No command of the list came after an entry that was filled at its end.
 settled_new : (taken : List Taken) (tag : Tag) (entry : Entry) → entry.born ≡ length taken → IsSettledEntry taken tag entry
 settled_new taken tag entry born = record {
   born = omega (arith, born);
@@ -70,13 +70,13 @@ settled_more taken t tag entry s free = record {
       (get_last taken t u place at);
 }
 
--- A command that is taken as replaced covers nothing.
+-- A replaced command covers nothing.
 pub settled_replaced : (entries : Entries) (taken : List Taken) (raw : Raw) → IsSettled entries taken
     → IsSettled entries (taken ++ record { raw = raw; outcome = Replaced } ∷ [])
 settled_replaced entries taken raw s tag entry is =
     settled_more taken (record { raw = raw; outcome = Replaced }) tag entry (s tag entry is) (λ c. let no : Replaced ≡ Applied = c.applied in absurd (cc))
 
--- A command's words spell it alone, so what it covers is gone.
+-- A command's words spell only that command, so what it covers is gone.
 pub settled_applied : (entries : Entries) (taken : List Taken) (raw : Raw) (command : Command) (outcome : Outcome)
     → ((c : Command) → Spells raw c → c ≡ command) → IsSettled entries taken
     → IsSettled (without_covered command entries) (taken ++ record { raw = raw; outcome = outcome } ∷ [])

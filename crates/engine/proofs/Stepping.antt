@@ -1,4 +1,4 @@
--- What the unit and the consumer keep together through a step.
+-- What always holds of the unit and the consumer is kept by a step.
 use Rattle.std.proofs.Common.{◌≡◌, ◌+◌, ℕ, suc, Bool, List, [], ◌∷◌, ◌++◌, length, length-append, Option, Some, None, sym, ap, subst, ◌∙◌, arith}
 use Rattle.std.proofs.lemmas.List.{append-nil}
 use Rattle.cmdcodec.specs.declared.raw.Raw.{Raw}
@@ -20,12 +20,12 @@ use Rattle.engine.specs.Units.{UnitValue, IsSettledUnit, StaysSettled, IsApplied
 use Rattle.engine.specs.Engines.{AreTogether, IsEngine, consumer_in}
 use Rattle.engine.proofs.Counted.{StaysCounted}
 
--- reads take nothing
+-- Reads take nothing.
 reads_keep : (offset : ℕ) (raws : List Raw) (t : Trail) → taken_of (reads_from offset raws t) ≡ taken_of t
 reads_keep offset [] t = λ _. taken_of t
 reads_keep offset (raw ∷ raws) t = reads_keep (suc offset) raws _
 
--- whatever the consumer knows of the run, the two are together by its trail
+-- That the two are together depends on the consumer's trail, not on its history.
 knowing : (e : ConsumerValue UnitValue) (unit : UnitValue) → AreTogether (record e { history = [] }) unit → AreTogether e unit
 knowing e unit t = record { many = t.many; counted = t.counted; settled = t.settled; seen = λ raw is half. t.seen raw is half }
 
@@ -47,7 +47,7 @@ module _ (d : ConsumerValue UnitValue) (unit : UnitValue) (t : AreTogether d uni
       knowing e unit (subst (λ (x : ConsumerValue UnitValue). AreTogether x unit) (sym took.trail_is) (record { many = t.many; counted = t.counted; settled = t.settled; seen = λ raw is half. t.seen raw is half }))
 
   module _ (most : ℕ) (p : PendingValue UnitValue) (took : TookRun most d p) where
-    -- what was taken before the reads was taken after them
+    -- What was taken before the reads is what was taken after them.
     pub taken_before : taken_of p.consumer.trail ≡ taken_of d.trail
     taken_before = ap (λ (x : ConsumerValue UnitValue). taken_of x.trail) took.trail_is ∙ reads_keep 0 p.raws _
 
@@ -60,7 +60,8 @@ module _ (d : ConsumerValue UnitValue) (unit : UnitValue) (t : AreTogether d uni
     one_settled new outcome raw other same keeps =
         subst (λ (r : Raw). IsSettled new.caches.entries (taken_of p.consumer.trail ++ with_outcome outcome r ∷ [])) same (taken_settled new (with_outcome outcome raw ∷ []) keeps)
 
-    -- what is asked of the unit when it is lent: it counted what was taken before with these, and is settled for it
+    -- What is asked of the unit when it is lent: it counted what was taken before together with these, and is
+    -- settled for it.
     pub taken_unit : (new : UnitValue) (more : List Taken) → StaysSettled unit new more → StaysCounted unit new more → IsSettledUnit new (taken_of p.consumer.trail ++ more)
     taken_unit new more settles counts = record {
       entries = taken_settled new more settles;

@@ -1,4 +1,4 @@
--- What is counted of the commands taken.
+-- The counts of the commands taken.
 use Rattle.std.specs.Prelude.{◌≡◌, ◌≤◌, ◌+◌, ◌*◌, ℕ, Bool, true, false, cond, not, List, [], ◌∷◌}
 use Rattle.cmdcodec.specs.declared.raw.Raw.{Raw}
 use Rattle.cmdcodec.specs.Opcodes.{is_sync}
@@ -8,8 +8,8 @@ use Rattle.ringcore.specs.declared.world.event.Outcome.TheVariants.{Applied, Rep
 use Rattle.ringcore.specs.world.World.{Taken}
 use Rattle.caches.specs.Limits.{most_entries}
 
--- how many commands were applied and how many replaced, how many of both are a CMD_SYNC, and how many entries those
--- that were applied removed
+-- the number of commands applied, of commands replaced, of CMD_SYNCs among both, and of entries removed by
+-- those applied
 pub record CountsValue : Type 0 where
   pub applied : ℕ
   pub replaced : ℕ
@@ -39,7 +39,7 @@ pub record AreCounts (c : CountsValue) : Type 0 where
 
 -- ---- of a whole list of commands taken
 
--- how many of the commands taken are so
+-- how many of the commands taken pass the test
 abbrev pub how_many : (Taken → Bool) → List Taken → ℕ
 how_many is_so [] = 0
 how_many is_so (t ∷ ts) = cond (is_so t) 1 0 + how_many is_so ts
@@ -48,7 +48,7 @@ abbrev pub is_applied : Outcome → Bool
 is_applied Applied = true
 is_applied Replaced = false
 
--- The counts tell how many of these were applied and how many replaced, and how many are a CMD_SYNC.
+-- The counts are of this list: how many were applied, how many replaced, and how many are a CMD_SYNC.
 pub record AreCountsOf (list : List Taken) (c : CountsValue) : Type 0 where
   pub applied : c.applied ≡ how_many (λ t. is_applied t.outcome) list
   pub replaced : c.replaced ≡ how_many (λ t. not (is_applied t.outcome)) list

@@ -21,29 +21,30 @@ use Rattle.engine.specs.Settled.{IsSettled}
 use Rattle.engine.specs.Counting.{CountsValue, taken, AreCountsOf}
 use Rattle.engine.specs.Engines.{EngineValue}
 
--- The first commands that a ring ever had are these. No entry that one of them covers was filled before it was taken.
+-- These are the first commands that the ring ever had. No entry that a legal one of them covers was filled
+-- before it was taken.
 abbrev pub NoneIsOlder : Entries → List Raw → Type 0
 NoneIsOlder entries first =
     (tag : Tag) (entry : Entry) → finite.get entries tag ≡ Some entry
     → (place : ℕ) (raw : Raw) (command : Command) → slice_get first place ≡ Some raw → first_ill raw ≡ None → Spells raw command → covers command tag ≡ true
     → place < entry.born
 
--- what was reserved ahead of the closing sync of a batch that was applied
+-- what was reserved before the closing sync of a batch that was applied
 abbrev pub reserved_ahead : {run : Run} {s number : ℕ} → IsApplied run s number → List Raw
 reserved_ahead applied = joined applied.completed.ahead ++ applied.completed.body
 
--- A sender was told this number. Of the batch of each number up to it the closing sync was applied before, and no entry
--- is older than a command that was reserved ahead of that sync and covers it.
+-- The sender was told this number. For each of its batches up to that number, the closing sync was applied
+-- before, and no entry is older than a command that was reserved before that sync and covers it.
 pub record WasToldTruly (run : Run) (entries : Entries) (s told : ℕ) (older : Trail) : Type 0 where
   pub was_told : WasTold run s told older
   pub none_older : (number : ℕ) (some : 1 ≤ number) (most : number ≤ told) → NoneIsOlder entries (reserved_ahead (was_told.applied number some most))
 
--- So it is for whatever a sender was told, by its trail.
+-- This holds for every number that the sender was told, by its trail.
 abbrev pub WasToldAllTruly : Run → Entries → ℕ → Trail → Type 0
 WasToldAllTruly run entries s trail = (newer older : Trail) (number : ℕ) → trail ≡ newer ++ Ask number ∷ older → WasToldTruly run entries s number older
 
--- There is one run that has all steps. The entries are settled for what is taken in it, the counts are those of what is
--- taken in it, and whatever a sender was told in it was so.
+-- One run has all steps. The entries are settled for what is taken in it, the counts are of that, and
+-- whatever a sender was told in it was true.
 pub record IsEngineEnd (ring : RingValue) (senders : List SenderValue) (engine : EngineValue) (end : SummaryValue) (counts : CountsValue) (entries : Entries) : Type 0 where
   pub end_is : IsEnd ring senders engine.consumer end
   pub settled : IsSettled entries (world end_is.run).taken

@@ -1,4 +1,4 @@
--- The unit with its consumer: what they keep together, and what a step of both does.
+-- The unit with its consumer: what always holds of both, and what a step of both does.
 use Rattle.std.specs.Prelude.{◌≡◌, ◌≤◌, ◌^◌, ◌+◌, ◌*◌, ℕ, true, false, List, [], ◌∷◌, length, take, Option, Some, None, slice_get}
 use Rattle.cmdcodec.specs.declared.raw.Raw.{Raw}
 use Rattle.cmdcodec.specs.declared.ill.Ill.{Ill}
@@ -37,7 +37,7 @@ pub record AreTogether (consumer : ConsumerValue UnitValue) (unit : UnitValue) :
   pub settled : IsSettled unit.caches.entries (taken_of consumer.trail)
   pub seen : (raw : Raw) → unit.stop.next ≡ Some raw → HasSeen consumer.trail raw
 
--- ---- an engine lends its consumer to each step, and has it back behind it
+-- ---- an engine lends its consumer to each step and then has it back
 
 abbrev pub nobody : ConsumerValue UnitValue
 nobody = record {
@@ -57,7 +57,7 @@ IsEngine (Some consumer) unit = AreTogether consumer unit
 
 -- ---- what a step of at most so many commands took from the ring
 
--- This command stands at the head, ahead of some more.
+-- This command was read at the head, perhaps with more after it.
 pub record IsFirst (most : ℕ) (consumer : ConsumerValue UnitValue) (p : PendingValue UnitValue) (raw : Raw) : Type 0 where
   pub read : TookRun most consumer p
   pub rest : List Raw
@@ -87,7 +87,8 @@ HasStepped old new Exhausted = (most_reserved ≤ taken old.unit.counts) × (new
 
 -- ---- a run of commands
 
--- The first so many of the commands that were read are legal, the one behind them isn't, if one is, and they were applied.
+-- The first `count` of the commands read are legal and were applied and completed; the one after them, if
+-- any, is illegal.
 pub record HasAppliedRun (most count removed : ℕ) (old new : EngineValue) : Type 0 where
   pub pending : PendingValue UnitValue
   pub read : TookRun most old.consumer pending
@@ -97,7 +98,7 @@ pub record HasAppliedRun (most count removed : ℕ) (old new : EngineValue) : Ty
   pub longest : (raw : Raw) → slice_get pending.raws count ≡ Some raw → (ill : Ill) × (first_ill raw ≡ Some ill)
   pub completed_are : record new.consumer { history = [] } ≡ completed count new.unit (unknowing pending)
 
--- What a step of at most so many commands did, by its answer.
+-- What a step of at most `most` commands did, by its answer.
 abbrev pub HasRun : ℕ → EngineValue → EngineValue → RunAnswer → Type 0
 HasRun most old new run.Empty = TookNone false old.consumer new.consumer × (new.unit ≡ old.unit)
 HasRun most old new run.Drained = TookNone true old.consumer new.consumer × (new.unit ≡ old.unit)
@@ -110,7 +111,8 @@ HasRun most old new run.Exhausted = (most_reserved ≤ taken old.unit.counts) ×
 
 -- ---- registers
 
--- It looked, and the registers say what it found, as it stood in the run that is known then, and how the stop stands.
+-- It looked. The registers say what it found, which is how the run known then has it, and the state of the
+-- stop.
 pub record HasLooked (old new : EngineValue) (found : Registers) : Type 0 where
   pub control : Control
   pub consumer_is : record new.consumer { history = [] } ≡ with_trail (record old.consumer { history = [] }) (Look control ∷ old.consumer.trail)

@@ -1,4 +1,4 @@
--- When entries are settled for a list of taken commands: none of them is older than a command that covers it.
+-- When entries are settled for a list of taken commands: none is older than a command in it that covers it.
 use Rattle.std.specs.Prelude.{◌≡◌, ◌≤◌, ℕ, List, length, true, Some, slice_get}
 use Rattle.std.specs.FinMap as finite
 use Rattle.cmdcodec.specs.declared.command.Command.{Command}
@@ -10,14 +10,15 @@ use Rattle.caches.specs.declared.tag.Entry.{Entry}
 use Rattle.caches.specs.Covers.{covers}
 use Rattle.caches.specs.Held.{Entries}
 
--- The command was applied, and what its words spell covers the tag.
+-- The command was applied, and its words spell a command that covers the tag.
 pub record HasCovered (taken : Taken) (tag : Tag) : Type 0 where
   pub applied : taken.outcome ≡ Applied
   pub command : Command
   pub spelled : Spells taken.raw command
   pub covered : covers command tag ≡ true
 
--- The entry was filled after at most so many commands, and no command taken since then has covered its tag.
+-- The entry was filled after at most as many commands as were taken, and no command taken since has covered
+-- its tag.
 pub record IsSettledEntry (taken : List Taken) (tag : Tag) (entry : Entry) : Type 0 where
   pub born : entry.born ≤ length taken
   pub uncovered : (place : ℕ) (t : Taken) → slice_get taken place ≡ Some t → entry.born ≤ place → ¬ HasCovered t tag

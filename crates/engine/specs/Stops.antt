@@ -1,4 +1,4 @@
--- The stop at an illegal command (command queue errors): how it stands, and what turns it.
+-- The stop at an illegal command (command queue errors): its state and what changes it.
 use Rattle.std.specs.Prelude.{◌≡◌, ◌≢◌, ◌↔◌, ℕ, ◌%◌, Bool, false, cond, not, ◌==◌, List, Option, Some, None, Result, Err, ⊤, codes}
 use Rattle.cmdcodec.specs.declared.raw.Raw.{Raw}
 use Rattle.cmdcodec.specs.declared.ill.Ill.{Ill}
@@ -10,14 +10,15 @@ use Rattle.engine.specs.declared.remedy.Remedy.TheVariants.{Retry, Replace}
 use Rattle.engine.specs.declared.stop.Mode.{Mode}
 use Rattle.engine.specs.declared.stop.Mode.TheVariants.{Running, Stopped, Replacing}
 
--- How consumption stands; the words at which it stopped, until they are taken; CMDQ_ERR of GERROR and of GERRORN.
+-- The state of consumption; the words at which it stopped, until they are taken; CMDQ_ERR of GERROR and of
+-- GERRORN.
 pub record StopValue : Type 0 where
   pub mode : Mode
   pub next : Option Raw
   pub error : Bool
   pub acknowledged : Bool
 
--- before the first command
+-- the state before the first command
 abbrev pub unstopped : StopValue
 unstopped = record { mode = Running; next = None; error = false; acknowledged = false }
 
@@ -30,9 +31,9 @@ IsStopped Replacing = ⊥
 abbrev pub MayComeNext : Raw → StopValue → Type 0
 MayComeNext raw s = (awaited : Raw) → s.next ≡ Some awaited → raw ≡ awaited
 
--- ---- what turns it
+-- ---- what changes it
 
--- It found an illegal command, and left it at the head: CMDQ_ERR of GERROR toggles.
+-- An illegal command was found and left at the head: CMDQ_ERR of GERROR toggles.
 abbrev pub stopped_at : Raw → Ill → StopValue → StopValue
 stopped_at raw ill s = record s { mode = Stopped ill; next = Some raw; error = not s.error }
 
@@ -56,7 +57,7 @@ err_of Running = 0
 err_of (Stopped ill) = 1
 err_of Replacing = 0
 
--- a word in which CMDQ_ERR, bit 0, alone may be set
+-- a word in which only CMDQ_ERR, bit 0, may be set
 abbrev pub word_of : Bool → ℕ
 word_of bit = cond bit 1 0
 
@@ -64,22 +65,22 @@ word_of bit = cond bit 1 0
 abbrev pub command_queue_bit : ℕ → Bool
 command_queue_bit word = word % 2 == 1
 
--- ---- what an acknowledgement is answered
+-- ---- the answer to an acknowledgement
 
--- G1, exactly where no error is active; G2, exactly where one is, and CMDQ_ERR of the word isn't that of GERROR.
+-- G1 exactly if no error is active; G2 exactly if one is and CMDQ_ERR of the word isn't that of GERROR.
 pub record IsAcknowledgementAnswer (stop : StopValue) (gerrorn : ℕ) (answer : Result ⊤ AckFault) : Type 0 where
   pub none : (answer ≡ Err NoError) ↔ ¬ IsStopped stop.mode
   pub other : (answer ≡ Err OtherBit) ↔ (IsStopped stop.mode × (command_queue_bit gerrorn ≢ stop.error))
 
 -- ---- what always holds
 
--- The words that are kept are illegal; while it is stopped or told to replace, some are.
+-- Kept words are illegal, and there are some while it is stopped or told to replace.
 abbrev pub IsKept : Mode → Option Raw → Type 0
 IsKept Running next = (raw : Raw) → next ≡ Some raw → (ill : Ill) × (first_ill raw ≡ Some ill)
 IsKept (Stopped ill) next = (raw : Raw) × (next ≡ Some raw) × (first_ill raw ≡ Some ill)
 IsKept Replacing next = (raw : Raw) × (next ≡ Some raw) × (ill : Ill) × (first_ill raw ≡ Some ill)
 
--- The error is active, so that GERROR and GERRORN differ in CMDQ_ERR, while it is stopped.
+-- The error is active, that is, GERROR and GERRORN differ in CMDQ_ERR, exactly while it is stopped.
 abbrev pub IsActive : Mode → Bool → Bool → Type 0
 IsActive Running error acknowledged = error ≡ acknowledged
 IsActive (Stopped ill) error acknowledged = error ≡ not acknowledged
@@ -89,7 +90,7 @@ pub record IsStop (s : StopValue) : Type 0 where
   pub kept : IsKept s.mode s.next
   pub active : IsActive s.mode s.error s.acknowledged
 
--- what a refusal is called
+-- the label of each fault
 abbrev pub label_of : AckFault → List ℕ
 label_of NoError = codes "G1"
 label_of OtherBit = codes "G2"

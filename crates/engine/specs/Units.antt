@@ -20,13 +20,13 @@ use Rattle.engine.specs.Settled.{IsSettled}
 use Rattle.engine.specs.Stops.{StopValue, unstopped, stopped_at, gone_on}
 use Rattle.engine.specs.Counting.{CountsValue, taken, none_counted, counted_applied, counted_replaced, AreCountsOf}
 
--- the unit: its caches, how its stop stands, and what it counted
+-- the unit: its caches, its stop and its counts
 pub record UnitValue : Type 0 where
   pub caches : Stored
   pub stop : StopValue
   pub counts : CountsValue
 
--- The unit has taken just these: it counted them, and its entries are settled for them.
+-- The unit has taken exactly these: its counts are theirs, and its entries are settled for them.
 pub record IsSettledUnit (unit : UnitValue) (list : List Taken) : Type 0 where
   pub entries : IsSettled unit.caches.entries list
   pub counted : AreCountsOf list unit.counts
@@ -38,7 +38,7 @@ new_unit caches = record { caches = caches; stop = unstopped; counts = none_coun
 abbrev pub with_entries : UnitValue → Entries → UnitValue
 with_entries u entries = record u { caches = record u.caches { entries = entries } }
 
--- the entries with one that is born now
+-- the entries with a new one that is born now
 abbrev pub filled : Tag → ℕ → UnitValue → Entries
 filled tag value u = finite.insert u.caches.entries tag (record { tag = tag; value = value; born = taken u.counts })
 
@@ -67,7 +67,7 @@ pub record IsStoppedAt (raw : Raw) (ill : Ill) (old new : UnitValue) : Type 0 wh
   pub first : first_ill raw ≡ Some ill
   pub new_is : new ≡ record old { stop = stopped_at raw ill old.stop }
 
--- The illegal command that it was told to replace: no entry changed.
+-- The illegal command that it was told to replace was taken, and no entry changed.
 pub record IsReplaced (raw : Raw) (ill : Ill) (old new : UnitValue) : Type 0 where
   pub told : old.stop.mode ≡ Replacing
   pub first : first_ill raw ≡ Some ill
@@ -78,20 +78,21 @@ HasJudged raw old new (Applied command removed) = IsApplied raw command removed 
 HasJudged raw old new (Stopped ill) = IsStoppedAt raw ill old new
 HasJudged raw old new (Replaced ill) = IsReplaced raw ill old new
 
--- what a verdict takes
+-- the commands that a verdict takes
 abbrev pub took : Raw → Verdict → List Taken
 took raw (Applied command removed) = record { raw = raw; outcome = AsApplied } ∷ []
 took raw (Stopped ill) = []
 took raw (Replaced ill) = record { raw = raw; outcome = AsReplaced } ∷ []
 
--- For every list that is as long as the number taken: entries that were settled for it are settled for it with these.
+-- For every list as long as the number taken: entries settled for it before are settled for it with these
+-- appended.
 abbrev pub StaysSettled : UnitValue → UnitValue → List Taken → Type 0
 StaysSettled old new more =
     (list : List Taken) → length list ≡ taken old.counts → IsSettled old.caches.entries list → IsSettled new.caches.entries (list ++ more)
 
 -- ---- what commands do, one after another
 
--- All these are legal, and each was applied; so many entries were removed in all.
+-- All these are legal and were applied in turn, and removed `removed` entries in total.
 abbrev pub AreApplied : List Raw → ℕ → UnitValue → UnitValue → Type 0
 AreApplied [] removed old new = (removed ≡ 0) × (new ≡ old)
 AreApplied (raw ∷ raws) removed old new =
@@ -100,7 +101,7 @@ AreApplied (raw ∷ raws) removed old new =
 
 -- ---- what no command does
 
--- No entry is new or another than before, and what is gone is counted as removed.
+-- No entry is new or changed, and those that are gone are counted as removed.
 pub record OnlyRemoves (old new : UnitValue) : Type 0 where
   pub held : (tag : Tag) (entry : Entry) → finite.get new.caches.entries tag ≡ Some entry → finite.get old.caches.entries tag ≡ Some entry
   pub counted : new.counts.removed + finite.len new.caches.entries ≡ old.counts.removed + finite.len old.caches.entries

@@ -1,4 +1,4 @@
-//! What a step of the engine answers.
+//! The answers of the engine's steps.
 use cmdcodec::{Command, Ill};
 
 /// What a step of one command did.
@@ -6,15 +6,15 @@ use cmdcodec::{Command, Ill};
 pub enum StepAnswer {
     /// Nothing is reserved.
     Empty,
-    /// Nothing is reserved, and the ring is closed: nothing will be.
+    /// Nothing is reserved and the ring is closed, so nothing will be.
     Drained,
-    /// The command at the head is reserved, and its sender hasn't handed it over.
+    /// The command at the head is reserved, but its sender hasn't handed it over.
     Unwritten,
-    /// A legal command was applied, removed so many entries, and was completed.
+    /// A legal command was applied, removed `removed` entries, and was completed.
     Applied { command: Command, removed: u32 },
     /// The command at the head is illegal, and consumption stopped there.
     Stopped(Ill),
-    /// The illegal command that was to be replaced was completed, without effect.
+    /// The illegal command that was to be replaced was completed without effect.
     Replaced(Ill),
     /// Consumption is stopped: nothing was done.
     StillStopped,
@@ -27,15 +27,15 @@ pub enum StepAnswer {
 pub enum RunAnswer {
     /// Nothing is reserved.
     Empty,
-    /// Nothing is reserved, and the ring is closed: nothing will be.
+    /// Nothing is reserved and the ring is closed, so nothing will be.
     Drained,
-    /// The command at the head is reserved, and its sender hasn't handed it over.
+    /// The command at the head is reserved, but its sender hasn't handed it over.
     Unwritten,
-    /// So many legal commands were applied, removed so many entries together, and were completed.
+    /// `count` legal commands were applied, removed `removed` entries together, and were completed.
     Applied { count: u32, removed: u32 },
     /// The command at the head is illegal, and consumption stopped there.
     Stopped(Ill),
-    /// The illegal command that was to be replaced was completed, without effect.
+    /// The illegal command that was to be replaced was completed without effect.
     Replaced(Ill),
     /// Consumption is stopped: nothing was done.
     StillStopped,
@@ -50,8 +50,8 @@ pub struct Registers {
     pub prod: u32,
     /// SMMU_CMDQ_CONS: the index in bits 19:0, ERR in bits 30:24.
     pub cons: u32,
-    /// SMMU_GERROR: CMDQ_ERR is bit 0, and no other arises.
+    /// SMMU_GERROR: CMDQ_ERR is bit 0; no other bit is ever set.
     pub gerror: u32,
-    /// SMMU_GERRORN: CMDQ_ERR is bit 0, and no other arises.
+    /// SMMU_GERRORN: CMDQ_ERR is bit 0; no other bit is ever set.
     pub gerrorn: u32,
 }

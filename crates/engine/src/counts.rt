@@ -1,4 +1,4 @@
-//! What a unit counts.
+//! The counts of a unit.
 ghost use Rattle.std.specs.Prelude.{◌≡◌, ◌<◌, ◌≤◌};
 ghost use Rattle.ringcore.specs.Limits.{most_reserved};
 ghost use Rattle.caches.specs.Limits.{most_entries};
@@ -7,7 +7,7 @@ ghost use Rattle.engine.specs.Counting.{taken, none_counted, counted_applied, co
 use cmdcodec::Raw;
 use std::marker::Model;
 
-/// What was counted of the commands taken. A unit alone makes one.
+/// Counts of the commands taken. Only a unit makes one.
 #[derive(Clone, Copy, Debug, PartialEq, Eq)]
 pub struct Counts {
     applied: u64,
@@ -29,7 +29,7 @@ impl Model for Counts {
 }
 
 impl Counts {
-    /// Before the first command.
+    /// The counts before the first command.
     pub(crate) fn none() -> Counts
         ensures { result ≡ none_counted }
     {

@@ -32,11 +32,11 @@ use run_stepping::step_run_with;
 use std::marker::Model;
 pub use stepping::step_with;
 
-/// What an SMMU does with the commands of its queue: it takes them, applies them to its caches, and only then completes
-/// them. It is always settled for all that it took.
+/// Serves a command queue as an SMMU does: takes commands, applies them to its caches, and only then
+/// completes them. It is always settled for all it took.
 #[derive(Drop)]
 pub struct Engine {
-    /// It is lent to a step, and comes back.
+    /// `None` only while a step has it.
     consumer: Option<Consumer<Unit>>,
     unit: Unit,
 }
@@ -56,7 +56,7 @@ impl Model for Engine {
 }
 
 impl Engine {
-    /// An engine of a ring whose consumer has taken nothing, with these empty caches.
+    /// Creates an engine from a ring's consumer that has taken nothing and these empty caches.
     pub fn new(consumer: Consumer<Unit>, caches: Caches) -> Engine
         requires consumer { taken_of consumer.trail ≡ [] }
         requires empty { caches.entries ≡ held [] }
@@ -68,8 +68,8 @@ impl Engine {
         }
     }
 
-    /// Takes one command at most: applies and completes it, or stops at it, or completes it without effect where it
-    /// was told to. Before it completes a command it has changed the caches.
+    /// Takes at most one command: applies and completes it, stops at it, or completes it without effect if
+    /// told to replace it. The caches change before the command completes.
     pub fn step(&mut self, ring: &Ring) -> StepAnswer
         requires { self.old.consumer.ring ≡ ring.now }
         ensures stepped { HasStepped self.old self.new result }
@@ -86,8 +86,8 @@ impl Engine {
         answer
     }
 
-    /// Takes up to `most` commands, 1 to 64: of those that are ready from the head on it applies all ahead of the first
-    /// illegal one, and completes them together. Where the first is illegal, it does with that one as `step` does.
+    /// Takes up to `most` commands, 1 to 64: of those ready from the head on it applies all before the first
+    /// illegal one, and completes them together. If the first is illegal, it treats that one as `step` does.
     pub fn step_run(&mut self, ring: &Ring, most: u32) -> RunAnswer
         requires ring { self.old.consumer.ring ≡ ring.now }
         requires some { 1 ≤ most }
@@ -106,7 +106,7 @@ impl Engine {
         answer
     }
 
-    /// The queue's registers at this moment.
+    /// Returns the queue's registers at this moment.
     pub fn registers(&mut self, ring: &Ring) -> Registers
         requires { self.old.consumer.ring ≡ ring.now }
         ensures looked { HasLooked self.old self.new result }
@@ -124,9 +124,9 @@ impl Engine {
         }
     }
 
-    /// A witness, while the ring runs, that a sender was told truly: whatever number it was told, no entry is held that
-    /// was filled before a command that was reserved ahead of that CMD_SYNC, and that this command covers. Both know from
-    /// now on the run as it is at this moment, which has the steps of both. Else both stay as they are.
+    /// A witness, while the ring runs, that a sender was told truly: whatever number it was told, no entry is
+    /// older than a command that was reserved before that CMD_SYNC and covers it. From then on both know the
+    /// run as it is at this moment, which has the steps of both. Otherwise both stay as they are.
     pub fn told(&mut self, ring: &Ring, sender: &mut Sender)
         requires ring { self.old.consumer.ring ≡ ring.now }
         requires sender { sender.old.ring ≡ ring.now }
@@ -148,7 +148,7 @@ impl Engine {
         self.consumer = Some(consumer);
     }
 
-    /// The consumer, and the caches, which are settled for all that it took.
+    /// Returns the consumer and the caches, which are settled for all it took.
     pub fn into_parts(self) -> (Consumer<Unit>, Caches)
         ensures consumer { result.0 ≡ self.consumer }
         ensures caches { result.1 ≡ self.unit.caches }
@@ -158,9 +158,9 @@ impl Engine {
         (consumer.unwrap(), unit.into_caches())
     }
 
-    /// Joins the engine and all senders of its ring, which are handed in in the order of their numbers. There is one run
-    /// that has all their steps. Whatever number a sender was told, no entry is held that was filled before a command
-    /// that was reserved ahead of that CMD_SYNC, and that this command covers.
+    /// Joins the engine and all senders of its ring, in the order of their numbers. One run has all their
+    /// steps. Whatever number a sender was told, no entry is older than a command that was reserved before
+    /// that CMD_SYNC and covers it.
     pub fn finish(self, ring: Ring, senders: Vec<Sender>) -> Finished
         requires senders { AreAll ring senders.items }
         requires ring { self.consumer.ring ≡ ring }
@@ -181,8 +181,8 @@ impl Engine {
 }
 
 impl Engine {
-    /// A witness that it is settled for all that it took, no entry that it holds being older than a command that covers
-    /// it, and that its counts are those of all that it took. It does nothing.
+    /// A witness that it is settled for all it took, with no entry older than a command that covers it, and
+    /// that its counts are those of all it took. It does nothing.
     pub fn is_settled(&self)
         ensures settled { IsSettled self.now.unit.caches.entries (taken_of self.now.consumer.trail) }
         ensures many { taken self.now.unit.counts ≡ length (taken_of self.now.consumer.trail) }
@@ -198,7 +198,7 @@ impl Engine {
         self.unit.stopped()
     }
 
-    /// What was counted of the commands taken.
+    /// Returns the counts of the commands taken.
     pub fn counts(&self) -> Counts
         ensures { result ≡ self.now.unit.counts }
     {
@@ -214,10 +214,10 @@ impl Engine {
         self.unit.error()
     }
 
-    /// Software writes SMMU_GERRORN, and says what is to become of the command, as `Unit::acknowledge`.
+    /// Software writes SMMU_GERRORN and chooses what happens to the command, as `Unit::acknowledge`.
     ///
-    /// Errors, in this order, which change nothing: G1 where no error is active; G2 where CMDQ_ERR of the word isn't
-    /// that of SMMU_GERROR.
+    /// Errors, in this order, each changing nothing: G1 if no error is active; G2 if CMDQ_ERR of the word
+    /// isn't that of SMMU_GERROR.
     pub fn acknowledge(&mut self, gerrorn: u32, remedy: Remedy) -> Result<(), AckFault>
         ensures answer { IsAcknowledgementAnswer self.old.unit.stop gerrorn result }
         ensures ok { OnOk result (self.new ≡ record self.old { unit = record self.old.unit { stop = told remedy self.old.unit.stop } }) }
@@ -228,10 +228,10 @@ impl Engine {
         self.unit.acknowledge(gerrorn, remedy)
     }
 
-    /// Puts in an entry that is born now, and answers the one of its tag that was held before.
+    /// Puts in an entry that is born now and returns the one held under its tag before, if any.
     ///
-    /// Errors, in this order, which leave the engine as it was: C2 where its block isn't well formed; C1 where its tag
-    /// is new and the caches are full; C3 when out of memory, where its tag is new.
+    /// Errors, in this order, each leaving the engine unchanged: C2 if the tag's block isn't well formed; C1
+    /// if the tag is new and the caches are full; C3 if the tag is new and memory runs out.
     pub fn fill(&mut self, tag: Tag, value: u64) -> Result<Option<Entry>, CacheFault>
         ensures answer { IsFillAnswer self.old.unit.caches tag result }
         ensures ok { OnOk result (self.new ≡ record self.old { unit = with_entries self.old.unit (filled tag value self.old.unit) }) }
@@ -242,7 +242,7 @@ impl Engine {
         self.unit.fill(tag, value)
     }
 
-    /// Removes the entry of this tag, and answers it.
+    /// Removes and returns the entry held under `tag`, if any.
     pub fn evict(&mut self, tag: &Tag) -> Option<Entry>
         ensures was { result ≡ finite.get self.old.unit.caches.entries tag.now }
         ensures new { self.new ≡ record self.old { unit = with_entries self.old.unit (finite.remove self.old.unit.caches.entries tag.now) } }
@@ -252,7 +252,7 @@ impl Engine {
         self.unit.evict(tag)
     }
 
-    /// The entry of this tag that is held, if one is.
+    /// Returns the entry held under `tag`, if any.
     pub fn lookup(&self, tag: &Tag) -> Option<Entry>
         ensures value { result ≡ finite.get self.now.unit.caches.entries tag.now }
         ensures own { IfSome result (λ entry. entry.tag ≡ tag.now) }
@@ -260,9 +260,9 @@ impl Engine {
         self.unit.lookup(tag)
     }
 
-    /// All entries that are held, in the order of their tags.
+    /// Returns all entries held, in tag order.
     ///
-    /// Errors: C3 when out of memory, and no other.
+    /// Errors: only C3, if memory runs out.
     pub fn entries(&self) -> Result<Vec<Entry>, CacheFault>
         ensures { IsListAnswer self.now.unit.caches.entries result }
     {

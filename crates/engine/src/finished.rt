@@ -8,7 +8,7 @@ use ring::Summary;
 pub struct Finished {
     /// What was reserved and taken.
     pub summary: Summary,
-    /// What was counted of the commands taken.
+    /// The counts of the commands taken.
     pub counts: Counts,
     /// The caches, which are settled for all commands taken.
     pub caches: Caches,

@@ -4,7 +4,7 @@ ghost use Rattle.engine.specs.Stops.{command_queue_bit, word_of};
 
 use bitflags::{Flag, Flags, bitflag_items};
 
-/// The bits of SMMU_GERROR and SMMU_GERRORN that may arise here.
+/// The bits of SMMU_GERROR and SMMU_GERRORN that can be set here.
 #[derive(Clone, Copy, PartialEq, Eq, Debug)]
 pub(crate) struct GlobalErrors(u32);
 

@@ -4,16 +4,16 @@ ghost use Rattle.engine.specs.Stops.{label_of};
 
 use thiserror::Error;
 
-/// What is to become of the illegal command at which consumption stopped (own).
+/// What to do with the illegal command at which consumption stopped (own).
 #[derive(Clone, Copy, Debug, PartialEq, Eq)]
 pub enum Remedy {
-    /// It comes next once more, as it is.
+    /// It comes next again, and is judged again.
     Retry,
-    /// It comes next once more, and is completed without effect.
+    /// It comes next again, and is completed without effect.
     Replace,
 }
 
-/// Why an acknowledgement is refused. The first that applies is told, and nothing is changed.
+/// Why an acknowledgement is refused: the first fault that applies. Nothing changes.
 #[derive(Clone, Copy, Debug, PartialEq, Eq, Error)]
 pub enum AckFault {
     /// G1: no error is active.
@@ -25,7 +25,7 @@ pub enum AckFault {
 }
 
 impl AckFault {
-    /// Its label alone, `G1` and `G2`.
+    /// Returns its label, `G1` or `G2`.
     pub fn label(self) -> &'static str
         ensures { result.now ≡ label_of self }
     {

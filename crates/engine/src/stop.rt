@@ -8,13 +8,13 @@ use crate::remedy::{AckFault, Remedy};
 use cmdcodec::{Ill, Raw};
 use std::marker::Model;
 
-/// How consumption stands.
+/// The state of consumption.
 #[derive(Clone, Copy, Debug, PartialEq, Eq)]
 pub enum Mode {
     Running,
     /// Stopped at an illegal command: SMMU_CMDQ_CONS.ERR is CERROR_ILL.
     Stopped(Ill),
-    /// Told to take the illegal command as replaced.
+    /// Told to replace the illegal command.
     Replacing,
 }
 
@@ -29,7 +29,7 @@ impl From<Remedy> for Mode {
     }
 }
 
-/// How consumption stands, and CMDQ_ERR of both registers.
+/// The state of consumption, and CMDQ_ERR of both registers.
 #[derive(Drop)]
 pub struct Stop {
     mode: Mode,
@@ -52,7 +52,7 @@ impl Model for Stop {
 }
 
 impl Stop {
-    /// Before the first command.
+    /// The state before the first command.
     pub(crate) fn new() -> Stop
         ensures { result ≡ unstopped }
     {
@@ -78,7 +78,7 @@ impl Stop {
         matches!(self.mode, Mode::Replacing)
     }
 
-    /// It found an illegal command.
+    /// Stops at an illegal command.
     pub(crate) fn stop_at(&mut self, raw: Raw, ill: Ill)
         requires going { ¬ IsStopped self.old.mode }
         requires first { first_ill raw ≡ Some ill }
@@ -89,7 +89,7 @@ impl Stop {
         self.error = !self.error;
     }
 
-    /// A command was taken.
+    /// Goes on after a command was taken.
     pub(crate) fn go_on(&mut self)
         requires going { ¬ IsStopped self.old.mode }
         ensures { self.new ≡ gone_on self.old }
@@ -98,7 +98,7 @@ impl Stop {
         self.next = None;
     }
 
-    /// Software writes SMMU_GERRORN, and says what is to become of the command.
+    /// Software writes SMMU_GERRORN and chooses what happens to the command.
     pub(crate) fn acknowledge(&mut self, gerrorn: u32, remedy: Remedy) -> Result<(), AckFault>
         ensures answer { IsAcknowledgementAnswer self.old gerrorn result }
         ensures ok { OnOk result (self.new ≡ told remedy self.old) }

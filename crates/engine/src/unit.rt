@@ -19,7 +19,7 @@ use cmdcodec::{Command, Raw, decode};
 use ring::Device;
 use std::marker::Model;
 
-/// What has the effect of commands: caches, and where consumption stopped. It needs no ring.
+/// Applies commands to its caches, stops at an illegal one, and counts. It needs no ring.
 #[derive(Drop)]
 pub struct Unit {
     caches: Caches,
@@ -39,8 +39,8 @@ impl Model for Unit {
     ghost view = { λ u. record { caches = u.caches; stop = u.stop; counts = u.counts } };
 }
 
-/// It is settled for the commands taken where it counted just them, and its entries are: none is older than a command
-/// that covers it. So one that has taken nothing is settled for no other list than the empty one.
+/// A unit is settled for a list of taken commands if its counts are those of the list and no entry is older
+/// than a command in it that covers it. So a unit that has taken nothing is settled only for the empty list.
 impl Device for Unit {
     ghost use Rattle.engine.specs.Units.{IsSettledUnit};
 
@@ -48,7 +48,7 @@ impl Device for Unit {
 }
 
 impl Unit {
-    /// A unit that has taken nothing, with these empty caches.
+    /// Creates a unit that has taken nothing, with these empty caches.
     pub fn new(caches: Caches) -> Unit
         requires empty { caches.entries ≡ held [] }
         ensures unit { result ≡ new_unit caches }
@@ -61,7 +61,7 @@ impl Unit {
         }
     }
 
-    /// Its caches.
+    /// Returns its caches.
     pub fn into_caches(self) -> Caches
         ensures { result ≡ self.caches }
     {
@@ -80,7 +80,7 @@ impl Unit {
         self.stop.is_stopped()
     }
 
-    /// What was counted of the commands taken.
+    /// Returns the counts of the commands taken.
     pub fn counts(&self) -> Counts
         ensures { result ≡ self.now.counts }
     {
@@ -96,9 +96,9 @@ impl Unit {
         self.stop.registers()
     }
 
-    /// Applies a legal command, stops at an illegal one, or takes an illegal one without effect where it was told to
-    /// replace it. A CMD_SYNC has no effect on entries. It isn't stopped, and after a stop the words at which it
-    /// stopped come next.
+    /// Applies a legal command; stops at an illegal one, or takes it without effect if told to replace it. A
+    /// CMD_SYNC has no effect on entries. The unit must not be stopped, and after a stop `raw` must be the
+    /// words at which it stopped.
     pub fn judge(&mut self, raw: Raw) -> Verdict
         requires running { ¬ IsStopped self.old.stop.mode }
         requires next { MayComeNext raw self.old.stop }
@@ -124,7 +124,7 @@ impl Unit {
         }
     }
 
-    /// Applies a legal command: how many entries it removed.
+    /// Applies a legal command and returns how many entries it removed.
     #[inline]
     pub(crate) fn apply(&mut self, raw: Raw, command: &Command) -> u32
         requires running { ¬ IsStopped self.old.stop.mode }
@@ -140,11 +140,11 @@ impl Unit {
         removed
     }
 
-    /// Software writes SMMU_GERRORN, and says what is to become of the command at which consumption stopped. Of the
-    /// word only CMDQ_ERR, bit 0, counts.
+    /// Software writes SMMU_GERRORN and chooses what happens to the command at which consumption stopped.
+    /// Only CMDQ_ERR, bit 0, of the word matters.
     ///
-    /// Errors, in this order, which change nothing: G1 where no error is active; G2 where CMDQ_ERR of the word isn't
-    /// that of SMMU_GERROR.
+    /// Errors, in this order, each changing nothing: G1 if no error is active; G2 if CMDQ_ERR of the word
+    /// isn't that of SMMU_GERROR.
     pub fn acknowledge(&mut self, gerrorn: u32, remedy: Remedy) -> Result<(), AckFault>
         ensures answer { IsAcknowledgementAnswer self.old.stop gerrorn result }
         ensures ok { OnOk result (self.new ≡ record self.old { stop = told remedy self.old.stop }) }
@@ -156,19 +156,18 @@ impl Unit {
 }
 
 impl Unit {
-    /// A witness of what a ring asks of a unit that is its device: that it counted all that was taken, and that its
-    /// entries are settled for it.
-    /// It does nothing.
+    /// A witness of what a ring asks of a unit that is its device: that it counted all that was taken, and
+    /// that its entries are settled for it. It does nothing.
     pub fn is_settled_as_a_device(&self)
         ensures { (list : List Taken) → ⟦<Unit as Device>⟧.settled self.now list ↔ IsSettledUnit self.now list }
     {
         let _ = &self.caches;
     }
 
-    /// Puts in an entry that is born now, and answers the one of its tag that was held before.
+    /// Puts in an entry that is born now and returns the one held under its tag before, if any.
     ///
-    /// Errors, in this order, which leave the unit as it was: C2 where its block isn't well formed; C1 where its tag
-    /// is new and the caches are full; C3 when out of memory, where its tag is new.
+    /// Errors, in this order, each leaving the unit unchanged: C2 if the tag's block isn't well formed; C1 if
+    /// the tag is new and the caches are full; C3 if the tag is new and memory runs out.
     pub fn fill(&mut self, tag: Tag, value: u64) -> Result<Option<Entry>, CacheFault>
         ensures answer { IsFillAnswer self.old.caches tag result }
         ensures ok { OnOk result (self.new ≡ with_entries self.old (filled tag value self.old)) }
@@ -179,7 +178,7 @@ impl Unit {
         self.caches.fill(Entry { tag, value, born })
     }
 
-    /// Removes the entry of this tag, and answers it.
+    /// Removes and returns the entry held under `tag`, if any.
     pub fn evict(&mut self, tag: &Tag) -> Option<Entry>
         ensures was { result ≡ finite.get self.old.caches.entries tag.now }
         ensures new { self.new ≡ with_entries self.old (finite.remove self.old.caches.entries tag.now) }
@@ -188,7 +187,7 @@ impl Unit {
         self.caches.evict(tag)
     }
 
-    /// The entry of this tag that is held, if one is.
+    /// Returns the entry held under `tag`, if any.
     pub fn lookup(&self, tag: &Tag) -> Option<Entry>
         ensures value { result ≡ finite.get self.now.caches.entries tag.now }
         ensures own { IfSome result (λ entry. entry.tag ≡ tag.now) }
@@ -196,9 +195,9 @@ impl Unit {
         self.caches.lookup(tag)
     }
 
-    /// All entries that are held, in the order of their tags.
+    /// Returns all entries held, in tag order.
     ///
-    /// Errors: C3 when out of memory, and no other.
+    /// Errors: only C3, if memory runs out.
     pub fn entries(&self) -> Result<Vec<Entry>, CacheFault>
         ensures { IsListAnswer self.now.caches.entries result }
     {

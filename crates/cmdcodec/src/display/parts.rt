@@ -1,4 +1,4 @@
-//! What the texts of commands share.
+//! Parts that several commands' texts share.
 ghost use Rattle.std.specs.Prelude.{Some};
 ghost use Rattle.cmdcodec.specs.Text.{kept_text, reach_text, pages_text};
 

@@ -1,10 +1,10 @@
-//! Where in an address space a command begins, and how far an ATC_INV reaches.
+//! Page numbers, and the span of an ATC_INV.
 ghost use Rattle.std.specs.Prelude.{◌≡◌, ◌<◌, ◌^◌, ℕ};
 ghost use Rattle.std.specs.Option.{SomeIff};
 
 use std::marker::Model;
 
-/// The number of a page of 4,096 bytes: an address without its 12 low bits. 52 bits.
+/// The number of a 4,096-byte page: an address without its 12 low bits. 52 bits.
 #[derive(Clone, Copy, Debug, PartialEq, Eq)]
 pub struct Page {
     number: u64,
@@ -21,7 +21,7 @@ impl Model for Page {
 }
 
 impl Page {
-    /// The field of this number, where it is in range.
+    /// Returns the field with this value, or `None` if it is out of range.
     pub fn new(value: u64) -> Option<Page>
         ensures { SomeIff result (value < 2 ^ 52) value }
     {
@@ -32,7 +32,7 @@ impl Page {
         }
     }
 
-    /// Its number.
+    /// Returns its value.
     pub fn get(self) -> u64
         ensures value { result ≡ self }
         ensures in_range { result < 2 ^ 52 }
@@ -42,8 +42,7 @@ impl Page {
     }
 }
 
-/// The number of a page of 4,096 bytes of intermediate physical addresses, which end at bit 51 (own):
-/// 40 bits.
+/// The number of a 4,096-byte page of 52-bit intermediate physical addresses (own). 40 bits.
 #[derive(Clone, Copy, Debug, PartialEq, Eq)]
 pub struct IpaPage {
     number: u64,
@@ -60,7 +59,7 @@ impl Model for IpaPage {
 }
 
 impl IpaPage {
-    /// The field of this number, where it is in range.
+    /// Returns the field with this value, or `None` if it is out of range.
     pub fn new(value: u64) -> Option<IpaPage>
         ensures { SomeIff result (value < 2 ^ 40) value }
     {
@@ -71,7 +70,7 @@ impl IpaPage {
         }
     }
 
-    /// Its number.
+    /// Returns its value.
     pub fn get(self) -> u64
         ensures value { result ≡ self }
         ensures in_range { result < 2 ^ 40 }
@@ -81,7 +80,7 @@ impl IpaPage {
     }
 }
 
-/// `Size` of ATC_INV: the command is for the aligned block of `2^Size` pages, 0 to 52.
+/// `Size` of ATC_INV, 0 to 52: the command reaches the aligned block of `2^Size` pages.
 #[derive(Clone, Copy, Debug, PartialEq, Eq)]
 pub struct Size {
     power: u8,
@@ -98,7 +97,7 @@ impl Model for Size {
 }
 
 impl Size {
-    /// The field of this number, where it is in range.
+    /// Returns the field with this value, or `None` if it is out of range.
     pub fn new(value: u64) -> Option<Size>
         ensures { SomeIff result (value < 53) value }
     {
@@ -109,7 +108,7 @@ impl Size {
         }
     }
 
-    /// Its number.
+    /// Returns its value.
     pub fn get(self) -> u8
         ensures value { result ≡ self }
         ensures in_range { result < 53 }

@@ -4,7 +4,7 @@ ghost use Rattle.std.specs.Option.{SomeIff};
 
 use std::marker::Model;
 
-/// `NUM` of an invalidation by range, one less than the number of its steps: 5 bits.
+/// `NUM` of an invalidation by range: the number of its steps minus one. 5 bits.
 #[derive(Clone, Copy, Debug, PartialEq, Eq)]
 pub struct RangeCount {
     count: u8,
@@ -21,7 +21,7 @@ impl Model for RangeCount {
 }
 
 impl RangeCount {
-    /// The field of this number, where it is in range.
+    /// Returns the field with this value, or `None` if it is out of range.
     pub fn new(value: u64) -> Option<RangeCount>
         ensures { SomeIff result (value < 32) value }
     {
@@ -32,7 +32,7 @@ impl RangeCount {
         }
     }
 
-    /// Its number.
+    /// Returns its value.
     pub fn get(self) -> u8
         ensures value { result ≡ self }
         ensures in_range { result < 32 }
@@ -58,7 +58,7 @@ impl Model for RangeScale {
 }
 
 impl RangeScale {
-    /// The field of this number, where it is in range.
+    /// Returns the field with this value, or `None` if it is out of range.
     pub fn new(value: u64) -> Option<RangeScale>
         ensures { SomeIff result (value < 32) value }
     {
@@ -69,7 +69,7 @@ impl RangeScale {
         }
     }
 
-    /// Its number.
+    /// Returns its value.
     pub fn get(self) -> u8
         ensures value { result ≡ self }
         ensures in_range { result < 32 }

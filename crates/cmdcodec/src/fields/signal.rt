@@ -1,10 +1,10 @@
-//! How a CMD_SYNC tells of its completion.
+//! How a CMD_SYNC signals its completion.
 ghost use Rattle.std.specs.Prelude.{◌≡◌, ◌<◌, ◌^◌, ℕ};
 ghost use Rattle.std.specs.Option.{SomeIff};
 
 use std::marker::Model;
 
-/// `CS` of CMD_SYNC, how completion is told: 0 not at all, 1 by interrupt, 2 by event.
+/// `CS` of CMD_SYNC, how completion is signalled: 0 not at all, 1 by interrupt, 2 by event.
 #[derive(Clone, Copy, Debug, PartialEq, Eq)]
 pub struct Cs {
     signal: u8,
@@ -21,7 +21,7 @@ impl Model for Cs {
 }
 
 impl Cs {
-    /// The field of this number, where it is in range.
+    /// Returns the field with this value, or `None` if it is out of range.
     pub fn new(value: u64) -> Option<Cs>
         ensures { SomeIff result (value < 3) value }
     {
@@ -34,7 +34,7 @@ impl Cs {
         }
     }
 
-    /// Its number.
+    /// Returns its value.
     pub fn get(self) -> u8
         ensures value { result ≡ self }
         ensures in_range { result < 3 }
@@ -60,7 +60,7 @@ impl Model for Msh {
 }
 
 impl Msh {
-    /// The field of this number, where it is in range.
+    /// Returns the field with this value, or `None` if it is out of range.
     pub fn new(value: u64) -> Option<Msh>
         ensures { SomeIff result (value < 4) value }
     {
@@ -73,7 +73,7 @@ impl Msh {
         }
     }
 
-    /// Its number.
+    /// Returns its value.
     pub fn get(self) -> u8
         ensures value { result ≡ self }
         ensures in_range { result < 4 }
@@ -99,7 +99,7 @@ impl Model for Attr {
 }
 
 impl Attr {
-    /// The field of this number, where it is in range.
+    /// Returns the field with this value, or `None` if it is out of range.
     pub fn new(value: u64) -> Option<Attr>
         ensures { SomeIff result (value < 16) value }
     {
@@ -112,7 +112,7 @@ impl Attr {
         }
     }
 
-    /// Its number.
+    /// Returns its value.
     pub fn get(self) -> u8
         ensures value { result ≡ self }
         ensures in_range { result < 16 }
@@ -138,7 +138,7 @@ impl Model for MsiWord {
 }
 
 impl MsiWord {
-    /// The field of this number, where it is in range.
+    /// Returns the field with this value, or `None` if it is out of range.
     pub fn new(value: u64) -> Option<MsiWord>
         ensures { SomeIff result (value < 2 ^ 50) value }
     {
@@ -149,7 +149,7 @@ impl MsiWord {
         }
     }
 
-    /// Its number.
+    /// Returns its value.
     pub fn get(self) -> u64
         ensures value { result ≡ self }
         ensures in_range { result < 2 ^ 50 }

@@ -1,4 +1,4 @@
-//! Whose translations a command is for.
+//! Whose translations a command drops.
 ghost use Rattle.std.specs.Prelude.{◌≡◌, ◌<◌, ◌^◌, ℕ};
 ghost use Rattle.std.specs.Option.{SomeIff};
 
@@ -21,7 +21,7 @@ impl Model for Vmid {
 }
 
 impl Vmid {
-    /// The field of this number, where it is in range.
+    /// Returns the field with this value, or `None` if it is out of range.
     pub fn new(value: u64) -> Option<Vmid>
         ensures { SomeIff result (value < 2 ^ 16) value }
     {
@@ -32,7 +32,7 @@ impl Vmid {
         }
     }
 
-    /// Its number.
+    /// Returns its value.
     pub fn get(self) -> u16
         ensures value { result ≡ self }
         ensures in_range { result < 2 ^ 16 }
@@ -59,7 +59,7 @@ impl Model for Asid {
 }
 
 impl Asid {
-    /// The field of this number, where it is in range.
+    /// Returns the field with this value, or `None` if it is out of range.
     pub fn new(value: u64) -> Option<Asid>
         ensures { SomeIff result (value < 2 ^ 16) value }
     {
@@ -70,7 +70,7 @@ impl Asid {
         }
     }
 
-    /// Its number.
+    /// Returns its value.
     pub fn get(self) -> u16
         ensures value { result ≡ self }
         ensures in_range { result < 2 ^ 16 }

@@ -1,4 +1,4 @@
-//! Which streams and substreams a command is for.
+//! The streams and substreams that a command names.
 ghost use Rattle.std.specs.Prelude.{◌≡◌, ◌<◌, ◌^◌, ℕ};
 ghost use Rattle.std.specs.Option.{SomeIff};
 
@@ -21,7 +21,7 @@ impl Model for Sid {
 }
 
 impl Sid {
-    /// The field of this number, where it is in range.
+    /// Returns the field with this value, or `None` if it is out of range.
     pub fn new(value: u64) -> Option<Sid>
         ensures { SomeIff result (value < 2 ^ 32) value }
     {
@@ -32,7 +32,7 @@ impl Sid {
         }
     }
 
-    /// Its number.
+    /// Returns its value.
     pub fn get(self) -> u32
         ensures value { result ≡ self }
         ensures in_range { result < 2 ^ 32 }
@@ -59,7 +59,7 @@ impl Model for Ssid {
 }
 
 impl Ssid {
-    /// The field of this number, where it is in range.
+    /// Returns the field with this value, or `None` if it is out of range.
     pub fn new(value: u64) -> Option<Ssid>
         ensures { SomeIff result (value < 2 ^ 20) value }
     {
@@ -70,7 +70,7 @@ impl Ssid {
         }
     }
 
-    /// Its number.
+    /// Returns its value.
     pub fn get(self) -> u32
         ensures value { result ≡ self }
         ensures in_range { result < 2 ^ 20 }
@@ -80,7 +80,7 @@ impl Ssid {
     }
 }
 
-/// `Range` of CFGI_STE_RANGE: the command is for `2^(Range+1)` streams. 5 bits.
+/// `Range` of CFGI_STE_RANGE: the command reaches `2^(Range+1)` streams. 5 bits.
 #[derive(Clone, Copy, Debug, PartialEq, Eq)]
 pub struct StreamRange {
     range: u8,
@@ -97,7 +97,7 @@ impl Model for StreamRange {
 }
 
 impl StreamRange {
-    /// The field of this number, where it is in range.
+    /// Returns the field with this value, or `None` if it is out of range.
     pub fn new(value: u64) -> Option<StreamRange>
         ensures { SomeIff result (value < 32) value }
     {
@@ -108,7 +108,7 @@ impl StreamRange {
         }
     }
 
-    /// Its number.
+    /// Returns its value.
     pub fn get(self) -> u8
         ensures value { result ≡ self }
         ensures in_range { result < 32 }

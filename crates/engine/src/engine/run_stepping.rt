@@ -21,7 +21,7 @@ use cmdcodec::decode;
 use ring::{Consumer, Outcome, PendingRun, Ring, TakenRun, growth_adds_up};
 use ringcore::MOST_RESERVED;
 
-/// A step of a unit with its consumer: at most so many commands.
+/// Takes at most `most` commands, 1 to 64, with a unit and its consumer.
 pub(crate) fn step_run_with(
     consumer: Consumer<Unit>,
     unit: &mut Unit,
@@ -72,8 +72,8 @@ pub(crate) fn step_run_with(
     }
 }
 
-/// Applies the legal commands of a run behind its first, up to one that isn't: how many they are, and how many entries
-/// they removed.
+/// Applies the legal commands of a run after its first, up to the first illegal one. Returns how many there
+/// were and how many entries they removed.
 fn apply_rest(run: &PendingRun<Unit>, unit: &mut Unit) -> (u32, u32)
     requires running { unit.old.stop.mode ≡ Running }
     requires next { unit.old.stop.next ≡ None }

@@ -14,7 +14,7 @@ use crate::verdict::Verdict;
 use ring::{Consumer, Outcome, Ring, Taken, growth_adds_up};
 use ringcore::MOST_RESERVED;
 
-/// A step of a unit with its consumer: at most one command. `Engine::step` is this, by an owner of both.
+/// Takes at most one command, with a unit and its consumer. `Engine::step` does this for an owner of both.
 pub fn step_with(
     consumer: Consumer<Unit>,
     unit: &mut Unit,

@@ -8,7 +8,7 @@ use Rattle.engine.specs.Engines.{IsEngine}
 use Rattle.engine.proofs.Stepping.{still_counted, engine_settled}
 use Rattle.engine.proofs.engine.Engine.fill.Goals as goal
 
--- Whatever was answered, the counts and the stop stay.
+-- Whatever the answer, the counts and the stop stay.
 stays : {A : Type 0} (part : UnitValue → A) → ((u : UnitValue) (entries : Entries) → part (with_entries u entries) ≡ part u)
     → (r : Result (Option Entry) CacheFault) (old new : UnitValue) (entries : Entries) → OnOk r (new ≡ with_entries old entries) → OnErr r (new ≡ old) → part new ≡ part old
 stays part same (Ok was) old new entries ok err = ap part ok ∙ same old entries

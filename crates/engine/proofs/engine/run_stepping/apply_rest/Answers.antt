@@ -56,7 +56,7 @@ returns-in_default-clause-applied c = c.loop-count.invariant.applied
 pub returns-in_default-clause-removed : goal.returns-in_default-clause-removed
 returns-in_default-clause-removed c = c.loop-count.invariant.few
 
--- Behind the last turn all are applied.
+-- After the last turn all are applied.
 at_end : (c : goal.After-loop-count) → c.loop-count.count ≡ c.len-behind.result - 1
 at_end c =
     let most = c.loop-count.auto.count-end in
