@@ -1,13 +1,13 @@
 //! The running ring: many senders and one consumer on one table of atomic words, without a lock.
 //!
 //! 1. A sender looks at the control word, which has both indexes and the closed bit, and reserves its whole
-//! batch by one exchange of that word (`Sender::reserve`). The exchange is won only if the word is the one
-//! that it looked at.
+//!    batch by one exchange of that word (`Sender::reserve`). The exchange is won only if the word is the one
+//!    that it looked at.
 //! 2. It writes both halves of each command into its slots, which nobody else writes (`OpenReservation::write_next`).
 //! 3. It hands them over by flipping their flags, with one exclusive or for each word of 64 flags
-//! (`OpenReservation::publish`).
+//!    (`OpenReservation::publish`).
 //! 4. The consumer counts the flipped flags from the head on, reads those commands, and has them applied
-//! (`Consumer::take_run`).
+//!    (`Consumer::take_run`).
 //! 5. It advances past them by one exclusive or of the control word, and only then stores the number of each CMD_SYNC
 //!    among them in its sender's completion cell, where the sender finds it (`PendingRun::complete_run`).
 //!
