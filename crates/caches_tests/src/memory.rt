@@ -3,8 +3,8 @@ use crate::notation::{cd, ste};
 use caches::{CacheFault, Caches, Entry};
 use std::alloc::Global;
 
-/// Puts an entry in; where memory runs out, twice. Whether it was put in at once, or none where an
-/// answer is wrong.
+/// Inserts an entry, a second time if memory runs out. Returns whether the first time did, or None if an answer is
+/// wrong.
 fn fill(caches: &mut Caches, new: Entry) -> Option<bool> {
     let before = caches.len();
     match caches.fill(new) {
@@ -20,7 +20,7 @@ fn fill(caches: &mut Caches, new: Entry) -> Option<bool> {
     }
 }
 
-/// The sum of the values that are listed.
+/// Returns the sum of the values that are listed.
 fn sum(caches: &Caches) -> Option<u64> {
     match caches.entries() {
         Ok(list) => Some(
@@ -32,7 +32,7 @@ fn sum(caches: &Caches) -> Option<u64> {
     }
 }
 
-/// Fills and lists, and says how it went. Memory for one call may run out, and then it is had again.
+/// Fills and lists, and returns how it went. Memory may run out for one call, and is there again after it.
 fn run(alloc: Global) -> &'static str {
     let mut outcome = "whole";
     let Ok(mut caches) = Caches::new(alloc, 40) else {

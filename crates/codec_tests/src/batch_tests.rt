@@ -30,7 +30,7 @@ fn invalidate(batch: &mut Batch, asked: &str) -> Option<Result<(), BatchFault>> 
     Some(batch.invalidate_range(vmid, asid, page, next_u64(&mut numbers)?))
 }
 
-/// A list of so many commands, with a CMD_SYNC at the place that is named, if one is.
+/// A list of `count` commands, with a CMD_SYNC at the place that is given, if one is.
 fn list(asked: &str) -> Option<Result<Batch, BatchFault>> {
     let mut numbers = asked.split_whitespace();
     let count = next_u64(&mut numbers)?;
@@ -54,7 +54,7 @@ fn push(batch: &mut Batch, asked: &str) -> Option<Result<(), BatchFault>> {
     }
 }
 
-/// The batch that a call makes, if it is one that makes a batch.
+/// Returns the batch that a call makes, if it makes one.
 fn maker(name: &str, asked: &str) -> Option<Result<Batch, BatchFault>> {
     match name {
         "new" => Some(Batch::new(raw(asked)?)),
@@ -65,13 +65,13 @@ fn maker(name: &str, asked: &str) -> Option<Result<Batch, BatchFault>> {
     }
 }
 
-/// Puts a batch that was made in the place of another.
+/// Replaces a batch with one that was made.
 fn replace(batch: &mut Batch, made: Result<Batch, BatchFault>) -> Result<(), BatchFault> {
     *batch = made?;
     Ok(())
 }
 
-/// What a call comes to that may change the batch.
+/// Makes a call that may change the batch, and returns its result.
 fn change(batch: &mut Batch, name: &str, asked: &str) -> Option<Result<(), BatchFault>> {
     match name {
         "push" => push(batch, asked),
@@ -89,7 +89,7 @@ fn get(alloc: Global, batch: &Batch, asked: &str) -> Option<String> {
     }
 }
 
-/// The answer to a call: where it may change the batch, the length that the batch then has, or the fault.
+/// Returns the answer to a call: if it may change the batch, the batch's length after it, or the fault.
 fn answer(alloc: Global, batch: &mut Batch, call: &str) -> Option<String> {
     let (name, asked) = call.split_once(" ").unwrap_or((call, ""));
     if name == "get" {
@@ -104,7 +104,7 @@ fn answer(alloc: Global, batch: &mut Batch, call: &str) -> Option<String> {
     }
 }
 
-/// Makes the calls of a text on one batch after another, and wants of each the answer that stands behind it.
+/// Makes the calls of a text on one batch after another, and expects the answer after each.
 fn expect_answers<R: AllocGlobal + Abort>(rt: &R, calls: &str) {
     let mut batch = Batch::new(CFGI_STE).expect(rt, "no sync");
     for line in calls.lines() {

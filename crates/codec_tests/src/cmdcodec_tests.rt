@@ -7,7 +7,7 @@ pub mod words;
 
 use std::alloc::Global;
 
-/// The answer to a call of this name, where there is one.
+/// The answer to a call of this name, if there is one.
 pub fn answer(alloc: Global, name: &str, asked: &str) -> Option<String> {
     match name {
         "vector" => vectors::vector(alloc, asked),

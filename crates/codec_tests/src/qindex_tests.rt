@@ -4,7 +4,7 @@ mod words;
 
 use std::alloc::Global;
 
-/// The answer to a call of this name, where there is one.
+/// The answer to a call of this name, if there is one.
 pub fn answer(alloc: Global, name: &str, asked: &str) -> Option<String> {
     match name {
         "ring" => indexes::ring(alloc, asked),

@@ -82,7 +82,7 @@ image = with_rule (with_rule (with_rule (with_rule (new_app (codes "image")) log
 abbrev pub encode : App
 encode = new_app (codes "encode")
 
--- `smmuq` itself, before its subcommands: it has a version, no word or option of its own, and wants a subcommand
+-- `smmuq` itself, before its subcommands: it has a version, no word or option of its own, and requires a subcommand
 abbrev pub alone : App
 alone = record (new_app (codes "smmuq")) { top = record (new_app (codes "smmuq")).top { no_binary_name = true; subcommand_required = true; has_version = true } }
 
@@ -105,16 +105,16 @@ pub record AreNumbers (rows : List Row) (numbers : StressNumbers) : Type 0 where
   pub turns : IsNumber (codes "turns") 1 10000000 rows numbers.turns
   pub bare : IsNumber (codes "bare") 0 100000 rows numbers.bare
 
--- n is the number of the option `name`, where its text writes one of 32 bits
+-- n is the number of the option `name`, if its text writes one of 32 bits
 abbrev pub ReadsNumber : List Row → Text → ℕ → Type 0
 ReadsNumber rows name n = (text : Text) → one_of name rows ≡ Some text → IsNumeral 10 (without_leading_plus text)
     → digits_value 10 (without_leading_plus text) < 2 ^ 32 → n ≡ digits_value 10 (without_leading_plus text)
 
--- The option `name` was given or it wasn't, where a text was found that says so.
+-- The option `name` was given or not, if a text was found that says so.
 abbrev pub IsFlag : Text → List Row → Bool → Type 0
 IsFlag name rows given = (one_of name rows ≡ Some (codes "true") → given ≡ true) × (one_of name rows ≡ Some (codes "false") → given ≡ false)
 
--- the text is the first of the option `name`, where one was found
+-- the text is the first of the option `name`, if one was found
 abbrev pub ReadsText : List Row → Text → Text → Type 0
 ReadsText rows name text = (found : Text) → first_of name rows ≡ Some found → text ≡ found
 
@@ -124,7 +124,7 @@ pub record ReadsImage (rows : List Row) (asked : ImageArguments) : Type 0 where
   pub cons : ReadsText rows (codes "cons") asked.cons.now
   pub all : IsFlag (codes "all") rows asked.all
 
--- what a subcommand of this name asks for, with what was found for its arguments
+-- what a subcommand of this name asks for, given what was found for its arguments
 abbrev pub Asks : Text → List Row → Subcommand → Type 0
 Asks name rows Replay = name ≡ codes "replay"
 Asks name rows Schedule = name ≡ codes "schedule"
@@ -139,7 +139,7 @@ Asks name rows Encode = name ≡ codes "encode"
 abbrev pub AskFor : List Text → Subcommand → Type 0
 AskFor words subcommand = (name : Text) × (rows : List Row) × (subcommand_of smmuq words ≡ Some (name, rows)) × Asks name rows subcommand
 
--- why words ask for no subcommand, and what is told of that
+-- why words ask for no subcommand, and the text that tells it
 pub record MisunderstoodValue : Type 0 where
   pub kind : ErrorKind
   pub text : Text
@@ -148,7 +148,7 @@ pub record MisunderstoodValue : Type 0 where
 abbrev pub FailsOnlyBy : {T : Type 0} → Kinds → Result T MisunderstoodValue → Type 0
 FailsOnlyBy kinds r = MatchResult r (λ _. kinds ≡ []) (λ why. (why.kind ≡ OutOfMemory) ⊎ IsAmong why.kind kinds)
 
--- ---- what is read of any matches, also of those that no words give
+-- ---- what is read from any matches, also from those that no words give
 
 pub record ReadsNumbers (rows : List Row) (numbers : StressNumbers) : Type 0 where
   pub log2 : ReadsNumber rows (codes "log2") numbers.log2
@@ -157,7 +157,7 @@ pub record ReadsNumbers (rows : List Row) (numbers : StressNumbers) : Type 0 whe
   pub turns : ReadsNumber rows (codes "turns") numbers.turns
   pub bare : ReadsNumber rows (codes "bare") numbers.bare
 
--- of a subcommand's name and what was found for its arguments
+-- for a subcommand's name and what was found for its arguments
 abbrev pub ReadsOf : Text → List Row → Subcommand → Type 0
 ReadsOf name rows Replay =
     (name ≢ codes "schedule") × (name ≢ codes "stress") × (name ≢ codes "words") × (name ≢ codes "image") × (name ≢ codes "encode")

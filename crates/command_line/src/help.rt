@@ -1,7 +1,7 @@
-//! What help tells of each subcommand beside its options. It stands alone: each line of a script, how its answer begins, and
-//! each label. tools/check-documents compares it with docs/FORMATS.md, which has the whole.
+//! What help says of each subcommand beside its options. It stands alone: each line of a script, how its answer begins,
+//! and each label. tools/check-documents compares it with docs/FORMATS.md, which has the whole.
 
-/// The program's version, and the toolchain by which this commit is proved, as `rt version` tells it.
+/// The program's version, and the toolchain that proves this commit, as `rt version` prints it.
 pub(crate) const VERSION: &str = "0.1.0 (rattle-kit-13f logic dac8208d650f15bf)";
 
 pub(crate) const SMMUQ: &str = "\

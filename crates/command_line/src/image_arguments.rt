@@ -1,4 +1,4 @@
-//! What the image of a queue is shown by.
+//! The arguments of `image`.
 ghost use Rattle.std.specs.Prelude.{◌≡◌, IfOk, false, codes};
 ghost use Rattle.clap.specs.Words.{app_of, found_of, new_app, rows_of, rule_of};
 ghost use Rattle.command_line.specs.CommandLine as spec;
@@ -25,7 +25,7 @@ const ALL: &str = "all";
 
 const ALL_HELP: &str = "Shows all slots, and not those alone that wait";
 
-/// What the image of a queue is shown by, as it stands on the command line.
+/// The arguments of `image`, as the command line gives them.
 #[derive(Clone, Copy, Debug, PartialEq, Eq)]
 pub struct ImageArguments<'a> {
     /// The binary logarithm of the queue's slots.
@@ -82,7 +82,7 @@ pub(crate) fn image<'a>(alloc: Global) -> Result<Command<'a>, AllocError>
         .arg(all(alloc))
 }
 
-/// The text of this name that the words gave. Each is wanted, so none is wanting.
+/// Returns the text of this name that the words gave. It is required, so it is there.
 fn text_in<'a>(matches: &ArgMatches<'a>, name: &str) -> &'a str
     ensures { spec.ReadsText (rows_of (found_of matches.now)) name.now result.now }
 {
@@ -95,7 +95,7 @@ fn flag_in(matches: &ArgMatches<'_>, name: &str) -> bool
     matches.get_flag(name)
 }
 
-/// What the words gave.
+/// Returns what the words gave.
 pub(crate) fn arguments_in<'a>(matches: &ArgMatches<'a>) -> ImageArguments<'a>
     ensures { spec.ReadsImage (rows_of (found_of matches.now)) result }
 {

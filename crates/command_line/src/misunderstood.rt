@@ -12,7 +12,7 @@ use std::marker::Model;
 #[derive(Drop)]
 pub struct Misunderstood {
     kind: ErrorKind,
-    /// The help, or what is wrong with the words, with the line ends behind it.
+    /// The help, or what is wrong with the words, with its final line ends.
     text: String,
 }
 
@@ -27,7 +27,7 @@ impl Model for Misunderstood {
 }
 
 impl Misunderstood {
-    /// Takes over what an error says. Where there is no memory for its text, that is what is told.
+    /// Takes over what an error says. If there is no memory for its text, says that instead.
     pub(crate) fn new(alloc: Global, error: &Error) -> Misunderstood
         ensures { (result.kind ≡ OutOfMemory) ⊎ (result.kind ≡ kind_of error.now) }
     {
@@ -60,7 +60,7 @@ impl Misunderstood {
         )
     }
 
-    /// The help, or what is wrong with the words, without the end of its last line.
+    /// Returns the help, or what is wrong with the words, without the end of its last line.
     pub fn text(&self) -> &str
         ensures { result.now ≡ self.now.text }
     {

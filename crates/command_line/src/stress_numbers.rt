@@ -30,7 +30,7 @@ const BARE: &str = "bare";
 
 const BARE_HELP: &str = "Each E-th batch has no CMD_SYNC; 0 for none";
 
-/// The numbers of a stress run, as they stand on the command line.
+/// The numbers of a stress run, as the command line gives them.
 #[derive(Clone, Copy, Debug, PartialEq, Eq)]
 pub struct StressNumbers {
     /// The binary logarithm of the ring's slots.
@@ -41,7 +41,7 @@ pub struct StressNumbers {
     pub batches: u32,
     /// How many turns each thread has.
     pub turns: u32,
-    /// Of so many batches of a sender the last has no CMD_SYNC; 0 where each has one.
+    /// The last of each `bare` batches of a sender has no CMD_SYNC; with 0 each batch has one.
     pub bare: u32,
 }
 
@@ -89,14 +89,14 @@ pub(crate) fn stress<'a>(alloc: Global) -> Result<Command<'a>, AllocError>
         .arg(number(alloc, BARE, "E", 0, 100_000, BARE_HELP).default_value("0"))
 }
 
-/// The number of this name that the words gave. Each is wanted or has a default, so none is wanting.
+/// Returns the number of this name that the words gave. It is required or has a default, so it is there.
 pub(crate) fn number_in(matches: &ArgMatches<'_>, name: &str) -> u32
     ensures { spec.ReadsNumber (rows_of (found_of matches.now)) name.now result }
 {
     matches.get_one::<u32>(name).unwrap_or(0)
 }
 
-/// The numbers that the words gave.
+/// Returns the numbers that the words gave.
 pub(crate) fn numbers_in(matches: &ArgMatches<'_>) -> StressNumbers
     ensures { spec.ReadsNumbers (rows_of (found_of matches.now)) result }
 {

@@ -28,19 +28,19 @@ const ENCODE: &str = "encode";
 /// What the words of a command line ask for.
 #[derive(Clone, Copy)]
 pub enum Subcommand<'a> {
-    /// That a script is served.
+    /// Serve a script.
     Replay,
-    /// That a script is played as a schedule of a ring's atomic steps.
+    /// Play a script as a schedule of a ring's atomic steps.
     Schedule,
-    /// That it is said what a word means as a command.
+    /// Say what a word means as a command.
     Decode(&'a str),
-    /// That many senders and an engine run at the same time.
+    /// Run many senders and an engine at the same time.
     Stress(StressNumbers),
-    /// That it is said what each line of words means as a command.
+    /// Say what each line of words means as a command.
     Words,
-    /// That the memory of a queue is shown.
+    /// Show the memory of a queue.
     Image(ImageArguments<'a>),
-    /// That it is said which words each line of text means as a command.
+    /// Say which words each line of text means as a command.
     Encode,
 }
 
@@ -62,7 +62,7 @@ fn schedule<'a>(alloc: Global) -> Command<'a>
         .after_help(help::SCHEDULE)
 }
 
-/// The word that is decoded.
+/// The word to decode.
 fn hex<'a>(alloc: Global) -> Arg<'a>
     ensures rule { rule_of result ≡ spec.hex }
     ensures local { result.global ≡ false }
@@ -154,7 +154,7 @@ fn parse<'a>(alloc: Global, words: &'a [&'a str]) -> Result<Subcommand<'a>, Erro
     Ok(subcommand_in(&matches))
 }
 
-/// Says what the words ask for, without the program's own name.
+/// Returns what the words ask for, without the program's own name.
 pub fn understand<'a>(alloc: Global, words: &'a [&'a str]) -> Result<Subcommand<'a>, Misunderstood>
     ensures asked { IfOk result (spec.AskFor (texts words.entry.now)) }
     ensures kinds { spec.FailsOnlyBy (fault_of spec.smmuq (texts words.entry.now)) result }

@@ -31,14 +31,14 @@ fn bytes_text(alloc: Global, bytes: &[u8]) -> Result<(String, bool), AllocError>
     }
 }
 
-/// Says what a word of hexadecimal digits means as a command, and whether it is a legal one.
+/// Returns what a word of hexadecimal digits means as a command, and whether it is a legal one.
 pub fn decode_text(alloc: Global, word: &str) -> Result<(String, bool), AllocError>
     ensures { IfOk result (λ told. (string_bytes told.0 ≡ (decode_text word.now).0) × (told.1 ≡ (decode_text word.now).1)) }
 {
     decode_bytes(alloc, word.as_bytes())
 }
 
-/// As `decode_text`, of a word whose bytes may be no text.
+/// The same as `decode_text` for a word whose bytes may be no text.
 #[tactic(auto, unfolding(crate::specs::DecodeText::decode_text))]
 pub fn decode_bytes(alloc: Global, word: &[u8]) -> Result<(String, bool), AllocError>
     ensures { IfOk result (λ told. (string_bytes told.0 ≡ (decode_text word.now).0) × (told.1 ≡ (decode_text word.now).1)) }

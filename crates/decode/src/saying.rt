@@ -1,4 +1,4 @@
-//! What the two words of a command mean, beside other text.
+//! The meaning of a command's two words, appended to other text.
 ghost use Rattle.std.specs.Prelude.{◌≡◌, ◌++◌, IfOk, OnOk, string_bytes};
 ghost use Rattle.decode.specs.CommandText.{ill_text, words_text};
 
@@ -6,7 +6,7 @@ use cmdcodec::{Ill, Raw, decode};
 use std::alloc::AllocError;
 use std::fmt::Write;
 
-/// A fault as it is displayed.
+/// Returns a fault as it is displayed.
 fn displayed(ill: Ill) -> &'static str
     ensures { result.now ≡ ill_text ill }
 {
@@ -18,8 +18,8 @@ fn displayed(ill: Ill) -> &'static str
     }
 }
 
-/// Appends what the words of a command mean, its text, or `illegal ` and the fault as it is displayed, and says whether they
-/// are legal.
+/// Appends what the words of a command mean, its text, or `illegal ` and the fault as it is displayed, and returns
+/// whether they are legal.
 #[tactic(auto, unfolding(crate::specs::CommandText::words_text))]
 pub fn say_command(raw: Raw, text: &mut String) -> Result<bool, AllocError>
     ensures text { OnOk result (string_bytes text.new ≡ string_bytes text.old ++ (words_text raw).0) }

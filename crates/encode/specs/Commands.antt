@@ -36,16 +36,16 @@ range_of words = do
   scale ← value_of field.Scale words
   Ok (reach_by (granule_named tg) num scale)
 
--- The three fields of a range are given, or none of them is and one page is meant.
+-- The three fields of a range are given, or none of them, for a single page.
 unfoldable pub reach_of : List (List ℕ) → Result Reach FieldFault
 reach_of words = if is_given field.Tg words || is_given field.Num words || is_given field.Scale words then range_of words else Ok Page
 
--- The words are legal, and of a command that is kept, that of this opcode.
+-- The words are legal, and those of the kept command of this opcode.
 abbrev pub kept_raw : Opcode → Raw → Result Command FieldFault
 kept_raw opcode raw =
     if opcode_of raw == number_of opcode && (is_kept (opcode_of raw) && is_none (first_ill raw)) then Ok (Kept raw) else Err OtherCommand
 
--- A command that is kept is given by its words.
+-- A kept command is given by its words.
 unfoldable pub kept_of : Opcode → List (List ℕ) → Result Command FieldFault
 kept_of opcode words = do
   lo ← value_of field.Lo words

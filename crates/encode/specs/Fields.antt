@@ -35,7 +35,7 @@ unit_of field.IpaPage = 4096
 unit_of field.MsiWord = 4
 unit_of other = 1
 
--- TG is 0 where one page is meant, which the text of a command says by leaving it out.
+-- TG is 0 for a single page; the text of a command then leaves it out.
 abbrev pub least_of : Field → ℕ
 least_of field.Tg = 1
 least_of other = 0

@@ -1,4 +1,4 @@
--- What a line that is a command's text is answered with. The line is good where it is a command's text, or skipped.
+-- The answer to a line that is a command's text. The line is good if it is a command's text, or skipped.
 use Rattle.std.specs.Prelude.{ℕ, List, ◌++◌, true, false, Option, Some, None, Result, Ok, Err, codes}
 use Rattle.hex.specs.Hex.{encode_lower}
 use Rattle.cmdcodec.specs.declared.raw.Raw.{Raw}

@@ -15,11 +15,11 @@ use Rattle.encode.specs.Commands.{command_of}
 
 -- why a line is no command's text
 pub data LineFault : Type 0 where
-  -- no command has the name that this word is
+  -- no command has this word as its name
   UnknownCommand : List ℕ → LineFault
   -- this word begins with the key of no field of the command
   UnknownField : Opcode → List ℕ → LineFault
-  -- a field of the command is at fault
+  -- a field of the command is wrong
   BadField : Opcode → FieldFault → LineFault
 
 abbrev pub encoding_of : Opcode → Result Command FieldFault → Result (Option Raw) LineFault
@@ -30,7 +30,7 @@ abbrev pub known_encoding : Opcode → Option (List ℕ) → List (List ℕ) →
 known_encoding opcode (Some word) words = Err (UnknownField opcode word)
 known_encoding opcode None words = encoding_of opcode (command_of opcode words)
 
--- by the opcode that the first word names
+-- given the opcode that the first word names
 abbrev pub named_encoding : Option Opcode → List ℕ → List (List ℕ) → Result (Option Raw) LineFault
 named_encoding None name words = Err (UnknownCommand name)
 named_encoding (Some opcode) name words = known_encoding opcode (unknown_word (fields_of opcode) words) words
@@ -39,7 +39,7 @@ abbrev pub words_encoding : List (List ℕ) → Result (Option Raw) LineFault
 words_encoding [] = Ok None
 words_encoding (name ∷ words) = if is_comment name then Ok None else named_encoding (opcode_called name) name words
 
--- None of a line that is skipped: one without words, or whose first word begins with #.
+-- None for a line that is skipped: one without words, or whose first word begins with #.
 unfoldable pub line_encoding : List ℕ → Result (Option Raw) LineFault
 line_encoding line = words_encoding (words_of line)
 

@@ -10,14 +10,14 @@ use Rattle.cmdcodec.specs.Words.{decoding}
 use Rattle.decode.specs.DecodeText.{decode_text}
 use Rattle.encode.specs.LineEncodings.{line_encoding}
 
--- A line that is the command's text gives words that decode to the command; and of the digits that the line is answered with
--- `decode` says that text.
+-- A line that is the command's text gives words that decode to the command; and for the digits that answer the line
+-- `decode` tells that text.
 pub record IsReadBack (command : Command) : Type 0 where
   pub found : Raw
   pub read : line_encoding (text_of command) ≡ Ok (Some found)
   pub decoded : decoding found ≡ Ok command
   pub told : decode_text (encode_lower (bytes_of found)) ≡ (text_of command, true)
 
--- So it is of each command that two words of 64 bits spell.
+-- This holds for each command that two words of 64 bits spell.
 abbrev pub TextsAreReadBack : Type 0
 TextsAreReadBack = (raw : Raw) (command : Command) → raw.lo < 2 ^ 64 → raw.hi < 2 ^ 64 → Spells raw command → IsReadBack command

@@ -7,11 +7,11 @@ use Rattle.encode.specs.declared.fault.FieldFault.{FieldFault}
 use Rattle.encode.specs.declared.fault.FieldFault.TheVariants.{Missing, Twice, OutOfRange, NoMultiple}
 use Rattle.encode.specs.Fields.{key_of, unit_of, least_of, most_of}
 
--- what stands behind the key in each word that begins with it
+-- what follows the key in each word that begins with it
 unfoldable pub behind : List ℕ → List (List ℕ) → List (List ℕ)
 behind key words = map (drop (length key)) (filter (λ word. starts_with eqb word key) words)
 
--- the value that a number of units says
+-- the value that a number says
 abbrev pub value_said : Field → Option ℕ → Result ℕ FieldFault
 value_said field None = Err (OutOfRange field)
 value_said field (Some number) =
@@ -32,7 +32,7 @@ abbrev pub is_some_word : List (List ℕ) → Bool
 is_some_word [] = false
 is_some_word (word ∷ words) = true
 
--- A word at least begins with the key of the field.
+-- At least one word begins with the key of the field.
 unfoldable pub is_given : Field → List (List ℕ) → Bool
 is_given field words = is_some_word (behind (key_of field) words)
 

@@ -15,7 +15,7 @@ fn end_line(reply: &mut String) -> Result<(), AllocError>
     reply.push_str("\n")
 }
 
-/// Tells bytes on a line of its own.
+/// Appends bytes as digits, on their own line.
 fn say_digits(alloc: Global, bytes: &[u8], reply: &mut String) -> Result<(), AllocError>
     ensures { OnOk result (string_bytes reply.new ≡ string_bytes reply.old ++ (encode_lower bytes.now ++ codes "\n")) }
 {
@@ -24,7 +24,7 @@ fn say_digits(alloc: Global, bytes: &[u8], reply: &mut String) -> Result<(), All
     end_line(reply)
 }
 
-/// Tells the bytes of a command.
+/// Appends the bytes of a command as a line.
 fn say_raw(alloc: Global, raw: Raw, reply: &mut String) -> Result<bool, AllocError>
     ensures text { OnOk result (string_bytes reply.new ≡ string_bytes reply.old ++ (raw_answer raw).text) }
     ensures good { IfOk result (λ is_good. is_good ≡ (raw_answer raw).is_good) }

@@ -4,7 +4,7 @@ use crate::named::name;
 use cmdcodec::Opcode;
 use thiserror::Error;
 
-/// What is at fault with a field of a command.
+/// What is wrong with a field of a command.
 #[derive(Clone, Copy, Debug, PartialEq, Eq, Error)]
 pub enum FieldFault {
     /// No word gives the field.
@@ -33,7 +33,7 @@ pub enum EncodeFault<'a> {
     /// This word gives no field of the command.
     #[error("{}: unknown field \"{}\"", name(*.0), .1.escape_ascii())]
     UnknownField(Opcode, &'a [u8]),
-    /// A field of the command is at fault.
+    /// A field of the command is wrong.
     #[error("{}: {}", name(*.0), .1)]
     BadField(Opcode, FieldFault),
 }

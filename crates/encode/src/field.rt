@@ -2,7 +2,7 @@
 ghost use Rattle.std.specs.Prelude.{◌≡◌, ◌<◌};
 ghost use Rattle.encode.specs.Fields.{key_of, least_of, most_of, unit_of};
 
-/// A field of a command, which a word `key=number` gives. Its value is a number of units: an address is told in bytes.
+/// A field of a command, given by a word `key=number`. Its value is a number of units: an address is told in bytes.
 #[derive(Clone, Copy, Debug, PartialEq, Eq)]
 pub enum Field {
     /// `sid=`, StreamID: 32 bits.
@@ -50,7 +50,7 @@ pub enum Field {
 }
 
 impl Field {
-    /// How the word begins that gives it.
+    /// Returns the beginning of the word that gives it.
     pub(crate) fn key(self) -> &'static str
         ensures { result.now ≡ key_of self }
     {
@@ -77,7 +77,7 @@ impl Field {
         }
     }
 
-    /// What its number is a multiple of.
+    /// The unit that its number is a multiple of.
     pub(crate) fn unit(self) -> u64
         ensures value { result ≡ unit_of self }
         ensures some { 0 < result }
@@ -120,17 +120,17 @@ impl Field {
         }
     }
 
-    /// Its name, which stands ahead of `=`.
+    /// Its name, which comes before `=`.
     pub(crate) fn name(self) -> &'static str {
         self.key().trim_end_matches('=')
     }
 
-    /// The least number that a word may say of it.
+    /// The least number that a word may give it.
     pub(crate) fn least_number(self) -> u64 {
         self.least().saturating_mul(self.unit())
     }
 
-    /// The greatest number that a word may say of it.
+    /// The greatest number that a word may give it.
     pub(crate) fn most_number(self) -> u64 {
         self.most().saturating_mul(self.unit())
     }

@@ -30,11 +30,11 @@ fn encode_named<'a>(name: &'a [u8], rest: &'a [u8]) -> Result<Option<Raw>, Encod
     }
 }
 
-/// The words of the command whose text a line is, with all free bits 0: its name and its fields, in any order. None of a line
-/// that is skipped, one without words or a comment.
+/// Encodes a line that is the text of a command: its name and its fields, in any order. Returns the command's words,
+/// with all free bits 0, or None for a line that is skipped, one without words or a comment.
 ///
-/// Of any other line what is at fault: its name, or else the first word that gives no field of the command, or else the first
-/// field, in the order of the command's text, that has no value.
+/// Errors: its name; or else the first word that gives no field of the command; or else the first field, in the order
+/// of the command's text, that has no value.
 #[tactic(auto, unfolding(crate::specs::LineEncodings::line_encoding))]
 pub fn encode_line(line: &[u8]) -> Result<Option<Raw>, EncodeFault<'_>>
     ensures value { as_told result ≡ line_encoding line.now }

@@ -1,4 +1,4 @@
-//! The command of the values that words give its fields.
+//! Making a command of the values that words give its fields.
 ghost use Rattle.std.specs.Prelude.{◌≡◌, true};
 ghost use Rattle.line_answers.specs.LineWords.{words_of};
 ghost use Rattle.encode.specs.Groups.{is_configuration, is_of_all_pages};
@@ -45,7 +45,7 @@ fn page(text: &[u8]) -> Result<Page, FieldFault>
     Ok(Page::new(value(text, Field::Page)?).unwrap())
 }
 
-/// A field of one bit.
+/// Parses a field of one bit.
 #[tactic(auto, unfolding(crate::specs::Commands::flag_of))]
 fn flag(text: &[u8], field: Field) -> Result<bool, FieldFault>
     ensures { result ≡ flag_of field (words_of text.now) }
@@ -62,7 +62,7 @@ fn range(text: &[u8]) -> Result<Reach, FieldFault>
     Ok(Reach::Range { tg, num, scale })
 }
 
-/// How far an invalidation by address reaches.
+/// Parses how far an invalidation by address reaches.
 #[tactic(auto, unfolding(crate::specs::Commands::reach_of))]
 fn reach(text: &[u8]) -> Result<Reach, FieldFault>
     ensures { result ≡ reach_of (words_of text.now) }
@@ -256,8 +256,8 @@ fn kept(opcode: Opcode, text: &[u8]) -> Result<Command, FieldFault>
     kept_raw(opcode, Raw { lo, hi })
 }
 
-/// The command of this opcode, of the values that the words of a text give its fields, or what is at fault with the first of
-/// its fields that has no value.
+/// Returns the command of this opcode, with the values that the words of a text give its fields, or what is wrong with
+/// the first of its fields that has no value.
 #[tactic(auto, unfolding(crate::specs::Commands::command_of))]
 pub(crate) fn command(opcode: Opcode, text: &[u8]) -> Result<Command, FieldFault>
     ensures { result ≡ command_of opcode (words_of text.now) }

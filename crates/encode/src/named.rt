@@ -63,7 +63,7 @@ pub(crate) fn name(opcode: Opcode) -> &'static str
     }
 }
 
-/// The opcode of the command of this name.
+/// Returns the opcode of the command of this name, if any.
 #[tactic(auto, unfolding(crate::specs::Names::opcode_called))]
 pub(crate) fn opcode_called(word: &[u8]) -> Option<Opcode>
     ensures { result ≡ opcode_called word.now }

@@ -8,8 +8,8 @@ use std::alloc::Global;
 use std::io::{Read, Write};
 
 /// Reads lines that are the text of a command each, and writes a line for each that isn't skipped: the 32 lower-case
-/// hexadecimal digits of the command's bytes in memory, or `bad command`. Says how it went; one line at least that is no
-/// command's text is refused. Notes why each line is none.
+/// hexadecimal digits of the command's bytes in memory, or `bad command`. Returns how it went, refused if any line is
+/// no command's text, and notes on why those are none.
 ///
 /// Each answer is written and flushed before the read that follows its line. A line of more than 4,096 bytes ends the run.
 pub fn encode_with_notes<R: Read, W: Write>(

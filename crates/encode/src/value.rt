@@ -1,4 +1,4 @@
-//! What the words of a line say of a field.
+//! The value that the words of a line give a field.
 ghost use Rattle.std.specs.Prelude.{◌≡◌, ◌≤◌, ◌<◌, [], ◌∷◌, MatchOption, IfOk, Some, None, length};
 ghost use Rattle.encode.specs.Fields.{least_of, most_of};
 ghost use Rattle.line_answers.specs.LineWords.{words_of};
@@ -9,7 +9,7 @@ use crate::field::Field;
 use line_answers::next_word;
 use script::number;
 
-/// What stands behind the key in the first word that begins with it, and the text after that word.
+/// Returns what follows the key in the first word that begins with it, and the text after that word.
 fn next_behind<'a>(text: &'a [u8], key: &[u8]) -> Option<(&'a [u8], &'a [u8])>
     ensures { MatchOption result (behind key.now (words_of text.now) ≡ []) (λ found. behind key.now (words_of text.now) ≡ found.0.now ∷ behind key.now (words_of found.1.now)) }
 {
@@ -23,7 +23,7 @@ fn next_behind<'a>(text: &'a [u8], key: &[u8]) -> Option<(&'a [u8], &'a [u8])>
     None
 }
 
-/// The value that a number says.
+/// Returns the value that a number says.
 fn value_said(field: Field, number: Option<u64>) -> Result<u64, FieldFault>
     ensures value { result ≡ value_said field number }
     ensures in_range { IfOk result (λ value. (least_of field ≤ value) × (value ≤ most_of field)) }
@@ -43,7 +43,7 @@ fn value_said(field: Field, number: Option<u64>) -> Result<u64, FieldFault>
     }
 }
 
-/// The value of a field.
+/// Returns the value that a text gives a field.
 #[tactic(auto, unfolding(crate::specs::Values::value_of))]
 pub(crate) fn value(text: &[u8], field: Field) -> Result<u64, FieldFault>
     ensures value { result ≡ value_of field (words_of text.now) }
@@ -76,7 +76,7 @@ fn is_of(fields: &[Field], word: &[u8]) -> bool
         .any(|field| word.starts_with(field.key().as_bytes()))
 }
 
-/// The first word that begins with the key of none of these fields.
+/// Returns the first word that begins with the key of none of these fields.
 pub(crate) fn unknown_word<'a>(fields: &[Field], text: &'a [u8]) -> Option<&'a [u8]>
     ensures { MatchOption result (unknown_word fields.now (words_of text.now) ≡ None) (λ word. unknown_word fields.now (words_of text.now) ≡ Some word.now) }
 {

@@ -1,4 +1,4 @@
-//! What lines are answered with, by their kind.
+//! The answers to lines, by their kind.
 use encode::encode;
 use script::Status;
 use std::alloc::Global;
@@ -16,7 +16,7 @@ pub enum Kind {
 }
 
 impl Kind {
-    // The theorems of `encode` and `words` aren't passed on, since they would be dear in each test.
+    // The theorems of `encode` and `words` aren't passed on, since they would be costly in each test.
     pub fn status_of<R: Read, W: Write>(
         self,
         alloc: Global,
@@ -30,7 +30,7 @@ impl Kind {
     }
 }
 
-/// Answers what a reader gives, and wants this text and this status of it.
+/// Answers what a reader gives, and expects this text and this status.
 pub fn expect_answer<A: AllocGlobal + Abort, R: Read>(
     rt: &A,
     kind: Kind,
@@ -44,7 +44,7 @@ pub fn expect_answer<A: AllocGlobal + Abort, R: Read>(
     assert_eq!(rt; (ended, answer), (status, text));
 }
 
-/// Answers lines, and wants this text and this status of it.
+/// Answers lines, and expects this text and this status.
 pub fn expect_lines<A: AllocGlobal + Abort>(
     rt: &A,
     kind: Kind,

@@ -1,4 +1,4 @@
-//! Lines and what they are refused for. Opcodes and fields are those of the command descriptions.
+//! Lines and why they are refused. Opcodes and fields are those of the command descriptions.
 use crate::answered::{Kind, expect_lines};
 use crate::rows::ROWS;
 use cmdcodec::Raw;
@@ -7,7 +7,7 @@ use encode::encode_line;
 use script::Status;
 use std::process::Abort;
 
-/// Wants the text of a command to give these bytes, and these bytes to give the text.
+/// Expects the text of a command to give these bytes, and these bytes to give the text.
 fn expect_both_ways<R: AllocGlobal + Abort>(rt: &R, text: &str, digits: &str) {
     let (told, is_legal) = decode_text(rt.alloc(), digits).expect(rt, "there is memory");
     assert_eq!(rt; told.as_str(), text);
@@ -29,7 +29,7 @@ fn least_and_greatest_values_of_each_field(rt: HostRuntime) {
     }
 }
 
-/// Worked commands, with values between the ends.
+/// Worked commands, with values between the limits.
 const WORKED: [(&str, &str); 5] = [
     (
         "TLBI_NH_VA vmid=1 asid=2 leaf=0 addr=0x10000 tg=1 num=3 scale=2",
@@ -60,7 +60,7 @@ fn worked_commands(rt: HostRuntime) {
     }
 }
 
-/// Wants a line to be refused in these words.
+/// Expects a line to be refused in these words.
 fn expect_fault<R: AllocGlobal + Abort>(rt: &R, line: &str, words: &str) {
     let told = match encode_line(line.as_bytes()) {
         Ok(_) => String::from_str(rt.alloc(), "no fault"),
@@ -70,7 +70,7 @@ fn expect_fault<R: AllocGlobal + Abort>(rt: &R, line: &str, words: &str) {
     assert_eq!(rt; told.as_str(), words, "{line}");
 }
 
-/// Wants each line of a text to be refused in the words behind its ` = `.
+/// Expects each line of a text to be refused in the words after its ` = `.
 fn expect_faults<R: AllocGlobal + Abort>(rt: &R, lines: &str) {
     for line in lines.lines() {
         let (line, words) = line.split_once(" = ").unwrap_or((line, ""));

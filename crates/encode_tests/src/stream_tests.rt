@@ -6,7 +6,7 @@ use std::io::ErrorKind;
 
 const PIPE: ErrorKind = ErrorKind::BrokenPipe;
 
-/// Two lines of each kind, the first of fewer than 24 bytes, and what that one is answered with.
+/// Two lines of each kind, the first of fewer than 24 bytes, and the answer to that one.
 const WORKED: [(Kind, &str, &str); 2] = [
     (
         Kind::Texts,

@@ -82,7 +82,7 @@ fn what_is_bad_is_told_and_the_run_goes_on(rt: HostRuntime) {
     expect_told(&rt, "03\n0g\n", "bad length 1\nbad hex\n", Status::Refused);
 }
 
-/// Wants the words of a command told as its fault is displayed.
+/// Expects the words of a command to be told as its fault is displayed.
 fn expect_fault<R: AllocGlobal + Abort>(rt: &R, lo: u64) {
     let mut told = String::new(rt.alloc());
     let raw = Raw { lo, hi: 0 };

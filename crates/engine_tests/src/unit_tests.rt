@@ -43,7 +43,7 @@ fn a_unit_alone(rt: HostRuntime) {
     assert_eq!(rt; unit.into_caches().len(), 0);
 }
 
-/// Wants these entries of a unit, in order.
+/// Expects a unit to hold these entries, in order.
 fn expect_entries(rt: &impl Abort, unit: &Unit, wanted: &[Entry]) {
     let entries = unit.entries().expect(rt, "memory");
     assert_eq!(rt; entries.as_slice(), wanted);

@@ -5,7 +5,7 @@ use std::fmt;
 /// What a word of a line has to be.
 #[derive(Clone, Copy, Debug, PartialEq, Eq)]
 pub(crate) enum Expected {
-    /// What the line is called.
+    /// The name of a line.
     Name,
     /// A number from 0 to this.
     UpTo(u64),
@@ -39,7 +39,7 @@ pub(crate) const FIFTY_TWO_BITS: Expected = Expected::UpTo(0xf_ffff_ffff_ffff);
 
 pub(crate) const SIXTY_FOUR_BITS: Expected = Expected::UpTo(u64::MAX);
 
-/// Whether a word says a number from the first to the second.
+/// Whether a word is a number from `least` to `most`.
 fn is_number(least: u64, most: u64, word: &[u8]) -> bool {
     match number(word) {
         Some(said) => least <= said && said <= most,
@@ -56,7 +56,7 @@ fn is_tag_kind(word: &[u8]) -> bool {
 }
 
 impl Expected {
-    /// Whether a word is as expected. None is the empty word.
+    /// Whether a word is as expected. An empty word stands for none.
     pub(crate) fn is_met_by(self, word: &[u8]) -> bool {
         match self {
             Expected::Name => !word.is_empty(),

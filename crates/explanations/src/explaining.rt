@@ -14,7 +14,7 @@ use script::LastLine;
 use std::alloc::{AllocError, Global};
 use std::fmt;
 
-/// Which lines a script has.
+/// The kind of script, by its lines.
 #[derive(Clone, Copy, Debug, PartialEq, Eq)]
 pub enum Script {
     /// Those of `smmuq replay`.
@@ -24,7 +24,7 @@ pub enum Script {
 }
 
 impl Script {
-    /// The words of a line of this name.
+    /// The form of a line of this name, if there is one.
     fn form_of(self, name: &str) -> Option<Form> {
         match self {
             Script::Replay => replay_forms::form_of(name),
@@ -32,7 +32,7 @@ impl Script {
         }
     }
 
-    /// The words of a line that makes a ring which can be made.
+    /// The form of a line for a ring that can be made.
     fn ring_form(self) -> Form {
         match self {
             Script::Replay => replay_forms::ring_form(),
@@ -41,7 +41,7 @@ impl Script {
     }
 }
 
-/// What a line is at fault in.
+/// What is wrong with a line.
 #[derive(Drop)]
 enum Why<'a> {
     Stray(Stray),
@@ -61,7 +61,7 @@ impl fmt::Display for Why<'_> {
     }
 }
 
-/// The first word of a line that can't be read.
+/// Finds the first word of a line that can't be read.
 fn misread_in(script: Script, line: &[u8]) -> Result<(), Misread<'_>> {
     let mut words = Words::of(line);
     let name = words.expect(Expected::Name)?;
@@ -71,14 +71,14 @@ fn misread_in(script: Script, line: &[u8]) -> Result<(), Misread<'_>> {
     }
 }
 
-/// The first number of a ring line that no ring can have.
+/// Finds the first number of a ring line that no ring can have.
 fn bad_number(script: Script, line: &[u8]) -> Result<(), Misread<'_>> {
     let mut words = Words::of(line);
     words.expect(Expected::Name)?;
     words.expect_form(script.ring_form())
 }
 
-/// What a line is at fault in by its words, if one isn't as expected.
+/// What is wrong with the words of a line, if one isn't as expected.
 fn by_word<'a>(checked: Result<(), Misread<'a>>) -> Option<Why<'a>> {
     match checked {
         Ok(()) => None,
@@ -86,7 +86,7 @@ fn by_word<'a>(checked: Result<(), Misread<'a>>) -> Option<Why<'a>> {
     }
 }
 
-/// What a line is at fault in that can be read.
+/// What is wrong with a line that can be read.
 fn by_fault<'a>(fault: &str) -> Option<Why<'a>> {
     if let Some(fault) = step_fault(fault) {
         return Some(Why::Step(fault));
@@ -97,7 +97,7 @@ fn by_fault<'a>(fault: &str) -> Option<Why<'a>> {
     }
 }
 
-/// What a line is at fault in that was answered with this fault.
+/// What is wrong with a line that was answered with this fault.
 fn reason<'a>(script: Script, fault: &str, line: &'a [u8]) -> Option<Why<'a>> {
     match fault {
         "bad line" => match Stray::first_of(line) {
@@ -119,8 +119,8 @@ fn said(alloc: Global, number: u64, why: &Why<'_>) -> Result<String, AllocError>
     Ok(said)
 }
 
-/// What is said of the line that ended the run of a script: its number, which word of it is at fault and what was expected
-/// there, or what is at fault with all of it. One line of text without its end; none of an answer that is no fault.
+/// Explains the line that ended the run of a script: its number, which of its words is wrong and what was expected
+/// there, or what is wrong with all of it. One line of text without its end, or None if the answer is no fault.
 pub fn explain(alloc: Global, script: Script, last: &LastLine) -> Result<Option<String>, AllocError>
     ensures line { IfOk result (λ told. IfSome told (λ said. IsSaidOf last.now.number (string_bytes said))) }
 {

@@ -2,7 +2,7 @@
 use ringcore::StepFault;
 use script::LONG_LINE_MEANS;
 
-/// All that a step of a schedule may be refused for.
+/// All refusals of a step of a schedule.
 const STEP_FAULTS: [StepFault; 11] = [
     StepFault::AnotherSenders,
     StepFault::NotReserved,
@@ -17,12 +17,12 @@ const STEP_FAULTS: [StepFault; 11] = [
     StepFault::BadBody,
 ];
 
-/// The refusal of a step that has this label.
+/// Returns the refusal of a step with this label.
 pub(crate) fn step_fault(label: &str) -> Option<StepFault> {
     STEP_FAULTS.into_iter().find(|fault| fault.label() == label)
 }
 
-/// What a fault of the line as a whole means.
+/// Returns the meaning of a fault of the line as a whole.
 pub(crate) fn meaning(fault: &str) -> Option<&'static str> {
     let means = match fault {
         "long line" => LONG_LINE_MEANS,
@@ -36,7 +36,7 @@ pub(crate) fn meaning(fault: &str) -> Option<&'static str> {
     Some(means)
 }
 
-/// The name of the fault in an answer, which is `line N: ` and the name.
+/// Returns the name of the fault in an answer `line N: ` and the name.
 pub(crate) fn fault_in(answer: &[u8]) -> Option<&str> {
     let (_, name) = str::from_utf8(answer).ok()?.trim_end().split_once(": ")?;
     Some(name)

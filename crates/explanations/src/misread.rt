@@ -9,7 +9,7 @@ pub(crate) struct Misread<'a> {
     pub word: u64,
     /// What it has to be.
     pub expected: Expected,
-    /// What stands there, empty behind the line's last word.
+    /// What is there, empty after the line's last word.
     pub found: &'a [u8],
 }
 

@@ -9,7 +9,7 @@ use caches::MOST_ENTRIES;
 /// How many steps a line may ask for.
 const STEPS: Rest = Rest::Optional(Expected::Count(1_000_000));
 
-/// The words of a line of this name.
+/// The form of a line of this name, if there is one.
 pub(crate) fn form_of(name: &str) -> Option<Form> {
     let form = match name {
         "ring" => Form::of(&[
@@ -55,7 +55,7 @@ pub(crate) fn tag_words(kind: &str) -> &'static [Expected] {
     }
 }
 
-/// The words of a line that makes a ring which can be made.
+/// The form of a line for a ring that can be made.
 pub(crate) fn ring_form() -> Form {
     Form::of(&[
         LOG2,

@@ -5,7 +5,7 @@ use crate::form::{Form, LOG2, Rest, SENDERS};
 /// How many flags a step may go over.
 const FLAGS: Rest = Rest::Optional(Expected::Count(64));
 
-/// The words of a line of this name.
+/// The form of a line of this name, if there is one.
 pub(crate) fn form_of(name: &str) -> Option<Form> {
     let form = match name {
         "ring" | "read" | "ack" => Form::of(&[THIRTY_TWO_BITS, THIRTY_TWO_BITS]),
@@ -21,7 +21,7 @@ pub(crate) fn form_of(name: &str) -> Option<Form> {
     Some(form)
 }
 
-/// The words of a line that makes a ring which can be made.
+/// The form of a line for a ring that can be made.
 pub(crate) fn ring_form() -> Form {
     Form::of(&[LOG2, SENDERS])
 }

@@ -1,7 +1,7 @@
 //! A byte that no line may have.
 use std::fmt;
 
-/// What a byte is that no line may have: one outside of the printable ASCII characters.
+/// What kind of byte outside of the printable ASCII characters it is.
 #[derive(Clone, Copy, Debug, PartialEq, Eq)]
 pub(crate) enum StrayKind {
     ByteOrderMark,
@@ -19,7 +19,7 @@ pub(crate) struct Stray {
 }
 
 impl Stray {
-    /// The first such byte of a line, if it has one.
+    /// Returns the first such byte of a line, if it has one.
     pub(crate) fn first_of(line: &[u8]) -> Option<Stray> {
         let at = line.iter().position(|byte| *byte < 0x20 || 0x7e < *byte)?;
         let kind = match line.get(at) {

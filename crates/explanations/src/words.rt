@@ -1,4 +1,4 @@
-//! The words of a line, as they are looked at one after another.
+//! The words of a line, looked at one after another.
 use crate::expected::Expected;
 use crate::form::{Form, Rest};
 use crate::misread::Misread;
@@ -32,7 +32,7 @@ impl<'a> Words<'a> {
         }
     }
 
-    /// The word passed last isn't as expected.
+    /// Reports that the word passed last isn't as expected.
     pub(crate) fn misread(&self, expected: Expected, found: &'a [u8]) -> Misread<'a> {
         Misread {
             word: self.passed,

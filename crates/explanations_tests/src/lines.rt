@@ -4,7 +4,7 @@ use script::LastLine;
 use std::alloc::AllocError;
 use std::process::Abort;
 
-/// Lines that can't be read, each with what is said of it behind `line 7: `.
+/// Lines that can't be read, each with what is said of it after `line 7: `.
 const BAD_LINES_OF_REPLAY: &str = "\
     rng 1 2 => word 1: the name of a line was expected, found \"rng\"\n\
     ring 1 2 3 => word 5: a number from 0 to 4294967295 was expected, found the end of the line\n\
@@ -58,7 +58,7 @@ const FAULTS_OF_SCHEDULE: &str = "\
     ring 3 257 => N2 => word 3: a number from 1 to 256 was expected, found \"257\"\n\
     test 1 => F5 => F5: a slot that isn't at the head";
 
-/// What is said of a line of this fault.
+/// Returns what is said of a line with this fault.
 fn told<R: AllocGlobal>(
     rt: &R,
     script: Script,
@@ -74,7 +74,7 @@ fn told<R: AllocGlobal>(
     explain(rt.alloc(), script, &last)
 }
 
-/// Wants this to be said of a line, behind its number.
+/// Expects this to be said of a line, after its number.
 fn expect<R: AllocGlobal + Abort>(rt: &R, script: Script, line: &str, fault: &str, wanted: &str) {
     let told = told(rt, script, line, fault).expect(rt, "there is memory");
     let told = told.unwrap_or(String::new(rt.alloc()));
@@ -82,7 +82,7 @@ fn expect<R: AllocGlobal + Abort>(rt: &R, script: Script, line: &str, fault: &st
     assert_eq!(rt; said, wanted, "{line}");
 }
 
-/// Wants each of these lines said to be bad, with what stands behind it.
+/// Expects each of these lines to be bad, with what follows it said of it.
 fn expect_bad_lines<R: AllocGlobal + Abort>(rt: &R, script: Script, lines: &str) {
     for row in lines.lines() {
         let (line, wanted) = row.split_once(" => ").expect(rt, row);
@@ -90,7 +90,7 @@ fn expect_bad_lines<R: AllocGlobal + Abort>(rt: &R, script: Script, lines: &str)
     }
 }
 
-/// Wants of each of these lines what stands behind its fault.
+/// Expects what follows its fault to be said of each of these lines.
 fn expect_faults<R: AllocGlobal + Abort>(rt: &R, script: Script, lines: &str) {
     for row in lines.lines() {
         let (line, rest) = row.split_once(" => ").expect(rt, row);

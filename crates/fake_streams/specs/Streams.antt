@@ -1,4 +1,4 @@
--- What the readers and the writer of tests are seen as.
+-- How contracts see the readers and the writer of tests.
 use Rattle.std.specs.Prelude.{◌≡◌, ◌≢◌, ◌+◌, ◌-◌, ◌^◌, ℕ, List, Result, min}
 use Rattle.std.specs.Result.{MatchResult}
 use Rattle.std.specs.IoError.{error_kind}
@@ -17,7 +17,7 @@ pub record PiecesValue (R : Type 0) : Type 0 where
   pub inner : R
   pub given : ℕ
 
--- a writer: the bytes that it was given and kept, how many writes were called for, how many flushes, which of the writes
+-- a writer: the bytes that it was given and kept, how many calls of write and of flush were made, which of the writes
 -- fails, and how
 pub record SinkValue : Type 0 where
   pub kept : List ℕ
@@ -26,10 +26,10 @@ pub record SinkValue : Type 0 where
   pub bad : ℕ
   pub kind : ErrorKind
 
--- one call more; a count of 64 bits stays at its largest
+-- one more call; a count of 64 bits stays at its largest
 abbrev pub one_more : ℕ → ℕ
 one_more calls = min (calls + 1) (2 ^ 64 - 1)
 
--- The call that is now the last fails where it is the bad one, in its way, and else doesn't.
+-- The newest call fails with this kind if it is the bad one, and else doesn't fail.
 abbrev pub FailsWhere : ℕ → ℕ → ErrorKind → Result ℕ Error → Type 0
 FailsWhere calls bad kind result = MatchResult result (λ _. calls ≢ bad) (λ e. (calls ≡ bad) × (error_kind e ≡ kind))

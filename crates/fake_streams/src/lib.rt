@@ -1,5 +1,5 @@
-//! Readers and a writer for tests, of small pieces, which fail where they are told to; and
-//! what texts are that end where memory ran out. They carry no promise.
+//! Readers and a writer for tests, which take small pieces and fail where told to, and tests of texts that end where
+//! memory ran out. They carry no promise.
 #![tactic(auto)]
 
 mod pieces;

@@ -5,7 +5,7 @@ use std::io;
 use std::io::Read;
 use std::marker::Model;
 
-/// Gives what another reader gives, at most so many bytes a call, and one at least.
+/// Gives what another reader gives, at most `most` bytes a call, but at least one.
 #[derive(Drop)]
 pub struct Pieces<R: Read> {
     inner: R,
@@ -37,7 +37,7 @@ impl<R: Read> Read for Pieces<R> {
 }
 
 impl<R: Read> Pieces<R> {
-    /// A reader of pieces of this one.
+    /// Returns a reader of pieces of this one.
     pub fn new(inner: R, most: usize) -> Pieces<R>
         ensures { result ≡ record { inner = inner; given = 0 } }
     {

@@ -6,11 +6,10 @@ use std::io;
 use std::io::{ErrorKind, Write};
 use std::marker::Model;
 
-/// How many bytes are kept at most. The calls after that take nothing.
+/// The most bytes that are kept. Later calls take nothing.
 const MOST_KEPT: usize = 4096;
 
-/// Keeps what it is given in a place of its own, at most so many bytes a call. The call of number `bad`
-/// fails, counted from 1; 0 is no call.
+/// Keeps what it is given, at most `most` bytes a call. Call number `bad`, counted from 1, fails; 0 is no call.
 #[derive(Drop)]
 pub struct Sink {
     kept: [u8; MOST_KEPT],
@@ -77,7 +76,7 @@ impl Write for Sink {
 }
 
 impl Sink {
-    /// A writer that is empty, and fails in this way.
+    /// Returns an empty writer that fails in this way.
     pub fn new(most: usize, bad: usize, kind: ErrorKind) -> Sink
         ensures { result ≡ record { kept = []; calls = 0; flushes = 0; bad = bad; kind = kind } }
     {
@@ -92,7 +91,7 @@ impl Sink {
         }
     }
 
-    /// What was written, or `no text` where it is none.
+    /// Returns what was written, or `no text` if it isn't UTF-8.
     pub fn text(&self) -> &str
         ensures text { IsUtf8 self.now.kept → result.now ≡ self.now.kept }
         ensures none { ¬ IsUtf8 self.now.kept → result.now ≡ codes "no text" }

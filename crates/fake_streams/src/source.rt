@@ -5,8 +5,7 @@ use std::io;
 use std::io::{ErrorKind, Read};
 use std::marker::Model;
 
-/// Gives a text, at most so many bytes a call, and one at least. The call of number `bad` fails, counted from 1; 0 is no
-/// call.
+/// Gives a text, at most `most` bytes a call, but at least one. Call number `bad`, counted from 1, fails; 0 is no call.
 #[derive(Drop)]
 pub struct Source<'a> {
     text: &'a [u8],
@@ -58,7 +57,7 @@ impl<'a> Read for Source<'a> {
 }
 
 impl<'a> Source<'a> {
-    /// A reader of this text, which fails in this way.
+    /// Returns a reader of this text that fails in this way.
     pub fn new(text: &'a [u8], most: usize, bad: usize, kind: ErrorKind) -> Source<'a>
         ensures { result ≡ record { left = text.now; calls = 0; bad = bad; kind = kind } }
     {

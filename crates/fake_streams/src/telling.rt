@@ -2,7 +2,7 @@
 ghost use Rattle.std.specs.Prelude.{◌≡◌, ◌↔◌, ℕ, IfSome, IsTrue, None};
 ghost use Rattle.fake_streams.specs.Telling.{texts_of, AreAnswers, EndsWithoutMemory};
 
-/// How many answers a text is made of, from the first on, if of nothing else.
+/// Returns how many answers, from the first on, make up a text, or None if it is made of something else.
 pub fn answers_in(answers: &[&str], text: &str) -> Option<usize>
     ensures some { IfSome result (λ n. AreAnswers (texts_of answers.now) text.now n) }
     ensures none { result ≡ None → (n : ℕ) → ¬ AreAnswers (texts_of answers.now) text.now n }
@@ -21,7 +21,7 @@ pub fn answers_in(answers: &[&str], text: &str) -> Option<usize>
     }
 }
 
-/// Whether a text is the answers to some lines and then tells that memory ran out.
+/// Whether a text is some of the first answers and then `no memory`.
 pub fn ends_without_memory(answers: &[&str], text: &str) -> bool
     ensures { IsTrue result ↔ EndsWithoutMemory (texts_of answers.now) text.now }
 {

@@ -36,7 +36,7 @@ with_cons geometry prod (Some cons) =
     then judged (record { prod = record { geometry = geometry; number = prod }; cons = record { geometry = geometry; number = without_err cons }; register = cons })
     else Err BadCons
 
--- PROD has no bit above the wrap bit. Of what is at fault the first is told, in this order.
+-- PROD has no bit above the wrap bit. The first fault is told, in this order.
 abbrev pub with_prod : ℕ → Option ℕ → Option ℕ → Result Queue ImageFault
 with_prod geometry None cons = Err BadProd
 with_prod geometry (Some prod) cons = if nat_lt prod (2 * size geometry) then with_cons geometry prod cons else Err BadProd

@@ -21,7 +21,7 @@ pub record EndsWithoutMemory (answer text : List ℕ) : Type 0 where
   pub split : answer ≡ front ++ rest
   pub told : text ≡ front ++ no_memory_line
 
--- What came of answering an image, before memory is told of. A failed read is before anything is written.
+-- What came of answering an image, before a lack of memory is told. A failed read comes before anything is written.
 abbrev pub Serves : Result Ending ServeError → (List ℕ × Bool) → Option (List ℕ) → Option (List ℕ) → Type 0
 Serves (Ok Finished) answer before after = (answer.1 ≡ true) × Appends before after answer.0
 Serves (Ok endings.Refused) answer before after = (answer.1 ≡ false) × Appends before after answer.0

@@ -9,7 +9,7 @@ use Rattle.image.specs.Views.{is_waiting}
 abbrev pub HasPosition : Queue → ℕ → Type 0
 HasPosition queue slot = (steps : ℕ) × (steps < waiting_of queue) × (place queue.cons.geometry (queue.cons.number + steps) ≡ slot)
 
--- What all slots are told as, and the list of those that wait, agree.
+-- What is shown of all slots agrees with the list of those that wait.
 abbrev pub SlotsWaitByPosition : Type 0
 SlotsWaitByPosition =
     (queue : Queue) → IsShown queue → (slot : ℕ) → slot < size queue.cons.geometry → (is_waiting queue slot ≡ true) ↔ HasPosition queue slot

@@ -1,4 +1,4 @@
-//! What of a queue is asked for.
+//! What to show of a queue.
 /// The registers of a queue, and what is shown of its memory.
 #[derive(Clone, Copy, Debug, PartialEq, Eq)]
 pub struct Asked {
@@ -8,6 +8,6 @@ pub struct Asked {
     pub prod: Option<u32>,
     /// SMMU_CMDQ_CONS, with ERR. None is no number of 32 bits, which is bad.
     pub cons: Option<u32>,
-    /// Whether all slots are shown, and not those alone that wait.
+    /// Whether all slots are shown, and not only those that wait.
     pub all: bool,
 }

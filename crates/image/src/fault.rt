@@ -14,13 +14,13 @@ pub(crate) enum ImageFault {
     BadProd,
     /// CONS has a bit above the wrap bit that is none of ERR.
     BadCons,
-    /// PROD is so far ahead of CONS, which is more than there are slots.
+    /// PROD is this far ahead of CONS, which is more than there are slots.
     BadDistance(u32),
-    /// The image has so many bytes, which aren't 16 a slot.
+    /// The image has this many bytes, not 16 a slot.
     BadLength(usize),
 }
 
-/// Tells the one line of a fault.
+/// Appends the one line of a fault.
 pub(crate) fn say_fault(fault: ImageFault, text: &mut String) -> Result<(), AllocError>
     ensures { OnOk result (string_bytes text.new ≡ string_bytes text.old ++ fault_text fault) }
 {

@@ -1,4 +1,4 @@
-//! The memory of a queue as it lies, shown as the SMMU would see it by its registers.
+//! Shows a queue's memory as the SMMU would see it by its registers.
 #![tactic(auto)]
 
 mod asked;

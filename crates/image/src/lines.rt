@@ -12,7 +12,7 @@ use qindex::Index;
 use std::alloc::AllocError;
 use std::fmt::Write;
 
-/// The two words of a slot.
+/// Returns the two words of a slot.
 fn raw_at(image: &[u8], slot: u32) -> Raw
     requires { 16 * slot + 16 ≤ length image.now }
     ensures { result ≡ raw_of (take 16 (drop (16 * slot) image.now)) }
@@ -24,7 +24,7 @@ fn raw_at(image: &[u8], slot: u32) -> Raw
     }
 }
 
-/// Tells what a slot means as a command, and ends the line.
+/// Appends what a slot means as a command, and ends the line.
 fn say_slot_text(image: &[u8], slot: u32, text: &mut String) -> Result<(), AllocError>
     requires { 16 * slot + 16 ≤ length image.now }
     ensures { OnOk result (string_bytes text.new ≡ string_bytes text.old ++ slot_text image.now slot) }
@@ -49,7 +49,7 @@ fn say_counts(queue: &Queue, text: &mut String) -> Result<(), AllocError>
     write!(text, "err {err}\nwaiting {waiting}\n")
 }
 
-/// Tells the first five lines.
+/// Appends the first five lines.
 pub(crate) fn say_heading(queue: &Queue, text: &mut String) -> Result<(), AllocError>
     requires { IsShown queue.now }
     ensures { OnOk result (string_bytes text.new ≡ string_bytes text.old ++ heading queue.now) }
@@ -71,7 +71,7 @@ fn wrap_bit(index: Index) -> u8
     u8::from(index.wrap())
 }
 
-/// Tells the line of the command that is so many steps behind CONS.
+/// Appends the line of the command `steps` positions after CONS.
 pub(crate) fn say_waiting(
     image: &[u8],
     cons: Index,
@@ -110,7 +110,7 @@ fn say_standing(slot: u32, waiting: bool, text: &mut String) -> Result<(), Alloc
     write!(text, "slot {slot} {standing} ")
 }
 
-/// Tells the line of a slot, whether it waits or not.
+/// Appends the line of a slot, whether it waits or not.
 pub(crate) fn say_slot(
     image: &[u8],
     queue: &Queue,

@@ -1,4 +1,4 @@
-//! The queue that two registers tell of.
+//! The queue that two registers describe.
 ghost use Rattle.std.specs.Prelude.{◌≡◌, ◌≤◌, ◌*◌, ◌^◌, IfOk};
 ghost use Rattle.image.specs.Queues.{IsShown, err_of, judged, queue_of, waiting_of, with_cons, with_prod, without_err};
 
@@ -6,7 +6,7 @@ use crate::asked::Asked;
 use crate::fault::ImageFault;
 use qindex::{Geometry, Index};
 
-/// The queue that two registers tell of.
+/// The queue that two registers describe.
 #[derive(Clone, Copy, Debug, PartialEq, Eq)]
 pub(crate) struct Queue {
     pub prod: Index,
@@ -78,7 +78,7 @@ fn with_prod(geometry: Geometry, asked: &Asked) -> Result<Queue, ImageFault>
     }
 }
 
-/// The queue, or what is at fault in its size and registers.
+/// Returns the queue, or what is wrong with its size and registers.
 #[tactic(auto, unfolding(crate::specs::Queues::queue_of))]
 pub(crate) fn queue_of(asked: &Asked) -> Result<Queue, ImageFault>
     ensures value { result ≡ queue_of asked.now }

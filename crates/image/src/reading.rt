@@ -10,7 +10,7 @@ use std::io::Read;
 /// How many bytes are read at a time.
 const PIECE: usize = 65_536;
 
-/// All that a reader has left, by pieces of at most this many bytes.
+/// Reads all that a reader has left, in pieces of at most the length of `piece`.
 fn read_by<R: Read>(alloc: Global, input: &mut R, piece: &mut [u8]) -> Result<Vec<u8>, ServeError>
     requires { 0 < length piece.old }
     ensures read { IfOk result (λ bytes. Consumes (R.remaining input.old) (R.remaining input.new) bytes.items) }
@@ -33,7 +33,7 @@ fn read_by<R: Read>(alloc: Global, input: &mut R, piece: &mut [u8]) -> Result<Ve
     Err(ServeError::Endless)
 }
 
-/// All that a reader has left.
+/// Reads all that a reader has left.
 pub(crate) fn read_image<R: Read>(alloc: Global, input: &mut R) -> Result<Vec<u8>, ServeError>
     ensures read { IfOk result (λ bytes. Consumes (R.remaining input.old) (R.remaining input.new) bytes.items) }
     ensures end { IfOk result (λ bytes. IsAtEnd (R.remaining input.new)) }

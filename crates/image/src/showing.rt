@@ -12,10 +12,10 @@ use crate::queue::Queue;
 use script::{ServeError, write_whole};
 use std::io::Write;
 
-/// How much text is gathered before it is written.
+/// How many bytes of text are gathered before they are written.
 const LONG_TEXT: usize = 65_536;
 
-/// Writes the text and takes it away, where there is much of it.
+/// Writes the text and clears it, if it is longer than `LONG_TEXT`.
 fn drain<W: Write>(output: &mut W, text: &mut String) -> Result<(), ServeError>
     ensures ok { OnOk result (Drained (W.contents output.old) (W.contents output.new) (string_bytes text.old) (string_bytes text.new)) }
     ensures err { OnErr result (WritesFront (W.contents output.old) (W.contents output.new) (string_bytes text.old)) }
@@ -28,7 +28,7 @@ fn drain<W: Write>(output: &mut W, text: &mut String) -> Result<(), ServeError>
     Ok(())
 }
 
-/// Tells the commands that wait, from CONS on, behind the text that is gathered, and writes what is much.
+/// Appends the commands that wait, from CONS on, to the gathered text, and writes that when it is long.
 pub(crate) fn show_waiting<W: Write>(
     image: &[u8],
     queue: &Queue,
@@ -51,7 +51,7 @@ pub(crate) fn show_waiting<W: Write>(
     Ok(())
 }
 
-/// Tells all slots, behind the text that is gathered, and writes what is much.
+/// Appends all slots to the gathered text, and writes that when it is long.
 pub(crate) fn show_slots<W: Write>(
     image: &[u8],
     queue: &Queue,

@@ -19,7 +19,7 @@ use script::{Ending, ServeError, Status, tell_of_memory, write_whole};
 use std::alloc::{AllocError, Global};
 use std::io::{Read, Write};
 
-/// Tells the lines that are asked for, behind the text that is gathered.
+/// Appends the lines that are asked for to the gathered text.
 fn show_lines<W: Write>(
     image: &[u8],
     queue: &Queue,
@@ -64,7 +64,7 @@ fn show<W: Write>(
     write_whole(output, text.as_bytes())
 }
 
-/// Tells the one line of a fault.
+/// Writes the one line of a fault.
 fn refuse<W: Write>(alloc: Global, fault: ImageFault, output: &mut W) -> Result<(), ServeError>
     ensures ok { OnOk result (Appends (W.contents output.old) (W.contents output.new) (fault_text fault)) }
     ensures err { OnErr result (WritesFront (W.contents output.old) (W.contents output.new) (fault_text fault)) }
@@ -78,7 +78,7 @@ fn refuse<W: Write>(alloc: Global, fault: ImageFault, output: &mut W) -> Result<
     write_whole(output, text.as_bytes())
 }
 
-/// Tells the one line of a fault, as the answer.
+/// Writes the one line of a fault, as the answer.
 fn answer_fault<W: Write>(
     alloc: Global,
     fault: ImageFault,
@@ -146,7 +146,7 @@ fn serve<R: Read, W: Write>(
     }
 }
 
-/// Tells that memory ran out, where a beginning of an answer was written.
+/// Tells that memory ran out, after a beginning of an answer was written.
 fn tell<W: Write>(output: &mut W, e: AllocError) -> Status
     ensures { (answer : List ℕ × Bool) (before : Option (List ℕ)) → WritesFront before (W.contents output.old) answer.0 → TellsOfBytes result answer before (W.contents output.new) }
 {
@@ -156,7 +156,7 @@ fn tell<W: Write>(output: &mut W, e: AllocError) -> Status
     }
 }
 
-/// The status of what came of that, once memory that ran out is told of.
+/// Returns the status of what was served, once a lack of memory is told.
 fn finish<W: Write>(served: Result<Ending, ServeError>, output: &mut W) -> Status
     ensures { (answer : List ℕ × Bool) (before : Option (List ℕ)) → Serves served answer before (W.contents output.old) → TellsOfBytes result answer before (W.contents output.new) }
 {
@@ -170,10 +170,10 @@ fn finish<W: Write>(served: Result<Ending, ServeError>, output: &mut W) -> Statu
     }
 }
 
-/// Reads the memory of a queue, 16 bytes a slot in the order of the slots, and writes what its registers make of it: five
-/// lines, and then a line for each command that waits, or for each slot. Says how it went; registers at fault and an image
-/// of another length are refused, by one line. The registers are judged before anything is read, and all is read before
-/// anything is written.
+/// Reads the memory of a queue, 16 bytes a slot in the order of the slots, and writes what its registers make of it:
+/// five lines, and then a line for each command that waits, or for each slot. Returns how it went; bad registers and an
+/// image of another length are refused with one line. The registers are judged before anything is read, and all is read
+/// before anything is written.
 pub fn image<R: Read, W: Write>(
     alloc: Global,
     asked: &Asked,

@@ -16,7 +16,7 @@ const IMAGE: [u8; 64] = [
     0x46, 0, 0, 0, 0, 0, 0, 0, 0, 0, 0, 0, 0, 0, 0, 0, //
 ];
 
-// The theorem of `image` isn't passed on, since it would be dear in each test.
+// The theorem of `image` isn't passed on, since it would be costly in each test.
 fn status_of<R: Read, W: Write>(
     alloc: Global,
     asked: &Asked,
@@ -35,7 +35,7 @@ fn registers(prod: u32, cons: u32, all: bool) -> Asked {
     }
 }
 
-/// Shows bytes, and wants this text and this status of it.
+/// Shows bytes, and expects this text and this status.
 fn expect_of<R: AllocGlobal + Abort>(
     rt: &R,
     asked: &Asked,

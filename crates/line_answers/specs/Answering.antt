@@ -13,7 +13,7 @@ answers_from answer_of number (line ∷ lines) =
     if nat_lt 4096 (length line) then record { text = fault_line number (codes "long line"); is_good = false }
     else with_text (answer_of line).text (answers_from answer_of (number + 1) lines)
 
--- the form in which crate script asks for it
+-- the form that crate script asks for
 abbrev pub Comes : (List ℕ → LineAnswer) → ℕ → List (List ℕ) → Outcome → Type 0
 Comes answer_of number lines outcome = EndsAs (answers_from answer_of number lines) outcome.text outcome.ending
 

@@ -1,7 +1,7 @@
--- What a line is answered with.
+-- The answer to a line.
 use Rattle.std.specs.Prelude.{ℕ, List, [], Bool, true}
 
--- What is written for a line, none for one that is skipped, and whether the line is good.
+-- What is written for a line, nothing for one that is skipped, and whether the line is good.
 pub record LineAnswer : Type 0 where
   pub text : List ℕ
   pub is_good : Bool

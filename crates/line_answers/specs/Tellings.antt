@@ -7,7 +7,7 @@ use Rattle.script.specs.Statuses.{Tells, exit_status}
 use Rattle.line_answers.specs.LineAnswers.{LineAnswer}
 use Rattle.line_answers.specs.Answering.{Comes, all_good}
 
--- It is refused where one line at least isn't good.
+-- It is refused if any line isn't good.
 abbrev pub judged : Status → Bool → Status
 judged Good all_good = if all_good then Good else Refused
 judged Refused all_good = Refused
@@ -16,9 +16,8 @@ judged ReadFailed all_good = ReadFailed
 judged WriteFailed all_good = WriteFailed
 judged Endless all_good = Endless
 
--- Of a reader that had this input and has `rest` left, and a writer that held `before` and holds `after`. Where all lines
--- were served, it is good that each of them was; one line at least that wasn't is refused, and so is a line that ended the
--- run.
+-- Of a reader that had this input and has `rest` left, and a writer that held `before` and holds `after`. If all lines
+-- were served, the run is good if each of them was, and refused if one wasn't; it is also refused if a line ended it.
 abbrev pub TellsOfLines : (List ℕ → LineAnswer) → Status → Option (List ℕ) → Option (List ℕ) → Option (List ℕ) → Option (List ℕ) → Type 0
 TellsOfLines answer_of Good input rest before after =
     Tells (Comes answer_of) Good input rest before after × IfSome input (λ bytes. all_good answer_of (lines_of bytes) ≡ true)

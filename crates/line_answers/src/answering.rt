@@ -1,4 +1,4 @@
-//! What answers lines of a kind, one after another.
+//! Answering lines of a kind, one after another.
 ghost use Rattle.std.specs.Prelude.{◌≡◌, ◌&&◌, true};
 
 use crate::kind::AnswersLines;
@@ -27,7 +27,7 @@ impl<K: AnswersLines> Answering<K> {
         }
     }
 
-    /// Whether each line was good, and what is said of those that weren't.
+    /// Returns whether all lines were good, and the notes on those that weren't.
     pub(crate) fn ended(self) -> (bool, Notes)
         ensures { result.0 ≡ self.all_good }
     {

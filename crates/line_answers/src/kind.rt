@@ -4,18 +4,18 @@ ghost use Rattle.line_answers.specs.LineAnswers.{LineAnswer};
 
 use std::alloc::AllocError;
 
-/// Answers lines, each of them by what it says alone, whatever stands before it and behind it.
+/// Answers lines, each on its own, whatever comes before and after it.
 pub trait AnswersLines: Drop {
-    /// What a line is answered with.
+    /// The answer to a line.
     ghost answer_of: { List ℕ → LineAnswer };
 
-    /// Appends the answer to a line, and says whether the line is good. Where memory ran out, neither `self` nor `reply` is
+    /// Appends the answer to a line, and returns whether the line is good. After an `Err` neither `self` nor `reply` is
     /// of use.
     fn say_line(&mut self, line: &[u8], reply: &mut String) -> Result<bool, AllocError>
         ensures text { OnOk result (string_bytes reply.new ≡ string_bytes reply.old ++ (answer_of line.now).text) }
         ensures good { IfOk result (λ is_good. is_good ≡ (answer_of line.now).is_good) };
 
-    /// Appends why a line isn't good, as an engineer would say it; nothing where its answer says so. What it says no clause
-    /// says, since it is told beside the answer.
+    /// Appends why a line isn't good, as an engineer would say it, or nothing if its answer says so. No clause says
+    /// anything of this text, since it isn't part of the answer.
     fn say_fault(&self, line: &[u8], said: &mut String) -> Result<(), AllocError>;
 }

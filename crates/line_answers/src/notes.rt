@@ -1,13 +1,13 @@
-//! What is said of lines that aren't good.
+//! Notes on lines that aren't good.
 use crate::kind::AnswersLines;
 use script::LONG_LINE_MEANS;
 use std::alloc::{AllocError, Global};
 
-/// How many bytes of notes are kept, but for the last note.
+/// How many bytes of notes are kept, not counting the last note.
 const MOST: usize = 65_536;
 
-/// What is said of lines that aren't good, a line each with its number, in the order in which they came. Of a run with very
-/// many of them the first 65,536 bytes are kept (this project's choice).
+/// Notes on lines that aren't good, a line for each with its number, in the order in which they came. Of very many
+/// notes the first 65,536 bytes are kept (this project's choice).
 #[derive(Drop)]
 pub struct Notes {
     text: String,
@@ -22,12 +22,12 @@ impl Notes {
         }
     }
 
-    /// All that is kept, each line with its end.
+    /// Returns all that is kept, each line with its end.
     pub fn text(&self) -> &str {
         self.text.as_str()
     }
 
-    /// How many lines aren't told of, for want of room or memory.
+    /// Returns how many lines have no note, for lack of room or memory.
     pub fn left_out(&self) -> u64 {
         self.left_out
     }

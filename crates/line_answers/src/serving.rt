@@ -9,8 +9,8 @@ use script::{Status, serve, status_of};
 use std::alloc::Global;
 use std::io::{Read, Write};
 
-/// Reads lines and writes the answer to each. Says how it went; one line at least that isn't good is refused. Notes why each
-/// line wasn't good.
+/// Reads lines and writes the answer to each. Returns how it went, refused if any line isn't good, and notes on why
+/// those weren't.
 ///
 /// Each answer is written and flushed before the read that follows its line. A line of more than 4,096 bytes ends the run.
 pub fn answer_lines_with_notes<K: AnswersLines, R: Read, W: Write>(
@@ -39,7 +39,7 @@ pub fn answer_lines<K: AnswersLines, R: Read, W: Write>(
     answer_lines_with_notes(alloc, kind, input, output).0
 }
 
-/// The status of a run in which all lines were good, or one at least wasn't.
+/// Returns the status of a run, given whether all lines were good.
 fn judged(status: Status, all_good: bool) -> Status
     ensures { result ≡ judged status all_good }
 {

@@ -9,9 +9,9 @@ fn is_blank(byte: u8) -> bool
     byte == b' ' || byte == b'\t' || byte == b'\r'
 }
 
-/// The first word of a text, and the rest of the text after it; none where the text has no word.
+/// Returns the first word of a text and the rest after it, or None if the text has no word.
 ///
-/// Spaces, tabs and carriage returns part words. That is this project's choice.
+/// Spaces, tabs and carriage returns separate words. That is this project's choice.
 pub fn next_word(text: &[u8]) -> Option<(&[u8], &[u8])>
     ensures words { MatchOption result (words_of text.now ≡ []) (λ found. words_of text.now ≡ found.0.now ∷ words_of found.1.now) }
     ensures shorter { IfSome result (λ found. length found.1.now < length text.now) }
@@ -36,7 +36,7 @@ fn without_leading_blanks(text: &[u8]) -> &[u8]
     rest
 }
 
-/// How many bytes stand ahead of the first blank.
+/// Returns how many bytes come before the first blank.
 fn word_length(text: &[u8]) -> usize
     ensures within { result ≤ length text.now }
     ensures none { (k : ℕ) → k < result → is_blank (slice_index text.now k) ≡ false }

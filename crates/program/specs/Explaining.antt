@@ -19,17 +19,18 @@ pub record TellsOfLine (last : LastLine) (before after : Seen) : Type 0 where
   pub numbered : IsSaidOf last.number said
   pub told : IsTried before after (line_of said)
 
--- It was told of the line that is kept, if one is, or there was no memory for that.
+-- It was told of the line that is kept, if one is, or there was no memory for it.
 abbrev pub MayTellOf : Option LastLine → Seen → Seen → Type 0
 MayTellOf None before after = after ≡ before
 MayTellOf (Some last) before after = (after ≡ before) ⊎ TellsOfLine last before after
 
--- By the exit status of the run: of the line that is kept, and nothing of any other status.
+-- Depending on the exit status of the run: for 1 the line that is kept is told of, for any other nothing.
 pub record TellsOfLast (exit : ℕ) (last : Option LastLine) (before after : Seen) : Type 0 where
   pub refused : exit ≡ 1 → MayTellOf last before after
   pub silent : exit ≢ 1 → after ≡ before
 
--- The same of the line that ended the run of a script, which had this input and whose writer held `output` and holds `written`.
+-- The same for the line that ended the run of a script, which had this input and whose writer held `output` and holds
+-- `written`.
 pub record TellsOfScript (may : ℕ → List (List ℕ) → Outcome → Type 0) (exit : ℕ) (input output written : Option (List ℕ)) (before after : Seen) : Type 0 where
   pub refused : exit ≡ 1 → (after ≡ before) ⊎ ((last : LastLine) × EndedBy may last input output written × TellsOfLine last before after)
   pub silent : exit ≢ 1 → after ≡ before
@@ -38,12 +39,12 @@ pub record TellsOfScript (may : ℕ → List (List ℕ) → Outcome → Type 0) 
 abbrev pub MayBeTold : Seen → Seen → Type 0
 MayBeTold before after = (after ≡ before) ⊎ ((text : List ℕ) × IsTried before after text)
 
--- By the exit status of the run: why lines were refused, and nothing of any other status.
+-- Depending on the exit status of the run: for 1 it is told why lines were refused, for any other nothing.
 pub record TellsOfRefusal (exit : ℕ) (before after : Seen) : Type 0 where
   pub refused : exit ≡ 1 → MayBeTold before after
   pub silent : exit ≢ 1 → after ≡ before
 
--- Of scripts, and of lines that bring a command each.
+-- For scripts, and for lines that bring a command each.
 abbrev pub Explains : Subcommand → ℕ → Option (List ℕ) → Seen → Seen → Seen → Seen → Type 0
 Explains Replay exit input output written before after = TellsOfScript (MayAnswer replays) exit input output.bytes written.bytes before after
 Explains Schedule exit input output written before after = TellsOfScript (Answers schedules) exit input output.bytes written.bytes before after

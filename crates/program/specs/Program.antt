@@ -1,4 +1,4 @@
--- What the program does, and what it ends with.
+-- What the program does, and how it ends.
 use Rattle.std.specs.Prelude.{◌≡◌, ℕ, List, ◌⊎◌, true, false, [], Option}
 use Rattle.std.specs.Io.KnownBytes.{Keeps}
 use Rattle.command_line.specs.CommandLine.{AskFor, IsAmong, MisunderstoodValue, OutOfMemory, Text, fault_of, smmuq}
@@ -22,7 +22,7 @@ use Rattle.program.specs.Troubles.{TellsTrouble}
 use Rattle.program.specs.Watching.{HasFailed, Seen, Tells}
 
 -- What the status of `decode` says: the line that says what the word means was told, and the word is legal or isn't; or
--- that memory ran out; or a call of the writer failed. It reads nothing.
+-- memory ran out; or a call of the writer failed. It reads nothing.
 abbrev pub Decodes : Status → List ℕ → Seen → Seen → Type 0
 Decodes Good word before after = ((decode_text word).1 ≡ true) × Tells before after (line_of (decode_text word).0)
 Decodes Refused word before after = ((decode_text word).1 ≡ false) × Tells before after (line_of (decode_text word).0)
@@ -46,8 +46,8 @@ ExitsAs Words exit input rest before after = ExitsAsWords exit input rest before
 ExitsAs (Image arguments) exit input rest before after = ExitsAsImage (asked_of arguments) exit input before.bytes after.bytes
 ExitsAs Encode exit input rest before after = ExitsAsEncode exit input rest before.bytes after.bytes
 
--- The words have no fault, and it did what they ask for; elsewhere it told first of the line that ended a script, or why lines
--- were refused, and then just of memory, or of a stream that failed.
+-- The words have no fault, and it did what they ask for; on standard error it told first of the line that ended a
+-- script, or why lines were refused, and then only of memory, or of a stream that failed.
 pub record ExitsAsAsked (words : List Text) (exit : ℕ) (input rest : Option (List ℕ)) (before after faults_before faults_after : Seen) : Type 0 where
   pub sound : fault_of smmuq words ≡ []
   pub subcommand : Subcommand
@@ -57,7 +57,7 @@ pub record ExitsAsAsked (words : List Text) (exit : ℕ) (input rest : Option (L
   pub explained : Explains subcommand exit input before after faults_before faults_between
   pub troubles : TellsTrouble exit after faults_between faults_after
 
--- Memory ran out over the words, or they ask for help, or they have a fault; nothing was read, and that was told.
+-- Memory ran out over the words, or they ask for help, or they have a fault; that was told, and nothing was read.
 pub record ExitsAsMisunderstood (words : List Text) (exit : ℕ) (input rest : Option (List ℕ)) (before after faults_before faults_after : Seen) : Type 0 where
   pub why : MisunderstoodValue
   pub has : (why.kind ≡ OutOfMemory) ⊎ IsAmong why.kind (fault_of smmuq words)

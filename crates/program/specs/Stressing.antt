@@ -18,7 +18,7 @@ use Rattle.program.specs.Watching.{HasFailed, Seen, Tells}
 abbrev pub plan_of : StressNumbers → PlanValue
 plan_of numbers = record { log2 = numbers.log2; senders = numbers.senders; batches = numbers.batches; turns = numbers.turns; every = numbers.bare }
 
--- Where a stress run is asked for, its numbers are those of a plan.
+-- If a stress run is asked for, its numbers are those of a plan.
 abbrev pub HasPlan : Subcommand → Type 0
 HasPlan (Stress numbers) = IsPlan (plan_of numbers)
 HasPlan other = ⊤
@@ -31,7 +31,7 @@ IsOfPlan plan ran = IfOk ran (λ report. IsAsPlanned plan report × IsOfARun pla
 abbrev pub unfinished_line : List ℕ
 unfinished_line = codes "unfinished\n"
 
--- What the status says of what a run came to, and of what was told. Memory may run out over the text of a report, too.
+-- What the status says of the result of a run, and of what was told. Memory may run out over the text of a report, too.
 abbrev pub Stresses : Status → Result ReportValue StressFault → Seen → Seen → Type 0
 Stresses Good ran before after = (report : ReportValue) × (ran ≡ Ok report) × Tells before after (report_text report)
 Stresses Refused ran before after = (ran ≡ Err faults.Unfinished) × Tells before after unfinished_line
@@ -40,7 +40,8 @@ Stresses WriteFailed ran before after = HasFailed after
 Stresses ReadFailed ran before after = ⊥
 Stresses Endless ran before after = ⊥
 
--- It ended with the exit status of a run of this plan. One that is told as unfinished was made, and given up for a cause.
+-- It ended with the exit status of a run of this plan. One that is told as unfinished was made and given up for a
+-- cause.
 pub record ExitsAsStress (exit : ℕ) (plan : PlanValue) (before after : Seen) : Type 0 where
   pub ran : Result ReportValue StressFault
   pub of_plan : IsOfPlan plan ran

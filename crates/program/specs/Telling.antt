@@ -1,4 +1,4 @@
--- What the program tells where nothing is asked for.
+-- What the program tells if nothing is asked for.
 use Rattle.std.specs.Prelude.{◌≡◌, ◌≢◌, ℕ, List, ◌++◌, ◌⊎◌, codes}
 use Rattle.std.specs.declared.io.ErrorKind.{ErrorKind as IoErrorKind}
 use Rattle.std.specs.declared.io.ErrorKind.TheVariants.{OutOfMemory as IoOutOfMemory}
@@ -14,8 +14,8 @@ line_of text = text ++ codes "\n"
 abbrev pub IsHelp : ErrorKind → Type 0
 IsHelp kind = (kind ≡ DisplayHelp) ⊎ (kind ≡ DisplayVersion)
 
--- Why words ask for nothing was told: that memory ran out by its line, help among the answers, and a fault elsewhere, with
--- status 2. Of memory, and of a write that failed, there is a line elsewhere too.
+-- It was told why words ask for nothing: `no memory` and help among the answers, a fault on standard error, with status
+-- 2. For memory, and for a write that failed, there is a line on standard error too.
 pub record ExitsAsTold (why : MisunderstoodValue) (exit : ℕ) (before after faults_before faults_after : Seen) : Type 0 where
   pub memory : why.kind ≡ OutOfMemory → TellsWith 3 no_memory_line exit before after × TellsTrouble exit after faults_before faults_after
   pub help : IsHelp why.kind → TellsWith 0 (line_of why.text) exit before after × TellsTrouble exit after faults_before faults_after
@@ -25,7 +25,7 @@ pub record ExitsAsTold (why : MisunderstoodValue) (exit : ℕ) (before after fau
 abbrev pub not_utf8_line : List ℕ
 not_utf8_line = codes "error: a word of the command line isn't UTF-8\n"
 
--- Why there are no words was told: that memory ran out, or else that one of them is no text.
+-- It was told why there are no words: memory ran out, or one of them is no text.
 pub record ExitsWithoutWords (why : IoErrorKind) (exit : ℕ) (before after faults_before faults_after : Seen) : Type 0 where
   pub memory : why ≡ IoOutOfMemory → TellsWith 3 no_memory_line exit before after × TellsTrouble exit after faults_before faults_after
   pub fault : why ≢ IoOutOfMemory → TellsWith 2 not_utf8_line exit faults_before faults_after × (after ≡ before)

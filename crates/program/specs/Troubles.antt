@@ -1,8 +1,8 @@
--- What is told on standard error of a run that memory, a read or a write ended.
+-- What is told on standard error if memory ran out, or a read or a write failed.
 use Rattle.std.specs.Prelude.{◌≡◌, ◌≢◌, ℕ, List, ◌++◌, ◌⊎◌, codes, true, false}
 use Rattle.program.specs.Watching.{HasFailed, Seen, Tells}
 
--- The line was told there, or a call of the writer failed, which changes no status.
+-- The line was told, or a call of the writer failed, which changes no status.
 abbrev pub IsTried : Seen → Seen → List ℕ → Type 0
 IsTried before after line = Tells before after line ⊎ HasFailed after
 
@@ -21,8 +21,9 @@ abbrev pub IsToldOfOutput : Seen → Seen → Type 0
 IsToldOfOutput before after =
     (after ≡ before) ⊎ ((cause : List ℕ) × IsTried before after (stream_line (codes "standard output") cause))
 
--- By the exit status of a run, and by what its output came to: that memory ran out; that the input wasn't read, where no
--- write failed; why a write failed, but nothing of a pipe that was closed at its other end; and nothing of any other status.
+-- Depending on the exit status of a run, and on its output: that memory ran out; that the input wasn't read, if no
+-- write failed; why a write failed, but nothing of a pipe that was closed at its other end; and nothing for any other
+-- status.
 pub record TellsTrouble (exit : ℕ) (output before after : Seen) : Type 0 where
   pub memory : exit ≡ 3 → IsTried before after out_of_memory_line
   pub unread : exit ≡ 4 → output.has_failed ≡ false → IsTried before after unread_line

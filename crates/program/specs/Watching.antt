@@ -1,12 +1,12 @@
--- What is seen of a writer, and of what was told by it.
+-- What is seen of a writer, and what was told through it.
 use Rattle.std.specs.Prelude.{◌≡◌, ◌↔◌, ℕ, Bool, true, List, ◌⊎◌, Option, Result, MatchResult}
 use Rattle.std.specs.Io.KnownBytes.{Appends}
 use Rattle.std.specs.IoError.{error_kind}
 use Rattle.std.specs.declared.io.Error.{Error}
 use Rattle.std.specs.declared.io.ErrorKind.TheVariants.{BrokenPipe}
 
--- the bytes that it holds, where they are known, whether a call of it failed, whether the newest that failed did so since
--- the other end was closed, and whether it was flushed since it was last written to
+-- the bytes that it holds, if they are known, whether a call of it failed, whether the newest that failed did so
+-- because the other end was closed, and whether it was flushed since it was last written to
 pub record Seen : Type 0 where
   pub bytes : Option (List ℕ)
   pub has_failed : Bool
@@ -16,7 +16,7 @@ pub record Seen : Type 0 where
 abbrev pub NotesFailure : Seen → Error → Type 0
 NotesFailure after why = (after.has_failed ≡ true) × ((after.is_closed ≡ true) ↔ (error_kind why ≡ BrokenPipe))
 
--- A call that fails is noted with its kind, and else whether it leaves the writer flushed.
+-- A call that fails is noted with its kind; else it is noted whether it leaves the writer flushed.
 abbrev pub Notes : {T : Type 0} → Bool → Seen → Seen → Result T Error → Type 0
 Notes flushed before after result =
     MatchResult result

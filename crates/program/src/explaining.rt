@@ -11,7 +11,7 @@ use script::{LastLine, Status};
 use std::alloc::Global;
 use std::io::Write;
 
-/// Tells why a line was refused, where there is memory for that.
+/// Tells why a line was refused, if there is memory for that.
 fn try_explanation<F: Write>(
     alloc: Global,
     script: Script,
@@ -38,7 +38,7 @@ fn try_last_line<F: Write>(
     }
 }
 
-/// The exit status of a script's run. Of one that was refused it is told why the line was that ended it, if one is kept.
+/// Returns the exit status of a script's run. If it was refused, tells why, of the line that ended it, if one is kept.
 pub(crate) fn exit_of_script<F: Write>(
     alloc: Global,
     script: Script,
@@ -55,7 +55,7 @@ pub(crate) fn exit_of_script<F: Write>(
     status.exit_status()
 }
 
-/// Tells what was noted of lines, and of how many lines nothing was.
+/// Tells the notes on lines, and how many lines have none.
 fn try_notes<F: Write>(alloc: Global, notes: &Notes, faults: &mut Watched<F>)
     ensures { MayBeTold faults.old faults.new }
 {
@@ -71,7 +71,7 @@ fn try_notes<F: Write>(alloc: Global, notes: &Notes, faults: &mut Watched<F>)
     }
 }
 
-/// The exit status of lines that were answered. Of a run that was refused it is told why its lines were.
+/// Returns the exit status of lines that were answered. If the run was refused, tells why its lines were.
 pub(crate) fn exit_of_lines<F: Write>(
     alloc: Global,
     status: Status,

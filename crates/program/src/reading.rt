@@ -1,4 +1,4 @@
-//! The memory of a queue as it is asked to be shown.
+//! The part of the program that shows the memory of a queue.
 ghost use Rattle.std.specs.Prelude.{◌≡◌};
 ghost use Rattle.image.specs.Tellings.{ExitsAsImage};
 ghost use Rattle.program.specs.Images.{asked_of};
@@ -9,7 +9,7 @@ use script::one_number;
 use std::alloc::Global;
 use std::io::{Read, Write};
 
-/// What the command line asks to be shown.
+/// Returns what the command line asks to be shown.
 fn asked(arguments: &ImageArguments<'_>) -> Asked
     ensures { result ≡ asked_of arguments.now }
 {
@@ -21,7 +21,7 @@ fn asked(arguments: &ImageArguments<'_>) -> Asked
     }
 }
 
-/// The exit status of showing the memory of a queue.
+/// Shows the memory of a queue, and returns the exit status.
 pub(crate) fn image_to_exit<I: Read, O: Write>(
     alloc: Global,
     arguments: &ImageArguments<'_>,

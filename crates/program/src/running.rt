@@ -1,4 +1,4 @@
-//! The program, over any reader and writers: what it does, and what it ends with.
+//! The program, over any reader and writers: what it does, and how it ends.
 ghost use Rattle.std.specs.Prelude.{◌≡◌};
 ghost use Rattle.command_line.specs.CommandLine.{texts};
 ghost use Rattle.program.specs.Explaining.{Explains};
@@ -23,7 +23,7 @@ use std::io::{Read, Write};
 use std::thread::Threads;
 use words::words_with_notes;
 
-/// Says on a line what a word means as a command.
+/// Writes a line that says what a word means as a command.
 fn decode<W: Write>(alloc: Global, word: &str, output: &mut Watched<W>) -> Status
     ensures { Decodes result word.now output.old output.new }
 {
@@ -43,7 +43,7 @@ fn decode_to_exit<W: Write>(alloc: Global, word: &str, output: &mut Watched<W>) 
     decode(alloc, word, output).exit_status()
 }
 
-/// Does what is asked for, and answers the exit status.
+/// Does what is asked for, and returns the exit status.
 fn serve<'a, A: Threads + AllocGlobal + Sync, I: Read, O: Write, F: Write>(
     rt: &A,
     subcommand: Subcommand<'a>,
@@ -78,8 +78,8 @@ fn serve<'a, A: Threads + AllocGlobal + Sync, I: Read, O: Write, F: Write>(
     }
 }
 
-/// Does what the words ask, without the program's own name, and answers the exit status: 0 good,
-/// 1 refused input, 2 a command line that isn't understood, 3 out of memory, 4 a failed read or write.
+/// Does what the words ask, without the program's own name, and returns the exit status: 0 good, 1 refused input, 2 a
+/// command line that isn't understood, 3 out of memory, 4 a failed read or write.
 ///
 /// The command line is judged before any input is read. Answers go to `output`, and what is wrong with
 /// the command line goes to `faults`, with a line for status 3 and 4.

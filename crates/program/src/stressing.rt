@@ -13,7 +13,7 @@ use std::io::Write;
 use std::thread::Threads;
 use stress::{NoGate, Plan, Report, StressFault, run_all};
 
-/// Tells what a run came to: the lines of its report, or why there is none.
+/// Tells the result of a run: the lines of its report, or why there is none.
 fn tell_run<O: Write>(
     alloc: Global,
     ran: &Result<Report, StressFault>,
@@ -36,7 +36,7 @@ fn tell_run<O: Write>(
     }
 }
 
-/// The exit status of a run of these numbers.
+/// Runs a plan of these numbers, and returns the exit status.
 pub(crate) fn stress_to_exit<A: Threads + AllocGlobal + Sync, O: Write>(
     rt: &A,
     numbers: StressNumbers,

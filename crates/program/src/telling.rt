@@ -1,4 +1,4 @@
-//! What is told of memory, of help and of faults of the command line.
+//! What is told when memory runs out, of help, and of faults of the command line.
 ghost use Rattle.std.specs.Prelude.{◌≡◌, ◌++◌, ◌⊎◌, MatchResult, OnErr, OnOk, codes};
 ghost use Rattle.std.specs.IoError.{error_kind};
 ghost use Rattle.script.specs.Writing.{no_memory_line};
@@ -14,7 +14,7 @@ use std::alloc::Global;
 use std::io;
 use std::io::{ErrorKind, Write};
 
-/// The exit status of a command line that isn't understood.
+/// The exit status for a command line that isn't understood.
 const NOT_UNDERSTOOD: u8 = 2;
 
 pub(crate) fn print<W: Write>(text: &str, output: &mut Watched<W>) -> io::Result<()>
@@ -63,7 +63,7 @@ pub fn tell_of_memory<W: Write>(output: &mut Watched<W>) -> Status
     }
 }
 
-/// Tells a text with an exit status.
+/// Prints a line, and returns this exit status, or that of a failed write.
 fn tell_line<W: Write>(line: &str, status: u8, output: &mut Watched<W>) -> u8
     ensures { TellsWith status (line.now ++ codes "\n") result output.old output.new }
 {
@@ -73,7 +73,7 @@ fn tell_line<W: Write>(line: &str, status: u8, output: &mut Watched<W>) -> u8
     }
 }
 
-/// Tells that memory ran out, there and on standard error.
+/// Tells that memory ran out, on the output and on standard error.
 fn tell_both_of_memory<O: Write, F: Write>(
     alloc: Global,
     output: &mut Watched<O>,
@@ -101,7 +101,7 @@ fn tell_help<O: Write, F: Write>(
     exit
 }
 
-/// Tells what is wrong with the words of the command line, or the help that they ask for, and answers the exit status.
+/// Tells what is wrong with the words of the command line, or the help that they ask for, and returns the exit status.
 pub(crate) fn tell<O: Write, F: Write>(
     alloc: Global,
     why: &Misunderstood,
@@ -120,7 +120,7 @@ pub(crate) fn tell<O: Write, F: Write>(
     }
 }
 
-/// Tells why the system hands out no words of the command line: memory ran out, or a word isn't UTF-8. Answers the exit
+/// Tells why the system gives no words of the command line: memory ran out, or a word isn't UTF-8. Returns the exit
 /// status.
 pub fn tell_without_words<O: Write, F: Write>(
     alloc: Global,

@@ -1,4 +1,4 @@
-//! What is told on standard error of a run that memory, a read or a write ended.
+//! What is told on standard error if memory ran out, or a read or a write failed.
 ghost use Rattle.std.specs.Prelude.{OnErr, OnOk};
 ghost use Rattle.program.specs.Troubles.{IsToldOfOutput, IsTried, TellsTrouble, stream_line};
 ghost use Rattle.program.specs.Watching.{HasFailed, Tells};
@@ -29,7 +29,7 @@ fn try_stream<F: Write>(stream: &str, cause: &str, faults: &mut Watched<F>)
     }
 }
 
-/// Tells why standard output failed, where there is memory for the system's text.
+/// Tells why standard output failed, if there is memory for the system's text.
 fn try_output<F: Write>(alloc: Global, why: &io::Error, faults: &mut Watched<F>)
     ensures { IsToldOfOutput faults.old faults.new }
 {
@@ -38,7 +38,7 @@ fn try_output<F: Write>(alloc: Global, why: &io::Error, faults: &mut Watched<F>)
     }
 }
 
-/// Tells of the stream that failed: of standard output why, but for a pipe that was closed at its other end.
+/// Tells which stream failed, and for standard output why, except if a pipe was closed at its other end.
 fn tell_stream<O: Write, F: Write>(alloc: Global, output: &Watched<O>, faults: &mut Watched<F>)
     ensures { TellsTrouble 4 output.now faults.old faults.new }
 {
@@ -52,7 +52,7 @@ fn tell_stream<O: Write, F: Write>(alloc: Global, output: &Watched<O>, faults: &
     }
 }
 
-/// Tells of a run that ended with this exit status what went wrong with memory, a read or a write.
+/// Tells what went wrong with memory, a read or a write in a run with this exit status.
 pub(crate) fn tell_trouble<O: Write, F: Write>(
     alloc: Global,
     exit: u8,

@@ -1,4 +1,4 @@
-//! A writer that notes what its calls came to.
+//! A writer that notes how its calls went.
 ghost use Rattle.std.specs.Prelude.{◌≡◌, false, is_some, true};
 ghost use Rattle.program.specs.Watching.{Notes};
 
@@ -6,14 +6,14 @@ use std::io;
 use std::io::{ErrorKind, Write};
 use std::marker::Model;
 
-/// Hands what it is given on to another writer. It notes whether a call of that failed, and whether it was flushed since
+/// Passes what it is given on to another writer. Notes whether a call of that failed, and whether it was flushed since
 /// it was last written to.
 #[derive(Drop)]
 pub struct Watched<W: Write> {
     inner: W,
-    /// The newest call that failed, why.
+    /// Why the newest call that failed did.
     failure: Option<io::Error>,
-    /// Whether that was since the other end was closed.
+    /// Whether it failed because the other end was closed.
     is_closed: bool,
     is_flushed: bool,
 }
@@ -73,28 +73,28 @@ impl<W: Write> Watched<W> {
         }
     }
 
-    /// The writer.
+    /// Returns the writer.
     pub fn inner(&self) -> &W
         ensures { W.contents result.now ≡ self.now.bytes }
     {
         &self.inner
     }
 
-    /// Why the newest call that failed did, if one did.
+    /// Returns why the newest call that failed did, if one did.
     pub(crate) fn failure(&self) -> Option<&io::Error>
         ensures { is_some result ≡ self.now.has_failed }
     {
         self.failure.as_ref()
     }
 
-    /// Whether the newest call that failed did so since the other end was closed.
+    /// Whether the newest call that failed did so because the other end was closed.
     pub(crate) fn is_closed(&self) -> bool
         ensures { result ≡ self.now.is_closed }
     {
         self.is_closed
     }
 
-    /// Notes what a call came to.
+    /// Notes how a call went.
     fn note<T>(&mut self, came: io::Result<T>, is_flush: bool) -> io::Result<T>
         ensures same { result ≡ came }
         ensures bytes { self.new.bytes ≡ self.old.bytes }
@@ -111,7 +111,7 @@ impl<W: Write> Watched<W> {
     }
 }
 
-/// The same error once more, by the system's number where it has one.
+/// Returns the same error again, by the system's number if it has one.
 fn copied(why: &io::Error) -> io::Error {
     match why.raw_os_error() {
         Some(code) => io::Error::from_raw_os_error(code),

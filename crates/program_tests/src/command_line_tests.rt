@@ -63,7 +63,7 @@ fn command_lines_that_are_not_understood(rt: HostRuntime) {
     expect_not_understood(&rt, "a word behind schedule", &["schedule", "more"]);
 }
 
-/// Asks for help by the words of a line, and wants a text with this in it.
+/// Asks for help by the words of a line, and expects a text with this in it.
 fn expect_help<R: Threads + AllocGlobal + Abort + Sync>(rt: &R, line: &str, wanted: &str) {
     let words: Vec<&str> = line
         .split(' ')
@@ -97,8 +97,8 @@ help stress = A turn of a sender is one try to reserve a batch
     }
 }
 
-/// Runs the program on one word, where the read and the write of these numbers fail, and wants this status, and what is
-/// told on standard error.
+/// Runs the program on one word, with the read and the write of these numbers failing. Expects this status, and this
+/// text on standard error.
 fn expect_status<R: Threads + AllocGlobal + Abort + Sync>(
     rt: &R,
     word: &str,

@@ -4,8 +4,7 @@ use program::decode_text;
 use std::process::Abort;
 use std::thread::Threads;
 
-/// Runs the program on some words, with an input that fails when it is read, and wants this text and
-/// this status of it.
+/// Runs the program on some words, with an input that fails when it is read, and expects this text and this status.
 fn expect_told<R: Threads + AllocGlobal + Abort + Sync>(
     rt: &R,
     name: &str,
@@ -16,7 +15,7 @@ fn expect_told<R: Threads + AllocGlobal + Abort + Sync>(
     expect_run(rt, name, words, "", (1, 0), (status, text, status != 2));
 }
 
-/// Decodes the words of a table, each on a line `WORD: TEXT: WHAT IT IS`, and wants this status of each.
+/// Decodes the words of a table, one a line as `WORD: TEXT: WHAT IT IS`, and expects this status for each.
 fn expect_decoded<R: Threads + AllocGlobal + Abort + Sync>(rt: &R, table: &str, status: u8) {
     for line in table.lines() {
         let (word, rest) = line.split_once(": ").unwrap_or((line, ""));

@@ -1,6 +1,5 @@
 //! Tests of the program: what no clause says of the command line, words that are decoded from there on, and writers and
-//! allocations that fail. They stand in a crate of their own, since a build of a crate's tests proves the crate once
-//! more.
+//! allocations that fail. They are in a crate of their own, since building a crate's tests proves the crate again.
 #![tactic(auto)]
 
 #[cfg(test)]

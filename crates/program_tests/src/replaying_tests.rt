@@ -3,7 +3,7 @@ use crate::running::expect_run;
 use std::process::Abort;
 use std::thread::Threads;
 
-/// Replays a script, and wants this status and these answers.
+/// Replays a script, and expects this status and these answers.
 fn expect_replayed<R: Threads + AllocGlobal + Abort + Sync>(
     rt: &R,
     script: &str,
@@ -15,7 +15,7 @@ fn expect_replayed<R: Threads + AllocGlobal + Abort + Sync>(
     expect_run(rt, script, &["replay"], script, (0, 0), wanted);
 }
 
-/// The first of the numbers that is out of its range is told.
+/// The first number that is out of its range is told.
 #[test]
 fn rings_that_are_not_made(rt: HostRuntime) {
     expect_replayed(&rt, "ring 0 0 0 0\n", 1, "line 1: N1\n");
@@ -47,7 +47,7 @@ fn entries_of_an_empty_unit(rt: HostRuntime) {
     expect_replayed(&rt, script, 0, answers);
 }
 
-/// A unit that is stopped holds what it held.
+/// A stopped unit holds what it held.
 #[test]
 fn entries_while_stopped(rt: HostRuntime) {
     let script = "ring 3 1 4 4\n\

@@ -7,7 +7,7 @@ use std::thread::Threads;
 
 pub const PIPE: ErrorKind = ErrorKind::BrokenPipe;
 
-/// What the program wrote, and what it ended with.
+/// What the program wrote, and its exit status.
 #[derive(Drop)]
 pub struct Ran {
     pub status: u8,
@@ -16,7 +16,7 @@ pub struct Ran {
 }
 
 impl Ran {
-    /// The status, what was written to standard output, and whether nothing was told of faults.
+    /// Returns the status, what was written to standard output, and whether no faults were told.
     pub fn told(&self) -> (u8, &str, bool) {
         (
             self.status,
@@ -25,7 +25,7 @@ impl Ran {
         )
     }
 
-    /// Whether standard output, and what is told of faults, were flushed.
+    /// Whether standard output was flushed, and whether the output of faults was.
     pub fn flushed(&self) -> (bool, bool) {
         (
             self.output.inner().flushes > 0,
@@ -34,7 +34,7 @@ impl Ran {
     }
 }
 
-// The theorem isn't passed on, since it would be dear in each test.
+// The theorem isn't passed on, since it would be costly in each test.
 pub fn status_of<'a, A: Threads + AllocGlobal + Sync, I: Read, O: Write, F: Write>(
     rt: &A,
     words: &'a [&'a str],
@@ -45,7 +45,7 @@ pub fn status_of<'a, A: Threads + AllocGlobal + Sync, I: Read, O: Write, F: Writ
     program(rt, words, input, output, faults)
 }
 
-/// Runs the program, where the read and the write to `output` of these numbers fail, counted from 1.
+/// Runs the program, with the read and the write to `output` of these numbers failing, counted from 1.
 pub fn run<'a, A: Threads + AllocGlobal + Sync>(
     rt: &A,
     words: &'a [&'a str],
@@ -63,8 +63,7 @@ pub fn run<'a, A: Threads + AllocGlobal + Sync>(
     }
 }
 
-/// Runs the program, and wants of it the status, what was written to standard output, and whether nothing was told of
-/// faults.
+/// Runs the program, and expects this status, this text on standard output, and faults to be told or not.
 pub fn expect_run<'a, A: Threads + AllocGlobal + Abort + Sync>(
     rt: &A,
     name: &str,
@@ -77,7 +76,7 @@ pub fn expect_run<'a, A: Threads + AllocGlobal + Abort + Sync>(
     assert_eq!(rt; ran.told(), wanted, "{name}");
 }
 
-/// Runs the program, and wants of it the status, what was written to standard output, and what was told of faults.
+/// Runs the program, and expects this status, this text on standard output, and these faults.
 pub fn expect_explained<'a, A: Threads + AllocGlobal + Abort + Sync>(
     rt: &A,
     words: &'a [&'a str],

@@ -3,8 +3,8 @@ use crate::running::expect_run;
 use std::process::Abort;
 use std::thread::Threads;
 
-/// Runs the program on the words of a line, with an input that fails when it is read, and wants this of it: the status,
-/// the text, and whether nothing was told of faults.
+/// Runs the program on the words of a line, with an input that fails when it is read. Expects this status, this text,
+/// and faults to be told or not.
 fn expect_ran<R: Threads + AllocGlobal + Abort + Sync>(
     rt: &R,
     line: &str,
@@ -78,7 +78,7 @@ fn bare_batches(rt: HostRuntime) {
     );
 }
 
-/// Numbers out of their range, and one that is missing.
+/// Numbers out of range, and a missing one.
 #[test]
 fn numbers_that_are_not_understood(rt: HostRuntime) {
     let refused = (2, "", false);

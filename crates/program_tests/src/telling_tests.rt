@@ -1,4 +1,4 @@
-//! What is told where nothing is asked for, and that what is told is flushed.
+//! What is told if nothing is asked for, and that what is told is flushed.
 use crate::running::{PIPE, run, status_of};
 use fake_streams::Sink;
 use program::{Watched, tell_of_memory, tell_without_words};
@@ -7,7 +7,7 @@ use std::io::{ErrorKind, Write};
 use std::process::Abort;
 use std::thread::Threads;
 
-/// Tells why the words can't be had, and wants this status, and these texts of standard output and of faults.
+/// Tells why the words can't be had, and expects this status, and these texts on standard output and of faults.
 fn expect_told<R: AllocGlobal + Abort>(rt: &R, why: ErrorKind, wanted: (u8, &str, &str)) {
     let mut output = Watched::new(Sink::new(100, 0, PIPE));
     let mut faults = Watched::new(Sink::new(100, 0, PIPE));
@@ -35,7 +35,7 @@ fn no_memory_that_cannot_be_told(rt: HostRuntime) {
     assert_eq!(rt; tell_of_memory(&mut output).exit_status(), 4);
 }
 
-/// Runs the program on the words of a line, and wants standard output, and what is told of faults, flushed or not.
+/// Runs the program on the words of a line, and expects standard output and the output of faults to be flushed or not.
 fn expect_flushed<R: Threads + AllocGlobal + Abort + Sync>(
     rt: &R,
     line: &str,
@@ -63,7 +63,7 @@ fn what_is_told_is_flushed(rt: HostRuntime) {
     expect_flushed(&rt, "explode", (false, true));
 }
 
-/// Hands a watched writer a text in one call of each kind, and wants it in its own writer.
+/// Passes a watched writer a text in one call of each kind, and expects its own writer to have it.
 #[test]
 fn a_watched_writer_hands_on_what_it_is_given(rt: HostRuntime) {
     let mut output = Watched::new(Sink::new(100, 0, PIPE));
@@ -78,7 +78,7 @@ fn a_watched_writer_hands_on_what_it_is_given(rt: HostRuntime) {
     assert_eq!(rt; (flushed, output.inner().flushes), (true, 1));
 }
 
-/// A write that fails is told of elsewhere, with the system's text.
+/// A failed write is told on standard error, with the system's text.
 #[test]
 fn a_write_that_fails_is_told(rt: HostRuntime) {
     let mut input = "ring 3 1 4 4\n".as_bytes();
@@ -94,7 +94,7 @@ fn a_write_that_fails_is_told(rt: HostRuntime) {
     );
 }
 
-/// And where that can't be told, the status is the same.
+/// If that can't be told, the status is the same.
 #[test]
 fn a_write_that_fails_where_nobody_listens(rt: HostRuntime) {
     let mut input = "ring 3 1 4 4\n".as_bytes();

@@ -28,7 +28,7 @@ pub struct Pair {
     ghost engine_ring: { engine.consumer.ring ≡ ring },
 }
 
-/// The batch that a word says: the invalidation of this page in address space 2 of virtual machine 1, or `illegal`.
+/// Parses a word as a batch: the invalidation of this page in address space 2 of virtual machine 1, or `illegal`.
 pub fn batch_of(word: &str) -> Option<Batch> {
     if word == "illegal" {
         return Batch::new(Raw { lo: 0xff, hi: 0 }).ok();
@@ -50,7 +50,7 @@ pub fn translation(page: u64) -> Option<Tag> {
     })
 }
 
-/// A queue of two senders, each of which may reserve so many batches, with room for 8 entries.
+/// A queue of two senders, each of which may reserve `max_batches` batches, with room for 8 entries.
 pub fn new_pair(alloc: Global, max_batches: u32) -> Result<Pair, RingFault> {
     let (ring, mut spare, consumer) = Ring::new(alloc, 4, 2, max_batches)?;
     let second = spare.pop().unwrap();
@@ -86,7 +86,7 @@ fn queue_of(rt: &impl Abort, pair: Pair) -> Queue
     }
 }
 
-/// The parts of a queue, where it has two senders.
+/// The parts of a queue, if it has two senders.
 fn pair_of(queue: Queue) -> Option<Pair>
     requires { IsWhole queue }
 {
@@ -109,15 +109,15 @@ fn pair_of(queue: Queue) -> Option<Pair>
     })
 }
 
-/// What became of a queue of two: what is left of the old one, or why it isn't renewed, and the parts of the one that
-/// goes on.
+/// Renews a queue of two. Returns the parts of the queue that goes on, and what is left of the old one, or why it isn't
+/// renewed.
 pub fn renewed(
     rt: &impl Abort,
     alloc: Global,
     pair: Pair,
     sizes: Sizes,
 ) -> (Pair, Result<Finished, RenewalFault>) {
-    // The theorem isn't passed on, since it would be dear in each test.
+    // The theorem isn't passed on, since it would be costly in each test.
     let (queue, told) = match renew(alloc, queue_of(rt, pair), sizes) {
         Ok(renewed) => (renewed.queue, Ok(renewed.old)),
         Err(refused) => (refused.queue, Err(refused.fault)),

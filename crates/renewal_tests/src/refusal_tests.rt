@@ -1,7 +1,7 @@
 //! A queue that isn't renewed goes on.
 use crate::calls::expect_answers;
 
-// The queue works on: what was sent is taken, and its sender is told.
+// The queue goes on: what was sent is taken, and its sender is told.
 #[test]
 fn a_batch_that_is_not_taken_waits(rt: HostRuntime) {
     expect_answers(

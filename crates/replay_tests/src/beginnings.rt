@@ -26,7 +26,7 @@ applied CMD_SYNC cs=1 msh=0 attr=0 data=2 addr=0x40000000 removed=0
 absent
 ";
 
-/// What is left of a line, behind its number, where that is another good line, with what it is answered with.
+/// Cut lines that are good lines themselves, each after its number, with their answers.
 const CUT_LINES: &str = "2 fill s1 1 2 0x10 0 1 = filled
 2 fill s1 1 2 0x10 0 10 = filled
 3 fill s1 1 g 0x10 0 2 = filled
@@ -36,7 +36,7 @@ const CUT_LINES: &str = "2 fill s1 1 2 0x10 0 1 = filled
 7 send 0 = refused B5
 8 step = applied TLBI_NH_VA vmid=1 asid=3 leaf=0 addr=0x10000 removed=1";
 
-/// The answer to what is left of a line, if it is one of these.
+/// Returns the answer to a cut line, if it is one of these.
 fn answer_of_cut(
     alloc: Global,
     number: usize,
@@ -52,7 +52,7 @@ fn answer_of_cut(
     Ok(None)
 }
 
-/// The answer to a beginning of the script, and how its run ends.
+/// Returns the answer to a beginning of the script, and how its run ends.
 fn wanted(alloc: Global, beginning: &str, answers: &str) -> Result<(String, Status), AllocError> {
     let (whole, left) = beginning.rsplit_once("\n").unwrap_or(("", beginning));
     // A line needs no end.

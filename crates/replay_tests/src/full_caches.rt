@@ -4,7 +4,7 @@ use script::Status;
 use std::alloc::{AllocError, Global};
 use std::fmt::Write as _;
 
-/// Lines that fill the stream table entries of so many streams, each with the number of its stream.
+/// Lines that fill the stream table entries of `streams` streams, each with the number of its stream.
 fn fills(alloc: Global, streams: u32) -> Result<String, AllocError> {
     let mut lines = String::new(alloc);
     for stream in 0..streams {
@@ -48,7 +48,7 @@ found value=40960 born=0
     expect_answer(&rt, name, script.as_bytes(), answers.as_str(), Status::Good);
 }
 
-// A single line is answered with all of them.
+// All of them are the answer to a single line.
 #[test]
 fn a_dump_of_65536_entries(rt: HostRuntime) {
     let fills = fills(rt.alloc(), 65_536).expect(&rt, "there is memory");

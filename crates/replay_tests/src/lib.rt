@@ -1,5 +1,5 @@
-//! Worked scripts of `replay` with their answers, each as one transcript where it can be. They stand in a crate of
-//! their own, since a build of a crate's tests proves the crate once more.
+//! Worked scripts of `replay` with their answers, each as one transcript if possible. They are in a crate of their own,
+//! since building a crate's tests proves the crate again.
 #![tactic(auto)]
 
 #[cfg(test)]

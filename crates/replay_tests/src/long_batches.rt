@@ -1,8 +1,8 @@
-//! Batches of as many commands as there may be, and of one more.
+//! Batches of as many commands as there may be, and one more.
 use crate::transcripts::expect_answer;
 use script::Status;
 
-/// CFGI_STE for stream 5, behind a space.
+/// A space, and CFGI_STE for stream 5.
 const COMMAND: &str = " 03000000050000000100000000000000";
 
 #[test]

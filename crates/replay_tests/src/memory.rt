@@ -1,5 +1,5 @@
-//! Allocations that fail. Nothing but a replay allocates in these tests, so that each of its allocations can be made
-//! to fail. A test passes either way, and prints how it went.
+//! Allocations that fail. Only a replay allocates in these tests, so that each of its allocations can be made to fail.
+//! A test passes either way, and prints how it went.
 mod blocks_of_streams;
 mod global_entries;
 mod replaced_entry;
@@ -11,7 +11,7 @@ use script::Status;
 use std::io::ErrorKind;
 use std::process::Abort;
 
-/// Whether a text is one of some texts, each of which is told in two parts.
+/// Whether a text is one of some texts, each given in two parts.
 fn is_one_of(texts: &[(&str, &str)], text: &str) -> bool {
     for (front, rest) in texts {
         if text.strip_prefix(*front) == Some(*rest) {
@@ -21,8 +21,8 @@ fn is_one_of(texts: &[(&str, &str)], text: &str) -> bool {
     false
 }
 
-/// Replays a script, and says how it went: `whole`, with the answers to all its lines; or `refused`, with a text in which
-/// a fill was refused, or with the answers to some lines and then the line `no memory`.
+/// Replays a script, and returns how it went: `whole`, with the answers to all its lines; or `refused`, with a text in
+/// which a fill was refused, or with the answers to some lines and then the line `no memory`.
 pub fn expect_whole_or_refused<R: AllocGlobal + Abort>(
     rt: &R,
     script: &str,

@@ -194,7 +194,7 @@ done 1 up to 0",
     );
 }
 
-/// Wants a run to end at each of some lines, in turn behind the same lines, with this answer to it.
+/// Expects a run to end at each of some lines, in turn after the same lines, with this answer to it.
 fn expect_ended<R: AllocGlobal + Abort>(rt: &R, front: (&str, &str), lines: &str, ending: &str) {
     let (script, answers) = front;
     for line in lines.lines() {

@@ -1,4 +1,4 @@
-//! Making a ring, and what may stand ahead of it and behind it.
+//! Making a ring, and what may come before and after it.
 use crate::transcripts::expect_transcripts;
 
 #[test]

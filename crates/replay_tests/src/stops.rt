@@ -165,7 +165,7 @@ acknowledged",
     );
 }
 
-// The unit stops at each of 63 commands, and software has it replaced, by turns of GERRORN.
+// The unit stops at each of 63 commands, and software has each replaced, by turns of GERRORN.
 #[test]
 fn a_storm_of_stops(rt: HostRuntime) {
     let commands = " ff000000000000000000000000000000"

@@ -213,8 +213,8 @@ fn lines_of_all_kinds(rt: HostRuntime) {
     );
 }
 
-/// Replays a script from a reader and to a writer, of each of which is told how many bytes a call moves at most, and which
-/// call fails, and wants this status and just this text.
+/// Replays a script, and expects this status and exactly this text. Reader and writer are each given how many bytes a
+/// call moves at most, and which call fails.
 fn expect_through<R: AllocGlobal + Abort>(
     rt: &R,
     script: &str,
@@ -242,13 +242,13 @@ fn answers_do_not_depend_on_the_pieces(rt: HostRuntime) {
     }
 }
 
-/// Whether so many bytes of a text end with a line, or lack just its end.
+/// Whether the first `bytes` bytes of a text end with a line, or lack only its end.
 fn is_at_the_end_of_a_line(text: &str, bytes: usize) -> bool {
     let (front, rest) = text.split_at_checked(bytes).unwrap_or((text, ""));
     front.ends_with("\n") || rest.starts_with("\n")
 }
 
-// One read gives so many bytes, and the next fails.
+// One read gives that many bytes, and the next fails.
 #[test]
 fn a_read_that_fails_at_the_end_of_each_line(rt: HostRuntime) {
     let (script, answers) = halves(rt.alloc(), TRANSCRIPT).expect(&rt, "there is memory");
@@ -268,8 +268,8 @@ fn first_part(script: &str) -> &str {
     part
 }
 
-/// Has each read fail in turn, where so many bytes come with each, and wants just the answers to the lines whose ends
-/// were read. The read after the last byte finds the end.
+/// Has each read fail in turn, with `most` bytes a read, and expects exactly the answers to the lines whose ends were
+/// read. The read after the last byte finds the end.
 fn expect_failed_reads<R: AllocGlobal + Abort>(rt: &R, script: &str, answers: &str, most: usize) {
     for calls in 0..=script.len().div_ceil(most.max(1)) {
         let read = calls.saturating_mul(most).min(script.len());
@@ -287,7 +287,7 @@ fn each_read_fails_in_turn(rt: HostRuntime) {
     expect_failed_reads(&rt, first_part(script), answers, 1);
 }
 
-/// How many writes a script takes where seven bytes come with each read, and each write takes so many bytes at most.
+/// How many writes a script takes if each read gives seven bytes and each write takes at most `most`.
 fn writes(alloc: Global, script: &str, most: usize) -> usize {
     let mut input = Source::new(script.as_bytes(), 7, 0, PIPE);
     let mut output = Sink::new(most, 0, PIPE);
@@ -295,7 +295,7 @@ fn writes(alloc: Global, script: &str, most: usize) -> usize {
     output.calls
 }
 
-/// Has each write fail in turn, and wants a beginning of the answers.
+/// Has each write fail in turn, and expects a beginning of the answers.
 fn expect_failed_writes<R: AllocGlobal + Abort>(rt: &R, script: &str, answers: &str, most: usize) {
     for bad in 1..=writes(rt.alloc(), script, most) {
         let mut input = Source::new(script.as_bytes(), 7, 0, PIPE);
@@ -329,7 +329,7 @@ fn what_a_write_took_stays(rt: HostRuntime) {
     }
 }
 
-// A byte comes with each read, and two go with each write.
+// Each read gives one byte, and each write takes two.
 #[test]
 fn an_interrupted_call_is_made_again(rt: HostRuntime) {
     let (script, answers) = halves(rt.alloc(), TRANSCRIPT).expect(&rt, "there is memory");

@@ -1,5 +1,5 @@
-//! Transcripts of replays, as a driver's author pastes them: each line of the script behind `> `, and below it the
-//! lines that it is answered with.
+//! Transcripts of replays, as a driver's author pastes them: each line of the script after `> `, and below it the lines
+//! that answer it.
 use replay::replay;
 use script::Status;
 use std::alloc::{AllocError, Global};
@@ -7,13 +7,13 @@ use std::fmt::Write as _;
 use std::io::{Read, Write};
 use std::process::Abort;
 
-// The theorem of `replay` isn't passed on, since it would be dear in each test.
+// The theorem of `replay` isn't passed on, since it would be costly in each test.
 /// Replays a script.
 pub fn status_of<R: Read, W: Write>(alloc: Global, input: &mut R, output: &mut W) -> Status {
     replay(alloc, input, output)
 }
 
-/// Replays a script, and wants this text and this status of it.
+/// Replays a script, and expects this text and this status.
 pub fn expect_answer<R: AllocGlobal + Abort>(
     rt: &R,
     name: &str,
@@ -28,7 +28,7 @@ pub fn expect_answer<R: AllocGlobal + Abort>(
     assert_eq!(rt; (ended, answer), (status, text), "{name}");
 }
 
-/// The script of a transcript, and its answers.
+/// Returns the script of a transcript, and its answers.
 pub fn halves(alloc: Global, transcript: &str) -> Result<(String, String), AllocError> {
     let mut script = String::new(alloc);
     let mut answers = String::new(alloc);
@@ -43,8 +43,8 @@ pub fn halves(alloc: Global, transcript: &str) -> Result<(String, String), Alloc
     Ok((script, answers))
 }
 
-/// How many bytes the answers have of a transcript have to those lines whose ends are among the first so many bytes of
-/// its script.
+/// How many bytes a transcript's answers have to those lines whose ends are among the first `bytes` bytes of its
+/// script.
 pub fn answered(transcript: &str, bytes: usize) -> usize {
     let mut read = 0usize;
     let mut told = 0usize;
@@ -58,7 +58,7 @@ pub fn answered(transcript: &str, bytes: usize) -> usize {
     told
 }
 
-/// Replays the script of a transcript, and wants its answers and this status.
+/// Replays the script of a transcript, and expects its answers and this status.
 pub fn expect_transcript<R: AllocGlobal + Abort>(
     rt: &R,
     name: &str,
@@ -69,8 +69,8 @@ pub fn expect_transcript<R: AllocGlobal + Abort>(
     expect_answer(rt, name, script.as_bytes(), answers.as_str(), status);
 }
 
-/// Replays each transcript of a text, with an empty line between two. The first line of each, as `# good: NAME` or
-/// `# refused: NAME`, says how its run ends.
+/// Replays each transcript of a text; an empty line separates two. The first line of each, `# good: NAME` or `#
+/// refused: NAME`, says how its run ends.
 pub fn expect_transcripts<R: AllocGlobal + Abort>(rt: &R, transcripts: &str) {
     let mut heading = String::new(rt.alloc());
     let mut transcript = String::new(rt.alloc());

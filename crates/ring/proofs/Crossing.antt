@@ -1,4 +1,5 @@
--- A consumer may go to another thread, whatever its device is: what it keeps of it has no bytes. A ring may be shared.
+-- A consumer may move to another thread, whatever its device is: what it keeps of it has no bytes. A ring may
+-- be shared.
 use denote.RattleType.{RattleType}
 use denote.Param.Send.{IsSend, IsSync, sendable}
 use Rattle.std.proofs.Crossing.{crosses, send, sync}

@@ -1,4 +1,4 @@
--- An element of a list that another goes on from, and the first so many of a list.
+-- An element of a list that another continues, and the first n of a list.
 use Rattle.std.proofs.Common.{◌≡◌, ℕ, zero, suc, ◌<◌, List, [], ◌∷◌, ◌++◌, length, Some, refl, arith, ◌+◌, take, ap, ◌∙◌}
 use Rattle.std.specs.Prelude.{slice_get}
 use Rattle.std.proofs.lemmas.List.{take_more as take_more_or}
@@ -13,12 +13,12 @@ pub at_end : {A : Type 0} (xs : List A) (y : A) (ys : List A) → slice_get (xs 
 at_end [] y ys = refl
 at_end (x ∷ xs) y ys = at_end xs y ys
 
--- ---- the first so many
+-- ---- the first n
 
 pub take_more : {A : Type 0} (xs : List A) (n : ℕ) (x : A) → slice_get xs n ≡ Some x → take (n + 1) xs ≡ take n xs ++ x ∷ []
 take_more xs n x at = take_more_or xs n x (slice_get_within xs n x at) ∙ ap (λ y. take n xs ++ y ∷ []) (get_or_from_slice_get xs n x x at)
 
--- one of the first n, with those ahead of it and those behind
+-- one of the first n, with those before and after it
 pub split_at : {A : Type 0} (xs : List A) (i n : ℕ) (x : A) → i < n → slice_get xs i ≡ Some x → (behind : List A) × (take n xs ≡ take i xs ++ x ∷ behind)
 split_at [] i n x low at = absurd (cc)
 split_at (y ∷ xs) i zero x low at = absurd (omega (arith, low))

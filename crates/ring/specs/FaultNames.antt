@@ -1,4 +1,4 @@
--- What the causes of a refusal are called.
+-- The labels of the causes of a refusal.
 use Rattle.std.specs.Prelude.{ℕ, List, codes}
 use Rattle.ring.specs.sender.{Cause, TooLong, Exhausted, Closed, Full, Contended}
 

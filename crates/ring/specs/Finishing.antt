@@ -17,15 +17,15 @@ pub record AreAll (ring : RingValue) (all : List SenderValue) : Type 0 where
   pub many : length all ≡ ring.made_with.senders
   pub each : (k : ℕ) (s : SenderValue) → slice_get all k ≡ Some s → (s.ring ≡ ring) × (s.number ≡ k)
 
--- those for whom the joined seat stands, with the run as each of them knew it
+-- the participants of the joined seat, with the run as each of them knew it
 abbrev pub sender_in : SenderValue → Participant
 sender_in s = participant s.ring.made_with (Sender s.number) s.trail s.history
 
 abbrev pub all_in : Ring → Trail → Run → List SenderValue → List Participant
 all_in ring trail history all = map sender_in all ++ participant ring Consumer trail history ∷ []
 
--- One run has the trails of all seats, and no other steps. What each of them knew at its newest step is an older part of
--- it, behind which it took no step.
+-- One run has the trails of all seats, and no other steps. What each participant knew at its newest step is
+-- an older part of it, after which that participant took no step.
 pub record IsRunOf {D : Type 0} (ring : RingValue) (senders : List SenderValue) (consumer : ConsumerValue D) (run : Run) : Type 0 where
   pub run_is : IsRun ring.made_with run
   pub only : OnlyOf ring.made_with.senders run
@@ -34,13 +34,13 @@ pub record IsRunOf {D : Type 0} (ring : RingValue) (senders : List SenderValue) 
   pub known_to_senders : (k : ℕ) (s : SenderValue) → slice_get senders k ≡ Some s → WentOn (Sender k) s.history run
   pub known_to_consumer : WentOn Consumer consumer.history run
 
--- Batches are a merge of the senders': those of each sender in its order, and nobody else's.
+-- The batches are a merge of the senders': those of each sender in its order, and nobody else's.
 pub record IsMerge (senders : List SenderValue) (all : List Batch) : Type 0 where
   pub each : (k : ℕ) (s : SenderValue) → slice_get senders k ≡ Some s → batches_of k all ≡ own_batches k s.trail
   pub only : (i : ℕ) (b : Batch) → slice_get all i ≡ Some b → b.sender < length senders
 
--- An ask of a sender found this number: it stands in the run, and before it the closing syncs of all its numbers up to
--- this one, and all that was reserved ahead of them, were taken and applied.
+-- An ask of the sender found this number. The ask is in the run, and before it the closing syncs of all its
+-- numbers up to this one, and all that was reserved before them, were taken and applied.
 pub record WasTold (run : Run) (s told : ℕ) (older : Trail) : Type 0 where
   pub later : Run
   pub earlier : Run
@@ -48,13 +48,13 @@ pub record WasTold (run : Run) (s told : ℕ) (older : Trail) : Type 0 where
   pub trail_is : trail_of (Sender s) earlier ≡ older
   pub applied : (number : ℕ) → 1 ≤ number → number ≤ told → IsApplied earlier s number
 
--- So it is for whatever a sender was told, by its trail.
+-- This holds for every number that the sender was told, by its trail.
 abbrev pub WasToldAll : Run → ℕ → Trail → Type 0
 WasToldAll run s trail = (newer older : Trail) (number : ℕ) → trail ≡ newer ++ Ask number ∷ older → WasTold run s number older
 
--- There is one run that has all trails. It is ordered delivery, of batches that are a merge of the senders'; the
--- commands that are taken are a beginning of the merge, and the whole merge where as many were taken as reserved. So it is
--- where the consumer saw the ring closed and empty.
+-- One run has all trails. It is ordered delivery, of batches that are a merge of the senders'. The commands
+-- taken are a beginning of the merge, and the whole merge if as many were taken as reserved, which is so if
+-- the consumer saw the ring closed and empty.
 pub record IsEnd {D : Type 0} (ring : RingValue) (senders : List SenderValue) (consumer : ConsumerValue D) (end : SummaryValue) : Type 0 where
   pub run : Run
   pub run_of : IsRunOf ring senders consumer run

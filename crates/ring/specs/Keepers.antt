@@ -1,4 +1,4 @@
--- What contracts see of a keeper, who sits for everybody and so knows the whole run.
+-- What contracts see of a keeper, which has all seats and so knows the whole run.
 use Rattle.std.specs.Prelude.{◌≡◌, ◌≢◌, ◌⊎◌, ℕ, zero, suc, ◌≤◌, Bool, true, false, cond, List, [], ◌∷◌, ◌++◌, Option, Some, None}
 use Rattle.ring.specs.table.{TableId, Participant, Holding, WentOn, Any, ring_of, history_of_first, RunStands, AllKnow, run_by, grown_run, PortValue}
 use Rattle.ring.specs.Runs.{Raw, Who, Consumer, Sender, Event, Trail, Run, same, trail_of, IsOne, Ring}
@@ -8,7 +8,7 @@ use Rattle.ring.specs.Rings.{RingValue}
 use Rattle.ring.specs.NewRings.{made_with}
 use Rattle.ring.specs.consumer.{ConsumerValue, IsConsumer}
 
--- a keeper: its ring, who has its seat lent, and all that happened up to the lending
+-- a keeper: its ring, to whom a seat is lent, and the run up to the lending
 pub record KeeperValue : Type 0 where
   pub ring : RingValue
   pub lent : Option Who
@@ -20,7 +20,7 @@ abbrev pub sits : Who → List Participant → Bool
 sits who [] = false
 sits who (p ∷ ps) = cond (same p.who who) true (sits who ps)
 
--- the first who doesn't sit there, of so many senders from the k-th on and the consumer
+-- the first who doesn't sit there, of `more` senders from the k-th on and the consumer
 abbrev pub missing_from : ℕ → ℕ → List Participant → Option Who
 missing_from k zero all = cond (sits Consumer all) None (Some Consumer)
 missing_from k (suc more) all = cond (sits (Sender k) all) (missing_from (suc k) more all) (Some (Sender k))
@@ -31,7 +31,7 @@ missing all = missing_from 0 (ring_of all).senders all
 abbrev pub keeper_of : TableId → List Participant → KeeperValue
 keeper_of table all = record { ring = record { table = table; made_with = ring_of all }; lent = missing all; run = history_of_first all }
 
--- All sit there but the one to whom a seat is lent, and know this run, which stands.
+-- All but the one to whom a seat is lent sit there and know this run, which stands.
 pub record AllBut (lent : Option Who) (ring : Ring) (run : Run) (all : List Participant) : Type 0 where
   pub some : 1 ≤ ring.senders
   pub each : AllKnow ring run all
@@ -44,7 +44,7 @@ pub record IsKeeper (me : Holding) : Type 0 where
 
 -- ---- a seat is lent, and comes back
 
--- one's own part of what the keeper knows
+-- a participant's part of what the keeper knows
 abbrev pub own_port : Who → KeeperValue → PortValue
 own_port who k = record { ring = k.ring; who = who; trail = trail_of who k.run; history = k.run }
 
@@ -55,16 +55,16 @@ has_lent who k = record k { lent = Some who }
 abbrev pub has_back : Who → Trail → KeeperValue → KeeperValue
 has_back who trail k = record k { lent = None; run = grown_run who k.run trail }
 
--- The run has just these events of this one more, at its end.
+-- The run has grown at its end by exactly these events of this participant.
 pub record HasAdded (who : Who) (added : Trail) (old new : Run) : Type 0 where
   pub run_is : new ≡ run_by who added ++ old
   pub trail_is : trail_of who new ≡ added ++ trail_of who old
 
--- They are the events that the trail has more than it had in the old run.
+-- The added events are those by which the trail is longer than in the old run.
 abbrev pub Adds : Who → Trail → Run → Run → Type 0
 Adds who trail old new = (added : Trail) → trail ≡ added ++ trail_of who old → HasAdded who added old new
 
--- The new run has this trail. It is what the one with the trail knew last, or as it was.
+-- The new run has this trail. It is the run that the participant knew last, or the old run.
 pub record IsNews (who : Who) (trail : Trail) (history old new : Run) : Type 0 where
   pub trail_is : trail_of who new ≡ trail
   pub went_on : WentOn who history new
@@ -88,7 +88,7 @@ pub record IdleConsumerValue (D : Type 0) : Type 0 where
 abbrev pub own_consumer : {D : Type 0} → Option D → KeeperValue → ConsumerValue D
 own_consumer lent k = record { ring = k.ring; trail = trail_of Consumer k.run; history = k.run; lent = lent }
 
--- The head and how many were taken are those of the run.
+-- The head and the count of commands taken are those of the run.
 abbrev pub IsIdleConsumer : KeeperValue → IndexValue → ℕ → Type 0
 IsIdleConsumer k head taken = IsConsumer (own_port Consumer k) head taken
 
@@ -112,7 +112,7 @@ own_reservation body idle k = record {
   flipped = idle.flipped;
 }
 
--- It is that of a batch of this body in the run.
+-- It is the reservation of a batch with this body in the run.
 abbrev pub IsIdleReservation : KeeperValue → List Raw → IdleReservationValue → Type 0
 IsIdleReservation k body idle = IsOpen (own_port (Sender idle.tally.sender) k) idle.tally body idle.closes idle.start idle.written idle.flipped
 
@@ -123,7 +123,7 @@ pub record IsLeftOf (r : ReservationValue) (idle : IdleReservationValue) : Type 
   pub written_is : idle.written ≡ r.written
   pub flipped_is : idle.flipped ≡ r.flipped
 
--- Others than this one took no step, and what is left of them stays that.
+-- Only this participant took steps, and what is left of the others stays as it was.
 pub record KeepsOthers (who : Who) (old new : KeeperValue) : Type 0 where
   pub trails : (other : Who) → other ≢ who → trail_of other new.run ≡ trail_of other old.run
   pub senders : (tally : Tally) → Sender tally.sender ≢ who → IsIdleSender old tally → IsIdleSender new tally
@@ -132,11 +132,11 @@ pub record KeepsOthers (who : Who) (old new : KeeperValue) : Type 0 where
 
 -- ---- one step of a sender
 
--- The run has this one's event more, at its end.
+-- The run with this event of this participant added at its end.
 abbrev pub with_step : Who → Event → KeeperValue → KeeperValue
 with_step who e k = record k { run = (who, e) ∷ k.run }
 
--- What is left of anyone stays that, also of the one who took the step.
+-- What is left of anyone stays as it was, including the one who took the step.
 pub record KeepsAll (old new : KeeperValue) : Type 0 where
   pub senders : (tally : Tally) → IsIdleSender old tally → IsIdleSender new tally
   pub reservations : (body : List Raw) (idle : IdleReservationValue) → IsIdleReservation old body idle → IsIdleReservation new body idle
@@ -144,7 +144,7 @@ pub record KeepsAll (old new : KeeperValue) : Type 0 where
 
 -- ---- a new keeper
 
--- A ring of these numbers whose seats are all the keeper's, before the first step.
+-- A ring made with these numbers, whose seats the keeper has, before the first step.
 pub record IsKept {D : Type 0} (log2 senders max_batches : ℕ) (ring : RingValue) (keeper : KeeperValue) (consumer : IdleConsumerValue D) : Type 0 where
   pub made_is : ring.made_with ≡ made_with log2 senders max_batches
   pub keeper_is : keeper ≡ record { ring = ring; lent = None; run = [] }

@@ -1,5 +1,5 @@
--- What clauses say of runs, from the crates below: the words of a command and of the queue, who takes steps and which, trails,
--- runs and worlds, which runs are allowed, and what all of them keep.
+-- Names for what clauses say of runs, from the crates below: the words of a command and of the queue,
+-- participants and their events, trails, runs and worlds, which runs are allowed, and what every run keeps.
 pub use Rattle.cmdcodec.specs.declared.raw.Raw.{Raw}
 pub use Rattle.qindex.specs.declared.control.Control.{Control}
 pub use Rattle.ringcore.specs.declared.world.event.Who.{Who}

@@ -1,4 +1,4 @@
--- The table that all participants share: its rule, and what a seat's steps come to.
+-- The table that all participants share: its rule, and what a seat's steps do.
 pub mod Operations
 pub mod Rule
 pub mod Intents

@@ -1,4 +1,4 @@
-//! The one who takes commands.
+//! The consumer, who takes commands.
 ghost use Rattle.std.specs.Prelude.{◌≡◌, ◌∷◌, ◌≤◌, length, []};
 ghost use Rattle.ring.specs.Runs.{Raw as RawOf, Look, Consumer as ConsumerOf, Sender as SenderOf, taken_by, found_ready, world, control as control_of};
 ghost use Rattle.qindex.specs.Positions.{size};
@@ -31,13 +31,13 @@ use ringcore::world_law;
 use std::marker::Model;
 pub use taken::{Taken, TakenRun};
 
-/// The one who takes a ring's commands, in the order of their reservation, for a device of this type.
+/// Takes a ring's commands, in the order of their reservation, for a device of type `D`.
 #[derive(Drop)]
 pub struct Consumer<D: Device> {
     pub(crate) port: ConsumerPort,
     /// Room for the commands of a run.
     pub(crate) commands: Commands,
-    /// The device that was lent last.
+    /// The device lent last.
     pub(crate) lent: Lent<D>,
 }
 
@@ -74,7 +74,8 @@ impl<D: Device> Consumer<D> {
         port.into_seat()
     }
 
-    /// What the control word says at this moment: SMMU_CMDQ_PROD and SMMU_CMDQ_CONS, and whether the ring is closed.
+    /// Returns what the control word says at this moment: SMMU_CMDQ_PROD, SMMU_CMDQ_CONS, and whether the
+    /// ring is closed.
     pub fn look(&mut self, ring: &Ring) -> Control
         requires { self.old.ring ≡ ring.now }
         ensures trail { record self.new { history = [] } ≡ record self.old { trail = Look result ∷ self.old.trail; history = [] } }
@@ -85,8 +86,9 @@ impl<D: Device> Consumer<D> {
         self.port.port.look(ring)
     }
 
-    /// A witness, while the ring runs, that its steps and those of a sender are steps of one run, which both know from
-    /// now on. Whatever number the sender was told, it was told in that run. Else both stay as they are.
+    /// A witness, while the ring runs, that its steps and those of a sender are steps of one run, which both
+    /// know from now on. Whatever number the sender was told, it was told in that run. Otherwise both stay as
+    /// they are.
     pub fn meet(&mut self, ring: &Ring, sender: &mut Sender)
         requires ring { self.old.ring ≡ ring.now }
         requires sender { sender.old.ring ≡ ring.now }
@@ -105,7 +107,7 @@ impl<D: Device> Consumer<D> {
         sender.port.trail_stands_in_a_run();
     }
 
-    /// How many commands it has taken: at most `2^46`.
+    /// Returns how many commands it has taken, at most `2^46`.
     pub fn taken(&self) -> u64
         ensures value { result ≡ taken_by self.now.trail }
         ensures few { result ≤ most_reserved }
@@ -128,8 +130,8 @@ impl<D: Device> Consumer<D> {
         }
     }
 
-    /// Looks, tests from the head on, and reads what is ready: 1 to `most` commands, as far as their flags stand in
-    /// one word. `most` is 1 to 64.
+    /// Looks, tests from the head on, and reads what is ready: 1 to `most` commands whose flags are in one
+    /// word. `most` is 1 to 64.
     pub fn take_run(self, ring: &Ring, most: u32) -> TakenRun<D>
         requires ring { self.ring ≡ ring.now }
         requires some { 1 ≤ most }

@@ -1,10 +1,11 @@
-//! What has the effect of the commands that are taken.
+//! What the commands that are taken act on.
 
-/// Something that has the effect of commands, as caches.
+/// Something that commands act on, such as caches.
 pub trait Device {
     ghost use Rattle.std.specs.Prelude.{List};
     ghost use Rattle.ring.specs.Runs.{Taken};
 
-    /// Commands were taken with these outcomes, in this order, and nothing of the device is older than what they did.
+    /// Commands were taken with these outcomes, in this order, and nothing in the device is older than what
+    /// they did.
     ghost settled: { Self → List Taken → Type 0 };
 }

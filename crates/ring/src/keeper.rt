@@ -1,4 +1,4 @@
-//! One who sits for everybody, and so knows the whole run. He lends one seat at a time.
+//! The keeper, who has all seats of a ring and so knows the whole run. It lends one seat at a time.
 ghost use Rattle.std.specs.Prelude.{◌≡◌, ◌<◌, Some, None};
 ghost use Rattle.ring.specs.Runs.{Sender as SenderOf, trail_of, IsOne};
 ghost use Rattle.ring.specs.table.{Grew, RunStands};
@@ -19,8 +19,8 @@ use ringcore::control_word;
 pub use sender::IdleSender;
 use std::marker::{Brand, Model};
 
-/// One who sits for all of a ring's senders and its consumer. Each gets its seat for a call, and gives it back: then
-/// the run that the keeper knows is longer by exactly the steps of that call. It has no bytes.
+/// Has the seats of all of a ring's senders and of its consumer. Each gets its seat for a call and gives it
+/// back; then the run that the keeper knows is longer by exactly the steps of that call. It has no bytes.
 #[derive(Drop)]
 pub struct Keeper {
     seat: Seat<(), Participants>,
@@ -44,7 +44,7 @@ impl Keeper {
         let _ = &self.seat;
     }
 
-    /// The seat of one of the ring's senders.
+    /// Lends the seat of one of the ring's senders.
     fn lend_to_sender(&mut self, ring: &Ring, sender: u32) -> Port
         requires ring { self.old.ring ≡ ring.now }
         requires whole { self.old.lent ≡ None }
@@ -77,7 +77,7 @@ impl Keeper {
         Port { seat }
     }
 
-    /// The seat that was lent comes back, and a load tells the run as it is.
+    /// Takes back the seat that was lent. A load tells the run as it is.
     fn take_back(&mut self, ring: &Ring, port: Port)
         requires ring { self.old.ring ≡ ring.now }
         requires own { port.ring ≡ ring.now }

@@ -37,11 +37,12 @@ impl Model for Ring {
 }
 
 impl Ring {
-    /// A new ring of `2^log2` slots, its senders in the order of their numbers from 0, and its consumer. Each sender
-    /// may reserve `max_batches` batches. No later call of this crate takes memory.
+    /// Creates a ring of `2^log2` slots. Returns it with its senders, in the order of their numbers from 0,
+    /// and its consumer. Each sender may reserve `max_batches` batches. No later call of this crate takes
+    /// memory.
     ///
-    /// Errors: N1 where log2 isn't 1 to 19, N2 where the senders aren't 1 to 256, N3 where max_batches is 0, N4 for
-    /// out of memory.
+    /// Errors: N1 if log2 isn't 1 to 19, N2 if senders isn't 1 to 256, N3 if max_batches is 0, N4 if memory
+    /// runs out.
     pub fn new<D: Device>(
         alloc: Global,
         log2: u32,
@@ -58,7 +59,7 @@ impl Ring {
         }
     }
 
-    /// A ring before its first step.
+    /// Makes a ring before its first step.
     fn open<D: Device>(
         alloc: Global,
         geometry: Geometry,
@@ -91,8 +92,8 @@ impl Ring {
         Ok((Ring { table, made_with }, all, consumer))
     }
 
-    /// Joins all seats to one: there is one run of the ring that has all their steps. The senders are handed in in the
-    /// order of their numbers.
+    /// Joins all seats into one: one run of the ring has all their steps. `senders` has all senders of the
+    /// ring in the order of their numbers.
     pub fn finish<D: Device>(self, mut senders: Vec<Sender>, consumer: Consumer<D>) -> Summary
         requires senders { AreAll self senders.items }
         requires consumer { consumer.ring ≡ self }
@@ -135,7 +136,7 @@ impl Ring {
     }
 }
 
-/// Splits off a seat for each sender. The seat that is left is the consumer's.
+/// Splits off a seat for each sender. The remaining seat is the consumer's.
 fn deal(
     alloc: Global,
     words: &Shared<(), Participants, Parameters, RingRule>,

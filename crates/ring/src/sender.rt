@@ -1,4 +1,4 @@
-//! One who reserves slots for batches, writes them and hands them over.
+//! The sender, who reserves slots for batches, writes them and hands them over.
 ghost use Rattle.std.specs.Prelude.{◌≡◌, ◌≢◌, ◌∷◌, ◌+◌, ◌<◌, ◌≤◌, true, false, IfOk, IfErr, MatchResult, []};
 ghost use Rattle.cmdcodec.specs.Bodies.{IsBody};
 ghost use Rattle.qindex.specs.ControlWord.{IsControl};
@@ -33,7 +33,7 @@ use std::marker::{Brand, Model, PhantomData};
 pub use tally::Tally;
 pub use unbound_reservation::UnboundReservation;
 
-/// One of a ring's senders, which may be moved to a thread of its own.
+/// One of a ring's senders. It may move to another thread.
 #[derive(Drop)]
 pub struct Sender {
     pub(crate) port: Port,
@@ -51,7 +51,7 @@ impl Model for Sender {
 }
 
 impl Sender {
-    /// Its number, from 0.
+    /// Returns its number, from 0.
     pub fn id(&self) -> u32
         ensures { result ≡ self.now.number }
     {
@@ -73,7 +73,8 @@ impl Sender {
         self.port.trail_stands_in_a_run();
     }
 
-    /// What the control word says at this moment: SMMU_CMDQ_PROD and SMMU_CMDQ_CONS, and whether the ring is closed.
+    /// Returns what the control word says at this moment: SMMU_CMDQ_PROD, SMMU_CMDQ_CONS, and whether the
+    /// ring is closed.
     pub fn look(&mut self, ring: &Ring) -> Control
         requires { self.old.ring ≡ ring.now }
         ensures trail { record self.new { history = [] } ≡ record self.old { trail = Look result ∷ self.old.trail; history = [] } }
@@ -84,7 +85,7 @@ impl Sender {
         self.port.look(ring)
     }
 
-    /// Closes the ring: from now on nothing is reserved, by any sender (own).
+    /// Closes the ring: from now on no sender can reserve (own).
     pub fn close(&mut self, ring: &Ring)
         requires { self.old.ring ≡ ring.now }
         ensures trail { record self.new { history = [] } ≡ record self.old { trail = Close ∷ self.old.trail; history = [] } }
@@ -93,7 +94,7 @@ impl Sender {
         self.port.close(ring, self.tally.sender);
     }
 
-    /// The number in its completion cell: that of its last CMD_SYNC that completed, 0 where none did.
+    /// Returns the number in its completion cell: that of its last CMD_SYNC that completed, or 0 if none has.
     pub fn done_up_to(&mut self, ring: &Ring) -> u32
         requires { self.old.ring ≡ ring.now }
         ensures asked { record self.new { history = [] } ≡ record self.old { trail = Ask result ∷ self.old.trail; history = [] } }
@@ -108,7 +109,7 @@ impl Sender {
         found
     }
 
-    /// Whether the CMD_SYNC of this receipt completed, by the sender's completion cell.
+    /// Whether the CMD_SYNC of `receipt` has completed, by the sender's completion cell.
     pub fn is_done(&mut self, ring: &Ring, receipt: &Receipt) -> bool
         requires ring { self.old.ring ≡ ring.now }
         requires receipt { receipt.now.sender ≡ self.old.number }
@@ -121,7 +122,7 @@ impl Sender {
         receipt.number() <= self.done_up_to(ring)
     }
 
-    /// How many batches it may still reserve in the ring's life, of either kind.
+    /// Returns how many more batches it may reserve in the ring's life, of either kind.
     pub fn batches_left(&self, ring: &Ring) -> u32
         requires { self.now.ring ≡ ring.now }
         ensures { result + batches_made self.now.trail ≡ self.now.ring.made_with.max_batches }
@@ -129,10 +130,11 @@ impl Sender {
         ring.max_batches() - self.tally.batches
     }
 
-    /// Reserves the next slots for a whole batch and its closing CMD_SYNC, by one look and one exchange.
+    /// Reserves the next slots for a whole batch and its closing CMD_SYNC, with one look and one exchange.
     ///
-    /// Errors: Q4 where the batch has more commands than the ring has slots, Q5 where all its batches were reserved,
-    /// Q1 where the ring is closed, Q2 where it has too little room, Q3 where another came first.
+    /// Errors, in this order: Q4 if the batch has more commands than the ring has slots, Q5 if all its
+    /// batches were reserved, Q1 if the ring is closed, Q2 if it has too little room, Q3 if another changed
+    /// the ring first.
     pub fn reserve<'b>(self, ring: &Ring, batch: &'b Batch) -> Result<Reservation<'b>, Refused>
         requires { self.ring ≡ ring.now }
         ensures reserved { IfOk result (λ r. IsReserved batch.now true self r) }
@@ -144,7 +146,7 @@ impl Sender {
         self.reserve_as::<Closing>(ring, batch.as_borrowed())
     }
 
-    /// The same of a batch without a closing CMD_SYNC, which has no number (own).
+    /// The same for a batch without a closing CMD_SYNC, which has no number (own).
     pub fn reserve_bare<'b>(
         self,
         ring: &Ring,
@@ -160,7 +162,8 @@ impl Sender {
         self.reserve_as::<Bare>(ring, batch.as_borrowed())
     }
 
-    /// The same of a batch of either kind, whose commands their owner keeps: looks, and tries to reserve where it fits.
+    /// The same for a batch of either kind whose commands stay with their owner. Looks, and tries to reserve
+    /// if the batch fits.
     pub fn reserve_as<'b, K: BatchKind>(
         self,
         ring: &Ring,

@@ -3,7 +3,7 @@ ghost use Rattle.std.specs.Prelude.{◌≡◌};
 
 use std::marker::Model;
 
-/// How many commands were reserved and taken, and whether the ring was closed. `Ring::finish` alone makes one.
+/// How many commands were reserved and taken, and whether the ring was closed. Only `Ring::finish` makes one.
 #[derive(Clone, Copy, Debug, PartialEq, Eq)]
 pub struct Summary {
     pub(crate) reserved: u64,
@@ -22,14 +22,14 @@ impl Model for Summary {
 }
 
 impl Summary {
-    /// How many commands were reserved, closing CMD_SYNCs among them.
+    /// Returns how many commands were reserved, including closing CMD_SYNCs.
     pub fn reserved(&self) -> u64
         ensures { result ≡ self.now.reserved }
     {
         self.reserved
     }
 
-    /// How many of them were taken.
+    /// Returns how many of them were taken.
     pub fn taken(&self) -> u64
         ensures { result ≡ self.now.taken }
     {

@@ -12,7 +12,7 @@ const CFGI_STE: Raw = Raw {
     hi: 1,
 };
 
-/// A batch of so many commands, at most 63.
+/// Returns a batch of `length` commands, at most 63.
 pub(crate) fn batch_of(length: usize) -> io::Result<Batch>
     requires { length ≤ 63 }
 {

@@ -1,5 +1,5 @@
-//! `ring_bench`: times batches of one sender on one thread by the word `times`, and of senders and a consumer on threads
-//! of their own by the word `threads`. Without a word it does nothing.
+//! `ring_bench`: with the word `times` times batches of one sender on one thread; with `threads`, senders and a
+//! consumer, each on its own thread. Without a word it does nothing.
 #![tactic(auto)]
 
 mod applying;

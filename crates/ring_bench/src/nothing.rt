@@ -1,4 +1,4 @@
-//! A device on which no command has an effect.
+//! A device on which commands have no effect.
 use ring::Device;
 
 /// It is always settled.

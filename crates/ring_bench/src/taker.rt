@@ -1,4 +1,4 @@
-//! Who takes commands off a ring.
+//! What takes commands off a ring.
 ghost use Rattle.std.specs.Prelude.{◌≡◌};
 
 use ring::Ring;
@@ -6,13 +6,13 @@ use ring::Ring;
 /// The most commands that are taken at once.
 pub(crate) const MOST_COMMANDS: u32 = 64;
 
-/// A consumer alone, or one with an engine.
+/// A consumer, alone or with an engine.
 pub(crate) trait Taker: Sized {
     ghost use Rattle.ring.specs.Rings.{RingValue};
 
     ghost ring_of: { Self → RingValue };
 
-    /// Takes so many commands, or until the ring is closed: how many it took.
+    /// Takes `wanted` commands, or until the ring is closed, and returns how many it took.
     fn take_all(self, ring: &Ring, wanted: u64) -> u64
         requires { ring_of self ≡ ring.now };
 }

@@ -1,4 +1,4 @@
-//! The part of a consumer alone.
+//! The part of a consumer without an engine.
 ghost use Rattle.std.specs.Prelude.{◌≡◌, ◌≤◌, Some, true, false, length, slice_get, take};
 ghost use Rattle.cmdcodec.specs.declared.raw.Raw.{Raw as RawOf};
 ghost use Rattle.ringcore.specs.world.World.{outcome_of};
@@ -29,7 +29,7 @@ impl Taker for Consumer<Nothing> {
     }
 }
 
-/// Completes all that was read ahead of the first illegal command, or that one where nothing is ahead of it.
+/// Completes all that was read before the first illegal command, or that one if nothing is before it.
 fn complete(ring: &Ring, run: PendingRun<Nothing>) -> Consumer<Nothing>
     requires { run.consumer.ring ≡ ring.now }
     ensures { result.ring ≡ ring.now }
@@ -41,7 +41,7 @@ fn complete(ring: &Ring, run: PendingRun<Nothing>) -> Consumer<Nothing>
     run.complete_run(ring, count, Outcome::Applied, &Nothing)
 }
 
-/// How many commands from the first on are legal.
+/// Returns how many commands from the first on are legal.
 fn count_legal(run: &PendingRun<Nothing>) -> u32
     ensures within { result ≤ length run.now.raws }
     ensures legal { HasOutcome Applied (take result run.now.raws) }

@@ -1,4 +1,4 @@
-//! Times of senders and a consumer, each on a thread of its own.
+//! Times of senders and a consumer, each on its own thread.
 ghost use Rattle.std.specs.Prelude.{◌≡◌};
 ghost use Rattle.std.specs.List.{All};
 ghost use Rattle.std.specs.Thread.{IsSync};
@@ -23,11 +23,11 @@ const LOG2: u32 = 10;
 /// How many batches each sender sends.
 const BATCHES: u32 = 300_000;
 
-/// How many commands four batches of a sender have in a row, with their CMD_SYNC: 2, 3, 4 and 5.
+/// How many commands four successive batches of a sender have, with their CMD_SYNC: 2, 3, 4 and 5.
 const FOUR_BATCHES: u64 = 14;
 
-/// Sends all batches: batch k of sender s has 1 + (s + k) mod 4 commands ahead of its CMD_SYNC. Where one can't be sent,
-/// it closes the ring.
+/// Sends all batches: batch k of sender s has 1 + (s + k) mod 4 commands before its CMD_SYNC. If one can't be sent, it
+/// closes the ring.
 fn send_all(ring: &Ring, sender: Sender, batches: &[Batch; 4])
     requires { sender.ring ≡ ring.now }
 {
@@ -45,7 +45,7 @@ fn send_all(ring: &Ring, sender: Sender, batches: &[Batch; 4])
     }
 }
 
-/// Runs each sender on a thread of its own.
+/// Runs each sender on its own thread.
 fn run_senders<R: Threads + Sync>(
     rt: &R,
     ring: &Ring,
@@ -68,7 +68,7 @@ fn run_senders<R: Threads + Sync>(
     );
 }
 
-/// Runs who takes and each sender, each on a thread of its own: how many commands were taken.
+/// Runs the taker and each sender, each on its own thread, and returns how many commands were taken.
 fn run_all<R: Threads + Sync, T: Taker + Send + Drop>(
     rt: &R,
     ring: &Ring,
@@ -92,7 +92,7 @@ fn run_all<R: Threads + Sync, T: Taker + Send + Drop>(
     taken
 }
 
-/// The nanoseconds from before the threads start to after all are joined, and how many commands were taken.
+/// Returns the nanoseconds from before the threads start to after all are joined, and how many commands were taken.
 fn time_one<R: Clock + Threads + Sync, T: Taker + Send + Drop>(
     rt: &R,
     ring: &Ring,
@@ -109,7 +109,7 @@ fn time_one<R: Clock + Threads + Sync, T: Taker + Send + Drop>(
     Ok((start.elapsed(rt)?.as_nanos(), taken))
 }
 
-/// With a consumer alone, whose device does nothing.
+/// Times a consumer without an engine, whose device does nothing.
 fn time_consumer<R: Clock + Threads + AllocGlobal + Sync>(
     rt: &R,
     batches: &[Batch; 4],
@@ -121,7 +121,7 @@ fn time_consumer<R: Clock + Threads + AllocGlobal + Sync>(
     time_one(rt, &ring, batches, all, consumer)
 }
 
-/// With the engine, whose caches are empty.
+/// Times the engine, whose caches are empty.
 fn time_engine<R: Clock + Threads + AllocGlobal + Sync>(
     rt: &R,
     batches: &[Batch; 4],
@@ -136,8 +136,8 @@ fn time_engine<R: Clock + Threads + AllocGlobal + Sync>(
     time_one(rt, &ring, batches, all, Engine::new(consumer, caches))
 }
 
-/// Prints two lines for each of 1 to 3 senders, of a consumer alone and of the engine: who takes, how many senders, the
-/// nanoseconds, and how many commands were taken.
+/// Prints two lines for each of 1 to 3 senders, for a consumer without an engine and for the engine: who takes, how
+/// many senders, the nanoseconds, and how many commands were taken.
 pub(crate) fn time_all<R: Clock + Threads + Print + AllocGlobal + Sync>(rt: &R) -> io::Result<()> {
     let batches = [batch_of(1)?, batch_of(2)?, batch_of(3)?, batch_of(4)?];
     for senders in 1..4 {

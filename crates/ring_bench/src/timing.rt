@@ -16,7 +16,7 @@ const BATCHES: u32 = 10_000_000;
 /// The largest ring, of `2^19` slots.
 const LOG2: u32 = 19;
 
-/// Reserves and publishes the batch as often as the ring has room, at most so often: how often it did.
+/// Reserves and publishes the batch as often as the ring has room, at most `most` times, and returns how often it did.
 fn fill(ring: &Ring, sender: Sender, batch: &Batch, most: u32) -> u32
     requires { sender.ring ≡ ring.now }
     ensures { result ≤ most }
@@ -31,7 +31,8 @@ fn fill(ring: &Ring, sender: Sender, batch: &Batch, most: u32) -> u32
     most
 }
 
-/// The nanoseconds that so many batches took. They go into one new ring after another, whose making isn't timed.
+/// Returns the nanoseconds that `BATCHES` batches took. They go into one new ring after another; making these isn't
+/// timed.
 fn time_batches<R: Clock + AllocGlobal>(rt: &R, batch: &Batch) -> io::Result<u128> {
     let mut left = BATCHES;
     let mut nanoseconds: u128 = 0;
@@ -54,8 +55,8 @@ fn time_batches<R: Clock + AllocGlobal>(rt: &R, batch: &Batch) -> io::Result<u12
     Ok(nanoseconds)
 }
 
-/// Prints a line for batches of 1 and of 63 commands, each with its CMD_SYNC: how many commands, the nanoseconds of so
-/// many batches, and how many batches.
+/// Prints a line for batches of 1 and of 63 commands, each with its CMD_SYNC: how many commands, the nanoseconds of all
+/// batches, and how many batches.
 pub(crate) fn time_all<R: Clock + Print + AllocGlobal>(rt: &R) -> io::Result<()> {
     for length in [1usize, 63] {
         let batch = batch_of(length)?;

@@ -9,7 +9,7 @@ use ring::Ring;
 use std::alloc::AllocError;
 use std::process::Abort;
 
-/// What is wanted of the consumer, and of the sender's completion cell, once the batch of this number was sent.
+/// What the consumer, and the sender's completion cell, must answer once the batch of this number was sent.
 fn calls_of_lap<R: AllocGlobal + Abort>(rt: &R, number: u32) -> String {
     format!(in rt.alloc();
         "consumer take = 0x700000003 0x1\n\
@@ -19,7 +19,7 @@ fn calls_of_lap<R: AllocGlobal + Abort>(rt: &R, number: u32) -> String {
     .expect(rt, "memory")
 }
 
-/// Sends a batch and takes its two commands: the sender is told that the CMD_SYNC completed, and not before.
+/// Sends a batch and takes its two commands: the sender is told that the CMD_SYNC completed, but not before.
 fn lap<R: AllocGlobal + Abort>(rt: &R, ring: &Ring, seats: Seats, number: u32) -> Seats
     requires sender { seats.sender.ring ≡ ring.now }
     requires consumer { seats.consumer.ring ≡ ring.now }

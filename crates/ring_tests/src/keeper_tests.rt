@@ -48,7 +48,7 @@ fn a_batch_and_its_sync_in_one_hand(rt: HostRuntime) {
     assert!(rt; sender.is_done(&ring, &receipt));
 }
 
-/// Wants a reservation to begin at the first slot, and its batch to have this number, if it closes with a CMD_SYNC.
+/// Expects a reservation to begin at the first slot, and its batch to have this number, if it closes with a CMD_SYNC.
 fn expect_idle(rt: &impl Abort, idle: &IdleReservation, number: Option<u32>) {
     assert_eq!(rt;
         (idle.closes(), idle.first().get(), idle.number()),

@@ -30,7 +30,7 @@ fn a_run_over_the_end_of_a_lap_of_64_slots(rt: HostRuntime) {
     );
 }
 
-// The last 15 slots of the lap, and then the next lap's, come last.
+// The last two runs are the lap's last 15 slots, and then those of the next lap.
 #[test]
 fn a_run_ends_with_its_flag_word(rt: HostRuntime) {
     expect_answers(

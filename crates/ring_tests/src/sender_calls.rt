@@ -1,4 +1,4 @@
-//! Calls of a sender as words of a text, and what they answer: `send N` and, without a closing CMD_SYNC, `bare N` of a
+//! Calls of a sender as words of a text, and their answers: `send N` and, without a closing CMD_SYNC, `bare N` of a
 //! batch of N commands, `look`, `close`, `done`, and `left`, how many batches it may still reserve.
 ghost use Rattle.std.specs.Prelude.{◌≡◌};
 
@@ -16,7 +16,7 @@ pub fn told(alloc: Global, seen: &Control) -> Option<String> {
     format!(in alloc; "{prod} {cons} {state}").ok()
 }
 
-/// Sends a batch once: the number of its CMD_SYNC, or why it is refused.
+/// Tries once to send a batch. Returns the number of its CMD_SYNC, or why it is refused.
 pub fn send(ring: &Ring, sender: Sender, batch: &Batch) -> (Sender, Result<u32, Cause>)
     requires { sender.ring ≡ ring.now }
     ensures ring { result.0.ring ≡ ring.now }
@@ -28,7 +28,7 @@ pub fn send(ring: &Ring, sender: Sender, batch: &Batch) -> (Sender, Result<u32, 
     }
 }
 
-/// Sends a batch without a closing CMD_SYNC once: why it is refused, if it is.
+/// Tries once to send a batch without a closing CMD_SYNC. Returns why it is refused, if it is.
 pub fn send_bare(ring: &Ring, sender: Sender, batch: &Batch) -> (Sender, Option<Cause>)
     requires { sender.ring ≡ ring.now }
     ensures ring { result.0.ring ≡ ring.now }
@@ -77,7 +77,7 @@ fn sent(
     }
 }
 
-/// Makes a call and tells its answer.
+/// Makes a call and returns its answer.
 pub fn sender_answer(
     rt: &impl Abort,
     alloc: Global,

@@ -59,7 +59,7 @@ fn as_many_batches_as_it_may(rt: HostRuntime) {
     );
 }
 
-/// Sends commands from where they stand, with a closing CMD_SYNC: its number.
+/// Sends borrowed commands with a closing CMD_SYNC, and returns its number.
 fn send_borrowed(
     rt: &impl Abort,
     ring: &Ring,
@@ -187,7 +187,7 @@ fn a_ring_of_two_slots(rt: HostRuntime) {
     play(&rt, &ring, seats, "bare 3 = Q4");
 }
 
-/// Sends a batch so many times, and says of the last one how it went.
+/// Sends a batch so many times, and returns how the last one went.
 fn send_times(
     ring: &Ring,
     sender: Sender,
@@ -224,7 +224,7 @@ fn largest_ring<R: AllocGlobal + Abort>(rt: &R) -> (Ring, Seats)
     (ring, Seats { sender, consumer })
 }
 
-// 2^19 slots are full of 2^13 batches of 63 commands and a CMD_SYNC.
+// 2^13 batches of 63 commands and a CMD_SYNC fill 2^19 slots.
 #[test]
 fn the_last_of_256_senders_fills_the_largest_ring(rt: HostRuntime) {
     let (ring, seats) = largest_ring(&rt);
@@ -256,7 +256,7 @@ fn a_batch_over_the_end_of_a_flag_word(rt: HostRuntime) {
     );
 }
 
-/// Sends a first batch, and says how it went.
+/// Sends a first batch, and returns how it went.
 fn outcome_of_send(rt: &impl Abort, ring: &Ring, sender: Sender) -> &'static str
     requires { sender.ring ≡ ring.now }
 {
@@ -266,7 +266,7 @@ fn outcome_of_send(rt: &impl Abort, ring: &Ring, sender: Sender) -> &'static str
     }
 }
 
-/// Makes a ring and sends a batch, and says how it went.
+/// Makes a ring and sends a batch, and returns how it went.
 fn outcome(rt: &impl Abort, alloc: Global) -> &'static str {
     match Ring::new::<NoEntries>(alloc, 2, 3, 1) {
         Ok((ring, mut senders, _consumer)) => {

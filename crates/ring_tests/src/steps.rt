@@ -16,7 +16,7 @@ pub enum Head {
     Command(Raw),
 }
 
-/// A legal command is applied, an illegal one replaced.
+/// Applied for a legal command, replaced for an illegal one.
 pub fn outcome_of(raw: Raw) -> Outcome
     ensures { result ≡ outcome_of raw }
 {

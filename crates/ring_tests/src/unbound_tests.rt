@@ -31,7 +31,7 @@ fn begin(rt: &impl Abort, ring: &Ring, sender: Sender) -> Kept
     Kept { batch, reservation }
 }
 
-/// Writes the rest, and hands over the whole batch.
+/// Writes the rest, and publishes the whole batch.
 fn end(ring: &Ring, kept: Kept) -> (Sender, Receipt)
     requires ring { kept.reservation.ring ≡ ring.now }
     requires body { kept.batch ≡ kept.reservation.body }
@@ -104,7 +104,7 @@ fn end_beside(
     )
 }
 
-/// Wants both to be the first batches of their senders: the one who sent it.
+/// Expects both to be the first batches of their senders, and returns the sender of the second.
 fn expect_both<R: Threads + Abort>(rt: &R, ring: &Ring, kept: Kept, sender: Sender) -> Sender
     requires ring { kept.reservation.ring ≡ ring.now }
     requires body { kept.batch ≡ kept.reservation.body }

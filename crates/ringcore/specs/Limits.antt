@@ -5,7 +5,8 @@ use Rattle.std.specs.Prelude.{ℕ, ◌^◌}
 abbrev pub most_senders : ℕ
 most_senders = 256
 
--- the most commands that are ever reserved in a ring: so many senders make fewer than 2^32 batches each, of at most 64
+-- the most commands that are ever reserved in a ring: this many senders make fewer than 2^32 batches each, of
+-- at most 64
 abbrev pub most_reserved : ℕ
 most_reserved = 2 ^ 46
 

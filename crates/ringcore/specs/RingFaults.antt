@@ -1,4 +1,4 @@
--- Which numbers a ring can't be made with, and what the faults are called.
+-- Which numbers a ring can't be made with, and the labels of the faults.
 use Rattle.std.specs.Prelude.{◌≡◌, ℕ, List, codes, nat_le, ◌==◌, ◌&&◌, not, Option, Some, None, if◌then◌else◌}
 use Rattle.ringcore.specs.Limits.{most_senders}
 use Rattle.ringcore.specs.declared.ring_fault.RingFault.{RingFault}
@@ -18,7 +18,7 @@ number_fault log2 senders max_batches =
     else if max_batches == 0 then Some Batches
     else None
 
--- It isn't made for that fault, or where there is none because memory ran out.
+-- It isn't made because of that fault, or, if there is none, because memory ran out.
 abbrev pub IsNotMade : Option RingFault → RingFault → Type 0
 IsNotMade numbers (Memory error) = numbers ≡ None
 IsNotMade numbers fault = numbers ≡ Some fault

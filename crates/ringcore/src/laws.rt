@@ -1,4 +1,4 @@
-//! Laws of every run, each the contract of a function that does nothing, from each layer.
+//! Laws of every run, from each layer. Each is the contract of a function that does nothing.
 pub use crate::machine::laws::{consumer_view, sender_view, steps_law, sync_tallies};
 pub use crate::memory::laws::{
     acknowledge, advance, apart, ask, begin, close, flip, look, read, ready_runs, reserve_lost,

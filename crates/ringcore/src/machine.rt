@@ -39,7 +39,7 @@ pub use step::{Seen, Step};
 pub use step_fault::StepFault;
 pub use sync_tallies::SyncTallies;
 
-/// A ring with one owner, who takes each step by itself: the words, and what each seat knows (own).
+/// A ring with one owner, who takes every step: the words, and what each seat knows (own).
 #[derive(Drop)]
 pub struct Core {
     words: RingWords,
@@ -61,9 +61,9 @@ impl Model for Core {
 }
 
 impl Core {
-    /// A new ring of `2^log2` slots, for so many senders.
+    /// Creates a ring of `2^log2` slots for this many senders.
     ///
-    /// Errors: N1 where log2 isn't 1 to 19, N2 where the senders aren't 1 to 256, N4 when out of memory.
+    /// Errors: N1 if log2 isn't 1 to 19, N2 if senders isn't 1 to 256, N4 if memory runs out.
     pub fn new(alloc: Global, log2: u32, senders: u32) -> Result<Core, RingFault>
         ensures made { IfOk result (λ core. IsNew core log2 senders) }
         ensures refused { IfErr result (λ fault. IsNotMade (core_fault log2 senders) fault) }
@@ -75,7 +75,7 @@ impl Core {
         }
     }
 
-    /// A machine before its first step.
+    /// Makes a machine before its first step.
     fn open(alloc: Global, geometry: Geometry, senders: u32) -> Result<Core, AllocError>
         requires { senders ≤ most_senders }
         ensures { IfOk result (λ core. (ring_of core ≡ ring_with geometry senders) × StandsAfter core []) }
@@ -89,7 +89,7 @@ impl Core {
         })
     }
 
-    /// Takes a step, if it has no fault: else tells the first that it has, and changes nothing.
+    /// Takes a step if it has no fault. Otherwise returns its first fault and changes nothing.
     pub fn apply(&mut self, step: Step) -> Result<Seen, StepFault>
         ensures accepted { IfOk result (λ seen. IsTaken self.old self.new step seen) }
         ensures refused { IfErr result (λ fault. IsRefused self.old step fault) }
@@ -124,7 +124,7 @@ impl Core {
         }
     }
 
-    /// What the control word says.
+    /// Returns what the control word says.
     pub fn control(&self) -> Control
         ensures says { (run : Run) → StandsAfter self.now run → result ≡ control self.now.words.geometry (world run) }
         ensures geometry { IsControl self.now.words.geometry result }
@@ -135,7 +135,7 @@ impl Core {
         self.words.control().unwrap()
     }
 
-    /// What the sender of this number knows. None where the ring has no such sender.
+    /// Returns what the sender with this number knows, or `None` if the ring has no such sender.
     pub fn sender(&self, sender: u32) -> Option<&SenderView>
         ensures { MatchOption result (self.now.words.senders ≤ sender) (λ view. (sender < self.now.words.senders) × AfterEachRun self.now (λ run. Knows run sender view.now)) }
     {
@@ -146,7 +146,7 @@ impl Core {
     }
 }
 
-/// What so many senders know before their first step.
+/// What this many senders know before their first step.
 fn new_views(alloc: Global, senders: u32) -> Result<Vec<SenderView>, AllocError>
     ensures { IfOk result (λ views. (length views.items ≡ senders) × AllKnow [] views.items) }
 {
@@ -157,10 +157,10 @@ fn new_views(alloc: Global, senders: u32) -> Result<Vec<SenderView>, AllocError>
     Ok(views)
 }
 
-/// Plays steps, one after another, in a new ring: up to the first that has a fault. That one is told by its place, from
-/// 0, with its fault.
+/// Plays steps in a new ring, up to the first that has a fault. Returns the ring, and that step's place in
+/// `steps`, from 0, with its fault.
 ///
-/// Errors: as of `Core::new`.
+/// Errors: those of `Core::new`.
 pub fn run(
     alloc: Global,
     log2: u32,

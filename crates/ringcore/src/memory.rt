@@ -1,5 +1,5 @@
-//! The words of a ring: which is where, what its flags say, and what one operation on one of them does for each kind
-//! of step.
+//! The words of a ring: where each is, what its flags say, and what the single operation of each kind of step
+//! does.
 mod flags;
 pub mod laws;
 mod layout;

@@ -8,13 +8,13 @@ use qindex::Geometry;
 use std::alloc::AllocError;
 use thiserror::Error;
 
-/// Why a ring isn't made. The first that applies is told.
+/// Why a ring isn't made: the first fault that applies.
 #[derive(Clone, Copy, Debug, PartialEq, Eq, Error)]
 pub enum RingFault {
-    /// N1: the ring isn't of `2^1` to `2^19` slots.
+    /// N1: the ring doesn't have `2^1` to `2^19` slots.
     #[error("N1: the ring isn't of 2 to 524,288 slots")]
     Size,
-    /// N2: the senders aren't 1 to 256.
+    /// N2: the number of senders isn't 1 to 256.
     #[error("N2: the senders aren't 1 to 256")]
     Senders,
     /// N3: a sender may reserve no batch.
@@ -26,7 +26,7 @@ pub enum RingFault {
 }
 
 impl RingFault {
-    /// Its label alone, `N1` to `N4`.
+    /// Returns its label, `N1` to `N4`.
     pub fn label(self) -> &'static str
         ensures { result.now ≡ fault_label self }
     {
@@ -47,10 +47,10 @@ impl From<AllocError> for RingFault {
     }
 }
 
-/// The geometry of a ring of `2^log2` slots, where it can be made for so many senders, each of which may reserve
-/// `max_batches` batches.
+/// Returns the geometry of a ring of `2^log2` slots, if one can be made for this many senders, each of which
+/// may reserve `max_batches` batches.
 ///
-/// Errors, in this order: N1 where log2 isn't 1 to 19, N2 where the senders aren't 1 to 256, N3 where max_batches is 0.
+/// Errors, in this order: N1 if log2 isn't 1 to 19, N2 if senders isn't 1 to 256, N3 if max_batches is 0.
 pub fn ring_geometry(log2: u32, senders: u32, max_batches: u32) -> Result<Geometry, RingFault>
     ensures geometry { IfOk result (λ geometry. geometry ≡ log2) }
     ensures some { OnOk result (1 ≤ senders) }

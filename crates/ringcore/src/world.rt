@@ -1,4 +1,4 @@
-//! The events of a ring, which stand in proofs alone, and the laws of every run of them.
+//! The events of a ring, which exist only in proofs, and the laws of every run of them.
 mod event;
 pub mod laws;
 

@@ -1,6 +1,6 @@
-//! Tests of script, and of schedule, which is served by it. They stand in a crate of their own, since a build of a crate's tests
-//! proves the crate once more. Helpers hold what is the same in several tests, since the prover takes long over
-//! each loop and each comparison.
+//! Tests of script, and of schedule, which script serves. They are in a crate of their own, since building a crate's
+//! tests proves the crate again. Helpers hold what several tests share, since the prover takes long over each loop and
+//! each comparison.
 #![tactic(auto)]
 
 #[cfg(test)]

@@ -1,4 +1,4 @@
-//! A line of ten million bytes without an end: no more of it is read than tells that it is too long.
+//! A line of ten million bytes without an end: only enough is read to tell that it is too long.
 use crate::served::status_of;
 use fake_streams::{Pieces, Sink};
 use script::Status;
@@ -6,7 +6,7 @@ use std::io;
 use std::io::{ErrorKind, Read};
 use std::process::Abort;
 
-/// Serves these lines and then ten million spaces, and wants this text.
+/// Serves these lines and then ten million spaces, and expects this text.
 fn expect_long_line<R: AllocGlobal + Abort>(rt: &R, front: &str, text: &str) {
     for most in [1, 1_000, 10_000] {
         let spaces = io::repeat(b' ').take(10_000_000);
@@ -14,7 +14,7 @@ fn expect_long_line<R: AllocGlobal + Abort>(rt: &R, front: &str, text: &str) {
         let mut output = Sink::new(100, 0, ErrorKind::BrokenPipe);
         let ended = status_of(rt.alloc(), &mut input, &mut output);
         assert_eq!(rt; (ended, output.text()), (Status::Refused, text), "{front}");
-        // The last read brought the byte that makes the line too long.
+        // The last read gave the byte that makes the line too long.
         let least = front.len().saturating_add(4097);
         let more = input.given.saturating_sub(least);
         assert!(rt; input.given >= least && more < most, "{more} by {most}");

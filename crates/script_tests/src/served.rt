@@ -1,4 +1,4 @@
-//! Schedules, and what is wanted of them.
+//! Schedules, and what is expected of them.
 use fake_streams::{Sink, Source};
 use schedule::schedule;
 use script::Status;
@@ -8,13 +8,13 @@ use std::process::Abort;
 
 const PIPE: ErrorKind = ErrorKind::BrokenPipe;
 
-// The theorem isn't passed on, since it would be dear in each test.
+// The theorem isn't passed on, since it would be costly in each test.
 /// Serves a script.
 pub fn status_of<R: Read, W: Write>(alloc: Global, input: &mut R, output: &mut W) -> Status {
     schedule(alloc, input, output)
 }
 
-/// Serves a script, and wants this text and this status of it.
+/// Serves a script, and expects this text and this status.
 pub fn expect_answer<R: AllocGlobal + Abort>(
     rt: &R,
     name: &str,
@@ -29,8 +29,8 @@ pub fn expect_answer<R: AllocGlobal + Abort>(
     assert_eq!(rt; (ended, answer), (status, text), "{name}");
 }
 
-/// Serves a script from a reader and to a writer, of each of which is told how many bytes a call moves at most, and which
-/// call of the reader fails, and wants this status and just this text.
+/// Serves a script, and expects this status and exactly this text. Reader and writer are each given how many bytes a
+/// call moves at most, and the reader which call fails.
 fn expect_through<R: AllocGlobal + Abort>(
     rt: &R,
     script: &str,
@@ -45,7 +45,7 @@ fn expect_through<R: AllocGlobal + Abort>(
     assert_eq!(rt; told, wanted, "read {bad} by {read}, written by {written}");
 }
 
-/// Serves a script in pieces of several lengths, and wants this text and this status each time.
+/// Serves a script in pieces of several lengths, and expects this text and this status each time.
 pub fn expect_in_pieces<R: AllocGlobal + Abort>(rt: &R, script: &str, text: &str, status: Status) {
     for read in [1, 7, 100_000] {
         for written in [1, 7, 100_000] {
@@ -54,7 +54,7 @@ pub fn expect_in_pieces<R: AllocGlobal + Abort>(rt: &R, script: &str, text: &str
     }
 }
 
-/// Has each write fail in turn, a byte at a time, and wants just the text before it.
+/// Has each write fail in turn, a byte at a time, and expects exactly the text before it.
 pub fn expect_failed_writes<R: AllocGlobal + Abort>(rt: &R, script: &str, text: &str) {
     for bad in 1..=text.len() {
         let mut input = Source::new(script.as_bytes(), 100, 0, PIPE);
@@ -65,7 +65,7 @@ pub fn expect_failed_writes<R: AllocGlobal + Abort>(rt: &R, script: &str, text: 
     }
 }
 
-/// The answers to the lines of a table `LINE = ANSWER` whose ends are before the byte of this number.
+/// Returns the answers to the lines of a table `LINE = ANSWER` whose ends are before the byte of this number.
 fn answers_before(alloc: Global, table: &str, bad: usize) -> Result<String, AllocError> {
     let mut text = String::new(alloc);
     let mut read = 0usize;
@@ -80,7 +80,7 @@ fn answers_before(alloc: Global, table: &str, bad: usize) -> Result<String, Allo
     Ok(text)
 }
 
-/// The lines of the table without their answers, and then a last one without its end.
+/// Returns the lines of the table without their answers, and then a last one without its end.
 fn script_of(alloc: Global, table: &str, last: &str) -> Result<String, AllocError> {
     let mut script = String::new(alloc);
     for line in table.lines() {
@@ -92,7 +92,7 @@ fn script_of(alloc: Global, table: &str, last: &str) -> Result<String, AllocErro
     Ok(script)
 }
 
-/// Has each read fail in turn, a byte at a time, and wants just the answers to the lines whose ends were read.
+/// Has each read fail in turn, a byte at a time, and expects exactly the answers to the lines whose ends were read.
 pub fn expect_failed_reads<R: AllocGlobal + Abort>(rt: &R, table: &str, last: &str) {
     let script = script_of(rt.alloc(), table, last).expect(rt, "there is memory");
     // The call after the last byte finds the end.

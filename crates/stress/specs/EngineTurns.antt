@@ -15,13 +15,13 @@ use Rattle.stress.specs.FirstEntries.{IsFilled}
 abbrev pub most_commands : ℕ
 most_commands = 64
 
--- A turn led from the one to the other, and it answered such.
+-- A turn led from `old` to `new`, with such an answer.
 pub record IsTurn (answers : RunAnswer → Type 0) (old new : EngineValue) : Type 0 where
   pub answer : RunAnswer
   pub ran : HasRun most_commands old new answer
   pub is : answers answer
 
--- So many turns did, one after another, and nothing else.
+-- So many turns led from `old` to `new`, one after another, and nothing else.
 abbrev pub HasTurned : (RunAnswer → Type 0) → ℕ → EngineValue → EngineValue → Type 0
 HasTurned answers zero old new = new ≡ old
 HasTurned answers (suc n) old new = (between : EngineValue) × HasTurned answers n old between × IsTurn answers between new
@@ -69,12 +69,12 @@ pub record HasDrained (slots : ℕ) (how : Found) (old new : EngineValue) : Type
 abbrev pub IsUndrained : ℕ → EngineValue → EngineValue → Type 0
 IsUndrained slots old new = HasTurned IsBusy (slots + 1) old new
 
--- How often a batch is tried, each time behind a drain.
+-- How often a batch is tried, each time after a drain.
 abbrev pub most_tries : ℕ
 most_tries = 8
 
--- It goes on until a drain comes to no end, or for all the tries of a batch, or until the ring is found empty and open where
--- it was to be closed.
+-- It goes on until a drain comes to no end, or for all the tries of a batch, or until the ring is found empty and open
+-- although it was to be closed.
 pub data HasGivenUp (slots : ℕ) (old new : EngineValue) : Type 0 where
   undrained : (before : EngineValue) → GoesOn 0 old before → IsUndrained slots before new → HasGivenUp slots old new
   refused : GoesOn most_tries old new → HasGivenUp slots old new

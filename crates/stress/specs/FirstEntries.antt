@@ -1,4 +1,4 @@
--- The entries that are filled ahead of all batches: one for each sender, which the first command of its first batch covers.
+-- The entries that are filled before any batch: one for each sender, which the first command of its first batch covers.
 use Rattle.std.specs.Prelude.{◌≡◌, ℕ, ◌<◌, Some}
 use Rattle.std.specs.FinMap as finite
 use Rattle.caches.specs.declared.tag.Tag.{Tag}

@@ -1,4 +1,4 @@
--- What a stress run is to send.
+-- What a stress run sends.
 use Rattle.std.specs.Prelude.{ℕ, zero, suc, ◌+◌, ◌-◌, ◌%◌, ◌≤◌, Bool, true, false, cond, not, min, ◌==◌, List, [], ◌∷◌, ◌++◌, Option, Some, None}
 use Rattle.cmdcodec.specs.declared.raw.Raw.{Raw}
 use Rattle.cmdcodec.specs.declared.command.Command.{Command}
@@ -8,8 +8,8 @@ use Rattle.cmdcodec.specs.Words.{encoding}
 use Rattle.qindex.specs.Positions.{size}
 use Rattle.ringcore.specs.world.Delivery.{Batch}
 
--- the log2 of the ring's slots, how many senders there are, how many batches each sends, how many turns each worker has,
--- and of how many batches one has no closing sync: 0 where each has one
+-- the log2 of the ring's slots, how many senders there are, how many batches each sends, how many turns each worker
+-- has, and of how many batches one has no closing sync: 0 if each has one
 pub record PlanValue : Type 0 where
   pub log2 : ℕ
   pub senders : ℕ
@@ -49,7 +49,7 @@ commands_to s k (suc n) = commands_to s k n ++ encoding (command s k n) ∷ []
 abbrev pub body : PlanValue → ℕ → ℕ → List Raw
 body plan s k = commands_to s k (body_length plan s k)
 
--- whether batch k has a closing sync: each has, or all but every so many-th
+-- whether batch k has a closing sync: all have if `every` is 0, else all but each `every`-th
 abbrev pub closes_by : ℕ → ℕ → Bool
 closes_by zero k = true
 closes_by (suc e) k = not (k % suc e == 0)

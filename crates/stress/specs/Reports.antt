@@ -38,7 +38,7 @@ pub record IsAsPlanned (plan : PlanValue) (r : ReportValue) : Type 0 where
   pub closed : r.summary.closed ≡ true
   pub done : length r.done ≡ plan.senders
 
--- The newest step of each sender is an ask, which found what is told, and that is no more than this.
+-- The newest step of each sender is an ask, which found what is told, at most `most`.
 pub record HaveAsked (most : ℕ) (senders : List SenderValue) (done : List ℕ) : Type 0 where
   pub each : (k : ℕ) (s : SenderValue) (found : ℕ) → slice_get senders k ≡ Some s → slice_get done k ≡ Some found
       → (found ≤ most) × (older : Trail) × (s.trail ≡ Ask found ∷ older)
@@ -59,8 +59,8 @@ pub record IsOfARun (plan : PlanValue) (r : ReportValue) : Type 0 where
   pub entries_are : r.entries ≡ finite.len engine.unit.caches.entries
   pub asked : HaveAsked plan.batches senders r.done
 
--- There was a ring of the plan's numbers, with an engine that held just the plan's first entries at its start and took all
--- its turns. Behind them it was given up.
+-- There was a ring of the plan's numbers, with an engine that held just the plan's first entries at its start and took
+-- all its turns. After them it was given up.
 pub record IsUnfinished (plan : PlanValue) : Type 0 where
   pub ring : RingValue
   pub engine : EngineValue

@@ -16,7 +16,7 @@ pub record WorkerValue : Type 0 where
   pub sender : SenderValue
   pub sent : ℕ
 
--- The sender has sent the first so many batches of its plan, and nothing else.
+-- The sender has sent the first `sent` batches of its plan, and nothing else.
 pub record IsOnPlan (plan : PlanValue) (sender : SenderValue) (sent : ℕ) : Type 0 where
   pub plan_is : IsPlan plan
   pub known : sender.number < plan.senders
@@ -71,7 +71,7 @@ pub record HasReservedOne (body : List Raw) (closes : Bool) (s t : SenderValue) 
   pub batches : own_batches s.number t.trail ≡ own_batches s.number s.trail ++ record { sender = s.number; number = next_number s.trail closes; body = body } ∷ []
   pub numbers : numbers_given t.trail ≡ cond closes (suc (numbers_given s.trail)) (numbers_given s.trail)
 
--- Nothing was reserved where it was refused, and else this batch; the receipt is of it.
+-- If it was refused nothing was reserved, else this batch; the receipt is for it.
 abbrev pub HasTried : List Raw → Bool → SenderValue → SenderValue → Attempt → Type 0
 HasTried body closes s t Refused = ReservesNone s.trail t.trail
 HasTried body closes s t (Sent receipt) = HasReservedOne body closes s t × (receipt.sender ≡ s.number) × (next_number s.trail closes ≡ Some receipt.number)

@@ -27,7 +27,7 @@ impl Attempt {
         }
     }
 
-    /// The receipt of a batch that was sent with its CMD_SYNC.
+    /// The receipt of a batch that was sent with its CMD_SYNC, if it was.
     pub(crate) fn receipt(&self) -> Option<&Receipt>
         ensures { MatchOption result ((receipt : ReceiptValue) → self.now ≢ Attempt.Sent receipt) (λ r. self.now ≡ Attempt.Sent r.now) }
     {
@@ -38,7 +38,7 @@ impl Attempt {
     }
 }
 
-/// Reserves a batch by one try, and hands it over at once.
+/// Tries once to reserve a batch, and publishes it at once.
 pub(crate) fn send_once(
     sender: Sender,
     ring: &Ring,

@@ -15,10 +15,10 @@ use engine::Engine;
 use ring::{Ring, Sender};
 use std::alloc::{AllocError, Global};
 
-/// How often a batch is tried, each time behind a drain.
+/// How often a batch is tried, each time after a drain.
 const TRIES: u32 = 8;
 
-/// A worker for each sender, in the order of the senders.
+/// Makes a worker for each sender, in the order of the senders.
 pub(crate) fn employ(
     alloc: Global,
     plan: Plan,
@@ -40,9 +40,9 @@ pub(crate) fn employ(
     Ok(workers)
 }
 
-/// Tries to send a worker's next batch, each time behind a drain.
+/// Tries to send a worker's next batch, each time after a drain.
 ///
-/// Errors: S2 where all tries were refused, or a drain didn't come to its end.
+/// Errors: S2 if all tries were refused, or a drain didn't come to its end.
 fn send_next(ring: &Ring, worker: Worker, engine: &mut Engine) -> Result<Worker, StressFault>
     requires ring { worker.sender.ring ≡ ring.now }
     requires engine { engine.old.consumer.ring ≡ ring.now }
@@ -66,7 +66,7 @@ fn send_next(ring: &Ring, worker: Worker, engine: &mut Engine) -> Result<Worker,
     Err(StressFault::Unfinished)
 }
 
-/// Sends what is left of a worker's plan, and gives its sender back.
+/// Sends what is left of a worker's plan, and returns its sender.
 fn send_left(
     plan: Plan,
     ring: &Ring,
@@ -89,7 +89,7 @@ fn send_left(
     Ok(worker.into_sender())
 }
 
-/// Sends what is left of all plans, and gives the senders back in their order, in the room that was made for them.
+/// Sends what is left of all plans, and returns the senders in their order, in the room made for them.
 ///
 /// Errors: S2.
 pub(crate) fn send_all(
@@ -120,7 +120,7 @@ pub(crate) fn send_all(
     Ok(senders)
 }
 
-/// The first sender closes the ring.
+/// Closes the ring, by the first sender.
 pub(crate) fn close_first(plan: Plan, ring: &Ring, mut senders: Vec<Sender>) -> Vec<Sender>
     requires ring { All (λ s. s.ring ≡ ring.now) senders.items }
     requires sent { All (HasSent plan) senders.items }
@@ -134,7 +134,7 @@ pub(crate) fn close_first(plan: Plan, ring: &Ring, mut senders: Vec<Sender>) -> 
     senders
 }
 
-/// What each sender's completion cell says, in the order of the senders, in the room that was made for it.
+/// Asks each sender's completion cell, in the order of the senders, and returns the numbers in the room made for them.
 pub(crate) fn ask_all(
     plan: Plan,
     ring: &Ring,

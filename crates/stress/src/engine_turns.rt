@@ -11,7 +11,7 @@ use ring::Ring;
 /// The most commands that a turn takes.
 const MOST_COMMANDS: u32 = 64;
 
-/// How a ring was found that has nothing to take.
+/// How a ring with nothing to take was found.
 #[derive(Clone, Copy, Debug, PartialEq, Eq)]
 pub(crate) enum Found {
     Empty,
@@ -19,7 +19,7 @@ pub(crate) enum Found {
     Drained,
 }
 
-/// As many turns as this.
+/// Runs the engine for `turns` turns.
 pub(crate) fn run_engine<G: Gate>(ring: &Ring, gate: &G, turns: u32, mut engine: Engine) -> Engine
     requires { engine.consumer.ring ≡ ring.now }
     ensures goes_on { GoesOn turns engine result }
@@ -32,9 +32,9 @@ pub(crate) fn run_engine<G: Gate>(ring: &Ring, gate: &G, turns: u32, mut engine:
     engine
 }
 
-/// Turns until the ring has nothing to take, at most one more than it has slots.
+/// Takes turns until the ring has nothing to take, at most one more than it has slots.
 ///
-/// Errors: S2 where there is something even then.
+/// Errors: S2 if there is something even then.
 pub(crate) fn drain(ring: &Ring, slots: u32, engine: &mut Engine) -> Result<Found, StressFault>
     requires { engine.old.consumer.ring ≡ ring.now }
     ensures goes_on { GoesOn 1 engine.old engine.new }

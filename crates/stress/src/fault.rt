@@ -10,13 +10,13 @@ pub enum StressFault {
     /// S1: out of memory.
     #[error("S1: out of memory")]
     NoMemory,
-    /// S2: behind the workers a batch was refused eight times, or a drain found a command that wasn't handed over.
+    /// S2: after the workers' end a batch was refused eight times, or a drain found a command that wasn't published.
     #[error("S2: the run didn't come to its end")]
     Unfinished,
 }
 
 impl StressFault {
-    /// Its label alone, `S1` or `S2`.
+    /// Returns its label, `S1` or `S2`.
     pub fn label(self) -> &'static str
         ensures { result.now ≡ fault_label self }
     {

@@ -1,4 +1,4 @@
-//! The entries that the caches hold ahead of all batches.
+//! The entries that the caches hold before any batch.
 ghost use Rattle.std.specs.Prelude.{◌≡◌, ◌<◌, ◌≤◌, [], OnErr, IfOk, Err};
 ghost use Rattle.std.specs.FinMap as finite;
 ghost use Rattle.engine.specs.Counting.{none_counted};
@@ -27,7 +27,7 @@ fn first_tag(sender: u32) -> Tag
     }
 }
 
-/// An engine whose caches hold an entry for each sender.
+/// Returns an engine whose caches hold an entry for each sender.
 ///
 /// Errors: S1.
 pub(crate) fn filled_engine(
@@ -46,7 +46,7 @@ pub(crate) fn filled_engine(
     };
     let mut engine = Engine::new(consumer, caches);
     for sender in 0..senders {
-        // With a new tag, a whole block and room there is no other fault than being out of memory.
+        // With a new tag, a whole block and room, the only fault is being out of memory.
         if engine.fill(first_tag(sender), u64::from(sender)).is_err() {
             return Err(StressFault::NoMemory);
         }

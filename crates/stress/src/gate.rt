@@ -3,13 +3,13 @@ use ring::Receipt;
 
 /// Called by all workers of a run, each on its own thread (own).
 pub trait Gate {
-    /// Ahead of the first try of a batch. Batches are counted from 1.
+    /// Called before the first try of a batch. Batches are counted from 1.
     fn before(&self, sender: u32, batch: u32);
 
-    /// After a batch was sent, with its receipt where it has one; or once the turns are used up.
+    /// Called after a batch was sent, with its receipt if it has one, or once the turns are used up.
     fn after(&self, sender: u32, batch: u32, receipt: Option<&Receipt>);
 
-    /// Ahead of a turn of the engine. Turns are counted from 1.
+    /// Called before a turn of the engine. Turns are counted from 1.
     fn turn(&self, turn: u32);
 }
 

@@ -1,4 +1,4 @@
-//! What a run is to send.
+//! What a run sends.
 ghost use Rattle.std.specs.Prelude.{◌≡◌, ◌<◌, ◌≤◌};
 ghost use Rattle.std.specs.Option.{SomeIff};
 ghost use Rattle.cmdcodec.specs.Words.{encoding};
@@ -9,8 +9,8 @@ use batch::Batch;
 use cmdcodec::{Asid, Command, Page, Reach, Vmid, encode};
 use std::marker::Model;
 
-/// What a run is to send (own): on a ring of `2^log2` slots each of so many senders so many batches, each worker within
-/// so many turns. Batch k of sender s invalidates one to four pages by address.
+/// What a run sends (own): `batches` batches from each of `senders` senders, on a ring of `2^log2` slots, each worker
+/// within `turns` turns. Batch k of sender s invalidates one to four pages by address.
 #[derive(Clone, Copy, Debug, PartialEq, Eq)]
 pub struct Plan {
     log2: u32,
@@ -34,16 +34,16 @@ impl Model for Plan {
 }
 
 impl Plan {
-    /// A plan in which each batch closes with a CMD_SYNC. None where a number is out of its range: log2 1 to 19, 1 to 64
-    /// senders, 1 to 100,000 batches for each, 1 to 10,000,000 turns for each worker.
+    /// Returns a plan in which each batch closes with a CMD_SYNC, or None if a number is out of range: log2 1 to 19, 1
+    /// to 64 senders, 1 to 100,000 batches for each, 1 to 10,000,000 turns for each worker.
     pub fn new(log2: u32, senders: u32, batches: u32, turns: u32) -> Option<Plan>
         ensures { SomeIff result (IsPlan (record { log2 = log2; senders = senders; batches = batches; turns = turns; every = 0 })) (record { log2 = log2; senders = senders; batches = batches; turns = turns; every = 0 }) }
     {
         Plan::with_bare(log2, senders, batches, turns, 0)
     }
 
-    /// The same where of each `every` batches of a sender the last has no CMD_SYNC; 0 to 100,000, and 0 where each has
-    /// one.
+    /// The same, but the last of each `every` batches of a sender has no CMD_SYNC; 0 to 100,000, and with 0 each batch
+    /// has one.
     pub fn with_bare(log2: u32, senders: u32, batches: u32, turns: u32, every: u32) -> Option<Plan>
         ensures { SomeIff result (IsPlan (record { log2 = log2; senders = senders; batches = batches; turns = turns; every = every })) (record { log2 = log2; senders = senders; batches = batches; turns = turns; every = every }) }
     {
@@ -108,7 +108,7 @@ impl Plan {
         self.every == 0 || k % self.every != 0
     }
 
-    /// How many commands batch k of a sender has ahead of its CMD_SYNC.
+    /// How many commands batch k of a sender has before its CMD_SYNC.
     fn body_length(self, sender: u32, k: u32) -> u32
         requires sender { sender < 64 }
         requires batch { k ≤ 100000 }
@@ -119,7 +119,7 @@ impl Plan {
         1 + (sender + k) % most
     }
 
-    /// Batch k, from 1, of a sender.
+    /// Returns batch k, from 1, of a sender.
     pub(crate) fn batch(self, sender: u32, k: u32) -> Batch
         requires sender { sender < 64 }
         requires batch { k ≤ 100000 }
@@ -134,7 +134,7 @@ impl Plan {
     }
 }
 
-/// Command `place` of batch k of a sender.
+/// Returns command `place` of batch k of a sender.
 fn command(sender: u32, k: u32, place: u32) -> Command
     requires sender { sender < 64 }
     requires batch { k ≤ 100000 }

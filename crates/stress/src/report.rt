@@ -1,4 +1,4 @@
-//! What a run came to.
+//! The result of a run.
 ghost use Rattle.std.specs.Prelude.{◌≡◌, IfOk, OnErr, Err, string_bytes};
 ghost use Rattle.std.specs.FinMap as finite;
 ghost use Rattle.stress.specs.ReportText.{report_text};
@@ -11,8 +11,8 @@ use ring::Summary;
 use std::alloc::Global;
 use std::marker::Model;
 
-/// What a run came to: the ring's summary and the engine's counts, how many entries the caches hold at the end, and what
-/// each sender's completion cell said.
+/// The result of a run: the ring's summary and the engine's counts, how many entries the caches hold at the end, and
+/// what each sender's completion cell said.
 #[derive(Drop)]
 pub struct Report {
     plan: Plan,
@@ -32,7 +32,7 @@ impl Model for Report {
 }
 
 impl Report {
-    /// The report of a plan, by what is left of its engine and its ring.
+    /// Returns the report of a plan, given what is left of its engine and its ring.
     pub(crate) fn new(plan: Plan, finished: Finished, done: Vec<u32>) -> Report
         ensures { result ≡ record { plan = plan; summary = finished.summary; counts = finished.counts; entries = finite.len finished.caches.entries; done = done.items } }
     {
@@ -60,7 +60,7 @@ impl Report {
         self.summary
     }
 
-    /// What the engine counted of the commands taken.
+    /// The engine's counts of the commands taken.
     pub fn counts(&self) -> Counts
         ensures { result ≡ self.now.counts }
     {
@@ -74,8 +74,8 @@ impl Report {
         self.entries
     }
 
-    /// What each sender's completion cell said at the end, in the order of the senders: of its batches with a CMD_SYNC
-    /// so many had completed, from the first on. It needn't be all of them.
+    /// What each sender's completion cell said at the end, in the order of the senders: how many of its batches with a
+    /// CMD_SYNC had completed, from the first on. It needn't be all of them.
     pub fn done(&self) -> &[u32]
         ensures { result.now ≡ self.now.done }
     {

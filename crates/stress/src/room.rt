@@ -5,8 +5,8 @@ use crate::fault::StressFault;
 use ring::Sender;
 use std::alloc::Global;
 
-/// Room for so many senders, and for what each finds when it asks. It is made ahead of the workers, so that the last part
-/// takes no memory.
+/// Room for so many senders, and for what each finds when it asks. It is made before the workers start, so that the
+/// last part takes no memory.
 #[derive(Drop)]
 pub(crate) struct Room {
     pub(crate) senders: Vec<Sender>,

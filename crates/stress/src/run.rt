@@ -23,12 +23,12 @@ use ring::Ring;
 use std::alloc::{AllocGlobal, Global};
 use std::thread::Threads;
 
-/// Runs a plan. First each sender and the engine have a thread of their own, all at the same time, and as many turns as
-/// the plan says; then what is left is sent and taken on one thread, the first sender closes the ring, each sender asks
-/// which of its batches completed, and the ring is finished. Whatever the schedule was, the totals are the plan's. From
-/// the start of the workers on no memory is taken.
+/// Runs a plan. First each sender and the engine run at the same time, each on its own thread, for as many turns as the
+/// plan says; then what is left is sent and taken on one thread, the first sender closes the ring, each sender asks
+/// which of its batches completed, and the ring is finished. Whatever the schedule, the totals are the plan's. Once the
+/// workers start, no memory is taken.
 ///
-/// Errors: S1 when out of memory, before any worker starts; S2 where a batch was refused eight times behind the workers'
+/// Errors: S1 if memory runs out, before any worker starts; S2 if a batch was refused eight times after the workers'
 /// end, or a drain didn't come to its end.
 pub fn run_all<R: Threads + AllocGlobal + Sync, G: Gate + Sync>(
     rt: &R,
@@ -57,7 +57,7 @@ pub fn run_all<R: Threads + AllocGlobal + Sync, G: Gate + Sync>(
     finish(*plan, ring, workers, engine, room)
 }
 
-/// What is done once all workers have ended.
+/// Does what is left once all workers have ended.
 ///
 /// Errors: S2.
 fn finish(

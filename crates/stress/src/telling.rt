@@ -69,7 +69,7 @@ fn say_senders(report: &Report, text: &mut String) -> Result<(), AllocError>
     Ok(())
 }
 
-/// Tells the plan's numbers, what was counted, how it ended, and a line for each sender.
+/// Appends the plan's numbers, what was counted, how it ended, and a line for each sender.
 pub(crate) fn say_report(report: &Report, text: &mut String) -> Result<(), AllocError>
     ensures { OnOk result (string_bytes text.new ≡ string_bytes text.old ++ report_text report.now) }
 {

@@ -35,7 +35,7 @@ impl Worker {
         self.plan.batches() - self.sent
     }
 
-    /// The sender, once all is sent.
+    /// Returns the sender, once all is sent.
     pub(crate) fn into_sender(self) -> Sender
         requires { self.sent ≡ self.plan.batches }
         ensures assignment { assignment_of self.plan result ≡ assignment self }

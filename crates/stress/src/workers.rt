@@ -12,7 +12,7 @@ use engine::Engine;
 use ring::Ring;
 use std::thread::{Threads, join};
 
-/// Runs each sender's worker on a thread of its own, and gives them back in their order.
+/// Runs each sender's worker on its own thread, and returns them in their order.
 fn run_senders<R: Threads + Sync, G: Gate + Sync>(
     rt: &R,
     ring: &Ring,
@@ -41,7 +41,7 @@ fn run_senders<R: Threads + Sync, G: Gate + Sync>(
     workers
 }
 
-/// Runs the engine and each sender's worker, each on a thread of its own.
+/// Runs the engine and each sender's worker, each on its own thread.
 pub(crate) fn run_at_once<R: Threads + Sync, G: Gate + Sync>(
     rt: &R,
     ring: &Ring,

@@ -3,7 +3,7 @@ use ring::Receipt;
 use std::sync::atomic::{AtomicBool, Ordering};
 use stress::{Gate, Plan, run_all};
 
-/// How often a flag is looked at before it counts as never set.
+/// How often a flag is read before it counts as never set.
 const LOOKS: u32 = 2_000_000_000;
 
 /// The second batch of each of two senders waits, a bounded time, until the other has begun its second and the engine
@@ -49,7 +49,7 @@ impl Meeting {
 impl Gate for Meeting {
     fn before(&self, sender: u32, batch: u32) {
         if batch == 2 {
-            // Only who has the receipt of its first batch shows itself.
+            // Only one that has the receipt of its first batch shows itself.
             if self.is_set(&self.first_sent, sender) {
                 self.set(&self.begun, sender);
             }

@@ -3,10 +3,10 @@ use ring::Receipt;
 use std::sync::atomic::{AtomicBool, AtomicU32, Ordering};
 use stress::{Gate, Plan, run_all};
 
-/// Of how many batches of a sender the last has no CMD_SYNC here.
+/// The last of each three batches of a sender has no CMD_SYNC here.
 const EVERY: u32 = 3;
 
-/// Counts what it is told, and notes what isn't so.
+/// Counts what it is told, and notes what is wrong.
 #[derive(Drop)]
 struct Listener {
     begun: AtomicU32,

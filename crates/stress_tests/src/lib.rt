@@ -1,5 +1,4 @@
-//! Tests of the stress run. They stand in a crate of their own, since a build of a crate's tests proves the crate once
-//! more.
+//! Tests of the stress run, in a crate of their own, since building a crate's tests proves the crate again.
 #![tactic(auto)]
 
 #[cfg(test)]

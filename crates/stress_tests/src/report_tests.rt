@@ -87,7 +87,7 @@ fn a_distance_of_bare_batches_that_is_never_reached(rt: HostRuntime) {
     );
 }
 
-/// Each worker has one turn, so all but some batches are sent in the last part.
+/// Each worker has one turn, so all but a few batches are sent in the last part.
 #[test]
 fn many_senders_and_a_turn_each(rt: HostRuntime) {
     let plan = Plan::new(1, 64, 3, 1).expect(&rt, "a plan");
@@ -131,8 +131,8 @@ impl Gate for Beginning {
     }
 }
 
-/// The smallest run, and the lines of its report: whole, refused as memory ran out, or wrong. A run is refused before it
-/// has begun, or not at all.
+/// Runs the smallest run and writes the lines of its report: whole, refused as memory ran out, or wrong. A run is
+/// refused before it has begun, or not at all.
 fn outcome<R: Threads + AllocGlobal + Sync>(rt: &R) -> &'static str {
     let Some(plan) = Plan::new(1, 1, 1, 1) else {
         return "wrong";

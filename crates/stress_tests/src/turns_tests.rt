@@ -1,13 +1,13 @@
-//! What a gate is told where the turns run out, and of the engine's first turn and its last.
+//! What a gate is told if the turns run out, and of the engine's first and last turn.
 use ring::Receipt;
 use std::sync::atomic::{AtomicBool, AtomicU32, Ordering};
 use std::thread::Threads;
 use stress::{Gate, Plan, run_all};
 
-/// How often something is looked at before it counts as never so.
+/// How often something is read before it counts as never so.
 const LOOKS: u32 = 2_000_000_000;
 
-/// Waits a bounded time, and says whether it came to be so.
+/// Waits a bounded time, and returns whether the number was reached.
 fn comes_to_be(number: &AtomicU32, wanted: u32) -> bool {
     for _ in 0..LOOKS {
         if number.load(Ordering::SeqCst) >= wanted {
@@ -17,10 +17,10 @@ fn comes_to_be(number: &AtomicU32, wanted: u32) -> bool {
     false
 }
 
-/// What was told on the way by the workers of two senders at most.
+/// What the workers of at most two senders told on the way.
 #[derive(Drop)]
 struct Told {
-    /// The newest batch of each sender that was begun.
+    /// The newest batch that each sender began.
     begun: [AtomicU32; 2],
     sent: AtomicU32,
     given_up: AtomicU32,
@@ -105,7 +105,7 @@ impl Gate for FullRing {
 
     fn turn(&self, turn: u32) {
         if turn == 1 {
-            // Who has sent its batch begins another, if it has a turn left, and gives that up.
+            // One that has sent its batch begins another, if it has a turn left, and gives that up.
             let told = &self.told;
             told.expect(comes_to_be(&told.ended, self.ends));
             told.expect(told.sent.load(Ordering::SeqCst) == 1);
@@ -113,7 +113,7 @@ impl Gate for FullRing {
     }
 }
 
-/// What two workers tell with so many turns each, as long as nothing is taken; none where something was wrong.
+/// Returns what two workers tell with `turns` turns each while nothing is taken, or None if something was wrong.
 fn told_at_a_full_ring<R: Threads + AllocGlobal + Sync>(
     rt: &R,
     turns: u32,
@@ -133,13 +133,13 @@ fn told_at_a_full_ring<R: Threads + AllocGlobal + Sync>(
     Some(gate.told.numbers())
 }
 
-/// Both begin their first batch. The one who sends it has no turn left, and begins no other; the other gives it up.
+/// Both begin their first batch. The one that sends it has no turn left, and begins no other; the other gives it up.
 #[test]
 fn one_turn_each(rt: HostRuntime) {
     assert_eq!(rt; told_at_a_full_ring(&rt, 1, 2), Some((2, 1, 1)));
 }
 
-/// Who sends its first batch begins its second, and each gives up the one that it has begun, once.
+/// The one that sends its first batch begins its second, and each gives up the one that it has begun, once.
 #[test]
 fn turns_that_run_out(rt: HostRuntime) {
     assert_eq!(rt; told_at_a_full_ring(&rt, 2, 3), Some((3, 1, 2)));
@@ -177,8 +177,8 @@ impl Gate for LastTurn {
     }
 }
 
-/// A turn is told ahead of it: what was sent before the last one was told is taken in it, and there is room for one batch
-/// more.
+/// A turn is told before it is taken: what was sent before the last one was told is taken in it, and there is room for
+/// one more batch.
 #[test]
 fn the_last_turn_is_told_ahead_of_it(rt: HostRuntime) {
     let gate = LastTurn {

@@ -1,4 +1,4 @@
-//! Times of one command or look-up each.
+//! Times of single commands and look-ups.
 ghost use Rattle.std.specs.Prelude.{◌≡◌, ◌≤◌, ◌<◌, OnOk};
 ghost use Rattle.engine.specs.Stops.{unstopped};
 
@@ -17,15 +17,15 @@ use walking::Other;
 /// How often each is timed.
 const TURNS: u32 = 1_000;
 
-/// The entries are taken in strides of a prime, so that all come in turn.
+/// Entries are visited in strides of a prime, so that each gets its turn.
 const STRIDE: u32 = 7_919;
 
-/// Prints a line: what was timed, how many entries are held, the nanoseconds, and the sum of the walk ahead of it.
+/// Prints a line: what was timed, how many entries are held, the nanoseconds, and the sum of the walk before it.
 fn report<R: Print>(rt: &R, what: &str, count: u16, nanoseconds: u128, sum: u64) -> io::Result<()> {
     println!(rt; "{what} {count} {nanoseconds} {sum}")
 }
 
-/// Nothing but reading the clock twice.
+/// Times nothing but two readings of the clock.
 fn time_nothing<R: Clock + Print>(rt: &R, other: &Other) -> io::Result<()> {
     let sum = other.walk();
     let start = Instant::now(rt)?;
@@ -33,7 +33,7 @@ fn time_nothing<R: Clock + Print>(rt: &R, other: &Other) -> io::Result<()> {
     report(rt, "nothing", 0, nanoseconds, sum)
 }
 
-/// The command that removes the entry at a place, which is then put in again.
+/// Times the command that removes the entry at a place, and puts the entry in again.
 fn time_command<R: Clock + Print>(
     rt: &R,
     other: &Other,
@@ -65,7 +65,7 @@ fn time_command<R: Clock + Print>(
     report(rt, "command", count, nanoseconds, sum)
 }
 
-/// A look-up of the entry at a place.
+/// Times a look-up of the entry at a place.
 fn time_look_up<R: Clock + Print>(
     rt: &R,
     other: &Other,
@@ -84,7 +84,7 @@ fn time_look_up<R: Clock + Print>(
     report(rt, "look-up", count, nanoseconds, sum)
 }
 
-/// A command and a look-up in a unit of so many entries.
+/// Times a command and a look-up in a unit of `count` entries.
 fn time_unit<R: Clock + Print>(
     rt: &R,
     other: &Other,

@@ -1,5 +1,5 @@
-//! `unit_bench`: times commands that remove nothing in caches of several sizes by the word `sizes`, and commands and look-ups
-//! of a unit, each alone and behind a walk over other memory, by the word `cold`. Without a word it does nothing.
+//! `unit_bench`: with the word `sizes` times commands that remove nothing in caches of several sizes; with `cold` times
+//! single commands and look-ups of a unit, each after a walk over other memory. Without a word it does nothing.
 #![tactic(auto)]
 
 mod cold;

@@ -12,7 +12,7 @@ use std::time::Instant;
 
 const ROUNDS: u32 = 20;
 
-/// The words of a command of each kind that removes nothing of `Contents::Mixed`.
+/// The words of a command of each kind, which remove nothing of `Contents::Mixed`.
 const MIXED: [(u64, u64); 17] = [
     // CFGI_STE, CFGI_STE_RANGE, CFGI_CD and CFGI_CD_ALL.
     (0x0000_0007_0000_0003, 0),
@@ -46,7 +46,7 @@ const ONE_MACHINE: [(u64, u64); 1] = [(0x0002_0007_0000_0011, 0)];
 
 const HYPERVISOR: [(u64, u64); 1] = [(0x0002_0000_0000_0021, 0)];
 
-/// Caches of each size, 256, 4,096 and 65,536 entries, all of the same contents.
+/// Caches of each size, 256, 4,096 and 65,536 entries, with the same contents.
 #[derive(Drop)]
 struct Sizes {
     small: Caches,
@@ -63,7 +63,7 @@ struct Times {
 }
 
 impl Sizes {
-    /// They, or none where memory ran out.
+    /// Returns them, or None if memory ran out.
     fn new(alloc: Global, contents: Contents) -> Option<Sizes> {
         Some(Sizes {
             small: contents.full(alloc, 256)?,
@@ -77,7 +77,7 @@ impl Sizes {
     }
 }
 
-/// The nanoseconds of so many calls.
+/// Returns the nanoseconds of `calls` calls.
 fn time_calls<R: Clock>(
     rt: &R,
     caches: &mut Caches,
@@ -91,8 +91,8 @@ fn time_calls<R: Clock>(
     Ok(start.elapsed(rt)?.as_nanos())
 }
 
-/// The shortest times of some rounds. A round goes over all sizes, so that what else the machine does slows
-/// each of them.
+/// Returns the shortest times of some rounds. Each round goes over all sizes, so that other load on the machine slows
+/// them alike.
 fn shortest_times<R: Clock>(
     rt: &R,
     sizes: &mut Sizes,
@@ -120,8 +120,8 @@ fn shortest_times<R: Clock>(
     Ok(least)
 }
 
-/// Prints a line for each of these commands: what is held, the nanoseconds of so many calls at each size,
-/// how many calls, and the command.
+/// Prints a line for each of these commands: what is held, the nanoseconds of `calls` calls at each size, how many
+/// calls, and the command.
 fn report<R: Clock + Print + AllocGlobal>(
     rt: &R,
     contents: Contents,
@@ -141,7 +141,7 @@ fn report<R: Clock + Print + AllocGlobal>(
             println!(rt; "{contents:?} {small} {medium} {large} {calls} {command}")?;
         }
     }
-    // A command that removed something was timed for something else.
+    // If a command removed something, the times are of something else.
     if !sizes.are_full() {
         return Err(io::Error::from(ErrorKind::InvalidData));
     }

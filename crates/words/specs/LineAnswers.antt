@@ -1,4 +1,4 @@
--- What a line that brings a command is answered with. The line is good where it is a legal command, or skipped.
+-- The answer to a line that brings a command. The line is good if it is a legal command, or skipped.
 use Rattle.std.specs.Prelude.{ℕ, List, [], ◌∷◌, ◌++◌, Bool, false, Option, Some, None, codes, if◌then◌else◌}
 use Rattle.cmdcodec.specs.declared.raw.Raw.{Raw}
 use Rattle.script.specs.Words.{is_hex, number_of}
@@ -17,7 +17,7 @@ bad_line = told (codes "bad line", false)
 
 -- ---- one word
 
--- 32 hexadecimal digits are the bytes of a command. Of any other word `decode` says what is bad.
+-- 32 hexadecimal digits are the bytes of a command. For any other word `decode` says what is bad.
 abbrev pub one_word_by : Option Raw → List ℕ → List ℕ × Bool
 one_word_by (Some raw) word = words_text raw
 one_word_by None word = decode_text word

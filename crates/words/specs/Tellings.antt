@@ -4,9 +4,9 @@ use Rattle.script.specs.declared.status.Status.{Status}
 use Rattle.line_answers.specs.Tellings.{TellsOfLines, ExitsAsLines}
 use Rattle.words.specs.LineAnswers.{answer_of}
 
--- Of a reader that had this input and has `rest` left, and a writer that held `before` and holds `after`. Where all lines
--- were served, it is good that each was a legal command or skipped; one line at least that wasn't is refused, and so is a
--- line that ended the run.
+-- Of a reader that had this input and has `rest` left, and a writer that held `before` and holds `after`. If all lines
+-- were served, the run is good if each was a legal command or skipped, and refused if one wasn't; it is also refused if
+-- a line ended it.
 abbrev pub TellsOfWords : Status → Option (List ℕ) → Option (List ℕ) → Option (List ℕ) → Option (List ℕ) → Type 0
 TellsOfWords status input rest before after = TellsOfLines answer_of status input rest before after
 

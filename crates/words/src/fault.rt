@@ -14,7 +14,8 @@ pub(crate) enum LineFault<'a> {
     TooMany(&'a [u8]),
 }
 
-/// Why a line of two words or more is a `bad line`, if it is one. What is bad in one word alone its answer says.
+/// Returns why a line of two words or more is a `bad line`, if it is one. For a single word the answer says what is
+/// bad.
 pub(crate) fn fault_of(line: &[u8]) -> Option<LineFault<'_>> {
     let (lo, rest) = next_word(line)?;
     let (hi, rest) = next_word(rest)?;

@@ -1,4 +1,4 @@
-//! Lines that bring a command each, as it is printed elsewhere: what each of them is.
+//! Decodes lines with a command each, as it is printed elsewhere.
 #![tactic(auto)]
 
 mod answering;

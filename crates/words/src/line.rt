@@ -1,4 +1,4 @@
-//! What one line is answered with.
+//! The answer to one line.
 ghost use Rattle.std.specs.Prelude.{◌≡◌, ◌++◌, ◌∷◌, IfOk, OnOk, [], string_bytes};
 ghost use Rattle.script.specs.Words.{is_hex};
 ghost use Rattle.line_answers.specs.LineWords.{words_of};
@@ -18,7 +18,7 @@ fn end_line(reply: &mut String) -> Result<(), AllocError>
     reply.push_str("\n")
 }
 
-/// Tells what the words of a command mean.
+/// Appends what the words of a command mean, as a line.
 fn say_raw(raw: Raw, reply: &mut String) -> Result<bool, AllocError>
     ensures text { OnOk result (string_bytes reply.new ≡ string_bytes reply.old ++ (told (words_text raw)).text) }
     ensures good { IfOk result (λ is_good. is_good ≡ (told (words_text raw)).is_good) }
@@ -46,7 +46,7 @@ fn say_bad_word(alloc: Global, word: &[u8], reply: &mut String) -> Result<bool, 
     Ok(is_legal)
 }
 
-/// Tells of the only word of a line.
+/// Answers the only word of a line.
 #[tactic(auto, unfolding(crate::specs::LineAnswers::one_word))]
 fn say_word(alloc: Global, word: &[u8], reply: &mut String) -> Result<bool, AllocError>
     ensures text { OnOk result (string_bytes reply.new ≡ string_bytes reply.old ++ (one_word word.now).text) }
@@ -64,7 +64,7 @@ fn is_hex(word: &[u8]) -> bool
     word.len() >= 2 && word[0] == b'0' && word[1] == b'x'
 }
 
-/// The number that `0x` and 1 to 16 hexadecimal digits of either case say.
+/// Parses `0x` and 1 to 16 hexadecimal digits of either case.
 #[tactic(auto, unfolding(crate::specs::LineAnswers::hex_number))]
 pub(crate) fn hex_number(word: &[u8]) -> Option<u64>
     ensures { result ≡ hex_number word.now }
@@ -72,7 +72,7 @@ pub(crate) fn hex_number(word: &[u8]) -> Option<u64>
     if is_hex(word) { number(word) } else { None }
 }
 
-/// Tells of the two words of a line: lo, and then hi.
+/// Answers the two words of a line: lo, then hi.
 #[tactic(auto, unfolding(crate::specs::LineAnswers::two_words))]
 fn say_pair(lo: &[u8], hi: &[u8], reply: &mut String) -> Result<bool, AllocError>
     ensures text { OnOk result (string_bytes reply.new ≡ string_bytes reply.old ++ (two_words lo.now hi.now).text) }
@@ -84,7 +84,7 @@ fn say_pair(lo: &[u8], hi: &[u8], reply: &mut String) -> Result<bool, AllocError
     }
 }
 
-/// Tells of a line by its first word, which makes it no comment, and the text after it.
+/// Answers a line by its first word, which makes it no comment, and the text after it.
 fn say_named(
     alloc: Global,
     word: &[u8],
@@ -103,7 +103,7 @@ fn say_named(
     }
 }
 
-/// Answers a line, and says whether it is a legal command or skipped.
+/// Answers a line, and returns whether it is a legal command or skipped.
 #[tactic(auto, unfolding(crate::specs::LineAnswers::answer_of))]
 pub(crate) fn say_line(alloc: Global, line: &[u8], reply: &mut String) -> Result<bool, AllocError>
     ensures text { OnOk result (string_bytes reply.new ≡ string_bytes reply.old ++ (answer_of line.now).text) }

@@ -7,9 +7,9 @@ use script::Status;
 use std::alloc::Global;
 use std::io::{Read, Write};
 
-/// Reads lines that bring a command each, and writes a line for each that isn't skipped: the text of the command, `illegal`
-/// and the fault, or what is bad. Says how it went; one line at least that is no legal command is refused. Notes which word of
-/// each `bad line` is at fault.
+/// Reads lines that bring a command each, and writes a line for each that isn't skipped: the text of the command,
+/// `illegal` and the fault, or what is bad. Returns how it went, refused if any line is no legal command, and notes on
+/// which word of each `bad line` is wrong.
 ///
 /// Each answer is written and flushed before the read that follows its line. A line of more than 4,096 bytes ends the run.
 pub fn words_with_notes<R: Read, W: Write>(

@@ -4,7 +4,7 @@ use crate::cmdcodec_tests::words::{raw, words};
 use cmdcodec::{KeptRaw, decode};
 use std::alloc::Global;
 
-/// The fault of words that are illegal: its name, and its text.
+/// The fault of illegal words: its name, and its text.
 pub fn fault(alloc: Global, asked: &str) -> Option<String> {
     match decode(raw(asked)?) {
         Ok(_) => None,
@@ -12,7 +12,7 @@ pub fn fault(alloc: Global, asked: &str) -> Option<String> {
     }
 }
 
-/// What is kept of words that are kept.
+/// Returns the words of a kept command.
 pub fn kept(alloc: Global, asked: &str) -> Option<String> {
     match KeptRaw::new(raw(asked)?) {
         Some(kept) => words(alloc, kept.get()),
@@ -20,7 +20,7 @@ pub fn kept(alloc: Global, asked: &str) -> Option<String> {
     }
 }
 
-// Bit 10 alone makes no command of an opcode that is none. A Secure stream is told of ahead of the size.
+// Bit 10 makes no command of an opcode that is none. A Secure stream is told before the size.
 #[test]
 fn illegal_words_have_their_faults(rt: HostRuntime) {
     expect_answers(

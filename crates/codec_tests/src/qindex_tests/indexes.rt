@@ -19,7 +19,7 @@ pub fn ring(alloc: Global, asked: &str) -> Option<String> {
     }
 }
 
-/// The place and the wrap bit of a number that is an index of a ring.
+/// The place and the wrap bit of a number, if it is an index of a ring.
 pub fn parts(alloc: Global, asked: &str) -> Option<String> {
     let mut numbers = asked.split_whitespace();
     let geometry = Geometry::new(next_u32(&mut numbers)?)?;
@@ -32,14 +32,14 @@ pub fn parts(alloc: Global, asked: &str) -> Option<String> {
     }
 }
 
-/// The next number as an index of a ring.
+/// Parses the next number as an index of a ring.
 pub fn next_index(geometry: Geometry, numbers: &mut SplitWhitespace<'_>) -> Option<Index>
     ensures { IfSome result (λ index. index.geometry ≡ geometry) }
 {
     Index::new(geometry, next_u32(numbers)?)
 }
 
-/// The index so many steps on.
+/// The index that many steps on.
 pub fn forward(alloc: Global, asked: &str) -> Option<String> {
     let mut numbers = asked.split_whitespace();
     let geometry = Geometry::new(next_u32(&mut numbers)?)?;

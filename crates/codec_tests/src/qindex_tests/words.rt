@@ -6,7 +6,7 @@ use qindex::{Control, Geometry, advance_mask, close_mask};
 use std::alloc::Global;
 use std::str::SplitWhitespace;
 
-/// The control that a word says, if it says one.
+/// Parses a word as a control, if it is one.
 pub fn control(alloc: Global, asked: &str) -> Option<String> {
     let mut numbers = asked.split_whitespace();
     let geometry = Geometry::new(next_u32(&mut numbers)?)?;
@@ -19,7 +19,7 @@ pub fn control(alloc: Global, asked: &str) -> Option<String> {
     }
 }
 
-/// A ring, prod and cons, and whether the ring is closed.
+/// Parses a ring, prod and cons, and whether the ring is closed.
 fn next_control(numbers: &mut SplitWhitespace<'_>) -> Option<Control> {
     let geometry = Geometry::new(next_u32(numbers)?)?;
     Some(Control {
@@ -47,7 +47,7 @@ pub fn registers(alloc: Global, asked: &str) -> Option<String> {
     format!(in alloc; "{prod:#x} {cons:#x}").ok()
 }
 
-/// What turns cons from an index to another.
+/// The mask that turns cons from one index to another.
 pub fn mask(alloc: Global, asked: &str) -> Option<String> {
     let mut numbers = asked.split_whitespace();
     let geometry = Geometry::new(next_u32(&mut numbers)?)?;

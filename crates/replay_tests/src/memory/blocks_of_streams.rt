@@ -1,4 +1,4 @@
-//! A block of two streams that is removed, one of which is filled again.
+//! A block of two streams is removed, and one of the streams is filled again.
 use super::expect_whole_or_refused;
 
 const SCRIPT: &str = "ring 4 1 4 8
@@ -34,7 +34,7 @@ end
 ",
 ];
 
-/// What comes behind the first fills where one that the command covers was refused.
+/// What follows the first fills if one that the command covers was refused.
 const TWO_REMOVED: &str = "sent 0 number 1
 applied CFGI_STE_RANGE sid=5 range=0 removed=2
 applied CMD_SYNC cs=1 msh=0 attr=0 data=1 addr=0x40000000 removed=0
@@ -48,7 +48,7 @@ entry ste sid=6 value=3 born=0
 end
 ";
 
-/// What comes behind the first fills where that of stream 6 was refused.
+/// What follows the first fills if that of stream 6 was refused.
 const NO_STREAM_6: &str = "sent 0 number 1
 applied CFGI_STE_RANGE sid=5 range=0 removed=3
 applied CMD_SYNC cs=1 msh=0 attr=0 data=1 addr=0x40000000 removed=0
@@ -61,7 +61,7 @@ entry ste sid=5 value=8 born=2
 end
 ";
 
-/// What comes behind the first fills where the last fill is refused.
+/// What follows the first fills if the last fill is refused.
 const NO_STREAM_5: &str = "sent 0 number 1
 applied CFGI_STE_RANGE sid=5 range=0 removed=3
 applied CMD_SYNC cs=1 msh=0 attr=0 data=1 addr=0x40000000 removed=0
@@ -74,7 +74,7 @@ entry ste sid=6 value=3 born=0
 end
 ";
 
-/// The texts where one of the fills finds no memory.
+/// The texts if one of the fills finds no memory.
 const REFUSED: [(&str, &str); 5] = [
     (
         "ring size 16\nrefused C3\nfilled\nfilled\nfilled\n",

@@ -29,7 +29,7 @@ applied CMD_SYNC cs=1 msh=0 attr=0 data=2 addr=0x40000000 removed=0
     "absent\n",
 ];
 
-/// The texts where one of the fills finds no memory.
+/// The texts if one of the fills finds no memory.
 const REFUSED: [(&str, &str); 2] = [
     (
         "ring size 16\nrefused C3\nfilled\n",

@@ -30,7 +30,7 @@ end
 ",
 ];
 
-/// The texts where the first fill finds no memory, so that the third is of a new tag; and where the second finds none, so
+/// The texts if the first fill finds no memory, so that the third is of a new tag, and if the second finds none, so
 /// that its entry isn't told.
 const REFUSED: [(&str, &str); 2] = [
     (

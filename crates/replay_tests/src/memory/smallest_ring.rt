@@ -28,7 +28,7 @@ end
 ",
 ];
 
-/// The text where the fill finds no memory.
+/// The text if the fill finds no memory.
 const REFUSED: [(&str, &str); 1] = [(
     "ring size 2\nrefused C3\n",
     "sent 0 number 1

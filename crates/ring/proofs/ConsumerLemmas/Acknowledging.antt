@@ -24,7 +24,7 @@ acknowledged_snoc : (raws : List Raw) (raw : Raw) (t : Trail) → all_acknowledg
 acknowledged_snoc [] raw t = refl
 acknowledged_snoc (r ∷ rs) raw t = acknowledged_snoc rs raw (acknowledged r t)
 
--- ---- one of them: those ahead of it are acknowledged, and those behind aren't
+-- ---- one of them: those before it are acknowledged, and those after it aren't
 
 -- it is a closing sync, the next of its sender, which the trail took
 pub record IsDue (senders : ℕ) (now : Trail) (raw : Raw) : Type 0 where

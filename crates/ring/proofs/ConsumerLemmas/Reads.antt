@@ -91,7 +91,7 @@ module _ (lo hi : ℕ) where
   trail_more s s1 s2 i s1_is s2_is =
       ap (λ (x : PortValue). x.trail) s2_is ∙ ap (λ (x : PortValue). let u : Trail = Read i Hi hi ∷ x.trail in u) s1_is
 
--- A run that is read again begins with the command that was read before.
+-- A run that is read again begins with the command read before.
 pub run_again : (limit found : ℕ) (c : Control) (t u : Trail) (rs : List Raw) (raw : Raw) → u ≡ reads_from 0 rs (Test limit found ∷ Look c ∷ t) → 1 ≤ length rs
     → IsSteady u → HasSeen t raw → (rest : List Raw) × (rs ≡ raw ∷ rest)
 run_again limit found c t u [] raw is some s seen = absurd (omega (arith, some))

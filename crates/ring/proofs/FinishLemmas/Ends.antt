@@ -28,7 +28,7 @@ pub that_there : {A : Type 0} (o : Option A) (P : Type 0) (v x : A) → SomeIff 
 that_there None P v x iff e = absurd (cc)
 that_there (Some y) P v x iff e = (let same : y ≡ x = cc in sym same) ∙ iff.1
 
--- a beginning that is as long is the whole
+-- A beginning that is as long as the whole is the whole.
 beginning_is_whole : {A : Type 0} (xs ys : List A) → Begins xs ys → length xs ≡ length ys → xs ≡ ys
 beginning_is_whole xs ys (rest, is) same =
     let none : rest ≡ [] = nil_from_length rest (omega (arith, same, ap length is ∙ length-append xs rest)) in sym (is ∙ ap (λ l. xs ++ l) none ∙ append-nil xs)

@@ -1,11 +1,11 @@
--- An event of a seat's trail stands in the run, and of an ask that stands there the law tells what was completed before.
+-- An event of a seat's trail is in the run, and for an ask there the law tells what was completed before.
 use Rattle.std.proofs.Common.{◌≡◌, ℕ, Bool, true, false, cond, arith, [], ◌∷◌, ◌++◌, length, length-append, refl, sym, ap, ◌∙◌}
 use Rattle.ring.specs.Runs.{Who, Sender, Event, Ask, Run, Trail, same, trail_of, Ring, EveryRun, ToldOfAllUpTo}
 use Rattle.ring.proofs.TableLemmas.Trails.{same_is}
 use Rattle.ring.specs.table.{IsHistory}
 use Rattle.ring.specs.Finishing.{WasTold, WasToldAll}
 
--- where an event of a trail stands in the run
+-- where an event of a trail is in the run
 record StandsAt (who : Who) (e : Event) (run : Run) (older : Trail) : Type 0 where
   later : Run
   earlier : Run

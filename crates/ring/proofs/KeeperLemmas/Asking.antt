@@ -17,7 +17,7 @@ use Rattle.ring.proofs.KeeperLemmas.Seated.{all_sit, same_history}
 
 -- ---- one step of a sender
 
--- The keeper's run is its event longer, which was its to take.
+-- The keeper's run is longer by the sender's event, which it was allowed to take.
 pub record IsStep (s : ℕ) (e : Event) (old new : KeeperValue) : Type 0 where
   pub keeper_is : new ≡ with_step (Sender s) e old
   pub allowed : Allowed old.ring.made_with (world old.run) (trail_of (Sender s) old.run) (Sender s) e
@@ -35,7 +35,7 @@ is_step s e old lent back port now whole port_is lent_is did back_is stands =
 
 -- ---- what it leaves
 
--- all that is said of a sender by its trail is the same
+-- Everything that a sender's trail says of it is the same.
 pub record Leaves (t u : Trail) : Type 0 where
   pub batches : batches_made u ≡ batches_made t
   pub numbers : numbers_given u ≡ numbers_given t
@@ -100,7 +100,7 @@ finds_of : (key : Ring) (slots id i : ℕ) (P : Participant → Type 0) (v : Lis
 finds_of key slots id i P [] one = absurd one
 finds_of key slots id i P (g ∷ hs) one = finds_at key slots id i g hs
 
--- those who know a run hear of nothing new
+-- Those who know a run learn nothing new.
 knowing_same : (z : Ring) (run : Run) (v : List Participant) → AllKnow z run v → all_knowing run v ≡ v
 knowing_same z run [] all = refl
 knowing_same z run (p ∷ ps) all =

@@ -1,4 +1,4 @@
--- What a run has more that only one has grown, and what is left of the others.
+-- A run that only one participant has grown, and what is left of the others.
 use Rattle.std.proofs.Common.{◌≡◌, ◌≢◌, ℕ, ◌-◌, [], ◌∷◌, ◌++◌, length, length-append, take, refl, sym, ap, ◌∙◌, inl, inr, arith, rules, subst}
 use Rattle.std.proofs.Math.Seq.{take-append_seam}
 use Rattle.ring.specs.Runs.{Who, Trail, Run, trail_of, same, IsOne, OnlyOf, Consumer, Sender}
@@ -8,12 +8,12 @@ use Rattle.ring.specs.consumer.{IsConsumer}
 use Rattle.ring.specs.sender.{IsSender, IsOpen}
 use Rattle.ring.proofs.TableLemmas.Trails.{alike, trail_here, trail_own, trail_else, not_empty}
 
--- of a run that only one has grown
+-- the trail in a run that only one participant has grown
 pub trail_since : (who : Who) (added : Trail) (since : Run) → trail_of who (run_by who added ++ since) ≡ added ++ trail_of who since
 trail_since who [] since = refl
 trail_since who (e ∷ es) since = trail_here who e (run_by who es ++ since) ∙ ap (λ (t : Trail). e ∷ t) (trail_since who es since)
 
--- its events alone end with one of its own
+-- A run of its events only ends with one of them.
 pub ends_by : (who : Who) (added : Trail) → EndsWith who (run_by who added)
 ends_by who [] = tt
 ends_by who (e ∷ es) = refl
@@ -33,7 +33,7 @@ pub trail_stays : (who u : Who) (added : Trail) (since : Run) → u ≢ who → 
 trail_stays who u [] since ne = refl
 trail_stays who u (e ∷ es) since ne = trail_else u who e (run_by who es ++ since) ne ∙ trail_stays who u es since ne
 
--- a run of one alone is his events
+-- A run of one participant's steps only is its events.
 pub all_of_one : (n : ℕ) (who : Who) (run : Run) → OnlyOf n run → ((u : Who) → IsOne n u → u ≢ who → trail_of u run ≡ []) → run ≡ run_by who (trail_of who run)
 all_of_one n who [] only nothing = refl
 all_of_one n who (x ∷ xs) only nothing = elim (alike x.0 who) [
@@ -43,7 +43,7 @@ all_of_one n who (x ∷ xs) only nothing = elim (alike x.0 who) [
       (λ k. let l : Run = (is k, x.1) ∷ behind k in l) ∙ ap (run_by who) (sym (trail_own who x xs is))
 ]
 
--- ---- what is left of others than the one who took steps
+-- ---- what is left of those who took no step
 
 pub keeps_others : (who : Who) (old new : KeeperValue) (added : Trail) → new.ring ≡ old.ring → new.run ≡ run_by who added ++ old.run → KeepsOthers who old new
 keeps_others who old new added same run_is =

@@ -13,7 +13,7 @@ use Rattle.ring.proofs.TableLemmas.Keeping.{its_trail}
 use Rattle.ring.proofs.KeeperLemmas.Seated.{sits_any, none_missing, IsOther, someone, same_history, know_told}
 use Rattle.ring.proofs.KeeperLemmas.Growing.{ends_by, grown_run_is, adds_those, all_of_one, keeps_others}
 
--- what is known where all sit at one seat again, and have heard of the run
+-- what is known once all sit at one seat again and know the run
 pub record IsBack (z : Ring) (old : Run) (who : Who) (trail : Trail) (history : Run) (last : Holding) : Type 0 where
   pub keeper : IsKeeper last
   pub ring_is : ring_of last.0 ≡ z
@@ -85,7 +85,7 @@ module _ (z : Ring) (old : Run) (who : Who) (v : List Participant) (knows : AllB
       let stands : RunStands z met.0 = record { limits = met.2.limits; words = met.1; after = met.2.after; only = met.2.only } in
       subst (IsBack z old who trail history) (sym met.3) (is_back met.0 stands met.2.has met.4)
 
--- the same by what contracts see
+-- the same, as contracts see it
 pub record ComesBack (q : PortValue) (old new : KeeperValue) : Type 0 where
   pub keeper : new ≡ has_back q.who q.trail old
   pub adds : Adds q.who q.trail old.run new.run

@@ -59,7 +59,7 @@ pub someone : (n : ℕ) (who : Who) → 1 ≤ n → IsOther n who
 someone n Consumer some = record { other = Sender 0; one = (let h : 0 < n = omega (arith, some) in h); apart = λ e. cc }
 someone n (Sender s) some = record { other = Consumer; one = tt; apart = λ e. cc }
 
--- where nobody has a seat lent, all sit here
+-- If no seat is lent, all sit here.
 pub all_sit : (table : TableId) (p : KeeperValue) (v : List Participant) → keeper_of table v ≡ p → AllBut (missing v) (ring_of v) (history_of_first v) v → p.lent ≡ None → AllSit (ring_of v) v
 all_sit table p v is knows whole u one = knows.others u one (λ e. none-some u (sym (e ∙ ap (λ (q : KeeperValue). q.lent) is ∙ whole)))
 

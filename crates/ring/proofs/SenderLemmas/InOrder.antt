@@ -14,7 +14,7 @@ flipped_more t f n is k = ap (λ (b : Bool). is_among f n k || b) (is k) ∙ unt
     until : (is_among f n k || nat_lt k f) ≡ nat_lt k (f + n)
     until = grind (arith, nat_tests)
 
--- whatever is known of the run, a reservation is open by its trail
+-- That a reservation is open depends on the trail, not on the history.
 pub knowing : (port : PortValue) (tally : Tally) (body : List Raw) (closes : Bool) (start : IndexValue) (written flipped : ℕ) → IsOpen (record port { history = [] }) tally body closes start written flipped
     → IsOpen port tally body closes start written flipped
 knowing port tally body closes start written flipped is = search rules

@@ -1,4 +1,4 @@
--- Writes and flips reserve no batch, and the last one stays where it is.
+-- Writes and flips reserve no batch, and leave the last one where it is.
 use Rattle.std.proofs.Common.{◌≡◌, ℕ, zero, suc, ◌++◌, refl}
 use Rattle.ring.specs.Runs.{Trail, reserved_length, start_index}
 use Rattle.ring.specs.sender.{writes_from, flips_from, ReservesNone}

@@ -1,4 +1,5 @@
--- What is left of a reservation is flipped by two steps at most: so writes and two flips hand all of it over.
+-- At most two flips are needed for what is left of a reservation, so writes and two flips hand all of it
+-- over.
 use Rattle.std.proofs.Common.{◌≡◌, ℕ, ◌+◌, ◌-◌, ◌≤◌, ◌++◌, min, ap, ◌∙◌, subst, inl, inr, append_assoc, arith}
 use Rattle.std.proofs.lemmas.Bool.{cases_lt}
 use Rattle.qindex.specs.Positions.{size, index_of}
@@ -30,7 +31,7 @@ module _ (r : ReservationValue) where
     once_is : next_run (wrote_many k r) ≡ first
     once_is = λ i. min (shared_word g (index_of g (((after_writes r.written k r.trail).start g i).number + r.flipped)).number) (whole i - r.flipped)
 
-    -- the second flip has what the first has left
+    -- The second flip covers what the first has left.
     rest : min (shared_word g (index_of g ((start_index g r.trail).number + (r.flipped + first))).number) (all - (r.flipped + first)) ≡ all - (r.flipped + first)
     rest =
         let x : ℕ = (start_index g r.trail).number in

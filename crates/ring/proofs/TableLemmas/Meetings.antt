@@ -1,4 +1,4 @@
--- Two seats are joined for a load, and cut again.
+-- Two seats are joined for a load, and split again.
 use Rattle.std.proofs.Common.{◌≡◌, ℕ, false, List, [], ◌∷◌, refl, sym, ap, ◌∙◌, subst, inl, inr}
 use mathlib.Core.Option.{some, none}
 use lib.ListN.{get_elem?}
@@ -34,13 +34,13 @@ sits_here seat id who [] sit one = absurd one
 sits_here seat id who (p ∷ ps) sit (inl is) = ap seat (sym is) ∙ sit.0
 sits_here seat id who (p ∷ ps) sit (inr more) = sits_here seat id who ps sit.1 more
 
--- where everyone sits at one seat, whoever sits somewhere sits there
+-- If everyone sits at one seat, whoever sits somewhere sits there.
 one_seat : (ring : Ring) (run : Run) (seat : Who → ℕ) (j id : ℕ) (P : Participant → Type 0) (there : List Participant) → SitAt seat j there → HasTrails ring run there → ((u : Who) → IsOne ring.senders u → seat u ≡ id) → Any P there → j ≡ id
 one_seat ring run seat j id P [] sit has all one = absurd one
 one_seat ring run seat j id P (p ∷ ps) sit has all (inl here) = sym sit.0 ∙ all p.who has.0.known
 one_seat ring run seat j id P (p ∷ ps) sit has all (inr more) = one_seat ring run seat j id P ps sit.1 has.1 all more
 
--- where everyone sits at one seat, one who sits there has known the run
+-- If everyone sits at one seat, one who sits there knew the run.
 module _ (ring : Ring) (s : TableState) (k : RuleHolds ring s) (id : ℕ) (v : List Participant) (at : get_elem? s.views id ≡ some v) where
   newest_here : AllSit ring v → Any (λ p. p.history ≡ k.run) v
   newest_here all =
@@ -80,14 +80,14 @@ finds_at ring slots id i g hs s k _ at _ =
       ),
     )
 
--- and the same, where the word that was found doesn't matter
+-- the same if the word that was found doesn't matter
 pub meets_as : (ring : Ring) (slots id i : ℕ) (g : Participant) (hs : List Participant) (me : Holding) → me ≡ (g ∷ hs, []) → Allows (RuleHolds ring) slots id me i (λ x. x) (has_met (step slots i 0 0 none) me)
 meets_as ring slots id i g hs me is = subst (λ (m : Holding). Allows (RuleHolds ring) slots id m i (λ x. x) (has_met (step slots i 0 0 none) m)) (sym is)
     (λ s k many at low. let did = finds_at ring slots id i g hs s k many at low in (did.0, did.1, did.2, did.3, did.4.0))
 
--- ---- two seats, each of which stands for one alone
+-- ---- two seats of a single participant each
 
--- Both know one run, and neither took a step.
+-- Both know the same run, and neither took a step.
 pub record MetAs (p q new_p new_q : PortValue) : Type 0 where
   pub mine : record new_p { history = [] } ≡ record p { history = [] }
   pub theirs : record new_q { history = [] } ≡ record q { history = [] }
@@ -95,7 +95,7 @@ pub record MetAs (p q new_p new_q : PortValue) : Type 0 where
   pub i_knew : WentOn p.who p.history new_p.history
   pub they_knew : WentOn q.who q.history new_p.history
 
--- One seat stands for nobody for a while.
+-- One seat has no participant for a while.
 pub leaves_now : (me : Holding) → IsAlone me (who_of me.0) → (key : Ring) (id : ℕ) → Splits (RuleHolds key) id me.0 (without_first me.0) (first_alone me.0)
 leaves_now me alone key id =
     subst (λ (m : Holding). Splits (RuleHolds key) id m.0 (without_first m.0) (first_alone m.0)) (sym alone.me_is)

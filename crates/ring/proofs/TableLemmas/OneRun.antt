@@ -8,7 +8,7 @@ use Rattle.ring.proofs.TableLemmas.Trails.{alike, trail_here, trail_own, trail_e
 
 -- ---- lists
 
--- nothing comes back behind itself and more
+-- Nothing is its own proper extension.
 not_longer : (a b : Trail) (e : Event) → b ≡ a ++ e ∷ b → ⊥
 not_longer a b e is = let n : length b ≡ length (a ++ e ∷ b) = ap (λ (t : Trail). length t) is in let m = length-append a (e ∷ b) in omega (arith, n, m)
 
@@ -20,11 +20,12 @@ nobody : (senders : ℕ) (n : Run) → OnlyOf senders n → ((u : Who) → IsOne
 nobody senders [] all none = refl
 nobody senders (x ∷ xs) all none = absurd (not_empty _ _ (sym (trail_here x.0 x.1 xs) ∙ none x.0 all.0))
 
--- two runs on end that give each the trail of the second alone
+-- If the trails in two runs joined are those in the second, the first is empty.
 all_told : (senders : ℕ) (a b : Run) → OnlyOf senders (a ++ b) → ((u : Who) → IsOne senders u → trail_of u (a ++ b) ≡ trail_of u b) → a ≡ []
 all_told senders a b all told = nobody senders a (only_left senders a b all) (λ u one. none_before (trail_of u a) (trail_of u b) (sym (trail_append u a b) ∙ told u one))
 
--- a run that begins with its own step is all that one knew, or the run behind that step is
+-- A participant whose step is the run's newest knows all of it. Any other knows all of it, or the run before
+-- that step went on from what it knows.
 went_on_own : (x : Who × Event) (xs h : Run) → WentOn x.0 h (x ∷ xs) → x ∷ xs ≡ h
 went_on_own x xs h on = by_newer on.newer on.run_is on.of_others
   where
@@ -42,7 +43,7 @@ went_on_other u x xs h ne on = by_newer on.newer on.run_is on.of_others
         let rest : xs ≡ ys ++ h = cc in
         inr record { newer = ys; run_is = rest; of_others = sym (trail_else u x.0 x.1 ys ne) ∙ ap (λ (z : Who × Event). trail_of u (z ∷ ys)) (sym first) ∙ none }
 
--- ---- two runs that one participant alone may have made different
+-- ---- two runs that only one participant may have made different
 
 -- what this one knew is an older part of both
 pub record Shares (u : Who) (a b : Run) : Type 0 where
@@ -57,7 +58,7 @@ module _ (senders : ℕ) (who : Who) where
   abbrev Share : Run → Run → Type 0
   Share a b = (u : Who) → IsOne senders u → u ≢ who → Shares u a b
 
-  -- the one that went on from the whole of the other is it
+  -- A run that went on from the whole of the other is the same.
   no_further : (a b : Run) → OnlyOf senders b → Agree a b → (n : Run) → b ≡ n ++ a → a ≡ b
   no_further a b all agree n is =
       let none : n ≡ [] = all_told senders n a (subst (OnlyOf senders) is all) (λ u one. ap (trail_of u) (sym is) ∙ sym (agree u one)) in

@@ -1,4 +1,4 @@
--- The steps of a seat that stands for one alone, by what contracts see of it.
+-- The steps of a seat of a single participant, as contracts see it.
 use Rattle.std.proofs.Common.{◌≡◌, ℕ, ◌+◌, ◌<◌, Bool, true, false, cond, ◌==◌, List, ◌∷◌, [], Some, sym, ap, ◌∙◌, subst, ◌^◌, arith}
 use Rattle.std.proofs.lemmas.Option.{same_Some}
 use mathlib.Core.Option.{none}
@@ -16,7 +16,7 @@ use Rattle.ringcore.specs.machine.StepAnswers.{next_number}
 use Rattle.ring.proofs.TableLemmas.Steps.{MayStep, steps_as}
 use Rattle.ring.specs.Rings.{RingValue}
 
--- A step that its law allows by what contracts see of the seat: whatever it is for, it may be taken.
+-- A step that its law allows, as contracts see the seat, may be taken, whatever it is for.
 module _ (table : TableId) (me : Holding) (p : PortValue) (is : port_of table me ≡ p) (alone : IsAlone me (who_of me.0)) (ring : Ring) (slots id : ℕ) (intent sought : Intent) (intent_is : intent ≡ sought) (who : Who) (who_is : p.who ≡ who) where
   may_go : (says : Intent → Ring → Trail → ℕ → Event → Type 0) (i : ℕ) (f : ℕ → ℕ) → MayStep p.ring.made_with who p.trail i f (says sought p.ring.made_with p.trail)
       → Allows (RuleHolds ring) slots id me i f (Added (ring_of me.0) (who_of me.0) (trail_of_first me.0) (history_of_first me.0) (says intent (ring_of me.0) (trail_of_first me.0)))
@@ -25,17 +25,17 @@ module _ (table : TableId) (me : Holding) (p : PortValue) (is : port_of table me
       → Allows (RuleHolds ring) slots id me i f (Added (ring_of me.0) (who_of me.0) (trail_of_first me.0) (history_of_first me.0) (says q.1 (ring_of me.0) (trail_of_first me.0)))) (λ k. (is k, sym intent_is k))
       (λ w. steps_as ring slots id who me (subst (IsAlone me) w alone) i f (says sought (ring_of me.0) (trail_of_first me.0))) who_is
 
-  -- of a load, an or, an exclusive or and an exchange, whose first operand this is
+  -- for a load, an or, an exclusive or and an exchange, with this first operand
   pub may_change : (i operand next : ℕ) (f : ℕ → ℕ) → MayStep p.ring.made_with who p.trail i f (IsEventOf p.ring.made_with p.trail sought operand)
       → Allows (RuleHolds ring) slots id me i f (adds_for intent (step slots i operand next none) me)
   may_change i operand next f = may_go (λ n r t. IsEventOf r t n operand) i f
 
-  -- and of a store
+  -- for a store
   pub may_store : (i x : ℕ) → MayStep p.ring.made_with who p.trail i (λ _. x) (λ _. IsEventOf p.ring.made_with p.trail sought x x)
       → Allows (RuleHolds ring) slots id me i (λ _. x) (λ _. adds_for intent (step slots i x 0 none) me x)
   may_store i x = may_go (λ n r t _. IsEventOf r t n x x) i (λ _. x)
 
--- what a post is of is a ring's seat
+-- A port's sender is one of the ring's.
 pub sender_known : (table : TableId) (me : Holding) (p : PortValue) → port_of table me ≡ p → IsAlone me (who_of me.0) → (s : ℕ) → p.who ≡ Sender s → s < p.ring.made_with.senders
 sender_known table me p is alone s who =
     subst (λ (q : PortValue). q.who ≡ Sender s → s < q.ring.made_with.senders) is
@@ -62,7 +62,7 @@ module _ (table new_table : TableId) (me new : Holding) (s : ℕ) (body : List R
   abbrev Told : Bool → Type 0
   Told v = IsWonOrLost body closing seen (port_of table me) (port_of new_table new) v
 
-  -- the exchange stands last in the run that is known then
+  -- The exchange is last in the run that is known then.
   grown : (e : Event) → took.0 ≡ e → GrewBy (who_of me.0) e (history_of_first me.0) (port_of new_table new).history
   grown e e_is = record {
     before = took.1;

@@ -1,4 +1,4 @@
--- Which seat has which events, as the run grows and as seats are cut and joined.
+-- Which seat has which events, as the run grows and as seats are split and joined.
 use Rattle.std.proofs.Common.{◌≡◌, ◌≢◌, ◌⊎◌, ℕ, zero, suc, Bool, false, cond, eqb, List, [], ◌∷◌, ◌++◌, length, set, refl, sym, ap, ◌∙◌, subst, ⊎_elim, inl, inr, eq-eqb, ne_eqb}
 use mathlib.Core.Option.{some, some-injective, some-ne-none}
 use mathlib.Core.Logic.{dite}
@@ -9,7 +9,7 @@ use Rattle.ring.specs.Runs.{Who, Event, Run, same, Ring}
 use Rattle.ring.specs.table.{Participant, WentOn, HasTrails, SitAt, Any, Among}
 use Rattle.ring.proofs.TableLemmas.Trails.{same_not, trail_else}
 
--- a run went on by another's step, or has just come
+-- A run goes on by another's step.
 pub went_on_else : (who w : Who) (e : Event) (older run : Run) → who ≢ w → WentOn who older run → WentOn who older ((w, e) ∷ run)
 went_on_else who w e older run ne was = record {
   newer = (w, e) ∷ was.newer;
@@ -29,7 +29,7 @@ trails_else ring seat i w e run (h ∷ hs) sit ne has =
       trails_else ring seat i w e run hs sit.1 ne has.1,
     )
 
--- nobody among these is w
+-- None of these is w.
 abbrev pub Without : Who → List Participant → Type 0
 Without w [] = Unit {0}
 Without w (h ∷ hs) = (same h.who w ≡ false) × Without w hs
@@ -101,7 +101,7 @@ any_right P (h ∷ hs) gs one = inr (any_right P hs gs one)
 pub same_place : (views : List (List Participant)) (i : ℕ) (v w : List Participant) → get_elem? views i ≡ some v → (P : Participant → Type 0) (j : ℕ) → j ≡ i → get_elem? views j ≡ some w → Any P w → Any P v
 same_place views i v w at P j is there one = subst (Any P) (some-injective w v (sym there ∙ ap (get_elem? views) is ∙ at)) one
 
--- a seat has other views, of which it is so where it was
+-- A seat's views change, and what held of one of them still does.
 pub among_step : (P : Participant → Type 0) (views : List (List Participant)) (id : ℕ) (v w : List Participant) → get_elem? views id ≡ some v → (Any P v → Any P w) → Among P views → Among P (set views id w)
 among_step P views id v w at keeps one = dite (ℕ_discrete one.place id)
     (λ here. record { place = id; there = w; at = set_there views id v w at; one = keeps (same_place views id v one.there at P one.place here one.at one.one) })

@@ -32,7 +32,7 @@ all_at_0 : (ring : Ring) (k more : ℕ) → SitAt (λ w. 0) 0 (participants_from
 all_at_0 ring k zero = (refl, tt)
 all_at_0 ring k (suc more) = (refl, all_at_0 ring (suc k) more)
 
--- the consumer comes last, and each sender from the k-th on stands before it
+-- The consumer comes last, and each sender from the k-th on is before it.
 consumer_in : (P : Participant → Type 0) (ring : Ring) (k more : ℕ) → P (participant ring Consumer [] []) → Any P (participants_from ring k more)
 consumer_in P ring k zero its = inl its
 consumer_in P ring k (suc more) its = inr (consumer_in P ring (suc k) more its)
@@ -77,7 +77,7 @@ pub deals_as : (key : Ring) (id : ℕ) (ring : Ring) (k more : ℕ) (v : List Pa
 deals_as key id ring k more v is = subst (λ (l : List Participant). Splits (RuleHolds key) id l (without_first l) (first_alone l)) (sym is)
     (deals_at key id (participant ring (Sender k) [] []) (participants_from ring (suc k) more) (without_from ring k (suc k) more (omega arith)))
 
--- one that has taken no step stands in the empty run
+-- One who has taken no step stands in the empty run.
 pub fresh : OpensAllZero → (ring : Ring) (who : Who) (me : Holding) → IsWithinLimits ring → IsGeometry ring.geometry → ring.flags ≡ 64 → IsOne ring.senders who → me ≡ (participant ring who [] [] ∷ [], []) → IsAlone me (who_of me.0)
 fresh opens ring who me limits geometry flags known is = subst (λ (m : Holding). IsAlone m (who_of m.0)) (sym is) record {
   me_is = refl;

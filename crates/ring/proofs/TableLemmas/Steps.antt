@@ -1,4 +1,5 @@
--- A step that the laws of ringcore allow keeps the rule, whatever kind it is: its event comes to the end of the run.
+-- A step that the laws of ringcore allow keeps the rule, whatever its kind: its event is added at the end of
+-- the run.
 use Rattle.std.proofs.Common.{◌≡◌, ◌≢◌, ◌⊎◌, ℕ, Bool, cond, List, [], ◌∷◌, ◌++◌, length, set, refl, sym, ap, ◌∙◌, subst, ⊎_elim, inl, inr}
 use Rattle.std.specs.Prelude.{slice_index, slice_set}
 use Rattle.std.proofs.lemmas.List.{set-get_or}
@@ -13,8 +14,8 @@ use Rattle.ring.proofs.TableLemmas.Trails.{same_refl, trail_here}
 use Rattle.ring.proofs.TableLemmas.Seats.{trails_else, Without, moved_to, sit_without, sit_else, taken_in, sit_taken, sit_stays, sit_append, trails_append, at_snoc_index, went_on_none, seated_after}
 use Rattle.ring.proofs.TableLemmas.Seats.{set_there, among_step, among_parted, among_joined}
 
--- What the laws have to give: wherever the seat has this trail, the word may change so, by an event that is said of
--- the word that was found.
+-- What the laws have to provide: whenever the seat has this trail, the word may change like this, by an event
+-- for which `says` holds with the word that was found.
 abbrev pub MayStep : Ring → Who → Trail → ℕ → (ℕ → ℕ) → (ℕ → Event → Type 0) → Type 0
 MayStep ring who trail i f says =
     (run : Run) (words : List ℕ) → Stands ring who trail run words
@@ -60,7 +61,7 @@ module _ (ring : Ring) (slots id : ℕ) (z : Ring) (who : Who) (trail : Trail) (
         (e, k.run, did.1, refl, record { words = s.words; new_words = words; went_on = mine.1.0.went_on; before = now; after = subst (λ (r : Ring). Stands r who (e ∷ trail) longer words) (sym zn) there }),
       )
 
--- the same at a seat that is known to stand for one alone
+-- the same for a seat that is known to have a single participant
 pub steps_as : (ring : Ring) (slots id : ℕ) (who : Who) (me : Holding) → IsAlone me who → (i : ℕ) (f : ℕ → ℕ) (says : ℕ → Event → Type 0)
     → MayStep (ring_of me.0) who (trail_of_first me.0) i f says
     → Allows (RuleHolds ring) slots id me i f (Added (ring_of me.0) (who_of me.0) (trail_of_first me.0) (history_of_first me.0) says)
@@ -69,7 +70,7 @@ steps_as ring slots id who me is i f says may =
     subst (λ (w : Who). Allows (RuleHolds ring) slots id me i f (Added z w t h says)) (sym (ap (λ (m : Holding). who_of m.0) is.me_is))
     (subst (λ (q : Holding). Allows (RuleHolds ring) slots id q i f (Added z who t h says)) (sym is.me_is) (steps_at ring slots id z who t h i f says may))
 
--- ---- a seat is cut in two, and takes in another
+-- ---- a seat is split in two, and takes in another
 
 -- one of a seat goes to a new seat, and the others stay
 pub parts_at : (ring : Ring) (id : ℕ) (v left : List Participant) (one : Participant)

@@ -23,7 +23,7 @@ alike u v = ⊎_elim (λ e. inl (same_is u v e)) (λ e. inr (λ is. true≢false
 pub trail_here : (who : Who) (e : Event) (run : Run) → trail_of who ((who, e) ∷ run) ≡ e ∷ trail_of who run
 trail_here who e run = ap (λ (b : Bool). cond b (e ∷ trail_of who run) (trail_of who run)) (same_refl who)
 
--- of a run whose newest step is its own
+-- the trail in a run whose newest step is the participant's own
 pub trail_own : (who : Who) (x : Who × Event) (run : Run) → x.0 ≡ who → trail_of who (x ∷ run) ≡ x.1 ∷ trail_of who run
 trail_own who x run own = ap (λ (w : Who). trail_of who ((w, x.1) ∷ run)) own ∙ trail_here who x.1 run
 

@@ -1,4 +1,4 @@
--- Which events a completion added, and what is taken after it.
+-- The events that a completion added, and what is taken after it.
 use Rattle.std.specs.Prelude.{◌≡◌, ◌<◌, ℕ, ◌-◌, ◌/◌, ◌^◌, cond, List, [], ◌∷◌, map, take, Some, slice_get}
 use Rattle.ring.specs.Runs.{Raw, Outcome, Advance, Acknowledge, Trail, raws_by, acknowledged_by, syncs_taken, Taken, taken_as, outcome_of}
 use Rattle.cmdcodec.specs.Opcodes.{is_sync}
@@ -7,31 +7,31 @@ use Rattle.ringcore.specs.Limits.{most_senders}
 use Rattle.ring.specs.consumer.Consumers.{ConsumerValue}
 use Rattle.ring.specs.consumer.Pendings.{PendingValue}
 
--- of a closing sync: whose it is, by the cell that it writes into, and its number
+-- the sender of a closing sync, by the cell that it writes to, and its number
 abbrev pub sync_sender : Raw → ℕ
 sync_sender raw = (raw.hi - cell_address 0) / 4
 
 abbrev pub sync_number : Raw → ℕ
 sync_number raw = raw.lo / 2 ^ 32
 
--- a CMD_SYNC is acknowledged
+-- with the command acknowledged if it is a CMD_SYNC
 abbrev pub acknowledged : Raw → Trail → Trail
 acknowledged raw t = cond (is_sync raw) (Acknowledge (sync_sender raw) (sync_number raw) ∷ t) t
 
--- those among these commands are, in their order
+-- with each CMD_SYNC among these commands acknowledged, in order
 abbrev pub all_acknowledged : List Raw → Trail → Trail
 all_acknowledged [] t = t
 all_acknowledged (raw ∷ raws) t = all_acknowledged raws (acknowledged raw t)
 
--- one step past these commands, and then the acknowledgements
+-- one advance past these commands, and then the acknowledgements
 abbrev pub completed_trail : List Raw → Trail → Trail
 completed_trail raws t = all_acknowledged raws (Advance raws ∷ t)
 
--- a run that is pending, without what its consumer knows of the ring's run
+-- a pending run without its consumer's history
 abbrev pub unknowing : {D : Type 0} → PendingValue D → PendingValue D
 unknowing p = record p { consumer = record p.consumer { history = [] } }
 
--- The first so many are taken, while this device is lent.
+-- The first `count` are taken while this device is lent.
 abbrev pub completed : {D : Type 0} → ℕ → D → PendingValue D → ConsumerValue D
 completed count device p = record p.consumer { trail = completed_trail (take count p.raws) p.consumer.trail; lent = Some device }
 
@@ -47,20 +47,20 @@ abbrev pub without_newest : Trail → Trail
 without_newest [] = []
 without_newest (e ∷ es) = es
 
--- It has just advanced past these, and had acknowledged each closing sync that it took before.
+-- It has just advanced past these, and before that had acknowledged each closing sync that it took.
 pub record HasAdvanced (t : Trail) (raws : List Raw) : Type 0 where
   pub trail_is : t ≡ Advance raws ∷ without_newest t
   pub current : (s : ℕ) → acknowledged_by s (without_newest t) ≡ syncs_taken s (without_newest t)
 
 -- ---- the taken list
 
--- the commands that are taken with their outcomes, by the consumer's trail
+-- the commands taken and their outcomes, by the consumer's trail
 abbrev pub taken_of : Trail → List Taken
 taken_of t = map taken_as (raws_by t)
 
 abbrev pub with_outcome : Outcome → Raw → Taken
 with_outcome outcome raw = record { raw = raw; outcome = outcome }
 
--- Applied is for legal commands, Replaced for illegal ones.
+-- The outcome is Applied for legal commands and Replaced for illegal ones.
 abbrev pub HasOutcome : Outcome → List Raw → Type 0
 HasOutcome outcome raws = (i : ℕ) (raw : Raw) → slice_get raws i ≡ Some raw → outcome ≡ outcome_of raw

@@ -16,16 +16,17 @@ pub record ConsumerValue (D : Type 0) : Type 0 where
 abbrev pub consumer_of : {D : Type 0} → PortValue → Option D → ConsumerValue D
 consumer_of p lent = record { ring = p.ring; trail = p.trail; history = p.history; lent = lent }
 
--- It keeps its index of the head and how many it has taken, and it has acknowledged each closing sync that it took.
+-- Its index of the head and its count of commands taken are right, and it has acknowledged each closing sync
+-- that it took.
 pub record IsConsumer (port : PortValue) (head : IndexValue) (taken : ℕ) : Type 0 where
   pub who_is : port.who ≡ Consumer
   pub head_is : head ≡ index_of port.ring.made_with.geometry taken
   pub taken_is : taken ≡ taken_by port.trail
   pub current : (s : ℕ) → acknowledged_by s port.trail ≡ syncs_taken s port.trail
 
--- What the consumer knows of its steps, by the laws of every run. It has taken few commands, also with those that its last test
--- found behind them; the closing syncs among them come in the order of their numbers; and what it read at the head it
--- finds again, until it takes it.
+-- What the consumer knows of its steps, by the laws of every run: it has taken no more commands than a ring
+-- ever has, even with those that its last test found; the closing syncs among them come in the order of their
+-- numbers; and what it read at the head it finds again until it takes it.
 pub record KnowsItsSteps (ring : Ring) (trail : Trail) : Type 0 where
   pub few : taken_by trail ≤ most_reserved
   pub with_ready : taken_by trail + found_ready trail ≤ most_reserved

@@ -1,4 +1,4 @@
--- What was read from the head on, and is not taken yet.
+-- Commands that were read from the head on and aren't taken yet.
 use Rattle.std.specs.Prelude.{◌≡◌, ◌≤◌, ℕ, suc, List, [], ◌∷◌, length, Some, slice_get}
 use Rattle.ring.specs.Runs.{Raw, Half, Lo, Hi, Read, Trail, found_ready, half_read, head_read, half_of}
 use Rattle.qindex.specs.Positions.{size}
@@ -9,7 +9,7 @@ use Rattle.ring.specs.consumer.Consumers.{ConsumerValue}
 abbrev pub HasSeen : Trail → Raw → Type 0
 HasSeen t raw = (half : Half) → head_read half t ≡ Some (half_of half raw)
 
--- both halves of each command, from this offset on
+-- reads of both halves of each command, from this offset on
 abbrev pub reads_from : ℕ → List Raw → Trail → Trail
 reads_from offset [] t = t
 reads_from offset (raw ∷ raws) t = reads_from (suc offset) raws (Read offset Hi raw.hi ∷ Read offset Lo raw.lo ∷ t)

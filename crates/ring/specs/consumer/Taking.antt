@@ -1,4 +1,4 @@
--- Which events a take added, by its answer.
+-- The events that a take added, by its answer.
 use Rattle.std.specs.Prelude.{◌≡◌, ◌≢◌, ◌≤◌, ℕ, Bool, true, false, List, [], ◌∷◌, length}
 use Rattle.ring.specs.Runs.{Raw, Control, Consumer, Look, Test, Trail, head, tail, world, control}
 use Rattle.ring.specs.declared.consumer.taken.Taken.{Taken}
@@ -13,7 +13,7 @@ use Rattle.ring.specs.consumer.Pendings.{PendingValue, run_of, reads_from}
 abbrev pub with_trail : {D : Type 0} → ConsumerValue D → Trail → ConsumerValue D
 with_trail d t = record d { trail = t }
 
--- a look that found nothing reserved: in the run as it is known then, all that is reserved is taken
+-- a look that found nothing reserved: in the run known then, all that is reserved is taken
 pub record TookNone {D : Type 0} (closed : Bool) (d e : ConsumerValue D) : Type 0 where
   pub seen : Control
   pub nothing : seen.prod.number ≡ seen.cons.number
@@ -23,8 +23,8 @@ pub record TookNone {D : Type 0} (closed : Bool) (d e : ConsumerValue D) : Type 
   pub trail_is : record e { history = [] } ≡ with_trail (record d { history = [] }) (Look seen ∷ d.trail)
   pub grew : Grew Consumer d.trail e.trail d.history e.history
 
--- a look that found something reserved, and a test that found the head not written: in the run as it is known then, the
--- flag of the head isn't turned
+-- a look that found something reserved, and a test that found the head not handed over: in the run known
+-- then, it isn't flipped
 pub record TookUnwritten {D : Type 0} (most : ℕ) (d e : ConsumerValue D) : Type 0 where
   pub seen : Control
   pub something : seen.prod.number ≢ seen.cons.number
@@ -32,7 +32,7 @@ pub record TookUnwritten {D : Type 0} (most : ℕ) (d e : ConsumerValue D) : Typ
   pub trail_is : record e { history = [] } ≡ with_trail (record d { history = [] }) (Test most 0 ∷ Look seen ∷ d.trail)
   pub grew : Grew Consumer d.trail e.trail d.history e.history
 
--- a look that found something reserved, a test that found some ready, and reads of just these
+-- a look that found something reserved, a test that found some ready, and reads of exactly these
 pub record TookRun {D : Type 0} (most : ℕ) (d : ConsumerValue D) (p : PendingValue D) : Type 0 where
   pub seen : Control
   pub something : seen.prod.number ≢ seen.cons.number
@@ -52,7 +52,7 @@ abbrev pub BeginsWith : {D : Type 0} → Raw → TakenRun D → Type 0
 BeginsWith raw (Ready p) = (rest : List Raw) × (p.raws ≡ raw ∷ rest)
 BeginsWith raw other = ⊥
 
--- as of a run of at most one command
+-- the same for a run of at most one command
 abbrev pub HasTaken : {D : Type 0} → ConsumerValue D → Taken D → Type 0
 HasTaken d (one.Empty e) = TookNone false d e
 HasTaken d (one.Drained e) = TookNone true d e

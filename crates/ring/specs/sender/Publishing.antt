@@ -1,4 +1,4 @@
--- Which events write a reservation and hand it over, and what they make of it.
+-- The events that write a reservation and hand it over, and the reservation after them.
 use Rattle.std.specs.Prelude.{◌≡◌, ℕ, zero, suc, ◌+◌, ◌-◌, min, [], ◌∷◌, ◌++◌}
 use Rattle.qindex.specs.Positions.{index_of}
 use Rattle.ring.specs.Runs.{Lo, Hi, Write, Flip, Trail, reserved_length, start_index, numbers_given, own_batches}
@@ -6,24 +6,24 @@ use Rattle.ringcore.specs.memory.Flags.{shared_word}
 use Rattle.ring.specs.sender.Senders.{SenderValue}
 use Rattle.ring.specs.sender.Reservations.{ReservationValue}
 
--- ---- the events, the newest first
+-- ---- the events, newest first
 
--- Both halves of so many slots from this one on are written, in order.
+-- writes of both halves of k slots, in order, starting with this one
 abbrev pub writes_from : ℕ → ℕ → Trail
 writes_from slot zero = []
 writes_from slot (suc k) = Write (slot + k) Hi ∷ Write (slot + k) Lo ∷ writes_from slot k
 
--- So many from this one on are flipped by one step, where there are any.
+-- one flip of k slots, starting with this one, or none if k is 0
 abbrev pub flips_from : ℕ → ℕ → Trail
 flips_from slot zero = []
 flips_from slot (suc k) = Flip slot (suc k) ∷ []
 
--- how many of the slots from this one up to that one have their flags in one word with its own
+-- how many of the slots from this one up to `end` have their flags in the same word as this one
 abbrev pub run_up_to : ℕ → Trail → ℕ → ℕ → ℕ
 run_up_to geometry trail slot end = min (shared_word geometry (index_of geometry ((start_index geometry trail).number + slot)).number) (end - slot)
 
--- Of a reservation of which so many slots are written, and so many flipped, all that is left is written in order, and
--- then flipped by one step for each flag word, which are two at most.
+-- What hands over a reservation with so many slots written and so many flipped: the rest is written in order,
+-- and then flipped by one step for each flag word, of which there are at most two.
 abbrev pub handing_over : ℕ → Trail → ℕ → ℕ → Trail
 handing_over geometry trail written flipped =
     let all = reserved_length trail in
@@ -32,7 +32,7 @@ handing_over geometry trail written flipped =
 
 -- ---- a reservation after them
 
--- both halves of the next slot
+-- with both halves of the next slot written
 abbrev pub wrote_one : ReservationValue → ReservationValue
 wrote_one r = record r { trail = Write r.written Hi ∷ Write r.written Lo ∷ r.trail; written = r.written + 1 }
 
@@ -42,15 +42,16 @@ wrote_many k r = record r { trail = writes_from r.written k ++ r.trail; written 
 abbrev pub flipped_one : ReservationValue → ReservationValue
 flipped_one r = record r { trail = Flip r.flipped 1 ∷ r.trail; flipped = r.flipped + 1 }
 
--- how many of the slots that are written and not flipped have their flags in one word with the first of them
+-- how many of the slots that are written and not flipped have their flags in the same word as the first of
+-- them
 abbrev pub next_run : ReservationValue → ℕ
 next_run r = run_up_to r.ring.made_with.geometry r.trail r.flipped r.written
 
--- those in the next flag word, where any are left
+-- with those in the next flag word flipped, if any are left
 abbrev pub flipped_left : ReservationValue → ReservationValue
 flipped_left r = record r { trail = flips_from r.flipped (next_run r) ++ r.trail; flipped = r.flipped + next_run r }
 
--- all of it
+-- with all of it written and flipped
 abbrev pub published : ReservationValue → ReservationValue
 published r =
     let all = reserved_length r.trail in

@@ -9,7 +9,7 @@ use Rattle.ring.specs.Rings.{RingValue}
 use Rattle.ring.specs.table.{PortValue}
 use Rattle.ring.specs.sender.Senders.{IsTallied, ReceiptValue}
 
--- a reservation: its ring and sender, its batch, and of its slots how many are written and flipped
+-- a reservation: its ring and sender, its batch, and how many of its slots are written and flipped
 pub record ReservationValue : Type 0 where
   pub ring : RingValue
   pub sender : ℕ
@@ -20,20 +20,21 @@ pub record ReservationValue : Type 0 where
   pub written : ℕ
   pub flipped : ℕ
 
--- Just the slots below this one are written, both halves of each; just those are flipped.
+-- Exactly the slots below `written` are written, both halves of each; exactly those below `flipped` are
+-- flipped.
 abbrev pub IsWrittenUpTo : ℕ → Trail → Type 0
 IsWrittenUpTo written trail = (slot : ℕ) (half : Half) → has_written slot half trail ≡ nat_lt slot written
 
 abbrev pub IsFlippedUpTo : ℕ → Trail → Type 0
 IsFlippedUpTo flipped trail = (slot : ℕ) → has_flipped slot trail ≡ nat_lt slot flipped
 
--- the number of the last batch that was reserved
+-- the number of the last batch reserved
 abbrev pub reserved_number : Trail → Option ℕ
 reserved_number [] = None
 reserved_number (Won body number ∷ es) = number
 reserved_number (e ∷ es) = reserved_number es
 
--- its commands, without a CMD_SYNC that closes it
+-- its commands, without its closing CMD_SYNC
 abbrev pub reserved_body : Trail → List Raw
 reserved_body [] = []
 reserved_body (Won body number ∷ es) = body
@@ -43,7 +44,7 @@ abbrev pub number_when : Bool → ℕ → Option ℕ
 number_when true number = Some number
 number_when false number = None
 
--- Its slots are written and flipped in their order.
+-- Its slots are written and flipped in order.
 pub record IsOpen (port : PortValue) (tally : Tally) (body : List Raw) (closes : Bool) (start : IndexValue) (written flipped : ℕ) : Type 0 where
   pub tallied : IsTallied port tally
   pub body_is : IsBody body

@@ -1,4 +1,4 @@
--- Which events a try to reserve added, by its answer.
+-- The events that a try to reserve added, by its answer.
 use Rattle.std.specs.Prelude.{◌≡◌, ◌≢◌, ℕ, ◌+◌, ◌<◌, ◌≤◌, Bool, true, false, List, [], ◌∷◌}
 use Rattle.ring.specs.Runs.{Raw, Control, Look, Won, Lost, Sender, Trail, Run, batches_made, World, head, tail, world, control, length_with}
 use Rattle.qindex.specs.Positions.{size}
@@ -23,11 +23,11 @@ ring_size s = size s.ring.made_with.geometry
 abbrev pub Fits : List Raw → Bool → SenderValue → Type 0
 Fits body closes s = length_with closes body ≤ ring_size s
 
--- The sender may reserve one batch more.
+-- The sender may reserve one more batch.
 abbrev pub HasBatchLeft : SenderValue → Type 0
 HasBatchLeft s = batches_made s.trail < s.ring.made_with.max_batches
 
--- By what was seen the ring is open and has room for the batch.
+-- According to what was seen, the ring is open and has room for the batch.
 pub record HasRoom (body : List Raw) (closes : Bool) (s : SenderValue) (seen : Control) : Type 0 where
   pub unclosed : seen.closed ≡ false
   pub room : distance seen.prod seen.cons + length_with closes body ≤ ring_size s
@@ -36,11 +36,11 @@ pub record HasRoom (body : List Raw) (closes : Bool) (s : SenderValue) (seen : C
 abbrev pub control_in : SenderValue → Run → Control
 control_in s run = control s.ring.made_with.geometry (world run)
 
--- In this world a batch of so many commands has no room behind those that are reserved and not taken.
+-- In this world there is no room for so many commands after those that are reserved and not taken.
 abbrev pub HasNoRoom : ℕ → ℕ → World → Type 0
 HasNoRoom slots many w = head w + slots < tail w + many
 
--- Where a look finds too little room, there is too little.
+-- If a look finds too little room, there is too little.
 abbrev pub TellsRoom : ℕ → World → Type 0
 TellsRoom geometry w =
     (slots many : ℕ) → slots < distance (control geometry w).prod (control geometry w).cons + many → HasNoRoom slots many w
@@ -63,13 +63,13 @@ opened body closes s = record {
   flipped = 0;
 }
 
--- The exchange stands last in the run, and what was looked at stood ahead of it.
+-- The exchange is last in the run, and right before it a look would have found what was looked at.
 pub record IsWon (body : List Raw) (closes : Bool) (seen : Control) (s : SenderValue) (r : ReservationValue) : Type 0 where
   pub trail_is : record r { history = [] } ≡ opened body closes (record s { history = [] })
   pub grew : GrewBy (Sender s.number) (Won body (next_number s.trail closes)) s.history r.history
   pub stood : seen ≡ control_in s grew.before
 
--- It stands last, and found something else than what was looked at.
+-- The exchange is last in the run, and found something other than what was looked at.
 pub record IsLost (body : List Raw) (closes : Bool) (seen : Control) (s t : SenderValue) : Type 0 where
   pub found : Control
   pub other : found ≢ seen
@@ -77,7 +77,7 @@ pub record IsLost (body : List Raw) (closes : Bool) (seen : Control) (s t : Send
   pub grew : GrewBy (Sender s.number) (Lost body closes found) s.history t.history
   pub found_is : found ≡ control_in s t.history
 
--- It looked, and this stood in the run that it knew from then on.
+-- It looked, and what it saw is as in the run that it knew from then on.
 pub record HasLookedAt (seen : Control) (s t : SenderValue) : Type 0 where
   pub trail_is : record t { history = [] } ≡ has_looked (record s { history = [] }) seen
   pub grew : GrewBy (Sender s.number) (Look seen) s.history t.history
@@ -85,7 +85,7 @@ pub record HasLookedAt (seen : Control) (s t : SenderValue) : Type 0 where
 
 -- ---- the answers
 
--- a look that found the ring open and the room, and then the whole batch
+-- a look that found the ring open with room, and then the whole batch
 pub record IsReserved (body : List Raw) (closes : Bool) (s : SenderValue) (r : ReservationValue) : Type 0 where
   pub fits : Fits body closes s
   pub left : HasBatchLeft s
@@ -100,13 +100,13 @@ pub record IsTooLong (body : List Raw) (closes : Bool) (s t : SenderValue) : Typ
   pub long : ring_size s < length_with closes body
   pub stays : t ≡ s
 
--- It fits, but all batches were reserved: no step.
+-- It fits, but all the sender's batches were reserved: no step.
 pub record IsExhausted (body : List Raw) (closes : Bool) (s t : SenderValue) : Type 0 where
   pub fits : Fits body closes s
   pub all : batches_made s.trail ≡ s.ring.made_with.max_batches
   pub stays : t ≡ s
 
--- a look, and it found the ring closed, as it is in the run that is known then
+-- a look that found the ring closed, as it is in the run known then
 pub record IsClosed (body : List Raw) (closes : Bool) (s t : SenderValue) : Type 0 where
   pub fits : Fits body closes s
   pub left : HasBatchLeft s
@@ -115,7 +115,7 @@ pub record IsClosed (body : List Raw) (closes : Bool) (s t : SenderValue) : Type
   pub looked : HasLookedAt seen s t
   pub closed_then : (world t.history).closed ≡ true
 
--- a look, and it found the ring open and too little room, as it is in the run that is known then
+-- a look that found the ring open with too little room, as it is in the run known then
 pub record IsFull (body : List Raw) (closes : Bool) (s t : SenderValue) : Type 0 where
   pub fits : Fits body closes s
   pub left : HasBatchLeft s
@@ -125,7 +125,7 @@ pub record IsFull (body : List Raw) (closes : Bool) (s t : SenderValue) : Type 0
   pub looked : HasLookedAt seen s t
   pub full_then : HasNoRoom (ring_size s) (length_with closes body) (world t.history)
 
--- a look that found the ring open and the room, and an exchange that found something else
+-- a look that found the ring open with room, and an exchange that found something else
 pub record IsContended (body : List Raw) (closes : Bool) (s t : SenderValue) : Type 0 where
   pub fits : Fits body closes s
   pub left : HasBatchLeft s

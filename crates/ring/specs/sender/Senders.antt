@@ -20,7 +20,7 @@ pub record IsTallied (port : PortValue) (tally : Tally) : Type 0 where
   pub numbered : tally.numbers ≤ tally.batches
   pub most : tally.batches ≤ port.ring.made_with.max_batches
 
--- Between two reservations.
+-- The sender is between two reservations.
 pub record IsSender (port : PortValue) (tally : Tally) : Type 0 where
   pub tallied : IsTallied port tally
   pub settled : IsSettled port.trail

@@ -1,4 +1,4 @@
--- Which events a send added, by its answer.
+-- The events that a send added, by its answer.
 use Rattle.std.specs.Prelude.{◌≡◌, ℕ, zero, suc, ◌+◌, ◌<◌, Bool, true, false, List, []}
 use Rattle.ring.specs.Runs.{Raw}
 use Rattle.ring.specs.declared.sender.cause.Cause.{Cause}
@@ -8,7 +8,7 @@ use Rattle.ring.specs.sender.Reservations.{ReservationValue, IsReceiptOf}
 use Rattle.ring.specs.sender.Reserving.{IsReserved, IsRefused}
 use Rattle.ring.specs.sender.Publishing.{published, sender_of}
 
--- whether another try may go through
+-- whether another try may succeed
 abbrev pub may_pass : Cause → Bool
 may_pass TooLong = false
 may_pass Exhausted = false
@@ -16,13 +16,13 @@ may_pass Closed = false
 may_pass Full = true
 may_pass Contended = true
 
--- So many tries were refused, one after another, each for a cause that may pass.
+-- This many tries were refused in a row, each for a cause that may pass.
 abbrev pub HasTried : List Raw → Bool → ℕ → SenderValue → SenderValue → Type 0
 HasTried body closes zero s t = t ≡ s
 HasTried body closes (suc k) s t =
     (u : SenderValue) × (cause : Cause) × HasTried body closes k s u × (may_pass cause ≡ true) × IsRefused body closes u cause t
 
--- some refused tries, and then a reservation, by at most so many tries
+-- some refused tries and then a reservation, in at most `tries` tries
 pub record IsReservedWithin (body : List Raw) (closes : Bool) (tries : ℕ) (s : SenderValue) (r : ReservationValue) : Type 0 where
   pub refusals : ℕ
   pub few : refusals < tries
@@ -30,7 +30,7 @@ pub record IsReservedWithin (body : List Raw) (closes : Bool) (tries : ℕ) (s :
   pub tried : HasTried body closes refusals s after
   pub reserved : IsReserved body closes after r
 
--- Some refused tries, and then all of the batch.
+-- Some refused tries, and then the whole batch was sent.
 pub record IsSent (body : List Raw) (tries : ℕ) (s t : SenderValue) (receipt : ReceiptValue) : Type 0 where
   pub reservation : ReservationValue
   pub reserved : IsReservedWithin body true tries s reservation
@@ -42,7 +42,7 @@ pub record IsSentBare (body : List Raw) (tries : ℕ) (s t : SenderValue) : Type
   pub reserved : IsReservedWithin body false tries s reservation
   pub sender_is : record t { history = [] } ≡ sender_of (published (record reservation { history = [] }))
 
--- The last refusal is told: after so many tries, or at once where its cause doesn't pass.
+-- The answer is the last refusal: after `tries` tries, or at once if its cause doesn't pass.
 pub record IsGivenUp (body : List Raw) (closes : Bool) (tries : ℕ) (s : SenderValue) (cause : Cause) (t : SenderValue) : Type 0 where
   pub refusals : ℕ
   pub few : refusals < tries

@@ -1,4 +1,4 @@
--- A seat of several who know one run: one of them gets a seat of its own, and comes back.
+-- A seat of several participants who know the same run: one of them gets its own seat, and comes back.
 use Rattle.std.specs.Prelude.{◌≡◌, ℕ, ◌-◌, cond, List, [], ◌∷◌, ◌++◌, length, take, ⊤}
 use Rattle.ring.specs.Runs.{Who, Trail, Run, same, trail_of, Ring, OnlyOf}
 use Rattle.ringcore.specs.memory.Shadow.{AreAfter}
@@ -21,7 +21,7 @@ abbrev pub AllKnow : Ring → Run → List Participant → Type 0
 AllKnow ring run [] = ⊤
 AllKnow ring run (p ∷ ps) = (p ≡ one_of_run ring run p.who) × AllKnow ring run ps
 
--- ---- one of them gets a seat of its own
+-- ---- one of them gets its own seat
 
 abbrev pub without : Who → List Participant → List Participant
 without who [] = []
@@ -32,11 +32,11 @@ own_part who all = one_of_run (ring_of all) (history_of_first all) who ∷ []
 
 -- ---- what it added meanwhile
 
--- a run of these events, all by this one
+-- a run of these events, all by this participant
 abbrev pub run_by : Who → Trail → Run
 run_by who [] = []
 run_by who (e ∷ es) = (who, e) ∷ run_by who es
 
--- the run, with what this one's trail has more than it had in it
+-- the run, followed by the events by which this participant's trail is longer than in it
 abbrev pub grown_run : Who → Run → Trail → Run
 grown_run who run trail = run_by who (take (length trail - length (trail_of who run)) trail) ++ run

@@ -1,4 +1,4 @@
--- Seats that are joined for a load: all for whom they stand know the run as it is then.
+-- Seats that are joined for a load, by which all their participants learn the run as it is then.
 use Rattle.std.specs.Prelude.{◌≡◌, ℕ, List, [], ◌∷◌, slice_index}
 use Rattle.atomic_table.specs.Table.{Step}
 use Rattle.ring.specs.Runs.{Who, Run, Ring, IsOne, OnlyOf}
@@ -11,8 +11,8 @@ abbrev pub all_knowing : Run → List Participant → List Participant
 all_knowing run [] = []
 all_knowing run (p ∷ ps) = record p { history = run } ∷ all_knowing run ps
 
--- The words stand as after this run. It has the trails of all of these, and what each of them knew is an older part of
--- it, behind which that one took no step.
+-- The words stand as after this run. It has the trails of all of these, and what each of them knew is an
+-- older part of it, after which that one took no step.
 pub record HasAll (ring : Ring) (all : List Participant) (run : Run) (words : List ℕ) : Type 0 where
   pub limits : IsWithinLimits ring
   pub after : AreAfter ring run words
@@ -23,7 +23,8 @@ pub record HasAll (ring : Ring) (all : List Participant) (run : Run) (words : Li
 abbrev pub AllSit : Ring → List Participant → Type 0
 AllSit ring all = (who : Who) → IsOne ring.senders who → Any (λ p. p.who ≡ who) all
 
--- All of a seat came to know such a run. Where everyone of the ring sits there, one of them had known it before.
+-- All participants of a seat came to know such a run. If all of the ring's sit there, one of them knew it
+-- before.
 abbrev pub HaveMet : Holding → Holding → Type 0
 HaveMet me now =
     (run : Run) × (words : List ℕ) × HasAll (ring_of me.0) me.0 run words × (now ≡ (all_knowing run me.0, me.1))
@@ -33,6 +34,6 @@ HaveMet me now =
 abbrev pub has_met : Step (Unit {0}) → Holding → ℕ → Holding → Type 0
 has_met step me word now = HaveMet me now
 
--- and what it tells with the word that it found: that stood at its place
+-- and what it tells with the word that it found, which is the word that was there
 abbrev pub has_found : Step (Unit {0}) → Holding → ℕ → Holding → Type 0
 has_found step me word now = (met : HaveMet me now) × (word ≡ slice_index met.1 step.word)

@@ -1,4 +1,4 @@
--- The run that the rule speaks of is one, and grows at its end alone.
+-- The rule speaks of one run, which grows only at its end.
 use Rattle.std.specs.Prelude.{◌≡◌, ◌≢◌, ℕ, List, [], ◌∷◌, length}
 use mathlib.Core.Option.{some}
 use lib.ListN.{get_elem?}
@@ -6,9 +6,9 @@ use Rattle.ring.specs.Runs.{Who, Event, Trail, Run, Ring}
 use Rattle.ring.specs.table.Rule.{TableState, participant, RuleHolds}
 use Rattle.ring.specs.table.Operations.{AreMadeBy}
 
--- Whatever step a seat of one participant takes by which its trail grows by an event, and which leaves the other views:
--- the event comes to the end of the run, and else the run stays as it was. So it is allowed, and finds what it says, in
--- the world as it was at the step.
+-- If a seat of a single participant takes a step by which its trail grows by an event, and which leaves the
+-- other views, the event is added at the end of the run, which else stays as it was. So it is allowed, and
+-- finds what it says, in the world as it was at the step.
 abbrev pub IsOneRun : Type 0
 IsOneRun =
     (ring : Ring) (s t : TableState) (before : RuleHolds ring s) (now : RuleHolds ring t)
@@ -18,11 +18,12 @@ IsOneRun =
     → ((j : ℕ) → j ≢ id → get_elem? t.views j ≡ get_elem? s.views j)
     → now.run ≡ (who, e) ∷ before.run
 
--- Whatever step is taken, with an event or without: the words are what the operations of the run's events made of zeros.
+-- After any step, with an event or without, the words are what the operations of the run's events made of
+-- zeros.
 abbrev pub WordsAreTheRuns : Type 0
 WordsAreTheRuns = (ring : Ring) (s : TableState) (holds : RuleHolds ring s) → AreMadeBy ring holds.run s.words
 
--- And that is one list: a store that no event stands for would make it another.
+-- There is only one such list: a store without an event would make another.
 abbrev pub WordsAreOne : Type 0
 WordsAreOne =
     (ring : Ring) (run : Run) (words others : List ℕ) → length words ≡ length others

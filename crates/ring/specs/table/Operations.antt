@@ -1,4 +1,4 @@
--- The one operation on one word that each kind of event is. No other changes a word of a ring.
+-- The single operation on one word that each kind of event is. Nothing else changes a word of a ring.
 use Rattle.std.specs.Prelude.{◌≡◌, ℕ, ◌+◌, List, [], ◌∷◌, length, Option, Some, slice_get, slice_index, slice_set, bit_or}
 use Rattle.ring.specs.Runs.{Raw, Who, Consumer, Sender, Half, Event, Won, Write, Flip, Advance, Close, Acknowledge, Run, trail_of, head, world, control, half_of, Ring}
 use Rattle.qindex.specs.Positions.{index_of}
@@ -7,25 +7,25 @@ use Rattle.ringcore.specs.memory.Layout.{control_word, flag_word, data_word, cel
 use Rattle.ringcore.specs.memory.Flags.{IsFlipMask}
 use Rattle.ringcore.specs.memory.StepLaws.{reserved_commands, turned}
 
--- An exchange of the control word, from what a look finds to what one finds once the batch is reserved.
+-- An exchange of the control word, from what a look finds to what a look finds once the batch is reserved.
 pub record IsExchange (ring : Ring) (run : Run) (old new : List ℕ) (s : ℕ) (body : List Raw) (number : Option ℕ) : Type 0 where
   pub found : slice_index old control_word ≡ packed (control ring.geometry (world run))
   pub stored : new ≡ slice_set old control_word (packed (control ring.geometry (world ((Sender s, Won body number) ∷ run))))
 
--- A store of a half of the command at this place of the sender's reservation.
+-- A store of half of the command at this offset of the sender's reservation.
 pub record IsStore (ring : Ring) (run : Run) (old new : List ℕ) (s offset : ℕ) (half : Half) : Type 0 where
   pub raw : Raw
   pub command : slice_get (reserved_commands s (trail_of (Sender s) run)) offset ≡ Some raw
   pub stored : new ≡ slice_set old (data_word ring.geometry ((world run).start s + offset) half) (half_of half raw)
 
--- An exclusive or of the flag word with the flags of so many slots.
+-- An exclusive or of the flag word with the flags of `count` slots.
 pub record IsTurn (ring : Ring) (run : Run) (old new : List ℕ) (s offset count : ℕ) : Type 0 where
   pub mask : ℕ
   pub mask_is : IsFlipMask ring.geometry ((world run).start s + offset) count mask
   pub stored : new ≡ turned old (flag_word ring.geometry ((world run).start s + offset)) mask
 
--- What the operation of an event behind this run makes of the words. An event that isn't named is a load, or an exchange
--- that is lost: it leaves them.
+-- What the operation of an event after this run makes of the words. An event that isn't listed is a load or a
+-- lost exchange, which leaves them.
 abbrev pub IsOperation : Ring → Run → Who → Event → List ℕ → List ℕ → Type 0
 IsOperation ring run (Sender s) (Won body number) old new = IsExchange ring run old new s body number
 IsOperation ring run (Sender s) (Write offset half) old new = IsStore ring run old new s offset half

@@ -1,4 +1,4 @@
--- What contracts see of a seat that stands for one participant alone, and of its steps.
+-- What contracts see of a seat of a single participant, and of its steps.
 use Rattle.std.specs.Prelude.{◌≡◌, ◌≢◌, ℕ, ◌+◌, ◌<◌, ◌≤◌, Bool, true, false, List, [], ◌∷◌}
 use Rattle.atomic_table.specs.Seated.{TableId}
 use Rattle.ring.specs.Runs.{Raw, Control, Who, Half, Won, Lost, Trail, Run, reserved_length, has_written, has_flipped, start_index, world, control, IsRunLength}
@@ -18,7 +18,7 @@ pub record PortValue : Type 0 where
 abbrev pub port_of : TableId → Holding → PortValue
 port_of table me = record { ring = record { table = table; made_with = ring_of me.0 }; who = who_of me.0; trail = trail_of_first me.0; history = history_of_first me.0 }
 
--- A seat of this ring stands for this participant alone, with this trail, and knows this run.
+-- A seat of this ring has only this participant, with this trail, and knows this run.
 abbrev pub SitsFor : TableId → Holding → RingValue → Who → Trail → Run → Type 0
 SitsFor table me ring who trail history = (table ≡ ring.table) × (me ≡ (participant ring.made_with who trail history ∷ [], []))
 
@@ -27,13 +27,13 @@ SitsFor table me ring who trail history = (table ≡ ring.table) × (me ≡ (par
 abbrev pub has_won : List Raw → Bool → PortValue → PortValue
 has_won body closing p = record p { trail = Won body (next_number p.trail closing) ∷ p.trail }
 
--- The exchange stands last in the run, and what was looked at stood ahead of it.
+-- The exchange is last in the run, and right before it a look would have found what was looked at.
 pub record HasWon (body : List Raw) (closing : Bool) (seen : Control) (old new : PortValue) : Type 0 where
   pub trail_is : record new { history = [] } ≡ has_won body closing (record old { history = [] })
   pub grew : GrewBy old.who (Won body (next_number old.trail closing)) old.history new.history
   pub stood : seen ≡ control old.ring.made_with.geometry (world grew.before)
 
--- It stands last, and what it found is something else than what was looked at.
+-- The exchange is last in the run, and found something other than what was looked at.
 pub record HasLost (body : List Raw) (closing : Bool) (seen : Control) (old new : PortValue) : Type 0 where
   pub found : Control
   pub other : found ≢ seen

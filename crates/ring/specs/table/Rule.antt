@@ -1,5 +1,5 @@
--- The rule of a running ring: its words stand as after a run, and each seat that is held has the trails of those for
--- whom it stands, with the run as each of them knew it at its newest step.
+-- The rule of a running ring: its words stand as after a run, and each seat has the trails of its
+-- participants, with the run as each of them knew it at its newest step.
 use Rattle.std.specs.Prelude.{◌≡◌, ◌⊎◌, ℕ, zero, suc, ◌<◌, ◌≤◌, ◌^◌, List, [], ◌∷◌, ◌++◌, ⊤}
 use mathlib.Core.Option.{some}
 use lib.ListN.{get_elem?}
@@ -10,29 +10,29 @@ use Rattle.ringcore.specs.memory.Shadow.{AreAfter}
 use Rattle.ring.specs.declared.table.rule.Participant.{Participant}
 use Rattle.ring.specs.table.Operations.{AreMadeBy}
 
--- what the table is at a moment; it has no slots
+-- the state of the table; it has no slots
 abbrev pub TableState : Type 0
 TableState = State (Unit {0}) (List Participant)
 
--- what a seat holds: those for whom it stands, and no slots
+-- what a seat holds: its participants, and no slots
 abbrev pub Holding : Type 0
 Holding = Me (Unit {0}) (List Participant)
 
 abbrev pub participant : Ring → Who → Trail → Run → Participant
 participant ring who trail history = record { ring = ring; who = who; trail = trail; history = history }
 
--- what a ring may be made with, beside its geometry
+-- the limits of what a ring is made with, besides its geometry
 pub record IsWithinLimits (ring : Ring) : Type 0 where
   pub senders : ring.senders ≤ most_senders
   pub batches : ring.max_batches < 2 ^ 32
 
--- A run is an older one, and behind it steps of others than this one.
+-- The run is an older one followed by steps of others than this participant.
 pub record WentOn (who : Who) (older run : Run) : Type 0 where
   pub newer : Run
   pub run_is : run ≡ newer ++ older
   pub of_others : trail_of who newer ≡ []
 
--- The run has just these events of this participant, and since the newest of them it only went on.
+-- The run has exactly these events of this participant, and since the newest of them it only went on.
 pub record IsIn (ring : Ring) (run : Run) (p : Participant) : Type 0 where
   pub ring_is : p.ring ≡ ring
   pub known : IsOne ring.senders p.who
@@ -48,22 +48,22 @@ abbrev pub SitAt : (Who → ℕ) → ℕ → List Participant → Type 0
 SitAt seat i [] = ⊤
 SitAt seat i (p ∷ ps) = (seat p.who ≡ i) × SitAt seat i ps
 
--- Of one of these it is so.
+-- P holds of one of these.
 abbrev pub Any : (Participant → Type 0) → List Participant → Type 0
 Any P [] = ⊥
 Any P (p ∷ ps) = P p ⊎ Any P ps
 
--- Of one who sits at a seat it is so.
+-- P holds of one who sits at some seat.
 pub record Among (P : Participant → Type 0) (views : List (List Participant)) : Type 0 where
   pub place : ℕ
   pub there : List Participant
   pub at : get_elem? views place ≡ some there
   pub one : Any P there
 
--- The rule: there is a run whose operations, and no others, made the words what they are, and whose events of each
--- participant that sits at a seat are that participant's trail. It is the run as the one with the newest event knew it then, and what each
--- other knew at its own newest event is an older part of it, behind which it took no step: so the run grows at its end
--- alone, and what is in it stays.
+-- The rule: there is a run whose operations, and no others, made the words what they are, and whose events of
+-- each participant that sits at a seat are that participant's trail. It is the run as the one with the newest
+-- event knew it then, and what each other knew at its own newest event is an older part of it, after which
+-- that one took no step. So the run only grows at its end, and what is in it stays.
 pub record RuleHolds (ring : Ring) (s : TableState) : Type 0 where
   pub limits : IsWithinLimits ring
   pub run : Run
@@ -99,7 +99,7 @@ pub record StandsInARun (ring : Ring) (who : Who) (trail : Trail) : Type 0 where
   pub words : List ℕ
   pub stands : Stands ring who trail run words
 
--- of the first for whom a seat stands
+-- of a seat's first participant
 abbrev pub ring_of : List Participant → Ring
 ring_of [] = record { geometry = 0; senders = 0; max_batches = 0; flags = 64 }
 ring_of (p ∷ ps) = p.ring
@@ -116,7 +116,7 @@ abbrev pub history_of_first : List Participant → Run
 history_of_first [] = []
 history_of_first (p ∷ ps) = p.history
 
--- A seat stands for this participant alone, whose trail is that of the run that it knows.
+-- The seat has only this participant, whose trail is that of the run that it knows.
 pub record IsAlone (me : Holding) (who : Who) : Type 0 where
   pub me_is : me ≡ (participant (ring_of me.0) who (trail_of_first me.0) (history_of_first me.0) ∷ [], [])
   pub words : List ℕ

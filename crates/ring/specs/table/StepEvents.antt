@@ -9,7 +9,7 @@ use Rattle.ring.specs.declared.table.rule.Participant.{Participant}
 use Rattle.ring.specs.table.Rule.{Holding, participant, WentOn, Stands, ring_of, who_of, trail_of_first, history_of_first}
 use Rattle.ring.specs.table.Intents.{Intent, looks, reserves, writes, flips, tests, reads, advances, closes, acknowledges, asks}
 
--- The event of a step that is for this, whose first operand this is, and which found this word.
+-- The event of a step with this intent and this first operand, which found this word.
 abbrev pub IsEventOf : Ring → Trail → Intent → ℕ → ℕ → Event → Type 0
 IsEventOf ring trail looks operand word e = (e ≡ Look (control_in ring.geometry word)) × IsControlWord ring.geometry word
 IsEventOf ring trail (reserves body closing) operand word e =
@@ -23,7 +23,7 @@ IsEventOf ring trail closes operand word e = e ≡ Close
 IsEventOf ring trail (acknowledges sender number) operand word e = e ≡ Acknowledge sender number
 IsEventOf ring trail asks operand word e = e ≡ Ask word
 
--- The event stands last in the run, which went on from this older one, behind this trail.
+-- The event is last in the run, which went on from this older one and had this trail before it.
 pub record IsNewest (ring : Ring) (who : Who) (trail : Trail) (older run : Run) (e : Event) : Type 0 where
   pub words : List ℕ
   pub new_words : List ℕ
@@ -31,7 +31,8 @@ pub record IsNewest (ring : Ring) (who : Who) (trail : Trail) (older run : Run) 
   pub before : Stands ring who trail run words
   pub after : Stands ring who (e ∷ trail) ((who, e) ∷ run) new_words
 
--- A seat's trail grew by an event of which this is said, with the word that was found, and it stands last in the run.
+-- A seat's trail grew by an event, which is last in the run and for which `says` holds with the word that was
+-- found.
 abbrev pub Added : Ring → Who → Trail → Run → (ℕ → Event → Type 0) → ℕ → Holding → Type 0
 Added ring who trail older says word now =
     (e : Event) × (run : Run) × says word e × (now ≡ (participant ring who (e ∷ trail) ((who, e) ∷ run) ∷ [], [])) × IsNewest ring who trail older run e

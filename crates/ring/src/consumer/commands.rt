@@ -6,7 +6,8 @@ use cmdcodec::{Raw, RawList};
 use std::alloc::{AllocError, Global};
 use std::marker::Model;
 
-/// The commands of a run, up to 64. Their room is taken once, when the ring is made, so that they are never moved.
+/// The commands of a run, up to 64. Their memory is taken once, when the ring is made, so that they never
+/// move.
 #[derive(Drop)]
 pub struct Commands {
     list: Box<RawList>,

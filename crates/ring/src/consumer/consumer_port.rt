@@ -1,4 +1,4 @@
-//! The consumer's own port: its steps, with the index of the head.
+//! The consumer's port: its steps, and the index of the head.
 ghost use Rattle.std.specs.Prelude.{◌≡◌, ◌∷◌, ◌≤◌, ◌<◌, ◌+◌, ℕ, false, length, take, []};
 ghost use Rattle.qindex.specs.Positions.{size};
 ghost use Rattle.qindex.specs.ControlWord.{IsControl};
@@ -22,7 +22,7 @@ use std::marker::{Brand, Model};
 #[derive(Drop)]
 pub struct ConsumerPort {
     pub(crate) port: Port,
-    /// The index of the command that is taken next.
+    /// The index of the next command to take.
     pub(crate) head: Index,
     /// How many commands were taken.
     pub(crate) taken: u64,
@@ -54,7 +54,7 @@ impl ConsumerPort {
         self.taken
     }
 
-    /// Where a look finds the two ends at one place, all that is reserved is taken. It does nothing.
+    /// A witness that all that is reserved is taken if a look finds prod and cons equal. It does nothing.
     pub(crate) fn ends_tell_all(&self)
         ensures { EndsTellAll self.now.ring.made_with.geometry (world self.now.history) }
     {
@@ -87,7 +87,7 @@ impl ConsumerPort {
             .read::<Brand>(ring, self.head.forward(offset), offset, half)
     }
 
-    /// Reads the first so many commands.
+    /// Reads the first `count` commands.
     pub(crate) fn read_run(&mut self, ring: &Ring, count: u32, commands: &mut Commands)
         requires ring { self.old.ring ≡ ring.now }
         requires ready { count ≡ found_ready self.old.trail }
@@ -107,7 +107,7 @@ impl ConsumerPort {
         }
     }
 
-    /// Takes the first so many of these commands, and then acknowledges each CMD_SYNC among them.
+    /// Takes the first `count` of these commands, and then acknowledges each CMD_SYNC among them.
     pub(crate) fn complete_run(self, ring: &Ring, commands: &Commands, count: u32) -> ConsumerPort
         requires ring { self.ring ≡ ring.now }
         requires count { count ≤ length commands.now }

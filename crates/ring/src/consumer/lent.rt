@@ -1,11 +1,11 @@
-//! Which device was lent last.
+//! The device lent last.
 ghost use Rattle.std.specs.Prelude.{◌≡◌, None, Some};
 
 use crate::device::Device;
 use std::marker::Model;
 use std::snapshot::Snapshot;
 
-/// The device that was lent last, as it was then. Clauses alone read it: it has no bytes.
+/// The device that was lent last, as it was then. Only clauses read it, and it has no bytes.
 #[derive(Drop)]
 pub struct Lent<D: Device> {
     last: Snapshot<Option<Snapshot<D>>>,

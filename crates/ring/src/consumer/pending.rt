@@ -1,4 +1,4 @@
-//! A command that is read and not taken.
+//! A command that was read and not yet taken.
 ghost use Rattle.std.specs.Prelude.{◌≡◌, ◌∷◌, ◌++◌, []};
 ghost use Rattle.ring.specs.Runs.{Consumer as ConsumerOf, outcome_of};
 ghost use Rattle.ring.specs.table.{Grew};
@@ -29,7 +29,7 @@ impl<D: Device> Model for Pending<D> {
 }
 
 impl<D: Device> Pending<D> {
-    /// The command.
+    /// Returns the command.
     pub fn raw(&self) -> Raw
         ensures { result ≡ self.now.raw }
     {
@@ -45,8 +45,8 @@ impl<D: Device> Pending<D> {
         run.put_back()
     }
 
-    /// Takes the command, and acknowledges it where it is a CMD_SYNC. The device that is lent must be settled for all
-    /// that was taken and this command.
+    /// Takes the command, and acknowledges it if it is a CMD_SYNC. `device` must be settled for all that was
+    /// taken and this command.
     pub fn complete(self, ring: &Ring, outcome: Outcome, device: &D) -> Consumer<D>
         requires ring { self.consumer.ring ≡ ring.now }
         requires outcome { outcome ≡ outcome_of self.raw }

@@ -1,4 +1,4 @@
-//! A run of commands that is read and not taken.
+//! A run of commands that was read and not yet taken.
 ghost use Rattle.std.specs.Prelude.{◌≡◌, ◌≤◌, ◌∷◌, ◌++◌, ◌+◌, ℕ, List, length, map, slice_get, take, []};
 ghost use Rattle.ring.specs.Runs.{Raw as RawOf, Replaced, Consumer as ConsumerOf, outcome_of};
 ghost use Rattle.ringcore.specs.Limits.{most_reserved};
@@ -32,12 +32,12 @@ impl<D: Device> Model for PendingRun<D> {
 }
 
 impl<D: Device> PendingRun<D> {
-    /// How many commands they are: 1 to 64.
+    /// Returns how many commands it has, 1 to 64.
     pub fn len(&self) -> u32
         ensures value { result ≡ length self.now.raws }
         ensures some { 1 ≤ result }
         ensures few { result ≤ 64 }
-        // With all that was taken they are no more than a ring ever has.
+        // Together with all that was taken they are no more than a ring ever has.
         ensures in_all { length (taken_of self.now.consumer.trail) + result ≤ most_reserved }
     {
         laws::consumer_trail();
@@ -45,7 +45,7 @@ impl<D: Device> PendingRun<D> {
         self.commands.len()
     }
 
-    /// The command at this place of the run, from 0.
+    /// Returns the command at this place of the run, from 0, or `None` past the last.
     pub fn get(&self, place: u32) -> Option<Raw>
         ensures { result ≡ slice_get self.now.raws place }
     {
@@ -69,8 +69,8 @@ impl<D: Device> PendingRun<D> {
         }
     }
 
-    /// Takes the first `count` of the commands, and then acknowledges each CMD_SYNC among them. The device that is lent
-    /// must be settled for all that was taken and these.
+    /// Takes the first `count` commands, and then acknowledges each CMD_SYNC among them. `device` must be
+    /// settled for all that was taken and these.
     pub fn complete_run(self, ring: &Ring, count: u32, outcome: Outcome, device: &D) -> Consumer<D>
         requires ring { self.consumer.ring ≡ ring.now }
         requires some { 1 ≤ count }

@@ -1,4 +1,4 @@
-//! Single steps of a sender, between two calls and amid a reservation, and what the control word says.
+//! Single steps of a sender, between two calls or during a reservation, and what the control word says.
 ghost use Rattle.std.specs.Prelude.{◌≡◌, ◌<◌, None};
 ghost use Rattle.qindex.specs.ControlWord.{IsControl};
 ghost use Rattle.ring.specs.Runs.{Sender as SenderOf, Look, Close, Ask, world, control as control_of};
@@ -11,8 +11,8 @@ use qindex::Control;
 use ringcore::{control_word, laws};
 
 impl Keeper {
-    /// A sender looks at the control word: SMMU_CMDQ_PROD, SMMU_CMDQ_CONS and whether the ring is closed. A
-    /// reservation of its may be open, and stays that.
+    /// A sender looks at the control word. Returns SMMU_CMDQ_PROD, SMMU_CMDQ_CONS and whether the ring is
+    /// closed. The sender may have an open reservation, which stays open.
     pub fn look(&mut self, ring: &Ring, sender: u32) -> Control
         requires ring { self.old.ring ≡ ring.now }
         requires whole { self.old.lent ≡ None }
@@ -29,8 +29,8 @@ impl Keeper {
         found
     }
 
-    /// A sender closes the ring: from then on nothing more is reserved (own). A reservation of its may be open, and
-    /// stays that.
+    /// A sender closes the ring: from then on nothing more is reserved (own). The sender may have an open
+    /// reservation, which stays open.
     pub fn close(&mut self, ring: &Ring, sender: u32)
         requires ring { self.old.ring ≡ ring.now }
         requires whole { self.old.lent ≡ None }
@@ -44,8 +44,8 @@ impl Keeper {
         self.run_stands();
     }
 
-    /// A sender asks its completion cell up to which number all of its batches are done (own). A reservation of its may
-    /// be open, and stays that.
+    /// A sender asks its completion cell up to which number all of its batches are done (own). It may have an
+    /// open reservation, which stays open.
     pub fn done_up_to(&mut self, ring: &Ring, sender: u32) -> u32
         requires ring { self.old.ring ≡ ring.now }
         requires whole { self.old.lent ≡ None }
@@ -61,7 +61,8 @@ impl Keeper {
         found
     }
 
-    /// What the control word says: SMMU_CMDQ_PROD, SMMU_CMDQ_CONS and whether the ring is closed. Nobody takes a step.
+    /// Returns what the control word says: SMMU_CMDQ_PROD, SMMU_CMDQ_CONS and whether the ring is closed.
+    /// Nobody takes a step.
     pub fn control(&mut self, ring: &Ring) -> Control
         requires ring { self.old.ring ≡ ring.now }
         requires whole { self.old.lent ≡ None }

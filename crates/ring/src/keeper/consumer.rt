@@ -11,8 +11,8 @@ use crate::ring::Ring;
 use qindex::Index;
 use std::marker::{Brand, Model};
 
-/// The consumer while the keeper has its seat: where its head is, how many commands it has taken, and which device was
-/// lent last.
+/// The consumer while the keeper has its seat: its head, how many commands it has taken, and the device lent
+/// last.
 #[derive(Drop)]
 pub struct IdleConsumer<D: Device> {
     pub(crate) head: Index,
@@ -30,7 +30,8 @@ impl<D: Device> Model for IdleConsumer<D> {
 }
 
 impl Keeper {
-    /// Lends the consumer its seat: so it is a consumer as any other. It is to come back by `take_consumer`.
+    /// Lends the consumer its seat, so that it is a consumer like any other. It comes back by
+    /// `take_consumer`.
     pub fn lend_consumer<D: Device>(&mut self, ring: &Ring, idle: IdleConsumer<D>) -> Consumer<D>
         requires ring { self.old.ring ≡ ring.now }
         requires whole { self.old.lent ≡ None }

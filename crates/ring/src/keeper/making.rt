@@ -1,4 +1,4 @@
-//! A ring whose seats are all the keeper's from the start.
+//! Makes a ring whose seats the keeper has from the start.
 ghost use Rattle.std.specs.Prelude.{◌≡◌, ◌≤◌, None, OnOk, IfOk, IfErr};
 ghost use Rattle.qindex.specs.Indexes.{IsGeometry};
 ghost use Rattle.ringcore.specs.Limits.{most_senders};
@@ -16,10 +16,10 @@ use ringcore::{RingFault, laws, ring_geometry, words};
 use std::alloc::{AllocError, Global};
 
 impl Keeper {
-    /// A new ring of `2^log2` slots with its keeper and what is left of its consumer; of a sender `IdleSender::new` is
-    /// left. Each sender may reserve `max_batches` batches.
+    /// Creates a ring of `2^log2` slots with its keeper and its idle consumer; `IdleSender::new` makes an
+    /// idle sender. Each sender may reserve `max_batches` batches.
     ///
-    /// Errors: as of `Ring::new`.
+    /// Errors: those of `Ring::new`.
     pub fn new<D: Device>(
         alloc: Global,
         log2: u32,
@@ -37,7 +37,7 @@ impl Keeper {
         }
     }
 
-    /// A ring before its first step.
+    /// Makes a ring before its first step.
     fn open<D: Device>(
         alloc: Global,
         geometry: Geometry,

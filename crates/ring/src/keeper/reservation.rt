@@ -12,10 +12,11 @@ use batch::BorrowedBatch;
 use qindex::Index;
 use std::marker::{Model, PhantomData};
 
-/// A reservation whose sender's seat the keeper has, without its batch: whoever lends it again has kept the batch.
+/// A reservation while the keeper has its sender's seat. It doesn't have its batch: whoever lends it again
+/// keeps that.
 #[derive(Clone, Copy)]
 pub struct IdleReservation {
-    /// With this batch.
+    /// The sender's tally, including this batch.
     tally: Tally,
     closes: bool,
     /// The index of the first slot.
@@ -35,28 +36,28 @@ impl Model for IdleReservation {
 }
 
 impl IdleReservation {
-    /// Its sender's number, from 0.
+    /// Returns its sender's number, from 0.
     pub fn id(&self) -> u32
         ensures { result ≡ self.now.tally.sender }
     {
         self.tally.sender
     }
 
-    /// Whether it closes with a CMD_SYNC: it is lent as a reservation of that kind.
+    /// Whether it closes with a CMD_SYNC. It is lent as a reservation of that kind.
     pub fn closes(&self) -> bool
         ensures { result ≡ self.now.closes }
     {
         self.closes
     }
 
-    /// The index of its first slot.
+    /// Returns the index of its first slot.
     pub fn first(&self) -> Index
         ensures { result ≡ self.now.start }
     {
         self.start
     }
 
-    /// The number of its batch, where it closes with a CMD_SYNC.
+    /// Returns the number of its batch, or `None` if no CMD_SYNC closes it.
     pub fn number(&self) -> Option<u32>
         ensures { result ≡ number_when self.now.closes self.now.tally.numbers }
     {
@@ -69,8 +70,8 @@ impl IdleReservation {
 }
 
 impl Keeper {
-    /// Lends a reservation its sender's seat, with a batch that holds what the reservation was made with: so it is a
-    /// reservation as any other, of the kind that it was.
+    /// Lends a reservation its sender's seat, with a batch of the commands that it was made with, so that it
+    /// is a reservation like any other, of the same kind as before.
     pub fn lend_reservation<'b, K: BatchKind>(
         &mut self,
         ring: &Ring,

@@ -26,7 +26,7 @@ impl Model for IdleSender {
 }
 
 impl IdleSender {
-    /// The sender of this number, from 0, of a ring in which nothing has happened.
+    /// The sender with this number, from 0, of a ring in which nothing has happened.
     pub fn new(number: u32) -> IdleSender
         ensures number { result.sender ≡ number }
         ensures idle { (keeper : KeeperValue) → keeper.run ≡ [] → IsIdleSender keeper result }
@@ -36,7 +36,7 @@ impl IdleSender {
         }
     }
 
-    /// Its number, from 0.
+    /// Returns its number, from 0.
     pub fn id(&self) -> u32
         ensures { result ≡ self.now.sender }
     {
@@ -45,8 +45,8 @@ impl IdleSender {
 }
 
 impl Keeper {
-    /// Lends a sender its seat: so it is a sender as any other. It is to come back by `take_sender`, or as the
-    /// reservation that it became by `take_reservation`.
+    /// Lends a sender its seat, so that it is a sender like any other. It comes back by `take_sender`, or by
+    /// `take_reservation` as the reservation that it became.
     pub fn lend_sender(&mut self, ring: &Ring, idle: IdleSender) -> Sender
         requires ring { self.old.ring ≡ ring.now }
         requires whole { self.old.lent ≡ None }

@@ -1,6 +1,6 @@
 //! How a batch ends.
 
-/// How a batch ends: by a closing CMD_SYNC, or with its last command.
+/// How a batch ends: with a closing CMD_SYNC, or with its last command.
 pub trait BatchKind {
     ghost use Rattle.std.specs.Prelude.{◌≡◌, Bool};
 
@@ -11,7 +11,7 @@ pub trait BatchKind {
         ensures { result ≡ closes };
 }
 
-/// By a closing CMD_SYNC, which has a number.
+/// With a closing CMD_SYNC, which has a number.
 pub struct Closing;
 
 impl BatchKind for Closing {

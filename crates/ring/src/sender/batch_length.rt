@@ -6,7 +6,7 @@ ghost use Rattle.ring.specs.Runs.{length_with};
 use crate::sender::batch_kind::BatchKind;
 use batch::BorrowedBatch;
 
-/// How many commands a batch has, with its closing CMD_SYNC where it has one.
+/// Returns how many commands a batch has, 1 to 64, including its closing CMD_SYNC if it has one.
 pub fn batch_length<K: BatchKind>(batch: &BorrowedBatch<'_>) -> u32
     ensures value { result ≡ length_with K.closes batch.now }
     ensures body { IsBody batch.now }

@@ -6,7 +6,7 @@ ghost use Rattle.ring.specs.FaultNames.{cause_label};
 use crate::sender::Sender;
 use thiserror::Error;
 
-/// Why nothing was reserved. The first that applies is told, in the order of these lines.
+/// Why nothing was reserved: the first cause that applies, in this order.
 #[derive(Clone, Copy, Debug, PartialEq, Eq, Error)]
 pub enum Cause {
     /// Q4: the batch has more commands than the ring has slots.
@@ -27,7 +27,7 @@ pub enum Cause {
 }
 
 impl Cause {
-    /// Its label alone, `Q1` to `Q5`.
+    /// Returns its label, `Q1` to `Q5`.
     pub fn label(self) -> &'static str
         ensures { result.now ≡ cause_label self }
     {
@@ -40,7 +40,7 @@ impl Cause {
         }
     }
 
-    /// Whether a later try may go through.
+    /// Whether a later try may succeed.
     pub(crate) fn may_pass(self) -> bool
         ensures { result ≡ may_pass self }
     {
@@ -62,7 +62,7 @@ impl Cause {
     }
 }
 
-/// Nothing was reserved: the sender comes back.
+/// Nothing was reserved; the sender comes back with the cause.
 #[derive(Drop)]
 pub struct Refused {
     pub sender: Sender,

@@ -1,4 +1,4 @@
-//! The slots of one sender that are to be written and handed over.
+//! Slots that a sender has reserved, to be written and handed over.
 ghost use Rattle.std.specs.Prelude.{◌≡◌, ◌+◌, ◌-◌, ◌<◌, ◌≤◌, Some, slice_get, []};
 ghost use Rattle.qindex.specs.Positions.{size};
 ghost use Rattle.ring.specs.Runs.{Sender as SenderOf, reserved_length, IsSettled};
@@ -21,17 +21,17 @@ use ringcore::laws::sender_trail;
 use ringcore::{Half, shared_word};
 use std::marker::{Brand, Model, PhantomData};
 
-/// Slots that are reserved for a batch and its closing CMD_SYNC. It must be spent by `publish`.
+/// Slots reserved for a batch and its closing CMD_SYNC. It must be spent by `publish`.
 pub type Reservation<'b> = OpenReservation<'b, Closing>;
 
-/// Slots that are reserved for a batch alone (own). It must be spent by `publish`.
+/// Slots reserved for a batch without a closing CMD_SYNC (own). It must be spent by `publish`.
 pub type BareReservation<'b> = OpenReservation<'b, Bare>;
 
-/// Slots that are reserved for a batch of this kind. It borrows the commands, so that none is copied but into its
+/// Slots reserved for a batch of this kind. It borrows the commands, so that each is only copied into its
 /// slot. It must be spent by `hand_over` or `publish`.
 pub struct OpenReservation<'b, K: BatchKind> {
     pub(crate) port: Port,
-    /// With this batch.
+    /// The sender's tally, including this batch.
     pub(crate) tally: Tally,
     pub(crate) batch: BorrowedBatch<'b>,
     /// The index of the first slot.
@@ -52,7 +52,7 @@ impl<'b, K: BatchKind> Model for OpenReservation<'b, K> {
 }
 
 impl<'b, K: BatchKind> OpenReservation<'b, K> {
-    /// Writes both halves of the next slot. One must be left (`unwritten`).
+    /// Writes both halves of the next slot. At least one must be left (`unwritten`).
     pub fn write_next(&mut self, ring: &Ring)
         requires ring { self.old.ring ≡ ring.now }
         requires left { self.old.written < reserved_length self.old.trail }
@@ -68,7 +68,7 @@ impl<'b, K: BatchKind> OpenReservation<'b, K> {
         self.written += 1;
     }
 
-    /// The command of the next slot: of the body, or the closing CMD_SYNC behind it.
+    /// The command for the next slot: one of the body, or the closing CMD_SYNC after it.
     fn next_command(&self) -> Raw
         requires { self.now.written < reserved_length self.now.trail }
         ensures { slice_get (reserved_commands self.now.sender self.now.trail) self.now.written ≡ Some result }
@@ -79,7 +79,7 @@ impl<'b, K: BatchKind> OpenReservation<'b, K> {
         }
     }
 
-    /// Flips the flag of the next slot that is written. One must be left (`unflipped`).
+    /// Flips the flag of the next slot that is written. At least one must be left (`unflipped`).
     pub fn flip_next(&mut self, ring: &Ring)
         requires ring { self.old.ring ≡ ring.now }
         requires left { self.old.flipped < self.old.written }
@@ -92,7 +92,7 @@ impl<'b, K: BatchKind> OpenReservation<'b, K> {
         self.flipped += 1;
     }
 
-    /// Flips what is written and not flipped, as far as it stands in one flag word.
+    /// Flips the slots that are written and not flipped, as far as their flags are in one word.
     fn flip_left(&mut self, ring: &Ring)
         requires { self.old.ring ≡ ring.now }
         ensures new { record self.new { history = [] } ≡ flipped_left (record self.old { history = [] }) }
@@ -107,8 +107,8 @@ impl<'b, K: BatchKind> OpenReservation<'b, K> {
         }
     }
 
-    /// Writes and flips what is left, in order: the consumer may take the whole batch. Whatever its kind, it gives the
-    /// sender back, and no receipt.
+    /// Writes and flips what is left, in order, so that the consumer may take the whole batch. For either
+    /// kind it returns the sender, and no receipt.
     pub fn hand_over(self, ring: &Ring) -> Sender
         requires { self.ring ≡ ring.now }
         ensures sender { record result { history = [] } ≡ sender_of (published (record self.entry { history = [] })) }
@@ -118,7 +118,7 @@ impl<'b, K: BatchKind> OpenReservation<'b, K> {
         ensures id { result.number ≡ self.entry.sender }
         ensures batches { ReservesNone self.entry.trail result.trail }
     {
-        // For the clauses of both: two flag words hold all flags of a batch.
+        // Both calls are for their clauses: two flag words hold all flags of a batch.
         self.len();
         sender_trail();
         let mut reservation = self;
@@ -130,7 +130,7 @@ impl<'b, K: BatchKind> OpenReservation<'b, K> {
         reservation.into_sender()
     }
 
-    /// The sender, once all is flipped.
+    /// Returns the sender once all slots are flipped.
     fn into_sender(self) -> Sender
         requires { self.flipped ≡ reserved_length self.trail }
         ensures sender { result ≡ sender_of self.entry }
@@ -148,7 +148,7 @@ impl<'b, K: BatchKind> OpenReservation<'b, K> {
         Sender { port, tally }
     }
 
-    /// How many slots it has.
+    /// Returns how many slots it has.
     fn len(&self) -> u32
         ensures value { result ≡ reserved_length self.now.trail }
         ensures few { result ≤ 64 }
@@ -159,7 +159,7 @@ impl<'b, K: BatchKind> OpenReservation<'b, K> {
         batch_length::<K>(&self.batch)
     }
 
-    /// How many slots are not written.
+    /// Returns how many slots aren't written.
     pub fn unwritten(&self) -> u32
         ensures value { result + self.now.written ≡ reserved_length self.now.trail }
         ensures written { IsWrittenUpTo self.now.written self.now.trail }
@@ -167,7 +167,7 @@ impl<'b, K: BatchKind> OpenReservation<'b, K> {
         self.len() - self.written
     }
 
-    /// How many slots are written and not flipped.
+    /// Returns how many slots are written and not flipped.
     pub fn unflipped(&self) -> u32
         ensures value { result + self.now.flipped ≡ self.now.written }
         ensures flipped { IsFlippedUpTo self.now.flipped self.now.trail }
@@ -178,7 +178,8 @@ impl<'b, K: BatchKind> OpenReservation<'b, K> {
 }
 
 impl<'b> OpenReservation<'b, Closing> {
-    /// Writes and flips what is left, in order: the consumer may take the whole batch. The receipt names its CMD_SYNC.
+    /// Writes and flips what is left, in order, so that the consumer may take the whole batch. The receipt
+    /// names its CMD_SYNC.
     pub fn publish(self, ring: &Ring) -> (Sender, Receipt)
         requires { self.ring ≡ ring.now }
         ensures sender { record result.0 { history = [] } ≡ sender_of (published (record self.entry { history = [] })) }
@@ -198,7 +199,7 @@ impl<'b> OpenReservation<'b, Closing> {
 }
 
 impl<'b> OpenReservation<'b, Bare> {
-    /// Writes and flips what is left, in order: the consumer may take the whole batch.
+    /// Writes and flips what is left, in order, so that the consumer may take the whole batch.
     pub fn publish(self, ring: &Ring) -> Sender
         requires { self.ring ≡ ring.now }
         ensures sender { record result { history = [] } ≡ sender_of (published (record self.entry { history = [] })) }

@@ -3,7 +3,7 @@ ghost use Rattle.std.specs.Prelude.{◌≡◌};
 
 use std::marker::Model;
 
-/// Names a closing CMD_SYNC: its sender, and its number among those of that sender.
+/// Names a closing CMD_SYNC by its sender and its number among that sender's.
 #[derive(Clone, Copy, Debug, PartialEq, Eq)]
 pub struct Receipt {
     pub(crate) sender: u32,
@@ -21,14 +21,14 @@ impl Model for Receipt {
 }
 
 impl Receipt {
-    /// The number of the sender, from 0.
+    /// Returns the number of the sender, from 0.
     pub fn sender(&self) -> u32
         ensures { result ≡ self.now.sender }
     {
         self.sender
     }
 
-    /// The number of the CMD_SYNC, from 1: its MSIDATA.
+    /// Returns the number of the CMD_SYNC, from 1: its MSIDATA.
     pub fn number(&self) -> u32
         ensures { result ≡ self.now.number }
     {

@@ -1,4 +1,4 @@
-//! A whole batch by one call.
+//! Sends a whole batch with one call.
 ghost use Rattle.std.specs.Prelude.{◌≡◌, ◌≤◌, true, false, IfOk, IfErr, MatchResult};
 ghost use Rattle.ring.specs.Runs.{Sender as SenderOf, IsSettled};
 ghost use Rattle.ring.specs.table.{Grew};
@@ -9,10 +9,10 @@ use crate::sender::{Bare, BatchKind, Closing, OpenReservation, Receipt, Refused,
 use batch::{Batch, BorrowedBatch};
 
 impl Sender {
-    /// Reserves and publishes a batch with its closing CMD_SYNC. Where the ring has too little room or another came
-    /// first, it tries again, up to `tries` times.
+    /// Reserves and publishes a batch with its closing CMD_SYNC. If the ring has too little room or another
+    /// changed it first, it tries again, with at most `tries` tries in all.
     ///
-    /// Errors: as of the last try of `reserve`.
+    /// Errors: those of `reserve`, from the last try.
     pub fn send(self, ring: &Ring, batch: &Batch, tries: u32) -> Result<(Sender, Receipt), Refused>
         requires ring { self.ring ≡ ring.now }
         requires tries { 1 ≤ tries }
@@ -27,7 +27,7 @@ impl Sender {
         self.send_borrowed(ring, batch.as_borrowed(), tries)
     }
 
-    /// The same of commands that their owner keeps.
+    /// The same for commands that stay with their owner.
     pub fn send_borrowed(
         self,
         ring: &Ring,
@@ -50,7 +50,7 @@ impl Sender {
         }
     }
 
-    /// The same of a batch without a closing CMD_SYNC (own).
+    /// The same for a batch without a closing CMD_SYNC (own).
     pub fn send_bare(self, ring: &Ring, batch: &Batch, tries: u32) -> Result<Sender, Refused>
         requires ring { self.ring ≡ ring.now }
         requires tries { 1 ≤ tries }
@@ -64,7 +64,7 @@ impl Sender {
         self.send_borrowed_bare(ring, batch.as_borrowed(), tries)
     }
 
-    /// The same of commands that their owner keeps.
+    /// The same for commands that stay with their owner.
     pub fn send_borrowed_bare(
         self,
         ring: &Ring,
@@ -86,7 +86,7 @@ impl Sender {
         }
     }
 
-    /// Tries to reserve so often, until it succeeds or the cause won't pass.
+    /// Tries to reserve up to `tries` times, until it succeeds or the cause won't pass.
     fn try_to_open<'b, K: BatchKind>(
         self,
         ring: &Ring,
@@ -102,7 +102,7 @@ impl Sender {
         ensures id { MatchResult result (λ r. r.sender ≡ self.number) (λ e. e.sender.number ≡ self.number) }
     {
         let mut sender = self;
-        // The only call of `reserve_as` here: so it is inlined, and no reservation is moved through memory.
+        // The only call of `reserve_as` here, so that it is inlined and no reservation moves through memory.
         for tried in 0..tries {
             match sender.reserve_as::<K>(ring, batch.reborrow()) {
                 Ok(reservation) => return Ok(reservation),

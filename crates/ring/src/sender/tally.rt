@@ -15,7 +15,7 @@ pub struct Tally {
 }
 
 impl Tally {
-    /// No batch.
+    /// A tally without batches.
     pub(crate) fn new(sender: u32) -> Tally
         ensures { result ≡ record { sender = sender; batches = 0; numbers = 0 } }
     {
@@ -26,7 +26,7 @@ impl Tally {
         }
     }
 
-    /// One batch more, of this kind.
+    /// The tally with one more batch, of this kind.
     pub(crate) fn with_batch<K: BatchKind>(self) -> Tally
         requires batches { self.batches + 1 < 2 ^ 32 }
         requires numbers { self.numbers + 1 < 2 ^ 32 }

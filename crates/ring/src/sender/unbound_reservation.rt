@@ -1,4 +1,4 @@
-//! What is left of an open reservation while its batch is kept elsewhere.
+//! An open reservation while its batch is kept elsewhere.
 ghost use Rattle.std.specs.Prelude.{◌≡◌, Some};
 ghost use Rattle.ring.specs.sender.Reservations.{reserved_number};
 
@@ -10,12 +10,12 @@ use batch::Batch;
 use qindex::Index;
 use std::marker::{Model, PhantomData};
 
-/// An open reservation that doesn't borrow its batch, so that both can be kept, and handed to another thread. Where it
-/// is dropped, what it hasn't flipped stays reserved for ever, and the consumer never gets past that.
+/// An open reservation that doesn't borrow its batch, so that both can be kept and handed to another thread.
+/// If it is dropped, what it hasn't flipped stays reserved forever, and the consumer never gets past it.
 #[derive(Drop)]
 pub struct UnboundReservation<K: BatchKind> {
     port: Port,
-    /// With this batch.
+    /// The sender's tally, including this batch.
     tally: Tally,
     /// The index of the first slot.
     start: Index,
@@ -35,7 +35,7 @@ impl<K: BatchKind> Model for UnboundReservation<K> {
 }
 
 impl<'b, K: BatchKind> OpenReservation<'b, K> {
-    /// Ends its loan of the batch. It takes no step.
+    /// Ends the loan of the batch. It takes no step.
     pub fn unbind(self) -> UnboundReservation<K>
         ensures { result ≡ self.entry }
     {
@@ -60,7 +60,8 @@ impl<'b, K: BatchKind> OpenReservation<'b, K> {
 }
 
 impl<K: BatchKind> UnboundReservation<K> {
-    /// Goes on with a batch of the commands that it was made with, as the open reservation that it was. It takes no step.
+    /// Becomes the open reservation again, with a batch of the commands that it was made with. It takes no
+    /// step.
     pub fn bind<'b>(self, batch: &'b Batch) -> OpenReservation<'b, K>
         requires { batch.now ≡ self.body }
         ensures { result ≡ self }
@@ -84,7 +85,7 @@ impl<K: BatchKind> UnboundReservation<K> {
         }
     }
 
-    /// Its sender's number, from 0.
+    /// Returns its sender's number, from 0.
     pub fn id(&self) -> u32
         ensures { result ≡ self.now.sender }
     {
@@ -93,7 +94,7 @@ impl<K: BatchKind> UnboundReservation<K> {
 }
 
 impl UnboundReservation<Closing> {
-    /// The number of its CMD_SYNC, from 1, which its receipt will name.
+    /// Returns the number of its CMD_SYNC, from 1, which its receipt will name.
     pub fn number(&self) -> u32
         ensures { reserved_number self.now.trail ≡ Some result }
     {

@@ -20,8 +20,8 @@ use ringcore::{Half, cell, control_word, counts_law, data_word, flag_word, laws,
 use std::marker::Brand;
 
 impl Port {
-    /// What the consumer knows of its own steps, by the laws of every run: so no count of what it took wraps. It does
-    /// nothing.
+    /// A witness of what the consumer knows of its own steps, by the laws of every run, so that no count of
+    /// what it took wraps. It does nothing.
     pub(crate) fn knows_its_steps(&self)
         ensures steps { self.now.who ≡ Consumer → KnowsItsSteps self.now.ring.made_with self.now.trail }
         ensures limits { IsWithinLimits self.now.ring.made_with }
@@ -31,7 +31,8 @@ impl Port {
         let _ = &self.seat;
     }
 
-    /// A load of the head's flag word: how many in a row from the head on are ready, at most `limit`.
+    /// A load of the head's flag word. Returns how many commands in a row from the head on are ready, at most
+    /// `limit`.
     pub(crate) fn test<I: HasIntent>(&mut self, ring: &Ring, head: Index, limit: u32) -> u32
         requires ring { self.old.ring ≡ ring.now }
         requires who { self.old.who ≡ Consumer }
@@ -51,7 +52,7 @@ impl Port {
         ready_run(word, head, limit)
     }
 
-    /// A load of a data word: a half of the command at an offset from the head.
+    /// A load of a data word: half of the command at this offset from the head.
     pub(crate) fn read<I: HasIntent>(
         &mut self,
         ring: &Ring,
@@ -73,7 +74,7 @@ impl Port {
         words.load::<StepFor<I>>(&mut self.seat, data_word(slot, half))
     }
 
-    /// An exclusive or of the control word, past the first `count` of these commands.
+    /// An exclusive or of the control word that advances past the first `count` of these commands.
     pub(crate) fn advance<I: HasIntent>(
         &mut self,
         ring: &Ring,
@@ -143,7 +144,7 @@ impl Port {
     }
 }
 
-/// Whose closing CMD_SYNC it is, by the completion cell that it writes into.
+/// Returns the sender of a closing CMD_SYNC, by the completion cell that it writes to.
 fn closing_sender(raw: Raw) -> u32
     requires { IsClosingSync raw }
     ensures { result ≡ sync_sender raw }
@@ -151,7 +152,7 @@ fn closing_sender(raw: Raw) -> u32
     cell_owner(raw.hi).unwrap() as u32
 }
 
-/// The number of a closing CMD_SYNC: its MSIDATA.
+/// Returns the number of a closing CMD_SYNC: its MSIDATA.
 fn closing_number(raw: Raw) -> u32
     ensures { result ≡ sync_number raw }
 {

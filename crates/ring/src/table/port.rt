@@ -1,4 +1,4 @@
-//! A seat that stands for one participant alone, and the atomic steps that it may take.
+//! A seat of a single participant, and the atomic steps that it may take.
 ghost use Rattle.std.specs.Prelude.{◌≡◌, ◌∷◌, ◌<◌, ◌≤◌, ◌^◌, ℕ, false, Some, slice_get, []};
 ghost use Rattle.qindex.specs.Positions.{size, index_of};
 ghost use Rattle.qindex.specs.ControlWord.{IsControl};
@@ -22,7 +22,7 @@ use ringcore::{
 };
 use std::marker::Model;
 
-/// A seat that stands for one participant alone.
+/// A seat of a single participant.
 #[derive(Drop)]
 pub struct Port {
     pub(crate) seat: Seat<(), Participants>,
@@ -40,7 +40,7 @@ impl Model for Port {
 }
 
 impl Port {
-    /// Its trail stands in some run of the ring.
+    /// A witness that its trail stands in some run of the ring. It does nothing.
     pub(crate) fn trail_stands_in_a_run(&self)
         ensures trail { StandsInARun self.now.ring.made_with self.now.who self.now.trail }
         ensures history { IsHistory self.now.ring.made_with self.now.who self.now.trail self.now.history }
@@ -48,8 +48,8 @@ impl Port {
         let _ = &self.seat;
     }
 
-    /// Where a look finds too little room, there is too little; and where it finds the two ends at one place, all that is
-    /// reserved is taken. It does nothing.
+    /// A witness that there is too little room if a look finds too little, and that all that is reserved is
+    /// taken if it finds prod and cons equal. It does nothing.
     pub(crate) fn looks_tell(&self)
         ensures room { TellsRoom self.now.ring.made_with.geometry (world self.now.history) }
         ensures ends { EndsTellAll self.now.ring.made_with.geometry (world self.now.history) }
@@ -59,7 +59,7 @@ impl Port {
         self.trail_stands_in_a_run();
     }
 
-    /// The seat by itself.
+    /// Returns the seat itself.
     pub(crate) fn into_seat(self) -> Seat<(), Participants>
         ensures { SitsFor result.table_id result.me self.ring self.who self.trail self.history }
     {
@@ -67,7 +67,7 @@ impl Port {
         seat
     }
 
-    /// Joins both seats for a load, and cuts them again: both know the run as it is then. It adds no event.
+    /// Joins both seats for a load and splits them again: both know the run as it is then. It adds no event.
     pub(crate) fn meet(&mut self, ring: &Ring, other: &mut Port)
         requires ring { self.old.ring ≡ ring.now }
         requires other { other.old.ring ≡ ring.now }
@@ -111,7 +111,8 @@ impl Port {
         words.fetch_or::<StepFor<Closes>>(&mut self.seat, control_word(), close_mask());
     }
 
-    /// An exchange of the control word that was looked at, to reserve a batch of so many commands: whether it was won.
+    /// An exchange of the control word that was looked at, to reserve a batch of `many` commands. Returns
+    /// whether it was won.
     pub(crate) fn exchange<I: HasIntent>(
         &mut self,
         ring: &Ring,
@@ -147,7 +148,7 @@ impl Port {
         found == before
     }
 
-    /// A store of a half of a command of the open reservation, in the slot of this index.
+    /// A store of half a command of the open reservation in the slot with this index.
     pub(crate) fn write<I: HasIntent>(
         &mut self,
         ring: &Ring,
@@ -174,7 +175,7 @@ impl Port {
         words.store::<StepFor<I>>(&mut self.seat, data_word(slot, half), word);
     }
 
-    /// An exclusive or of a flag word, by the mask of the flags of so many slots from this index on.
+    /// An exclusive or of a flag word with the flags of `count` slots from this index on.
     pub(crate) fn flip<I: HasIntent>(
         &mut self,
         ring: &Ring,

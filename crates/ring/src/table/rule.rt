@@ -8,11 +8,11 @@ use ringcore::{Event, Who};
 use std::collections::LinkedList;
 use std::marker::Model;
 
-/// What a ring is made with.
+/// The parameters that a ring is made with.
 #[derive(Clone, Copy)]
 pub struct Parameters {
     pub(crate) geometry: Geometry,
-    /// How many senders it has: 1 to 256.
+    /// How many senders it has, 1 to 256.
     pub(crate) senders: u32,
     /// How many batches each of them may reserve.
     pub(crate) max_batches: u32,
@@ -28,7 +28,7 @@ impl Model for Parameters {
     ghost inverse = { λ r. record { geometry = r.geometry; senders = r.senders; max_batches = r.max_batches } };
 }
 
-/// One who takes steps, with all of its steps. It stands in proofs alone.
+/// One who takes steps, with all of its steps. It exists only in proofs.
 pub struct Participant {
     pub(crate) ring: Parameters,
     pub(crate) who: Who,
@@ -37,7 +37,7 @@ pub struct Participant {
     pub(crate) history: LinkedList<(Who, Event)>,
 }
 
-/// All for whom a seat stands.
+/// The participants of a seat.
 pub type Participants = LinkedList<Participant>;
 
 /// The rule of a ring's table.
@@ -51,17 +51,17 @@ impl TableRule<(), Participants, Parameters> for RingRule {
     ghost first = { λ ring. first_participants ring };
 }
 
-/// The run that the rule speaks of is one, and grows at its end alone: by the event of the seat that steps. All words
-/// are what the operations of its events made of zeros, which is one list: no step stores anything but by its event. It
-/// does nothing.
+/// A witness that the rule speaks of one run, which grows only at its end, by the event of the seat that
+/// steps. The words are what the operations of its events made of zeros, and no other list is: a step stores
+/// only what its event says. It does nothing.
 pub fn run_is_one()
     ensures one { IsOneRun }
     ensures words { WordsAreTheRuns }
     ensures one_list { WordsAreOne }
 {}
 
-/// What a participant knows of the run grows call by call: over some calls it grew by the steps of all of them, over one
-/// step by that step, which stands last, and over none it stays. It does nothing.
+/// A witness that what a participant knows of the run grows call by call: over several calls by the steps of
+/// all of them, over one step by that step, which comes last, and over none not at all. It does nothing.
 pub fn growth_adds_up()
     ensures sum { GrowthAddsUp }
     ensures one { OneStepIsLast }

@@ -1,4 +1,4 @@
-//! What each step tells: the event that it added. These types stand in proofs alone.
+//! What each step tells: the event that it added. These types exist only in proofs.
 ghost use Rattle.ring.specs.table.Intents.{Intent, looks, closes, asks};
 ghost use Rattle.ring.specs.table.StepEvents.{adds_for};
 
@@ -36,7 +36,7 @@ impl HasIntent for Asks {
     ghost intent = { asks };
 }
 
-/// A step that is for this.
+/// A step with this intent.
 pub struct StepFor<I: HasIntent> {
     intent: PhantomData<I>,
 }
@@ -45,7 +45,7 @@ impl<I: HasIntent> Play<(), Participants> for StepFor<I> {
     ghost then = { adds_for I.intent };
 }
 
-/// A load by which all for whom a seat stands know the run as it is then. It adds no event.
+/// A load by which all participants of a seat learn the run as it is then. It adds no event.
 pub struct Meets;
 
 impl Play<(), Participants> for Meets {
@@ -54,7 +54,7 @@ impl Play<(), Participants> for Meets {
     ghost then = { has_met };
 }
 
-/// Such a load that also tells the word that it found.
+/// Such a load, which also tells the word that it found.
 pub struct Finds;
 
 impl Play<(), Participants> for Finds {
@@ -63,7 +63,7 @@ impl Play<(), Participants> for Finds {
     ghost then = { has_found };
 }
 
-/// The first for whom a seat stands gets a seat of its own.
+/// The first participant of a seat gets its own seat.
 pub struct Deals;
 
 impl Split<Participants> for Deals {
@@ -74,7 +74,7 @@ impl Split<Participants> for Deals {
     ghost right = { first_alone };
 }
 
-/// A seat takes in all for whom another stands.
+/// A seat takes in all participants of another.
 pub struct Gathers;
 
 impl Join<Participants> for Gathers {
@@ -86,7 +86,7 @@ impl Join<Participants> for Gathers {
     ghost spent = { [] };
 }
 
-/// For whom a seat is lent. A call at `Brand` picks it from its arguments.
+/// Whom a seat is lent to. A call at `Brand` picks it from its arguments.
 pub trait HasWho {
     ghost use Rattle.ring.specs.Runs.{Who};
 
@@ -99,7 +99,7 @@ impl HasWho for Brand {
     ghost who = { Consumer };
 }
 
-/// One of those who know the same run gets a seat of its own.
+/// One of several participants who know the same run gets its own seat.
 pub struct Lends<W: HasWho> {
     who: PhantomData<W>,
 }

@@ -1,4 +1,4 @@
--- An event that is allowed is taken by the step that names it.
+-- An allowed event is taken by the step that names it.
 use Rattle.std.proofs.Common.{◌≡◌, ◌≢◌, ℕ, zero, suc, ◌+◌, ◌-◌, ◌/◌, ◌%◌, ◌<◌, ◌≤◌, Bool, true, false, not, ◌==◌, ◌||◌, ◌&&◌, cond, List, [], ◌∷◌, length, map, take, drop, Option, Some, None, refl, sym, ap, ap₂, ◌∙◌, subst, inl, inr, eqb-true, eq-eqb, arith}
 use Rattle.std.proofs.lemmas.Bool.{cases_lt, le-leb, lt-leb, lt-ltb}
 use Rattle.std.proofs.lemmas.Option.{same_Some}
@@ -73,7 +73,7 @@ not_same a b other = by_value (a == b) refl
 
 -- ---- places
 
--- Two positions less than a lap apart have places of their own.
+-- Two positions less than a lap apart have different places.
 places_differ : (g p j : ℕ) → 0 < j → j < size g → place g (p + j) ≢ place g p
 places_differ g p j some few is =
     let n : ℕ = size g in

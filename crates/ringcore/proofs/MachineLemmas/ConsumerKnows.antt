@@ -1,4 +1,4 @@
--- What the consumer's view says is what its trail says, and events leave it so.
+-- The consumer's view says what its trail says, and events keep it so.
 use Rattle.std.proofs.Common.{◌≡◌, ℕ, ◌+◌, ◌-◌, ◌<◌, ◌≤◌, Bool, ◌&&◌, List, [], ◌∷◌, ◌++◌, length, map, take, drop, Option, None, Some, refl, ap, ap₂, ◌∙◌, inl, inr, arith, length-append, length-drop, length-take-le}
 use Rattle.std.proofs.lemmas.Bool.{cases_lt}
 use Rattle.std.proofs.lemmas.List.{length-map, get_or-replicate, get_or_past, get_or_append_left, get_or-append_right, get_or-drop, length-replicate}
@@ -31,7 +31,7 @@ all_unread many k = elim (cases_lt k many) [
 pub length_below : (end : ℕ) (commands : List ReadHalves) → AreReadBelow end commands → length (take end commands) ≡ end
 length_below end commands are = let within = are.within in let places = are.places in length-take-le end commands (omega (arith, within, places))
 
--- Of commands of which nothing is read from an offset on, nothing is once those below it are cleared.
+-- If nothing is read of the commands from an offset on, nothing is once those below it are cleared.
 pub cleared : (end : ℕ) (commands : List ReadHalves) → AreReadBelow end commands → AreUnread (replicate end unread ++ drop end commands)
 cleared end commands are k = elim (cases_lt k end) [
   | inl low ↦

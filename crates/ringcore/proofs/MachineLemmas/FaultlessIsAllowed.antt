@@ -1,4 +1,4 @@
--- A step without a fault is an event that is allowed.
+-- A step without a fault is an allowed event.
 use Rattle.std.proofs.Common.{◌≡◌, ℕ, zero, suc, ◌+◌, ◌-◌, ◌/◌, ◌%◌, ◌<◌, ◌≤◌, Bool, true, false, not, ◌==◌, ◌||◌, ◌&&◌, cond, List, [], ◌∷◌, length, map, take, drop, Option, Some, None, refl, sym, ap, ap₂, ◌∙◌, subst, inl, inr, eqb-true, eq-eqb, leb-true, arith}
 use Rattle.std.proofs.Math.Nat.{mod-lt, mod-eq_of_lt}
 use Rattle.std.proofs.lemmas.Bool.{and_parts, or_parts, cases_lt, cases_eq, eqb-false, not-true, le-leb, lt-leb, lt-ltb}
@@ -146,7 +146,7 @@ may_try ring mine body closes none =
 
 -- ---- flags that share a word
 
--- of a position and of its place the flag word and the bit are one
+-- A position and its place have the same flag word and bit.
 shares : (ring : Ring) (p slot count : ℕ) → place ring.geometry p ≡ slot → share_a_word ring slot count ≡ true → ring.flags ≡ 64 → ShareAWord ring.flags ring.geometry p count
 shares ring p slot count at fits flags =
     let g : ℕ = ring.geometry in

@@ -1,4 +1,4 @@
--- How a flip is judged, and what it makes of a machine.
+-- How a flip is judged, and the machine after it.
 use Rattle.std.proofs.Common.{◌≡◌, ℕ, ◌+◌, ◌*◌, ◌%◌, ◌^◌, ◌<◌, ◌≤◌, Bool, true, Option, Some, None, ◌∷◌, ◌&&◌, length-set, refl, sym, ap, ap₂, ◌∙◌, subst, arith}
 use Rattle.std.proofs.lemmas.Bool.{lt-ltb, le-ltb}
 use Rattle.std.specs.Prelude.{slice_get, slice_set, if◌then◌else◌}
@@ -32,7 +32,7 @@ use Rattle.ringcore.proofs.MemoryLemmas.FlagPlaces.{index_of_number, alike_share
 use Rattle.ringcore.proofs.WorldLemmas.Sound.{sound}
 use Rattle.ringcore.proofs.MachineLemmas.Standing.{all_know, sender_stands, stays_machine, few_reserved}
 
--- whether there are such a sender and such a run of slots
+-- whether the sender and the run of slots exist
 abbrev pub has_run : Ring → ℕ → ℕ → ℕ → Bool
 has_run ring s slot count = has_sender ring s && has_slot ring slot && is_run_length count && share_a_word ring slot count
 
@@ -40,7 +40,7 @@ module _ (ring : Ring) (run : Run) (s slot count : ℕ) (exists : has_run ring s
   abbrev mine : Trail
   mine = trail_of (Sender s) run
 
-  -- Where they exist, it is judged by where the slot is in the sender's own reservation.
+  -- If they exist, it is judged by where the slot is in the sender's own reservation.
   judged : (o : Option ℕ) → own_offset ring run s slot ≡ o → fault_of ring run (Flip s slot count) ≡ flip_at ring run s slot count o
   judged o is =
       ap (λ b. unless_missing b (flip_at ring run s slot count (own_offset ring run s slot))) exists ∙ ap (flip_at ring run s slot count) is

@@ -25,7 +25,7 @@ none_further f n here below = let next : suc n ≡ n + 1 = omega arith in subst 
 pub all_further : (f : ℕ → Bool) (n : ℕ) → f n ≡ true → all_below n f ≡ true → all_below (n + 1) f ≡ true
 all_further f n here below = let next : suc n ≡ n + 1 = omega arith in subst (λ m. all_below m f ≡ true) next (ap₂ (λ a b. a && b) here below)
 
--- There is a first exactly where there is some.
+-- There is a first exactly if there is some.
 pub first_is_some : (n : ℕ) (f : ℕ → Bool) → is_some (first_below n f) ≡ some_below n f
 first_is_some zero f = refl
 first_is_some (suc n) f = by_rest (some_below n f) (first_is_some n f) (f n)
@@ -36,7 +36,7 @@ first_is_some (suc n) f = by_rest (some_below n f) (first_is_some n f) (f n)
     by_rest false rest true = refl
     by_rest false rest false = refl
 
--- A sender holds a slot exactly where the slot has an offset in its open reservation.
+-- A sender holds a slot exactly if the slot has an offset in its open reservation.
 pub holds_where : (ring : Ring) (run : Run) (s slot : ℕ) → is_some (own_offset ring run s slot) ≡ holds_slot ring run slot s
 holds_where ring run s slot = by_open (is_open (trail_of (Sender s) run)) _ _
     (first_is_some (reserved_length (trail_of (Sender s) run)) (λ offset. place ring.geometry ((world run).start s + offset) == slot))

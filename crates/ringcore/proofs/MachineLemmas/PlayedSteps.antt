@@ -1,4 +1,4 @@
--- How far a machine is that plays a list of steps.
+-- How far a machine has come that plays a list of steps.
 use Rattle.std.proofs.Common.{◌≡◌, ℕ, zero, suc, ◌+◌, ◌<◌, List, [], ◌∷◌, ◌++◌, Some, None, ◌⊎◌, inl, inr, length, drop, refl, sym, ap, ◌∙◌, subst, arith}
 use Rattle.std.proofs.lemmas.Option.{same_Some}
 use Rattle.std.proofs.lemmas.List.{drop_more, get_or-replicate, get_or_past, length-replicate}
@@ -25,7 +25,7 @@ use Rattle.ringcore.specs.machine.Played.{Played, played_from, played, unless_re
 use Rattle.ringcore.specs.machine.SenderViews.{SenderValue, Knows}
 use Rattle.ringcore.specs.machine.Core.{CoreValue, ring_with, ring_of, AllKnow, StandsAfter, IsTaken, IsRefused}
 
--- So many steps were taken, none refused, and what is left of them is played from there on.
+-- This many steps were taken, none refused, and the rest is played from there on.
 pub record HasReached (ring : Ring) (steps : List Step) (core : CoreValue) (place : ℕ) : Type 0 where
   pub ring_is : ring_of core ≡ ring
   pub run : Run
@@ -44,7 +44,7 @@ module _ (ring : Ring) (steps : List Step) (core : CoreValue) (place : ℕ) (rea
   abbrev run : Run
   run = reached.run
 
-  -- what is played of this step and those behind it, by whether it is refused
+  -- what is played of this step and those after it, by whether it is refused
   abbrev later : Played
   later = with_answer (seen_of ring (world run) (event_of ring run step).0 (event_of ring run step).1) (played_from ring (event_of ring run step ∷ run) (suc place) rest)
 

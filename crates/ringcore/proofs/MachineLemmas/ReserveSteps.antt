@@ -1,4 +1,4 @@
--- What a reserve makes of a machine, won or lost.
+-- The machine after a reserve, won or lost.
 use Rattle.std.proofs.Common.{◌≡◌, ℕ, ◌+◌, ◌-◌, ◌^◌, ◌<◌, ◌≤◌, Bool, true, false, Option, Some, List, ◌∷◌, length, length-set, refl, sym, ap, ap₂, ◌∙◌, subst, arith}
 use Rattle.std.specs.Prelude.{slice_get, slice_set, if◌then◌else◌}
 use Rattle.std.specs.Int.{from_bool}
@@ -137,7 +137,7 @@ module _ (may : StepsAreAllowed) (old : CoreValue) (s : ℕ) (body : ArrayVec Ra
         let at = starts_at_tail run stands in
         let few = few_reserved old is run stands in omega (arith, at, few)
 
-  -- By the look there is room.
+  -- According to the look there is room.
   may_try : IndexesTellTheQueue → (run : Run) → StandsAfter old run
       → MayTry (ring_of old) (trail_of (Sender s) run) body.items (batch_length body.items (next_number (trail_of (Sender s) run) closes)) found
   may_try tells run stands =

@@ -29,7 +29,7 @@ with_words core words = record core { words = words }
 abbrev pub with_view : CoreValue → ℕ → SenderValue → CoreValue
 with_view core s view = record core { senders = slice_set core.senders s view }
 
--- A sender that there is has no fault of that.
+-- A sender that exists has no such fault.
 pub there_is : (s senders : ℕ) (later : Option StepFault) → s < senders → unless_missing (nat_lt s senders) later ≡ later
 there_is s senders later low = ap (λ b. unless_missing b later) (lt-ltb s senders low)
 

@@ -1,4 +1,4 @@
--- Some and all of the numbers below a bound, as a list's elements tell them.
+-- Some and all of the numbers below a bound, as told by a list's elements.
 use Rattle.std.proofs.Common.{◌≡◌, ℕ, zero, suc, ◌+◌, ◌<◌, ◌≤◌, Bool, true, false, ◌||◌, ◌&&◌, List, [], ◌∷◌, Some, None, length, take, drop, refl, sym, ap, ap₂, ◌∙◌, inl, inr, arith}
 use Rattle.std.proofs.Math.Bool.{or-true}
 use Rattle.std.proofs.lemmas.List.{length-drop, get_or-drop}

@@ -29,7 +29,7 @@ use Rattle.ringcore.proofs.MachineLemmas.Tallies.{others_dont_count}
 
 -- ---- one view among all
 
--- what is found where an element was set: it, or what was there
+-- what is found after an element was set: that element, or what was there
 pub get_set : {A : Type 0} (xs : List A) (i t : ℕ) (y v : A) → slice_get (slice_set xs i y) t ≡ Some v
     → ((t ≡ i) × (y ≡ v)) ⊎ ((t ≢ i) × (slice_get xs t ≡ Some v))
 get_set [] i t y v e = absurd (cc)
@@ -41,7 +41,7 @@ get_set (x ∷ xs) (suc i) (suc t) y v e = elim (get_set xs i t y v e) [
   | inr other ↦ inr (λ is. other.0 cc, other.1)
 ]
 
--- Only the sender whose event it was has another view.
+-- Only the sender whose event it was changes its view.
 pub all_know : (run : Run) (s : ℕ) (e : Event) (views : List SenderValue) (view : SenderValue) → AllKnow run views → Knows ((Sender s, e) ∷ run) s view
     → AllKnow ((Sender s, e) ∷ run) (slice_set views s view)
 all_know run s e views view all own t v at = elim (get_set views s t view v at) [
@@ -92,7 +92,7 @@ sender_stands old run s e stands low words ring are views know =
       tallies_are = others_dont_count run (Sender s) e old.tallies (not_advance (ring_of old) (world run) (trail_of (Sender s) run) s e allowed) stands.tallies_are;
     }
 
--- A machine stays one where it stands for a longer run.
+-- A machine stays one if it stands for a longer run.
 pub stays_machine : (old new : CoreValue) → IsMachine old → ring_of new ≡ ring_of old
     → length new.senders ≡ length old.senders → length new.tallies ≡ length old.tallies
     → (run : Run) → StandsAfter new run → IsMachine new
@@ -104,7 +104,7 @@ stays_machine old new is ring views counts run stands = record {
   stands = stands;
 }
 
--- So few commands are reserved that their positions fit a word.
+-- Few enough commands are reserved that their positions fit a word.
 pub few_reserved : (core : CoreValue) → IsMachine core → (run : Run) → StandsAfter core run → tail (world run) ≤ 2 ^ 46
 few_reserved core is run stands =
     let bound = reserved_bound (ring_of core) core.words.senders run stands.only stands.words_are.run_is in

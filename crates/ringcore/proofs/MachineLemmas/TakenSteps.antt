@@ -101,7 +101,7 @@ module _ (law : Always TestsByALoad) (allowed : StepsAreAllowed) (old : CoreValu
 
 -- ---- ask
 
--- What stands in a sender's cell is what is acknowledged, and little.
+-- A sender's cell has what is acknowledged, which is small.
 pub cell_is : (core : CoreValue) (run : Run) (s : ℕ) → StandsAfter core run → s < core.words.senders
     → slice_index core.words.words (cell core.words.geometry s) ≡ (world run).acknowledged s
 cell_is core run s stands low = stands.words_are.shadow.cells s low

@@ -37,7 +37,7 @@ pub others_dont_count : OthersDontCount
 others_dont_count run Consumer e counts no_advance are s inside = are s inside ∙ sym (left e no_advance (trail_of Consumer run) s)
 others_dont_count run (Sender t) e counts no_advance are s inside = are s inside
 
--- Whose closing sync a CMD_SYNC is, by whose cell it writes into.
+-- the sender of a closing CMD_SYNC, by the cell that it writes to
 pub sender_is : (raw : Raw) (owner : Option ℕ) → is_sync raw ≡ true → MatchOption owner ((t : ℕ) → raw.hi ≢ cell_address t) (λ t. raw.hi ≡ cell_address t)
     → MatchOption owner ((s : ℕ) → is_sync_to s raw ≡ false) (λ t. (s : ℕ) → is_sync_to s raw ≡ (s == t))
 sender_is raw None sync none = λ s. ap (λ b. b && raw.hi == cell_address s) sync ∙ ne_eqb raw.hi (cell_address s) (none s)
@@ -71,7 +71,7 @@ syncs_further s view m (suc n) le = elim (cases_eq m (suc n)) [
       omega (arith, most, one)
 ]
 
--- what stands of them is within bounds that all of them keep
+-- The counts so far are within bounds that all of them keep.
 pub counts_fit : (old now : List ℕ) (view : ConsumerValue) (offset count : ℕ) (raw : Raw) → offset < count → command_at view offset ≡ Some raw
     → AreCounted old now (commands_read view offset)
     → ((s : ℕ) → s < length old → slice_index old s + syncs_in s (commands_read view count) < 2 ^ 32)

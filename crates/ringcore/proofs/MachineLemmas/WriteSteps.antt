@@ -1,4 +1,4 @@
--- How a write and a flip are judged, and what they make of a machine.
+-- How a write and a flip are judged, and the machine after them.
 use Rattle.std.proofs.Common.{◌≡◌, ℕ, ◌+◌, ◌^◌, ◌<◌, ◌≤◌, Bool, true, Option, Some, None, ◌∷◌, ◌&&◌, length, length-set, refl, sym, ap, ap₂, ◌∙◌, subst, arith}
 use Rattle.std.proofs.Math.Bool.{or-false}
 use Rattle.std.proofs.lemmas.Bool.{lt-ltb}
@@ -37,7 +37,7 @@ module _ (ring : Ring) (run : Run) (s : ℕ) (view : SenderValue) (known : Knows
   mine = trail_of (Sender s) run
 
   module _ (half : ℕ) (half_there : half < 2) where
-    -- Where sender, slot and half exist, it is judged by where the slot is in the sender's own reservation.
+    -- If sender, slot and half exist, it is judged by where the slot is in the sender's own reservation.
     write_judged : (o : Option ℕ) → own_offset ring run s slot ≡ o → fault_of ring run (Write s slot half) ≡ write_at ring run s slot o
     write_judged o is =
         let there : (nat_lt s ring.senders && nat_lt slot (size ring.geometry) && nat_lt half 2) ≡ true =

@@ -60,7 +60,7 @@ module _ (ring : Ring) (run : Run) (words : List ℕ) (is : AreAfter ring run wo
     pub low : head w ≤ p
     pub high : p < head w + size g
 
-  -- What a sender may still write or flip lies in the window.
+  -- What a sender may still write or flip is in the window.
   pub open_slot : (s k : ℕ) → k < reserved_length (trail_of (Sender s) run) → has_flipped k (trail_of (Sender s) run) ≡ false → InWindow (w.start s + k)
   open_slot s k inside unflipped =
       let each = i.each_within s in let top = i.within in record {

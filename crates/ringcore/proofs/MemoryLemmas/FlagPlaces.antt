@@ -1,4 +1,4 @@
--- Where the flags of positions in a row stand, and that an index tells it as well as its position.
+-- Where the flags of positions in a row are, which an index tells as well as its position.
 use Rattle.std.proofs.Common.{◌≡◌, ◌⊎◌, ℕ, suc, ◌+◌, ◌-◌, ◌*◌, ◌/◌, ◌%◌, ◌^◌, ◌<◌, ◌≤◌, inl, inr, sym, ap, ◌∙◌, subst, add-zero, arith, div-add-mod'}
 use Rattle.std.proofs.lemmas.Bool.{cases_lt}
 use Rattle.std.proofs.lemmas.Nat.{pow-add, mod-mul-add, div-mul-add}
@@ -14,7 +14,7 @@ use Rattle.ringcore.proofs.MemoryLemmas.Places.{place-lt}
 pub polarity-lt : (g p : ℕ) → polarity g p < 2
 polarity-lt g p = let l : ℕ = lap g p in let is : 1 - l % 2 < 2 = omega arith in is
 
--- the flag words of a ring are whole, but for a ring's that has less than one
+-- The flag words of a ring are whole, unless the ring has less than one.
 pub whole_words : (g : ℕ) → (size g ≤ 64) ⊎ (size g ≡ 64 * (size g / 64))
 whole_words g = elim (cases_lt 6 g) [
   | inl large ↦
@@ -41,7 +41,7 @@ further_lap g p j fits =
     let is : p + j ≡ laps + (place g p + j) = omega (arith, whole) in
     ap (lap g) is ∙ div-mul-add (p / size g) (size g) (place g p + j) fits
 
--- from the ring's first place on, one lap on
+-- from the ring's first place on, one lap further on
 pub next_place : (g p j : ℕ) → size g ≤ place g p + j → place g p + j < 2 * size g → place g (p + j) ≡ place g p + j - size g
 next_place g p j past fits =
     let whole = div-add-mod' p (size g) in
@@ -123,7 +123,7 @@ large_shares g p count large fits offset among =
     let inside = in_ring g p count large fits in
     further_word g p offset (omega arith) (omega arith)
 
--- The first flag of the next word stands in another one.
+-- The next word's first flag is in another word.
 pub shares_no_more : (g p count : ℕ) → 64 < size g → ShareAWord 64 g p count → flag_bit g p + count ≤ 64
 shares_no_more g p count large shares =
     elim (cases_lt 64 (flag_bit g p + count)) [

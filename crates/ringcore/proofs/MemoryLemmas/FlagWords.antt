@@ -29,7 +29,7 @@ use Rattle.ringcore.proofs.MemoryLemmas.Places.{flag_within, control_within, con
 in_one_word : (g p count : ℕ) → ShareAWord 64 g p count → (k : ℕ) → k < count → flag_word g (p + k) ≡ flag_word g p
 in_one_word g p count share k less = ap (λ (n : ℕ). 8 + n) (share k less)
 
--- which of its two values a bit has
+-- A bit that isn't p is p once flipped.
 other_bit : (b p : ℕ) → b < 2 → p < 2 → b ≢ p → (b + 1) % 2 ≡ p
 other_bit zero zero b_lt p_lt not = absurd (not refl)
 other_bit zero (suc zero) b_lt p_lt not = refl
@@ -91,7 +91,7 @@ module _ (ring : Ring) (run : Run) (words : List ℕ) (is : AreAfter ring run wo
         let n : p + k ≡ w.start s + (offset + k) = omega arith in
         ap w.flipped n ∙ (d.owns s).flipped_is (offset + k) (omega (arith, less, inside)) ∙ a.unflipped k less
 
-    -- what the word says once it is turned
+    -- what the word says once it is flipped
     in_word : (q : ℕ) → flag_word g q ≡ at → slice_index (turned words at mask) (flag_word g q) ≡ y
     in_word q one =
         ap (slice_index (turned words at mask)) one
@@ -174,7 +174,7 @@ module _ (ring : Ring) (run : Run) (words : List ℕ) (is : AreAfter ring run wo
       says : (k : ℕ) → flag_word g (h + k) ≡ flag_word g h → says_flipped g words (h + k) ≡ (bit_at (slice_index words (flag_word g h)) (flag_bit g (h + k)) == polarity g (h + k))
       says k one = ap (λ (n : ℕ). bit_at (slice_index words n) (flag_bit g (h + k)) == polarity g (h + k)) one
 
-      -- a lap on, the flag of the head says the other
+      -- One lap further on, the head's flag says the opposite.
       not_round : size g < found → ⊥
       not_round over =
           let first = r.ready 0 (omega (arith, over)) in

@@ -1,4 +1,4 @@
--- The mask that flips a run of flags: one stretch of bits, or two where the run goes on past the ring's end.
+-- The mask that flips a run of flags: one stretch of bits, or two if the run continues past the ring's end.
 use Rattle.std.proofs.Common.{◌≡◌, ℕ, ◌+◌, ◌-◌, ◌*◌, ◌/◌, ◌%◌, ◌^◌, ◌<◌, ◌≤◌, ◌↔◌, inl, inr, sym, ap, ◌∙◌, arith, bit_or}
 use Rattle.std.proofs.lemmas.Bool.{cases_lt}
 use Rattle.std.proofs.lemmas.Nat.Bits.{bit_at_or, bit_at-lt, bit_at_mask_inside, bit_at_mask_below, bit_at_mask_above, ones_shr}
@@ -52,7 +52,7 @@ run_fits g p count shares inside = elim (cases_lt 64 (size g)) [
   | inr small ↦ let start = small_bit g p small in omega (arith, start, inside, small)
 ]
 
--- The run goes on past the ring's end only where that has one flag word.
+-- The run continues past the ring's end only if the ring has one flag word.
 pub one_flag_word : (g p count : ℕ) → ShareAWord 64 g p count → size g < place g p + count → size g ≤ 64
 one_flag_word g p count shares past = elim (cases_lt 64 (size g)) [
   | inr small ↦ small

@@ -24,7 +24,8 @@ same_number Lo Hi e = absurd (cc)
 same_number Hi Lo e = absurd (cc)
 same_number Hi Hi e = refl
 
--- the flag words lie well behind the control word, the data words well behind these, and the cells well behind those
+-- The flag words are well after the control word, the data words well after these, and the cells well after
+-- those.
 pub flag_low : (g p : ℕ) → control_word + 8 ≤ flag_word g p
 flag_low g p = let x : ℕ = place g p / 64 in let le : 8 ≤ 8 + x = omega arith in le
 
@@ -95,7 +96,7 @@ data_not_cell g p s half e = let c = data_high g p half in let d = cell_low g s 
 pub control_within : (g senders : ℕ) → control_word < words_of g senders
 control_within g senders = let low = flag_low g 0 in let a = flag_within g 0 senders in omega (arith, low, a)
 
--- ---- two words of one use that are one
+-- ---- two words of one use that are the same
 
 pub same_data : (g p q : ℕ) (half other : Half) → data_word g p half ≡ data_word g q other → (place g p ≡ place g q) × (half ≡ other)
 same_data g p q half other e =
@@ -110,7 +111,7 @@ same_data g p q half other e =
 pub same_cell : (g s t : ℕ) → cell g s ≡ cell g t → s ≡ t
 same_cell g s t e = let first : ℕ = first_cell g in let is : first + s * 8 ≡ first + t * 8 = e in omega (arith, is)
 
--- Where the flags of two positions stand in one word at one bit, the places are one.
+-- If the flags of two positions are the same bit of the same word, the places are the same.
 pub same_flag : (g p q : ℕ) → flag_word g p ≡ flag_word g q → flag_bit g p ≡ flag_bit g q → place g p ≡ place g q
 same_flag g p q word bit =
     let x : ℕ = place g p in let y : ℕ = place g q in

@@ -1,4 +1,4 @@
--- How many positions in a row a flag word says to be flipped.
+-- How many positions in a row are flipped according to a flag word.
 use Rattle.std.proofs.Common.{◌≡◌, ◌≢◌, ◌⊎◌, ℕ, zero, suc, ◌+◌, ◌-◌, ◌/◌, ◌%◌, ◌^◌, ◌<◌, ◌≤◌, min, Bool, true, false, cond, inl, inr, refl, sym, ap, ◌∙◌, arith, w64}
 use Rattle.std.proofs.lemmas.Bool.{cases_lt}
 use Rattle.std.proofs.lemmas.Nat.{shr-shr, shr_le}
@@ -39,7 +39,7 @@ ones_in_a_row x fits = dite (dec_lt (x + 1) (2 ^ 64))
     let all : trailing_ones w64 x ≡ 64 = ap (λ n. count_trailing_zeros 64 n) none ∙ trailing_of_zero 64 in
     (omega arith, λ i l. ap (λ n. bit_at n i) is ∙ bit_at_ones 64 i (omega arith), λ l. absurd (omega arith)))
 
--- the word, turned where zeros are looked for
+-- the word, inverted if zeros are looked for
 abbrev pub turned_to : Bool → ℕ → ℕ
 turned_to b word = cond b word (bit_not w64 word)
 
@@ -55,7 +55,7 @@ turned_zero : (b : Bool) (word i : ℕ) → word < 2 ^ 64 → i < 64 → bit_at 
 turned_zero true word i fits small none same = omega (arith, none, same)
 turned_zero false word i fits small none same = omega (arith, none, same, bit_at_not w64 word i fits small)
 
--- So many bits of a word in a row, from first on, are x.
+-- This many bits of a word in a row, from first on, are x.
 pub record AreEqualBits (word first x found : ℕ) : Type 0 where
   pub within : first + found ≤ 64
   pub equal : (bit : ℕ) → first ≤ bit → bit < first + found → bit_at word bit ≡ x
@@ -86,7 +86,7 @@ equal_bits word first b fits small =
 
 -- ---- the run from the head on
 
--- why a run ends: no more is asked for, its word ends, or the next flag says so
+-- why a run ends: the limit is reached, its word ends, or the next flag says so
 abbrev pub Ends : ℕ → ℕ → ℕ → ℕ → ℕ → Type 0
 Ends g word p limit found =
     (found ≡ limit)
@@ -117,7 +117,7 @@ module _ (g p word limit found : ℕ) (fits : place g p + found ≤ size g) (wit
   pub one_lap : found ≤ limit → Ends g word p limit found → IsReadyRun g word p limit found
   one_lap most ends = record { most = most; in_word = shares_here; ready = ready_here; no_more = no_more_here ends }
 
--- ---- the run that goes on past the ring's end
+-- ---- the run that continues past the ring's end
 
 module _ (g p word limit here more found : ℕ) (small : size g ≤ 64) (to_end : place g p + here ≡ size g)
     (first : (bit : ℕ) → flag_bit g p ≤ bit → bit < flag_bit g p + here → bit_at word bit ≡ polarity g p)
@@ -201,15 +201,15 @@ module _ (g p word limit run here : ℕ) (bits : AreEqualBits word (flag_bit g p
     ]
   ]
 
-  -- The first lap's bits in a row, up to the ring's end and the limit, are all where that isn't the end of a ring
-  -- of one flag word.
+  -- The first lap's bits in a row, up to the ring's end and the limit, are the whole run, unless they reach
+  -- the end of a ring with one flag word.
   pub in_one_lap : (64 < size g) ⊎ (here ≢ size g - place g p) → IsReadyRun g word p limit here
   in_one_lap before =
       let below = place-lt g p in
       one_lap g p word limit here (omega (arith, is, below)) (omega (arith, is, bits.within)) (λ bit low high. bits.equal bit low (omega (arith, is, high)))
       (omega (arith, is)) (why before)
 
--- Else the next lap's bits in a row, up to the limit, come on top.
+-- Otherwise the next lap's bits in a row, up to the limit, are added.
 pub in_two_laps : (g p word limit run next here more : ℕ)
     → AreEqualBits word (flag_bit g p) (polarity g p) run → AreEqualBits word 0 (1 - polarity g p) next
     → size g ≤ 64 → here ≡ min (min run (size g - place g p)) limit → here ≡ size g - place g p → more ≡ min next (limit - here)

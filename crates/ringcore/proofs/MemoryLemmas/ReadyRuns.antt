@@ -1,4 +1,4 @@
--- Each flag word has one ready run, which the function answers, and none is longer than the ring.
+-- Each flag word has one ready run, which the function returns, and none is longer than the ring.
 use Rattle.std.proofs.Common.{◌≡◌, ℕ, zero, suc, ◌+◌, ◌-◌, ◌/◌, ◌%◌, ◌≤◌, Bool, true, false, cond, ◌==◌, ◌&&◌, refl, sym, ap, ap₂, ◌∙◌, subst, inl, inr, eqb-true, eq-eqb, arith}
 use Rattle.std.proofs.lemmas.Bool.{true≢false, cases_lt, and_parts}
 use Rattle.std.specs.Int.{bit_at}
@@ -17,7 +17,7 @@ module _ (g word p : ℕ) where
       let is' : 8 + a ≡ 8 + b = is in
       omega arith
 
-  -- one position more that is ready
+  -- one more position that is ready
   longer : (n found : ℕ) → IsReadyRun g word p n found → (found == n) ≡ true → is_ready g word p n ≡ true → IsReadyRun g word p (suc n) (suc n)
   longer n found run all here =
       let whole : found ≡ n = eqb-true found n all in
@@ -38,7 +38,7 @@ module _ (g word p : ℕ) where
         no_more = λ fewer. absurd (omega (arith, fewer));
       }
 
-  -- one that isn't
+  -- one more that isn't
   no_longer : (n found : ℕ) → IsReadyRun g word p n found → (found == n && is_ready g word p n) ≡ false → IsReadyRun g word p (suc n) found
   no_longer n found run none =
       let most = run.most in record {
@@ -93,7 +93,7 @@ one_run g word p limit found other run same =
 other_polarity : (a b : ℕ) → b + a ≡ 1 → 1 - b ≡ 1 - a → ⊥
 other_polarity a b sum same = omega arith
 
--- A lap on, the flag is the same and its polarity the other.
+-- One lap further on, the flag is the same and its polarity the opposite.
 pub fits_ring : WrapBitsTurnByLap → ReadyRunsFitTheRing
 fits_ring turns g word p limit found run = elim (cases_lt (size g) found) [
   | inr few ↦ few

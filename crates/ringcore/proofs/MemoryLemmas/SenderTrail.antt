@@ -1,4 +1,4 @@
--- What a sender's own trail says of its last reservation is so in the world.
+-- What a sender's own trail says of its last reservation is true in the world.
 use Rattle.std.proofs.Common.{◌≡◌, ℕ, [], ◌∷◌, length, Some, refl, sym, ap, ◌∙◌, arith}
 use Rattle.std.proofs.lemmas.Option.{same_Some, slice_get_within}
 use Rattle.std.proofs.lemmas.List.{length-map}

@@ -1,4 +1,4 @@
--- How many positions share a flag word, and that a batch's flags stand in two at most.
+-- How many positions share a flag word, and that a batch's flags are in at most two.
 use Rattle.std.proofs.Common.{◌≡◌, ℕ, ◌+◌, ◌-◌, ◌*◌, ◌/◌, ◌%◌, ◌<◌, ◌≤◌, cond, inl, inr, sym, ap, ◌∙◌, add-zero, arith}
 use Rattle.std.proofs.lemmas.Bool.{cases_lt, le-leb, lt-leb}
 use Rattle.std.specs.Prelude.{nat_le}
@@ -20,7 +20,7 @@ small_word g p small = ap (λ b. cond b (size g) (64 - flag_bit g p)) (le-leb (s
 large_word : (g p : ℕ) → 64 < size g → shared_word g p ≡ 64 - flag_bit g p
 large_word g p large = ap (λ b. cond b (size g) (64 - flag_bit g p)) (lt-leb (size g) 64 large)
 
--- Behind the flags of a flag word stands the first of another.
+-- After the flags of a flag word comes the first of another.
 next_first : (g p : ℕ) → 64 < size g → flag_bit g (p + (64 - flag_bit g p)) ≡ 0
 next_first g p large =
     let r : ℕ = place g p in let s : ℕ = size g in

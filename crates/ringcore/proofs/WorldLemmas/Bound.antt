@@ -1,4 +1,4 @@
--- How much may ever be reserved, so that a count of 64 bits never wraps.
+-- How much can ever be reserved, so that a count of 64 bits never wraps.
 use Rattle.std.proofs.Common.{◌≡◌, ◌≢◌, ℕ, zero, suc, ◌+◌, ◌*◌, ◌<◌, ◌≤◌, Bool, true, false, cond, List, [], ◌∷◌, Option, Some, None, refl, sym, ap, inl, inr, subst, eq-eqb, ne_eqb, arith, length-append}
 use Rattle.std.proofs.lemmas.Bool.{cases_eq}
 use Rattle.cmdcodec.specs.declared.raw.Raw.{Raw}
@@ -127,7 +127,7 @@ unfolding total made
 is_bound ring senders [] only ok = record { each = λ s. omega arith; all = omega arith }
 is_bound ring senders (x ∷ xs) only ok = bound_after_event ring senders x.0 x.1 xs only.0 ok.1 (is_bound ring senders xs only.1 ok.0)
 
--- No more is reserved than 64 commands for each batch that each sender may make.
+-- At most 64 commands are reserved for each batch that each sender may make.
 pub reserved_bound : (ring : Ring) (senders : ℕ) (run : Run) → OnlyOf senders run → IsRun ring run → tail (world run) ≤ 64 * (senders * ring.max_batches)
 reserved_bound ring senders run only ok =
     let is = is_bound ring senders run only ok in

@@ -1,4 +1,4 @@
--- Who is told a number was told so after all up to its closing sync was taken.
+-- A sender is told a number only after all up to its closing sync was taken.
 use Rattle.std.proofs.Common.{◌≡◌, ℕ, ◌+◌, ◌<◌, List, [], ◌∷◌, ◌++◌, length, Some, sym, ap, ap₂, ◌∙◌, subst, arith, append_assoc}
 use Rattle.std.proofs.lemmas.List.{length-map}
 use Rattle.std.specs.Prelude.{slice_get}
@@ -36,7 +36,7 @@ taken_in_order ring run ok =
 
 -- ---- completed
 
--- What is taken of batches of which this one stands behind these, where more is taken than all ahead of its sync.
+-- What is taken of batches in which this one comes after these, if more is taken than all before its sync.
 completed : (run : Run) (s number : ℕ) (body : List Raw) (ahead behind : List Batch) → Begins (advanced run) (joined (batches run))
     → batches run ≡ ahead ++ record { sender = s; number = Some number; body = body } ∷ behind
     → length (joined ahead ++ body) < length (advanced run) → IsCompleted run s number
@@ -59,7 +59,7 @@ completed run s number body ahead behind taken is less =
       all_ahead = begins_shorter front (advanced run) (joined (batches run)) (raw ∷ joined behind, whole) taken (omega (arith, less));
     }
 
--- The sync that stands below the head is that of a batch.
+-- A sync below the head is that of a batch.
 pub of_taken : (ring : Ring) (run : Run) → IsRun ring run → (s number : ℕ) → SyncIsTaken (world run) s number → IsCompleted run s number
 of_taken ring run ok s number t =
     let read = is_read run in

@@ -1,4 +1,4 @@
--- What the consumer's own trail says is so in the world.
+-- What the consumer's own trail says is true in the world.
 use Rattle.std.proofs.Common.{◌+◌, cond, ◌==◌, [], ◌∷◌, ◌++◌, map, length, refl, sym, ap, ◌∙◌, subst, length-append}
 use Rattle.std.proofs.lemmas.List.{length-map, map-append}
 use Rattle.ringcore.specs.declared.world.event.Who.TheVariants.{Consumer, Sender}

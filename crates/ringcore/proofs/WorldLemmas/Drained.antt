@@ -1,4 +1,4 @@
--- Where the consumer saw the ring closed and empty, all that is reserved is taken.
+-- If the consumer saw the ring closed and empty, all that is reserved is taken.
 use Rattle.std.proofs.Common.{◌≡◌, ℕ, ◌<◌, ◌≤◌, [], ◌∷◌, map, length-append, refl, subst, arith, ⊎_elim}
 use Rattle.qindex.specs.declared.control.Control.{Control}
 use Rattle.qindex.specs.Indexes.{IsGeometry}

@@ -1,4 +1,4 @@
--- No closing sync has a higher number than its sender may make batches.
+-- No closing sync has a higher number than the batches that its sender may make.
 use Rattle.std.proofs.Common.{◌≡◌, ℕ, ◌≤◌, Bool, true, false, cond, [], ◌∷◌, Some, None, refl, sym, ap, ◌∙◌, subst, arith}
 use Rattle.std.specs.Prelude.{slice_get}
 use Rattle.ringcore.specs.declared.world.event.Who.{Who}

@@ -44,7 +44,7 @@ follows (y ∷ rest) (x ∷ xs) f =
 pub get_begun : {A : Type 0} (xs ys : List A) → Begins xs ys → (i : ℕ) → i < length xs → slice_get ys i ≡ slice_get xs i
 get_begun xs ys begins i h = ap (λ l. slice_get l i) begins.1 ∙ get_shorter xs begins.0 i h
 
--- Of two beginnings of one list the shorter begins the longer.
+-- The shorter of two beginnings of a list begins the longer.
 pub begins_shorter : {A : Type 0} (xs ys whole : List A) → Begins xs whole → Begins ys whole → length xs ≤ length ys → Begins xs ys
 begins_shorter xs ys whole x y le =
     follows ys xs (λ i z e.

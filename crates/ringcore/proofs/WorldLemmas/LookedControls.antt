@@ -66,7 +66,7 @@ looked_is_control queue ring is_geometry [] ok who c is = none_some c is
 looked_is_control queue ring is_geometry (x ∷ xs) ok who c is =
     grown queue ring is_geometry xs ok.0 (looked_is_control queue ring is_geometry xs ok.0) x.0 x.1 ok.1 who (same who x.0) refl c is
 
--- Words that are one say one control.
+-- Equal words say the same control.
 pub one_control : WordsSayTheirControl → (geometry : ℕ) (c d : Control) → IsControl geometry c → IsControl geometry d → packed c ≡ packed d → c ≡ d
 one_control words geometry c d c_is d_is e =
     sym (words geometry c c_is).says ∙ ap (control_in geometry) e ∙ (words geometry d d_is).says

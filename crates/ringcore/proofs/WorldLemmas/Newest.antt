@@ -1,4 +1,4 @@
--- The newest event of a seat's trail was allowed in a run before it.
+-- The newest event of a seat's trail was allowed in an earlier part of the run.
 use Rattle.std.proofs.Common.{◌≡◌, ◌≢◌, zero, suc, Bool, true, false, cond, [], ◌∷◌, refl, sym, ap, ◌∙◌, subst, eq-eqb, ne_eqb, arith}
 use Rattle.std.proofs.lemmas.Option.{same_Some}
 use Rattle.qindex.specs.declared.control.Control.{Control}

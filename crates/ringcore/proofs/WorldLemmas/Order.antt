@@ -1,4 +1,4 @@
--- Of two batches of one sender the one that it reserved earlier stands before the other.
+-- Of two batches of a sender, the one reserved earlier is before the other.
 use Rattle.std.proofs.Common.{◌≡◌, ℕ, Bool, true, false, cond, List, [], ◌∷◌, ◌++◌, length, sym, ap, ◌∙◌, arith, length-append, append_assoc}
 use Rattle.std.specs.Prelude.{◌==◌}
 use Rattle.ringcore.specs.world.Trails.{Run}
@@ -10,7 +10,7 @@ use Rattle.ringcore.proofs.WorldLemmas.Reading.{joined_append}
 use Rattle.ringcore.proofs.WorldLemmas.Numbering.{is_kept}
 use Rattle.ringcore.proofs.WorldLemmas.Completed.{unbroken}
 
--- where a batch of a sender's stands among all
+-- where a sender's batch is among all batches
 record IsAmong (s : ℕ) (bs : List Batch) (one : Batch) (later : List Batch) : Type 0 where
   pub ahead : List Batch
   pub behind : List Batch

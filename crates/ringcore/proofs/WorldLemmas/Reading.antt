@@ -82,7 +82,7 @@ pub record IsRead (run : Run) : Type 0 where
   pub taken : raws_taken (world run).taken ≡ advanced run
   pub closed : (world run).closed ≡ has_close run
 
--- An event of which neither tells anything leaves both as they were.
+-- An event that neither records leaves both as they were.
 read_unmoved_by_others : (who : Who) (e : Event) (xs : Run) → (world ((who, e) ∷ xs)).reserved ≡ (world xs).reserved → (world ((who, e) ∷ xs)).taken ≡ (world xs).taken
     → (world ((who, e) ∷ xs)).closed ≡ (world xs).closed → batches ((who, e) ∷ xs) ≡ batches xs → advanced ((who, e) ∷ xs) ≡ advanced xs
     → has_close ((who, e) ∷ xs) ≡ has_close xs → IsRead xs → IsRead ((who, e) ∷ xs)

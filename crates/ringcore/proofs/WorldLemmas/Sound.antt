@@ -1,5 +1,5 @@
 -- What every run keeps: the ring is never more than full, what is taken begins what is reserved, and what the
--- consumer tested and read is so.
+-- consumer tested and read is true.
 use Rattle.std.proofs.Common.{◌≡◌, ℕ, suc, ◌+◌, ◌<◌, ◌≤◌, Bool, true, false, cond, ◌&&◌, List, [], ◌∷◌, ◌++◌, length, map, Option, Some, None, refl, sym, ap, ap₂, ◌∙◌, subst, inl, inr, eqb-true, ltb-true, leb-true, arith, length-append, append_assoc}
 use Rattle.std.proofs.lemmas.Option.{same_Some}
 use Rattle.std.proofs.lemmas.Bool.{or_cases, and_parts, or_right}
@@ -48,7 +48,7 @@ length_commands s (Some number) body = length-append body _
 pub length_items : (s : ℕ) (number : Option ℕ) (body : List Raw) → length (items s number body) ≡ batch_length body number
 length_items s number body = length_from 0 s number (commands s number body) ∙ length_commands s number body
 
--- an event that is no reserve leaves the length of the last reservation
+-- An event other than a reserve leaves the length of the last reservation.
 same_length : (v : Bool) (e : Event) (t : Trail) → reserved_length (e ∷ t) ≡ reserved_length t → reserved_length (cond v (e ∷ t) t) ≡ reserved_length t
 same_length true e t is = is
 same_length false e t is = refl

@@ -140,7 +140,7 @@ number_there s k (x ∷ xs) (suc p) item at sender number sync =
     by_kind true (Some n) r = (suc r.0, r.1)
     by_kind false n r = r
 
--- and whatever is among them is the number of such an item
+-- and every number among them is that of such an item
 record IsAt (s k : ℕ) (xs : List Item) : Type 0 where
   position : ℕ
   item : Item
@@ -171,7 +171,7 @@ item_of_number s k (x ∷ xs) i at = by_kind (item_of_number s k xs) (s == x.sen
     by_kind later true kind (Some n) number (suc i) at = on (later i at)
     by_kind later false kind n number i at = on (later i at)
 
--- Where all that have the sync's opcode are syncs, there are as many numbers as closing syncs.
+-- If all that have the sync's opcode are syncs, there are as many numbers as closing syncs.
 abbrev pub AllSyncs : List Item → Type 0
 AllSyncs xs = (p : ℕ) (item : Item) → slice_get xs p ≡ Some item → is_sync item.raw ≡ true → IsSyncOf item
 
@@ -179,7 +179,7 @@ address_is : (s n : ℕ) → (sync_raw s n).hi ≡ cell_address s
 unfolding encoding
 address_is s n = omega arith
 
--- The cell of one sender is that of no other.
+-- No two senders have the same cell.
 pub its_cell : (s t address : ℕ) → address ≡ cell_address t → (address == cell_address s) ≡ (s == t)
 its_cell s t address its = elim (cases_eq s t) [
   | inl one ↦ eq-eqb address (cell_address s) (omega (arith, its, one)) ∙ sym (eq-eqb s t one)

@@ -36,7 +36,7 @@ among (x ∷ xs) (a ∷ ahead) behind raw e =
     let r = among xs ahead behind raw more in
     record { front = x ∷ r.front; item = r.item; rest = r.rest; is = ap (λ l. x ∷ l) r.is; ahead_is = ap₂ (λ y l. y ∷ l) one r.ahead_is; raw_is = r.raw_is }
 
--- Who has given a number has taken a step.
+-- A sender that has given a number has taken a step.
 gave : (senders s : ℕ) (run : Run) → OnlyOf senders run → 0 < numbers_given (trail_of (Sender s) run) → s < senders
 gave senders s [] only some = absurd (omega arith)
 gave senders s (x ∷ xs) only some = by_seat (same (Sender s) x.0) refl some (gave senders s xs only.1)

@@ -31,7 +31,7 @@ no_sync_at [] none i raw at = none_some raw at
 no_sync_at (x ∷ xs) none zero raw at = ap is_sync (sym (same_Some x raw at)) ∙ (or_parts (is_sync x) (list_any is_sync xs) none).0
 no_sync_at (x ∷ xs) none (suc i) raw at = no_sync_at xs (or_parts (is_sync x) (list_any is_sync xs) none).1 i raw at
 
--- In a batch whose body holds no CMD_SYNC one stands just behind the body.
+-- In a batch without a CMD_SYNC in its body, one can only be right after the body.
 at_end : (s : ℕ) (number : Option ℕ) (body : List Raw) (i : ℕ) (raw : Raw) → IsBody body → slice_get (commands s number body) i ≡ Some raw
     → is_sync raw ≡ true → i ≡ length body
 at_end s None body i raw is at sync = off (sym (no_sync_at body is.no_sync i raw at) ∙ sync)
@@ -44,7 +44,7 @@ at_end s (Some number) body i raw is at sync =
           omega (arith, behind, within, long)
     ]
 
--- where the batch of an item stands among the batches
+-- where the batch of an item is among the batches
 pub record IsBatchOf (bs : List Batch) (position : ℕ) (item : Item) : Type 0 where
   pub ahead : List Batch
   pub batch : Batch

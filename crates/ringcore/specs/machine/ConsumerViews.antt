@@ -18,21 +18,21 @@ pub record ConsumerValue : Type 0 where
   pub found : ℕ
   pub read : List ReadHalves
 
--- a command of which nothing is read
+-- a command with nothing read
 abbrev pub unread : ReadHalves
 unread = record { lo = None; hi = None }
 
--- Of commands nothing is read.
+-- Nothing is read of any command.
 abbrev pub AreUnread : List ReadHalves → Type 0
 AreUnread commands = (k : ℕ) → slice_index_or commands k unread ≡ unread
 
--- Of 64 commands nothing is read from this offset on.
+-- Nothing is read of the commands, 64 in all, from this offset on.
 pub record AreReadBelow (end : ℕ) (commands : List ReadHalves) : Type 0 where
   pub places : length commands ≡ 64
   pub within : end ≤ 64
   pub behind : (k : ℕ) → end ≤ k → slice_index_or commands k unread ≡ unread
 
--- A view says the same but of what was read.
+-- The views differ only in what was read.
 pub record SameButRead (old new : ConsumerValue) : Type 0 where
   pub taken_is : new.taken ≡ old.taken
   pub found_is : new.found ≡ old.found
@@ -44,7 +44,7 @@ read_half Hi halves = halves.hi
 abbrev pub halves_at : ConsumerValue → ℕ → ReadHalves
 halves_at view k = slice_index_or view.read k unread
 
--- A view says what the consumer's trail does, where so many commands are taken.
+-- The view says what the consumer's trail says, with this many commands taken.
 pub record KnowsTaken (mine : Trail) (many : ℕ) (view : ConsumerValue) : Type 0 where
   pub taken_is : view.taken ≡ many
   pub found_is : view.found ≡ found_ready mine
@@ -54,7 +54,7 @@ pub record KnowsTaken (mine : Trail) (many : ℕ) (view : ConsumerValue) : Type 
 abbrev pub ConsumerKnows : Run → ConsumerValue → Type 0
 ConsumerKnows run view = KnowsTaken (trail_of Consumer run) (head (world run)) view
 
--- Where the consumer knows this view, its trail meets a condition.
+-- Whenever the consumer knows this view, P holds of the run and its trail.
 abbrev pub WhereConsumerKnows : ConsumerValue → (Run → Trail → Type 0) → Type 0
 WhereConsumerKnows view P = (run : Run) → ConsumerKnows run view → P run (trail_of Consumer run)
 
@@ -67,7 +67,7 @@ both_halves low high = None
 abbrev pub command_at : ConsumerValue → ℕ → Option Raw
 command_at view k = both_halves (read_half Lo (halves_at view k)) (read_half Hi (halves_at view k))
 
--- Those that were read of the first so many, in their order.
+-- those of the first n that were read, in order
 abbrev pub and_command : List Raw → Option Raw → List Raw
 and_command raws None = raws
 and_command raws (Some raw) = raws ++ raw ∷ []
@@ -82,7 +82,7 @@ SendersLeaveIt =
     (ring : Ring) (run : Run) (s : ℕ) (view : ConsumerValue) (e : Event)
     → Allowed ring (world run) (trail_of (Sender s) run) (Sender s) e → ConsumerKnows run view → ConsumerKnows ((Sender s, e) ∷ run) view
 
--- A look and an acknowledgement of its own leave it too.
+-- Its own looks and acknowledgements leave it too.
 abbrev pub ConsumersLookLeavesIt : Type 0
 ConsumersLookLeavesIt =
     (run : Run) (found : Control) (view : ConsumerValue) → ConsumerKnows run view → ConsumerKnows ((Consumer, Look found) ∷ run) view

@@ -47,13 +47,13 @@ ring_of core = ring_with core.words.geometry core.words.senders
 abbrev pub AllKnow : Run → List SenderValue → Type 0
 AllKnow run views = (s : ℕ) (view : SenderValue) → slice_get views s ≡ Some view → Knows run s view
 
--- Where all senders of a ring know these views, this holds of the ring and the run.
+-- Whenever all senders of a ring know these views, P holds of the ring and the run.
 abbrev pub WhereAllKnow : List SenderValue → ℕ → (Ring → Run → Type 0) → Type 0
 WhereAllKnow views geometry P =
     (ring : Ring) (run : Run) → ring.geometry ≡ geometry → ring.senders ≡ length views → AllKnow run views → P ring run
 
--- The machine stands as after this run: so do its words, only its seats took steps, and each seat knows what
--- its trail says.
+-- The machine stands as after this run: its words do, only its seats took steps, and each seat knows what its
+-- trail says.
 pub record StandsAfter (core : CoreValue) (run : Run) : Type 0 where
   pub words_are : AreAfter (ring_of core) run core.words.words
   pub only : OnlyOf core.words.senders run
@@ -61,7 +61,8 @@ pub record StandsAfter (core : CoreValue) (run : Run) : Type 0 where
   pub consumer_knows : ConsumerKnows run core.consumer
   pub tallies_are : AreTallies run core.tallies
 
--- A machine has no more senders than a ring may have, a view and a tally for each, and stands as after some run.
+-- A machine has at most as many senders as a ring may have, a view and a tally for each, and stands as after
+-- some run.
 pub record IsMachine (core : CoreValue) : Type 0 where
   pub few : core.words.senders ≤ most_senders
   pub views : length core.senders ≡ core.words.senders
@@ -69,7 +70,7 @@ pub record IsMachine (core : CoreValue) : Type 0 where
   pub run : Run
   pub stands : StandsAfter core run
 
--- This holds after each run that the machine may stand as after.
+-- P holds after each run that the machine may stand as after.
 abbrev pub AfterEachRun : CoreValue → (Run → Type 0) → Type 0
 AfterEachRun core P = (run : Run) → StandsAfter core run → P run
 
@@ -79,7 +80,7 @@ AfterEachRun core P = (run : Run) → StandsAfter core run → P run
 abbrev pub reserving : ℕ → List Raw → Bool → Step
 reserving s body closes = Reserve s (record { items = body }) closes
 
--- how a step is answered after a run
+-- the answer to a step after a run
 abbrev pub answer_to : Ring → Run → Step → Seen
 answer_to ring run step = let event = event_of ring run step in seen_of ring (world run) event.0 event.1
 
@@ -100,11 +101,11 @@ abbrev pub IsTakenOrRefused : CoreValue → CoreValue → Step → Result Seen S
 IsTakenOrRefused old new step (Ok seen) = IsTaken old new step seen × (ring_of new ≡ ring_of old)
 IsTakenOrRefused old new step (Err fault) = IsRefused old step fault × (new ≡ old)
 
--- The step has no fault, and this holds.
+-- The step has no fault, and P holds.
 abbrev pub HasNoFault : CoreValue → Step → (Run → Type 0) → Type 0
 HasNoFault core step P = AfterEachRun core (λ run. (fault_of (ring_of core) run step ≡ None) × P run)
 
--- The control word says this after a run, and whether it is still what the sender looked at.
+-- The control word says this after a run, and `same` says whether it is still what the sender looked at.
 abbrev pub FindsControl : CoreValue → Run → ℕ → Control → Bool → Type 0
 FindsControl core run s found same =
     (found ≡ control core.words.geometry (world run)) × (is_same_word (looked (trail_of (Sender s) run)) found ≡ same)
@@ -121,8 +122,8 @@ pub record IsNew (core : CoreValue) (log2 senders : ℕ) : Type 0 where
   pub ring : ring_of core ≡ ring_with log2 senders
   pub stands : StandsAfter core []
 
--- Steps were played from an empty ring: the machine stands as after them, and the one that was refused is told, if
--- one was.
+-- Steps were played from an empty ring: the machine stands as after them, and `refused` is the one that was
+-- refused, if any.
 pub record HasPlayed (log2 senders : ℕ) (steps : List Step) (core : CoreValue) (refused : Option (ℕ × StepFault)) : Type 0 where
   pub numbers : core_fault log2 senders ≡ None
   pub ring : ring_of core ≡ ring_with log2 senders

@@ -1,4 +1,4 @@
--- What the faults of a step are called.
+-- The labels of the faults of a step.
 use Rattle.std.specs.Prelude.{ℕ, List, codes}
 use Rattle.ringcore.specs.declared.machine.step_fault.StepFault.{StepFault}
 use Rattle.ringcore.specs.declared.machine.step_fault.StepFault.TheVariants.{AnotherSenders, NotReserved, Flipped, HalfMissing, NotTheHead, NotSeenReady, NotNext, NoSuchPlace, NoRoom, NotSettled, BadBody}

@@ -1,4 +1,4 @@
--- The fault of a step after a run, by the world and by the trails: the first that applies.
+-- The fault of a step after a run, by the world and the trails: the first that applies.
 use Rattle.std.specs.Prelude.{ℕ, suc, ◌+◌, Bool, true, false, not, ◌==◌, ◌||◌, ◌&&◌, nat_le, nat_lt, List, length, Option, Some, None, is_some, slice_get, if◌then◌else◌}
 use Rattle.std.specs.List.{list_any}
 use Rattle.cmdcodec.specs.declared.raw.Raw.{Raw}
@@ -32,7 +32,7 @@ is_half half = nat_lt half 2
 abbrev pub is_run_length : ℕ → Bool
 is_run_length count = nat_le 1 count && nat_le count 64
 
--- whether the flags of so many slots in a row, from this one on, stand in one flag word
+-- whether the flags of `count` slots in a row, from this one on, are in one flag word
 abbrev pub share_a_word : Ring → ℕ → ℕ → Bool
 share_a_word ring slot count = nat_le count (shared_word ring.geometry slot)
 
@@ -41,7 +41,7 @@ share_a_word ring slot count = nat_le count (shared_word ring.geometry slot)
 abbrev pub is_body : List Raw → Bool
 is_body body = nat_le 1 (length body) && nat_le (length body) 63 && not (list_any is_sync body)
 
--- whether there is room for so many commands, by what was looked at
+-- whether there is room for this many commands, by what was looked at
 abbrev pub has_room : Ring → Option Control → ℕ → Bool
 has_room ring None many = false
 has_room ring (Some found) many = not found.closed && nat_le (distance found.prod found.cons + many) (size ring.geometry)
@@ -55,7 +55,7 @@ reserve_fault ring mine body closes =
 
 -- ---- write and flip
 
--- what isn't its own, by whether other reservations hold it
+-- for a slot that isn't its own, by whether other reservations hold it
 abbrev pub foreign : Bool → Option StepFault
 foreign held = if held then Some AnotherSenders else Some NotReserved
 
@@ -63,7 +63,7 @@ abbrev pub write_at : Ring → Run → ℕ → ℕ → Option ℕ → Option Ste
 write_at ring run s slot None = foreign (slot_is_held ring run slot)
 write_at ring run s slot (Some offset) = if has_flipped offset (trail_of (Sender s) run) then Some Flipped else None
 
--- Where the first slot is its own, positions count, and slots where it isn't.
+-- If the first slot is its own, positions count, otherwise slots.
 abbrev pub flip_at : Ring → Run → ℕ → ℕ → ℕ → Option ℕ → Option StepFault
 flip_at ring run s slot count None = foreign (all_below count (λ k. slot_is_held ring run (place ring.geometry (slot + k))))
 flip_at ring run s slot count (Some offset) =
@@ -105,7 +105,7 @@ abbrev pub is_sync_of : ℕ → ℕ → Option Item → Bool
 is_sync_of s number None = false
 is_sync_of s number (Some item) = item.sender == s && has_number number item.number && is_sync item.raw
 
--- whether that sync stands below the head
+-- whether that sync is below the head
 abbrev pub sync_is_taken : World → ℕ → ℕ → Bool
 sync_is_taken w s number = some_below (head w) (λ position. is_sync_of s number (slice_get w.reserved position))
 
@@ -115,7 +115,7 @@ acknowledge_fault w s number =
 
 -- ---- all of them
 
--- what doesn't exist, ahead of all else
+-- what doesn't exist comes before all other faults
 abbrev pub unless_missing : Bool → Option StepFault → Option StepFault
 unless_missing exists later = if exists then later else Some NoSuchPlace
 
@@ -123,7 +123,7 @@ abbrev pub exists_who : Ring → Option ℕ → Bool
 exists_who ring None = true
 exists_who ring (Some s) = has_sender ring s
 
--- The fault that a step is refused for, None where it is accepted.
+-- The fault that a step is refused for, or None if it is accepted.
 abbrev pub fault_of : Ring → Run → Step → Option StepFault
 fault_of ring run (Look who) = unless_missing (exists_who ring who) None
 fault_of ring run (Reserve s body closes) = unless_missing (has_sender ring s) (reserve_fault ring (trail_of (Sender s) run) body.items closes)

@@ -1,4 +1,4 @@
--- The step of each event, and that whatever event is allowed is taken by its step.
+-- The step of each event, and that every allowed event is taken by its step.
 use Rattle.std.specs.Prelude.{◌≡◌, ℕ, ◌+◌, ◌∷◌, length, Some, None, is_some}
 use Rattle.arrayvec.specs.ArrayVec.{ArrayVec}
 use Rattle.cmdcodec.specs.declared.raw.Raw.{Raw}
@@ -24,8 +24,8 @@ abbrev pub number_of_half : Half → ℕ
 number_of_half Lo = 0
 number_of_half Hi = 1
 
--- The step that asks for an event: of the same seat, for the slot of the event's position. What the event found isn't
--- asked for.
+-- The step that requests an event: by the same seat, for the slot of the event's position. What the event
+-- found isn't part of the request.
 abbrev pub AsksFor : Ring → World → Step → Who → Event → Type 0
 AsksFor ring w step Consumer (event.Look found) = step ≡ Look None
 AsksFor ring w step (Sender s) (event.Look found) = step ≡ Look (Some s)
@@ -41,12 +41,13 @@ AsksFor ring w step Consumer (event.Advance raws) = step ≡ Advance (length raw
 AsksFor ring w step Consumer (event.Acknowledge sender number) = step ≡ Acknowledge sender number
 AsksFor ring w step who e = ⊥
 
--- After the run the step has no fault, and is this event.
+-- After the run the step has no fault and is this event.
 pub record IsTakenAs (ring : Ring) (run : Run) (step : Step) (who : Who) (e : Event) : Type 0 where
   pub no_fault : fault_of ring run step ≡ None
   pub event_is : event_of ring run step ≡ (who, e)
 
--- Whatever event is allowed to one of the ring's seats, the step that asks for it has no fault and is this event.
+-- For every event allowed to one of the ring's seats, the step that requests it has no fault and is this
+-- event.
 abbrev pub AllowedAreTaken : Type 0
 AllowedAreTaken =
     (ring : Ring) (run : Run) (step : Step) (who : Who) (e : Event) → IsGeometry ring.geometry → ring.flags ≡ flags_a_word

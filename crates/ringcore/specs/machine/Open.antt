@@ -1,4 +1,4 @@
--- What the open reservations hold.
+-- What open reservations hold.
 use Rattle.std.specs.Prelude.{ℕ, zero, suc, ◌+◌, Bool, true, false, not, ◌==◌, ◌||◌, ◌&&◌, Option, Some, None, if◌then◌else◌}
 use Rattle.qindex.specs.Positions.{place}
 use Rattle.ringcore.specs.declared.world.event.Who.TheVariants.{Sender}
@@ -6,7 +6,7 @@ use Rattle.ringcore.specs.world.Trails.{Trail, Run, trail_of, is_among, reserved
 use Rattle.ringcore.specs.world.World.{world}
 use Rattle.ringcore.specs.world.Allowed.{Ring}
 
--- whether some number below many, or each, passes a test
+-- whether some number below a limit passes a test, and whether each does
 abbrev pub some_below : ℕ → (ℕ → Bool) → Bool
 some_below zero f = false
 some_below (suc n) f = f n || some_below n f
@@ -15,12 +15,12 @@ abbrev pub all_below : ℕ → (ℕ → Bool) → Bool
 all_below zero f = true
 all_below (suc n) f = f n && all_below n f
 
--- the least number below many that passes a test
+-- the least number below a limit that passes a test
 abbrev pub first_below : ℕ → (ℕ → Bool) → Option ℕ
 first_below zero f = None
 first_below (suc n) f = if some_below n f then first_below n f else (if f n then Some n else None)
 
--- whether a reservation of its is open: not all of the last one is flipped
+-- whether it has an open reservation: not all of the last one is flipped
 abbrev pub is_open : Trail → Bool
 is_open mine = some_below (reserved_length mine) (λ offset. not (has_flipped offset mine))
 

@@ -1,4 +1,4 @@
--- A list of steps, played one after another from an empty ring: up to the first that has a fault.
+-- A list of steps, played one after another from an empty ring, up to the first that has a fault.
 use Rattle.std.specs.Prelude.{◌≡◌, ℕ, suc, List, [], ◌∷◌, Option, Some, None}
 use Rattle.ringcore.specs.Limits.{flags_a_word}
 use Rattle.ringcore.specs.declared.machine.step.Step.{Step}
@@ -11,8 +11,8 @@ use Rattle.ringcore.specs.world.Allowed.{Ring, IsRun}
 use Rattle.ringcore.specs.machine.Faults.{fault_of}
 use Rattle.ringcore.specs.machine.StepAnswers.{event_of, seen_of}
 
--- the run that was played, its answers in their order, and the step that was refused, by its place from 0, with
--- its fault
+-- the run that was played, its answers in order, and the step that was refused, by its place from 0, with its
+-- fault
 pub record Played : Type 0 where
   pub run : Run
   pub answers : List Seen
@@ -38,7 +38,7 @@ played ring steps = played_from ring [] 0 steps
 
 -- ---- what is played is a run
 
--- A step that has no fault is an event that is allowed, where flags stand in words of 64.
+-- A step without a fault is an allowed event, if flag words have 64 flags.
 abbrev pub StepsAreAllowed : Type 0
 StepsAreAllowed =
     (ring : Ring) (run : Run) (step : Step) → IsGeometry ring.geometry → ring.flags ≡ flags_a_word → IsRun ring run → fault_of ring run step ≡ None

@@ -22,14 +22,14 @@ pub record SenderValue : Type 0 where
   pub commands : List Raw
   pub progress : List Progress
 
--- The commands of a batch are 64 at most, and as many places are kept for what is done of them. No more batches
--- have a number than were made.
+-- A batch has at most 64 commands, and progress is kept for as many. No more batches have a number than were
+-- made.
 pub record IsBounded (view : SenderValue) : Type 0 where
   pub few : length view.commands ≤ 64
   pub places : length view.progress ≡ 64
   pub numbered : view.numbers ≤ view.batches
 
--- a command of which nothing is done
+-- a command with nothing done
 abbrev pub untouched : Progress
 untouched = record { lo = false; hi = false; flipped = false }
 
@@ -40,15 +40,15 @@ is_written Hi command = command.hi
 abbrev pub progress_at : SenderValue → ℕ → Progress
 progress_at view k = slice_index_or view.progress k untouched
 
--- a command once count places from first on are flipped, of which it may be one
+-- a command after count commands from first on were flipped, which may include it
 abbrev pub flipped_by : ℕ → ℕ → ℕ → Progress → Progress
 flipped_by first count k command = record command { flipped = is_among first count k || command.flipped }
 
--- Of commands, count from first on are marked as flipped, and nothing else.
+-- Exactly count commands from first on were marked as flipped.
 abbrev pub AreFlipped : List Progress → List Progress → ℕ → ℕ → Type 0
 AreFlipped old new first count = (k : ℕ) → slice_index_or new k untouched ≡ flipped_by first count k (slice_index_or old k untouched)
 
--- A view says what a sender's trail does, where its last reservation starts at this position.
+-- The view says what a sender's trail says, with the last reservation starting at this position.
 pub record KnowsTrail (s : ℕ) (mine : Trail) (first : ℕ) (view : SenderValue) : Type 0 where
   pub looked_is : view.looked ≡ looked mine
   pub batches_is : view.batches ≡ batches_made mine
@@ -62,7 +62,7 @@ pub record KnowsTrail (s : ℕ) (mine : Trail) (first : ℕ) (view : SenderValue
 abbrev pub Knows : Run → ℕ → SenderValue → Type 0
 Knows run s view = KnowsTrail s (trail_of (Sender s) run) ((world run).start s) view
 
--- Where a sender knows this view, its trail meets a condition.
+-- Whenever a sender knows this view, P holds of the run and its trail.
 abbrev pub WhereKnown : SenderValue → (Run → ℕ → Trail → Type 0) → Type 0
 WhereKnown view P = (run : Run) (s : ℕ) → Knows run s view → P run s (trail_of (Sender s) run)
 
@@ -71,7 +71,7 @@ abbrev pub OthersLeaveIt : Type 0
 OthersLeaveIt =
     (run : Run) (s : ℕ) (view : SenderValue) (who : Who) (e : Event) → who ≢ Sender s → Knows run s view → Knows ((who, e) ∷ run) s view
 
--- A close and an ask of its own leave it too.
+-- Its own closes and asks leave it too.
 abbrev pub CloseLeavesIt : Type 0
 CloseLeavesIt = (run : Run) (s : ℕ) (view : SenderValue) → Knows run s view → Knows ((Sender s, Close) ∷ run) s view
 

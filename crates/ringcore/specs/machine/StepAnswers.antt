@@ -1,4 +1,4 @@
--- The event that an accepted step is, and how it is answered.
+-- The event of an accepted step, and its answer.
 use Rattle.std.specs.Prelude.{ℕ, zero, suc, ◌+◌, ◌*◌, ◌/◌, ◌^◌, Bool, false, ◌==◌, ◌&&◌, List, map, take, drop, Option, Some, None, slice_get, if◌then◌else◌}
 use Rattle.cmdcodec.specs.declared.raw.Raw.{Raw}
 use Rattle.qindex.specs.declared.control.Control.{Control}
@@ -22,7 +22,7 @@ use Rattle.ringcore.specs.world.Allowed.{Ring}
 use Rattle.ringcore.specs.machine.Open.{own_offset}
 use Rattle.ringcore.specs.machine.Faults.{tested_offset}
 
--- 0 where there is none
+-- 0 if there is none
 abbrev pub offset_or_0 : Option ℕ → ℕ
 offset_or_0 None = 0
 offset_or_0 (Some offset) = offset
@@ -42,12 +42,12 @@ next_number mine closes = if closes then Some (suc (numbers_given mine)) else No
 
 -- ---- test
 
--- How many positions in a row pass the test, at most limit of them.
+-- how many positions in a row pass the test, at most limit
 abbrev pub in_a_row : (ℕ → Bool) → ℕ → ℕ
 in_a_row f zero = 0
 in_a_row f (suc limit) = if f 0 then suc (in_a_row (λ k. f (suc k)) limit) else 0
 
--- how many from the head on are flipped, as far as their flags stand in one word
+-- how many from the head on are flipped, as far as their flags are in one word
 abbrev pub ready_count : Ring → World → ℕ → ℕ
 ready_count ring w limit =
     in_a_row (λ k. w.flipped (head w + k) && place ring.geometry (head w + k) / flags_a_word == place ring.geometry (head w) / flags_a_word) limit
@@ -71,7 +71,7 @@ abbrev pub seat_of : Option ℕ → Who
 seat_of None = Consumer
 seat_of (Some s) = Sender s
 
--- the event of a step that has no fault
+-- the event of a step without a fault
 abbrev pub event_of : Ring → Run → Step → Who × Event
 event_of ring run (Look who) = (seat_of who, event.Look (control ring.geometry (world run)))
 event_of ring run (Reserve s body closes) =
@@ -88,12 +88,12 @@ event_of ring run (Close s) = (Sender s, event.Close)
 event_of ring run (Acknowledge s number) = (Consumer, event.Acknowledge s number)
 event_of ring run (Ask s) = (Sender s, event.Ask ((world run).acknowledged s))
 
--- the new flags of so many positions from this one on, that of the first in bit 0
+-- the new flags of `count` positions from this one on, with that of the first in bit 0
 abbrev pub new_flags : ℕ → ℕ → ℕ → ℕ
 new_flags geometry position zero = 0
 new_flags geometry position (suc count) = new_flags geometry position count + polarity geometry (position + count) * 2 ^ count
 
--- how an event is answered, by the worlds before and after
+-- the answer to an event, by the worlds before and after
 abbrev pub seen_of : Ring → World → Who → Event → Seen
 seen_of ring w who (event.Look found) = Word found
 seen_of ring w who (event.Won body number) = Reserved (index_of ring.geometry (tail w)) number

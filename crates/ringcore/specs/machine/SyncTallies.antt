@@ -1,4 +1,4 @@
--- How many closing syncs of each sender are taken, as it is kept at run time.
+-- Counts of the closing syncs taken, per sender, as kept at run time.
 use Rattle.std.specs.Prelude.{◌≡◌, ℕ, ◌+◌, ◌<◌, Bool, true, false, List, ◌∷◌, length, slice_index}
 use Rattle.cmdcodec.specs.declared.raw.Raw.{Raw}
 use Rattle.ringcore.specs.declared.world.event.Who.{Who}
@@ -8,11 +8,11 @@ use Rattle.ringcore.specs.declared.world.event.Event.TheVariants.{Advance}
 use Rattle.ringcore.specs.world.Trails.{Run, trail_of}
 use Rattle.ringcore.specs.world.Laws.{syncs_in, syncs_taken}
 
--- After this run they are the counts of the consumer's trail.
+-- After this run they are the counts in the consumer's trail.
 abbrev pub AreTallies : Run → List ℕ → Type 0
 AreTallies run counts = (s : ℕ) → s < length counts → slice_index counts s ≡ syncs_taken s (trail_of Consumer run)
 
--- Each count is higher by the closing syncs of its sender among these commands.
+-- Each count grew by the number of its sender's closing syncs among these commands.
 pub record AreCounted (old new : List ℕ) (raws : List Raw) : Type 0 where
   pub same_senders : length new ≡ length old
   pub counts : (s : ℕ) → s < length old → slice_index new s ≡ slice_index old s + syncs_in s raws
@@ -26,7 +26,7 @@ abbrev pub is_advance : Event → Bool
 is_advance (Advance raws) = true
 is_advance e = false
 
--- Any other event leaves them.
+-- Any other event leaves the counts.
 abbrev pub OthersDontCount : Type 0
 OthersDontCount =
     (run : Run) (who : Who) (e : Event) (counts : List ℕ) → is_advance e ≡ false → AreTallies run counts → AreTallies ((who, e) ∷ run) counts

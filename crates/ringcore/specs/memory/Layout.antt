@@ -1,30 +1,30 @@
--- Which word is where among the words of a ring (own). Between the control word, the flag words, the data words
--- and each completion cell stand unused words: so many that no two of these share 64 bytes, wherever the first is.
+-- Where each word of a ring is (own). Unused words separate the control word, the flag words, the data words
+-- and each completion cell: so many that no two of these share 64 bytes, wherever the first is.
 use Rattle.std.specs.Prelude.{ℕ, ◌+◌, ◌-◌, ◌*◌, ◌/◌}
 use Rattle.qindex.specs.Positions.{size, place}
 use Rattle.ringcore.specs.Limits.{flags_a_word}
 use Rattle.ringcore.specs.declared.world.event.Half.{Half}
 use Rattle.ringcore.specs.declared.world.event.Half.TheVariants.{Lo, Hi}
 
--- with the word ahead of them, 64 bytes
+-- 64 bytes together with the word before them
 abbrev pub unused : ℕ
 unused = 7
 
 abbrev pub control_word : ℕ
 control_word = 0
 
--- one flag word for each 64 slots, and one for fewer
+-- one flag word for each 64 slots, or for fewer
 abbrev pub first_flag_word : ℕ
 first_flag_word = control_word + 1 + unused
 
 abbrev pub flag_words : ℕ → ℕ
 flag_words geometry = (size geometry + (flags_a_word - 1)) / flags_a_word
 
--- the word in which a position's flag stands
+-- the word that has a position's flag
 abbrev pub flag_word : ℕ → ℕ → ℕ
 flag_word geometry position = first_flag_word + place geometry position / flags_a_word
 
--- two data words for each slot, lo ahead of hi
+-- two data words for each slot, lo before hi
 abbrev pub first_data_word : ℕ → ℕ
 first_data_word geometry = first_flag_word + flag_words geometry + unused
 
@@ -32,7 +32,7 @@ abbrev pub half_number : Half → ℕ
 half_number Lo = 0
 half_number Hi = 1
 
--- the word in which a half of a position's command stands
+-- the word that has a half of a position's command
 abbrev pub data_word : ℕ → ℕ → Half → ℕ
 data_word geometry position half = first_data_word geometry + 2 * place geometry position + half_number half
 

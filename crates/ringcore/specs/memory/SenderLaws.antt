@@ -9,7 +9,7 @@ use Rattle.ringcore.specs.world.World.{Item, World, tail, world}
 use Rattle.ringcore.specs.world.Allowed.{Ring, IsRun}
 use Rattle.ringcore.specs.memory.StepLaws.{reserved_commands}
 
--- As many commands as it is long.
+-- It has as many commands as its length says.
 abbrev pub LengthsAreOfCommands : Type 0
 LengthsAreOfCommands = (s : ℕ) (t : Trail) → length (reserved_commands s t) ≡ reserved_length t
 
@@ -19,14 +19,14 @@ StartsAtItsIndex =
     (ring : Ring) (run : Run) → IsRun ring run → (s : ℕ)
     → index_of ring.geometry ((world run).start s) ≡ start_index ring.geometry (trail_of (Sender s) run)
 
--- At this position stands this command of the sender.
+-- This command of the sender is at this position.
 pub record StandsAs (w : World) (position s : ℕ) (raw : Raw) : Type 0 where
   pub item : Item
   pub there : slice_get w.reserved position ≡ Some item
   pub sender_is : item.sender ≡ s
   pub raw_is : item.raw ≡ raw
 
--- Its commands stand in a row from where it starts on, and of each the trail tells whether it is written and flipped.
+-- Its commands are in a row from its start on, and the trail tells which of them are written and flipped.
 pub record HasItsSlots (w : World) (s : ℕ) (mine : Trail) : Type 0 where
   pub reserved : w.start s + reserved_length mine ≤ tail w
   pub commands : (offset : ℕ) (raw : Raw) → slice_get (reserved_commands s mine) offset ≡ Some raw → StandsAs w (w.start s + offset) s raw

@@ -1,4 +1,4 @@
--- What the words of a ring are, after a run: the shadow of its world.
+-- What the words of a ring are after a run: the shadow of its world.
 use Rattle.std.specs.Prelude.{◌≡◌, ℕ, ◌+◌, ◌<◌, ◌≤◌, true, List, length, Some, slice_get, slice_index}
 use Rattle.qindex.specs.Positions.{size}
 use Rattle.qindex.specs.Indexes.{IsGeometry}
@@ -11,9 +11,9 @@ use Rattle.ringcore.specs.world.Allowed.{Ring, IsRun}
 use Rattle.ringcore.specs.memory.Layout.{control_word, data_word, cell, words_of}
 use Rattle.ringcore.specs.memory.Flags.{says_flipped}
 
--- The control word packs the tail and the head, and whether the ring is closed. Of the positions from the head on,
--- as many as there are slots, each flag says whether it is flipped, and each half that is written stands in its
--- data word. Each cell holds its sender's acknowledged number.
+-- The control word packs the tail and the head, and whether the ring is closed. For as many positions from
+-- the head on as there are slots, each flag says whether the position is flipped, and each written half is in
+-- its data word. Each cell holds its sender's acknowledged number.
 pub record IsShadow (ring : Ring) (words : List ℕ) (w : World) : Type 0 where
   pub many : length words ≡ words_of ring.geometry ring.senders
   pub control_is : slice_index words control_word ≡ packed (control ring.geometry w)
@@ -23,7 +23,7 @@ pub record IsShadow (ring : Ring) (words : List ℕ) (w : World) : Type 0 where
       → slice_index words (data_word ring.geometry position half) ≡ half_of half item.raw
   pub cells : (sender : ℕ) → sender < ring.senders → slice_index words (cell ring.geometry sender) ≡ w.acknowledged sender
 
--- The words may stand as these after this run. Flags stand in words of 64.
+-- These may be the words after this run. A flag word has 64 flags.
 pub record AreAfter (ring : Ring) (run : Run) (words : List ℕ) : Type 0 where
   pub geometry_is : IsGeometry ring.geometry
   pub flags_are : ring.flags ≡ flags_a_word

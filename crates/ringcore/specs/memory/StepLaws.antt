@@ -1,5 +1,5 @@
--- Each kind of atomic step: the one operation on one word that does it. Where the words stand as after a run, and
--- the event is the seat's to take, they stand after the operation as after the run with that event.
+-- The single operation on a single word that does each kind of atomic step. If the words stand as after a run
+-- and the event is the seat's to take, the operation makes them stand as after the run with that event.
 use Rattle.std.specs.Prelude.{◌≡◌, ◌≢◌, ℕ, ◌+◌, ◌<◌, ◌≤◌, Bool, List, [], ◌∷◌, length, Option, Some, slice_get, slice_index, slice_set, bit_or, bit_xor}
 use Rattle.cmdcodec.specs.declared.raw.Raw.{Raw}
 use Rattle.qindex.specs.declared.control.Control.{Control}
@@ -17,7 +17,7 @@ use Rattle.ringcore.specs.memory.Layout.{control_word, flag_word, data_word, cel
 use Rattle.ringcore.specs.memory.Flags.{IsFlipMask, IsReadyRun, ready_in}
 use Rattle.ringcore.specs.memory.Shadow.{AreAfter}
 
--- a fact of every run and all words that stand as after it
+-- a fact about every run and all words that stand as after it
 abbrev pub Always : (Ring → Run → List ℕ → Type 0) → Type 0
 Always P = (ring : Ring) (run : Run) (words : List ℕ) → AreAfter ring run words → P ring run words
 
@@ -37,7 +37,7 @@ abbrev pub LooksByALoad : Ring → Run → List ℕ → Type 0
 LooksByALoad ring run words =
     (who : Who) → AreAfter ring ((who, Look (control_in ring.geometry (slice_index words control_word))) ∷ run) words
 
--- the control with prod so many commands further
+-- the control with prod that many commands further on
 abbrev pub with_reserved : Control → ℕ → Control
 with_reserved control many = record control { prod = index_of control.prod.geometry (control.prod.number + many) }
 
@@ -64,7 +64,7 @@ reserved_commands s [] = []
 reserved_commands s (Won body number ∷ es) = commands s number body
 reserved_commands s (e ∷ es) = reserved_commands s es
 
--- a store in the data word
+-- a store to the data word
 abbrev pub WritesByAStore : Ring → Run → List ℕ → Type 0
 WritesByAStore ring run words =
     (s offset : ℕ) (half : Half) (raw : Raw)
@@ -72,7 +72,7 @@ WritesByAStore ring run words =
     → slice_get (reserved_commands s (trail_of (Sender s) run)) offset ≡ Some raw
     → AreAfter ring ((Sender s, Write offset half) ∷ run) (slice_set words (data_word ring.geometry ((world run).start s + offset) half) (half_of half raw))
 
--- these words with a word turned by a mask
+-- these words, with one of them exclusive-ored with a mask
 abbrev pub turned : List ℕ → ℕ → ℕ → List ℕ
 turned words at mask = slice_set words at (bit_xor (slice_index words at) mask)
 
@@ -92,7 +92,7 @@ TestsByALoad ring run words =
     → IsReadyRun ring.geometry (slice_index words (flag_word ring.geometry (head (world run)))) (head (world run)) limit found
     → AreAfter ring ((Consumer, Test limit found) ∷ run) words
 
--- and what it finds, as a function of the word
+-- what the load finds, as a function of the word
 abbrev pub TestsFindReadyIn : Ring → Run → List ℕ → Type 0
 TestsFindReadyIn ring run words =
     (limit : ℕ)
@@ -106,7 +106,7 @@ ReadsByALoad ring run words =
     → offset < found_ready (trail_of Consumer run)
     → AreAfter ring ((Consumer, Read offset half (slice_index words (data_word ring.geometry (head (world run) + offset) half))) ∷ run) words
 
--- an exclusive or of the control word with the mask that turns cons
+-- an exclusive or of the control word with the mask that advances cons
 abbrev pub AdvancesByAnExclusiveOr : Ring → Run → List ℕ → Type 0
 AdvancesByAnExclusiveOr ring run words =
     (raws : List Raw)
@@ -120,7 +120,7 @@ abbrev pub ClosesByAnOr : Ring → Run → List ℕ → Type 0
 ClosesByAnOr ring run words =
     (s : ℕ) → AreAfter ring ((Sender s, Close) ∷ run) (slice_set words control_word (bit_or (slice_index words control_word) close_mask))
 
--- a store in the sender's cell
+-- a store to the sender's cell
 abbrev pub AcknowledgesByAStore : Ring → Run → List ℕ → Type 0
 AcknowledgesByAStore ring run words =
     (s number : ℕ) → MayAcknowledge (world run) s number
@@ -131,13 +131,13 @@ abbrev pub AsksByALoad : Ring → Run → List ℕ → Type 0
 AsksByALoad ring run words =
     (s : ℕ) → s < ring.senders → AreAfter ring ((Sender s, Ask (slice_index words (cell ring.geometry s))) ∷ run) words
 
--- A word that is stored back leaves all words: so a load, and an exchange that is lost, may be said as a store.
+-- Storing a word back leaves all words, so a load, or a lost exchange, can be stated as a store.
 abbrev pub StoredBackIsTheSame : Type 0
 StoredBackIsTheSame = (words : List ℕ) (at : ℕ) → slice_set words at (slice_index words at) ≡ words
 
 -- ---- where the words are
 
--- two words that don't share 64 bytes, the one ahead of the other
+-- The first word is before the other, and they don't share 64 bytes.
 abbrev pub IsWellBefore : ℕ → ℕ → Type 0
 IsWellBefore word other = word + 8 ≤ other
 

@@ -16,7 +16,7 @@ pub record AreWords (w : WordsValue) : Type 0 where
   pub few : w.senders ≤ most_senders
   pub many : length w.words ≡ words_of w.geometry w.senders
 
--- the word at an index, and the words with another there
+-- the word at this place in the list, and the words with another there
 abbrev pub word_at : WordsValue → ℕ → ℕ
 word_at w at = slice_index w.words at
 
@@ -26,7 +26,7 @@ with_word w at x = record w { words = slice_set w.words at x }
 abbrev pub with_turned : WordsValue → ℕ → ℕ → WordsValue
 with_turned w at mask = record w { words = turned w.words at mask }
 
--- The flags of so many positions from this one on are turned, and no other.
+-- Exactly the flags of `count` positions from this one on are flipped.
 pub record IsFlipped (old new : WordsValue) (position count : ℕ) : Type 0 where
   pub mask : ℕ
   pub mask_is : IsFlipMask old.geometry position count mask

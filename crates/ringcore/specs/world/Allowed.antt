@@ -1,4 +1,4 @@
--- When an event may stand after those before it. Nothing is assumed of which seat comes next.
+-- When an event may follow those before it. Nothing is assumed about which seat comes next.
 use Rattle.std.specs.Prelude.{◌≡◌, ◌≢◌, ℕ, suc, ◌+◌, ◌/◌, ◌<◌, ◌≤◌, Bool, true, false, List, [], ◌∷◌, length, Option, Some, None, slice_get, ⊤}
 use Rattle.cmdcodec.specs.declared.raw.Raw.{Raw}
 use Rattle.cmdcodec.specs.Bodies.{IsBody}
@@ -13,20 +13,20 @@ use Rattle.ringcore.specs.declared.world.event.Event.TheVariants.{Look, Won, Los
 use Rattle.ringcore.specs.world.Trails.{Trail, Run, trail_of, looked, batches_made, numbers_given, batch_length, reserved_length, has_written, has_flipped, IsSettled, found_ready, half_read}
 use Rattle.ringcore.specs.world.World.{Item, World, tail, head, sync_raw, world, control, half_of}
 
--- What a ring is made with: the log2 of its slots, its senders, how many batches each may reserve, and how many flags
--- stand in one flag word.
+-- What a ring is made with: the log2 of its slots, its senders, how many batches each may reserve, and how
+-- many flags a flag word has.
 pub record Ring : Type 0 where
   pub geometry : ℕ
   pub senders : ℕ
   pub max_batches : ℕ
   pub flags : ℕ
 
--- The flags of count positions from this one on stand in one flag word, where so many flags stand in each.
+-- The flags of count positions from this one on are in one flag word, if each has `flags` flags.
 abbrev pub ShareAWord : ℕ → ℕ → ℕ → ℕ → Type 0
 ShareAWord flags geometry position count =
     (offset : ℕ) → offset < count → place geometry (position + offset) / flags ≡ place geometry position / flags
 
--- a run of positions that one step may name: 1 to 64
+-- how many positions in a row one step may name: 1 to 64
 abbrev pub IsRunLength : ℕ → Type 0
 IsRunLength count = (1 ≤ count) × (count ≤ 64)
 
@@ -37,8 +37,8 @@ abbrev pub IsNextNumber : Trail → Option ℕ → Type 0
 IsNextNumber mine None = ⊤
 IsNextNumber mine (Some number) = number ≡ suc (numbers_given mine)
 
--- Of its own trail: what it looked at since its last exchange is open, no reservation of its is open, it has
--- a batch left, and by that look there is room for as many commands.
+-- By its own trail, what it looked at since its last exchange is open, it has no open reservation, it has a
+-- batch left, and by that look there is room for this many commands.
 pub record MayTry (ring : Ring) (mine : Trail) (body : List Raw) (many : ℕ) (before : Control) : Type 0 where
   pub looked_at : looked mine ≡ Some before
   pub unclosed : before.closed ≡ false
@@ -71,7 +71,7 @@ pub record MayLose (ring : Ring) (w : World) (mine : Trail) (body : List Raw) (c
 
 -- ---- write and flip
 
--- A half of a command of the open reservation, which isn't flipped yet.
+-- A half of a command of the open reservation that isn't flipped yet.
 pub record MayWrite (mine : Trail) (offset : ℕ) : Type 0 where
   pub inside : offset < reserved_length mine
   pub unflipped : has_flipped offset mine ≡ false
@@ -86,7 +86,8 @@ pub record MayFlip (ring : Ring) (mine : Trail) (start offset count : ℕ) : Typ
 
 -- ---- test, read and advance
 
--- A test finds how many positions in a row from the head on are flipped, up to its limit, in one flag word.
+-- A test finds how many positions in a row from the head on are flipped, up to its limit and within one flag
+-- word.
 pub record FindsReady (ring : Ring) (w : World) (limit found : ℕ) : Type 0 where
   pub many : IsRunLength limit
   pub most : found ≤ limit
@@ -94,15 +95,15 @@ pub record FindsReady (ring : Ring) (w : World) (limit found : ℕ) : Type 0 whe
   pub ready : (i : ℕ) → i < found → w.flipped (head w + i) ≡ true
   pub no_more : found < limit → ShareAWord ring.flags ring.geometry (head w) (suc found) → w.flipped (head w + found) ≡ false
 
--- A read is of one of the positions that the last test found, and finds that half of its command.
+-- A read is for one of the positions that the last test found, and finds that half of its command.
 pub record MayRead (w : World) (mine : Trail) (offset : ℕ) (half : Half) (word : ℕ) : Type 0 where
   pub ready : offset < found_ready mine
   pub item : Item
   pub there : slice_get w.reserved (head w + offset) ≡ Some item
   pub found : word ≡ half_of half item.raw
 
--- The commands that are taken are some from the head on that were read, both halves of each, since the test that
--- found them ready.
+-- The commands taken are some from the head on, both halves of each read since the test that found them
+-- ready.
 pub record MayAdvance (mine : Trail) (raws : List Raw) : Type 0 where
   pub some : 1 ≤ length raws
   pub ready : length raws ≤ found_ready mine
@@ -110,7 +111,7 @@ pub record MayAdvance (mine : Trail) (raws : List Raw) : Type 0 where
 
 -- ---- acknowledge
 
--- The closing sync of a sender's batch of this number stands below the head.
+-- The closing sync of a sender's batch with this number is below the head.
 pub record SyncIsTaken (w : World) (sender number : ℕ) : Type 0 where
   pub position : ℕ
   pub place : ℕ
@@ -124,7 +125,7 @@ pub record MayAcknowledge (w : World) (sender number : ℕ) : Type 0 where
 
 -- ---- all of them
 
--- One line for each kind, with the seat whose step it is. An event that isn't named is never allowed.
+-- One line for each kind, with the seat whose step it is. An event not listed is never allowed.
 abbrev pub Allowed : Ring → World → Trail → Who → Event → Type 0
 Allowed ring w mine who (Look found) = found ≡ control ring.geometry w
 Allowed ring w mine (Sender s) (Won body number) = MayWin ring w mine body number

@@ -26,7 +26,7 @@ TellsWhatIsAdvanced run = advanced run ≡ raws_by (trail_of Consumer run)
 abbrev pub TellsTheOutcomes : Run → Type 0
 TellsTheOutcomes run = (world run).taken ≡ map taken_as (raws_by (trail_of Consumer run))
 
--- Of the commands that a trail took it tells how many they are, and how many of them are closing syncs of a sender.
+-- A trail tells how many commands it took, and how many of them are closing syncs of a sender.
 abbrev pub RawsAreCounted : Type 0
 RawsAreCounted = (t : Trail) → length (raws_by t) ≡ taken_by t
 
@@ -52,7 +52,7 @@ pub record IsReadyAt (w : World) (offset : ℕ) : Type 0 where
   pub flipped : w.flipped (head w + offset) ≡ true
   pub reserved : head w + offset < tail w
 
--- So is what the last test found.
+-- The commands that the last test found are ready.
 abbrev pub FoundIsReady : Run → Type 0
 FoundIsReady run = (offset : ℕ) → offset < found_ready (trail_of Consumer run) → IsReadyAt (world run) offset
 
@@ -62,15 +62,15 @@ pub record HasHalfAt (w : World) (offset : ℕ) (half : Half) (word : ℕ) : Typ
   pub there : slice_get w.reserved (head w + offset) ≡ Some item
   pub word_is : word ≡ half_of half item.raw
 
--- What was read is so.
+-- What was read is such a half.
 abbrev pub ReadsAreOfItems : Run → Type 0
 ReadsAreOfItems run =
     (offset : ℕ) (half : Half) (word : ℕ) → half_read offset half (trail_of Consumer run) ≡ Some word → HasHalfAt (world run) offset half word
 
 -- ---- the command at the head stays there
 
--- Where a command was read at the head, a look finds that the queue isn't empty, a test that the head is ready,
--- and a read the same again.
+-- If a command was read at the head, a look finds that the queue isn't empty, a test that the head is ready,
+-- and a read the same word again.
 abbrev pub FindsAgain : Event → Trail → Type 0
 FindsAgain (Look found) es = (half : Half) (x : ℕ) → head_read half es ≡ Some x → found.prod.number ≢ found.cons.number
 FindsAgain (Test limit found) es = (half : Half) (x : ℕ) → head_read half es ≡ Some x → 1 ≤ limit → 1 ≤ found
@@ -86,7 +86,7 @@ ConsumerIsSteady = (ring : Ring) (run : Run) → IsGeometry ring.geometry → Is
 
 -- ---- the end
 
--- A look of this trail found the ring closed and nothing reserved.
+-- A look found the ring closed and nothing reserved.
 abbrev pub IsDrained : Control → Type 0
 IsDrained found = (found.closed ≡ true) × (found.prod.number ≡ found.cons.number)
 
@@ -100,6 +100,6 @@ pub record IsAllTaken (w : World) : Type 0 where
   pub closed : w.closed ≡ true
   pub whole : head w ≡ tail w
 
--- Once the consumer saw that, it is so for ever.
+-- Once the consumer saw that, it holds forever.
 abbrev pub DrainedIsTheEnd : Type 0
 DrainedIsTheEnd = (ring : Ring) (run : Run) → IsGeometry ring.geometry → IsRun ring run → SawDrained (trail_of Consumer run) → IsAllTaken (world run)

@@ -1,4 +1,4 @@
--- Ordered delivery: a fact about a list of events alone, without the world.
+-- Ordered delivery: a fact about a list of events only, without the world.
 use Rattle.std.specs.Prelude.{◌≡◌, ℕ, zero, suc, ◌≤◌, Bool, true, false, cond, ◌==◌, List, [], ◌∷◌, ◌++◌, length, Option, Some, None, slice_get}
 use Rattle.cmdcodec.specs.declared.raw.Raw.{Raw}
 use Rattle.ringcore.specs.declared.world.event.Who.TheVariants.{Sender}
@@ -25,13 +25,13 @@ abbrev pub joined : List Batch → List Raw
 joined [] = []
 joined (b ∷ bs) = commands b.sender b.number b.body ++ joined bs
 
--- the commands of the advances, in their order
+-- the commands of the advances, in order
 abbrev pub advanced : Run → List Raw
 advanced [] = []
 advanced ((who, Advance raws) ∷ xs) = advanced xs ++ raws
 advanced (x ∷ xs) = advanced xs
 
--- the numbers of a sender's batches that have one, in their order
+-- the numbers of a sender's batches that have one, in order
 abbrev pub number_of : Option ℕ → List ℕ → List ℕ
 number_of None later = later
 number_of (Some number) later = number ∷ later
@@ -40,7 +40,7 @@ abbrev pub numbers : ℕ → List Batch → List ℕ
 numbers s [] = []
 numbers s (b ∷ bs) = cond (s == b.sender) (number_of b.number (numbers s bs)) (numbers s bs)
 
--- so many numbers from this one on, each one more than that before it
+-- so many consecutive numbers, starting with this one
 abbrev pub counted : ℕ → ℕ → List ℕ
 counted first zero = []
 counted first (suc many) = first ∷ counted (suc first) many
@@ -68,8 +68,8 @@ abbrev pub NoneAfterClose : Run → Type 0
 NoneAfterClose run =
     (later earlier : Run) (s : ℕ) (body : List Raw) (number : Option ℕ) → run ≡ later ++ (Sender s, Won body number) ∷ earlier → has_close earlier ≡ false
 
--- Before these events ended a sender's batch of this number was reserved, its closing sync was taken, and so was
--- all that was reserved ahead of that sync.
+-- By the end of these events a sender's batch with this number was reserved, its closing sync was taken, and
+-- so was all that was reserved before that sync.
 pub record IsCompleted (run : Run) (s number : ℕ) : Type 0 where
   pub ahead : List Batch
   pub body : List Raw
@@ -78,12 +78,12 @@ pub record IsCompleted (run : Run) (s number : ℕ) : Type 0 where
   pub sync : slice_get (advanced run) (length (joined ahead ++ body)) ≡ Some (sync_raw s number)
   pub all_ahead : Begins (joined ahead ++ body) (advanced run)
 
--- Where an ask of a sender found a number, its batch of that number was completed before.
+-- If an ask of a sender found a number, its batch with that number was completed before.
 abbrev pub ToldWhenCompleted : Run → Type 0
 ToldWhenCompleted run =
     (later earlier : Run) (s number : ℕ) → run ≡ later ++ (Sender s, Ask number) ∷ earlier → 1 ≤ number → IsCompleted earlier s number
 
--- all of this
+-- all of these
 pub record IsOrderedDelivery (run : Run) : Type 0 where
   pub taken : TakenInOrder run
   pub numbered : NumberedInOrder run

@@ -13,14 +13,14 @@ use Rattle.ringcore.specs.world.World.{world}
 use Rattle.ringcore.specs.world.Allowed.{Ring, Allowed, IsRun}
 use Rattle.ringcore.specs.world.Laws.{OnlyOf}
 
--- A step of its own is the newest event of a seat's trail, and a step of another seat leaves it.
+-- A seat's own step is the newest event of its trail, and a step of another seat leaves the trail.
 abbrev pub StepsGrowTheirTrail : Type 0
 StepsGrowTheirTrail = (who : Who) (e : Event) (run : Run) → trail_of who ((who, e) ∷ run) ≡ e ∷ trail_of who run
 
 abbrev pub OthersLeaveTheTrail : Type 0
 OthersLeaveTheTrail = (who other : Who) (e : Event) (run : Run) → who ≢ other → trail_of who ((other, e) ∷ run) ≡ trail_of who run
 
--- The event was allowed after an earlier part of the run, in which the seat has the trail behind it.
+-- The event was allowed after an earlier part of the run, in which the seat has the trail before the event.
 pub record WasAllowed (ring : Ring) (run : Run) (who : Who) (e : Event) (before : Trail) : Type 0 where
   pub later : Run
   pub earlier : Run
@@ -30,7 +30,7 @@ pub record WasAllowed (ring : Ring) (run : Run) (who : Who) (e : Event) (before 
   pub trail_is : trail_of who earlier ≡ before
   pub allowed : Allowed ring (world earlier) before who e
 
--- The newest event of a trail was.
+-- The newest event of every trail was allowed.
 abbrev pub NewestWasAllowed : Type 0
 NewestWasAllowed =
     (ring : Ring) (run : Run) (who : Who) (e : Event) (before : Trail)
@@ -57,7 +57,7 @@ LostFoundAnother =
     (ring : Ring) (run : Run) (s : ℕ) (body : List Raw) (closes : Bool) (found : Control) (before : Trail)
     → IsGeometry ring.geometry → IsRun ring run → trail_of (Sender s) run ≡ Lost body closes found ∷ before → FoundAnother ring before found
 
--- What an ask found is no more than the batches that a sender may make.
+-- What an ask found is at most the number of batches that a sender may make.
 abbrev pub AsksFindFew : Type 0
 AsksFindFew =
     (ring : Ring) (run : Run) (s number : ℕ) (before : Trail)

@@ -1,4 +1,4 @@
--- Runs and trails, and what a seat's own trail says. Both have the newest event first.
+-- Runs and trails, both newest event first, and what a seat's own trail says.
 use Rattle.std.specs.Prelude.{◌≡◌, ℕ, suc, ◌+◌, ◌<◌, Bool, true, false, cond, ◌==◌, ◌||◌, ◌&&◌, nat_le, nat_lt, List, [], ◌∷◌, ◌++◌, length, Option, Some, None}
 use Rattle.cmdcodec.specs.declared.raw.Raw.{Raw}
 use Rattle.qindex.specs.declared.control.Control.{Control}
@@ -18,7 +18,7 @@ Trail = List Event
 abbrev pub Run : Type 0
 Run = List (Who × Event)
 
--- whether two seats, or two halves, are one
+-- whether two seats, or two halves, are the same
 abbrev pub same : Who → Who → Bool
 same Consumer Consumer = true
 same Consumer (Sender t) = false
@@ -31,7 +31,7 @@ same_half Lo Hi = false
 same_half Hi Lo = false
 same_half Hi Hi = true
 
--- A seat's trail is its own events of a run.
+-- a seat's trail: its own events in a run
 abbrev pub trail_of : Who → Run → Trail
 trail_of who [] = []
 trail_of who (x ∷ xs) = cond (same who x.0) (x.1 ∷ trail_of who xs) (trail_of who xs)
@@ -46,7 +46,7 @@ looked (Won body number ∷ es) = None
 looked (Lost body closes found ∷ es) = None
 looked (e ∷ es) = looked es
 
--- how many batches it reserved, and how many of these have a closing sync
+-- how many batches it reserved, and how many of them have a closing sync
 abbrev pub batches_made : Trail → ℕ
 batches_made [] = 0
 batches_made (Won body number ∷ es) = suc (batches_made es)
@@ -58,7 +58,7 @@ numbers_given (Won body None ∷ es) = numbers_given es
 numbers_given (Won body (Some number) ∷ es) = suc (numbers_given es)
 numbers_given (e ∷ es) = numbers_given es
 
--- how many commands a batch has: its body, and the closing sync where it has a number
+-- how many commands a batch has: its body, and the closing sync if it has a number
 abbrev pub batch_length : List Raw → Option ℕ → ℕ
 batch_length body None = length body
 batch_length body (Some number) = length body + 1
@@ -69,11 +69,11 @@ reserved_length [] = 0
 reserved_length (Won body number ∷ es) = batch_length body number
 reserved_length (e ∷ es) = reserved_length es
 
--- whether offset is one of count from first on
+-- whether offset is one of count numbers from first on
 abbrev pub is_among : ℕ → ℕ → ℕ → Bool
 is_among first count offset = nat_le first offset && nat_lt offset (first + count)
 
--- whether this place of its last reservation is written, and whether it is flipped
+-- whether this offset of its last reservation is written, and whether it is flipped
 abbrev pub has_written : ℕ → Half → Trail → Bool
 has_written offset half [] = false
 has_written offset half (Won body number ∷ es) = false
@@ -86,7 +86,7 @@ has_flipped offset (Won body number ∷ es) = false
 has_flipped offset (Flip first count ∷ es) = is_among first count offset || has_flipped offset es
 has_flipped offset (e ∷ es) = has_flipped offset es
 
--- No reservation of its is open: all of the last one is flipped.
+-- It has no open reservation: all of the last one is flipped.
 abbrev pub IsSettled : Trail → Type 0
 IsSettled es = (offset : ℕ) → offset < reserved_length es → has_flipped offset es ≡ true
 
@@ -109,7 +109,7 @@ found_ready (Test limit found ∷ es) = found
 found_ready (Advance raws ∷ es) = 0
 found_ready (e ∷ es) = found_ready es
 
--- what was read since then of the command at an offset from the head
+-- what was read since that test of the command at an offset from the head
 abbrev pub half_read : ℕ → Half → Trail → Option ℕ
 half_read offset half [] = None
 half_read offset half (Test limit found ∷ es) = None
@@ -124,7 +124,7 @@ head_read half (Advance raws ∷ es) = None
 head_read half (Read at which word ∷ es) = cond (at == 0 && same_half half which) (Some word) (head_read half es)
 head_read half (e ∷ es) = head_read half es
 
--- the commands that it took, in their order, and how many they are
+-- the commands that it took, in order, and how many there are
 abbrev pub raws_by : Trail → List Raw
 raws_by [] = []
 raws_by (Advance raws ∷ es) = raws_by es ++ raws

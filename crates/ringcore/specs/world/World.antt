@@ -1,5 +1,5 @@
--- The world: what is reserved, written, flipped, taken, acknowledged and closed, by positions that are never
--- wrapped. It is a function of the events so far.
+-- The world: what is reserved, written, flipped, taken, acknowledged and closed, by positions, which never
+-- wrap. It is a function of the events so far.
 use Rattle.std.specs.Prelude.{ℕ, suc, ◌+◌, Bool, true, false, cond, ◌==◌, ◌||◌, ◌&&◌, List, [], ◌∷◌, ◌++◌, length, map, Option, Some, None, is_none, if◌then◌else◌}
 use Rattle.cmdcodec.specs.declared.raw.Raw.{Raw}
 use Rattle.cmdcodec.specs.ClosingSync.{closing_sync}
@@ -19,19 +19,19 @@ use Rattle.ringcore.specs.world.Trails.{Run, same_half, is_among}
 
 -- ---- what is reserved
 
--- A reserved command: whose, in the batch of which number (a batch without a closing sync has none), where in
--- its batch, and its words.
+-- A reserved command: its sender, its batch's number (none without a closing sync), its place in the batch,
+-- and its words.
 pub record Item : Type 0 where
   pub sender : ℕ
   pub number : Option ℕ
   pub place : ℕ
   pub raw : Raw
 
--- the words of the CMD_SYNC that ends a sender's batch of this number
+-- the words of the CMD_SYNC that ends a sender's batch with this number
 abbrev pub sync_raw : ℕ → ℕ → Raw
 sync_raw sender number = encoding (closing_sync sender number)
 
--- the commands of a batch: its body, and the closing sync where it has a number
+-- the commands of a batch: its body, and the closing sync if it has a number
 abbrev pub commands : ℕ → Option ℕ → List Raw → List Raw
 commands sender None body = body
 commands sender (Some number) body = body ++ sync_raw sender number ∷ []
@@ -48,7 +48,7 @@ items sender number body = items_from 0 sender number (commands sender number bo
 
 -- ---- what is taken
 
--- A legal command is taken as applied, an illegal one as replaced: it has no effect.
+-- A legal command is taken as applied, an illegal one as replaced, without effect.
 abbrev pub outcome_of : Raw → Outcome
 outcome_of raw = if is_none (first_ill raw) then Applied else Replaced
 
@@ -61,7 +61,7 @@ taken_as raw = record { raw = raw; outcome = outcome_of raw }
 
 -- ---- the world
 
--- All that is so after the events so far, by positions.
+-- Everything that holds after the events so far, by positions.
 pub record World : Type 0 where
   pub reserved : List Item
   pub taken : List Taken
@@ -85,19 +85,19 @@ opening = record {
   closed = false;
 }
 
--- The positions of the tail, where the next command goes, and of the head, which is taken next:
--- SMMU_CMDQ_PROD and SMMU_CMDQ_CONS hold their indexes (circular queues).
+-- The position of the tail, where the next command goes, and of the head, which is taken next. SMMU_CMDQ_PROD
+-- and SMMU_CMDQ_CONS hold their indexes (circular queues).
 abbrev pub tail : World → ℕ
 tail w = length w.reserved
 
 abbrev pub head : World → ℕ
 head w = length w.taken
 
--- f, but for this one of which it is x
+-- f, except that it is x at `at`
 abbrev pub with_at : ℕ → ℕ → (ℕ → ℕ) → ℕ → ℕ
 with_at at x f n = cond (n == at) x (f n)
 
--- The world after an event. What isn't named stays.
+-- The world after an event. Everything not mentioned stays.
 abbrev pub after : World → Who → Event → World
 after w (Sender s) (Won body number) = record w { reserved = w.reserved ++ items s number body; start = with_at s (tail w) w.start }
 after w (Sender s) (Write offset half) =

@@ -5,8 +5,8 @@ ghost use Rattle.ringcore.specs.world.World.{commands};
 
 use cmdcodec::{Raw, RawList, closing_sync, encode};
 
-/// The commands of a sender's batch: a body of at most 63, and behind it the closing sync of this number, if
-/// there is one.
+/// Returns the commands of a sender's batch: a body of at most 63, followed by the closing sync with this
+/// number, if there is one.
 pub fn batch_commands(sender: u32, body: &[Raw], number: Option<u32>) -> RawList
     requires sender { sender < most_senders }
     requires body { length body.now ≤ 63 }
@@ -17,7 +17,7 @@ pub fn batch_commands(sender: u32, body: &[Raw], number: Option<u32>) -> RawList
     commands
 }
 
-/// Leaves the commands of a sender's batch in a list, and no others.
+/// Fills a list with exactly the commands of a sender's batch.
 pub(crate) fn fill_with_batch(list: &mut RawList, sender: u32, body: &[Raw], number: Option<u32>)
     requires sender { sender < most_senders }
     requires body { length body.now ≤ 63 }

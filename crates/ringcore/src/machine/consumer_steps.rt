@@ -1,4 +1,4 @@
-//! The steps of the consumer, and what a sender asks of it.
+//! The steps of the consumer, and a sender's ask.
 ghost use Rattle.std.specs.Prelude.{◌≡◌, ◌<◌, ◌≤◌, ◌==◌, ℕ, Some, None, Ok, IfOk, IfErr};
 ghost use Rattle.qindex.specs.Positions.{size};
 ghost use Rattle.ringcore.specs.declared.machine.step.Step.TheVariants.{Look, Test, Read, Advance, Acknowledge, Ask};
@@ -19,9 +19,9 @@ impl Core {
         Seen::Word(self.control())
     }
 
-    /// A load of the head's flag word, which looks at so many flags at most.
+    /// A load of the head's flag word, which looks at `count` flags at most.
     ///
-    /// Errors: F8 where there is no such slot, and for a count that isn't 1 to 64; F5 where the slot isn't the head's.
+    /// Errors: F8 if there is no such slot, or the count isn't 1 to 64; F5 if the slot isn't the head's.
     #[inline]
     pub fn test(&mut self, slot: u32, count: u32) -> Result<Seen, StepFault>
         ensures { IsTakenOrRefused self.old self.new (Test slot count) result }
@@ -36,10 +36,10 @@ impl Core {
         Ok(Seen::Ready(found))
     }
 
-    /// A load of the word for a half of a slot: 0 (lo) or 1 (hi).
+    /// A load of a half of a slot: 0 (lo) or 1 (hi).
     ///
-    /// Errors: F8 where there is no such slot or half; F5 where the slot is neither the head's nor one that the last test
-    /// found, F6 where it is the head's and nothing was found.
+    /// Errors: F8 if there is no such slot or half; F5 if the slot is neither the head's nor one that the
+    /// last test found, F6 if it is the head's and nothing was found.
     #[inline]
     pub fn read(&mut self, slot: u32, half: u32) -> Result<Seen, StepFault>
         ensures { IsTakenOrRefused self.old self.new (Read slot half) result }
@@ -52,9 +52,10 @@ impl Core {
         Ok(Seen::Half(word))
     }
 
-    /// An exclusive or of the control word, to take so many commands.
+    /// An exclusive or of the control word, to take `count` commands.
     ///
-    /// Errors: F8 for a count that isn't 1 to 64; F6 for more than the last test found, F4 where a half isn't read.
+    /// Errors: F8 if the count isn't 1 to 64; F6 if it is more than the last test found, F4 if a half isn't
+    /// read.
     #[inline]
     pub fn advance(&mut self, count: u32) -> Result<Seen, StepFault>
         ensures { IsTakenOrRefused self.old self.new (Advance count) result }
@@ -74,7 +75,7 @@ impl Core {
 
     /// A load of the sender's completion cell.
     ///
-    /// Errors: F8 where there is no such sender.
+    /// Errors: F8 if there is no such sender.
     pub fn ask(&mut self, sender: u32) -> Result<Seen, StepFault>
         ensures { IsTakenOrRefused self.old self.new (Ask sender) result }
     {
@@ -85,9 +86,9 @@ impl Core {
         Ok(Seen::Done(self.done(sender)))
     }
 
-    /// A store of a closing sync's number in its sender's completion cell.
+    /// A store of a closing sync's number into its sender's completion cell.
     ///
-    /// Errors: F8 where there is no such sender; F7 for a number that isn't the next one, or whose sync isn't taken.
+    /// Errors: F8 if there is no such sender; F7 if the number isn't the next one, or its sync isn't taken.
     pub fn acknowledge(&mut self, sender: u32, number: u32) -> Result<Seen, StepFault>
         ensures { IsTakenOrRefused self.old self.new (Acknowledge sender number) result }
     {
@@ -100,14 +101,14 @@ impl Core {
         Ok(Seen::Acknowledged)
     }
 
-    /// Whether a slot is that of the head.
+    /// Whether the slot is the head's.
     fn is_head(&self, slot: u32) -> bool
         ensures { AfterEachRun self.now (λ run. result ≡ is_head (ring_of self.now) run slot) }
     {
         self.control().cons.place() == slot
     }
 
-    /// Why a test is refused, if it is.
+    /// Returns why a test is refused, or `None` if it isn't.
     fn test_fault(&self, slot: u32, count: u32) -> Option<StepFault>
         ensures { AfterEachRun self.now (λ run. result ≡ fault_of (ring_of self.now) run (Test slot count)) }
     {
@@ -121,7 +122,7 @@ impl Core {
         }
     }
 
-    /// The offset from the head of a slot of which a half may be read.
+    /// Returns the offset from the head of a slot, if a half of it may be read.
     fn read_offset(&self, slot: u32, half: u32) -> Result<u32, StepFault>
         ensures few { IfOk result (λ offset. offset < 64) }
         ensures within { IfOk result (λ offset. offset ≤ size self.now.words.geometry) }
@@ -142,7 +143,7 @@ impl Core {
         }
     }
 
-    /// Why an advance is refused, if it is.
+    /// Returns why an advance is refused, or `None` if it isn't.
     fn advance_fault(&self, count: u32) -> Option<StepFault>
         ensures { AfterEachRun self.now (λ run. result ≡ fault_of (ring_of self.now) run (Advance count)) }
     {
@@ -152,7 +153,7 @@ impl Core {
         self.consumer.advance_fault(count)
     }
 
-    /// The number in a sender's completion cell.
+    /// Returns the number in a sender's completion cell.
     fn done(&self, sender: u32) -> u32
         requires { sender < self.now.words.senders }
         ensures { AfterEachRun self.now (λ run. result ≡ (world run).acknowledged sender) }
@@ -162,7 +163,7 @@ impl Core {
         self.words.acknowledged(sender) as u32
     }
 
-    /// Why an acknowledgement is refused, if it is.
+    /// Returns why an acknowledgement is refused, or `None` if it isn't.
     fn acknowledge_fault(&self, sender: u32, number: u32) -> Option<StepFault>
         ensures { AfterEachRun self.now (λ run. result ≡ fault_of (ring_of self.now) run (Acknowledge sender number)) }
     {
@@ -182,7 +183,7 @@ impl Core {
     }
 }
 
-/// Whether a step may name so many slots in a row: 1 to 64.
+/// Whether a step may name this many slots in a row: 1 to 64.
 fn is_run_length(count: u32) -> bool
     ensures { result ≡ is_run_length count }
 {

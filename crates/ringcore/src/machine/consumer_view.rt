@@ -21,7 +21,7 @@ use cmdcodec::Raw;
 use qindex::Geometry;
 use std::marker::Model;
 
-/// The most commands that a test finds: it reads one flag word.
+/// The most commands that a test can find: it reads one flag word.
 const MOST_COMMANDS: usize = FLAGS as usize;
 
 /// What was read of a command.
@@ -31,7 +31,7 @@ pub struct ReadHalves {
     hi: Option<u64>,
 }
 
-/// A command of which nothing is read.
+/// A command with nothing read.
 const UNREAD: ReadHalves = ReadHalves { lo: None, hi: None };
 
 /// What the consumer knows at run time: how many commands are taken, how many the last test found from the
@@ -41,7 +41,7 @@ pub struct ConsumerView {
     taken: u64,
     found: u32,
     read: [ReadHalves; MOST_COMMANDS],
-    /// From this offset on nothing is read, so that no more than what was read is forgotten.
+    /// Nothing is read from this offset on, so that only what was read needs to be forgotten.
     read_end: usize,
 }
 
@@ -68,7 +68,7 @@ impl ConsumerView {
         }
     }
 
-    /// How many commands are taken: the position of the head.
+    /// Returns how many commands are taken: the position of the head.
     pub fn taken(&self) -> u64
         ensures value { result ≡ self.now.taken }
         ensures head { WhereConsumerKnows self.now (λ run mine. result ≡ head (world run)) }
@@ -76,7 +76,8 @@ impl ConsumerView {
         self.taken
     }
 
-    /// How many from the head on the last test found, if no advance came after it.
+    /// Returns how many commands from the head on the last test found, or 0 if there was none since the last
+    /// advance.
     pub fn found(&self) -> u32
         ensures value { result ≡ self.now.found }
         ensures ready { WhereConsumerKnows self.now (λ run mine. result ≡ found_ready mine) }
@@ -84,7 +85,7 @@ impl ConsumerView {
         self.found
     }
 
-    /// Takes note of how many a test found: nothing counts as read any more.
+    /// Notes how many a test found. Nothing counts as read any more.
     pub fn tests(&mut self, found: u32)
         ensures { (run : Run) (limit : ℕ) → ConsumerKnows run self.old → ConsumerKnows ((Consumer, Test limit found) ∷ run) self.new }
     {
@@ -92,7 +93,7 @@ impl ConsumerView {
         self.forget();
     }
 
-    /// Takes note of a half that was read, at this offset from the head.
+    /// Notes a half that was read at this offset from the head.
     pub fn reads(&mut self, offset: u32, half: Half, word: u64)
         requires { offset < 64 }
         ensures { (run : Run) → ConsumerKnows run self.old → ConsumerKnows ((Consumer, Read offset half word) ∷ run) self.new }
@@ -106,7 +107,7 @@ impl ConsumerView {
         }
     }
 
-    /// The command at this offset from the head, if both halves of it were read.
+    /// Returns the command at this offset from the head if both halves of it were read.
     pub fn command(&self, offset: u32) -> Option<Raw>
         requires { offset < 64 }
         ensures value { result ≡ command_at self.now offset }
@@ -119,7 +120,7 @@ impl ConsumerView {
         })
     }
 
-    /// Takes note of an advance past so many commands: nothing counts as tested or read any more.
+    /// Notes an advance past `count` commands. Nothing counts as tested or read any more.
     pub fn advances(&mut self, count: u32)
         requires { self.old.taken + count < 2 ^ 64 }
         ensures { (run : Run) (raws : List Raw) → length raws ≡ count → ConsumerKnows run self.old → ConsumerKnows ((Consumer, Advance raws) ∷ run) self.new }
@@ -129,7 +130,7 @@ impl ConsumerView {
         self.forget();
     }
 
-    /// Counts nothing as read any more.
+    /// Forgets what was read.
     fn forget(&mut self)
         ensures same { SameButRead self.old self.new }
         ensures unread { AreUnread self.new.read }
@@ -139,7 +140,7 @@ impl ConsumerView {
         self.read_end = 0;
     }
 
-    /// The offset from the head of a slot that the last test found, if it is one.
+    /// Returns the offset from the head of a slot, if the last test found it.
     pub fn tested_offset(&self, geometry: Geometry, slot: u32) -> Option<u32>
         requires { slot < size geometry }
         ensures { (ring : Ring) → ring.geometry ≡ geometry → WhereConsumerKnows self.now (λ run mine. result ≡ tested_offset ring run slot) }
@@ -147,7 +148,7 @@ impl ConsumerView {
         offset_of_slot(geometry, self.taken, self.found, slot)
     }
 
-    /// Why an advance past so many commands is refused, if it is.
+    /// Returns why an advance past `count` commands is refused, or `None` if it isn't.
     pub fn advance_fault(&self, count: u32) -> Option<StepFault>
         requires some { 1 ≤ count }
         requires most { count ≤ 64 }

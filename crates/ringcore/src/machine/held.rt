@@ -32,7 +32,7 @@ pub(crate) fn is_held(views: &[SenderView], position: u64) -> bool
     false
 }
 
-/// Whether each of so many slots in a row is held, from this one on.
+/// Whether each of `count` slots in a row, from this one on, is held.
 pub(crate) fn slots_are_held(
     views: &[SenderView],
     geometry: Geometry,
@@ -51,7 +51,7 @@ pub(crate) fn slots_are_held(
     true
 }
 
-/// Whether each of so many positions in a row is held, from this one on.
+/// Whether each of `count` positions in a row, from this one on, is held.
 pub(crate) fn positions_are_held(views: &[SenderView], position: u64, count: u32) -> bool
     requires { position + count < 2 ^ 64 }
     ensures { (geometry : ℕ) → WhereAllKnow views.now geometry (λ ring run. result ≡ all_below count (λ k. is_held ring run (position + k))) }

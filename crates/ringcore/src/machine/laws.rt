@@ -1,4 +1,4 @@
-//! What steps are answered is what happens, and which events change what seats know.
+//! The answers to steps are what happens, and which events change what seats know.
 ghost use Rattle.ringcore.specs.machine.Played.{StepsAreAllowed, PlayedAreRuns};
 ghost use Rattle.ringcore.specs.machine.NamedSteps.{AllowedAreTaken};
 ghost use Rattle.ringcore.specs.machine.SenderViews.{OthersLeaveIt, CloseLeavesIt, AskLeavesIt};
@@ -7,9 +7,9 @@ ghost use Rattle.ringcore.specs.machine.SyncTallies.{AdvancesCount, OthersDontCo
 
 use qindex::{control_words_say_their_control, indexes_tell_the_queue};
 
-/// What a step is answered is what happens: one that has no fault is an allowed event, after any run. So
-/// whatever list of steps is played, up to the first that has a fault, what was played is a run. And whatever event is
-/// allowed, the step that asks for it has no fault and is that event.
+/// The answer to a step is what happens: a step without a fault is an allowed event, after any run. So
+/// whatever list of steps is played, up to the first with a fault, what was played is a run. And for every
+/// allowed event, the step that requests it has no fault and is that event.
 pub fn steps_law()
     ensures allowed { StepsAreAllowed }
     ensures played { PlayedAreRuns }
@@ -19,14 +19,14 @@ pub fn steps_law()
     indexes_tell_the_queue();
 }
 
-/// An event of another seat, and a close and an ask of its own, leave what a sender knows.
+/// Events of other seats, and the sender's own close and ask, leave what it knows.
 pub fn sender_view()
     ensures others { OthersLeaveIt }
     ensures close { CloseLeavesIt }
     ensures ask { AskLeavesIt }
 {}
 
-/// An event of a sender, a look and an acknowledgement leave what the consumer knows.
+/// Events of a sender, and the consumer's own look and acknowledgement, leave what it knows.
 pub fn consumer_view()
     ensures senders { SendersLeaveIt }
     ensures look { ConsumersLookLeavesIt }

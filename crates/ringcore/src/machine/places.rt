@@ -1,4 +1,4 @@
-//! Where a write and a flip go.
+//! Which commands a write and a flip are for.
 ghost use Rattle.std.specs.Prelude.{◌≡◌, ◌+◌, ◌<◌, ◌≤◌, ◌&&◌, Some, IfOk, IfErr};
 ghost use Rattle.qindex.specs.Positions.{index_of};
 ghost use Rattle.ringcore.specs.declared.machine.step.Step.TheVariants.{Write, Flip};
@@ -15,7 +15,7 @@ use crate::world::Half;
 use cmdcodec::Raw;
 use qindex::{Geometry, Index};
 
-/// The fault of what isn't the sender's own, by whether other reservations hold it.
+/// The fault of a slot that isn't the sender's own, by whether other reservations hold it.
 fn foreign(is_held: bool) -> StepFault
     ensures { Some result ≡ foreign is_held }
 {
@@ -34,7 +34,7 @@ pub fn index_of(geometry: Geometry, position: u64) -> Index
     Index::new(geometry, number as u32).unwrap()
 }
 
-/// A half by its number: 0 is lo, and any other is hi.
+/// The half with this number: 0 is lo, any other is hi.
 pub(crate) fn half_of_number(half: u32) -> Half
     ensures { result ≡ half_of_number half }
 {
@@ -52,7 +52,7 @@ pub(crate) fn half_of(half: Half, raw: Raw) -> u64
 }
 
 impl Core {
-    /// The offset of a slot in the sender's reservation, if a half of it may be written.
+    /// Returns the offset of a slot in the sender's reservation, if this half of it may be written.
     pub(super) fn write_offset(&self, sender: u32, slot: u32, half: u32) -> Result<u32, StepFault>
         ensures there { IfOk result (λ offset. sender < self.now.words.senders) }
         ensures few { IfOk result (λ offset. offset < 64) }
@@ -73,7 +73,7 @@ impl Core {
         Ok(offset)
     }
 
-    /// Whether there are this sender, and so many slots from this one on whose flags share a flag word.
+    /// Whether the sender exists, and `count` slots from this one on whose flags share a flag word.
     fn has_run(&self, sender: u32, slot: u32, count: u32) -> bool
         ensures { result ≡ (has_sender (ring_of self.now) sender && has_slot (ring_of self.now) slot && is_run_length count && share_a_word (ring_of self.now) slot count) }
     {
@@ -88,8 +88,8 @@ impl Core {
         count <= shared_word(index_of(geometry, u64::from(slot)))
     }
 
-    /// The offset of a slot in the sender's reservation, if the flags of so many slots from it on may be
-    /// flipped.
+    /// Returns the offset of a slot in the sender's reservation, if the flags of `count` slots from it on may
+    /// be flipped.
     pub(super) fn flip_offset(&self, sender: u32, slot: u32, count: u32) -> Result<u32, StepFault>
         ensures there { IfOk result (λ offset. sender < self.now.words.senders) }
         ensures few { IfOk result (λ offset. offset + count ≤ 64) }

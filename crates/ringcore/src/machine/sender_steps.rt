@@ -15,9 +15,9 @@ use qindex::{
 };
 
 impl Core {
-    /// A load of the control word: by a sender, or by the consumer where none is named.
+    /// A load of the control word, by a sender, or by the consumer if none is named.
     ///
-    /// Errors: F8 where there is no such sender.
+    /// Errors: F8 if there is no such sender.
     #[inline]
     pub fn look(&mut self, who: Option<u32>) -> Result<Seen, StepFault>
         ensures { IsTakenOrRefused self.old self.new (Look who) result }
@@ -42,7 +42,7 @@ impl Core {
 
     /// An or of the control word with the closed bit, by a sender.
     ///
-    /// Errors: F8 where there is no such sender.
+    /// Errors: F8 if there is no such sender.
     pub fn close(&mut self, sender: u32) -> Result<Seen, StepFault>
         ensures { IsTakenOrRefused self.old self.new (Close sender) result }
     {
@@ -54,10 +54,10 @@ impl Core {
         Ok(Seen::Word(self.control()))
     }
 
-    /// A store of the word that the sender's reservation has for a half of the slot: 0 (lo) or 1 (hi).
+    /// A store of a half, 0 (lo) or 1 (hi), of the command that the sender's reservation has for this slot.
     ///
-    /// Errors: F8 where there is no such sender, slot or half; F2 where no open reservation holds the slot, F1 where
-    /// another sender's does; F3 where the slot is flipped.
+    /// Errors: F8 if there is no such sender, slot or half; F2 if no open reservation holds the slot, F1 if
+    /// another sender's does; F3 if the slot is flipped.
     #[inline]
     pub fn write(&mut self, sender: u32, slot: u32, half: u32) -> Result<Seen, StepFault>
         ensures { IsTakenOrRefused self.old self.new (Write sender slot half) result }
@@ -74,11 +74,11 @@ impl Core {
         Ok(Seen::Written)
     }
 
-    /// An exclusive or of a flag word, for so many slots of the sender's reservation, from this one on.
+    /// An exclusive or of a flag word, for `count` slots of the sender's reservation, from this one on.
     ///
-    /// Errors: F8 where there is no such sender or slot, for a count that isn't 1 to 64 or is above the ring's size, and
-    /// where the slots leave their flag word; F2 where no open reservation holds one of them, F1 where others' hold all;
-    /// F3 where one is flipped, F4 where a half isn't written.
+    /// Errors: F8 if there is no such sender or slot, if the count isn't 1 to 64 or is above the ring's size,
+    /// or if the slots leave their flag word; F2 if no open reservation holds one of them, F1 if others' hold
+    /// all; F3 if one is flipped, F4 if a half isn't written.
     #[inline]
     pub fn flip(&mut self, sender: u32, slot: u32, count: u32) -> Result<Seen, StepFault>
         ensures { IsTakenOrRefused self.old self.new (Flip sender slot count) result }
@@ -95,12 +95,12 @@ impl Core {
         Ok(Seen::Flipped(new_flags(geometry, first, count)))
     }
 
-    /// An exchange of the control word that the sender looked at, to reserve these commands: with a closing sync behind
-    /// them, or without.
+    /// An exchange of the control word that the sender looked at, to reserve these commands, with or without
+    /// a closing sync after them.
     ///
-    /// Errors: F8 where there is no such sender; F10 with a reservation open, or with all batches made; F11 for a body
-    /// of none, of more than 63, or with a CMD_SYNC; F9 without a look since the last exchange, and where by that look
-    /// the ring is closed or has no room.
+    /// Errors: F8 if there is no such sender; F10 if a reservation is open or all batches are made; F11 if
+    /// the body is empty, has more than 63 commands, or has a CMD_SYNC; F9 if there was no look since the
+    /// last exchange, or if by that look the ring is closed or has no room.
     pub fn reserve(&mut self, sender: u32, body: &[Raw], closes: bool) -> Result<Seen, StepFault>
         ensures { IsTakenOrRefused self.old self.new (reserving sender body.now closes) result }
     {
@@ -122,7 +122,7 @@ impl Core {
         }
     }
 
-    /// Reserves a batch where the control word is the one that the sender looked at.
+    /// Reserves a batch: the control word is the one that the sender looked at.
     fn win(&mut self, sender: u32, body: &[Raw], closes: bool, found: &Control) -> Seen
         requires there { sender < self.old.words.senders }
         requires accepted { HasNoFault self.old (reserving sender body.now closes) (λ run. FindsControl self.old run sender found.now true) }
@@ -147,7 +147,7 @@ impl Core {
         }
     }
 
-    /// Reserves nothing where the control word is another.
+    /// Reserves nothing: the control word is another.
     fn lose(&mut self, sender: u32, body: &[Raw], closes: bool, found: &Control) -> Seen
         requires there { sender < self.old.words.senders }
         requires accepted { HasNoFault self.old (reserving sender body.now closes) (λ run. FindsControl self.old run sender found.now false) }

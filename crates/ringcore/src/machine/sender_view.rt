@@ -29,7 +29,7 @@ use cmdcodec::{MOST_BATCH_COMMANDS, MOST_BATCHES, MOST_BODY_COMMANDS, Raw, RawLi
 use qindex::{Control, Geometry};
 use std::marker::Model;
 
-/// How far a command of a reservation is.
+/// What is done of a command of a reservation.
 #[derive(Clone, Copy)]
 pub struct Progress {
     lo: bool,
@@ -37,7 +37,7 @@ pub struct Progress {
     flipped: bool,
 }
 
-/// A command of which nothing is done.
+/// A command with nothing done.
 const UNTOUCHED: Progress = Progress {
     lo: false,
     hi: false,
@@ -45,7 +45,7 @@ const UNTOUCHED: Progress = Progress {
 };
 
 /// What one sender knows at run time: what it looked at since its last exchange, how many batches it made,
-/// and where its last reservation is, what that holds and how far it is.
+/// where its last reservation starts, and what that holds and how far it is.
 #[derive(Drop)]
 pub struct SenderView {
     looked: Option<Control>,
@@ -81,22 +81,22 @@ impl SenderView {
         }
     }
 
-    /// Takes note of what a look found.
+    /// Notes what a look found.
     pub fn looks(&mut self, found: &Control)
         ensures { (run : Run) (s : ℕ) → Knows run s self.old → Knows ((Sender s, Look found.now) ∷ run) s self.new }
     {
         self.looked = Some(*found);
     }
 
-    /// Takes note of an exchange that was lost: what it looked at is used up.
+    /// Notes an exchange that was lost: the look before it is used up.
     pub fn loses(&mut self)
         ensures { (run : Run) (s : ℕ) (body : List Raw) (closes : Bool) (found : Control) → Knows run s self.old → Knows ((Sender s, Lost body closes found) ∷ run) s self.new }
     {
         self.looked = None;
     }
 
-    /// Takes note of a batch that was reserved from this position on, and answers the number of its
-    /// closing sync, if it has one.
+    /// Notes a batch that was reserved from this position on, and returns the number of its closing sync, if
+    /// it has one.
     pub fn wins(&mut self, sender: u32, body: &[Raw], closes: bool, start: u64) -> Option<u32>
         requires sender { sender < most_senders }
         requires body { length body.now ≤ 63 }
@@ -114,7 +114,7 @@ impl SenderView {
         number
     }
 
-    /// Takes note of a half of its reservation that is written.
+    /// Notes a half of its reservation that is written.
     pub fn writes(&mut self, offset: u32, half: Half)
         requires { offset < 64 }
         ensures { (run : Run) (s : ℕ) → Knows run s self.old → Knows ((Sender s, Write offset half) ∷ run) s self.new }
@@ -125,7 +125,7 @@ impl SenderView {
         }
     }
 
-    /// Takes note of so many commands of its reservation, from this offset on, that are flipped.
+    /// Notes `count` commands of its reservation, from this offset on, that are flipped.
     pub fn flips(&mut self, offset: u32, count: u32)
         requires { offset + count ≤ 64 }
         ensures { (run : Run) (s : ℕ) → Knows run s self.old → Knows ((Sender s, Flip offset count) ∷ run) s self.new }
@@ -133,14 +133,14 @@ impl SenderView {
         mark_flipped(&mut self.progress, offset as usize, count as usize);
     }
 
-    /// How many batches it made.
+    /// Returns how many batches it made.
     pub fn batches(&self) -> u32
         ensures { WhereKnown self.now (λ run s mine. result ≡ batches_made mine) }
     {
         self.batches
     }
 
-    /// How many commands its last reservation has.
+    /// Returns how many commands its last reservation has.
     pub fn len(&self) -> u32
         ensures reservation { WhereKnown self.now (λ run s mine. result ≡ reserved_length mine) }
         ensures commands { result ≡ length self.now.commands }
@@ -149,7 +149,7 @@ impl SenderView {
         self.commands.as_slice().len() as u32
     }
 
-    /// The position at which its last reservation starts.
+    /// Returns the position at which its last reservation starts.
     pub fn start(&self) -> u64
         ensures { WhereKnown self.now (λ run s mine. result ≡ (world run).start s) }
     {
@@ -171,7 +171,7 @@ impl SenderView {
         self.is_open() && self.start <= position && position - self.start < u64::from(self.len())
     }
 
-    /// The offset of a slot in its open reservation, if that holds the slot.
+    /// Returns the offset of a slot in its open reservation, if that holds the slot.
     pub fn offset_of(&self, geometry: Geometry, slot: u32) -> Option<u32>
         requires { slot < size geometry }
         ensures offset { (ring : Ring) → ring.geometry ≡ geometry → WhereKnown self.now (λ run s mine. result ≡ own_offset ring run s slot) }
@@ -184,7 +184,7 @@ impl SenderView {
         }
     }
 
-    /// Whether any of so many commands of its reservation, from this offset on, is flipped.
+    /// Whether any of `count` commands of its reservation, from this offset on, is flipped.
     pub fn any_flipped(&self, offset: u32, count: u32) -> bool
         requires { offset + count ≤ 64 }
         ensures { WhereKnown self.now (λ run s mine. offset + count ≤ reserved_length mine → result ≡ some_below count (λ k. has_flipped (offset + k) mine)) }
@@ -193,7 +193,7 @@ impl SenderView {
         any_flipped(&self.progress[offset..offset + count as usize])
     }
 
-    /// Whether both halves of each of so many commands of its reservation, from this offset on, are written.
+    /// Whether both halves of each of `count` commands of its reservation, from this offset on, are written.
     pub fn all_written(&self, offset: u32, count: u32) -> bool
         requires { offset + count ≤ 64 }
         ensures { WhereKnown self.now (λ run s mine. offset + count ≤ reserved_length mine → result ≡ all_below count (λ k. has_written (offset + k) Lo mine && has_written (offset + k) Hi mine)) }
@@ -202,7 +202,7 @@ impl SenderView {
         all_written(&self.progress[offset..offset + count as usize])
     }
 
-    /// The command at an offset of its reservation.
+    /// Returns the command at this offset of its reservation.
     pub fn command(&self, offset: u32) -> Raw
         requires { offset < length self.now.commands }
         ensures { WhereKnown self.now (λ run s mine. slice_get (reserved_commands s mine) offset ≡ Some result) }
@@ -220,7 +220,7 @@ impl SenderView {
         }
     }
 
-    /// The number of the closing sync of its next batch, if that has one.
+    /// Returns the number of the closing sync of its next batch, if that has one.
     pub fn next_number(&self, closes: bool) -> Option<u32>
         requires { self.now.batches < most_batches }
         ensures { WhereKnown self.now (λ run s mine. result ≡ next_number mine closes) }
@@ -228,7 +228,8 @@ impl SenderView {
         if closes { Some(self.numbers + 1) } else { None }
     }
 
-    /// Why a reserve of this body is refused, if it is. What it looked at is of this geometry.
+    /// Returns why a reserve of this body is refused, or `None` if it isn't. What it looked at must be of
+    /// this geometry.
     pub fn reserve_fault(&self, geometry: Geometry, body: &[Raw], closes: bool) -> Option<StepFault>
         requires { (found : Control) → self.now.looked ≡ Some found → IsControl geometry found }
         ensures { (ring : Ring) → ring.geometry ≡ geometry → ring.max_batches ≡ most_batches → WhereKnown self.now (λ run s mine. result ≡ reserve_fault ring mine body.now closes) }
@@ -266,7 +267,7 @@ fn all_written(commands: &[Progress]) -> bool
     commands.iter().all(|command| command.lo && command.hi)
 }
 
-/// Marks so many commands, from the first one on, as flipped.
+/// Marks `count` commands, from `first` on, as flipped.
 fn mark_flipped(commands: &mut [Progress], first: usize, count: usize)
     requires { first + count ≤ length commands.old }
     ensures { AreFlipped commands.old commands.new first count }
@@ -292,7 +293,7 @@ fn any_sync(body: &[Raw]) -> bool
     body.iter().any(|raw| raw.is_sync())
 }
 
-/// Whether by this look there is room for so many commands, and the ring is open.
+/// Whether by this look the ring is open and has room for this many commands.
 fn has_room(geometry: Geometry, looked: &Option<Control>, many: u32) -> bool
     requires few { many ≤ 64 }
     requires control { (found : Control) → looked.now ≡ Some found → IsControl geometry found }

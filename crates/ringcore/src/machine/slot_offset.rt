@@ -5,7 +5,8 @@ ghost use Rattle.ringcore.specs.machine.Open.{first_below};
 
 use qindex::Geometry;
 
-/// The offset from this position of the first of so many positions in a row that stands in the slot.
+/// Returns the offset from `position` of the first of `many` positions in a row that is in the slot, or
+/// `None` if none is.
 pub(crate) fn offset_of_slot(geometry: Geometry, position: u64, many: u32, slot: u32) -> Option<u32>
     requires { slot < size geometry }
     ensures inside { IfSome result (λ offset. offset < many) }

@@ -1,35 +1,34 @@
-//! The steps that a seat may ask for, by the slots that they name, and how they are answered.
+//! The steps that a seat may request, by slots, and their answers.
 use cmdcodec::RawList;
 use qindex::{Control, Index};
 
-/// One atomic step, before it is known what it finds. Slots are places in the ring, halves are 0 (lo) and
-/// 1 (hi), and counts are of 1 to 64 slots in a row.
+/// One atomic step, before it is known what it finds. Slots are places in the ring, halves are 0 (lo) and 1
+/// (hi), and counts are of 1 to 64 slots in a row.
 #[derive(Debug, Drop)]
 pub enum Step {
-    /// A look at the control word: by a sender, or by the consumer where none is named.
+    /// A look at the control word, by a sender, or by the consumer if none is named.
     Look {
         who: Option<u32>,
     },
-    /// An exchange of the control word, to reserve these commands: with a closing sync behind them, or
-    /// without.
+    /// An exchange of the control word, to reserve these commands, with or without a closing sync after them.
     Reserve {
         sender: u32,
         body: RawList,
         closes: bool,
     },
-    /// A store of the word that the sender's reservation has for this half of a slot.
+    /// A store of this half of the command that the sender's reservation has for this slot.
     Write {
         sender: u32,
         slot: u32,
         half: u32,
     },
-    /// An exclusive or of a flag word, for so many slots from this one on.
+    /// An exclusive or of a flag word, for `count` slots from this one on.
     Flip {
         sender: u32,
         slot: u32,
         count: u32,
     },
-    /// A load of the head's flag word, which looks at so many flags at most.
+    /// A load of the head's flag word, which looks at `count` flags at most.
     Test {
         slot: u32,
         count: u32,
@@ -39,7 +38,7 @@ pub enum Step {
         slot: u32,
         half: u32,
     },
-    /// An exclusive or of the control word, to take so many commands.
+    /// An exclusive or of the control word, to take `count` commands.
     Advance {
         count: u32,
     },
@@ -47,7 +46,7 @@ pub enum Step {
     Close {
         sender: u32,
     },
-    /// A store of a closing sync's number in its sender's completion cell.
+    /// A store of a closing sync's number into its sender's completion cell.
     Acknowledge {
         sender: u32,
         number: u32,
@@ -58,14 +57,14 @@ pub enum Step {
     },
 }
 
-/// What a step was answered.
+/// The answer to a step.
 #[derive(Clone, Copy, Debug, PartialEq, Eq)]
 pub enum Seen {
-    /// The control word: of a look as it was found, of an advance or a close as it is after.
+    /// The control word, as a look found it, or as it is after an advance or a close.
     Word(Control),
     /// A reservation was won: the index of its first slot, and the number of its closing sync, if it has one.
     Reserved { first: Index, number: Option<u32> },
-    /// Another control word was found than the one looked at.
+    /// The exchange found this control word and not the one looked at.
     Lost(Control),
     /// The word is written.
     Written,

@@ -4,8 +4,8 @@ ghost use Rattle.ringcore.specs.machine.FaultNames.{label_of};
 
 use thiserror::Error;
 
-/// Why a step was refused (own). The first that applies is told, in the order F8, F10, F11, F9, F2, F1, F3,
-/// F5, F6, F4, F7.
+/// Why a step was refused (own): the first fault that applies, in the order F8, F10, F11, F9, F2, F1, F3, F5,
+/// F6, F4, F7.
 #[derive(Clone, Copy, Debug, PartialEq, Eq, Error)]
 pub enum StepFault {
     /// F1: a write or a flip of a slot that another sender's open reservation holds.
@@ -38,13 +38,13 @@ pub enum StepFault {
     /// F10: a reserve with a reservation open, or with all batches made.
     #[error("F10: a reservation is open, or no batch is left")]
     NotSettled,
-    /// F11: a body of none, of more than 63, or with a CMD_SYNC.
+    /// F11: a body that is empty, has more than 63 commands, or has a CMD_SYNC.
     #[error("F11: none, too many, or a CMD_SYNC inside")]
     BadBody,
 }
 
 impl StepFault {
-    /// Its label alone, `F1` to `F11`.
+    /// Returns its label, `F1` to `F11`.
     pub fn label(self) -> &'static str
         ensures { result.now ≡ label_of self }
     {

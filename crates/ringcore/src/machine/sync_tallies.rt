@@ -1,4 +1,4 @@
-//! How many closing syncs of each sender are taken.
+//! Counts of the closing syncs taken, per sender.
 ghost use Rattle.std.specs.Prelude.{◌≡◌, ◌+◌, ◌<◌, ◌≤◌, ◌^◌, ◌==◌, ℕ, List, [], ◌∷◌, false, length, replicate, slice_index, IfOk, MatchOption};
 ghost use Rattle.ringcore.specs.world.Laws.{is_sync_to, syncs_in};
 ghost use Rattle.ringcore.specs.machine.ConsumerViews.{commands_read};
@@ -9,8 +9,7 @@ use cmdcodec::{Raw, cell_owner};
 use std::alloc::{AllocError, Global};
 use std::marker::Model;
 
-/// How many closing syncs of each sender the consumer took: those up to this number are the ones that it may
-/// acknowledge.
+/// How many closing syncs of each sender the consumer took. It may acknowledge numbers up to this one.
 #[derive(Drop)]
 pub struct SyncTallies {
     counts: Vec<u32>,
@@ -25,9 +24,9 @@ impl Model for SyncTallies {
 }
 
 impl SyncTallies {
-    /// No syncs yet, of so many senders.
+    /// Tallies for this many senders, with no syncs yet.
     ///
-    /// Errors: out of memory.
+    /// Errors: memory runs out.
     pub fn new(alloc: Global, senders: u32) -> Result<SyncTallies, AllocError>
         ensures none { IfOk result (λ tallies. tallies ≡ replicate senders 0) }
         ensures begins { IfOk result (λ tallies. AreTallies [] tallies) }
@@ -37,7 +36,7 @@ impl SyncTallies {
         })
     }
 
-    /// How many syncs of a sender are taken.
+    /// Returns how many syncs of a sender are taken.
     pub fn of(&self, sender: u32) -> u32
         requires { sender < length self.now }
         ensures { result ≡ slice_index self.now sender }
@@ -45,7 +44,7 @@ impl SyncTallies {
         self.counts[sender as usize]
     }
 
-    /// Takes note of a command that is taken.
+    /// Counts a command that is taken.
     pub fn takes(&mut self, raw: Raw)
         requires { (s : ℕ) → s < length self.old → slice_index self.old s + syncs_in s (raw ∷ []) < 2 ^ 32 }
         ensures { AreCounted self.old self.new (raw ∷ []) }
@@ -57,7 +56,8 @@ impl SyncTallies {
         }
     }
 
-    /// Takes note of the commands that are taken: those that the consumer read of so many from the head on.
+    /// Counts the commands that are taken: those of the first `count` from the head on that the consumer
+    /// read.
     pub fn takes_read(&mut self, consumer: &ConsumerView, count: u32)
         requires most { count ≤ 64 }
         requires counts { (s : ℕ) → s < length self.old → slice_index self.old s + syncs_in s (commands_read consumer.now count) < 2 ^ 32 }
@@ -71,7 +71,7 @@ impl SyncTallies {
     }
 }
 
-/// Whose closing sync a command is, if it is one.
+/// Returns the sender whose closing sync the command is, if it is one.
 fn sender_of(raw: Raw) -> Option<u64>
     ensures { MatchOption result ((s : ℕ) → is_sync_to s raw ≡ false) (λ sender. (s : ℕ) → is_sync_to s raw ≡ (s == sender)) }
 {

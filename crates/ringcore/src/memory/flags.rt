@@ -1,5 +1,6 @@
 //! Flags of positions as bits of their flag word (own): the mask that flips a run of them, and how many in a
-//! row are flipped. Rings of at most 64 slots have one flag word, so there a run may go on past the last place.
+//! row are flipped. Rings of at most 64 slots have one flag word, in which a run may continue past the last
+//! place.
 ghost use Rattle.std.specs.Prelude.{◌≡◌, ◌≢◌, ◌↔◌, ℕ, ◌+◌, ◌-◌, ◌<◌, ◌≤◌, ◌^◌, ◌==◌};
 ghost use Rattle.std.specs.Int.{bit_at};
 ghost use Rattle.qindex.specs.Positions.{size, index_of};
@@ -12,7 +13,7 @@ ghost use Rattle.ringcore.specs.memory.Flags.{polarity, shared_word, IsFlipMask,
 use crate::limits::FLAGS;
 use qindex::{Geometry, Index, indexes_tell_place_and_wrap_bit};
 
-/// The bit by which the flag of an index says that it is flipped: set on even laps (own).
+/// Returns the bit by which the flag of an index says that it is flipped: set on even laps (own).
 pub fn polarity(index: Index) -> bool
     ensures value { result ≡ (polarity index.geometry index.number == 1) }
     ensures position { (geometry position : ℕ) → index ≡ index_of geometry position → result ≡ (polarity geometry position == 1) }
@@ -20,7 +21,7 @@ pub fn polarity(index: Index) -> bool
     !index.wrap()
 }
 
-/// How many indexes from this one on have their flags in its flag word, at most the size.
+/// Returns how many indexes from this one on have their flags in its flag word, at most the ring's size.
 pub fn shared_word(first: Index) -> u32
     ensures share { ShareAWord flags_a_word first.geometry first.number result }
     ensures share_at_position { (geometry position : ℕ) → first ≡ index_of geometry position → ShareAWord flags_a_word geometry position result }
@@ -39,7 +40,7 @@ pub fn shared_word(first: Index) -> u32
     }
 }
 
-/// The mask that flips the flags of `count` indexes from this one on, 1 to 64 that share a flag word.
+/// Returns the mask that flips the flags of `count` indexes from this one on, 1 to 64 that share a flag word.
 pub fn flip_mask(first: Index, count: u32) -> u64
     requires some { 1 ≤ count }
     requires within { count ≤ size first.geometry }
@@ -58,7 +59,7 @@ pub fn flip_mask(first: Index, count: u32) -> u64
     }
 }
 
-/// The new flags of `count` positions from this one on, 1 to 64, that of the first in bit 0.
+/// Returns the new flags of `count` positions from this one on, 1 to 64, with that of the first in bit 0.
 pub fn new_flags(geometry: Geometry, position: u64, count: u32) -> u64
     requires some { 1 ≤ count }
     requires most { count ≤ 64 }
@@ -79,8 +80,8 @@ fn new_flag(geometry: Geometry, position: u64) -> u64
     1 - position / u64::from(geometry.size()) % 2
 }
 
-/// How many indexes in a row, from the head's on, its flag word says to be flipped: at most `limit`, and as far
-/// as their flags stand in it.
+/// Returns how many indexes in a row, from the head's on, are flipped according to its flag word: at most
+/// `limit`, and as far as their flags are in that word.
 pub fn ready_run(word: u64, head: Index, limit: u32) -> u32
     ensures value { IsReadyRun head.geometry word head.number limit result }
     ensures position { (geometry position : ℕ) → head ≡ index_of geometry position → IsReadyRun geometry word position limit result }
@@ -96,7 +97,7 @@ pub fn ready_run(word: u64, head: Index, limit: u32) -> u32
         .min(to_end)
         .min(limit);
     if size <= FLAGS && here == to_end {
-        // The same flag word goes on with the next lap.
+        // The same flag word continues with the next lap.
         here + equal_bits(word, 0, !polarity).min(limit - here)
     } else {
         here
@@ -112,7 +113,7 @@ fn stretch(first: u32, count: u32) -> u64
     u64::MAX >> (FLAGS - count) << first
 }
 
-/// How many bits of the word in a row, from `first` on, are as `polarity` says.
+/// Returns how many bits of the word in a row, from `first` on, equal `polarity`.
 fn equal_bits(word: u64, first: u32, polarity: bool) -> u32
     requires { first < flags_a_word }
     ensures within { first + result ≤ flags_a_word }

@@ -40,7 +40,7 @@ pub fn reserve_lost()
     indexes_tell_the_queue();
 }
 
-/// A store in the data word writes a half of a reserved command.
+/// A store to the data word writes a half of a reserved command.
 pub fn write()
     ensures { Always WritesByAStore }
 {
@@ -61,8 +61,8 @@ pub fn test()
     indexes_tell_place_and_wrap_bit();
 }
 
-/// A flag word has one ready run, which is a function of the word and no longer than the ring: so a load of
-/// the head's flag word finds just that.
+/// A flag word has one ready run, which is a function of the word and no longer than the ring. A load of the
+/// head's flag word finds exactly that.
 pub fn ready_runs()
     ensures function { ReadyInIsAReadyRun }
     ensures one { ReadyRunsAreOne }
@@ -94,22 +94,23 @@ pub fn close()
     indexes_tell_the_queue();
 }
 
-/// A store in the sender's completion cell acknowledges a number.
+/// A store to the sender's completion cell acknowledges a number.
 pub fn acknowledge()
     ensures { Always AcknowledgesByAStore }
 {}
 
-/// A load of the sender's completion cell finds the number that is acknowledged.
+/// A load of the sender's completion cell finds the acknowledged number.
 pub fn ask()
     ensures { Always AsksByALoad }
 {}
 
-/// A word that is stored back leaves all words: so a load, and an exchange that is lost, is a store as well.
+/// Storing a word back changes nothing, so a load, or a lost exchange, is also a store.
 pub fn stored_back()
     ensures { StoredBackIsTheSame }
 {}
 
-/// The control word, the flag words, the data words and each completion cell share no 64 bytes.
+/// The control word, the flag words, the data words and each completion cell don't share 64 bytes with one
+/// another.
 pub fn apart()
     ensures { WordsAreApart }
 {}
@@ -119,8 +120,9 @@ pub fn start()
     ensures { Always StartsWhereItLooked }
 {}
 
-/// A sender's own trail tells its last reservation: where it starts, its commands, and what of them is written
-/// and flipped. No two senders' have a position in common, and the flags of one stand in two words at most.
+/// A sender's own trail tells its last reservation: where it starts, its commands, and which of them are
+/// written and flipped. No two senders' have a position in common, and the flags of one are in at most two
+/// words.
 pub fn sender_trail()
     ensures length { LengthsAreOfCommands }
     ensures start { StartsAtItsIndex }

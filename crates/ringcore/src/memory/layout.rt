@@ -1,5 +1,5 @@
-//! Which word is where among the words of a ring. The control word, the flag words, the data words and each
-//! completion cell share no 64 bytes (own).
+//! Where each word of a ring is. The control word, the flag words, the data words and each completion cell
+//! don't share 64 bytes with one another (own).
 ghost use Rattle.std.specs.Prelude.{◌≡◌, ℕ, ◌≤◌, ◌^◌};
 ghost use Rattle.qindex.specs.Positions.{index_of};
 ghost use Rattle.ringcore.specs.Limits.{most_senders};
@@ -9,7 +9,7 @@ use crate::limits::FLAGS;
 use crate::world::Half;
 use qindex::{Geometry, Index};
 
-/// How many unused words follow a part, so that the next one starts 64 bytes on or later.
+/// The number of unused words after each part, so that the next one starts 64 bytes further on or later.
 const UNUSED: usize = 7;
 
 /// The word that holds both indexes and the closed bit (own).
@@ -27,7 +27,7 @@ pub fn flag_word(index: Index) -> usize
     control_word() + 1 + UNUSED + (index.place() / FLAGS) as usize
 }
 
-/// The word that holds a half of the command of an index (own).
+/// The word that holds a half of the command at an index (own).
 pub fn data_word(index: Index, half: Half) -> usize
     ensures value { result ≡ data_word index.geometry index.number half }
     ensures position { (geometry position : ℕ) → index ≡ index_of geometry position → result ≡ data_word geometry position half }
@@ -35,7 +35,7 @@ pub fn data_word(index: Index, half: Half) -> usize
     first_data_word(index.geometry()) + 2 * index.place() as usize + half_number(half)
 }
 
-/// The word that is a sender's completion cell. `sender` is at most 256 (own).
+/// The word that is a sender's completion cell (own). `sender` is at most 256.
 pub fn cell(geometry: Geometry, sender: u32) -> usize
     requires { sender ≤ most_senders }
     ensures { result ≡ cell geometry sender }
@@ -43,7 +43,7 @@ pub fn cell(geometry: Geometry, sender: u32) -> usize
     first_cell(geometry) + sender as usize * (1 + UNUSED)
 }
 
-/// How many words of 64 bits a ring has. `senders` is at most 256 (own).
+/// Returns how many 64-bit words a ring has (own). `senders` is at most 256.
 pub fn words(geometry: Geometry, senders: u32) -> usize
     requires { senders ≤ most_senders }
     ensures { result ≡ words_of geometry senders }

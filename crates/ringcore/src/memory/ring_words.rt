@@ -36,9 +36,9 @@ impl Model for RingWords {
 }
 
 impl RingWords {
-    /// The words of a new ring of so many senders, at most 256: all 0.
+    /// The words of a new ring with this many senders, at most 256: all 0.
     ///
-    /// Errors: out of memory.
+    /// Errors: memory runs out.
     pub fn new(alloc: Global, geometry: Geometry, senders: u32) -> Result<RingWords, AllocError>
         requires { senders ≤ most_senders }
         ensures { IfOk result (λ w. w ≡ record { geometry = geometry; senders = senders; words = replicate (words_of geometry senders) 0 }) }
@@ -50,21 +50,21 @@ impl RingWords {
         })
     }
 
-    /// The geometry of the ring.
+    /// Returns the geometry of the ring.
     pub fn geometry(&self) -> Geometry
         ensures { result ≡ self.now.geometry }
     {
         self.geometry
     }
 
-    /// What the control word says, if it is one that a ring may have.
+    /// Returns what the control word says, if it is one that a ring may have.
     pub fn control(&self) -> Option<Control>
         ensures { SomeIff result (IsControlWord self.now.geometry (word_at self.now control_word)) (control_in self.now.geometry (word_at self.now control_word)) }
     {
         Control::unpack(self.geometry, self.words[control_word()])
     }
 
-    /// Stores the control after where the control word says the one before, and says whether it did.
+    /// Stores `after` if the control word says `before`. Returns whether it did.
     pub fn exchange(&mut self, before: &Control, after: &Control) -> bool
         ensures won { word_at self.old control_word ≡ packed before.now → (result ≡ true) × (self.new ≡ with_word self.old control_word (packed after.now)) }
         ensures lost { word_at self.old control_word ≢ packed before.now → (result ≡ false) × (self.new ≡ self.old) }
@@ -76,7 +76,7 @@ impl RingWords {
         is_same
     }
 
-    /// Stores a half of the command of an index.
+    /// Stores a half of the command at an index.
     pub fn write(&mut self, index: Index, half: Half, word: u64)
         requires { index.geometry ≡ self.old.geometry }
         ensures value { self.new ≡ with_word self.old (data_word self.old.geometry index.number half) word }
@@ -85,7 +85,7 @@ impl RingWords {
         self.words[data_word(index, half)] = word;
     }
 
-    /// Turns the flags of so many indexes, from this one on, which share a flag word.
+    /// Flips the flags of `count` indexes from this one on, which share a flag word.
     pub fn flip(&mut self, first: Index, count: u32)
         requires geometry { first.geometry ≡ self.old.geometry }
         requires some { 1 ≤ count }
@@ -97,8 +97,8 @@ impl RingWords {
         self.words[flag_word(first)] ^= flip_mask(first, count);
     }
 
-    /// How many indexes in a row, from the head's on, are said to be flipped: at most `limit`, and as far
-    /// as their flags stand in the head's flag word.
+    /// Returns how many indexes in a row, from the head's on, are flipped according to the head's flag word:
+    /// at most `limit`, and as far as their flags are in that word.
     pub fn ready(&self, head: Index, limit: u32) -> u32
         requires { head.geometry ≡ self.now.geometry }
         ensures value { IsReadyRun self.now.geometry (word_at self.now (flag_word self.now.geometry head.number)) head.number limit result }
@@ -107,7 +107,7 @@ impl RingWords {
         ready_run(self.words[flag_word(head)], head, limit)
     }
 
-    /// A half of the command of an index.
+    /// Returns a half of the command at an index.
     pub fn read(&self, index: Index, half: Half) -> u64
         requires { index.geometry ≡ self.now.geometry }
         ensures value { result ≡ word_at self.now (data_word self.now.geometry index.number half) }
@@ -116,7 +116,7 @@ impl RingWords {
         self.words[data_word(index, half)]
     }
 
-    /// Turns cons of the control word from the one index to the other.
+    /// Moves cons in the control word from one index to the other.
     pub fn advance(&mut self, from: Index, to: Index)
         ensures { self.new ≡ with_turned self.old control_word (mask_to_advance from to) }
     {
@@ -130,7 +130,7 @@ impl RingWords {
         self.words[control_word()] |= close_mask();
     }
 
-    /// Stores a number in a sender's completion cell.
+    /// Stores a number into a sender's completion cell.
     pub fn acknowledge(&mut self, sender: u32, number: u32)
         requires { sender < self.old.senders }
         ensures { self.new ≡ with_word self.old (cell self.old.geometry sender) number }
@@ -138,7 +138,7 @@ impl RingWords {
         self.words[cell(self.geometry, sender)] = u64::from(number);
     }
 
-    /// What a sender's completion cell holds.
+    /// Returns what a sender's completion cell holds.
     pub fn acknowledged(&self, sender: u32) -> u64
         requires { sender < self.now.senders }
         ensures { result ≡ word_at self.now (cell self.now.geometry sender) }

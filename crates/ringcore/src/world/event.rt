@@ -7,7 +7,7 @@ use std::collections::LinkedList;
 pub enum Who {
     /// The SMMU, which takes the commands.
     Consumer,
-    /// The sender of this number.
+    /// The sender with this number.
     Sender(u32),
 }
 
@@ -23,9 +23,9 @@ pub enum Half {
 /// How a command was taken.
 #[derive(Clone, Copy, Debug, PartialEq, Eq)]
 pub enum Outcome {
-    /// A legal command: it has its effect.
+    /// A legal command, with its effect.
     Applied,
-    /// An illegal command, in whose place nothing is done (own).
+    /// An illegal command, without effect (own).
     Replaced,
 }
 
@@ -33,36 +33,34 @@ pub enum Outcome {
 pub enum Event {
     /// Either side looked at the control word.
     Look(Control),
-    /// A sender exchanged the control word that it had looked at, and reserved a batch: this body,
-    /// and behind it the closing sync of this number, where there is one.
+    /// A sender exchanged the control word that it had looked at, and reserved a batch: this body, followed
+    /// by the closing sync with this number, if there is one.
     Won {
         body: LinkedList<Raw>,
         number: Option<u32>,
     },
-    /// A sender found another control word than the one that it had looked at, and reserved
-    /// nothing.
+    /// A sender found a control word other than the one that it had looked at, and reserved nothing.
     Lost {
         body: LinkedList<Raw>,
         closes: bool,
         found: Control,
     },
-    /// A sender wrote a half of the command at this offset of its open reservation.
+    /// A sender wrote half of the command at this offset of its open reservation.
     Write {
         offset: u64,
         half: Half,
     },
-    /// A sender flipped the flags of so many commands, from this offset of its open reservation on.
+    /// A sender flipped the flags of `count` commands, from this offset of its open reservation on.
     Flip {
         offset: u64,
         count: u64,
     },
-    /// The consumer tested the flags from the head on, up to this many, and found so many flipped
-    /// in a row.
+    /// The consumer tested the flags from the head on, up to `limit`, and found `found` flipped in a row.
     Test {
         limit: u64,
         found: u64,
     },
-    /// The consumer read a half of the command at this offset from the head.
+    /// The consumer read half of the command at this offset from the head.
     Read {
         offset: u64,
         half: Half,

@@ -80,7 +80,7 @@ fn more_than_64_commands_are_too_many(rt: HostRuntime) {
     expect_lines(&rt, script.as_str(), text, Status::Refused);
 }
 
-/// Serves a ring's line and then a line of so many spaces, without its end.
+/// Serves a ring's line and then a line of `count` spaces, without its end.
 fn expect_of_spaces<R: AllocGlobal + Abort>(rt: &R, count: usize, text: &str, status: Status) {
     let spaces = " ".repeat(rt.alloc(), count).expect(rt, "there is memory");
     let script = format!(in rt.alloc(); "ring 1 1\n{spaces}").expect(rt, "there is memory");

@@ -4,7 +4,7 @@ use std::alloc::{AllocError, Global};
 use std::fmt::Write as _;
 use std::io::{Read, Write};
 
-// Answers each line by its number and its length, and ends the run at the line `stop`.
+// Answers each line with its number and its length, and ends the run at the line `stop`.
 #[derive(Drop)]
 struct Lengths;
 
@@ -41,7 +41,7 @@ impl Interpreter for Lengths {
     ghost cut = { λ _ _ _ _ _ _ _ _. tt };
 }
 
-// The theorem of `serve` isn't passed on, since it would be dear in each test.
+// The theorem of `serve` isn't passed on, since it would be costly in each test.
 /// Serves lines by their lengths.
 pub fn serve_lengths<R: Read, W: Write>(
     alloc: Global,

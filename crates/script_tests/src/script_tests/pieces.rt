@@ -1,4 +1,4 @@
-//! Readers and writers that move so many bytes a call, and fail or are interrupted.
+//! Readers and writers that move a few bytes a call, and fail or are interrupted.
 use crate::script_tests::lengths::serve_lengths;
 use fake_streams::{Sink, Source};
 use script::{Ending, ServeError};
@@ -7,7 +7,7 @@ use std::process::Abort;
 
 const PIPE: ErrorKind = ErrorKind::BrokenPipe;
 
-/// Serves a script in pieces of several lengths, and wants this text and this ending each time.
+/// Serves a script in pieces of several lengths, and expects this text and this ending each time.
 fn expect_served<R: AllocGlobal + Abort>(rt: &R, script: &str, text: &str, ending: Ending) {
     for most in [1, 3, 100_000] {
         let mut input = Source::new(script.as_bytes(), most, 0, PIPE);
@@ -32,7 +32,7 @@ fn answers_do_not_depend_on_the_pieces(rt: HostRuntime) {
     expect_served(&rt, "stop", "stopped at 1\n", Ending::Refused);
 }
 
-/// Serves a line of so many bytes with this end, and wants this text.
+/// Serves a line of `length` bytes with this end, and expects this text.
 fn expect_long<R: AllocGlobal + Abort>(rt: &R, length: usize, end: &str, text: &str) {
     let mut script = vec![in rt.alloc(); b'x'; length].expect(rt, "there is memory");
     let pushed = script.extend_from_slice(end.as_bytes());
@@ -55,7 +55,7 @@ fn a_long_line_needs_no_end(rt: HostRuntime) {
     expect_long(&rt, 70_000, "\n", "line 1: long line\n");
 }
 
-/// Has the read of this number fail, and wants this text.
+/// Has the read of this number fail, and expects this text.
 fn expect_failed_read<R: AllocGlobal + Abort>(rt: &R, bad: usize, text: &str) {
     let mut input = Source::new(b"a\nbb\nccc\n".as_slice(), 2, bad, PIPE);
     let mut output = Sink::new(100, 0, PIPE);
@@ -66,7 +66,7 @@ fn expect_failed_read<R: AllocGlobal + Abort>(rt: &R, bad: usize, text: &str) {
 
 #[test]
 fn a_failed_read_waits_for_no_answer(rt: HostRuntime) {
-    // Read two bytes at a time, the first line ends at the 1st call, the second at the 3rd, and the third at the 5th.
+    // With two bytes a read, the first line ends at the 1st call, the second at the 3rd, and the third at the 5th.
     expect_failed_read(&rt, 1, "");
     expect_failed_read(&rt, 2, "1: 1\n");
     expect_failed_read(&rt, 3, "1: 1\n");
@@ -75,7 +75,7 @@ fn a_failed_read_waits_for_no_answer(rt: HostRuntime) {
     expect_failed_read(&rt, 6, "1: 1\n2: 2\n3: 3\n");
 }
 
-/// Has the write of this number fail, and wants this text.
+/// Has the write of this number fail, and expects this text.
 fn expect_failed_write<R: AllocGlobal + Abort>(rt: &R, bad: usize, text: &str) {
     let mut input = Source::new(b"a\nbb\n".as_slice(), 100, 0, PIPE);
     let mut output = Sink::new(4, bad, PIPE);

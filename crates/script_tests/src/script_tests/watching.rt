@@ -4,7 +4,7 @@ use std::cell::Cell;
 use std::io;
 use std::io::{Read, Write};
 
-// Gives two bytes a call, and keeps how much its partner held at each call.
+// Gives two bytes a call, and notes how much its partner held at each call.
 #[derive(Drop)]
 struct Watcher<'a> {
     text: &'a [u8],
@@ -26,7 +26,7 @@ impl<'a> Read for Watcher<'a> {
     }
 }
 
-// Takes all that it is given, and keeps how much that was.
+// Takes all that it is given, and notes how much that was.
 #[derive(Drop)]
 struct Watched<'a> {
     written: &'a Cell<usize>,

@@ -1,4 +1,4 @@
-//! Words, numbers and commands, each on a line with what is read behind ` = `.
+//! Words, numbers and commands, one a line, each with what is read after ` = `.
 use cmdcodec::Raw;
 use script::{next_below, next_below_or, next_u8, next_u32, next_word, number, raw};
 use std::alloc::Global;
@@ -11,7 +11,7 @@ fn told(alloc: Global, found: Option<u64>) -> Option<String> {
     }
 }
 
-/// The first word of a text, and what is left of it, between bars.
+/// The first word of a text, and the rest of it, between bars.
 fn word(alloc: Global, text: &[u8]) -> Option<String> {
     let Some((first, rest)) = next_word(text) else {
         return told(alloc, None);

@@ -10,7 +10,7 @@ use std::alloc::Global;
 /// TLBI_NH_VA.
 const TLBI_NH_VA: u64 = 0x12;
 
-/// Of four machines with four address spaces each.
+/// Four machines with four address spaces each.
 fn machine(place: u16) -> u16 {
     1 + place % 4
 }
@@ -19,19 +19,19 @@ fn space(place: u16) -> u16 {
     1 + place / 4 % 4
 }
 
-/// They lie 4 MB apart in an address space.
+/// The pages of an address space are 4 MB apart.
 fn page(place: u16) -> u64
     ensures { result < 2 ^ 52 }
 {
     u64::from(place / 16) * 0x400
 }
 
-/// Each eighth is a block of 2 MB, and the others are pages.
+/// Every eighth is a block of 2 MB, the others are pages.
 fn span(place: u16) -> u8 {
     if place / 16 % 8 == 7 { 9 } else { 0 }
 }
 
-/// Which entry stands at a place.
+/// Returns the tag of the entry at a place.
 pub(crate) fn tag(place: u16) -> Tag {
     Tag::S1 {
         vmid: Vmid::new(u64::from(machine(place))).unwrap(),
@@ -41,7 +41,7 @@ pub(crate) fn tag(place: u16) -> Tag {
     }
 }
 
-/// The words of the TLBI_NH_VA that covers this entry and no other.
+/// Returns the words of the TLBI_NH_VA that covers this entry and no other.
 pub(crate) fn invalidation(place: u16) -> Raw {
     let machine = u64::from(machine(place));
     let space = u64::from(space(place));
@@ -51,7 +51,7 @@ pub(crate) fn invalidation(place: u16) -> Raw {
     }
 }
 
-/// A unit that holds so many entries and has room for no more, or none where memory ran out.
+/// Returns a full unit of `count` entries, or None if memory ran out.
 pub(crate) fn full_unit(alloc: Global, count: u16) -> Option<Unit>
     ensures { IfSome result (λ unit. unit.stop ≡ unstopped) }
 {

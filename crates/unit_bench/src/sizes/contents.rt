@@ -5,11 +5,10 @@ use caches::{Caches, Entry, Scope, Tag};
 use cmdcodec::{Asid, Page, Sid, Ssid, Vmid};
 use std::alloc::Global;
 
-/// Which entries are held.
+/// The entries that are held.
 #[derive(Clone, Copy, Debug, PartialEq, Eq)]
 pub(crate) enum Contents {
-    /// 16 of each stream, virtual machine and hypervisor that the commands name, and for the rest some of
-    /// many others.
+    /// 16 of each stream, virtual machine and hypervisor that the commands name, and else a few of many others.
     Mixed,
     /// None in the TLB.
     NoTlb,

@@ -28,7 +28,7 @@ const FIRST_LAP: &str = "\
     read 1 0 = half 0x2000000000012\n\
     advance 2 = open 4 2";
 
-/// Sender 3 reserves positions 4 and 5, in the slots that sender 0's open reservation holds a lap before.
+/// Sender 3 reserves positions 4 and 5, whose slots sender 0's open reservation holds a lap earlier.
 const SECOND_LAP: &str = "\
     look 2 = open 4 2\n\
     look 3 = open 4 2\n\

@@ -3,7 +3,7 @@ use cmdcodec::{Raw, RawList};
 use ringcore::{CoreFault, Step, run};
 use std::alloc::Global;
 
-/// Plays two steps in a ring of 4 slots, and says how it went.
+/// Plays two steps in a ring of 4 slots, and returns how it went.
 fn outcome(alloc: Global) -> &'static str {
     let mut body = RawList::new();
     body.push(Raw { lo: 0x12, hi: 0 });

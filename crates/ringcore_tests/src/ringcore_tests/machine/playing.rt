@@ -5,8 +5,8 @@ use ringcore::{Core, CoreFault, Step, StepFault, run};
 use std::alloc::Global;
 use std::process::Abort;
 
-/// Sender 1 sends two batches of two commands, which are taken: then the control word is again what sender 0
-/// looked at.
+/// Sender 1 sends two batches of two commands, which are taken: then the control word is again the one sender 0 looked
+/// at.
 const TWO_LAPS: &str = "\
     look 0 = open 0 0\n\
     look 1 = open 0 0\n\
@@ -53,7 +53,7 @@ fn two_laps_are_answered(rt: HostRuntime) {
     expect_answers(&rt, &mut core, TWO_LAPS);
 }
 
-/// The machine that has played the steps of a text, of which this one was to be refused.
+/// Returns the machine that played the steps of a text, and expects `wanted` to be the step refused, and why.
 fn played<R: AllocGlobal + Abort>(
     rt: &R,
     log2: u32,
@@ -92,12 +92,12 @@ fn a_list_may_be_without_fault(rt: HostRuntime) {
     expect_answers(&rt, &mut core, "control = open 2 0");
 }
 
-/// Why no machine of these numbers plays a list of one step.
+/// Returns why no machine of these numbers plays a list of one step.
 fn why_not(alloc: Global, log2: u32, senders: u32) -> Option<CoreFault> {
     run(alloc, log2, senders, &[Step::Look { who: Some(0) }]).err()
 }
 
-/// Wants no machine of these numbers, for this fault, or wants one.
+/// Expects this fault to forbid a machine of these numbers, or, without one, a machine.
 fn expect_fault<R: AllocGlobal + Abort>(
     rt: &R,
     log2: u32,

@@ -1,5 +1,5 @@
-//! Runs of slots over the ends of rings and of flag words. `writes` and `reads` are of both halves of all slots from
-//! one to another.
+//! Runs of slots over the ends of rings and of flag words. `writes` and `reads` are of both halves of all slots in a
+//! range.
 use crate::ringcore_tests::machine::calls::expect_answers;
 use ringcore::Core;
 

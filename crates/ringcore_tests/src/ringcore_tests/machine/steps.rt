@@ -1,7 +1,7 @@
-//! Steps as lines of a text: `look c`, `look SENDER`, `reserve SENDER TAGS`, `bare SENDER TAGS`,
-//! `write SENDER SLOT HALF`, `flip SENDER SLOT COUNT`, `test SLOT COUNT`, `read SLOT HALF`, `advance COUNT`,
-//! `close SENDER`, `ack SENDER NUMBER` and `ask SENDER`. `reserve-many` and `bare-many` have a count in place of tags,
-//! and `reserve-ste` has one CMD_CFGI_STE.
+//! Steps as lines of a text: `look c`, `look SENDER`, `reserve SENDER TAGS`, `bare SENDER TAGS`, `write SENDER SLOT
+//! HALF`, `flip SENDER SLOT COUNT`, `test SLOT COUNT`, `read SLOT HALF`, `advance COUNT`, `close SENDER`, `ack SENDER
+//! NUMBER` and `ask SENDER`. `reserve-many` and `bare-many` have a count instead of tags, and `reserve-ste` has one
+//! CMD_CFGI_STE.
 use cmdcodec::{Raw, RawList};
 use ringcore::Step;
 use std::alloc::Global;
@@ -16,7 +16,7 @@ fn command(tag: u16) -> Raw {
     }
 }
 
-/// A body of so many commands, at most 64, of tags from 0 on.
+/// A body of `count` commands, at most 64, with tags from 0 on.
 fn many(count: u16) -> RawList {
     let mut list = RawList::new();
     for tag in 0..count {
@@ -52,7 +52,7 @@ pub fn next_number(words: &mut SplitWhitespace<'_>) -> Option<u32> {
     words.next()?.parse().ok()
 }
 
-/// A reservation of a sender, of the commands that the rest of a line says.
+/// Parses a reservation of a sender, of the commands in the rest of a line.
 fn reserve(name: &str, rest: &str) -> Option<Step> {
     let (number, commands) = rest.split_once(" ").unwrap_or((rest, ""));
     let sender = number.parse().ok()?;
@@ -71,7 +71,7 @@ fn reserve(name: &str, rest: &str) -> Option<Step> {
     })
 }
 
-/// A step that has one number.
+/// A step with one number.
 fn of_one(name: &str, number: u32) -> Option<Step> {
     match name {
         "look" => Some(Step::Look { who: Some(number) }),
@@ -82,7 +82,7 @@ fn of_one(name: &str, number: u32) -> Option<Step> {
     }
 }
 
-/// A step that has two numbers.
+/// A step with two numbers.
 fn of_two(name: &str, first: u32, second: u32) -> Option<Step> {
     match name {
         "test" => Some(Step::Test {
@@ -118,7 +118,7 @@ fn of_three(name: &str, sender: u32, slot: u32, last: u32) -> Option<Step> {
     }
 }
 
-/// A step that has the numbers of a text alone.
+/// Parses a step that has only numbers.
 fn numbered(name: &str, text: &str) -> Option<Step> {
     let mut words = text.split_whitespace();
     let first = next_number(&mut words)?;
@@ -129,7 +129,7 @@ fn numbered(name: &str, text: &str) -> Option<Step> {
     }
 }
 
-/// The step that a line says, if it says one.
+/// Parses a line as a step, if it is one.
 pub fn step(line: &str) -> Option<Step> {
     if line == "look c" {
         return Some(Step::Look { who: None });
@@ -141,7 +141,7 @@ pub fn step(line: &str) -> Option<Step> {
     numbered(name, rest)
 }
 
-/// The steps of a text, without the answers that may stand behind them.
+/// Parses the steps of a text, without the answers that may follow them.
 pub fn steps(alloc: Global, text: &str) -> Option<Vec<Step>> {
     let mut found = Vec::new(alloc);
     for line in text.lines() {

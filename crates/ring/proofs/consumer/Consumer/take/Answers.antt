@@ -3,7 +3,7 @@ use Rattle.ring.specs.Runs.{Raw}
 use Rattle.ring.specs.consumer.{first_of, TookRun}
 use Rattle.ring.proofs.consumer.Consumer.take.Goals as goal
 
--- a run of one command is its first alone
+-- A run of one command is its first command.
 only_one : (raws : List Raw) → 1 ≤ length raws → length raws ≤ 1 → raws ≡ first_of raws ∷ []
 only_one [] some few = absurd (omega (arith, some))
 only_one (raw ∷ []) some few = refl
