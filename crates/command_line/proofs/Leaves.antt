@@ -1,4 +1,4 @@
--- What a command with no subcommand finds for an argument, where the words meet no fault.
+-- What a command with no subcommand finds for an argument, if the words meet no fault.
 use Rattle.std.proofs.Common.{◌≡◌, ◌∙◌, inl, inr, ◌∷◌, [], ◌&&◌, ◌||◌, ◌≤◌, ◌==◌, ℕ, Bool, true, false, true≢false, cond, not, List, Some, None, refl, sym, ap, ap₂, subst, arith, option_map, drop}
 use Rattle.std.specs.Prelude.{find, option_and_then, pos, slice_get, unwrap_or}
 use Rattle.std.specs.List.{list_all, list_any}
@@ -102,7 +102,7 @@ value_at c i b rows distinct found taken has = go (row_at c i rows taken has)
         )
 
 module _ (s : Shape) (off : s.args_override_self ≡ false) (all : list_all is_once s.rules ≡ true) (negates : s.subcommand_negates_reqs ≡ false) (distinct : are_distinct s.rules ≡ true) where
-  -- an argument that is wanted, or has a default
+  -- an argument that is required, or has a default
   pub leaf_value : (words : List Text) (i : Text) (b : Rule) → level_fault s [] nothing_held words false [] ≡ [] → arg_by_id s.rules i ≡ Some b → b.id ≡ i
       → (b.required || not (is_empty b.defaults)) ≡ true → HasValue i b (rows_after s.rules [] words)
   leaf_value words i b e found id some = value_at s.rules i b (rows_after s.rules [] words) distinct found taken (subst (λ t. has_row t (rows_after s.rules [] words) ≡ true) id has)

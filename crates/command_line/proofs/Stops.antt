@@ -1,4 +1,4 @@
--- What a command with subcommands enters, where the words meet no fault: one of them that isn't `help`.
+-- What a command with subcommands enters, if the words meet no fault: one of them that isn't `help`.
 use Rattle.std.proofs.Common.{◌≡◌, ◌∙◌, ◌∷◌, [], ◌&&◌, Bool, true, false, true≢false, cond, not, ℕ, List, Option, Some, None, is_some, option_map, refl, sym, ap, codes}
 use Rattle.std.specs.Prelude.{⊤, find, fold}
 use Rattle.std.specs.Option.{option_map_or}
@@ -86,7 +86,7 @@ module _ (s : Shape) (names : Names) (enabled : s.disable_help_subcommand ≡ fa
       let parts = both_none _ _ e in
       walk_stop xs (walked s.rules names w x) parts.1 (turn_stop w x parts.0 before)
 
--- the subcommand that is entered, by the word for it and the words behind it
+-- the subcommand that is entered, by the word for it and the words after it
 pub record Enters (a : App) (stop : Option (Text × List Text)) : Type 0 where
   pub met : Text × List Text
   pub shape : Shape

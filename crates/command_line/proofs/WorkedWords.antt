@@ -1,4 +1,4 @@
--- Worked command lines, by the definition: what they ask for, and of which fault the others are.
+-- Worked command lines, by the definition: what they ask for, and which faults the others have.
 use Rattle.std.proofs.Common.{◌≡◌, ◌∷◌, [], List, refl, codes, arith, rules}
 use Rattle.clap.specs.declared.error.kind.ErrorKind.TheVariants as kind
 use Rattle.clap.proofs.OnLiterals.{clap_on_literals}
@@ -45,7 +45,7 @@ run_of_four = (
 abbrev a_bare_run : Text → List Text
 a_bare_run bare = codes "stress" ∷ codes "--log2" ∷ codes "4" ∷ codes "--senders" ∷ codes "1" ∷ codes "--batches" ∷ codes "1" ∷ codes "--turns" ∷ codes "1" ∷ codes "--bare" ∷ bare ∷ []
 
--- ---- of which fault words are
+-- ---- which fault words have
 
 abbrev AreOf : List Text → Kinds → Type 0
 AreOf words kinds = fault_of smmuq words ≡ kinds

@@ -20,7 +20,7 @@ all_digits_from radix (c ∷ cs) h = and_from _ _ (lt-ltb _ _ h.0) (all_digits_f
 no_x : (b : ℕ) → digit_value b < 10 → b == 120 ≡ false
 no_x b small = ne_eqb b 120 (λ e. let no : digit_value 120 < 10 = subst (λ (c : ℕ). digit_value c < 10) e small in omega arith)
 
--- no 0x stands ahead of decimal digits
+-- no 0x comes before decimal digits
 not_hex : (ds : List ℕ) → AllDigits 10 ds → is_hex ds ≡ false
 not_hex [] h = refl
 not_hex (a ∷ []) h = refl

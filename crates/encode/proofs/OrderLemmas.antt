@@ -23,7 +23,7 @@ use Rattle.encode.proofs.ValueLemmas.{behind_nothing, behind_its_key, behind_ano
 
 -- ---- which words give a field, by how many there are of each kind
 
--- Of each kind there are as many words in both.
+-- Both have as many words of each kind.
 record AreAsMany (words others : List (List ℕ)) : Type 0 where
   counts : (test : List ℕ → Bool) → count_by test others ≡ count_by test words
 

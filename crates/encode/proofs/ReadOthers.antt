@@ -52,7 +52,7 @@ unfolding command_of
 is_kept_by op.Resume h = record { called = refl; fields = refl; by_words = λ words. refl }
 is_kept_by other h = record { called = cc; fields = cc; by_words = λ words. cc }
 
--- Its words, where they are legal and have the opcode, make it.
+-- Its words, if they are legal and have the opcode, make it.
 made_kept : (opcode : Opcode) (raw : Raw) → is_kept (number_of opcode) ≡ true → opcode_of raw ≡ number_of opcode → first_ill raw ≡ None
     → kept_raw opcode raw ≡ Ok (Kept raw)
 made_kept opcode raw kept named legal =

@@ -18,7 +18,7 @@ use Rattle.encode.specs.Commands.{flag_of, reach_of, command_of}
 use Rattle.encode.proofs.Reading.{IsTextOf, one_bit}
 use Rattle.encode.proofs.Written.{IsWritten, IsInDecimal, IsFlag, IsInBytes, Given, given, word_of}
 
--- ---- how far: the fields of a range, or none of them where one page is meant
+-- ---- how far: the fields of a range, or none of them for a single page
 
 -- These fields are written out.
 abbrev pub IsReach : Reach → Type 0
@@ -29,7 +29,7 @@ abbrev reach_given : (reach : Reach) → IsReach reach → List Given
 reach_given Page r = []
 reach_given (Range tg num scale) r = given r.0 ∷ given r.1 ∷ given r.2 ∷ []
 
--- their text stands behind a word
+-- their text follows a word
 reach_behind : (word : List ℕ) (reach : Reach) (r : IsReach reach) → word ++ reach_text reach ≡ spaced word (map word_of (reach_given reach r))
 reach_behind word Page r = append-nil word
 reach_behind word (Range tg num scale) r = simp append_assoc
@@ -54,7 +54,7 @@ reach_made (Range Kib4 num scale) r = rw (r.0.said, r.1.said, r.2.said)
 reach_made (Range Kib16 num scale) r = rw (r.0.said, r.1.said, r.2.said)
 reach_made (Range Kib64 num scale) r = rw (r.0.said, r.1.said, r.2.said)
 
--- ---- the fields ahead of a range
+-- ---- the fields before a range
 
 abbrev is_of_range : Field → Bool
 is_of_range field.Tg = true
@@ -71,18 +71,18 @@ reach_gives_none field.Scale reach r none = absurd cc
 reach_gives_none other Page r none = refl
 reach_gives_none other (Range tg num scale) r none = refl
 
--- So a field that stands ahead of them is given once.
+-- So a field that comes before them is given once.
 ahead : {f : Field} {digits : List ℕ} {value : ℕ} → IsWritten f digits value → (reach : Reach) (r : IsReach reach) → is_of_range f ≡ false
     → value_in f (digits ∷ behind (key_of f) (map word_of (reach_given reach r))) ≡ Ok value
 ahead {f = f} {digits = digits} w reach r none = ap (λ more. value_in f (digits ∷ more)) (reach_gives_none f reach r none) ∙ w.said
 
 -- ---- from an address on
 
--- Two fields ahead of all that have addresses: the text in the order of its parts.
+-- Two fields before all that have addresses: the text in the order of its parts.
 flat : (a b c d : List ℕ) → ((a ++ b) ++ c) ++ d ≡ a ++ (b ++ (c ++ d))
 flat a b c d = simp append_assoc
 
--- the text of a flag, an address and a reach behind a word
+-- the text of a flag, an address and a reach after a word
 pages_behind : (word leaf addr : List ℕ) (reach : Reach) (r : IsReach reach)
     → word ++ (codes " leaf=" ++ leaf ++ codes " addr=" ++ addr ++ reach_text reach)
     ≡ word ++ 32 ∷ ((codes "leaf=" ++ leaf) ++ 32 ∷ spaced (codes "addr=" ++ addr) (map word_of (reach_given reach r)))

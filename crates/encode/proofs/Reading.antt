@@ -32,7 +32,8 @@ its_name other = record { plain = refl; some = refl; no_comment = refl; called =
 
 -- ---- a line
 
--- A line is the name of an opcode and words that give its fields, one space between two of them, and these make the command.
+-- A line is the name of an opcode and words that give its fields, separated by single spaces, and these make the
+-- command.
 pub record IsTextOf (line : List ℕ) (command : Command) : Type 0 where
   pub opcode : Opcode
   pub fields : List Given

@@ -1,5 +1,5 @@
--- The fields of commands as texts have them. A word `key=number` gives a field: its number is so many units, and the value
--- of the field is how many.
+-- The fields of commands as texts have them. A word `key=number` gives a field: its number is so many units, and the
+-- value of the field is how many.
 use Rattle.std.specs.Prelude.{ℕ, ◌-◌, ◌^◌, List, codes}
 use Rattle.encode.specs.declared.field.Field.{Field}
 use Rattle.encode.specs.declared.field.Field.TheVariants as field

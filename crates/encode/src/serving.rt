@@ -11,7 +11,7 @@ use std::io::{Read, Write};
 /// hexadecimal digits of the command's bytes in memory, or `bad command`. Returns how it went, refused if any line is
 /// no command's text, and notes on why those are none.
 ///
-/// Each answer is written and flushed before the read that follows its line. A line of more than 4,096 bytes ends the run.
+/// Each answer is written and flushed before the read that follows its line. A line of over 4,096 bytes ends the run.
 pub fn encode_with_notes<R: Read, W: Write>(
     alloc: Global,
     input: &mut R,

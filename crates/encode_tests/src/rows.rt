@@ -1,4 +1,4 @@
-//! The text of each command with the least and the greatest value of each field, and the bytes that the layout gives it.
+//! The text of each command with the least and the greatest value of each field, and the bytes by the layout.
 
 /// Texts and the hexadecimal digits of their bytes, from the layouts of the commands.
 pub(crate) const ROWS: [(&str, &str); 62] = [

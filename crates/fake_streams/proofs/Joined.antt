@@ -11,7 +11,7 @@ use Rattle.fake_streams.specs.Telling.{texts_of, AreAnswers}
 pub concat_next : (texts : List (List ℕ)) (n : ℕ) (d : List ℕ) → n < length texts → concat (take (n + 1) texts) ≡ concat (take n texts) ++ get_or texts n d
 concat_next texts n d h = ap (λ k. concat (take k texts)) (let e : n + 1 ≡ suc n = omega arith in e) ∙ ap concat (take-suc texts n d h) ∙ concat-append (take n texts) (get_or texts n d ∷ []) ∙ ap (λ l. concat (take n texts) ++ l) (append-nil (get_or texts n d))
 
--- more texts are those of fewer, and some behind
+-- more texts are those of fewer, followed by some
 concat_more : (texts : List (List ℕ)) (n m : ℕ) → n ≤ m → (more : List ℕ) × (concat (take m texts) ≡ concat (take n texts) ++ more)
 concat_more [] n m h = ([], ap concat (take-nil m) ∙ sym (append-nil (concat (take n [])) ∙ ap concat (take-nil n)))
 concat_more (t ∷ texts) zero m h = (concat (take m (t ∷ texts)), refl)
@@ -20,7 +20,7 @@ concat_more (t ∷ texts) (suc n) (suc m) h =
     let rest = concat_more texts n m (omega arith) in
     (rest.0, ap (λ l. t ++ l) rest.1 ∙ sym (append_assoc t (concat (take n texts)) rest.0))
 
--- where both are nothing together, the last is
+-- if both are nothing together, the last is
 behind_nothing : (xs ys : List ℕ) → [] ≡ xs ++ ys → ys ≡ []
 behind_nothing [] ys e = sym e
 behind_nothing (x ∷ xs) ys e = cc
@@ -41,7 +41,7 @@ module _ (answers : List (Bor (List ℕ))) (text rest : List ℕ) (count : ℕ) 
       so_far ∙ ap (λ l. concat (take count (texts_of answers)) ++ l) is ∙ sym (append_assoc (concat (take count (texts_of answers))) (get_or answers count past_end).now left)
       ∙ ap (λ l. l ++ left) (ap (λ t. concat (take count (texts_of answers)) ++ t) (sym (get_or-map (λ s. s.now) answers count past_end past_end.now h)) ∙ sym (concat_next (texts_of answers) count past_end.now (rw (length-map answers (λ s. s.now)) h)))
 
-  -- fewer answers aren't all of the text where something is left
+  -- fewer answers aren't all of the text if something is left
   pub not_fewer : (rest ≡ [] → ⊥) → (n : ℕ) → n ≤ count → AreAnswers (texts_of answers) text n → ⊥
   not_fewer some n h are =
       let more = concat_more (texts_of answers) n count h in
@@ -49,7 +49,7 @@ module _ (answers : List (Bor (List ℕ))) (text rest : List ℕ) (count : ℕ) 
       append-nil (concat (take n (texts_of answers))) ∙ sym are.whole ∙ so_far ∙ ap (λ l. l ++ rest) more.1 ∙ append_assoc (concat (take n (texts_of answers))) more.0 rest in
       some (behind_nothing more.0 rest (append_cancel_left (concat (take n (texts_of answers))) [] (more.0 ++ rest) e))
 
-  -- nor are more where the next one doesn't begin the rest
+  -- nor are more if the next one doesn't begin the rest
   pub not_more : count < length answers → ((left : List ℕ) → rest ≡ (get_or answers count past_end).now ++ left → ⊥) → (n : ℕ) → count < n → AreAnswers (texts_of answers) text n → ⊥
   not_more h other n past are =
       let more = concat_more (texts_of answers) (count + 1) n (omega (arith, past)) in

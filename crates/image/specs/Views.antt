@@ -48,7 +48,7 @@ waiting_lines image queue = flat_map (waiting_line image queue.cons.geometry) (p
 
 -- ---- all slots
 
--- A slot waits if it is fewer slots behind that of CONS, going round, than commands wait.
+-- A slot waits if it comes fewer slots after that of CONS, going round, than commands wait.
 abbrev pub is_waiting : Queue → ℕ → Bool
 is_waiting queue slot =
     let slots = size queue.cons.geometry in

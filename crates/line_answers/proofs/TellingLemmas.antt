@@ -1,4 +1,4 @@
--- What the status of a run says, where all lines were good, or one at least wasn't.
+-- What the status of a run says, if all lines were good, or one at least wasn't.
 use Rattle.std.proofs.Common.{◌≡◌, ℕ, Bool, true, false, List, Option, Some, None, IfSome, Ok, Err, refl, sym, inl, inr}
 use Rattle.std.specs.Prelude.{Result, IfOk}
 use Rattle.script.specs.declared.ending.Ending.{Ending}
@@ -13,7 +13,7 @@ use Rattle.line_answers.specs.LineAnswers.{LineAnswer}
 use Rattle.line_answers.specs.Answering.{Comes, all_good}
 use Rattle.line_answers.specs.Tellings.{TellsOfLines, judged}
 
--- what holds where the run finished
+-- what holds if the run finished
 pub finished : (served : Result Ending ServeError) (P : Type 0) → IfOk served (λ ending. ending ≡ Finished → P) → status_of served ≡ Good → P
 finished (Ok Finished) P holds e = holds refl
 finished (Ok Ended) P holds e = absurd cc
@@ -22,7 +22,7 @@ finished (Err (Read m)) P holds e = absurd cc
 finished (Err (Write m)) P holds e = absurd cc
 finished (Err NoEnd) P holds e = absurd cc
 
--- The bytes of the input, where they are known, are lines that are all good, or aren't.
+-- The bytes of the input, if they are known, are lines that are all good, or aren't.
 abbrev pub AreGood : (List ℕ → LineAnswer) → Bool → Option (List ℕ) → Type 0
 AreGood answer_of good input = IfSome input (λ bytes. good ≡ all_good answer_of (lines_of bytes))
 

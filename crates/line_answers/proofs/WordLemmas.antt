@@ -10,7 +10,7 @@ pub words_of-nothing : words_of [] ≡ []
 unfolding words_of between_blanks
 words_of-nothing = refl
 
--- a blank ahead is no part of a word
+-- a leading blank is no part of a word
 pub words_of-after_blank : (xs : List ℕ) → 0 < length xs → is_blank (get_or xs 0 0) ≡ true → words_of (between 1 (length xs) xs) ≡ words_of xs
 unfolding words_of between_blanks
 words_of-after_blank [] some blank = absurd (omega arith)
@@ -18,14 +18,14 @@ words_of-after_blank (x ∷ xs) some blank =
     ap words_of (take_rest (x ∷ xs) 1)
     ∙ sym (ap (λ t. filter is_word (cond t ([] ∷ between_blanks xs) (onto_first x (between_blanks xs)))) blank)
 
--- no byte ahead of the index is a blank
+-- no byte before the index is a blank
 abbrev pub NoneBlank : List ℕ → ℕ → Type 0
 NoneBlank xs k = (i : ℕ) → i < k → is_blank (get_or xs i 0) ≡ false
 
 none_tail : (x : ℕ) (xs : List ℕ) (k : ℕ) → NoneBlank (x ∷ xs) (suc k) → NoneBlank xs k
 none_tail x xs k none i below = none (suc i) (omega arith)
 
--- the pieces behind the first one, by what stands behind it
+-- the pieces after the first one, by what follows it
 abbrev pieces_behind : List ℕ → List (List ℕ)
 pieces_behind [] = []
 pieces_behind (x ∷ xs) = between_blanks xs

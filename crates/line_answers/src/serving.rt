@@ -12,7 +12,7 @@ use std::io::{Read, Write};
 /// Reads lines and writes the answer to each. Returns how it went, refused if any line isn't good, and notes on why
 /// those weren't.
 ///
-/// Each answer is written and flushed before the read that follows its line. A line of more than 4,096 bytes ends the run.
+/// Each answer is written and flushed before the read that follows its line. A line of over 4,096 bytes ends the run.
 pub fn answer_lines_with_notes<K: AnswersLines, R: Read, W: Write>(
     alloc: Global,
     kind: K,

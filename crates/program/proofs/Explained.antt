@@ -1,4 +1,4 @@
--- Of the line that is kept it was told, and it is the line that ended the run.
+-- It was told of the line that is kept, and that is the line that ended the run.
 use Rattle.std.proofs.Common.{◌≡◌, ◌⊎◌, ℕ, List, Option, None, Some, inl, inr, ◌∙◌, sym}
 use Rattle.std.specs.Prelude.{IfSome}
 use Rattle.script.specs.declared.last_line.LastLine.{LastLine}

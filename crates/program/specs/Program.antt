@@ -35,8 +35,8 @@ Decodes Endless word before after = ⊥
 abbrev pub ExitsAsDecode : ℕ → List ℕ → Seen → Seen → Type 0
 ExitsAsDecode exit word before after = (status : Status) × (exit ≡ exit_status status) × Decodes status word before after
 
--- It did what was asked for: a script was replayed, or played as a schedule; or nothing was read, and a word was decoded
--- or a stress run made; or lines of words or of text were answered, or an image was shown.
+-- It did what was asked for: a script was replayed, or played as a schedule; or nothing was read, and a word was
+-- decoded or a stress run made; or lines of words or of text were answered, or an image was shown.
 abbrev pub ExitsAs : Subcommand → ℕ → Option (List ℕ) → Option (List ℕ) → Seen → Seen → Type 0
 ExitsAs Replay exit input rest before after = ExitsAsReplay exit input rest before.bytes after.bytes
 ExitsAs Schedule exit input rest before after = ExitsAsSchedule exit input rest before.bytes after.bytes

@@ -3,7 +3,7 @@ use Rattle.std.proofs.Common.{◌≡◌, ℕ, List, [], ◌∷◌, ◌++◌, Opt
 use Rattle.cmdcodec.specs.declared.raw.Raw.{Raw}
 use Rattle.script.specs.Fields.{◌>>=◌, hex_of, raws_of}
 
--- commands ahead of what the rest says
+-- commands before those of the rest
 abbrev pub with_raws : List Raw → Option (List Raw) → Option (List Raw)
 with_raws raws None = None
 with_raws raws (Some more) = Some (raws ++ more)

@@ -1,4 +1,4 @@
--- Lines at which memory is wanting answer as they do where it is had, or tell of it.
+-- Lines at which memory runs out answer as they do if it doesn't, or tell of it.
 use Rattle.std.proofs.Common.{◌≡◌, ℕ, ◌+◌, Bool, true, false, ◌==◌, not, cond, List, [], ◌∷◌, ◌++◌, ◌⊎◌, length, refl, ap, sym, ◌∙◌, Option, Some, None, inl, inr, codes, append_assoc, subst}
 use Rattle.std.specs.Prelude.{nat_lt, is_some}
 use Rattle.std.specs.FinMap as finite
@@ -80,7 +80,7 @@ line_told number wanting line state =
 
 -- ---- one line after another
 
--- behind a text that is the same
+-- after a text that is the same
 behind : (text : List ℕ) (goes_on : Bool) (rest plain : Answer) → (rest ≡ plain) ⊎ TellsOfMemory rest.text
     → (cond goes_on (with_text text rest) (record { text = text; is_good = false }) ≡ cond goes_on (with_text text plain) (record { text = text; is_good = false }))
     ⊎ TellsOfMemory (cond goes_on (with_text text rest) (record { text = text; is_good = false })).text

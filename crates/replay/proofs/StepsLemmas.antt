@@ -8,11 +8,11 @@ use Rattle.simulator.specs.Standing.{SimulatorValue, Stands}
 use Rattle.replay.specs.effects.UnitLines.{Step, step_of, steps_of, step_effect}
 use Rattle.replay.specs.Stepping.{Stepped, Steps}
 
--- a step with more text ahead
+-- a step with more text before it
 abbrev pub ahead : List ℕ → Step → Step
 ahead text step = record { text = text ++ step.text; state = step.state; may_follow = step.may_follow }
 
--- from `state`, so much was told, and so many steps are left from the state that `now` stands for
+-- of `count` steps from `state` those taken told this, and `left` are left, from the state that `now` stands for
 pub record Reached (state : State) (now : SimulatorValue) (told : List ℕ) (count left : ℕ) : Type 0 where
   pub here : State
   pub stands : Stands now here

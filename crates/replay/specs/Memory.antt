@@ -1,4 +1,4 @@
--- Where memory is wanting in a replay.
+-- Running out of memory in a replay.
 use Rattle.std.specs.Prelude.{◌≡◌, ℕ, List, [], ◌++◌, Bool, ◌⊎◌, codes}
 use Rattle.replay.specs.ReplayText.{answer_to}
 

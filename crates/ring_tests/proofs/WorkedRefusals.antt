@@ -1,5 +1,5 @@
--- What the answers of a ring may not say: for each refusal of a reservation, of a send and of a new ring a state in which
--- its definition is false.
+-- What the answers of a ring may not say: for each refusal of a reservation, of a send and of a new ring a state in
+-- which its definition is false.
 use Rattle.std.proofs.Common.{◌≡◌, ℕ, zero, suc, ◌+◌, ◌<◌, ◌≤◌, Bool, true, false, List, [], ◌∷◌, length, Option, Some, None, refl, sym, ap, subst, ◌∙◌, arith, alloc_error}
 use Rattle.std.proofs.lemmas.Option.{same_Some}
 use Rattle.cmdcodec.specs.declared.raw.Raw.{Raw}
@@ -38,7 +38,7 @@ open_and_empty = shows 1 0 0 false
 abbrev closed_and_empty : Control
 closed_and_empty = shows 1 0 0 true
 
--- the sender once it looked and found this, in a run that it alone has taken a step of
+-- the sender once it looked and found this, in a run in which only it took a step
 abbrev has_seen : RingValue → Control → SenderValue
 has_seen ring seen = sender_with ring (Look seen ∷ []) ((Sender 0, Look seen) ∷ [])
 

@@ -60,7 +60,8 @@ abbrev is_ask : Event → Bool
 is_ask (Ask number) = true
 is_ask e = false
 
--- The first ask is the one behind which this trail stands, so that it can't be taken for the second, which was told rightly.
+-- The first ask is the one after which this trail stands, so that it can't be taken for the second, which was told
+-- rightly.
 at_first : (later earlier : Run) → told_too_early ≡ later ++ (Sender 1, Ask 1) ∷ earlier → trail_of (Sender 1) earlier ≡ trail_of (Sender 1) before_first_ask → earlier ≡ before_first_ask
 at_first [] earlier is trail_is =
     let run_is = ap behind_newest is in

@@ -1,4 +1,4 @@
--- A buffer whose held bytes move to the front, and that is then read into behind them, through a slice.
+-- A buffer whose held bytes move to the front, and that is then read into after them, through a slice.
 use Rattle.std.proofs.Common.{◌≡◌, ℕ, ◌+◌, ◌-◌, ◌≤◌, List, ◌++◌, length, take, drop, ap, sym, ◌∙◌, arith, length-drop, take-add, zero-add}
 use Rattle.std.specs.List.{copy_within}
 use Rattle.std.proofs.lemmas.List.{drop-take, take-take, take-append-le}
@@ -38,7 +38,7 @@ held_after_read items new behind at filled all count h is_all within =
     ∙ take-add (filled - at) count new
     ∙ ap (λ held. held ++ take count (drop (filled - at) new)) h.front
 
--- where nothing was read
+-- if nothing was read
 pub held_after_nothing : (items new behind : List ℕ) (at filled all count : ℕ) → ReadsBehind items new at filled → all ≡ length items → count ≡ 0
     → take (filled - at + count) (take all (new ++ behind)) ≡ drop at (take filled items)
 held_after_nothing items new behind at filled all count h is_all nothing =
@@ -51,7 +51,7 @@ held_after_nothing items new behind at filled all count h is_all nothing =
     ∙ take-append-le (filled - at) new behind (omega arith)
     ∙ h.front
 
--- where the read failed
+-- if the read failed
 pub held_after_failure : (items new behind : List ℕ) (at filled all : ℕ) → ReadsBehind items new at filled → all ≡ length items
     → take (filled - at) (take all (new ++ behind)) ≡ drop at (take filled items)
 held_after_failure items new behind at filled all h is_all =

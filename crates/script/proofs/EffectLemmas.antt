@@ -5,7 +5,7 @@ use Rattle.script.specs.Effects.{Effect, faults}
 use Rattle.script.specs.Standing.{StandsAt, Produces, Acts, ActsAt}
 
 module _ {Kept State : Type 0} (Stands : Kept → State → Type 0) where
-  -- an effect that is known, memory being wanting or not
+  -- an effect that is known, with memory running out or not
   pub produces_at : (effect : Bool → Effect State) (new : Option Kept) (wanting : Bool) (known : Effect State) → effect wanting ≡ known
       → (known.goes_on ≡ true → StandsAt Stands new known.state) → Produces Stands effect new known.text known.goes_on
   produces_at effect new wanting known e stands = record {

@@ -22,7 +22,7 @@ is_over : {State : Type 0} (effect : Effect State) (rest : Option State → Answ
 is_over effect rest text t off =
     ap (λ b. cond b (with_text effect.text (rest effect.state)) (record { text = effect.text; is_good = false })) off ∙ ap (λ x. record { text = x; is_good = false }) t
 
--- ---- where no request looks at the choice
+-- ---- if no request looks at the choice
 
 asked_alike : {State Request : Type 0} → (kind : Kind State Request) → HasNoChoice kind → (number : ℕ) (wanting : Bool) (asked : Option Request) (state : Option State)
     → asked_effect kind number wanting asked state ≡ asked_effect kind number false asked state
@@ -98,11 +98,11 @@ module _ {Kept State Request : Type 0} (kind : Kind State Request) (Stands : Kep
         );
   }
 
-  -- What is given where no ring is made is what a script may come to.
+  -- What is given before a ring is made is what a script may come to.
   pub may_come : (kept : Option Kept) → kept ≡ None → Implies (MayGive kind Stands kept) (MayAnswer kind)
   may_come kept none number lines outcome may = may None (subst (λ m. StandsAt Stands m None) (sym none) tt)
 
--- And what it comes to, where no request looks at the choice.
+-- And what it comes to, if no request looks at the choice.
 pub answers_come : {State Request : Type 0} → (kind : Kind State Request) → HasNoChoice kind → Implies (MayAnswer kind) (Answers kind)
 answers_come kind alike number lines outcome may =
     subst (λ (a : Answer). EndsAs a outcome.text outcome.ending) (one_answer kind alike number may.0 None lines) may.1

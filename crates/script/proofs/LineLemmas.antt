@@ -1,4 +1,4 @@
--- The first line of a script, where its end is known, and where it is not.
+-- The first line of a script, if its end is known, and if it isn't.
 use Rattle.std.proofs.Common.{◌≡◌, ℕ, ◌+◌, ◌<◌, ◌==◌, cond, List, [], ◌∷◌, ◌++◌, length, take, drop, refl, ap, sym, ◌∙◌, arith, Some, None, inl, inr, subst, append_assoc, append-nil, get_or-take, length-take, take-append-drop}
 use Rattle.std.proofs.lemmas.List.{take_more}
 use Rattle.std.proofs.lemmas.Bool.{eqb-true}

@@ -11,7 +11,7 @@ use Rattle.script.specs.Serving.{RunGives, Advances, Stops, Halts, Closes}
 use Rattle.script.proofs.Searches.{NoneBefore}
 use Rattle.script.proofs.LineLemmas.{EndsAt, IsWhole-append, lines_of-nothing, lines_of-at, lines_of-ended, lines_of-front, lines_of-last}
 
--- nothing more is given where no line is left
+-- nothing more is given if no line is left
 abbrev pub EndsWithNothing : (ℕ → List (List ℕ) → Outcome → Type 0) → Type 0
 EndsWithNothing may = (n : ℕ) → may n [] (record { text = []; ending = Some Finished })
 
@@ -154,7 +154,7 @@ pub ends_long : (is_last : ℕ → List ℕ → Type 0) (before : ℕ → List (
     → ((line : List ℕ) → 4096 < length line → is_last number line) → RefusesLongLine (EndsKnown before is_last) number
 ends_long is_last before number refuses known line lines long _ = ends_first is_last before number line lines _ (λ more. refuses line more long) (known line long)
 
--- and none where no line is left
+-- and none if no line is left
 pub ends_nowhere : (is_last : ℕ → List ℕ → Type 0) (before : ℕ → List (List ℕ) → Outcome → Type 0) → EndsWithNothing (EndsKnown before is_last)
 ends_nowhere is_last before n refused = absurd (cc refused)
 

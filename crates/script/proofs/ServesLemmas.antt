@@ -57,7 +57,7 @@ ended_comes may other implies (Some l) input before after ended =
 
 -- ---- its status
 
--- What is so where a line ended the run is so where the status says that.
+-- What is so if a line ended the run is so if the status says that.
 pub refused_by : {X : Type 0} → (result : Result Ending ServeError) (status : Status) → status ≡ status_of result → IfOk result (λ ending. ending ≡ Refused → X) → status ≡ is.Refused → X
 refused_by (Ok Refused) status of by refused = by refl
 refused_by (Ok Finished) status of by refused = absurd cc

@@ -49,7 +49,7 @@ has_read_part input mid rest turns made s t u part h taken same more read enough
 pub has_read_less : (input rest : Option (List ℕ)) (turns : ℕ) (s t : Run) → HasRead input rest turns s → TakesBytes s t → length t.pending < length s.pending → HasRead input rest (turns + 1) t
 has_read_less input rest turns s t h taken shorter = record { bytes = h.bytes; read = h.read; lines = omega arith; counted = omega arith }
 
--- where a line fits no number any more
+-- if no number is left for a line
 pub endless_lines : (input rest : Option (List ℕ)) (turns number : ℕ) (s : Run) (e : ServeError) → HasRead input rest turns s → number ≤ s.lines + length s.pending + 1
     → (is_write e ≡ true) ⊎ WantsMemoryOrNumber e number → is_endless e ≡ true → ReadsAtLeast (2 ^ 63) input rest
 endless_lines input rest turns number s e h most (inl write) endless = absurd (write_or_endless e write endless)

@@ -12,7 +12,7 @@ pub words_of-nothing : words_of [] ≡ []
 unfolding words_of between_spaces
 words_of-nothing = refl
 
--- a space ahead is no part of a word
+-- a leading space is no part of a word
 pub words_of-after_space : (xs : List ℕ) → 0 < length xs → get_or xs 0 0 ≡ 32 → words_of (between 1 (length xs) xs) ≡ words_of xs
 unfolding words_of between_spaces
 words_of-after_space [] some space = absurd (omega arith)
@@ -20,7 +20,7 @@ words_of-after_space (x ∷ xs) some space =
     ap words_of (take_rest (x ∷ xs) 1)
     ∙ sym (ap (λ b. filter is_word (cond (b == 32) ([] ∷ between_spaces xs) (onto_first b (between_spaces xs)))) space)
 
--- the pieces behind the first one, by what stands behind it
+-- the pieces after the first one, by what follows it
 abbrev pieces_behind : List ℕ → List (List ℕ)
 pieces_behind [] = []
 pieces_behind (x ∷ xs) = between_spaces xs

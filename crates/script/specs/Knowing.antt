@@ -2,7 +2,7 @@
 use Rattle.std.specs.Prelude.{ℕ, List, ◌++◌}
 use Rattle.script.specs.Outcome.{Outcome}
 
--- What it knew of the lines before, it now knows of those with these lines behind them.
+-- What it knew of the lines before, it now knows of those followed by these lines.
 abbrev pub Learns : {I : Type 0} → (I → List (List ℕ) → Type 0) → I → I → List (List ℕ) → Type 0
 Learns knows old new lines = (past : List (List ℕ)) → knows old past → knows new (past ++ lines)
 

@@ -8,7 +8,7 @@ pub record Outcome : Type 0 where
   pub text : List ℕ
   pub ending : Option Ending
 
--- the outcome with more text ahead of it
+-- the outcome with more text before it
 abbrev pub with_front : List ℕ → Outcome → Outcome
 with_front text outcome = record { text = text ++ outcome.text; ending = outcome.ending }
 
@@ -21,7 +21,7 @@ abbrev pub fault : ℕ → List ℕ → Outcome
 fault number name = record { text = fault_line number name; ending = Some Refused }
 
 -- A line was answered and the run goes on: `new` says what the lines after it may come to, and `old` gives that with
--- this line's answer ahead.
+-- this line's answer before it.
 pub record Continues (old new : ℕ → List (List ℕ) → Outcome → Type 0) (number : ℕ) (line before after : List ℕ) : Type 0 where
   pub answer : List ℕ
   pub text : after ≡ before ++ answer

@@ -9,7 +9,7 @@ use Rattle.script.specs.Lines.{lines_of, IsWhole}
 use Rattle.script.specs.Outcome.{Outcome, with_front}
 use Rattle.script.specs.Writing.{WritesAnswer, WritesNoMemory, WritesBeginning}
 
--- what the run comes to, its gathered text ahead, if these bytes are still to be served
+-- what the run comes to, its gathered text first, if these bytes are still to be served
 pub record RunGives (may : ℕ → List (List ℕ) → Outcome → Type 0) (run : Run) (bytes : List ℕ) (outcome : Outcome) : Type 0 where
   pub rest : Outcome
   pub gives : may (run.lines + 1) (lines_of bytes) rest

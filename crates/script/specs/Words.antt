@@ -27,7 +27,7 @@ number_in radix most digits =
     if is_word digits && nat_le (length digits) most && all_digits radix digits && nat_lt (digits_value radix digits) (2 ^ 64)
     then Some (digits_value radix digits) else None
 
--- 0x stands ahead of hexadecimal digits
+-- 0x comes before hexadecimal digits
 abbrev pub is_hex : List ℕ → Bool
 is_hex [] = false
 is_hex (a ∷ []) = false

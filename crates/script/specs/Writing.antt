@@ -39,7 +39,7 @@ abbrev pub IsBeginning : (ℕ → List (List ℕ) → Outcome → Type 0) → Li
 IsBeginning may script front =
     ComesTo may script front None ⊎ ((text rest : List ℕ) × StopsForMemory may script text × (text ≡ front ++ rest))
 
--- These bytes may follow those that were read: any where something is left to read, else none.
+-- These bytes may follow those that were read: any if something is left to read, else none.
 abbrev pub MayFollow : Option (List ℕ) → List ℕ → Type 0
 MayFollow rest more = IsAtEnd rest → more ≡ []
 

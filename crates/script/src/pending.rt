@@ -71,7 +71,7 @@ impl Pending {
     }
 }
 
-// Reads once into the buffer, behind its first `held` bytes.
+// Reads once into the buffer, after its first `held` bytes.
 fn read_behind<R: Read>(reader: &mut R, buffer: &mut [u8], held: usize) -> io::Result<usize>
     requires { held < length buffer.old }
     ensures front { take held buffer.new ≡ take held buffer.old }

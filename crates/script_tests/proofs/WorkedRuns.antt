@@ -6,7 +6,7 @@ use Rattle.script.specs.Kinds.{Kind, AllHold, line_effect, request_of, request_e
 use Rattle.script.specs.Giving.{HeldThroughout, MayCome}
 use Rattle.script.specs.Words.{words_of, between_spaces}
 
--- A kind whose states are whether a line came behind the first, and of which only the first state holds.
+-- A kind whose states are whether a line came after the first, and of which only the first state holds.
 abbrev two_states : Kind Bool (Unit {0})
 two_states = record {
   nothing = tt;

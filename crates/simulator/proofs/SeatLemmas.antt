@@ -1,4 +1,4 @@
--- What the keeper knows of a call for which it had lent a sender its seat.
+-- What the keeper knows of a call for which it lent a sender its seat.
 use Rattle.std.proofs.Common.{rules, ◌≡◌, ◌≢◌, ℕ, refl, ap, sym, ◌∙◌, subst, arith, Bool, true, false, not, zero, suc, ◌+◌, ◌-◌, ◌<◌, ◌≤◌, List, [], ◌∷◌, ◌++◌, length, inl, inr, ap₂}
 use Rattle.std.proofs.lemmas.Bool.{cases_lt, cases_eq, lt-leb}
 use Rattle.std.proofs.lemmas.List.{length-set, get_or-set_same, get_or-set_other, get_or-append_right, length_push}
@@ -78,7 +78,7 @@ last_is keeper s body idle sender_is is =
 not_his : (s t n : ℕ) → (t ≡ s → ⊥) → n ≡ t → Sender n ≢ Sender s
 not_his s t n other is e = let same : n ≡ s = cc in other (sym is ∙ same)
 
--- Where another's seat was lent one's own stays.
+-- If another's seat was lent one's own stays.
 seat_stays : (s t : ℕ) (old new : KeeperValue) (seat : Seat) → (t ≡ s → ⊥) → KeepsOthers (Sender s) old new → IsSeatOf old t seat → IsSeatOf new t seat
 seat_stays s t old new (Idle tally) other keeps is = record { sender_is = is.sender_is; idle = keeps.senders tally (not_his s t tally.sender other is.sender_is) is.idle }
 seat_stays s t old new (Open idle body) other keeps is =

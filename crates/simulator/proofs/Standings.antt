@@ -22,7 +22,7 @@ use Rattle.simulator.proofs.Trying.{by_way}
 
 -- ---- a state, by its keeper
 
--- A state with the keeper's ring and run: where he stands for it that is the state itself.
+-- A state with the keeper's ring and run: if he stands for it that is the state itself.
 abbrev pub own : KeeperValue → State → State
 own keeper state = record state { ring = keeper.ring.made_with; run = keeper.run }
 
@@ -73,7 +73,7 @@ sent_takes_none ring s body closes run = by_answer (try_to_reserve ring s body c
 
 -- ---- a sender's call
 
--- Of a state with the keeper's own run it tells this answer and leaves this run, in which nothing more is taken.
+-- For a state with the keeper's own run it tells this answer and leaves this run, in which nothing more is taken.
 pub by_run : {Answer : Type 0} (queue new : QueueValue) (unit : UnitValue) (then : State → Answered Answer) {answer told : Answer} {run : Run} → LeavesConsumer queue.keeper new.keeper
     → answer ≡ told → new.keeper.run ≡ run → TakesNone queue.keeper.run run → ((state : State) → then (own queue.keeper state) ≡ record { answer = told; state = with_run (own queue.keeper state) run })
     → Does (record { queue = queue; unit = unit }) (record { queue = new; unit = unit }) answer then
@@ -89,7 +89,7 @@ by_run {Answer} queue new unit then {answer} leaves answered ran none is = of_ow
 
 -- ---- unit and consumer
 
--- They are together by the consumer's trail alone.
+-- The consumer's trail alone decides that they are together.
 pub still_together : (d e : ConsumerValue UnitValue) (unit : UnitValue) → d.trail ≡ e.trail → AreTogether d unit → AreTogether e unit
 still_together d e unit same is =
     let there = subst (λ (t : Trail). AreTogether (record e { trail = t }) unit) same (search rules) in search rules

@@ -49,7 +49,7 @@ module _ (tells : IndexesTellTheQueue) (within : NeverMoreThanFull) (ring : Ring
   head_itself : head w + 0 ≡ head w
   head_itself = omega arith
 
-  -- A command's flag alone stands in one word.
+  -- The flag of a single command is in one word.
   one_shares : ShareAWord ring.flags ring.geometry (head w) 1
   one_shares offset less = ap (λ (k : ℕ). place ring.geometry k / ring.flags) (let e : head w + offset ≡ head w = omega (arith, less) in e)
 
@@ -61,7 +61,7 @@ module _ (tells : IndexesTellTheQueue) (within : NeverMoreThanFull) (ring : Ring
       ap (λ (k : ℕ). option_map (λ (item : Item). item.raw) (slice_get w.reserved k)) (sym head_itself)
       ∙ ap (option_map (λ (item : Item). item.raw)) high.there ∙ (λ k. let o : Option Raw = Some (record { lo = sym lo k; hi = sym high.found k }) in o)
 
-  -- what a look shows of the queue, where this stands at its head
+  -- what a look shows of the queue, if this is at its head
   abbrev Shows : Head → Control → Type 0
   Shows head.Empty seen = (seen.prod.number ≡ seen.cons.number) × (seen.closed ≡ false)
   Shows head.Drained seen = (seen.prod.number ≡ seen.cons.number) × (seen.closed ≡ true)
@@ -84,7 +84,7 @@ module _ (tells : IndexesTellTheQueue) (within : NeverMoreThanFull) (ring : Ring
       let flipped : w.flipped (head w) ≡ true = ap w.flipped (sym head_itself) ∙ ok.0.0.1.ready 0 (omega arith) in
       let there = raw_there raw _ _ ok.0.1 ok.1 in (rw (some, flipped, there), ok.0.0.0.1)
 
--- ---- events behind those
+-- ---- events after those
 
 earlier : (made : Ring) (more : Trail) (run : Run) → IsRun made (run_by Consumer more ++ run) → IsRun made run
 earlier made [] run ok = ok

@@ -24,7 +24,7 @@ use Rattle.simulator.proofs.Looks.{behind, closed_is, far_is}
 -- ---- which ways a try goes
 
 module _ (ring : Ring) (s : ℕ) (body : List Raw) (closes : Bool) (run : Run) where
-  -- It is refused ahead of a look or behind one, or it is won.
+  -- It is refused before a look or after one, or it is won.
   pub by_way : (P : Try → Type 0) → ((cause : Cause) → P (refused_for cause run)) → ((cause : Cause) → P (refused_for cause (looked_by (Sender s) ring.geometry run)))
       → P (won ring s body closes run (looked_by (Sender s) ring.geometry run)) → P (try_to_reserve ring s body closes run)
   unfolding try_to_reserve
@@ -98,7 +98,7 @@ module _ (tells : IndexesTellTheQueue) (within : NeverMoreThanFull) (old new : K
     refused_so cause seen x_is fits left is =
         has_looked (Some cause) fits left is ∙ (λ k. refused_for cause ((Sender s, Look (sym (allowed (Look seen ∷ []) x_is).1 k)) ∷ old.run)) ∙ ap (refused_for cause) (sym (ran (Look seen ∷ []) x_is))
 
-  -- what a look behind this run finds
+  -- what a look after this run finds
   module _ (geometry_is : IsGeometry made.geometry) (seen : Control) (looks : IsRun made ((Sender s, Look seen) ∷ old.run)) where
     sees_closed : (b : Bool) → seen.closed ≡ b → w.closed ≡ b
     sees_closed b closed = closed_is tells within made geometry_is (Sender s) old.run seen looks ∙ closed
@@ -114,7 +114,7 @@ module _ (tells : IndexesTellTheQueue) (within : NeverMoreThanFull) (old new : K
         rw (sees_closed false unclosed, lt-leb (suc (head w + size made.geometry)) (tail w + many) (omega (arith, far, low, room)))
 
   module _ (t : SenderValue) (call : IsCall s t.trail old new) where
-    -- Where it looked this is what is known of that.
+    -- If it looked this is what is known of that.
     seen_in : (seen : Control) → t.trail ≡ Look seen ∷ mine → IsRun made ((Sender s, Look seen) ∷ old.run)
     seen_in seen x_is = allowed t.trail call (Look seen ∷ []) x_is
 

@@ -1,4 +1,4 @@
--- What a fill and an acknowledgement come to, by what the unit is answered, and how the simulator stands after them.
+-- The results of a fill and an acknowledgement, by what the unit is answered, and how the simulator stands after them.
 use Rattle.std.proofs.Common.{◌≡◌, refl, ap, sym, ◌∙◌, subst, ℕ, ◌+◌, ◌%◌, ◌^◌, ◌==◌, Bool, true, false, nat_le, List, [], Option, Some, None, Result, Ok, Err, append-nil}
 use Rattle.std.specs.Prelude.{⊤, ◌↔◌, Decides, OnOk, OnErr}
 use Rattle.std.specs.FinMap as finite

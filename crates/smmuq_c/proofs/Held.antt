@@ -27,7 +27,7 @@ settled_kept old rereads below new is same =
     subst (λ (h : HeldValue). StaysSettled h.unit new []) is
     (λ list length_is settled. subst (λ (s : Stored). IsSettled s.entries (list ++ [])) (sym same) (stays below list length_is settled))
 
--- Of two changes, one after another.
+-- Two changes, one after another.
 pub settled_both : (old between new : UnitValue) (first more : List Taken) → taken between.counts ≡ taken old.counts + length first
     → StaysSettled old between first → StaysSettled between new more → StaysSettled old new (first ++ more)
 settled_both old between new first more many before after list length_is settled =
@@ -56,7 +56,7 @@ told_retry old rereads below is set =
 pub differs : (a b : Raw) (r : Bool) → r ≡ not ((a.lo == b.lo) && (a.hi == b.hi)) → r ≡ true → a ≢ b
 differs a b r is holds same = search (rules, tests)
 
--- What a unit keeps that a handle holds, where its stop stays.
+-- What a unit that a handle holds keeps, if its stop stays.
 pub keeps : (old new : UnitValue) (rereads : Bool) (awaited : Option Raw) → new.stop ≡ old.stop
     → (old.stop.next ≡ awaited) × (rereads ≡ true → IsStopped old.stop.mode) × AreOwn old.caches.entries → AreOwn new.caches.entries
     → (new.stop.next ≡ awaited) × (rereads ≡ true → IsStopped new.stop.mode) × AreOwn new.caches.entries

@@ -31,7 +31,7 @@ many_new ring (suc n) = let rest = many_new ring n in omega (arith, rest, length
 pub as_many : {D : Type 0} {log2 n batches : ℕ} {ring : RingValue} {all : List SenderValue} {consumer : ConsumerValue D} → IsNewRing log2 n batches ring all consumer → length all ≡ n
 as_many {n = n} {ring = ring} new = ap (λ (l : List SenderValue). length l) new.unused.senders_are ∙ many_new ring n
 
--- as many boxes as senders, where the senders are what they hold
+-- as many boxes as senders, if the senders are what they hold
 pub as_many_boxes : (boxes : List (Box Object)) (all : List SenderValue) {n : ℕ} → boxed boxes ≡ map SenderOf all → length all ≡ n → length boxes ≡ n
 as_many_boxes boxes all same many =
     let values : length (map (λ (b : Box Object). b.value) boxes) ≡ length boxes = length-map boxes (λ (b : Box Object). b.value) in

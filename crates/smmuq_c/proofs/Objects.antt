@@ -76,7 +76,7 @@ stop_of_engine {gerrorn = gerrorn} {old = old} {new = new} {status = status} rem
       (any_engine (HasAcknowledged gerrorn (remedy_for remedy)) refl same settled (subst (λ (r : Remedy). HasAcknowledged gerrorn r old.unit new.unit status) which done)),
 )
 
--- ---- where nothing is changed
+-- ---- if nothing is changed
 
 pub read_unit : (does : UnitValue → UnitValue → Status → Type 0) {object : Object} {held : HeldValue} {status : Status}
     → object ≡ UnitOf held → StaysSettled held.unit held.unit [] → does held.unit held.unit status → OfAnyUnit does object object status

@@ -36,7 +36,7 @@ one_more_legal raws n last there none legal i raw low at =
     (λ (this : i ≡ n). let same : raw ≡ last = same_Some raw last (sym at ∙ ap (λ k. slice_get raws k) this ∙ there) in ap (λ (r : Raw). first_ill r) same ∙ none)
     (this_or_before i n low)
 
--- of one command alone
+-- of a single command
 pub one_replaced : (raws : List Raw) (n : ℕ) (ill : Ill) → n ≡ 1 → IsFirstIllegal n raws ill → HasOutcome Replaced (take n raws)
 one_replaced raws n ill one first i raw at =
     let there = at_first raws n i raw at in

@@ -19,7 +19,7 @@ use Rattle.smmuq_c.specs.MakingRings.{objects_in}
 use Rattle.smmuq_c.specs.Own.{AreOwn}
 use Rattle.smmuq_c.specs.Renewing.{IsRenewed}
 
--- What is carried is what the engine held ahead of its look.
+-- What is carried is what the engine held before its look.
 pub renewed : (sizes : Sizes) (many : ℕ) (senders : List Handle) (old last new : EngineValue) (ring : RingValue) (all : List SenderValue) (seats : List Object)
     → EngineHasLooked old last → AreAtOnePlace (control old.consumer.ring.made_with.geometry (world last.consumer.history))
     → IsSettled old.unit.caches.entries (taken_of old.consumer.trail) → AreOwn old.unit.caches.entries

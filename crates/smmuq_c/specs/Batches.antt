@@ -8,7 +8,7 @@ use Rattle.batch.specs.Refusals.{range_refusal}
 use Rattle.smmuq_c.specs.declared.status.Status.{Status}
 use Rattle.smmuq_c.specs.declared.status.Status.TheVariants.{Done, Batch, BadField, ShortBuffer}
 
--- They stand first in the buffer, and what stood behind them stays; or it is too short, and stays. Their number is told.
+-- They come first in the buffer, and what is after them stays; or it is too short, and stays. Their number is told.
 abbrev pub IsGiven : {X : Type 0} → List X → List X → List X → ℕ → Status → Type 0
 IsGiven commands old new told Done = (told ≡ length commands) × (new ≡ commands ++ drop (length commands) old)
 IsGiven commands old new told ShortBuffer = (told ≡ length commands) × (length old < length commands) × (new ≡ old)

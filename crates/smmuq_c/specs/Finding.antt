@@ -58,7 +58,7 @@ abbrev pub NoneAt : Entries → Owner → ℕ → ℕ → Type 0
 NoneAt entries owner page span =
     (finite.get entries (own_tag owner page span) ≡ None) × (finite.get entries (shared_tag owner page span) ≡ None)
 
--- It is held, the owner's own ahead of the other.
+-- It is held, the owner's own before the other.
 abbrev pub IsHeldAt : Entries → Owner → ℕ → ℕ → Entry → Type 0
 IsHeldAt entries owner page span entry =
     (finite.get entries (own_tag owner page span) ≡ Some entry)

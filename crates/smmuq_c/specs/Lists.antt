@@ -15,7 +15,7 @@ use Rattle.smmuq_c.specs.declared.listing.EntryWords.{EntryWords}
 use Rattle.smmuq_c.specs.Batches.{IsGiven}
 use Rattle.smmuq_c.specs.Entries.{entry_words}
 
--- ---- the words of a tag, 0 where it has no such field
+-- ---- the words of a tag, 0 for a field that it doesn't have
 
 abbrev pub no_tag : TagWords
 no_tag = record { kind = 0; sid = 0; has_ssid = 0; ssid = 0; vmid = 0; has_asid = 0; asid = 0; span = 0; address = 0 }
@@ -41,7 +41,8 @@ tag_words (Atc sid ssid page span) = with_substream ssid (record no_tag { kind =
 abbrev pub listed : Entry → EntryWords
 listed entry = record { tag = tag_words entry.tag; held = entry_words entry }
 
--- All entries stand first in the buffer, in the order of their tags; or it is too short, or memory ran out, and it stays.
+-- All entries come first in the buffer, in the order of their tags; or it is too short, or memory ran out, and it
+-- stays.
 abbrev pub IsListed : List Entry → List EntryWords → List EntryWords → ℕ → Status → Type 0
 IsListed entries old new told (Cache NoMemory) = new ≡ old
 IsListed entries old new told status = IsGiven (map listed entries) old new told status

@@ -1,4 +1,4 @@
--- A ring that is made: what stands in its handles.
+-- A new ring: what its handles hold.
 use Rattle.std.specs.Prelude.{◌≡◌, ◌-◌, ◌^◌, ℕ, min, List, length, map, reverse, Option, Some, None}
 use Rattle.std.specs.Global.{Box}
 use Rattle.caches.specs.declared.fault.CacheFault.TheVariants.{BadCapacity}
@@ -46,7 +46,7 @@ objects_in handles = map (λ (h : Handle). h.object) handles
 abbrev pub sender_count : List Handle → ℕ
 sender_count handles = min (length handles) (2 ^ 32 - 1)
 
--- They stand in the handles, the first sender in the first one.
+-- They are in the handles, the first sender in the first one.
 abbrev pub IsRing : {D : Type 0} → (ConsumerValue D → Object → Type 0) → ℕ → ℕ → List Handle → Option Object → Type 0
 IsRing is_taker log2 max_batches senders taker =
     (seats : List Object) × (seat : Object) × AreNewSeats is_taker log2 (length senders) max_batches seats seat

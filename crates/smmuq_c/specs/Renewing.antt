@@ -32,8 +32,8 @@ renewal_status (fault.Caches why) = Cache why
 abbrev pub GoesOnFrom : UnitValue → ℕ → ConsumerValue UnitValue → Object → Type 0
 GoesOnFrom old capacity consumer object = (unit : UnitValue) × IsCarried capacity old unit × (object ≡ EngineOf (record { consumer = consumer; unit = unit }))
 
--- The old engine looked, and PROD and CONS stood at one place; it was settled for all that it took. The new one goes on from
--- it in a new ring, whose senders stand in these handles.
+-- The old engine looked, and PROD and CONS were at one place; it was settled for all that it took. The new one goes on
+-- from it in a new ring, whose senders are in these handles.
 pub record IsRenewed (sizes : Sizes) (senders : List Handle) (old new : EngineValue) : Type 0 where
   pub last : EngineValue
   pub looked : EngineHasLooked old last

@@ -30,7 +30,7 @@ HasFoundRun most old new other = ⊥
 abbrev pub run_room : List Raw → ℕ
 run_room buffer = min (length buffer) 64
 
--- It looked. The words of the commands that are pending then stand first in the buffer, and their number is told. What
+-- It looked. The words of the commands that are pending then come first in the buffer, and their number is told. What
 -- was pending before is still in the ring: its first command comes first again.
 pub record HasLookedAhead (old_buffer new_buffer : List Raw) (told : ℕ) (old new : HeldConsumer) (status : Status) : Type 0 where
   pub room : 0 < length old_buffer

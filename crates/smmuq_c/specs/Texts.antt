@@ -6,8 +6,8 @@ use Rattle.cmdcodec.specs.Text.{text_of}
 use Rattle.smmuq_c.specs.declared.status.Status.{Status}
 use Rattle.smmuq_c.specs.declared.status.Status.TheVariants.{Done, Illegal, ShortBuffer, NoMemory}
 
--- The text stands first in the buffer, a 0 behind it, and what stood behind that stays; or the buffer is too short, and
--- stays. Its length is told.
+-- The text comes first in the buffer, then a 0, and what is after that stays; or the buffer is too short, and stays.
+-- Its length is told.
 abbrev pub IsCopied : List ℕ → List ℕ → List ℕ → ℕ → Status → Type 0
 IsCopied line old new told Done = (told ≡ length line) × (length line < length old) × (new ≡ line ++ 0 ∷ drop (length line + 1) old)
 IsCopied line old new told ShortBuffer = (told ≡ length line) × (length old ≤ length line) × (new ≡ old)

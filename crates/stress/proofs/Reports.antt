@@ -45,7 +45,7 @@ module _ (plan : PlanValue) (ring : RingValue) (senders : List SenderValue) (eng
     asked = asked;
   }
 
--- Where the ring was found closed and empty, the numbers of a run are its plan's.
+-- If the ring was found closed and empty, the numbers of a run are its plan's.
 module _ (plan : PlanValue) (plan_is : IsPlan plan) (r : ReportValue) (of_plan : r.plan ≡ plan) (is : IsOfARun plan r) (saw : SawDrained is.engine.consumer.trail) where
   many : is.ring.made_with.senders ≡ plan.senders
   many = ap (λ (made : Ring). made.senders) is.made_is

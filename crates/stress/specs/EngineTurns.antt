@@ -35,7 +35,7 @@ IsBusy answer = (answer ≢ run.Empty) × (answer ≢ run.Drained)
 
 -- ---- an engine that goes on
 
--- It took turns and nothing else, at least so many. It is of the same ring, has filled nothing, and counts what it removes.
+-- It took at least `least` turns and nothing else. It is of the same ring, filled nothing, and counts what it removes.
 pub record GoesOn (least : ℕ) (old new : EngineValue) : Type 0 where
   pub turns : ℕ
   pub enough : least ≤ turns
@@ -43,8 +43,8 @@ pub record GoesOn (least : ℕ) (old new : EngineValue) : Type 0 where
   pub ring : new.consumer.ring ≡ old.consumer.ring
   pub removes : OnlyRemoves old.unit new.unit
 
--- It is an engine of this ring. Its caches held just the first entries of so many senders, and since then it took at least so
--- many turns.
+-- It is an engine of this ring. Its caches held just the first entries of so many senders, and since then it took at
+-- least `least` turns.
 pub record IsStarted (senders least : ℕ) (ring : RingValue) (engine : EngineValue) : Type 0 where
   pub before : EngineValue
   pub filled : IsFilled senders before.unit
@@ -65,7 +65,7 @@ pub record HasDrained (slots : ℕ) (how : Found) (old new : EngineValue) : Type
   pub turned : HasTurned IsBusy busy old before
   pub ran : HasRun most_commands before new (answer_of how)
 
--- There is more to take than the ring has slots: each turn of a drain found something.
+-- Each turn of a drain found something, one turn more than the ring has slots.
 abbrev pub IsUndrained : ℕ → EngineValue → EngineValue → Type 0
 IsUndrained slots old new = HasTurned IsBusy (slots + 1) old new
 

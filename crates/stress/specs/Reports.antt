@@ -44,8 +44,8 @@ pub record HaveAsked (most : ℕ) (senders : List SenderValue) (done : List ℕ)
       → (found ≤ most) × (older : Trail) × (s.trail ≡ Ask found ∷ older)
   pub many : length done ≡ length senders
 
--- There was a ring of the plan's numbers with all of its senders, each of which sent the plan's batches, and with an engine
--- that held just the plan's first entries at its start and took all its turns. Their end is what it tells.
+-- There was a ring of the plan's numbers with all of its senders, each of which sent the plan's batches, and with an
+-- engine that held just the plan's first entries at its start and took all its turns. Their end is what it tells.
 pub record IsOfARun (plan : PlanValue) (r : ReportValue) : Type 0 where
   pub ring : RingValue
   pub senders : List SenderValue

@@ -10,7 +10,8 @@ pub enum StressFault {
     /// S1: out of memory.
     #[error("S1: out of memory")]
     NoMemory,
-    /// S2: after the workers' end a batch was refused eight times, or a drain found a command that wasn't published.
+    /// S2: after the workers' end a batch was refused eight times, a drain came to no end, or one found the ring still
+    /// open.
     #[error("S2: the run didn't come to its end")]
     Unfinished,
 }

@@ -1,4 +1,5 @@
-//! The stress run: many senders and an engine at the same time, on one ring, whose totals are a plan's for every schedule.
+//! The stress run: many senders and an engine at the same time on one ring, with the plan's totals under every
+//! schedule.
 #![tactic(auto)]
 
 mod attempt;

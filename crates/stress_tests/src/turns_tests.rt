@@ -149,8 +149,8 @@ fn turns_that_run_out(rt: HostRuntime) {
 /// How many turns the engine has here.
 const TURNS: u32 = 3_000_000;
 
-/// One sender on a ring that one batch fills. Its first batch waits for the engine's last turn, which waits for that batch
-/// to be sent.
+/// One sender on a ring that one batch fills. Its first batch waits for the engine's last turn, which waits for that
+/// batch to be sent.
 #[derive(Drop)]
 struct LastTurn {
     told: Told,

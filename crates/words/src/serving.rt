@@ -11,7 +11,7 @@ use std::io::{Read, Write};
 /// `illegal` and the fault, or what is bad. Returns how it went, refused if any line is no legal command, and notes on
 /// which word of each `bad line` is wrong.
 ///
-/// Each answer is written and flushed before the read that follows its line. A line of more than 4,096 bytes ends the run.
+/// Each answer is written and flushed before the read that follows its line. A line of over 4,096 bytes ends the run.
 pub fn words_with_notes<R: Read, W: Write>(
     alloc: Global,
     input: &mut R,

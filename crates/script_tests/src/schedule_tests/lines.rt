@@ -1,4 +1,4 @@
-//! What a line has to be, and what may stand before a ring is made and after.
+//! What a line has to be, and what may come before a ring is made and after.
 use super::playing::{expect_lines, expect_schedules};
 use crate::served::expect_answer;
 use script::Status;

@@ -55,6 +55,6 @@ fn no_answer_waits_for_a_later_read(rt: HostRuntime) {
     };
     let mut output = Watched { written: &written };
     let ended = serve_lengths(rt.alloc(), &mut input, &mut output);
-    // Each answer has five bytes. The first line is read by the 1st call, the second by the 3rd, and the third by the 5th.
+    // Each answer has five bytes. The 1st call reads the first line, the 3rd the second, and the 5th the third.
     assert_eq!(rt; (ended.is_ok(), input.seen), (true, [0, 5, 5, 10, 10, 15]));
 }

@@ -1,4 +1,4 @@
--- A try to reserve a batch, and how what was reserved is handed over: how they are answered, and which events they are.
+-- A try to reserve a batch, and its publication: how they are answered, and which events they are.
 use Rattle.std.specs.Prelude.{ℕ, ◌+◌, Bool, nat_lt, nat_le, List, ◌∷◌, ◌++◌, Option, Some, None, Result, Ok, Err, if◌then◌else◌}
 use Rattle.ring.specs.Runs.{Raw, Who, Sender, Look, Won, Trail, Run, trail_of, batches_made, World, tail, head, world, control, Ring, length_with}
 use Rattle.qindex.specs.Positions.{size, index_of}

@@ -1,4 +1,4 @@
--- The queue by a keeper: what is left of each sender between two calls, and what a try to reserve comes to.
+-- The queue by a keeper: what is left of each sender between two calls, and the result of a try to reserve.
 use Rattle.std.specs.Prelude.{◌≡◌, ℕ, ◌<◌, Bool, List, [], length, slice_index_or, None, Result, Ok, Err}
 use Rattle.ring.specs.Runs.{Raw, trail_of, Ring, Consumer, Sender}
 use Rattle.qindex.specs.Positions.{IndexValue}
@@ -73,7 +73,7 @@ pub record LeavesConsumer (old new : KeeperValue) : Type 0 where
   pub left : (head : IndexValue) (taken : ℕ) → IsIdleConsumer old head taken → IsIdleConsumer new head taken
   pub trail_is : trail_of Consumer new.run ≡ trail_of Consumer old.run
 
--- ---- what a try to reserve comes to
+-- ---- the result of a try to reserve
 
 -- a try by a sender of the keeper's ring
 abbrev pub tried_by : KeeperValue → ℕ → List Raw → Bool → Try

@@ -87,7 +87,7 @@ fn named(place: u16) -> Tag {
     }
 }
 
-/// Of streams and machines from 1,000 on, a few of each.
+/// Entries of streams and machines from 1,000 on, a few of each.
 fn other(place: u16) -> Tag {
     let owner = 1_000 + place / 64;
     match place % 4 {
@@ -117,7 +117,7 @@ impl Contents {
         }
     }
 
-    /// Caches that are full with so many entries, or none where memory ran out.
+    /// Returns caches full with `size` entries, or None if memory ran out.
     pub(crate) fn full(self, alloc: Global, size: u32) -> Option<Caches>
         requires { size ≤ 65536 }
     {
