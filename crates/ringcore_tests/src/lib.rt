@@ -1,5 +1,4 @@
-//! Tests of ringcore. They stand in a crate of their own, since a build of a crate's tests proves the crate
-//! once more.
+//! Tests of ringcore. They are in a separate crate, since building a crate's tests proves the crate again.
 #![tactic(auto)]
 
 #[cfg(test)]
