@@ -19,7 +19,7 @@ fn command(letter: &str) -> Option<Raw> {
     }
 }
 
-/// The batch that these letters say, if they say one.
+/// The batch of these letters, if they are one.
 pub fn batch(letters: &str) -> Option<Batch> {
     let mut body = [LEGAL; 63];
     let mut count = 0;

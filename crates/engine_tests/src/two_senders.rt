@@ -1,11 +1,11 @@
-//! How the parts of a ring of two senders come together.
+//! Joins the parts of a ring of two senders.
 ghost use Rattle.std.specs.Prelude.{◌≡◌, []};
 
 use engine::{Engine, Finished};
 use ring::{Ring, Sender};
 use std::process::Abort;
 
-/// Joins them: what the engine leaves.
+/// Joins them. Returns what is left of the engine and its ring.
 pub fn finish(
     rt: &impl Abort,
     ring: Ring,
