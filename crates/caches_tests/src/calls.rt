@@ -1,15 +1,15 @@
-//! Texts of calls of caches, one per line, with its answer after ` = `.
+//! Texts of calls of caches, each on a line with its answer behind ` = `.
 use crate::notation::{command, entry, next_entry, tag};
 use caches::{Caches, Entry};
 use std::alloc::Global;
 use std::process::Abort;
 
-/// Caches with this capacity.
+/// Caches of this capacity.
 pub fn caches_of<R: AllocGlobal + Abort>(rt: &R, capacity: u32) -> Caches {
     Caches::new(rt.alloc(), capacity).expect(rt, "caches")
 }
 
-/// Puts in an entry whose tag no entry held has.
+/// Puts an entry in, of a tag that none held has.
 pub fn expect_filled(rt: &impl Abort, caches: &mut Caches, new: Entry) {
     assert_eq!(rt; caches.fill(new), Ok(None));
 }
@@ -59,7 +59,7 @@ fn evict(alloc: Global, caches: &mut Caches, text: &str) -> Option<String> {
     told(alloc, caches.evict(&tag))
 }
 
-/// The answer to a call, which its first word names.
+/// The answer to a call, which is told by its first word.
 fn answer(alloc: Global, caches: &mut Caches, call: &str) -> Option<String> {
     let (name, text) = call.split_once(" ").unwrap_or((call, ""));
     match name {
@@ -72,7 +72,7 @@ fn answer(alloc: Global, caches: &mut Caches, call: &str) -> Option<String> {
     }
 }
 
-/// Whether exactly these entries are listed, in this order.
+/// Whether just these entries are listed, in this order.
 pub fn lists(caches: &Caches, wanted: &str) -> bool {
     let Ok(list) = caches.entries() else {
         return false;
@@ -86,7 +86,7 @@ pub fn lists(caches: &Caches, wanted: &str) -> bool {
     words.next().is_none()
 }
 
-/// Makes the calls of a text and expects the answers given there.
+/// Makes the calls of a text, and wants of each the answer that stands behind it.
 pub fn expect_answers<R: AllocGlobal + Abort>(rt: &R, caches: &mut Caches, calls: &str) {
     for line in calls.lines() {
         let (call, wanted) = line.split_once(" = ").unwrap_or((line, ""));

@@ -48,7 +48,7 @@ fn the_upper_half_of_the_streams_is_a_block(rt: HostRuntime) {
     );
 }
 
-// The fault of a malformed block comes before that of full caches.
+// A malformed block is told ahead of full caches.
 #[test]
 fn blocks_are_refused_by_their_form(rt: HostRuntime) {
     expect_answers(

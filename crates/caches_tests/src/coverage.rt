@@ -1,4 +1,4 @@
-//! Each command with a tag that it covers and one that it only just doesn't.
+//! Each command with a tag that it covers and one that it just doesn't.
 use crate::parting::expect_parted;
 
 #[test]

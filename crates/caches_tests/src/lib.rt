@@ -1,5 +1,5 @@
-//! Tests of caches. They are in a separate crate, since building a crate's tests proves the crate again. Most
-//! are texts of calls and their answers (`calls`), since a text costs the prover little.
+//! Tests of caches. They stand in a crate of their own, since a build of a crate's tests proves the crate once
+//! more. Most are texts of calls and their answers (`calls`), since a text costs the prover little.
 #![tactic(auto)]
 
 #[cfg(test)]

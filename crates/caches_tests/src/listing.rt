@@ -1,4 +1,4 @@
-//! All entries, in tag order.
+//! All entries, in the order of their tags.
 use crate::calls::{caches_of, expect_answers, expect_filled, lists};
 use crate::notation::{cd, ste};
 use caches::Caches;

@@ -3,7 +3,7 @@ use crate::notation::{cd, ste};
 use caches::{CacheFault, Caches, Entry};
 use std::alloc::Global;
 
-/// Puts an entry in, trying once more if memory runs out. Whether it was put in at once, or `None` if an
+/// Puts an entry in; where memory runs out, twice. Whether it was put in at once, or none where an
 /// answer is wrong.
 fn fill(caches: &mut Caches, new: Entry) -> Option<bool> {
     let before = caches.len();
@@ -20,7 +20,7 @@ fn fill(caches: &mut Caches, new: Entry) -> Option<bool> {
     }
 }
 
-/// The sum of the values listed.
+/// The sum of the values that are listed.
 fn sum(caches: &Caches) -> Option<u64> {
     match caches.entries() {
         Ok(list) => Some(
@@ -32,7 +32,7 @@ fn sum(caches: &Caches) -> Option<u64> {
     }
 }
 
-/// Fills and lists, and says how it went. Memory may run out for one call, and is there again then.
+/// Fills and lists, and says how it went. Memory for one call may run out, and then it is had again.
 fn run(alloc: Global) -> &'static str {
     let mut outcome = "whole";
     let Ok(mut caches) = Caches::new(alloc, 40) else {
@@ -57,7 +57,7 @@ fn run(alloc: Global) -> &'static str {
     }
 }
 
-// Only the caches allocate here, so that each of their allocations can be made to fail.
+// Nothing but the caches allocates here, so that each of their allocations can be made to fail.
 #[test]
 fn every_allocation_of_caches(rt: HostRuntime) {
     let outcome = run(rt.alloc());

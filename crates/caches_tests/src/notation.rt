@@ -1,4 +1,4 @@
-//! Tags, entries and commands as words of a text. A number is decimal, or hexadecimal after `0x`.
+//! Tags, entries and commands as words of a text. A number is decimal, or hexadecimal behind `0x`.
 //!
 //! A tag is one of `ste SID`, `cd SID SSID`, `s1 VMID SCOPE PAGE SPAN`, `s2 VMID PAGE SPAN`,
 //! `el2 SCOPE PAGE SPAN` and `atc SID SSID PAGE SPAN`, where SCOPE is an ASID or `g` for all address spaces, and
@@ -43,7 +43,7 @@ fn next_substream(words: &mut SplitWhitespace<'_>) -> Option<Option<Ssid>> {
     Some(Some(Ssid::new(number(word)?)?))
 }
 
-/// A page, and the number of pages of a block as a power of 2.
+/// A page, and how many pages a block has, as a power of 2.
 fn next_block(words: &mut SplitWhitespace<'_>) -> Option<(Page, u8)> {
     let page = Page::new(next_number(words)?)?;
     let span = u8::try_from(next_number(words)?).ok()?;
@@ -106,13 +106,13 @@ fn next_tag(words: &mut SplitWhitespace<'_>) -> Option<Tag> {
     }
 }
 
-/// The tag of a text, if it is one.
+/// The tag that a text says, if it is one.
 pub fn tag(text: &str) -> Option<Tag> {
     let mut words = text.split_whitespace();
     next_tag(&mut words)
 }
 
-/// The entry of the next words, if they are one.
+/// The entry that the next words say, if they say one.
 pub fn next_entry(words: &mut SplitWhitespace<'_>) -> Option<Entry> {
     Some(Entry {
         tag: next_tag(words)?,
@@ -121,13 +121,13 @@ pub fn next_entry(words: &mut SplitWhitespace<'_>) -> Option<Entry> {
     })
 }
 
-/// The entry of a text, if it is one.
+/// The entry that a text says, if it is one.
 pub fn entry(text: &str) -> Option<Entry> {
     let mut words = text.split_whitespace();
     next_entry(&mut words)
 }
 
-/// An entry with this tag.
+/// An entry of this tag.
 pub fn entry_of(tag: Tag) -> Entry {
     Entry {
         tag,
@@ -149,7 +149,7 @@ pub fn cd(stream: u32) -> Entry {
     entry_of(Tag::Cd { sid, ssid })
 }
 
-/// The command of a text, which has its two words, lo and hi, and then its own text.
+/// The command that a text says by its two words, lo and hi, and again by its own text behind them.
 pub fn command(alloc: Global, words: &str) -> Option<Command> {
     let (lo, rest) = words.split_once(" ")?;
     let (hi, name) = rest.split_once(" ")?;

@@ -5,7 +5,7 @@ use caches::Tag;
 use cmdcodec::Command;
 use std::process::Abort;
 
-/// Whether the command removes the first tag from caches that hold both, and not the second.
+/// Whether the command takes the first tag from caches that hold both, and not the second.
 fn parts<R: AllocGlobal + Abort>(rt: &R, command: &Command, covered: Tag, spared: Tag) -> bool {
     let mut caches = caches_of(rt, 2);
     expect_filled(rt, &mut caches, entry_of(covered));
@@ -15,7 +15,7 @@ fn parts<R: AllocGlobal + Abort>(rt: &R, command: &Command, covered: Tag, spared
     removed == 1 && left == (None, Some(entry_of(spared)))
 }
 
-/// The same for a line `COMMAND: COVERED | SPARED`.
+/// The same of a line `COMMAND: COVERED | SPARED`.
 fn is_parted<R: AllocGlobal + Abort>(rt: &R, line: &str) -> bool {
     let (words, tags) = line.split_once(": ").expect(rt, line);
     let (covered, spared) = tags.split_once(" | ").expect(rt, line);
@@ -25,8 +25,7 @@ fn is_parted<R: AllocGlobal + Abort>(rt: &R, line: &str) -> bool {
     parts(rt, &command, covered, spared)
 }
 
-/// Expects of each line that its command removes the first tag from caches that hold both, and not the
-/// second.
+/// Wants of each line that its command takes the first tag from caches that hold both, and not the second.
 pub fn expect_parted<R: AllocGlobal + Abort>(rt: &R, table: &str) {
     for line in table.lines() {
         assert!(rt; is_parted(rt, line), "{line}");

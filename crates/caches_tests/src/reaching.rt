@@ -1,4 +1,4 @@
-//! Invalidations by range, each with a block that it reaches and one that it only just doesn't.
+//! Invalidations by range: each with a block that it reaches and one that it just doesn't.
 use crate::calls::{caches_of, expect_answers, lists};
 use crate::parting::expect_parted;
 

@@ -2,7 +2,7 @@
 use crate::calls::{caches_of, expect_answers, lists};
 use std::process::Abort;
 
-/// An entry of each kind, in tag order.
+/// An entry of each kind, in the order of their tags.
 const EACH: &str = "ste 5 7 3\n\
                     cd 5 1 7 3\n\
                     s1 1 2 8 0 7 3\n\
@@ -10,7 +10,7 @@ const EACH: &str = "ste 5 7 3\n\
                     el2 2 8 0 7 3\n\
                     atc 5 1 8 0 7 3";
 
-/// Makes a call of caches that hold an entry of each kind, and expects these to be left.
+/// Makes a call of caches that hold an entry of each kind, and wants these left.
 fn expect_left<R: AllocGlobal + Abort>(rt: &R, call: &str, left: &str) {
     let mut caches = caches_of(rt, 6);
     expect_answers(

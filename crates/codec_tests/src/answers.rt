@@ -1,9 +1,9 @@
-//! Texts of calls, one per line, with its answer after ` = `.
+//! Texts of calls, each on a line with its answer behind ` = `.
 use crate::{cmdcodec_tests, qindex_tests};
 use std::alloc::Global;
 use std::process::Abort;
 
-/// The answer if there is nothing.
+/// The answer where there is nothing.
 pub fn none(alloc: Global) -> Option<String> {
     String::from_str(alloc, "none").ok()
 }
@@ -16,7 +16,7 @@ fn answer(alloc: Global, call: &str) -> Option<String> {
     }
 }
 
-/// Expects a text as the answer of a line.
+/// Wants a text as the answer of a line.
 pub fn expect_text<R: AllocGlobal + Abort>(
     rt: &R,
     line: &str,
@@ -27,7 +27,7 @@ pub fn expect_text<R: AllocGlobal + Abort>(
     assert!(rt; text.as_str() == wanted, "{line}, not {text}");
 }
 
-/// Makes the calls of a text and expects the answers given there.
+/// Makes the calls of a text, and wants of each the answer that stands behind it.
 pub fn expect_answers<R: AllocGlobal + Abort>(rt: &R, calls: &str) {
     for line in calls.lines() {
         let (call, wanted) = line.split_once(" = ").unwrap_or((line, ""));

@@ -1,4 +1,4 @@
-//! What no clause says: the words of some batches, the texts of faults, and which of two faults is returned.
+//! What no clause says: the words of some batches, the texts of faults, and which of two faults is told.
 use crate::answers::{expect_text, none};
 use crate::cmdcodec_tests::words::{raw, words};
 use crate::numbers::{next_u64, number};
@@ -30,7 +30,7 @@ fn invalidate(batch: &mut Batch, asked: &str) -> Option<Result<(), BatchFault>> 
     Some(batch.invalidate_range(vmid, asid, page, next_u64(&mut numbers)?))
 }
 
-/// A list of this many commands, with a CMD_SYNC at the place named, if one is.
+/// A list of so many commands, with a CMD_SYNC at the place that is named, if one is.
 fn list(asked: &str) -> Option<Result<Batch, BatchFault>> {
     let mut numbers = asked.split_whitespace();
     let count = next_u64(&mut numbers)?;
@@ -54,7 +54,7 @@ fn push(batch: &mut Batch, asked: &str) -> Option<Result<(), BatchFault>> {
     }
 }
 
-/// The batch that a call makes, if the call is one that makes a batch.
+/// The batch that a call makes, if it is one that makes a batch.
 fn maker(name: &str, asked: &str) -> Option<Result<Batch, BatchFault>> {
     match name {
         "new" => Some(Batch::new(raw(asked)?)),
@@ -65,13 +65,13 @@ fn maker(name: &str, asked: &str) -> Option<Result<Batch, BatchFault>> {
     }
 }
 
-/// Replaces a batch by one that was made.
+/// Puts a batch that was made in the place of another.
 fn replace(batch: &mut Batch, made: Result<Batch, BatchFault>) -> Result<(), BatchFault> {
     *batch = made?;
     Ok(())
 }
 
-/// The result of a call that may change the batch.
+/// What a call comes to that may change the batch.
 fn change(batch: &mut Batch, name: &str, asked: &str) -> Option<Result<(), BatchFault>> {
     match name {
         "push" => push(batch, asked),
@@ -89,7 +89,7 @@ fn get(alloc: Global, batch: &Batch, asked: &str) -> Option<String> {
     }
 }
 
-/// The answer to a call: if it may change the batch, the length after it or the fault.
+/// The answer to a call: where it may change the batch, the length that the batch then has, or the fault.
 fn answer(alloc: Global, batch: &mut Batch, call: &str) -> Option<String> {
     let (name, asked) = call.split_once(" ").unwrap_or((call, ""));
     if name == "get" {
@@ -104,7 +104,7 @@ fn answer(alloc: Global, batch: &mut Batch, call: &str) -> Option<String> {
     }
 }
 
-/// Makes the calls of a text on one batch after another, and expects the answers given there.
+/// Makes the calls of a text on one batch after another, and wants of each the answer that stands behind it.
 fn expect_answers<R: AllocGlobal + Abort>(rt: &R, calls: &str) {
     let mut batch = Batch::new(CFGI_STE).expect(rt, "no sync");
     for line in calls.lines() {
@@ -204,7 +204,7 @@ fn lists_are_refused_in_order(rt: HostRuntime) {
     );
 }
 
-// An unknown opcode isn't a CMD_SYNC.
+// An unknown opcode is no CMD_SYNC.
 #[test]
 fn commands_are_appended(rt: HostRuntime) {
     expect_answers(

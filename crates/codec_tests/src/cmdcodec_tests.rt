@@ -1,4 +1,4 @@
-//! What no clause says: words with their commands and texts, taken from the layout.
+//! What no clause says: words with the commands and the texts that they stand for, taken from the layout.
 mod fields;
 mod legality;
 mod pages;
@@ -7,7 +7,7 @@ pub mod words;
 
 use std::alloc::Global;
 
-/// The answer to a call with this name, if there is one.
+/// The answer to a call of this name, where there is one.
 pub fn answer(alloc: Global, name: &str, asked: &str) -> Option<String> {
     match name {
         "vector" => vectors::vector(alloc, asked),

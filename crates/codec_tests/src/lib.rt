@@ -1,5 +1,5 @@
-//! Tests of cmdcodec, qindex and batch. They are in a separate crate, since building a crate's tests proves
-//! the crate again. Most are texts of calls and their answers (`answers`), since a text costs the prover
+//! Tests of cmdcodec, qindex and batch. They stand in a crate of their own, since a build of a crate's tests
+//! proves the crate once more. Most are texts of calls and their answers (`answers`), since a text costs the prover
 //! little.
 #![tactic(auto)]
 

@@ -1,4 +1,4 @@
-//! Numbers in texts, decimal, or hexadecimal after `0x`.
+//! Numbers in texts, decimal or hexadecimal behind `0x`.
 use std::str::SplitWhitespace;
 
 pub fn number(word: &str) -> Option<u64> {

@@ -1,10 +1,10 @@
-//! What no clause says: numbers worked out by hand.
+//! What no clause says: numbers that were worked out by hand.
 mod indexes;
 mod words;
 
 use std::alloc::Global;
 
-/// The answer to a call with this name, if there is one.
+/// The answer to a call of this name, where there is one.
 pub fn answer(alloc: Global, name: &str, asked: &str) -> Option<String> {
     match name {
         "ring" => indexes::ring(alloc, asked),

@@ -1,4 +1,4 @@
--- What a driver concludes from an ask and `Engine::told` after it.
+-- What a driver concludes of an ask and of `Engine::told` behind it.
 use Rattle.std.proofs.Common.{◌≡◌, ℕ, ◌≤◌, ◌∷◌, ◌++◌, [], Bool, true, sym, ap, ◌∙◌}
 use Rattle.std.proofs.lemmas.Bool.{leb-true}
 use Rattle.std.proofs.lemmas.List.{append_assoc}

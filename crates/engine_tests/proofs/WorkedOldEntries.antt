@@ -1,4 +1,4 @@
--- Entries that are too old: for each, the definitions of what was told and of what is settled are false.
+-- Entries that are too old: of each the definitions of what was told, and of what is settled, are false.
 use Rattle.std.proofs.Common.{◌≡◌, ℕ, zero, suc, ◌<◌, ◌≤◌, Bool, true, false, ◌||◌, List, [], ◌∷◌, ◌++◌, Some, None, refl, sym, ap, ap₂, subst, ◌∙◌, leb-true, ltb-true, arith}
 use Rattle.std.specs.Prelude.{slice_get}
 use Rattle.std.specs.FinMap as finite
@@ -31,7 +31,7 @@ use Rattle.ringcore_tests.proofs.WorkedTold.{told_21, told_22}
 
 -- ---- the entries
 
--- the stream table entry of a stream, filled after this many commands
+-- the stream table entry of a stream, filled after so many commands
 abbrev entry_of : ℕ → ℕ → Entry
 entry_of sid born = record { tag = Ste sid; value = 0; born = born }
 
@@ -55,7 +55,7 @@ legal_y = refl
 
 -- ---- what is settled
 
--- CFGI_STE of stream 5 is taken, and an entry of that stream is held that was filled before.
+-- CFGI_STE of stream 5 is taken, and an entry of that stream stands that was filled before.
 pub stale_is_not_settled : (entries : Entries) → Holds entries 5 0 → ¬ IsSettled entries (taken_as x ∷ [])
 unfolding opcode_named
 stale_is_not_settled entries held settled =
@@ -71,11 +71,11 @@ unborn_is_not_settled entries held settled = let born : 2 ≤ 1 = (settled (Ste 
 pub as_old_is_older : (entries : Entries) → Holds entries 6 1 → ¬ NoneIsOlder entries (x ∷ y ∷ [])
 as_old_is_older entries held none = let after : 1 < 1 = none (Ste 6) (entry_of 6 1) held 1 y (CfgiSte 6 true) refl legal_y spelled_y refl in absurd (omega (arith, after))
 
--- So does one from before the ring's first command, and one from before the command ahead.
+-- So does one that stood before the ring's first command, and one before the command ahead.
 pub first_is_older : (entries : Entries) → Holds entries 5 0 → ¬ NoneIsOlder entries (x ∷ y ∷ [])
 first_is_older entries held none = let after : 0 < 0 = none (Ste 5) (entry_of 5 0) held 0 x (CfgiSte 5 true) refl legal_x spelled_x refl in absurd (omega (arith, after))
 
--- ---- what sender 1 was told of its batch, after one of sender 0
+-- ---- what sender 1 was told of its batch, behind one of sender 0
 
 nothing_is_more : {A : Type 0} (xs : List A) (a : A) (ys : List A) → ¬ ([] ≡ xs ++ a ∷ ys)
 nothing_is_more [] a ys is = absurd (cc)
@@ -121,7 +121,7 @@ abbrev rest_of : List Batch → List Batch
 rest_of [] = []
 rest_of (b ∷ bs) = bs
 
--- Before its closing sync are the command of sender 0, and its own.
+-- Ahead of its closing sync stand the command of sender 0, and its own.
 ahead_of_sync : (ahead behind : List Batch) (body : List Raw) → batches told_21 ≡ ahead ++ batch_of_y body ∷ behind → joined ahead ++ body ≡ x ∷ y ∷ []
 ahead_of_sync [] behind body is = let same : 0 ≡ 1 = ap (λ bs. (first_of bs).sender) is in absurd (omega (arith, same))
 ahead_of_sync (a ∷ []) behind body is =
@@ -140,17 +140,17 @@ none_older entries older truly =
     let some : 1 ≤ 1 = leb-true 1 1 refl in
     subst (NoneIsOlder entries) (reserved_is told.earlier (before_ask told.later told.earlier 1 1 told.run_is) (told.applied 1 some some)) (truly.none_older 1 some some)
 
--- An entry is held that was filled when its own command was next to be taken.
+-- An entry stands that was filled when its own command was next to be taken.
 pub own_command_is_missed : (entries : Entries) (older : Trail) → Holds entries 6 1 → ¬ WasToldTruly told_22 entries 1 1 older
 own_command_is_missed entries older held truly = as_old_is_older entries held (none_older entries older truly)
 
--- One is held that the command of sender 0, which is ahead, covers.
+-- One stands that the command of sender 0, which is ahead, covers.
 pub command_ahead_is_missed : (entries : Entries) (older : Trail) → Holds entries 5 0 → ¬ WasToldTruly told_22 entries 1 1 older
 command_ahead_is_missed entries older held truly = first_is_older entries held (none_older entries older truly)
 
--- ---- when it is true
+-- ---- where it is true
 
--- If all entries were filled after the three commands, what sender 1 was told is true.
+-- Where all entries were filled behind the three commands, what sender 1 was told is so.
 applied_then : IsApplied told_21 1 1
 unfolding encoding opcode_named
 applied_then = record {
@@ -188,7 +188,7 @@ young_entries_are_no_fault entries young = record {
 
 -- ---- the end of an engine
 
--- What is told at the end is told of every sender, including sender 1.
+-- What is told at the end is told of every sender: of sender 1 too.
 pub end_tells_each_sender : (ring : RingValue) (senders : List SenderValue) (engine : EngineValue) (summary : SummaryValue) (counts : CountsValue) (entries : Entries) (end : IsEngineEnd ring senders engine summary counts entries)
     → end.end_is.run ≡ told_22 → (s : SenderValue) → slice_get senders 1 ≡ Some s → s.trail ≡ Ask 1 ∷ trail_of (Sender 1) told_21 → ¬ Holds entries 6 1
 end_tells_each_sender ring senders engine summary counts entries end run_is s at trail_is held =

@@ -5,8 +5,8 @@ use Rattle.ringcore.specs.world.Laws.{IsApplied}
 use Rattle.caches.specs.Held.{Entries}
 use Rattle.engine.specs.Ends.{NoneIsOlder, reserved_ahead}
 
--- In an older part of this run the sender's batch with this number was applied, and no entry is older than a
--- command that was reserved before its CMD_SYNC and covers it.
+-- In an older part of this run the batch of this number of a sender was applied, and no entry is held that was filled
+-- before a command reserved ahead of its CMD_SYNC, and that this command covers.
 pub record IsDoneTruly (run : Run) (entries : Entries) (sender number : ℕ) : Type 0 where
   pub later : Run
   pub earlier : Run

@@ -1,4 +1,4 @@
-//! Texts of calls of an engine and its ring's only sender, one per line, with its answer after ` = `.
+//! Texts of calls of an engine and its ring's only sender, each on a line with its answer behind ` = `.
 ghost use Rattle.std.specs.Prelude.{◌≡◌, []};
 
 use crate::commands::batch;
@@ -86,7 +86,7 @@ fn lookup(alloc: Global, engine: &Engine, text: &str) -> Option<String> {
     told::held(alloc, engine.lookup(&Tag::Ste { sid }))
 }
 
-/// The answer to a question about an engine, without a step.
+/// What is told of an engine without a step.
 fn state(alloc: Global, engine: &Engine, name: &str, text: &str) -> Option<String> {
     match name {
         "lookup" => lookup(alloc, engine, text),
@@ -101,7 +101,7 @@ fn state(alloc: Global, engine: &Engine, name: &str, text: &str) -> Option<Strin
     }
 }
 
-/// The answer to a call of the engine, which its first word names.
+/// The answer to a call of the engine, which is told by its first word.
 fn call(alloc: Global, ring: &Ring, engine: &mut Engine, name: &str, text: &str) -> Option<String>
     requires { engine.old.consumer.ring ≡ ring.now }
     ensures { engine.new.consumer.ring ≡ ring.now }
@@ -146,7 +146,7 @@ fn answer(alloc: Global, ring: &Ring, parts: Parts, line: &str) -> (Parts, Optio
     (Parts { sender, engine }, answer)
 }
 
-/// Makes the calls of a text and expects the answers given there.
+/// Makes the calls of a text, and wants of each the answer that stands behind it.
 pub fn expect_answers<R: AllocGlobal + Abort>(
     rt: &R,
     ring: &Ring,
@@ -170,8 +170,7 @@ pub fn expect_answers<R: AllocGlobal + Abort>(
     parts
 }
 
-/// A new ring of `2^log2` slots, its only sender, which may send this many batches, and an engine with this
-/// many entries at most.
+/// A new ring of `2^log2` slots, its only sender, who may send so many batches, and an engine with so many entries.
 pub fn start<R: AllocGlobal + Abort>(
     rt: &R,
     log2: u32,

@@ -19,7 +19,7 @@ fn command(letter: &str) -> Option<Raw> {
     }
 }
 
-/// The batch of these letters, if they are one.
+/// The batch that these letters say, if they say one.
 pub fn batch(letters: &str) -> Option<Batch> {
     let mut body = [LEGAL; 63];
     let mut count = 0;

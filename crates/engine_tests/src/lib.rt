@@ -1,4 +1,4 @@
-//! Tests of the engine. They are in a separate crate, since building a crate's tests proves the crate again.
+//! Tests of the engine. They stand in a crate of their own, since a build of a crate's tests proves the crate once more.
 #![tactic(auto)]
 
 #[cfg(test)]

@@ -9,8 +9,8 @@ use engine::{Engine, Remedy, RunAnswer};
 use ring::Ring;
 use std::process::Abort;
 
-/// Makes the calls of a text on a new ring of `2^log2` slots with one sender, and expects the answers given
-/// there, and at the end that all that was reserved is taken.
+/// Makes the calls of a text on a new ring of `2^log2` slots with one sender, and wants the answers, and at the end that
+/// all that was reserved is taken.
 fn row<R: AllocGlobal + Abort>(rt: &R, log2: u32, calls: &str) {
     let (ring, senders, parts) = start(rt, log2, 100, 8);
     let parts = expect_answers(rt, &ring, parts, calls);
@@ -19,7 +19,7 @@ fn row<R: AllocGlobal + Abort>(rt: &R, log2: u32, calls: &str) {
     assert_eq!(rt; end.summary.taken(), end.counts.taken());
 }
 
-/// Stops at an illegal command and replaces it, `times` times. Returns how often both happened.
+/// Stops at an illegal command and replaces it, so many times: how often both came about.
 fn replace_each(ring: &Ring, engine: &mut Engine, times: u32) -> u32
     requires { engine.old.consumer.ring ≡ ring.now }
     ensures ring { engine.new.consumer.ring ≡ ring.now }

@@ -1,5 +1,5 @@
-//! The engine on a thread beside two senders on theirs, and beside one whose way is blocked by the other's
-//! reservation.
+//! The engine on a thread of its own, beside two senders on threads of theirs, and beside one whose way is blocked by
+//! the other's reservation.
 ghost use Rattle.std.specs.Prelude.{◌≡◌, ◌≤◌};
 
 use crate::commands::LEGAL;
@@ -12,7 +12,7 @@ use ring::{Cause, Reservation, Ring, RingFault, Sender};
 use std::process::Abort;
 use std::thread::{Threads, join};
 
-/// Sends up to `count` batches, with 50 tries each. Returns how many of them were sent.
+/// Sends up to `count` batches, at 50 tries each: how many of them were sent.
 fn send_many(ring: &Ring, sender: Sender, batch: &Batch, count: u32) -> (Sender, u32)
     requires { sender.ring ≡ ring.now }
     ensures ring { result.0.ring ≡ ring.now }
@@ -29,7 +29,7 @@ fn send_many(ring: &Ring, sender: Sender, batch: &Batch, count: u32) -> (Sender,
     (sender, count)
 }
 
-/// Takes `turns` steps of runs.
+/// So many steps of runs.
 fn step_many(ring: &Ring, engine: Engine, turns: u32) -> Engine
     requires { engine.consumer.ring ≡ ring.now }
     ensures { result.consumer.ring ≡ ring.now }
@@ -41,7 +41,7 @@ fn step_many(ring: &Ring, engine: Engine, turns: u32) -> Engine
     engine
 }
 
-/// Sends `left` more batches, each after a few steps of the engine that make room.
+/// Sends what is left of so many batches, each behind a few steps of the engine that make room.
 fn send_rest(
     ring: &Ring,
     sender: Sender,
@@ -98,7 +98,7 @@ fn two_senders_beside_the_engine(rt: HostRuntime) -> Result<(), RingFault> {
             ensures { result.consumer.ring ≡ ring }
         { step_many(&ring, engine, 20_000) },
     );
-    // The rest is on one thread.
+    // The rest on one thread.
     let (first, engine) = send_rest(&ring, first, engine, &batch, 5_000 - sent);
     let (second, engine) = send_rest(&ring, second, engine, &batch, 5_000 - sent_too);
     let end = finish(&rt, ring, senders, first, second, engine);
@@ -119,7 +119,7 @@ fn two_senders_beside_the_engine(rt: HostRuntime) -> Result<(), RingFault> {
     Ok(())
 }
 
-/// Reserves a batch. Nothing is in its way.
+/// Reserves a batch, where nothing is in its way.
 fn reserve<'b>(rt: &impl Abort, ring: &Ring, sender: Sender, batch: &'b Batch) -> Reservation<'b>
     requires { sender.ring ≡ ring.now }
     ensures ring { result.ring ≡ ring.now }
@@ -141,8 +141,7 @@ fn publish(ring: &Ring, reservation: Reservation<'_>) -> Sender
     sender
 }
 
-/// Sends up to `count` batches, with 1,000 tries each. Returns how many of them were sent, and why the next
-/// one wasn't.
+/// Sends up to `count` batches, at 1,000 tries each: how many of them were sent, and why the next one wasn't.
 fn send_until_refused(
     ring: &Ring,
     sender: Sender,
@@ -163,8 +162,7 @@ fn send_until_refused(
     (sender, (count, None))
 }
 
-/// Takes `turns` steps. Returns how many found the head unwritten, how many applied the command there, and
-/// how many found none.
+/// So many steps: how many found the head unwritten, how many applied the command there, and how many found none.
 fn count_steps(ring: &Ring, engine: Engine, turns: u32) -> (Engine, (u32, u32, u32))
     requires { engine.consumer.ring ≡ ring.now }
     ensures { result.0.consumer.ring ≡ ring.now }
@@ -209,7 +207,7 @@ fn send_four_beside(
     )
 }
 
-// Nothing after the reservation is taken, so three batches of two commands fill the ring.
+// Nothing behind the reservation is taken, and so three batches of two commands fill the ring.
 #[test]
 fn a_held_reservation_blocks_the_engine(rt: HostRuntime) -> Result<(), RingFault> {
     let (ring, mut senders, consumer) = Ring::new(rt.alloc(), 3, 2, 8)?;
@@ -223,7 +221,7 @@ fn a_held_reservation_blocks_the_engine(rt: HostRuntime) -> Result<(), RingFault
     assert_eq!(rt; sent, (3, Some(Cause::Full)));
     assert_eq!(rt; found, (1_000, 0, 0));
     let first = publish(&ring, reservation);
-    // The first step that finds nothing comes after the eight commands.
+    // The first step that finds nothing comes behind the eight commands.
     let (engine, found) = count_steps(&ring, engine, 9);
     assert_eq!(rt; found, (0, 8, 1));
     let end = finish(&rt, ring, senders, first, second, engine);

@@ -1,4 +1,4 @@
-//! A sender is told truly while the ring runs. Another has a batch open meanwhile, and both go on.
+//! While the ring runs: a sender is told so truly. Another has a batch open meanwhile, and both go on.
 ghost use Rattle.std.specs.Prelude.{◌≡◌, ◌≤◌, true};
 ghost use Rattle.engine_tests.specs.Done.{IsDoneTruly};
 
@@ -11,8 +11,8 @@ use engine::{Engine, RunAnswer};
 use ring::{Receipt, Ring, RingFault, Sender};
 use std::process::Abort;
 
-/// Whether the CMD_SYNC of this receipt completed. If it did, no entry is older than a command that was
-/// reserved before it and covers it.
+/// Whether the CMD_SYNC of this receipt completed. Where it did, no entry is held that was filled before a command that
+/// was reserved ahead of it, and that this command covers.
 fn is_done_truly(ring: &Ring, engine: &mut Engine, sender: &mut Sender, receipt: &Receipt) -> bool
     requires engine { engine.old.consumer.ring ≡ ring.now }
     requires sender { sender.old.ring ≡ ring.now }
@@ -28,7 +28,7 @@ fn is_done_truly(ring: &Ring, engine: &mut Engine, sender: &mut Sender, receipt:
     done
 }
 
-/// Sends a batch. There is room for it.
+/// Sends a batch, for which there is room.
 fn send(rt: &impl Abort, ring: &Ring, sender: Sender, batch: &Batch) -> (Sender, Receipt)
     requires { sender.ring ≡ ring.now }
     ensures ring { result.0.ring ≡ ring.now }
@@ -41,7 +41,7 @@ fn send(rt: &impl Abort, ring: &Ring, sender: Sender, batch: &Batch) -> (Sender,
     }
 }
 
-/// Has the engine apply `count` commands, which remove the entry of a tag.
+/// Has the engine apply so many commands, which remove the entry of a tag.
 fn apply(rt: &impl Abort, ring: &Ring, engine: &mut Engine, count: u32, tag: &Tag)
     requires { engine.old.consumer.ring ≡ ring.now }
     ensures { engine.new.consumer.ring ≡ ring.now }
@@ -51,7 +51,7 @@ fn apply(rt: &impl Abort, ring: &Ring, engine: &mut Engine, count: u32, tag: &Ta
     assert!(rt; engine.lookup(tag).is_none());
 }
 
-/// Expects a sender to be told truly that its CMD_SYNC completed.
+/// Wants a sender to be told truly that its CMD_SYNC completed.
 fn expect_done(
     rt: &impl Abort,
     ring: &Ring,

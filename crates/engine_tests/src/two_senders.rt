@@ -1,11 +1,11 @@
-//! Joins the parts of a ring of two senders.
+//! How the parts of a ring of two senders come together.
 ghost use Rattle.std.specs.Prelude.{◌≡◌, []};
 
 use engine::{Engine, Finished};
 use ring::{Ring, Sender};
 use std::process::Abort;
 
-/// Joins them. Returns what is left of the engine and its ring.
+/// Joins them: what the engine leaves.
 pub fn finish(
     rt: &impl Abort,
     ring: Ring,

@@ -5,7 +5,7 @@ use cmdcodec::{Ill, Sid, Ssid};
 use engine::{Remedy, Unit, Verdict};
 use std::process::Abort;
 
-/// An entry with this tag, value and birth.
+/// An entry of this tag, value and birth.
 fn entry(tag: &Tag, value: u64, born: u64) -> Entry {
     Entry {
         tag: *tag,
@@ -43,7 +43,7 @@ fn a_unit_alone(rt: HostRuntime) {
     assert_eq!(rt; unit.into_caches().len(), 0);
 }
 
-/// Expects these entries of a unit, in order.
+/// Wants these entries of a unit, in order.
 fn expect_entries(rt: &impl Abort, unit: &Unit, wanted: &[Entry]) {
     let entries = unit.entries().expect(rt, "memory");
     assert_eq!(rt; entries.as_slice(), wanted);

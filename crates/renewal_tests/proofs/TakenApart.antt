@@ -1,4 +1,4 @@
--- All senders of a ring of two, taken from the end one by one.
+-- All senders of a ring of two, taken from the end one after the other.
 use Rattle.std.proofs.Common.{◌≡◌, ◌+◌, ℕ, List, [], ◌∷◌, ◌++◌, length, Some, refl, sym, ap, ◌∙◌, length-append, arith}
 use Rattle.std.specs.Prelude.{slice_get}
 use Rattle.ring.specs.Rings.{RingValue}

@@ -30,7 +30,7 @@ pub fn held(alloc: Global, found: Option<Entry>) -> Option<String> {
     }
 }
 
-/// What is left of the old queue, or the label and the text of the refusal.
+/// What is left of the old queue; or the label and the text of the refusal.
 pub fn renewed(alloc: Global, told: Result<Finished, RenewalFault>) -> Option<String> {
     match told {
         Ok(old) => {

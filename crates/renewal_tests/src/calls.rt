@@ -1,4 +1,4 @@
-//! Texts of calls of a queue of two senders, one per line, with its answer after ` = `.
+//! Texts of calls of a queue of two senders, each on a line with its answer behind ` = `.
 ghost use Rattle.std.specs.Prelude.{◌≡◌};
 
 use crate::answers;
@@ -51,7 +51,7 @@ fn held_at(alloc: Global, engine: &Engine, page: &str) -> Option<String> {
     answers::held(alloc, engine.lookup(&tag))
 }
 
-/// Appends a word to others.
+/// Puts a word behind others.
 fn append(told: &mut String, word: &str) -> Result<(), AllocError> {
     if !told.is_empty() {
         told.push_str(", ")?;
@@ -69,7 +69,7 @@ fn held(alloc: Global, engine: &Engine, pages: &str) -> Option<String> {
     Some(told)
 }
 
-/// The answer to a question about an engine, without a step.
+/// What is told of an engine without a step.
 fn state(alloc: Global, engine: &Engine, name: &str, text: &str) -> Option<String> {
     match name {
         "held" => held(alloc, engine, text),
@@ -82,7 +82,7 @@ fn state(alloc: Global, engine: &Engine, name: &str, text: &str) -> Option<Strin
     }
 }
 
-/// The first sender sends a batch. The answer is its number and the sender's, or the label of the refusal.
+/// The first sender sends a batch: its number and the sender's, or the label of the refusal.
 fn send(alloc: Global, pair: Pair, text: &str) -> (Pair, Option<String>) {
     let Some(batch) = batch_of(text) else {
         return (pair, None);
@@ -114,7 +114,7 @@ fn send(alloc: Global, pair: Pair, text: &str) -> (Pair, Option<String>) {
     (pair, told)
 }
 
-/// The answer to a call of the engine, which its first word names.
+/// The answer to a call of the engine, which is told by its first word.
 fn engine_call(
     alloc: Global,
     ring: &Ring,
@@ -133,7 +133,7 @@ fn engine_call(
     }
 }
 
-/// The answer to a call that doesn't take the queue apart.
+/// The answer to a call that leaves the queue.
 fn call(alloc: Global, pair: &mut Pair, name: &str, text: &str) -> Option<String> {
     if name == "done" {
         let number = pair.first.done_up_to(&pair.ring);
@@ -159,7 +159,7 @@ fn answer(rt: &impl Abort, alloc: Global, pair: Pair, line: &str) -> (Pair, Opti
     }
 }
 
-/// Makes the call of a line and expects the answer given there.
+/// Makes the call of a line, and wants the answer that stands behind it.
 fn expect_answer<R: AllocGlobal + Abort>(rt: &R, pair: Pair, line: &str) -> Pair {
     let (call, wanted) = line.split_once(" = ").unwrap_or((line, ""));
     let (pair, told) = answer(rt, rt.alloc(), pair, call);
@@ -168,8 +168,8 @@ fn expect_answer<R: AllocGlobal + Abort>(rt: &R, pair: Pair, line: &str) -> Pair
     pair
 }
 
-/// Makes the calls of a text, on a new queue whose senders may reserve this many batches each, and expects
-/// the answers given there.
+/// Makes the calls of a text, of a new queue whose senders may reserve so many batches each, and wants of each call the
+/// answer that stands behind it.
 pub fn expect_answers<R: AllocGlobal + Abort>(rt: &R, max_batches: u32, calls: &str) {
     let mut pair = new_pair(rt.alloc(), max_batches).expect(rt, "a queue");
     for line in calls.lines() {

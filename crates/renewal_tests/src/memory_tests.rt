@@ -61,7 +61,7 @@ fn is_memory(fault: RenewalFault) -> bool {
     )
 }
 
-/// Renews a queue of three entries, and says how it went. If memory runs out the queue comes back.
+/// Renews a queue of three entries, and says how it went. Where memory runs out the queue comes back.
 fn outcome_of_renewal(rt: &impl Abort, alloc: Global, pair: Pair) -> (Pair, &'static str) {
     let (pair, told) = renewed(rt, alloc, pair, SIZES);
     let outcome = match told {
@@ -72,7 +72,7 @@ fn outcome_of_renewal(rt: &impl Abort, alloc: Global, pair: Pair) -> (Pair, &'st
     (pair, outcome)
 }
 
-/// The same for a queue for which memory ran out before.
+/// The same of a queue for which memory ran out before.
 fn outcome_then(rt: &impl Abort, alloc: Global, pair: Pair) -> &'static str {
     let outcome = outcome_of_renewal(rt, alloc, pair).1;
     if outcome == "whole" {
@@ -82,7 +82,7 @@ fn outcome_then(rt: &impl Abort, alloc: Global, pair: Pair) -> &'static str {
     }
 }
 
-/// Renews a queue of three entries and says how it went. If memory runs out it is renewed then.
+/// Renews a queue of three entries and says how it went. Where memory runs out it is renewed then.
 fn outcome_of_queue(rt: &impl Abort, alloc: Global, pair: Pair) -> &'static str {
     let (pair, outcome) = outcome_of_renewal(rt, alloc, pair);
     if outcome == "refused" {
@@ -100,7 +100,7 @@ fn outcome(rt: &impl Abort, alloc: Global) -> &'static str {
     }
 }
 
-// Only the queues allocate here, so that each of their allocations can be made to fail.
+// Nothing but the queues allocates here, so that each of their allocations can be made to fail.
 #[test]
 fn every_allocation_of_a_renewal(rt: HostRuntime) {
     let outcome = outcome(&rt, rt.alloc());

@@ -1,4 +1,4 @@
-//! Queues of two senders, in parts.
+//! Queues of two senders, in their parts.
 ghost use Rattle.std.specs.Prelude.{◌≡◌, []};
 ghost use Rattle.renewal.specs.Queues.{IsWhole};
 
@@ -11,7 +11,7 @@ use ring::{Ring, RingFault, Sender};
 use std::alloc::Global;
 use std::process::Abort;
 
-/// A queue of two senders. The spare list is empty and has room for both.
+/// A queue of two senders. The spare list holds none, and has room for both.
 #[derive(Drop)]
 pub struct Pair {
     pub ring: Ring,
@@ -28,7 +28,7 @@ pub struct Pair {
     ghost engine_ring: { engine.consumer.ring ≡ ring },
 }
 
-/// The batch of a word: the invalidation of this page in address space 2 of virtual machine 1, or `illegal`.
+/// The batch that a word says: the invalidation of this page in address space 2 of virtual machine 1, or `illegal`.
 pub fn batch_of(word: &str) -> Option<Batch> {
     if word == "illegal" {
         return Batch::new(Raw { lo: 0xff, hi: 0 }).ok();
@@ -50,7 +50,7 @@ pub fn translation(page: u64) -> Option<Tag> {
     })
 }
 
-/// A queue of two senders, each of which may reserve this many batches, with room for 8 entries.
+/// A queue of two senders, each of which may reserve so many batches, with room for 8 entries.
 pub fn new_pair(alloc: Global, max_batches: u32) -> Result<Pair, RingFault> {
     let (ring, mut spare, consumer) = Ring::new(alloc, 4, 2, max_batches)?;
     let second = spare.pop().unwrap();
@@ -86,7 +86,7 @@ fn queue_of(rt: &impl Abort, pair: Pair) -> Queue
     }
 }
 
-/// The parts of a queue, if it has two senders.
+/// The parts of a queue, where it has two senders.
 fn pair_of(queue: Queue) -> Option<Pair>
     requires { IsWhole queue }
 {
@@ -109,15 +109,15 @@ fn pair_of(queue: Queue) -> Option<Pair>
     })
 }
 
-/// Renews a queue of two. Returns what is left of the old one, or why it isn't renewed, and the parts of the
-/// one that goes on.
+/// What became of a queue of two: what is left of the old one, or why it isn't renewed, and the parts of the one that
+/// goes on.
 pub fn renewed(
     rt: &impl Abort,
     alloc: Global,
     pair: Pair,
     sizes: Sizes,
 ) -> (Pair, Result<Finished, RenewalFault>) {
-    // The theorem isn't passed on, since it would be costly in each test.
+    // The theorem isn't passed on, since it would be dear in each test.
     let (queue, told) = match renew(alloc, queue_of(rt, pair), sizes) {
         Ok(renewed) => (renewed.queue, Ok(renewed.old)),
         Err(refused) => (refused.queue, Err(refused.fault)),

@@ -1,7 +1,7 @@
 //! A queue that isn't renewed goes on.
 use crate::calls::expect_answers;
 
-// The queue goes on: what was sent is taken, and its sender is told.
+// The queue works on: what was sent is taken, and its sender is told.
 #[test]
 fn a_batch_that_is_not_taken_waits(rt: HostRuntime) {
     expect_answers(
@@ -20,7 +20,7 @@ fn a_batch_that_is_not_taken_waits(rt: HostRuntime) {
     );
 }
 
-// Once it is replaced the queue is renewed, and the error registers start over.
+// Once it is replaced the queue is renewed, and the registers of its error begin anew.
 #[test]
 fn a_command_that_stopped_the_engine_waits(rt: HostRuntime) {
     expect_answers(

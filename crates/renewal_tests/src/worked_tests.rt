@@ -1,9 +1,9 @@
 //! A queue goes on in a new ring.
 use crate::calls::expect_answers;
 
-// The driver unmaps page 7 and sends its invalidation; the page is mapped again, and then cached. A smaller
-// ring and smaller caches serve too: they are as large as requested. The new ring numbers from 1, and what is
-// sent through it removes what was filled before it began.
+// The driver unmaps page 7 and sends its invalidation; it is mapped anew, and cached then. A smaller ring and smaller
+// caches serve too: they are as large as was asked for. The new ring numbers from 1, and what is sent through it removes
+// what was filled before it began.
 #[test]
 fn entries_live_on_and_numbers_begin_anew(rt: HostRuntime) {
     expect_answers(

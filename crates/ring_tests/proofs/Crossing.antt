@@ -1,4 +1,4 @@
--- A reservation that borrows no batch may move to another thread.
+-- A reservation that borrows no batch may go to another thread.
 use denote.RattleType.{RattleType}
 use denote.Param.Send.{IsSend, sendable}
 use Rattle.std.proofs.Crossing.{crosses}

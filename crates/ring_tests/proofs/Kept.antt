@@ -1,4 +1,4 @@
--- What is left of the others stays as it was while a keeper lends a seat and takes it back.
+-- What is left of the others stays that while a keeper lends a seat and takes it back.
 use Rattle.std.proofs.Common.{◌≡◌, ℕ, sym, subst}
 use Rattle.ringcore.specs.declared.world.event.Who.TheVariants.{Consumer, Sender}
 use Rattle.ring.specs.Keepers.{KeeperValue, has_lent, KeepsOthers, IsIdleSender, IsIdleReservation, IsIdleConsumer}

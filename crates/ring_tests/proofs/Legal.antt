@@ -7,7 +7,7 @@ use Rattle.ringcore.specs.declared.world.event.Outcome.TheVariants.{Applied}
 use Rattle.ringcore.specs.world.World.{outcome_of}
 use Rattle.ring.specs.consumer.Completing.{HasOutcome}
 
--- The first `count` are legal.
+-- the first so many are legal
 abbrev pub AreLegal : ℕ → List Raw → Type 0
 AreLegal count raws = (i : ℕ) (raw : Raw) → i < count → slice_get raws i ≡ Some raw → Applied ≡ outcome_of raw
 

@@ -1,5 +1,5 @@
--- What the answers of a ring must not say: for each refusal of a reservation, of a send and of a new ring, a
--- state in which its definition is false.
+-- What the answers of a ring may not say: for each refusal of a reservation, of a send and of a new ring a state in which
+-- its definition is false.
 use Rattle.std.proofs.Common.{◌≡◌, ℕ, zero, suc, ◌+◌, ◌<◌, ◌≤◌, Bool, true, false, List, [], ◌∷◌, length, Option, Some, None, refl, sym, ap, subst, ◌∙◌, arith, alloc_error}
 use Rattle.std.proofs.lemmas.Option.{same_Some}
 use Rattle.cmdcodec.specs.declared.raw.Raw.{Raw}
@@ -38,7 +38,7 @@ open_and_empty = shows 1 0 0 false
 abbrev closed_and_empty : Control
 closed_and_empty = shows 1 0 0 true
 
--- the sender after it looked and found this, in a run in which only it took a step
+-- the sender once it looked and found this, in a run that it alone has taken a step of
 abbrev has_seen : RingValue → Control → SenderValue
 has_seen ring seen = sender_with ring (Look seen ∷ []) ((Sender 0, Look seen) ∷ [])
 
@@ -72,16 +72,16 @@ just_fitting_is_not_full ring it =
     subst (λ (c : Control). 2 < distance c.prod c.cons + 2) (sym (the_seen ring it.seen open_and_empty it.looked)) it.full in
     absurd (omega (arith, full))
 
--- They are free in the run that it knows, whatever it says that it saw.
+-- So they are in the run that it knows, whatever it says that it saw.
 pub empty_is_not_full : (ring : RingValue) (seen : Control) → ¬ IsFull (x ∷ []) true (fresh ring) (has_seen ring seen)
 empty_is_not_full ring seen it = absurd (omega (arith, it.full_then))
 
--- The answer for a closed ring is closed, and not full.
+-- A closed ring is told as closed, and not as full.
 pub closed_is_not_full : (ring : RingValue) → ¬ IsFull (x ∷ []) true (fresh ring) (has_seen ring closed_and_empty)
 closed_is_not_full ring it =
     let same : true ≡ false = ap (λ (c : Control). c.closed) (the_seen ring it.seen closed_and_empty it.looked) ∙ it.unclosed in absurd (cc)
 
--- What a look found is what was there: nobody closed this ring.
+-- What a look found is what stood there: nobody closed this ring.
 pub look_finds_what_stands : (ring : RingValue) → ¬ HasLookedAt closed_and_empty (fresh ring) (has_seen ring closed_and_empty)
 look_finds_what_stands ring did = let same : true ≡ false = ap (λ (c : Control). c.closed) did.seen_is in absurd (cc)
 
@@ -100,7 +100,7 @@ abbrev has_lost : RingValue → Control → Control → SenderValue
 has_lost ring seen found =
     sender_with ring (Lost (x ∷ []) true found ∷ Look seen ∷ []) ((Sender 0, Lost (x ∷ []) true found) ∷ (Sender 0, Look seen) ∷ [])
 
--- An exchange is lost only if it finds something other than what was looked at.
+-- An exchange is lost only where it finds something else than what was looked at.
 pub unchanged_is_not_contended : (ring : RingValue) → ¬ IsContended (x ∷ []) true (fresh ring) (has_lost ring open_and_empty open_and_empty)
 unchanged_is_not_contended ring it =
     let trail = ap (λ (s : SenderValue). s.trail) it.lost.trail_is in
@@ -111,7 +111,7 @@ unchanged_is_not_contended ring it =
 
 -- ---- a send
 
--- Each try refused like this took at least one step.
+-- Each try that was refused so took a step at least.
 longer : (body : List Raw) (closes : Bool) (s t : SenderValue) (cause : Cause) → may_pass cause ≡ true → IsRefused body closes s cause t → length s.trail < length t.trail
 longer body closes s t TooLong passes refused = absurd (cc)
 longer body closes s t Exhausted passes refused = absurd (cc)
@@ -140,13 +140,13 @@ one_try_is_not_three ring seen it =
 
 -- ---- a new ring
 
--- The first fault of the numbers is returned, in the order in which they are named.
+-- The first fault of the numbers is told, in the order of their mention.
 pub bad_numbers : (number_fault 0 0 0 ≡ Some Size) × (number_fault 20 257 1 ≡ Some Size) × (number_fault 1 0 0 ≡ Some Senders) × (number_fault 19 257 1 ≡ Some Senders) × (number_fault 19 256 0 ≡ Some Batches)
 bad_numbers = (refl, refl, refl, refl, refl)
 
 pub good_numbers : (number_fault 1 1 1 ≡ None) × (number_fault 19 256 1 ≡ None)
 good_numbers = (refl, refl)
 
--- Memory is asked for after the numbers are checked: a ring of one slot doesn't fail for lack of memory.
+-- Memory is asked for behind the numbers: that of a ring of one slot isn't what is missing.
 pub memory_is_asked_for_last : ¬ IsNotMade (number_fault 0 1 1) (Memory alloc_error)
 memory_is_asked_for_last it = let some : Some Size ≡ None = it in absurd (cc)

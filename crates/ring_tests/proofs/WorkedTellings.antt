@@ -1,4 +1,4 @@
--- What a sender must not be told, and what an end of a ring must not say.
+-- What a sender may not be told, and what an end of a ring may not say.
 use Rattle.std.proofs.Common.{◌≡◌, ℕ, ◌≤◌, Bool, true, false, List, [], ◌∷◌, ◌++◌, length, Some, None, refl, sym, ap, ◌∙◌, leb-true, arith}
 use Rattle.std.specs.Prelude.{slice_get, nat_le}
 use Rattle.ringcore.specs.declared.world.event.Who.TheVariants.{Consumer, Sender}
@@ -60,8 +60,7 @@ abbrev is_ask : Event → Bool
 is_ask (Ask number) = true
 is_ask e = false
 
--- The first ask is the one that comes after this trail, so that it can't be taken for the second, which was
--- told rightly.
+-- The first ask is the one behind which this trail stands, so that it can't be taken for the second, which was told rightly.
 at_first : (later earlier : Run) → told_too_early ≡ later ++ (Sender 1, Ask 1) ∷ earlier → trail_of (Sender 1) earlier ≡ trail_of (Sender 1) before_first_ask → earlier ≡ before_first_ask
 at_first [] earlier is trail_is =
     let run_is = ap behind_newest is in
@@ -90,7 +89,7 @@ pub open_ring_is_not_told_as_closed : {D : Type 0} (ring : RingValue) (senders :
 open_ring_is_not_told_as_closed ring senders consumer summary end run_is says =
     let same : true ≡ false = sym says ∙ end.closed ∙ ap has_close run_is in absurd (cc)
 
--- Three commands were reserved, and three taken: the summary has no other numbers.
+-- Three commands were reserved, and three taken: no other numbers are told.
 pub end_tells_how_many : {D : Type 0} (ring : RingValue) (senders : List SenderValue) (consumer : ConsumerValue D) (summary : SummaryValue) (end : IsEnd ring senders consumer summary)
     → end.run ≡ told_22 → (summary.reserved ≡ 3) × (summary.taken ≡ 3)
 end_tells_how_many ring senders consumer summary end run_is =

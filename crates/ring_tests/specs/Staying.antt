@@ -1,4 +1,4 @@
--- What is left of those whose seats the keeper has stays as it was while another has its seat lent.
+-- What is left of those whose seats the keeper has stays that while another has a seat lent.
 use Rattle.std.specs.Prelude.{ℕ, List}
 use Rattle.cmdcodec.specs.declared.raw.Raw.{Raw}
 use Rattle.qindex.specs.Positions.{IndexValue}

@@ -11,7 +11,7 @@ pub const CFGI_STE: Raw = Raw {
     hi: 1,
 };
 
-/// A batch of `count` commands.
+/// A batch of so many commands.
 pub fn batch_of(rt: &impl Abort, count: usize) -> Batch
     requires { count ≤ 64 }
 {

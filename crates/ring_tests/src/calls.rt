@@ -1,5 +1,5 @@
-//! Texts of calls of a ring's sender and of its consumer, one per line, with its answer after ` = `. Those of
-//! the consumer begin with `consumer`.
+//! Texts of calls of a ring's sender and of its consumer, each on a line with its answer behind ` = `. Those of the
+//! consumer begin with `consumer`.
 ghost use Rattle.std.specs.Prelude.{◌≡◌};
 
 use crate::consumer_calls::consumer_answer;
@@ -15,7 +15,7 @@ pub struct Seats {
     pub consumer: Consumer<NoEntries>,
 }
 
-/// Makes a call and returns its answer.
+/// Makes a call and tells its answer.
 fn answer<R: AllocGlobal + Abort>(
     rt: &R,
     ring: &Ring,
@@ -41,7 +41,7 @@ fn answer<R: AllocGlobal + Abort>(
     }
 }
 
-/// Makes the call of a line and expects the answer given there.
+/// Makes the call of a line, and wants the answer that stands behind it.
 fn expect_answer<R: AllocGlobal + Abort>(rt: &R, ring: &Ring, seats: Seats, line: &str) -> Seats
     requires sender { seats.sender.ring ≡ ring.now }
     requires consumer { seats.consumer.ring ≡ ring.now }
@@ -56,7 +56,7 @@ fn expect_answer<R: AllocGlobal + Abort>(rt: &R, ring: &Ring, seats: Seats, line
     seats
 }
 
-/// Makes the calls of a text and expects the answers given there.
+/// Makes the calls of a text, and wants of each the answer that stands behind it.
 pub fn play<R: AllocGlobal + Abort>(rt: &R, ring: &Ring, seats: Seats, calls: &str) -> Seats
     requires sender { seats.sender.ring ≡ ring.now }
     requires consumer { seats.consumer.ring ≡ ring.now }
@@ -110,7 +110,7 @@ pub fn ring_of_two<R: AllocGlobal + Abort>(
     (ring, first, Seats { sender, consumer })
 }
 
-/// Makes a ring of one sender and the calls of a text, and expects the answers given there.
+/// Makes a ring of one sender and the calls of a text, and wants of each the answer that stands behind it.
 pub fn expect_answers<R: AllocGlobal + Abort>(rt: &R, log2: u32, max_batches: u32, calls: &str) {
     let (ring, seats) = ring_of_one(rt, log2, max_batches);
     play(rt, &ring, seats, calls);

@@ -1,6 +1,5 @@
-//! A consumer's calls as words of a text, and their answers: `take`; `take MOST PART`, a run of at most MOST
-//! commands, of which at most PART are completed; `put back`, of what was taken; `register`, SMMU_CMDQ_PROD;
-//! and `taken`.
+//! Calls of a consumer as words of a text, and what they answer: `take`, `take MOST PART` of a run of at most MOST
+//! commands, of which at most PART are completed, `put back` of what was taken, `register`, SMMU_CMDQ_PROD, and `taken`.
 ghost use Rattle.std.specs.Prelude.{◌≡◌};
 
 use crate::device::NoEntries;
@@ -37,7 +36,7 @@ fn taken_in_part(
     (consumer, format!(in alloc; "{taken} {completed}").ok())
 }
 
-/// Makes a call and returns its answer.
+/// Makes a call and tells its answer.
 pub fn consumer_answer(
     alloc: Global,
     ring: &Ring,

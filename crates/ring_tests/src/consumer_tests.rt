@@ -9,8 +9,7 @@ use ring::Ring;
 use std::alloc::AllocError;
 use std::process::Abort;
 
-/// What is expected of the consumer, and of the sender's completion cell, once the batch with this number was
-/// sent.
+/// What is wanted of the consumer, and of the sender's completion cell, once the batch of this number was sent.
 fn calls_of_lap<R: AllocGlobal + Abort>(rt: &R, number: u32) -> String {
     format!(in rt.alloc();
         "consumer take = 0x700000003 0x1\n\
@@ -20,7 +19,7 @@ fn calls_of_lap<R: AllocGlobal + Abort>(rt: &R, number: u32) -> String {
     .expect(rt, "memory")
 }
 
-/// Sends a batch and takes its two commands. Only then is the sender told that the CMD_SYNC completed.
+/// Sends a batch and takes its two commands: the sender is told that the CMD_SYNC completed, and not before.
 fn lap<R: AllocGlobal + Abort>(rt: &R, ring: &Ring, seats: Seats, number: u32) -> Seats
     requires sender { seats.sender.ring ≡ ring.now }
     requires consumer { seats.consumer.ring ≡ ring.now }
@@ -54,8 +53,7 @@ fn five_laps_of_two_slots(rt: HostRuntime) -> Result<(), AllocError> {
     Ok(())
 }
 
-/// Makes calls of sender 1 and the consumer while sender 0 has a batch reserved, and more once it is
-/// published.
+/// Makes calls of sender 1 and the consumer while sender 0 has a batch reserved, and further ones once it is published.
 fn expect_around_a_publish<R: AllocGlobal + Abort>(rt: &R, ahead: &str, behind: &str) {
     let (ring, first, seats) = ring_of_two(rt, 3, 4);
     let one = batch_of(rt, 1);

@@ -1,7 +1,7 @@
 //! A device of the tests.
 use ring::Device;
 
-/// A device without entries, which is settled whatever was taken.
+/// A device that has no entries: it is settled whatever was taken.
 pub struct NoEntries;
 
 impl Device for NoEntries {

@@ -1,4 +1,4 @@
-//! Calls of those to whom a keeper lends a seat, which it gets back after each.
+//! Calls of those to whom a keeper lends a seat, which it has again behind each.
 ghost use Rattle.std.specs.Prelude.{◌≡◌, ◌<◌, true, false, None};
 ghost use Rattle.ring.specs.Keepers.{IsIdleSender, IsIdleConsumer, IsIdleReservation};
 ghost use Rattle.ring_tests.specs.Staying.{SendersStay, ReservationsStay, ConsumerStays};
@@ -63,7 +63,7 @@ pub fn reserve<K: BatchKind>(
     }
 }
 
-/// Hands over a whole batch. Returns the receipt of its CMD_SYNC.
+/// Hands over a whole batch: the receipt of its CMD_SYNC.
 pub fn publish(ring: &Ring, keeper: &mut Keeper, idle: IdleReservation, batch: &Batch) -> Receipt
     requires ring { keeper.old.ring ≡ ring.now }
     requires whole { keeper.old.lent ≡ None }
@@ -80,7 +80,7 @@ pub fn publish(ring: &Ring, keeper: &mut Keeper, idle: IdleReservation, batch: &
     receipt
 }
 
-/// The same for a batch without a closing CMD_SYNC.
+/// The same of a batch alone.
 pub fn publish_bare(ring: &Ring, keeper: &mut Keeper, idle: IdleReservation, batch: &Batch)
     requires ring { keeper.old.ring ≡ ring.now }
     requires whole { keeper.old.lent ≡ None }
@@ -96,7 +96,7 @@ pub fn publish_bare(ring: &Ring, keeper: &mut Keeper, idle: IdleReservation, bat
     keeper.take_sender(ring, sender);
 }
 
-/// Has the consumer take what is at the head, and expects it to be this.
+/// Has the consumer take what is at the head, and wants it to be this.
 pub fn expect_head(
     rt: &impl Abort,
     ring: &Ring,
@@ -118,7 +118,7 @@ pub fn expect_head(
     keeper.take_consumer(ring, consumer)
 }
 
-/// Has the consumer take a command, expected to be this, and the CMD_SYNC after it.
+/// Has the consumer take a command, which is to be this, and the CMD_SYNC behind it.
 pub fn expect_batch(
     rt: &impl Abort,
     ring: &Ring,

@@ -12,7 +12,7 @@ use crate::steps::Head;
 use ring::{Bare, Closing, IdleConsumer, IdleReservation, IdleSender, Keeper, Ring, RingFault};
 use std::process::Abort;
 
-/// A ring of eight slots and two senders, with a keeper that has all its seats.
+/// A ring of eight slots and two senders whose seats are all a keeper's.
 fn kept_ring<R: AllocGlobal + Abort>(rt: &R) -> (Ring, Keeper, IdleConsumer<NoEntries>)
     ensures { IsKept 3 2 8 result.0 result.1 result.2 }
 {
@@ -48,8 +48,7 @@ fn a_batch_and_its_sync_in_one_hand(rt: HostRuntime) {
     assert!(rt; sender.is_done(&ring, &receipt));
 }
 
-/// Expects a reservation to begin at the first slot, and its batch to have this number, if it closes with a
-/// CMD_SYNC.
+/// Wants a reservation to begin at the first slot, and its batch to have this number, if it closes with a CMD_SYNC.
 fn expect_idle(rt: &impl Abort, idle: &IdleReservation, number: Option<u32>) {
     assert_eq!(rt;
         (idle.closes(), idle.first().get(), idle.number()),

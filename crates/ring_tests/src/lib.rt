@@ -1,5 +1,5 @@
-//! Tests of the running ring. They are in a separate crate, since building a crate's tests proves the crate
-//! again.
+//! Tests of the running ring. They stand in a crate of their own, since a build of a crate's tests proves the crate
+//! once more.
 #![tactic(auto)]
 
 #[cfg(test)]

@@ -1,4 +1,4 @@
-//! What is expected of a sender that sends a batch or reserves slots for it.
+//! What is wanted of a sender that sends a batch or reserves slots for it.
 ghost use Rattle.std.specs.Prelude.{◌≡◌, ◌+◌};
 ghost use Rattle.ringcore.specs.world.Trails.{reserved_length};
 
@@ -45,7 +45,7 @@ pub fn reserve<'b>(
     }
 }
 
-/// Reserves slots for a batch without a closing CMD_SYNC.
+/// Reserves slots for a batch alone.
 pub fn reserve_bare<'b>(
     rt: &impl Abort,
     ring: &Ring,
@@ -61,12 +61,12 @@ pub fn reserve_bare<'b>(
     }
 }
 
-/// Expects a receipt to name this sender and number.
+/// Wants a receipt to name this sender and number.
 pub fn expect_receipt(rt: &impl Abort, receipt: &Receipt, sender: u32, number: u32) {
     assert_eq!(rt; (receipt.sender(), receipt.number()), (sender, number));
 }
 
-/// Expects this many slots not to be written, and this many to be written and not flipped.
+/// Wants so many slots not to be written, and so many to be written and not flipped.
 pub fn expect_slots<K: BatchKind>(
     rt: &impl Abort,
     reservation: &OpenReservation<'_, K>,
@@ -82,7 +82,7 @@ pub fn expect_slots<K: BatchKind>(
     );
 }
 
-/// Expects a batch to be refused for this cause.
+/// Wants a batch to be refused for this cause.
 pub fn expect_refused(rt: &impl Abort, ring: &Ring, sender: Sender, batch: &Batch, cause: Cause)
     requires { sender.ring ≡ ring.now }
 {

@@ -1,4 +1,4 @@
-//! Runs of commands: past the end of a lap and of a flag word, and completed in part.
+//! Runs of commands: over the end of a lap and of a flag word, and completed in part.
 use crate::calls::expect_answers;
 
 #[test]

@@ -17,7 +17,7 @@ fn is_legal(raw: Raw) -> bool
     }
 }
 
-/// How many commands at the beginning of a run are legal, at most `most`.
+/// How many commands from the beginning of a run on are legal, at most `most`.
 fn legal(run: &PendingRun<NoEntries>, most: u32) -> u32
     ensures few { result ≤ length run.now.raws }
     ensures most { result ≤ most }
@@ -32,8 +32,7 @@ fn legal(run: &PendingRun<NoEntries>, most: u32) -> u32
     end
 }
 
-/// Takes a run of at most `most` commands, and completes at most `part` of it. Returns how many were taken
-/// and completed.
+/// Takes a run of at most `most` commands, and completes at most `part` of it: how many were taken and completed.
 pub fn take_part(
     ring: &Ring,
     consumer: Consumer<NoEntries>,

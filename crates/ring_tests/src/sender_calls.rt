@@ -1,5 +1,5 @@
-//! A sender's calls as words of a text, and their answers: `send N` and, without a closing CMD_SYNC, `bare N`
-//! for a batch of N commands, `look`, `close`, `done`, and `left`, how many more batches it may reserve.
+//! Calls of a sender as words of a text, and what they answer: `send N` and, without a closing CMD_SYNC, `bare N` of a
+//! batch of N commands, `look`, `close`, `done`, and `left`, how many batches it may still reserve.
 ghost use Rattle.std.specs.Prelude.{◌≡◌};
 
 use crate::batches::batch_of;
@@ -16,7 +16,7 @@ pub fn told(alloc: Global, seen: &Control) -> Option<String> {
     format!(in alloc; "{prod} {cons} {state}").ok()
 }
 
-/// Sends a batch with one try. Returns the number of its CMD_SYNC, or why it is refused.
+/// Sends a batch once: the number of its CMD_SYNC, or why it is refused.
 pub fn send(ring: &Ring, sender: Sender, batch: &Batch) -> (Sender, Result<u32, Cause>)
     requires { sender.ring ≡ ring.now }
     ensures ring { result.0.ring ≡ ring.now }
@@ -28,7 +28,7 @@ pub fn send(ring: &Ring, sender: Sender, batch: &Batch) -> (Sender, Result<u32, 
     }
 }
 
-/// Sends a batch without a closing CMD_SYNC with one try. Returns why it is refused, if it is.
+/// Sends a batch without a closing CMD_SYNC once: why it is refused, if it is.
 pub fn send_bare(ring: &Ring, sender: Sender, batch: &Batch) -> (Sender, Option<Cause>)
     requires { sender.ring ≡ ring.now }
     ensures ring { result.0.ring ≡ ring.now }
@@ -77,7 +77,7 @@ fn sent(
     }
 }
 
-/// Makes a call and returns its answer.
+/// Makes a call and tells its answer.
 pub fn sender_answer(
     rt: &impl Abort,
     alloc: Global,

@@ -59,7 +59,7 @@ fn as_many_batches_as_it_may(rt: HostRuntime) {
     );
 }
 
-/// Sends commands that stay with their owner, with a closing CMD_SYNC. Returns its number.
+/// Sends commands from where they stand, with a closing CMD_SYNC: its number.
 fn send_borrowed(
     rt: &impl Abort,
     ring: &Ring,
@@ -187,7 +187,7 @@ fn a_ring_of_two_slots(rt: HostRuntime) {
     play(&rt, &ring, seats, "bare 3 = Q4");
 }
 
-/// Sends a batch `times` times, and says how the last one went.
+/// Sends a batch so many times, and says of the last one how it went.
 fn send_times(
     ring: &Ring,
     sender: Sender,
@@ -224,7 +224,7 @@ fn largest_ring<R: AllocGlobal + Abort>(rt: &R) -> (Ring, Seats)
     (ring, Seats { sender, consumer })
 }
 
-// 2^13 batches of 63 commands and a CMD_SYNC fill 2^19 slots.
+// 2^19 slots are full of 2^13 batches of 63 commands and a CMD_SYNC.
 #[test]
 fn the_last_of_256_senders_fills_the_largest_ring(rt: HostRuntime) {
     let (ring, seats) = largest_ring(&rt);
@@ -278,7 +278,7 @@ fn outcome(rt: &impl Abort, alloc: Global) -> &'static str {
     }
 }
 
-// Only the ring allocates here, so that each of its allocations can be made to fail.
+// Nothing but the ring allocates here, so that each of its allocations can be made to fail.
 #[test]
 fn every_allocation_of_a_ring(rt: HostRuntime) {
     let outcome = outcome(&rt, rt.alloc());

@@ -7,7 +7,7 @@ use cmdcodec::{Raw, decode};
 use ring::{Consumer, Outcome, Ring, Sender, Summary, Taken};
 use std::alloc::AllocError;
 
-/// What a take found at the head.
+/// What was at the head.
 #[derive(Clone, Copy, Debug, PartialEq, Eq)]
 pub enum Head {
     Empty,

@@ -1,4 +1,4 @@
-//! Senders and a consumer on separate threads.
+//! Senders and a consumer on threads of their own.
 ghost use Rattle.std.specs.Prelude.{◌≡◌, ◌≤◌};
 
 use crate::batches::batch_of;
@@ -13,7 +13,7 @@ use std::alloc::AllocError;
 use std::process::Abort;
 use std::thread::{Threads, join};
 
-/// Sends four batches, with 100 tries each. Returns whether all of them were sent.
+/// Sends four batches, at 100 tries each: whether all of them were sent.
 fn send_four(ring: &Ring, sender: Sender, batch: &Batch) -> (Sender, bool)
     requires { sender.ring ≡ ring.now }
     ensures { result.0.ring ≡ ring.now }
@@ -32,7 +32,7 @@ fn send_four(ring: &Ring, sender: Sender, batch: &Batch) -> (Sender, bool)
     (sender, all_sent)
 }
 
-/// Has two senders send four batches each at the same time. Returns whether all of them were sent.
+/// Has two senders send four batches each, at a time: whether all of them were sent.
 fn send_at_a_time(
     rt: &impl Threads,
     ring: &Ring,
@@ -58,7 +58,7 @@ fn send_at_a_time(
     )
 }
 
-/// Expects all of these batches to be sent.
+/// Wants all of these batches to be sent.
 fn expect_eight<R: Threads + Abort>(
     rt: &R,
     ring: &Ring,
@@ -90,7 +90,7 @@ fn two_senders_at_a_time(rt: HostRuntime) {
     expect_refused(&rt, &ring, second, &one, Cause::Full);
 }
 
-/// Sends up to `count` batches, with 50 tries each. Returns how many of them were sent.
+/// Sends up to `count` batches, at 50 tries each: how many of them were sent.
 fn send_many(ring: &Ring, sender: Sender, batch: &Batch, count: u32) -> (Sender, u32)
     requires { sender.ring ≡ ring.now }
     ensures ring { result.0.ring ≡ ring.now }
@@ -107,7 +107,7 @@ fn send_many(ring: &Ring, sender: Sender, batch: &Batch, count: u32) -> (Sender,
     (sender, count)
 }
 
-/// Takes a command, if there is one, in each of `turns` turns.
+/// Takes a command in each of so many turns, where there is one.
 fn take_many(ring: &Ring, consumer: Consumer<NoEntries>, turns: u32) -> Consumer<NoEntries>
     requires { consumer.ring ≡ ring.now }
     ensures { result.ring ≡ ring.now }
@@ -120,8 +120,7 @@ fn take_many(ring: &Ring, consumer: Consumer<NoEntries>, turns: u32) -> Consumer
     consumer
 }
 
-/// Has a sender send up to 1,000 batches beside 1,000 turns of the consumer. Returns how many of them were
-/// sent.
+/// Has a sender send up to 1,000 batches beside 1,000 turns of the consumer: how many of them were sent.
 fn at_a_time(rt: &impl Threads, ring: &Ring, seats: Seats, batch: &Batch) -> (Seats, u32)
     requires sender { seats.sender.ring ≡ ring.now }
     requires consumer { seats.consumer.ring ≡ ring.now }
@@ -145,7 +144,7 @@ fn at_a_time(rt: &impl Threads, ring: &Ring, seats: Seats, batch: &Batch) -> (Se
     (Seats { sender, consumer }, sent)
 }
 
-/// Takes two commands in each of 2,000 turns, and sends a batch as long as some of `left` are left.
+/// Takes two commands in each of 2,000 turns, and sends a batch where one is left of so many.
 fn the_rest(ring: &Ring, seats: Seats, batch: &Batch, left: u32) -> Seats
     requires sender { seats.sender.ring ≡ ring.now }
     requires consumer { seats.consumer.ring ≡ ring.now }
@@ -184,7 +183,7 @@ fn a_sender_beside_the_consumer(rt: HostRuntime) -> Result<(), AllocError> {
     Ok(())
 }
 
-/// Closes the ring and then sends a batch. Returns its number, or why it is refused.
+/// Closes the ring and then sends a batch: its number, or why it is refused.
 fn close_and_send(ring: &Ring, sender: Sender, batch: &Batch) -> (Sender, Result<u32, Cause>)
     requires { sender.ring ≡ ring.now }
     ensures { result.0.ring ≡ ring.now }
@@ -194,8 +193,7 @@ fn close_and_send(ring: &Ring, sender: Sender, batch: &Batch) -> (Sender, Result
     send(ring, sender, batch)
 }
 
-/// Takes a command, if there is one, in each of `turns` turns. Returns whether each turn found the head
-/// unwritten.
+/// Takes a command in each of so many turns, where there is one: whether each turn found the head unwritten.
 fn find_unwritten(
     ring: &Ring,
     consumer: Consumer<NoEntries>,
@@ -240,7 +238,7 @@ fn close_beside_the_consumer(
     )
 }
 
-/// Expects the batch to be refused, and each turn to find the head unwritten.
+/// Wants the batch to be refused, and each turn to find the head unwritten.
 fn expect_closed<R: Threads + Abort>(
     rt: &R,
     ring: &Ring,

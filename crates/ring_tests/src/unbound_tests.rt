@@ -104,7 +104,7 @@ fn end_beside(
     )
 }
 
-/// Expects both to be the first batches of their senders. Returns the one who sent it.
+/// Wants both to be the first batches of their senders: the one who sent it.
 fn expect_both<R: Threads + Abort>(rt: &R, ring: &Ring, kept: Kept, sender: Sender) -> Sender
     requires ring { kept.reservation.ring ≡ ring.now }
     requires body { kept.batch ≡ kept.reservation.body }

@@ -1,4 +1,4 @@
--- What holds of each of a few, as the worked runs need it.
+-- What the worked runs say of each of a few.
 use Rattle.std.proofs.Common.{◌≡◌, ℕ, zero, suc, ◌+◌, ◌<◌, Bool, List, [], ◌∷◌, Some, refl, ap, ◌∙◌, leb-true, arith}
 use Rattle.std.specs.Prelude.{slice_get, ⊤}
 use Rattle.cmdcodec.specs.declared.raw.Raw.{Raw}

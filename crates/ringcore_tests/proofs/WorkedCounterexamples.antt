@@ -1,4 +1,4 @@
--- What the definitions of order rule out: for each, a list of events, or a world, of which it is false.
+-- What the definitions of order refuse: for each a list of events, or a world, of which it is false.
 use Rattle.std.proofs.Common.{◌≡◌, ℕ, zero, suc, ◌+◌, true, false, List, [], ◌∷◌, ◌++◌, length, Option, Some, None, refl, sym, ap, ap₂, ◌∙◌, arith}
 use Rattle.std.proofs.lemmas.Option.{same_Some}
 use Rattle.std.specs.Prelude.{slice_get}
@@ -71,7 +71,7 @@ none_beyond_the_reserved begins = let many : 1 ≡ suc (suc (length begins.0)) =
 
 -- ---- batches unbroken
 
--- A command of sender 1 is between x of sender 0 and its closing sync.
+-- A command of sender 1 stands between x of sender 0 and its closing sync.
 abbrev broken : World
 broken = with_reserved (item 0 (Some 1) 0 x ∷ item 1 None 0 y ∷ item 0 (Some 1) 1 (sync_raw 0 1) ∷ [])
 
@@ -84,7 +84,7 @@ broken_is_not_unbroken stands = let same : 1 ≡ 0 = ap whose (stands 1 (item 0 
 
 -- ---- each sender's order kept
 
--- The first of two places is taken by y and the second by x, and both are sender 0's.
+-- Where the first of two places is taken by y and the second by x, and both are sender 0's:
 abbrev turned_round : World
 turned_round = with_reserved (item 0 None 0 y ∷ item 0 None 0 x ∷ [])
 
@@ -92,7 +92,7 @@ abbrev lo_of : Option Item → ℕ
 lo_of None = 0
 lo_of (Some it) = it.raw.lo
 
--- No command comes after those reserved.
+-- no command stands behind those that are reserved
 beyond : (reserved : List Item) (place : ℕ) (it : Item) → slice_get reserved place ≡ None → ¬ (slice_get reserved (place + 0) ≡ Some it)
 beyond reserved place it none there =
     let here : place + 0 ≡ place = omega arith in
@@ -108,11 +108,11 @@ at_first zero stands = refl
 at_first (suc zero) stands = let same : 0x500000003 ≡ 0x600000003 = ap lo_of (stands 0 (item 0 None 0 y) refl) in absurd (omega (arith, same))
 at_first (suc (suc place)) stands = absurd (beyond turned_round.reserved (suc (suc place)) (item 0 None 0 y) refl (stands 0 (item 0 None 0 y) refl))
 
--- x isn't before y.
+-- x doesn't stand before y.
 pub later_is_not_earlier : ¬ StandInOrder turned_round (bare 0 x) (bare 0 y)
 later_is_not_earlier it = absurd (omega (arith, at_second it.first it.first_is, at_first it.second it.second_is, it.order))
 
--- A command is there once, so two identical batches don't both have a place.
+-- A command stands once, and two batches that are alike have no place for both.
 abbrev once : World
 once = with_reserved (item 0 None 0 x ∷ [])
 
@@ -148,13 +148,13 @@ only_one [] behind a b is = (refl, head_is)
 only_one (c ∷ []) behind a b is = absurd (cc)
 only_one (c ∷ d ∷ ahead) behind a b is = absurd (cc)
 
--- Nobody reserved a batch with number 2.
+-- Nobody reserved a batch of number 2.
 pub one_is_not_two : ¬ IsCompleted only_reserved 1 2
 one_is_not_two it =
     let one : Some 1 ≡ Some 2 = ap (λ (b : Batch). b.number) (only_one it.ahead it.behind (record { sender = 1; number = Some 1; body = x ∷ [] }) (record { sender = 1; number = Some 2; body = it.body }) it.reserved).1 in
     let same : 1 ≡ 2 = same_Some 1 2 one in absurd (omega (arith, same))
 
--- Its closing sync is taken, and before it a command other than the one reserved there.
+-- Its closing sync is taken, and ahead of it another command than the one that was reserved there.
 abbrev another_taken : Run
 another_taken = (Consumer, Advance (y ∷ sync_raw 1 1 ∷ [])) ∷ only_reserved
 

@@ -1,4 +1,4 @@
--- Worked schedules: how the definitions answer each step, and which step they refuse.
+-- Worked schedules: what the definitions answer each step, and which step they refuse.
 use Rattle.std.proofs.Common.{◌≡◌, ℕ, true, false, List, [], ◌∷◌, Option, Some, None, refl}
 use Rattle.arrayvec.specs.ArrayVec.{ArrayVec}
 use Rattle.cmdcodec.specs.declared.raw.Raw.{Raw}
@@ -247,7 +247,7 @@ nothing_counts_after_an_advance_is : ArePlayed 2 1 nothing_counts_after_an_advan
 unfolding encoding
 nothing_counts_after_an_advance_is = (refl, refl)
 
--- a read past what the test found
+-- a read behind what the test found
 abbrev read_off_run_f5 : List Step
 read_off_run_f5 =
     (Look (Some 0)) ∷ (Reserve 0 (raws (x ∷ [])) true) ∷ (Read 1 0) ∷ []
@@ -319,7 +319,7 @@ abbrev 64_slots_wrap : List Step
 unfolding encoding
 64_slots_wrap_is = (refl, refl)
 
--- numbers count only syncs
+-- numbers count syncs alone
 abbrev ack_counts_syncs_only : List Step
 ack_counts_syncs_only =
     (Look (Some 0)) ∷ (Reserve 0 (raws (x ∷ [])) false) ∷ (Write 0 0 0) ∷ (Write 0 0 1) ∷ (Flip 0 0 1) ∷ (Look (Some 0)) ∷
@@ -434,7 +434,7 @@ look_while_open_counts_is : ArePlayed 2 1 look_while_open_counts
 unfolding encoding
 look_while_open_counts_is = (refl, refl)
 
--- an exchange lost only by the closed bit
+-- an exchange lost by the closed bit alone
 abbrev lost_by_close : List Step
 lost_by_close =
     (Look (Some 0)) ∷ (Close 1) ∷ (Reserve 0 (raws (x ∷ [])) true) ∷ (Look (Some 0)) ∷ (Reserve 0 (raws (x ∷ [])) true) ∷ []
@@ -478,7 +478,7 @@ read_f6_is : ArePlayed 1 2 read_f6
 unfolding encoding
 read_f6_is = (refl, refl)
 
--- a second test starts over
+-- a second test begins anew
 abbrev second_test : List Step
 second_test =
     (Look (Some 0)) ∷ (Reserve 0 (raws (x ∷ [])) true) ∷ (Write 0 0 0) ∷ (Write 0 0 1) ∷ (Flip 0 0 1) ∷ (Test 0 1) ∷ (Read 0 0) ∷ (Read 0 1) ∷ (Test 0 1) ∷

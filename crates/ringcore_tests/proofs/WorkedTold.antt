@@ -1,5 +1,5 @@
--- A run that is worked out event by event, in a ring of 4: sender 0 reserves a command without a closing
--- sync, and sender 1 another one after it with one. All three are taken, and sender 1 is told of its batch.
+-- A run that is worked out event by event, in a ring of 4: sender 0 reserves a command without a closing sync, and sender 1
+-- another one behind it with one. All three are taken, and sender 1 is told of its batch.
 use Rattle.std.proofs.Common.{false, [], ◌∷◌, Some, None, refl, ltb-true, leb-true, arith}
 use Rattle.cmdcodec.specs.Words.{encoding}
 use Rattle.ringcore.specs.declared.world.event.Who.TheVariants.{Consumer, Sender}

@@ -1,4 +1,5 @@
-//! Tests of ringcore. They are in a separate crate, since building a crate's tests proves the crate again.
+//! Tests of ringcore. They stand in a crate of their own, since a build of a crate's tests proves the crate
+//! once more.
 #![tactic(auto)]
 
 #[cfg(test)]

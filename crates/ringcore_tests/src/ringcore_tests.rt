@@ -1,4 +1,4 @@
-//! What no clause says: numbers worked out by hand.
+//! What no clause says: numbers that were worked out by hand.
 mod commands;
 mod consumer_view;
 mod faults;

@@ -7,7 +7,7 @@ use cmdcodec::{
 };
 use std::alloc::Global;
 
-/// What a field type's `get` returns for what its `new` made of a number.
+/// What a field type's `get` answers for what its `new` made of a number.
 fn got(name: &str, number: u64) -> Option<u64> {
     Some(match name {
         "Sid" => u64::from(Sid::new(number)?.get()),
@@ -30,7 +30,7 @@ fn got(name: &str, number: u64) -> Option<u64> {
     })
 }
 
-/// The same for a name and a number, as a text.
+/// The same of a name and a number, as a text.
 pub fn field(alloc: Global, asked: &str) -> Option<String> {
     let (name, digits) = asked.split_once(" ")?;
     match got(name, number(digits)?) {

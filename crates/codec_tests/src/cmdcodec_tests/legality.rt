@@ -1,10 +1,10 @@
-//! Illegal words, and which fault is returned.
+//! Illegal words, and which fault is told.
 use crate::answers::{expect_answers, none};
 use crate::cmdcodec_tests::words::{raw, words};
 use cmdcodec::{KeptRaw, decode};
 use std::alloc::Global;
 
-/// The fault of illegal words: its name, and its text.
+/// The fault of words that are illegal: its name, and its text.
 pub fn fault(alloc: Global, asked: &str) -> Option<String> {
     match decode(raw(asked)?) {
         Ok(_) => None,
@@ -12,7 +12,7 @@ pub fn fault(alloc: Global, asked: &str) -> Option<String> {
     }
 }
 
-/// The words of a kept command.
+/// What is kept of words that are kept.
 pub fn kept(alloc: Global, asked: &str) -> Option<String> {
     match KeptRaw::new(raw(asked)?) {
         Some(kept) => words(alloc, kept.get()),
@@ -20,7 +20,7 @@ pub fn kept(alloc: Global, asked: &str) -> Option<String> {
     }
 }
 
-// Bit 10 doesn't matter for an unknown opcode. The fault of a Secure stream comes before that of the size.
+// Bit 10 alone makes no command of an opcode that is none. A Secure stream is told of ahead of the size.
 #[test]
 fn illegal_words_have_their_faults(rt: HostRuntime) {
     expect_answers(

@@ -4,7 +4,7 @@ use crate::cmdcodec_tests::words::raw;
 use cmdcodec::{PageRun, decode};
 use std::alloc::Global;
 
-/// The first page that a command reaches, and the one after its last.
+/// The first page that a command reaches, and the one behind its last.
 pub fn pages(alloc: Global, asked: &str) -> Option<String> {
     let Ok(command) = decode(raw(asked)?) else {
         return None;

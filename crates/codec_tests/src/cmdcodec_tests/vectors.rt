@@ -4,7 +4,7 @@ use crate::cmdcodec_tests::words::{raw, words};
 use cmdcodec::{decode, encode, text};
 use std::alloc::Global;
 
-/// The text of the command of these words, if exactly they are written for it.
+/// The text of the command of these words, where just they are written for it.
 pub fn vector(alloc: Global, asked: &str) -> Option<String> {
     let raw = raw(asked)?;
     match decode(raw) {
@@ -13,7 +13,7 @@ pub fn vector(alloc: Global, asked: &str) -> Option<String> {
     }
 }
 
-/// The words that are written for the command of these words, if they mean the same.
+/// The words that are written for the command of these words, where they mean the same.
 pub fn plain(alloc: Global, asked: &str) -> Option<String> {
     let Ok(command) = decode(raw(asked)?) else {
         return None;
@@ -59,9 +59,9 @@ fn each_opcode_has_its_layout_and_its_text(rt: HostRuntime) {
     );
 }
 
-// In the first two, all bits except those of the fields and bit 10, which marks a Secure stream and is free
-// in commands that aren't for a stream. NUM and SCALE mean nothing if TG is 0, and TTL never means anything.
-// Intermediate physical addresses end at bit 51.
+// In the first two, all bits but those of the fields and bit 10, which is for a Secure stream; it is free outside of
+// the commands that are for a stream. NUM and SCALE mean nothing where TG is 0, and TTL never does. Intermediate
+// physical addresses end at bit 51.
 #[test]
 fn free_bits_are_ignored_and_written_as_zero(rt: HostRuntime) {
     expect_answers(

@@ -7,7 +7,7 @@ use cmdcodec::{
 };
 use std::alloc::Global;
 
-/// The words of a text, lo and hi.
+/// The words that a text says, lo and hi.
 pub fn raw(text: &str) -> Option<Raw> {
     let mut words = text.split_whitespace();
     let lo = next_u64(&mut words)?;
@@ -21,7 +21,7 @@ pub fn words(alloc: Global, raw: Raw) -> Option<String> {
     format!(in alloc; "{lo:#x} {hi:#x}").ok()
 }
 
-/// The words of a sender's closing sync, if they decode to it again.
+/// The words of a sender's closing sync, where they say it again.
 pub fn sync(alloc: Global, asked: &str) -> Option<String> {
     let mut numbers = asked.split_whitespace();
     let sync = closing_sync(next_u32(&mut numbers)?, next_u32(&mut numbers)?);
@@ -33,7 +33,7 @@ pub fn sync(alloc: Global, asked: &str) -> Option<String> {
     }
 }
 
-/// The sender whose cell begins at an address.
+/// Whose cell begins at an address.
 pub fn owner(alloc: Global, asked: &str) -> Option<String> {
     match cell_owner(number(asked)?) {
         Some(sender) => sender.to_string(alloc).ok(),

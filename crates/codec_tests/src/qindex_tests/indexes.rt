@@ -7,7 +7,7 @@ use qindex::{Geometry, Index};
 use std::alloc::Global;
 use std::str::SplitWhitespace;
 
-/// The log2 of a ring's size, and its size.
+/// Log2 of a ring's size, and its size.
 pub fn ring(alloc: Global, asked: &str) -> Option<String> {
     let mut numbers = asked.split_whitespace();
     match Geometry::new(next_u32(&mut numbers)?) {
@@ -19,7 +19,7 @@ pub fn ring(alloc: Global, asked: &str) -> Option<String> {
     }
 }
 
-/// The place and the wrap bit of a number as an index of a ring.
+/// The place and the wrap bit of a number that is an index of a ring.
 pub fn parts(alloc: Global, asked: &str) -> Option<String> {
     let mut numbers = asked.split_whitespace();
     let geometry = Geometry::new(next_u32(&mut numbers)?)?;
@@ -39,7 +39,7 @@ pub fn next_index(geometry: Geometry, numbers: &mut SplitWhitespace<'_>) -> Opti
     Index::new(geometry, next_u32(numbers)?)
 }
 
-/// The index this many steps further on.
+/// The index so many steps on.
 pub fn forward(alloc: Global, asked: &str) -> Option<String> {
     let mut numbers = asked.split_whitespace();
     let geometry = Geometry::new(next_u32(&mut numbers)?)?;

@@ -6,7 +6,7 @@ use qindex::{Control, Geometry, advance_mask, close_mask};
 use std::alloc::Global;
 use std::str::SplitWhitespace;
 
-/// What a control word says, if it is one.
+/// The control that a word says, if it says one.
 pub fn control(alloc: Global, asked: &str) -> Option<String> {
     let mut numbers = asked.split_whitespace();
     let geometry = Geometry::new(next_u32(&mut numbers)?)?;
@@ -47,7 +47,7 @@ pub fn registers(alloc: Global, asked: &str) -> Option<String> {
     format!(in alloc; "{prod:#x} {cons:#x}").ok()
 }
 
-/// The mask that moves cons from one index to another.
+/// What turns cons from an index to another.
 pub fn mask(alloc: Global, asked: &str) -> Option<String> {
     let mut numbers = asked.split_whitespace();
     let geometry = Geometry::new(next_u32(&mut numbers)?)?;
@@ -56,8 +56,8 @@ pub fn mask(alloc: Global, asked: &str) -> Option<String> {
     format!(in alloc; "{mask:#x}").ok()
 }
 
-// Full, in both laps, and closed; indexes one further apart than the size; an index that is twice the size;
-// and another bit set: the lowest and the highest of those below the closed bit, and of those above cons.
+// Full, in both laps, and closed; one further apart than the size; an index that is twice the size; and another bit,
+// the lowest and highest of those below the closed bit and above cons.
 #[test]
 fn words_say_their_control(rt: HostRuntime) {
     expect_answers(

@@ -5,7 +5,7 @@ use ringcore::batch_commands;
 /// A CMD_CFGI_ALL and a CMD_TLBI_NSNH_ALL.
 const BODY: [Raw; 2] = [Raw { lo: 0x4, hi: 31 }, Raw { lo: 0x30, hi: 0 }];
 
-/// Its CMD_SYNC with number 7.
+/// Its CMD_SYNC of number 7.
 const SYNC: Raw = Raw {
     lo: 0x7_0000_1046,
     hi: 0x4000_000C,

@@ -13,12 +13,12 @@ fn command(view: &ConsumerView, offset: u32) -> Option<(u64, u64)> {
     Some((raw.lo, raw.hi))
 }
 
-/// Expects these words as the command at an offset.
+/// Wants these words as the command at an offset.
 fn expect_command(rt: &impl Abort, view: &ConsumerView, offset: u32, wanted: Option<(u64, u64)>) {
     assert_eq!(rt; command(view, offset), wanted);
 }
 
-/// Expects this many commands to be taken, and this many to be found.
+/// Wants so many commands to be taken, and so many to be found.
 fn expect_counts(rt: &impl Abort, view: &ConsumerView, taken: u64, found: u32) {
     assert_eq!(rt; (view.taken(), view.found()), (taken, found));
 }
@@ -33,7 +33,7 @@ fn a_test_reads_and_an_advance(rt: HostRuntime) {
     view.reads(1, Half::Hi, 8);
     expect_command(&rt, &view, 1, Some((7, 8)));
     expect_command(&rt, &view, 0, None);
-    // A second test starts over.
+    // A second test begins anew.
     view.tests(2);
     expect_counts(&rt, &view, 0, 2);
     expect_command(&rt, &view, 1, None);
@@ -52,7 +52,7 @@ fn an_advance_ends_what_was_found(rt: HostRuntime) {
     expect_command(&rt, &view, 0, None);
 }
 
-/// Expects an advance past this many commands, 1 to 64, to be refused with this fault, or not to be.
+/// Wants an advance past so many commands, of 1 to 64, to be refused for this fault, or to be none.
 fn expect_fault(rt: &impl Abort, view: &ConsumerView, count: u32, wanted: Option<StepFault>) {
     assert!(rt; 1 <= count && count <= 64);
     assert_eq!(rt; view.advance_fault(count), wanted);
@@ -72,7 +72,7 @@ fn an_advance_is_of_what_was_found_and_read(rt: HostRuntime) {
     expect_fault(&rt, &view, 2, Some(StepFault::HalfMissing));
 }
 
-/// How many syncs of senders 0 and 1 are taken, after one of sender 1 and a command that isn't a sync.
+/// How many syncs of senders 0 and 1 are taken, after one of sender 1 and a command that is none.
 fn tallies(alloc: Global) -> Option<(u32, u32)> {
     let mut tallies = SyncTallies::new(alloc, 2).ok()?;
     tallies.takes(encode(&closing_sync(1, 1)));

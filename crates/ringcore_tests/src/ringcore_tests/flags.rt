@@ -96,7 +96,7 @@ fn runs_end_where_a_flag_is_not_flipped(rt: HostRuntime) {
         // Places 3 of the second lap, and 0 and 1 of the third.
         (2, 7, 0b0011, 64, 3),
         (2, 7, 0b0011, 2, 2),
-        // All four places, and then their own flags again, which add nothing.
+        // All four places, and then their own flags again, which say no more.
         (2, 2, 0b1100, 64, 4),
         (1, 0, 0b11, 64, 2),
         (1, 1, 0b10, 64, 2),

@@ -1,4 +1,4 @@
-//! The machine with one owner, step by step, with answers worked out by hand.
+//! The machine with one owner, step by step, with answers that were worked out by hand.
 mod calls;
 mod laps;
 mod memory;

@@ -6,7 +6,7 @@ use ringcore::{Half, RingWords, shared_word};
 use std::alloc::Global;
 use std::process::Abort;
 
-/// Expects the control word to say this prod, cons and closed.
+/// Wants the control word to say prod, cons and closed.
 fn expect_said(rt: &impl Abort, words: &RingWords, wanted: (u32, u32, bool)) {
     let control = words.control().expect(rt, "a control word");
     let said = (control.prod.get(), control.cons.get(), control.closed);
@@ -28,13 +28,13 @@ fn open_at(rt: &impl Abort, words: &RingWords, prod: u32) -> Control {
     }
 }
 
-/// Exchanges the control word from one prod to another, with cons 0, and expects that to be won or lost.
+/// Exchanges the control word from prod, cons 0 to another prod, and wants that to be won or lost.
 fn expect_exchange(rt: &impl Abort, words: &mut RingWords, from: u32, to: u32, is_won: bool) {
     let (before, after) = (open_at(rt, words, from), open_at(rt, words, to));
     assert_eq!(rt; words.exchange(&before, &after), is_won);
 }
 
-/// Writes both halves at an index, and expects to read them back.
+/// Writes both halves of an index, and wants to read them again.
 fn expect_written(rt: &impl Abort, words: &mut RingWords, number: u32, lo: u64, hi: u64) {
     let index = index(rt, words, number);
     words.write(index, Half::Lo, lo);
@@ -50,13 +50,13 @@ fn flip(rt: &impl Abort, words: &mut RingWords, number: u32, count: u32) {
     words.flip(first, count);
 }
 
-/// Expects this many to be ready from an index on.
+/// Wants so many to be ready from an index on.
 fn expect_ready(rt: &impl Abort, words: &RingWords, number: u32, limit: u32, wanted: u32) {
     let head = index(rt, words, number);
     assert_eq!(rt; words.ready(head, limit), wanted);
 }
 
-/// Moves cons from one index to another.
+/// Turns cons from an index to another.
 fn advance(rt: &impl Abort, words: &mut RingWords, from: u32, to: u32) {
     let (from, to) = (index(rt, words, from), index(rt, words, to));
     words.advance(from, to);
@@ -66,7 +66,7 @@ fn ring_of_4(alloc: Global) -> Option<RingWords> {
     RingWords::new(alloc, Geometry::new(2)?, 2).ok()
 }
 
-/// Reserves three slots. Only an exchange that names the current word does.
+/// Reserves three slots, which only an exchange for the word that stands there does.
 fn reserves_three(rt: &impl Abort, words: &mut RingWords) {
     expect_said(rt, words, (0, 0, false));
     expect_exchange(rt, words, 1, 3, false);
@@ -83,7 +83,7 @@ fn writes_and_flips(rt: &impl Abort, words: &mut RingWords) {
     expect_ready(rt, words, 0, 2, 2);
 }
 
-/// Advances past the three. The next run goes past the ring's end, where the flags flip back.
+/// Advances past the three. The next run goes over the ring's end, where the flags turn back.
 fn goes_over_the_end(rt: &impl Abort, words: &mut RingWords) {
     advance(rt, words, 0, 3);
     expect_said(rt, words, (3, 3, false));

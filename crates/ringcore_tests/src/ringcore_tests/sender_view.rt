@@ -1,4 +1,4 @@
-//! What sender 7 knows while it sends one batch, in a ring of 4 slots.
+//! What sender 7 knows on the way of one batch, in a ring of 4 slots.
 use cmdcodec::Raw;
 use qindex::{Control, Geometry};
 use ringcore::{Half, SenderView, StepFault};
@@ -29,22 +29,22 @@ fn slots(view: &SenderView, geometry: Geometry) -> Option<[Option<u32>; 4]> {
     ])
 }
 
-/// Expects these words as a command of the view's reservation.
+/// Wants these words as a command of the view's reservation.
 fn expect_words(rt: &impl Abort, view: &SenderView, offset: u32, wanted: Option<(u64, u64)>) {
     assert_eq!(rt; words_at(view, offset), wanted);
 }
 
-/// Expects the view's reservation to hold the slots at these offsets.
+/// Wants the view's reservation to hold the slots at these offsets.
 fn expect_slots(rt: &impl Abort, view: &SenderView, geometry: Geometry, wanted: [Option<u32>; 4]) {
     assert_eq!(rt; slots(view, geometry), Some(wanted));
 }
 
-/// Expects it to have looked at this since its last exchange, or not to have.
+/// Wants it to have looked at this since its last exchange, or not to.
 fn expect_looked(rt: &impl Abort, view: &SenderView, found: &Control, wanted: bool) {
     assert_eq!(rt; view.expects(found), wanted);
 }
 
-/// What it knows after it looked and reserved two of four slots from position 3 on, past the ring's end.
+/// What it knows once it looked, and reserved two slots of four from position 3 on, so that they go over the ring's end.
 fn with_two_reserved(rt: &impl Abort, found: &Control) -> SenderView {
     let mut view = SenderView::new();
     expect_looked(rt, &view, found, false);
@@ -61,7 +61,7 @@ fn held(view: &SenderView) -> (bool, bool, bool, bool) {
     (view.holds(2), view.holds(3), view.holds(4), view.holds(5))
 }
 
-/// The command and its CMD_SYNC, and where they are.
+/// The command and its CMD_SYNC, and where they stand.
 fn has_both(rt: &impl Abort, view: &SenderView, geometry: Geometry) {
     expect_words(rt, view, 0, Some((0x4, 31)));
     expect_words(rt, view, 1, Some((0x1_0000_1046, 0x4000_001C)));
@@ -108,7 +108,7 @@ fn one_batch(rt: HostRuntime) {
     expect_looked(&rt, &view, &found, false);
 }
 
-/// Why the first reserve of a sender that found this control word is refused.
+/// Why the first reserve of a sender is refused that found this control word.
 fn refusal(word: u64, body: &[Raw], closes: bool) -> Option<StepFault> {
     let geometry = Geometry::new(2)?;
     let found = Control::unpack(geometry, word)?;
@@ -117,7 +117,7 @@ fn refusal(word: u64, body: &[Raw], closes: bool) -> Option<StepFault> {
     view.reserve_fault(geometry, body, closes)
 }
 
-/// Expects such a reserve to be refused with this fault, or not to be.
+/// Wants such a reserve to be refused for this fault, or not to be.
 fn expect_refusal(
     rt: &impl Abort,
     word: u64,

@@ -1,4 +1,4 @@
-//! Texts of steps, one per line, with its answer after ` = `. A line that begins with `#` is a comment.
+//! Texts of steps, each on a line with its answer behind ` = `. A line that begins with `#` is a comment.
 use crate::ringcore_tests::machine::steps::{next_number, step};
 use qindex::Control;
 use ringcore::{Core, Seen, Step};
@@ -67,7 +67,7 @@ fn reads(core: &mut Core, from: u32, to: u32) -> bool {
     true
 }
 
-/// The answer if all slots from one up to another were written or read.
+/// The answer where all slots from one to another were gone over.
 fn all(alloc: Global, core: &mut Core, name: &str, slots: &str) -> Option<String> {
     let mut words = slots.split_whitespace();
     let (from, to) = (next_number(&mut words)?, next_number(&mut words)?);
@@ -91,7 +91,7 @@ fn answer(alloc: Global, core: &mut Core, asked: &str) -> Option<String> {
     }
 }
 
-/// Takes the steps of a text and expects the answers given there.
+/// Takes the steps of a text, and wants of each the answer that stands behind it.
 pub fn expect_answers<R: AllocGlobal + Abort>(rt: &R, core: &mut Core, text: &str) {
     for line in text.lines() {
         if !line.starts_with("#") {

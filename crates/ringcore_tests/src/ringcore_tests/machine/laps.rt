@@ -28,8 +28,7 @@ const FIRST_LAP: &str = "\
     read 1 0 = half 0x2000000000012\n\
     advance 2 = open 4 2";
 
-/// Sender 3 reserves positions 4 and 5, in the slots that sender 0's open reservation holds from the lap
-/// before.
+/// Sender 3 reserves positions 4 and 5, in the slots that sender 0's open reservation holds a lap before.
 const SECOND_LAP: &str = "\
     look 2 = open 4 2\n\
     look 3 = open 4 2\n\
@@ -67,8 +66,7 @@ const SECOND_LAP: &str = "\
     advance 2 = open 6 6\n\
     test 2 64 = ready 0";
 
-/// Sender 2 reserves positions 6 to 8, past the ring's end, and sender 0 position 9: all four are taken at
-/// once.
+/// Sender 2 reserves positions 6 to 8, over the ring's end, and sender 0 position 9: all four are taken at once.
 const THIRD_LAP: &str = "\
     # By its last look there is no room.\n\
     reserve 2 9 10 = F9\n\

@@ -23,7 +23,7 @@ fn outcome(alloc: Global) -> &'static str {
     }
 }
 
-// Only the machine allocates here, so that each of its allocations can be made to fail.
+// Nothing but the machine allocates here, so that each of its allocations can be made to fail.
 #[test]
 fn every_allocation_of_run(rt: HostRuntime) {
     let outcome = outcome(rt.alloc());

@@ -17,7 +17,7 @@ const BOTH_HOLD_SLOT_0: &str = "\
     look 1 = open 3 1\n\
     reserve 1 3 = reserved 3 1";
 
-/// What a sender may do in the slot depends first on its own reservation, and then on the others'.
+/// Its own reservation tells a sender first what it may do in the slot; then the others' do.
 const EACH_BY_ITS_OWN: &str = "\
     write 1 0 0 = written\n\
     write 1 0 1 = written\n\
@@ -39,7 +39,7 @@ const EACH_BY_ITS_OWN: &str = "\
     flip 2 0 3 = F1\n\
     flip 2 1 3 = F2";
 
-/// What both wrote is read, past the ring's end.
+/// What both wrote is read, over the ring's end.
 const ALL_ARE_TAKEN: &str = "\
     write 0 1 0 = written\n\
     write 0 1 1 = written\n\
@@ -68,8 +68,8 @@ fn one_slot_of_two_laps(rt: HostRuntime) {
     expect_answers(&rt, &mut core, ALL_ARE_TAKEN);
 }
 
-/// A reservation of the whole ring, at positions 1 to 4, whose first is taken, so that sender 1 reserves
-/// position 5, in the same slot.
+/// A reservation of all the ring, at positions 1 to 4, whose first is taken: so sender 1 reserves position 5,
+/// in the same slot.
 const A_WHOLE_RING: &str = "\
     look 0 = open 0 0\n\
     bare 0 1 = bare 0\n\

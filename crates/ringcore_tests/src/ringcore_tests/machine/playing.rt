@@ -1,4 +1,4 @@
-//! Lists of steps, and the numbers that a machine is made with.
+//! Lists of steps, and what a machine is made of.
 use crate::ringcore_tests::machine::calls::expect_answers;
 use crate::ringcore_tests::machine::steps::steps;
 use ringcore::{Core, CoreFault, Step, StepFault, run};
@@ -53,7 +53,7 @@ fn two_laps_are_answered(rt: HostRuntime) {
     expect_answers(&rt, &mut core, TWO_LAPS);
 }
 
-/// The machine after it played the steps of a text, of which this one is expected to be refused.
+/// The machine that has played the steps of a text, of which this one was to be refused.
 fn played<R: AllocGlobal + Abort>(
     rt: &R,
     log2: u32,
@@ -92,12 +92,12 @@ fn a_list_may_be_without_fault(rt: HostRuntime) {
     expect_answers(&rt, &mut core, "control = open 2 0");
 }
 
-/// Why no machine with these numbers plays a list of one step.
+/// Why no machine of these numbers plays a list of one step.
 fn why_not(alloc: Global, log2: u32, senders: u32) -> Option<CoreFault> {
     run(alloc, log2, senders, &[Step::Look { who: Some(0) }]).err()
 }
 
-/// Expects no machine with these numbers, for this fault, or expects one.
+/// Wants no machine of these numbers, for this fault, or wants one.
 fn expect_fault<R: AllocGlobal + Abort>(
     rt: &R,
     log2: u32,
@@ -107,7 +107,7 @@ fn expect_fault<R: AllocGlobal + Abort>(
     assert_eq!(rt; why_not(rt.alloc(), log2, senders), wanted);
 }
 
-// The size's fault comes first.
+// The size is told first.
 #[test]
 fn numbers_out_of_range_make_no_machine(rt: HostRuntime) {
     expect_fault(&rt, 0, 1, Some(CoreFault::Size));

@@ -1,5 +1,5 @@
-//! Runs of slots past the ends of rings and of flag words. `writes` and `reads` are for both halves of all
-//! slots from one up to another.
+//! Runs of slots over the ends of rings and of flag words. `writes` and `reads` are of both halves of all slots from
+//! one to another.
 use crate::ringcore_tests::machine::calls::expect_answers;
 use ringcore::Core;
 
@@ -85,7 +85,7 @@ fn two_slots_over_the_second_end(rt: HostRuntime) {
     expect_answers(&rt, &mut core, OVER_THE_SECOND_END);
 }
 
-// All 64 flags are in one word, so a run passes the ring's end in one step.
+// All 64 flags stand in one word, so a run goes over the ring's end in one step.
 #[test]
 fn sixty_four_slots(rt: HostRuntime) {
     let mut core = Core::new(rt.alloc(), 6, 1).expect(&rt, "a machine");

@@ -7,7 +7,7 @@ use ringcore::Step;
 use std::alloc::Global;
 use std::str::SplitWhitespace;
 
-/// A TLBI_NH_VA with the tag as its ASID and as its page.
+/// A TLBI_NH_VA: the tag is its ASID, and its page.
 fn command(tag: u16) -> Raw {
     let tag = u64::from(tag);
     Raw {
@@ -16,7 +16,7 @@ fn command(tag: u16) -> Raw {
     }
 }
 
-/// A body of `count` commands, at most 64, with tags from 0 on.
+/// A body of so many commands, at most 64, of tags from 0 on.
 fn many(count: u16) -> RawList {
     let mut list = RawList::new();
     for tag in 0..count {
@@ -27,7 +27,7 @@ fn many(count: u16) -> RawList {
     list
 }
 
-/// A body of the commands with these tags, at most 64.
+/// A body of the commands of these tags, at most 64.
 fn body(tags: &str) -> Option<RawList> {
     let mut list = RawList::new();
     for word in tags.split_whitespace() {
@@ -52,7 +52,7 @@ pub fn next_number(words: &mut SplitWhitespace<'_>) -> Option<u32> {
     words.next()?.parse().ok()
 }
 
-/// A sender's reservation of the commands that the rest of a line gives.
+/// A reservation of a sender, of the commands that the rest of a line says.
 fn reserve(name: &str, rest: &str) -> Option<Step> {
     let (number, commands) = rest.split_once(" ").unwrap_or((rest, ""));
     let sender = number.parse().ok()?;
@@ -118,7 +118,7 @@ fn of_three(name: &str, sender: u32, slot: u32, last: u32) -> Option<Step> {
     }
 }
 
-/// A step that consists of numbers only.
+/// A step that has the numbers of a text alone.
 fn numbered(name: &str, text: &str) -> Option<Step> {
     let mut words = text.split_whitespace();
     let first = next_number(&mut words)?;
@@ -129,7 +129,7 @@ fn numbered(name: &str, text: &str) -> Option<Step> {
     }
 }
 
-/// The step of a line, if it is one.
+/// The step that a line says, if it says one.
 pub fn step(line: &str) -> Option<Step> {
     if line == "look c" {
         return Some(Step::Look { who: None });
@@ -141,7 +141,7 @@ pub fn step(line: &str) -> Option<Step> {
     numbered(name, rest)
 }
 
-/// The steps of a text, without the answers that may follow them.
+/// The steps of a text, without the answers that may stand behind them.
 pub fn steps(alloc: Global, text: &str) -> Option<Vec<Step>> {
     let mut found = Vec::new(alloc);
     for line in text.lines() {
