@@ -18,10 +18,10 @@ use std::alloc::Global;
 /// entries, each born 0: older than whatever comes. The old engine's stop is forgotten (this project's
 /// choice).
 ///
-/// Errors, in this order; the queue comes back and goes on, except that its engine has looked: Q6 if a
-/// command is reserved that isn't taken; C4, N1, N2 and N3 if the sizes aren't in range; N4 or C3 if memory
-/// runs out for the ring or for a list of the entries; C1 if more entries are held than the new caches may
-/// hold; C3 if memory runs out for them.
+/// Errors, in this order, with the queue, which goes on and whose engine has looked: Q6 if a command is
+/// reserved that isn't taken; C4, N1, N2 and N3 if the sizes aren't in range; N4 or C3 if memory runs out for
+/// the ring or for a list of the entries; C1 if more entries are held than the new caches may hold; C3 if
+/// memory runs out for them.
 pub fn renew(alloc: Global, queue: Queue, sizes: Sizes) -> Result<Renewed, Refused>
     requires senders { AreAll queue.ring queue.senders.items }
     requires ring { queue.engine.consumer.ring ≡ queue.ring }
