@@ -1,4 +1,4 @@
--- What a body is made of.
+-- What makes a body.
 use Rattle.std.proofs.Common.{◌≡◌, ℕ, zero, suc, ◌+◌, ◌-◌, ◌*◌, ◌^◌, ◌<◌, ◌≤◌, ◌==◌, true, false, inl, inr, List, ◌++◌, length, map, refl, ap, ◌∙◌, length-append, arith}
 use Rattle.std.proofs.lemmas.Bool.{cases_Bool, or_from}
 use Rattle.std.proofs.lemmas.List.{length-map}
@@ -15,7 +15,7 @@ use Rattle.cmdcodec.specs.Opcodes.{is_sync}
 use Rattle.cmdcodec.specs.Bodies.{IsBody}
 use Rattle.batch.specs.Ranges.{reached_of, reach_of, commands_up_to, range_commands}
 
--- A body with some more commands is a body, where they are few and none of them is a CMD_SYNC.
+-- A body with some more commands is a body if they are few and none of them is a CMD_SYNC.
 pub longer_body : (old new : List Raw) (commands : List Command) → new ≡ old ++ map encoding commands → 0 < length commands → length new ≤ 63
     → list_any is_sync old ≡ false → list_any is_sync (map encoding commands) ≡ false → IsBody new
 longer_body old new commands appended some few before no_sync =

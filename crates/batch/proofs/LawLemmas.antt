@@ -24,7 +24,7 @@ reached_is : (pages : ℕ) → reached_of pages ≡ count_of pages * 2 ^ scale_o
 unfolding reached_of
 reached_is pages = refl
 
--- a range of granules of a page, with NUM one less than its count
+-- a range of granules of one page, with NUM the count minus one
 range_run : (page count scale reached : ℕ) → 0 < count → reached ≡ count * 2 ^ scale → page + reached ≤ 2 ^ 52
     → run_from page (Range Kib4 (count - 1) scale) (2 ^ 52) ≡ record { first = page; end = page + reached }
 range_run page count scale reached some is fits =
@@ -79,7 +79,7 @@ alike_up_to (suc most) vmid asid page pages =
           (alike_up_to most vmid asid (page + reached_of pages) (pages - reached_of pages)))
     ]
 
--- ---- Of runs that are joined.
+-- ---- Runs that are joined.
 
 IsWithin : ℕ → ℕ → PageRun → Type 0
 IsWithin first end run = (first ≤ run.first) × (run.end ≤ end)

@@ -28,7 +28,7 @@ unfolding count_trailing_zeros
 divided zero n = (n, omega arith)
 divided (suc k) n = halved n (count_trailing_zeros k (n / 2)) (n % 2) refl (divided k (n / 2))
 
--- and to any lower power
+-- and of any lower power
 lower : (n q t s : ℕ) → s ≤ t → n ≡ q * 2 ^ t → n ≡ n / 2 ^ s * 2 ^ s
 lower n q t s below multiple =
     let split : t ≡ t - s + s = omega (arith, below) in
@@ -44,7 +44,7 @@ scaled pages =
     let multiple = divided 64 pages in
     lower pages multiple.0 t (min t 31) (omega arith) multiple.1
 
--- The count is at least 1, and at most how often the step goes into the pages.
+-- The count is at least 1, and at most the number of whole steps in the pages.
 count_within : (pages : ℕ) → 0 < pages / 2 ^ scale_of pages → count_of pages ≤ pages / 2 ^ scale_of pages
 unfolding count_of
 count_within pages some =
@@ -151,7 +151,7 @@ stepped {vmid} {asid} {first} {pages} {page} {left} {old} {new} so_far some not_
           ∙ ap (λ r. new ++ (r ∷ rest)) (sym encoded) ∙ sym (append_assoc new (raw ∷ []) rest) ∙ ap (λ cs. cs ++ rest) (sym appended);
     }
 
--- where no page is left
+-- if no page is left
 pub ended : {vmid asid first pages page left : ℕ} {old new : List Raw} → IsSoFar vmid asid first pages page left old new → left ≤ 0
     → new ≡ old ++ map encoding (range_commands vmid asid first pages)
 ended {vmid} {asid} {first} {pages} {page} {left} {old} {new} so_far end =
@@ -159,7 +159,7 @@ ended {vmid} {asid} {first} {pages} {page} {left} {old} {new} so_far end =
     sym (so_far.ahead ∙ ap (λ n. new ++ map encoding (range_commands vmid asid page n)) none
     ∙ ap (λ cs. new ++ map encoding cs) (range_none vmid asid page) ∙ append-nil new)
 
--- All commands are those that are held now and those that are to come.
+-- All commands are those held now and those to come.
 total : {vmid asid first pages page left : ℕ} {old new : List Raw} → IsSoFar vmid asid first pages page left old new
     → length old + length (range_commands vmid asid first pages) ≡ length new + length (range_commands vmid asid page left)
 total {vmid} {asid} {first} {pages} {page} {left} {old} {new} so_far =
@@ -175,7 +175,7 @@ fits {vmid} {asid} {first} {pages} {page} {left} {old} {new} so_far end =
     let room = le-ltb 63 (length old + length (range_commands vmid asid first pages)) (omega (arith, total so_far, empty, so_far.few)) in
     rw room refl
 
--- where a page is left and no room
+-- if a page is left and there is no room
 pub overflows : {vmid asid first pages page left : ℕ} {old new : List Raw} → IsSoFar vmid asid first pages page left old new → 0 < left → (length new == 63) ≡ true
     → Err Full ≡ unless (room_refusal old (length (range_commands vmid asid first pages))) (tt {0})
 overflows {vmid} {asid} {first} {pages} {page} {left} {old} {new} so_far some is_full =

@@ -1,4 +1,4 @@
--- What ends the use of a stream.
+-- The commands that detach a stream.
 use Rattle.std.specs.Prelude.{ℕ, true, false, List, [], ◌∷◌}
 use Rattle.cmdcodec.specs.declared.command.Command.{Command}
 use Rattle.cmdcodec.specs.declared.command.Command.TheVariants.{CfgiSte, CfgiCdAll, AtcInv}

@@ -1,4 +1,4 @@
--- What a fault is called.
+-- The label of each fault.
 use Rattle.std.specs.Prelude.{ℕ, List, codes}
 use Rattle.batch.specs.declared.fault.BatchFault.{BatchFault}
 use Rattle.batch.specs.declared.fault.BatchFault.TheVariants.{Full, SyncInside, NoPages, PastEnd, Empty}

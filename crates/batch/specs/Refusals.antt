@@ -1,4 +1,4 @@
--- Why commands are refused: of the faults that apply, the first.
+-- Why commands are refused: the first fault that applies.
 use Rattle.std.specs.Prelude.{ℕ, ◌+◌, ◌^◌, ◌==◌, nat_lt, List, length, Option, Some, None, Result, Ok, Err, if◌then◌else◌}
 use Rattle.std.specs.List.{list_any}
 use Rattle.cmdcodec.specs.declared.raw.Raw.{Raw}
@@ -7,16 +7,16 @@ use Rattle.batch.specs.declared.fault.BatchFault.TheVariants.{Full, SyncInside, 
 use Rattle.cmdcodec.specs.Opcodes.{is_sync}
 use Rattle.batch.specs.Ranges.{range_commands}
 
--- the fault, or what is answered where there is none
+-- the fault, or this answer if there is none
 abbrev pub unless : {A : Type 0} → Option BatchFault → A → Result A BatchFault
 unless (Some fault) answer = Err fault
 unless None answer = Ok answer
 
--- of the first command of a batch
+-- for the first command of a batch
 abbrev pub new_refusal : Raw → Option BatchFault
 new_refusal raw = if is_sync raw then Some SyncInside else None
 
--- of all commands of a batch
+-- for all commands of a batch
 abbrev pub list_refusal : List Raw → Option BatchFault
 list_refusal commands =
     if length commands == 0 then Some Empty
@@ -24,15 +24,15 @@ list_refusal commands =
     else if list_any is_sync commands then Some SyncInside
     else None
 
--- of so many more commands, in a batch of these
+-- for this many more commands, in a batch of these
 abbrev pub room_refusal : List Raw → ℕ → Option BatchFault
 room_refusal held more = if nat_lt 63 (length held + more) then Some Full else None
 
--- of one more command
+-- for one more command
 abbrev pub push_refusal : List Raw → Raw → Option BatchFault
 push_refusal held raw = if is_sync raw then Some SyncInside else room_refusal held 1
 
--- of the commands for so many pages from this one on
+-- for the commands that invalidate `pages` pages from this one on
 abbrev pub range_refusal : List Raw → ℕ → ℕ → ℕ → ℕ → Option BatchFault
 range_refusal held vmid asid page pages =
     if pages == 0 then Some NoPages

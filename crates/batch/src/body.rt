@@ -34,7 +34,7 @@ impl Model for Batch {
 }
 
 impl Batch {
-    /// A batch of one command. B2 refuses a CMD_SYNC.
+    /// Creates a batch of one command. Errors: B2 if it is a CMD_SYNC.
     pub fn new(first: Raw) -> Result<Batch, BatchFault>
         ensures { result ≡ unless (new_refusal first) (first ∷ []) }
     {
@@ -46,7 +46,7 @@ impl Batch {
         Ok(Batch { commands })
     }
 
-    /// A batch of these commands. The first of B5, B1 and B2 that applies refuses them.
+    /// Creates a batch of these commands. Errors: the first of B5, B1 and B2 that applies.
     pub fn from_raws(raws: &[Raw]) -> Result<Batch, BatchFault>
         ensures { result ≡ unless (list_refusal raws.now) raws.now }
     {
@@ -56,9 +56,9 @@ impl Batch {
         Ok(Batch { commands })
     }
 
-    /// A batch that invalidates the stage 1 translations of an address space for `pages` pages of 4,096
-    /// bytes from `page` on: CMD_TLBI_NH_VA with Leaf 1, by ranges where it can. The first of B3, B4 and B1
-    /// that applies refuses it.
+    /// Creates a batch that invalidates the stage 1 translations of an address space for `pages` pages of
+    /// 4,096 bytes from `page` on: CMD_TLBI_NH_VA with Leaf 1, by ranges if possible. Errors: the first of
+    /// B3, B4 and B1 that applies.
     pub fn range(vmid: Vmid, asid: Asid, page: Page, pages: u64) -> Result<Batch, BatchFault>
         ensures { result ≡ unless (range_refusal [] vmid asid page pages) (map encoding (range_commands vmid asid page pages)) }
     {
@@ -69,8 +69,8 @@ impl Batch {
         }
     }
 
-    /// A batch that detaches a stream: CMD_CFGI_STE with Leaf 1, CMD_CFGI_CD_ALL, and CMD_ATC_INV for all
-    /// pages, in this order (own). It is never refused.
+    /// Creates a batch that detaches a stream: CMD_CFGI_STE with Leaf 1, CMD_CFGI_CD_ALL, and CMD_ATC_INV for
+    /// all pages, in this order (own). It never fails.
     pub fn detach(sid: Sid) -> Result<Batch, BatchFault>
         ensures { result ≡ Ok (map encoding (detach_commands sid)) }
     {
@@ -79,7 +79,7 @@ impl Batch {
         Ok(Batch { commands })
     }
 
-    /// Appends the words of a command. The first of B2 and B1 that applies refuses it.
+    /// Appends the words of a command. Errors: the first of B2 and B1 that applies.
     pub fn push(&mut self, command: &Command) -> Result<(), BatchFault>
         ensures answer { result ≡ unless (push_refusal self.old (encoding command.now)) tt }
         ensures appended { OnOk result (self.new ≡ self.old ++ encoding command.now ∷ []) }
@@ -88,7 +88,7 @@ impl Batch {
         self.push_raw(encode(command))
     }
 
-    /// Appends a command. The first of B2 and B1 that applies refuses it.
+    /// Appends a command. Errors: the first of B2 and B1 that applies.
     pub fn push_raw(&mut self, raw: Raw) -> Result<(), BatchFault>
         ensures answer { result ≡ unless (push_refusal self.old raw) tt }
         ensures appended { OnOk result (self.new ≡ self.old ++ raw ∷ []) }
@@ -104,7 +104,7 @@ impl Batch {
         Ok(())
     }
 
-    /// Appends what `range` makes, all of it. The first of B3, B4 and B1 that applies refuses it.
+    /// Appends all that `range` makes, or nothing. Errors: the first of B3, B4 and B1 that applies.
     pub fn invalidate_range(
         &mut self,
         vmid: Vmid,
@@ -119,7 +119,7 @@ impl Batch {
         append_range(&mut self.commands, vmid, asid, page, pages)
     }
 
-    /// Appends what `detach` makes, all of it. B1 refuses it.
+    /// Appends all that `detach` makes, or nothing. Errors: B1 if there is too little room.
     pub fn detach_stream(&mut self, sid: Sid) -> Result<(), BatchFault>
         ensures answer { result ≡ unless (room_refusal self.old (length (detach_commands sid))) tt }
         ensures appended { OnOk result (self.new ≡ self.old ++ map encoding (detach_commands sid)) }
@@ -132,7 +132,7 @@ impl Batch {
         Ok(())
     }
 
-    /// How many commands there are, 1 to 63.
+    /// Returns how many commands there are, 1 to 63.
     pub fn len(&self) -> usize
         ensures value { result ≡ length self.now }
         ensures body { IsBody self.now }
@@ -140,7 +140,7 @@ impl Batch {
         self.commands.len()
     }
 
-    /// The same commands, borrowed.
+    /// Returns the same commands, borrowed.
     pub fn as_borrowed(&self) -> BorrowedBatch<'_>
         ensures { result ≡ self.now }
     {
@@ -149,7 +149,7 @@ impl Batch {
         }
     }
 
-    /// The commands, as a slice.
+    /// Returns the commands as a slice.
     pub fn as_slice(&self) -> &[Raw]
         ensures value { result.now ≡ self.now }
         ensures body { IsBody self.now }
@@ -157,7 +157,7 @@ impl Batch {
         self.commands.as_slice()
     }
 
-    /// The command at an index, from 0; `None` behind the last.
+    /// Returns the command at an index, from 0, or `None` past the last.
     pub fn get(&self, index: usize) -> Option<Raw>
         ensures value { result ≡ slice_get self.now index }
         ensures no_sync { IfSome result (λ raw. is_sync raw ≡ false) }

@@ -1,4 +1,4 @@
-//! The commands of a batch where their owner keeps them.
+//! A batch whose commands stay with their owner.
 ghost use Rattle.std.specs.Prelude.{◌≡◌, IfSome, List, length, slice_get, false};
 ghost use Rattle.std.specs.List.{list_any};
 ghost use Rattle.cmdcodec.specs.declared.raw.Raw.{Raw};
@@ -10,8 +10,8 @@ use crate::fault::BatchFault;
 use cmdcodec::{MOST_BODY_COMMANDS, Raw};
 use std::marker::Model;
 
-/// The commands of a batch that their owner keeps, as in an array: 1 to 63, legal or not, none of them a CMD_SYNC (own).
-/// It copies no command.
+/// A batch whose commands stay with their owner, such as in an array: 1 to 63, legal or not, none of them a
+/// CMD_SYNC (own). It copies no command.
 #[derive(Drop)]
 pub struct BorrowedBatch<'b> {
     pub(crate) commands: &'b [Raw],
@@ -26,7 +26,7 @@ impl<'b> Model for BorrowedBatch<'b> {
 }
 
 impl<'b> BorrowedBatch<'b> {
-    /// A batch of these commands. The first of B5, B1 and B2 that applies refuses them.
+    /// Creates a batch of these commands. Errors: the first of B5, B1 and B2 that applies.
     pub fn new(commands: &'b [Raw]) -> Result<BorrowedBatch<'b>, BatchFault>
         ensures { result ≡ unless (list_refusal commands.now) commands.now }
     {
@@ -42,7 +42,7 @@ impl<'b> BorrowedBatch<'b> {
         Ok(BorrowedBatch { commands })
     }
 
-    /// The same commands, borrowed once more.
+    /// Returns the same commands, borrowed once more.
     pub fn reborrow(&self) -> BorrowedBatch<'b>
         ensures { result ≡ self.now }
     {
@@ -51,7 +51,7 @@ impl<'b> BorrowedBatch<'b> {
         }
     }
 
-    /// How many commands there are, 1 to 63.
+    /// Returns how many commands there are, 1 to 63.
     pub fn len(&self) -> usize
         ensures value { result ≡ length self.now }
         ensures body { IsBody self.now }
@@ -59,7 +59,7 @@ impl<'b> BorrowedBatch<'b> {
         self.commands.len()
     }
 
-    /// The commands, as a slice.
+    /// Returns the commands as a slice.
     pub fn as_slice(&self) -> &'b [Raw]
         ensures value { result.now ≡ self.now }
         ensures body { IsBody self.now }

@@ -1,4 +1,4 @@
-//! How the end of a stream's use becomes commands.
+//! The commands that detach a stream.
 ghost use Rattle.std.specs.Prelude.{◌≡◌, ◌≤◌, ◌+◌, ◌++◌, false, length, map};
 ghost use Rattle.std.specs.List.{list_any};
 ghost use Rattle.cmdcodec.specs.Words.{encoding};
@@ -15,7 +15,7 @@ const SIZE_OF_ALL: u64 = 52;
 /// How many commands detach a stream.
 pub(crate) const DETACH_COMMANDS: usize = 3;
 
-/// Appends the commands that detach a stream, for which there is room.
+/// Appends the commands that detach a stream. There must be room for them.
 pub(crate) fn append_detach(commands: &mut Commands, sid: Sid)
     requires { length commands.old.items + 3 ≤ 63 }
     ensures appended { commands.new.items ≡ commands.old.items ++ map encoding (detach_commands sid) }

@@ -1,16 +1,16 @@
-//! Why commands aren't taken into a batch.
+//! Why a batch refuses commands.
 ghost use Rattle.std.specs.Prelude.{◌≡◌};
 ghost use Rattle.batch.specs.Faults.{label_of};
 
 use thiserror::Error;
 
-/// Why commands aren't taken into a batch, which then stays as it was (own).
+/// Why a batch refuses commands. It stays as it was (own).
 #[derive(Clone, Copy, Debug, PartialEq, Eq, Error)]
 pub enum BatchFault {
     /// B1: there would be more than 63 commands.
     #[error("B1: more than 63 commands")]
     Full,
-    /// B2: the command is a CMD_SYNC, which the sender adds behind the batch.
+    /// B2: a command is a CMD_SYNC, which the sender adds after the batch.
     #[error("B2: a CMD_SYNC among the commands")]
     SyncInside,
     /// B3: the range has no page.
@@ -25,7 +25,7 @@ pub enum BatchFault {
 }
 
 impl BatchFault {
-    /// Its label alone, `B1` to `B5`.
+    /// Returns its label, `B1` to `B5`.
     pub fn label(self) -> &'static str
         ensures { result.now ≡ label_of self }
     {

@@ -1,4 +1,4 @@
-//! How a run of pages becomes commands.
+//! The commands that invalidate a run of pages.
 ghost use Rattle.std.specs.Prelude.{◌≡◌, ◌<◌, ◌≤◌, ◌+◌, ◌^◌, ◌++◌, OnOk, OnErr, true, false, length, map, take};
 ghost use Rattle.std.specs.List.{list_any};
 ghost use Rattle.cmdcodec.specs.declared.command.Command.TheVariants.{TlbiNhVa};
@@ -12,17 +12,17 @@ use crate::body::Commands;
 use crate::fault::BatchFault;
 use cmdcodec::{Asid, Command, Granule, Page, RangeCount, RangeScale, Reach, Vmid, encode};
 
-/// How many pages an address space has.
+/// The number of pages in an address space.
 const ALL_PAGES: u64 = 1 << 52;
 
 /// The greatest `SCALE`.
 const MOST_SCALE: u32 = 31;
 
-/// The most steps of `2^SCALE` pages in a command, which is one more than the greatest `NUM`.
+/// The most steps of `2^SCALE` pages in a command: the greatest `NUM` plus one.
 const MOST_STEPS: u64 = 32;
 
-/// Appends the commands that invalidate so many pages, or nothing where the first of B3, B4 and B1 that
-/// applies refuses them.
+/// Appends the commands that invalidate `pages` pages from `page` on, or nothing if there is an error: the
+/// first of B3, B4 and B1 that applies.
 pub(crate) fn append_range(
     commands: &mut Commands,
     vmid: Vmid,
@@ -51,7 +51,7 @@ pub(crate) fn append_range(
     }
 }
 
-/// Appends the commands for so many pages as far as there is room, and tells B1 where there isn't.
+/// Appends the commands for `pages` pages from `first` on as far as there is room; B1 if there isn't enough.
 fn append_commands(
     commands: &mut Commands,
     vmid: Vmid,
@@ -79,7 +79,7 @@ fn append_commands(
     Ok(())
 }
 
-/// The next command for so many pages.
+/// The next command for `pages` pages from `page` on.
 fn next_command(vmid: Vmid, asid: Asid, page: u64, pages: u64) -> Command
     requires in_range { page < 2 ^ 52 }
     requires some { 0 < pages }
@@ -121,7 +121,7 @@ fn reached_of(pages: u64) -> u64
     count_of(pages) << scale_of(pages)
 }
 
-/// How many steps of `2^SCALE` pages that is.
+/// How many steps of `2^SCALE` pages the next command has.
 #[tactic(auto, unfolding(crate::specs::Ranges::count_of))]
 fn count_of(pages: u64) -> u64
     ensures value { result ≡ count_of pages }

@@ -47,7 +47,7 @@ module _ {K X : Type 0} (R : K → K → Ordering) where
   from_strict [] h = tt
   from_strict (e ∷ es) h = both _ _ (all_below e.0 es (sorted_head R e.0 (keys_of es) h)) (from_strict es (sorted_tail R e.0 (keys_of es) h))
 
--- ---- a list sorted by tag, in which no tag stands twice
+-- ---- a list sorted by tag, without a tag twice
 abbrev pub tag_in : Entry → Tag
 tag_in e = e.tag
 

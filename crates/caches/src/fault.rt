@@ -4,7 +4,7 @@ ghost use Rattle.caches.specs.Faults.{label_of};
 
 use thiserror::Error;
 
-/// Why a call was refused. It changed nothing.
+/// Why a call was refused. A refused call changes nothing.
 #[derive(Clone, Copy, PartialEq, Eq, Debug, Error)]
 pub enum CacheFault {
     /// C1: the tag is new and the caches are full.

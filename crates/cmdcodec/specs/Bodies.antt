@@ -1,4 +1,4 @@
--- What a batch holds ahead of the CMD_SYNC that closes it.
+-- What a batch holds before the CMD_SYNC that closes it.
 use Rattle.std.specs.Prelude.{◌≡◌, ◌≤◌, ℕ, false, List, length}
 use Rattle.std.specs.List.{list_any}
 use Rattle.cmdcodec.specs.declared.raw.Raw.{Raw}

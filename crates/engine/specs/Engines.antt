@@ -55,7 +55,7 @@ abbrev pub IsEngine : Option (ConsumerValue UnitValue) → UnitValue → Type 0
 IsEngine None unit = ⊥
 IsEngine (Some consumer) unit = AreTogether consumer unit
 
--- ---- what a step of at most so many commands took from the ring
+-- ---- what a step of at most `most` commands took from the ring
 
 -- This command was read at the head, perhaps with more after it.
 pub record IsFirst (most : ℕ) (consumer : ConsumerValue UnitValue) (p : PendingValue UnitValue) (raw : Raw) : Type 0 where

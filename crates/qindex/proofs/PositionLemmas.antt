@@ -1,4 +1,4 @@
--- Positions, and the wrapped numbers that are kept of them.
+-- Positions, and the wrapped numbers kept of them.
 use Rattle.std.proofs.Common.{◌≡◌, ◌≢◌, ℕ, zero, suc, ◌+◌, ◌-◌, ◌*◌, ◌%◌, ◌^◌, ◌<◌, ◌≤◌, inl, inr, refl, ap, sym, ◌∙◌, arith}
 use Rattle.std.proofs.lemmas.Bool.{cases_lt, lt-leb, le-leb, eq-eqb, ne_eqb}
 use Rattle.std.proofs.lemmas.Nat.{and_mask, pow_pos, pow-add, mod-pow-add, mod_below, div-mul-add, mod-mul-add}
@@ -97,7 +97,7 @@ masked_number g n is =
 pub masked_place : (g n size : ℕ) → size ≡ 2 ^ g → bit_and n (size - 1) ≡ place g n
 masked_place g n size is = ap (λ m. bit_and n (m - 1)) is ∙ and_mask n g
 
--- The wrap bit of an index is set where the number is the size or more.
+-- The wrap bit of an index is set if its number is the size or more.
 pub wrap_seen : (g n : ℕ) → n < 2 * size g → nat_le (size g) n ≡ (wrap_bit g n == 1)
 wrap_seen g n small =
     let whole : n ≡ wrap_bit g n * size g + place g n = sym (mod-eq_of_lt small) ∙ number_parts g n in

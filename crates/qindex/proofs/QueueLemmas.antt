@@ -10,7 +10,7 @@ use Rattle.qindex.proofs.PositionLemmas.{some_slots, number_parts, place_of_numb
 
 -- ---- how far apart
 
--- d steps on from h, counted modulo m, is d away
+-- d steps further on from h, counted modulo m, is at distance d
 apart : (m h d : ℕ) → 0 < m → d < m → ((h + d) % m + m - h % m) % m ≡ d
 apart m h d some small =
     let r = h % m in
@@ -64,7 +64,7 @@ record IsSeen (g t h : ℕ) : Type 0 where
   pub empty : (one_place g t h && one_wrap_bit g t h) ≡ nat_eq t h
   pub full : (one_place g t h && not (one_wrap_bit g t h)) ≡ nat_eq t (h + size g)
 
--- where places and wrap bits are found to agree or not, and so t and h, and t and h + size
+-- what is found: whether places and wrap bits agree, whether t is h, and whether t is h + size
 abbrev pub Found : ℕ → ℕ → ℕ → Bool → Bool → Bool → Bool → Type 0
 Found g t h p w e f = (one_place g t h ≡ p) × (one_wrap_bit g t h ≡ w) × (nat_eq t h ≡ e) × (nat_eq t (h + size g) ≡ f)
 
@@ -117,7 +117,7 @@ queue g t h is order near =
       full = full_between g t h order near;
     }
 
--- Indexes of one ring have one number where place and wrap bit agree.
+-- Indexes of one ring have the same number if place and wrap bit agree.
 pub one_number : (g f a b : ℕ) → g ≡ f → IsIndexNumber g a → IsIndexNumber f b
     → nat_eq a b ≡ is_empty record { geometry = g; number = a } record { geometry = f; number = b }
 one_number g f a b one a_below b_below =

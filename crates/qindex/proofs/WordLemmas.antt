@@ -27,7 +27,7 @@ bit_of_bool zero small = refl
 bit_of_bool (suc zero) small = refl
 bit_of_bool (suc (suc n)) small = absurd (omega (arith, small))
 
--- ---- a word says one control
+-- ---- a word says only one control
 
 pub control : QueuesHaveAControl
 control g t h closed is order near =
@@ -39,7 +39,7 @@ control g t h closed is order near =
       within = rw (distance_in_queue g t h order near) (omega (arith, near));
     }
 
--- the fields of a word that is put together of them
+-- the fields of a word composed of them
 record HasFields (word p b c : ℕ) : Type 0 where
   pub prod : field word 19 0 ≡ p
   pub below_closed : field word 30 20 ≡ 0
@@ -198,8 +198,7 @@ closed_seen word =
     by_bit (suc zero) small = refl
     by_bit (suc (suc b)) small = absurd (omega (arith, small))
 
--- What `unpack` reads: the word below its closed bit, and the word above its low half.
--- the index that stands below the closed bit, and that above the low half
+-- What `unpack` reads: the index below the closed bit, and the one above the low half.
 abbrev pub low_index : ℕ → ℕ → IndexValue
 low_index g word = record { geometry = g; number = bit_and word (2 ^ 31 - 1) }
 

@@ -1,11 +1,11 @@
 -- The control word: both indexes and whether the queue is closed, in one word of 64 bits (own). The low half
--- is as SMMU_CMDQ_PROD has it, with the closed bit above, and the high half as SMMU_CMDQ_CONS.
+-- is laid out as SMMU_CMDQ_PROD, with the closed bit above it, and the high half as SMMU_CMDQ_CONS.
 use Rattle.std.specs.Prelude.{◌≡◌, ◌≤◌, ℕ, ◌+◌, ◌-◌, ◌*◌, ◌/◌, ◌%◌, ◌^◌, Bool, true, false, ◌==◌, bit_xor}
 use Rattle.qindex.specs.declared.control.Control.{Control}
 use Rattle.qindex.specs.Positions.{IndexValue, size}
 use Rattle.qindex.specs.Indexes.{IsIndex, IsIndexNumber, distance}
 
--- bits high to low of a word, as a number
+-- bits high:low of a word, as a number
 abbrev pub field : ℕ → ℕ → ℕ → ℕ
 field word high low = word / 2 ^ low % 2 ^ (high + 1 - low)
 
@@ -17,7 +17,7 @@ bit true = 1
 abbrev pub packed : Control → ℕ
 packed control = control.prod.number + bit control.closed * 2 ^ 31 + control.cons.number * 2 ^ 32
 
--- what stands in those bits
+-- what those bits say
 abbrev pub control_in : ℕ → ℕ → Control
 control_in geometry word = record {
   prod = record { geometry = geometry; number = field word 19 0 };
@@ -25,8 +25,8 @@ control_in geometry word = record {
   closed = field word 31 31 == 1;
 }
 
--- A word says a control of this geometry where no other bit is set, both indexes are below twice the size,
--- and they are no more than the size apart.
+-- A word says a control of this geometry if no other bit is set, both indexes are below twice the size, and
+-- they are no more than the size apart.
 pub record IsControlWord (geometry word : ℕ) : Type 0 where
   pub no_bit_below_closed : field word 30 20 ≡ 0
   pub no_bit_above_cons : field word 63 52 ≡ 0
@@ -34,7 +34,7 @@ pub record IsControlWord (geometry word : ℕ) : Type 0 where
   pub cons : IsIndexNumber geometry (field word 51 32)
   pub within : distance (control_in geometry word).prod (control_in geometry word).cons ≤ size geometry
 
--- what a ring of this geometry may have
+-- a control that a ring of this geometry may have
 pub record IsControl (geometry : ℕ) (control : Control) : Type 0 where
   pub prod : IsIndex control.prod
   pub cons : IsIndex control.cons
@@ -54,6 +54,6 @@ close_mask = 2 ^ 31
 abbrev pub closed : Control → Control
 closed control = record control { closed = true }
 
--- the control once cons has come to an index
+-- the control once cons is at this index
 abbrev pub advanced : Control → IndexValue → Control
 advanced control to = record control { cons = to }

@@ -1,4 +1,4 @@
--- What is read off two indexes, from the section on circular queues.
+-- What two indexes tell, from the section on circular queues.
 use Rattle.std.specs.Prelude.{◌≡◌, ◌<◌, ◌≤◌, ℕ, ◌+◌, ◌-◌, ◌*◌, ◌%◌, Bool, not, ◌&&◌, ◌==◌}
 use Rattle.qindex.specs.Positions.{IndexValue, size, place, wrap_bit, index_of}
 
@@ -33,10 +33,10 @@ have_one_place prod cons = place prod.geometry prod.number == place cons.geometr
 abbrev pub have_one_wrap_bit : IndexValue → IndexValue → Bool
 have_one_wrap_bit prod cons = wrap_bit prod.geometry prod.number == wrap_bit cons.geometry cons.number
 
--- The queue is empty where place and wrap bit agree.
+-- The queue is empty if place and wrap bit agree.
 abbrev pub is_empty : IndexValue → IndexValue → Bool
 is_empty prod cons = have_one_place prod cons && have_one_wrap_bit prod cons
 
--- The queue is full where the places agree and the wrap bits differ.
+-- The queue is full if the places agree and the wrap bits differ.
 abbrev pub is_full : IndexValue → IndexValue → Bool
 is_full prod cons = have_one_place prod cons && not (have_one_wrap_bit prod cons)

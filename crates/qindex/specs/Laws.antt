@@ -1,4 +1,4 @@
--- What positions and the control word are held to.
+-- The laws of positions and of the control word.
 use Rattle.std.specs.Prelude.{◌≡◌, ◌<◌, ◌≤◌, ℕ, ◌+◌, ◌-◌, ◌*◌, ◌/◌, ◌%◌, ◌^◌, Bool, ◌==◌, bit_or, bit_xor}
 use Rattle.qindex.specs.declared.control.Control.{Control}
 use Rattle.qindex.specs.Positions.{IndexValue, size, place, wrap_bit, index_of}
@@ -15,7 +15,8 @@ pub record IsPlaceAndWrapBit (geometry position : ℕ) : Type 0 where
 abbrev pub IndexesArePlaceAndWrapBit : Type 0
 IndexesArePlaceAndWrapBit = (geometry position : ℕ) → IsGeometry geometry → IsPlaceAndWrapBit geometry position
 
--- Two positions with one index have one place and one wrap bit, and their indexes go on alike.
+-- Two positions with the same index have the same place and wrap bit, and stay alike any number of steps
+-- further on.
 pub record GoOnAlike (geometry position other steps : ℕ) : Type 0 where
   pub place : place geometry (position + steps) ≡ place geometry (other + steps)
   pub wrap_bit : wrap_bit geometry (position + steps) ≡ wrap_bit geometry (other + steps)
@@ -25,7 +26,7 @@ abbrev pub IndexesTellPlaceAndWrapBit : Type 0
 IndexesTellPlaceAndWrapBit =
     (geometry position other steps : ℕ) → index_of geometry position ≡ index_of geometry other → GoOnAlike geometry position other steps
 
--- Of as many positions in a row as there are slots, each has a slot of its own.
+-- Among as many positions in a row as there are slots, each has its own slot.
 abbrev pub SlotsAreApart : Type 0
 SlotsAreApart =
     (geometry from position other : ℕ)
@@ -34,7 +35,7 @@ SlotsAreApart =
     → place geometry position ≡ place geometry other
     → position ≡ other
 
--- A lap on the place is the same and the wrap bit the other.
+-- One lap further on, the place is the same and the wrap bit the opposite.
 pub record IsALapOn (geometry position : ℕ) : Type 0 where
   pub place : place geometry (position + size geometry) ≡ place geometry position
   pub wrap_bit : wrap_bit geometry (position + size geometry) + wrap_bit geometry position ≡ 1
@@ -44,7 +45,7 @@ WrapBitsTurnByLap = (geometry position : ℕ) → IsALapOn geometry position
 
 -- ---- the queue between two positions
 
--- Distance, empty and full as the indexes of the two ends tell them.
+-- The indexes of the two ends tell the distance, and whether the queue is empty or full.
 pub record IsQueueBetween (geometry tail head : ℕ) : Type 0 where
   pub distance : distance (index_of geometry tail) (index_of geometry head) ≡ tail - head
   pub empty : is_empty (index_of geometry tail) (index_of geometry head) ≡ (tail == head)
@@ -94,14 +95,14 @@ pub record SetsBit31 (word : ℕ) : Type 0 where
 abbrev pub OrSetsBit31Alone : Type 0
 OrSetsBit31Alone = (word : ℕ) → SetsBit31 word
 
--- An exclusive or with the advance mask from cons to another index makes that one cons.
+-- An exclusive or with the advance mask from cons to another index makes that index cons.
 abbrev pub XorAdvances : Type 0
 XorAdvances =
     (geometry : ℕ) (control : Control) (to : IndexValue)
     → IsControl geometry control → IsIndex to
     → bit_xor (packed control) (advance_mask control.cons to) ≡ packed (advanced control to)
 
--- In any word it turns bits 51:32 from the one to the other, and keeps the bits below and above.
+-- In any word it turns bits 51:32 from one index into the other, and keeps the bits below and above.
 pub record TurnsCons (word : ℕ) (from to : IndexValue) : Type 0 where
   pub turned : field word 51 32 ≡ from.number → field (bit_xor word (advance_mask from to)) 51 32 ≡ to.number
   pub below : bit_xor word (advance_mask from to) % 2 ^ 32 ≡ word % 2 ^ 32

@@ -1,17 +1,17 @@
--- Positions, from the section on circular queues. A position is any whole number: the command that was
--- reserved after n others has position n. A ring of 2^log2 slots keeps no positions, just what is said
--- here of them; a geometry is seen as its log2.
+-- Positions, from the section on circular queues. A position is any natural number: the command reserved
+-- after n others has position n. A ring of 2^log2 slots stores no positions, only what is defined here of
+-- them. Contracts see a geometry as its log2.
 use Rattle.std.specs.Prelude.{ℕ, ◌*◌, ◌/◌, ◌%◌, ◌^◌}
 
 -- how many slots the ring has
 abbrev pub size : ℕ → ℕ
 size geometry = 2 ^ geometry
 
--- the slot in which the position's command stands
+-- the slot of the position's command
 abbrev pub place : ℕ → ℕ → ℕ
 place geometry position = position % size geometry
 
--- how often the ring was gone round before
+-- how many rounds of the ring came before
 abbrev pub lap : ℕ → ℕ → ℕ
 lap geometry position = position / size geometry
 

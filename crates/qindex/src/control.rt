@@ -1,4 +1,4 @@
-//! The control word: both indexes and the closed bit, in one word.
+//! The control word: both indexes and the closed bit in one word.
 ghost use Rattle.std.specs.Prelude.{◌≡◌, ◌≤◌, ◌<◌, ◌+◌, ◌*◌, ◌^◌, Some, MatchOption, ⊤};
 ghost use Rattle.std.specs.Option.{SomeIff};
 ghost use Rattle.qindex.specs.ControlWord.{IsControl, IsControlWord, packed, control_in, advance_mask as mask_of, close_mask as mask_to_close};
@@ -21,7 +21,8 @@ pub struct Control {
 const CLOSED: u64 = 1 << 31;
 
 impl Control {
-    /// The word: `prod` in bits 19:0, `closed` in bit 31, `cons` in bits 51:32, all other bits 0 (own).
+    /// Returns the word: `prod` in bits 19:0, `closed` in bit 31, `cons` in bits 51:32, all other bits 0
+    /// (own).
     pub fn pack(&self) -> u64
         ensures { result ≡ packed self.now }
     {
@@ -30,8 +31,8 @@ impl Control {
             + u64::from(self.prod.get())
     }
 
-    /// What a word says for a ring of this geometry. `None` where another bit is set, an index isn't below
-    /// twice the size, or the two are further apart than the size.
+    /// Returns what a word says for a ring of this geometry, or `None` if another bit is set, an index isn't
+    /// below twice the size, or the two are further apart than the size.
     pub fn unpack(geometry: Geometry, word: u64) -> Option<Control>
         ensures found { SomeIff result (IsControlWord geometry word) (control_in geometry word) }
         ensures undoes_pack { (control : Control) → IsControl geometry control → word ≡ packed control → result ≡ Some control }
@@ -49,14 +50,14 @@ impl Control {
         })
     }
 
-    /// SMMU_CMDQ_PROD: `WR` is bits 19:0.
+    /// Returns SMMU_CMDQ_PROD: `WR` is bits 19:0.
     pub fn prod_register(&self) -> u32
         ensures { result ≡ self.now.prod.number }
     {
         self.prod.get()
     }
 
-    /// SMMU_CMDQ_CONS: `RD` is bits 19:0, and `ERR`, at most 127, bits 30:24.
+    /// Returns SMMU_CMDQ_CONS: `RD` is bits 19:0, and `ERR`, at most 127, is bits 30:24.
     pub fn cons_register(&self, err: u32) -> u32
         requires { err ≤ 127 }
         ensures { result ≡ self.now.cons.number + err * 2 ^ 24 }
@@ -65,14 +66,14 @@ impl Control {
     }
 }
 
-/// What an exclusive or of the control word turns `cons` with, from the one index to the other.
+/// Returns the mask with which an exclusive or of the control word moves `cons` from one index to the other.
 pub fn advance_mask(from: Index, to: Index) -> u64
     ensures { result ≡ mask_of from to }
 {
     u64::from(from.get() ^ to.get()) << 32
 }
 
-/// What an or of the control word closes it with.
+/// Returns the mask with which an or of the control word closes it.
 pub fn close_mask() -> u64
     ensures { result ≡ mask_to_close }
 {

@@ -1,4 +1,4 @@
-//! How many slots a ring has.
+//! The number of slots of a ring.
 ghost use Rattle.std.specs.Prelude.{◌≡◌, ◌≤◌, ◌*◌, ◌%◌, ◌^◌};
 ghost use Rattle.std.specs.Option.{SomeIff};
 ghost use Rattle.qindex.specs.Positions.{size};
@@ -26,7 +26,7 @@ impl Model for Geometry {
 }
 
 impl Geometry {
-    /// The geometry of `2^log2` slots, for 1 to 19.
+    /// Returns the geometry of `2^log2` slots if log2 is 1 to 19.
     pub fn new(log2: u32) -> Option<Geometry>
         ensures { SomeIff result (IsGeometry log2) log2 }
     {
@@ -37,7 +37,7 @@ impl Geometry {
         }
     }
 
-    /// The binary logarithm of the number of slots, 1 to 19.
+    /// Returns the binary logarithm of the number of slots, 1 to 19.
     pub fn log2(self) -> u32
         ensures value { result ≡ self }
         ensures in_range { IsGeometry result }
@@ -45,7 +45,7 @@ impl Geometry {
         self.log2
     }
 
-    /// The number of slots, 2 to 524,288.
+    /// Returns the number of slots, 2 to 524,288.
     pub fn size(self) -> u32
         ensures value { result ≡ size self }
         ensures in_range { (2 ≤ result) × (result ≤ 2 ^ 19) }
@@ -54,7 +54,7 @@ impl Geometry {
         1 << self.log2
     }
 
-    /// A number modulo twice the size, as indexes are counted.
+    /// Returns a number modulo twice the size, as indexes are counted.
     pub(crate) fn wrapped(self, number: u32) -> u32
         ensures { result ≡ number % (2 * size self) }
     {

@@ -1,4 +1,4 @@
-//! Indexes: positions as a ring's registers keep them.
+//! Indexes: what a ring's registers keep of positions.
 ghost use Rattle.std.specs.Prelude.{◌≡◌, ◌<◌, ◌≤◌, ℕ, ◌+◌, ◌-◌, ◌*◌, ◌^◌, ◌==◌};
 ghost use Rattle.std.specs.Option.{SomeIff};
 ghost use Rattle.qindex.specs.Positions.{size, place, wrap_bit, index_of};
@@ -29,7 +29,7 @@ impl Model for Index {
 }
 
 impl Index {
-    /// The index of this number, where it is below twice the size.
+    /// Returns the index with this number if it is below twice the size.
     pub fn new(geometry: Geometry, number: u32) -> Option<Index>
         ensures { SomeIff result (IsIndexNumber geometry number) (record { geometry = geometry; number = number }) }
     {
@@ -40,14 +40,14 @@ impl Index {
         }
     }
 
-    /// The geometry of its ring.
+    /// Returns its ring's geometry.
     pub fn geometry(self) -> Geometry
         ensures { result ≡ self.geometry }
     {
         self.geometry
     }
 
-    /// Its number, as SMMU_CMDQ_PROD.WR or SMMU_CMDQ_CONS.RD holds it: 20 bits.
+    /// Returns its number, as SMMU_CMDQ_PROD.WR or SMMU_CMDQ_CONS.RD holds it: 20 bits.
     #[tactic(auto, using(crate::proofs::PositionLemmas::index_fits))]
     pub fn get(self) -> u32
         ensures value { result ≡ self.number }
@@ -57,7 +57,7 @@ impl Index {
         self.number
     }
 
-    /// The slot, below the size.
+    /// Returns the slot, below the size.
     pub fn place(self) -> u32
         ensures value { result ≡ place self.geometry self.number }
         ensures in_range { result < size self.geometry }
@@ -74,7 +74,7 @@ impl Index {
         self.number >= self.geometry.size()
     }
 
-    /// The index `steps` positions on, at most the size.
+    /// Returns the index `steps` positions further on. `steps` is at most the size.
     pub fn forward(self, steps: u32) -> Index
         requires steps { steps ≤ size self.geometry }
         ensures value { result ≡ index_of self.geometry (self.number + steps) }
@@ -86,7 +86,7 @@ impl Index {
         }
     }
 
-    /// How far this index is ahead of `cons`, below twice the size.
+    /// Returns how far this index is ahead of `cons`, below twice the size.
     pub fn distance(self, cons: Index) -> u32
         requires one_ring { self.geometry ≡ cons.geometry }
         ensures value { result ≡ distance self cons }

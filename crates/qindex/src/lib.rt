@@ -1,8 +1,8 @@
 //! The wrapped indexes of a command queue, and the control word that holds both of them.
 //!
-//! A command's position is how many were reserved before it, and never wraps. A register holds an index: the position
-//! modulo twice the number of slots, so the slot with the wrap bit above it. Two indexes tell a queue between two
-//! positions where these are no further apart than the ring has slots ('circular queues').
+//! A command's position is how many were reserved before it, and never wraps. A register holds an index: the
+//! position modulo twice the number of slots, which is the slot with the wrap bit above it. Two indexes tell
+//! the queue between two positions if these are no further apart than the ring has slots ('circular queues').
 #![tactic(auto)]
 
 mod control;

@@ -1,4 +1,4 @@
--- Where nobody took a step since the look, what it found holds at the end.
+-- If nobody took a step since the look, what it found holds at the end.
 use Rattle.std.proofs.Common.{◌≡◌, ◌<◌, ◌-◌, ℕ, zero, suc, Bool, cond, List, [], ◌∷◌, ◌++◌, length, Some, refl, sym, ap, ◌∙◌, subst, length-append, eq-eqb, arith}
 use Rattle.std.specs.Prelude.{slice_get}
 use Rattle.qindex.specs.declared.control.Control.{Control}
@@ -29,7 +29,7 @@ only_newer : (senders : ℕ) (newer older : Run) → OnlyOf senders (newer ++ ol
 only_newer senders [] older only = tt
 only_newer senders (x ∷ newer) older only = (only.0, only_newer senders newer older only.1)
 
--- Whose whole trail stood in the run already took no step since.
+-- A participant whose whole trail was in the run already took no step since.
 none_since : (who : Who) (trail : Trail) (newer then run : Run) → run ≡ newer ++ then → HasInIt who trail then → trail_of who run ≡ trail → trail_of who newer ≡ []
 none_since who trail newer then run run_is had whole =
     let all = ap (λ (r : Run). length (trail_of who r)) run_is ∙ ap length (trail-append who newer then) ∙ length-append (trail_of who newer) (trail_of who then) in
@@ -38,7 +38,7 @@ none_since who trail newer then run run_is had whole =
     let now = ap length whole in
     none_of (trail_of who newer) (omega (arith, all, part, before, now))
 
--- Where nobody took one, nothing is new.
+-- If nobody took one, nothing is new.
 nothing_new : (senders : ℕ) (newer : Run) → OnlyOf senders newer → trail_of Consumer newer ≡ [] → ((k : ℕ) → k < senders → trail_of (Sender k) newer ≡ []) → newer ≡ []
 nothing_new senders [] only own others = refl
 nothing_new senders ((Consumer, e) ∷ newer) only own others = absurd (cc)
@@ -52,7 +52,7 @@ is_there [] k h = absurd (omega arith)
 is_there (x ∷ xs) zero h = (x, refl)
 is_there (x ∷ xs) (suc k) h = is_there xs k (omega arith)
 
--- Where both ends stand at one place, all that is reserved is taken.
+-- If prod and cons are equal, all that is reserved is taken.
 ends_tell : NeverMoreThanFull → IndexesTellTheQueue → (ring : Ring) (run : Run) → IsRun ring run → IsGeometry ring.geometry
     → (control ring.geometry (world run)).prod.number ≡ (control ring.geometry (world run)).cons.number → head (world run) ≡ tail (world run)
 ends_tell within tells ring run ok sized at =

@@ -15,11 +15,11 @@ use Rattle.caches.specs.TagOrder.{tag_cmp, tag_cmp_total, tag_cmp_exact}
 use Rattle.caches.specs.Held.{Entries}
 use Rattle.renewal.specs.Carried.{reborn, reborn_if, IsUnderItsTag, IsReborn}
 
--- Where it is held under its own tag it is in, reborn.
+-- If it is held under its own tag it is in, reborn.
 abbrev pub IsIn : Entries → Entries → Entry → Type 0
 IsIn held now e = finite.get held e.tag ≡ Some e → finite.get now e.tag ≡ Some (reborn e)
 
--- The first so many of the list are in, nothing that isn't held is, and there are no more than these.
+-- The first `many` of the list are in, nothing that isn't held is, and there are no more than these.
 pub record AreIn (held : Entries) (list : List Entry) (many : ℕ) (now : Entries) : Type 0 where
   pub done : AllWithin (IsIn held now) list 0 many
   pub only : (tag : Tag) (e : Entry) → finite.get now tag ≡ Some e → IsReborn held tag e
@@ -36,7 +36,7 @@ module _ (held now : Entries) (x : Entry) (own : finite.get held x.tag ≡ Some 
   abbrev next : Entries
   next = finite.insert now x.tag (reborn x)
 
-  -- Under a tag stands the new entry or what stood there.
+  -- Under a tag is the new entry or what was there.
   either : (tag : Tag) (P : Option Entry → Type 0) → (tag ≡ x.tag → P (Some (reborn x))) → P (finite.get now tag) → P (finite.get next tag)
   either tag P here there =
       subst P (sym (get-insert tag_cmp_total now x.tag (reborn x) tag))

@@ -16,13 +16,13 @@ use Rattle.engine.specs.Units.{UnitValue, new_unit, filled, with_entries}
 use Rattle.renewal.specs.Carried.{reborn, IsCarried, IsUncarried}
 use Rattle.renewal.proofs.Carrying.{AreIn, none_in, one_more_in, each_in}
 
--- Each of a list is held under its own tag, so the one that is read there is.
+-- Each entry of a list is held under its own tag, so the one read there is.
 pub owned : (old : Entries) (list items : List Entry) → All (λ (e : Entry). finite.get old e.tag ≡ Some e) items → list ≡ items → (many : ℕ) (x : Entry) → many < length list → x ≡ get_or list many x
     → finite.get old x.tag ≡ Some x
 owned old list items all same many x below at =
     subst (λ (e : Entry). finite.get old e.tag ≡ Some e) (sym at) (All-same (λ (e : Entry). finite.get old e.tag ≡ Some e) list items same all many x below)
 
--- It holds the first so many of the list.
+-- It holds the first `many` of the list.
 pub record HasFilled (capacity : ℕ) (old : Entries) (list : List Entry) (many : ℕ) (unit : UnitValue) : Type 0 where
   pub stop_is : unit.stop ≡ unstopped
   pub counts_are : unit.counts ≡ none_counted
@@ -50,7 +50,7 @@ module _ (capacity : ℕ) (old : Entries) (list : List Entry) (many : ℕ) (unit
     entries = subst (AreIn old list (many + 1)) (sym (ap (λ (u : UnitValue). u.caches.entries) is ∙ born_first)) (one_more_in old unit.caches.entries x own list many below at was.entries);
   }
 
-  -- It isn't full yet, where all of the list have room.
+  -- It isn't full yet if there is room for all of the list.
   pub not_filled : length list ≤ capacity → (fault : CacheFault) → IsFillAnswer unit.caches x.tag (Err fault) → IsUncarried capacity old fault
   not_filled room Full answer =
       let full = (answer.full.0 refl).2 in

@@ -39,7 +39,7 @@ trail-append who (x ∷ xs) ys =
       | false ↦ more
     ]
 
--- What went on and went on again went on.
+-- What went on twice went on.
 pub went_on_again : (who : Who) (first second third : Run) → WentOn who first second → WentOn who second third → WentOn who first third
 went_on_again who first second third one two = record {
   newer = two.newer ++ one.newer;
@@ -55,7 +55,7 @@ still_in who other trail older run on had = record {
   trail_is = had.trail_is;
 }
 
--- who and where a sender is, by its twin among all
+-- a sender's number and ring, by its twin among all
 pub its_place : (ring : RingValue) (all senders : List SenderValue) (old now : EngineValue) (i : ℕ) (s : SenderValue) → AreAll ring all → FirstHaveMet i ring all senders old now → slice_get senders i ≡ Some s → (s.ring ≡ ring) × (s.number ≡ i)
 its_place ring all senders old now i s are was at =
     let t = has_twin senders all was.senders_are i s at in
@@ -90,7 +90,7 @@ module _ (ring : RingValue) (all senders : List SenderValue) (old now new : Engi
     size_is = λ some. subst IsOfSize its.0 (record { geometry_is = is.stands.after.geometry_is; limits = is.stands.limits });
   }
 
--- A look that stands last leaves it in.
+-- A step at the end of the run leaves it in.
 pub still_behind : (who other : Who) (e : Event) (trail : Trail) (older run : Run) → GrewBy other e older run → HasInIt who trail older → HasInIt who trail run
 still_behind who other e trail older run grew had =
     let before = still_in who other trail older grew.before grew.went_on had in

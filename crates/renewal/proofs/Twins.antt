@@ -1,4 +1,4 @@
--- Senders that are the same but for what each knows of the run.
+-- Senders that are the same except for what each knows of the run.
 use Rattle.std.proofs.Common.{◌≡◌, ℕ, zero, suc, List, [], ◌∷◌, length, Some, refl, sym, ap, ◌∙◌}
 use Rattle.std.proofs.lemmas.List.{length-map}
 use Rattle.std.specs.Prelude.{slice_get, slice_set}
@@ -20,7 +20,7 @@ first_same x y xs ys e = cc
 rest_same : (x y : SenderValue) (xs ys : List SenderValue) → x ∷ xs ≡ y ∷ ys → xs ≡ ys
 rest_same x y xs ys e = cc
 
--- the one that stands at its place in the other list
+-- the one at the same place in the other list
 pub record HasTwin (s : SenderValue) (ys : List SenderValue) (k : ℕ) : Type 0 where
   pub twin : SenderValue
   pub there : slice_get ys k ≡ Some twin

@@ -1,4 +1,4 @@
--- Entries that are carried into the caches of a new queue.
+-- Entries carried into the caches of a new queue.
 use Rattle.std.specs.Prelude.{◌≡◌, ◌<◌, ◌≤◌, ℕ, Option, Some, None, IfSome}
 use Rattle.std.specs.FinMap as finite
 use Rattle.caches.specs.declared.tag.Tag.{Tag}
@@ -11,7 +11,7 @@ use Rattle.engine.specs.Stops.{unstopped}
 use Rattle.engine.specs.Counting.{none_counted}
 use Rattle.engine.specs.Units.{UnitValue}
 
--- the same entry, born ahead of every command
+-- the same entry, born before every command
 abbrev pub reborn : Entry → Entry
 reborn entry = record entry { born = 0 }
 
@@ -19,18 +19,19 @@ abbrev pub reborn_if : Option Entry → Option Entry
 reborn_if None = None
 reborn_if (Some entry) = Some (reborn entry)
 
--- What is held under a tag, if anything is, has that tag. `lookup` says so of each tag that it is asked for.
+-- What is held under a tag, if anything, has that tag. `lookup` ensures this for each tag that it is asked
+-- for.
 abbrev pub IsUnderItsTag : Entries → Tag → Type 0
 IsUnderItsTag entries tag = IfSome (finite.get entries tag) (λ entry. entry.tag ≡ tag)
 
--- It is held under its own tag, and is an entry that these held there, reborn.
+-- The entry is held under its own tag, and is the old entry there, reborn.
 pub record IsReborn (old : Entries) (tag : Tag) (entry : Entry) : Type 0 where
   pub own : entry.tag ≡ tag
   pub was : Entry
   pub held : finite.get old tag ≡ Some was
   pub entry_is : entry ≡ reborn was
 
--- A unit that has taken nothing holds the entries of another, each reborn, and no others, and there is room for all.
+-- A unit that has taken nothing holds the entries of another, each reborn, and no others, with room for all.
 pub record IsCarried (capacity : ℕ) (old new : UnitValue) : Type 0 where
   pub each : (tag : Tag) → IsUnderItsTag old.caches.entries tag → finite.get new.caches.entries tag ≡ reborn_if (finite.get old.caches.entries tag)
   pub only : (tag : Tag) (entry : Entry) → finite.get new.caches.entries tag ≡ Some entry → IsReborn old.caches.entries tag entry

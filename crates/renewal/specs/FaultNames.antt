@@ -1,4 +1,4 @@
--- What a refusal is called.
+-- The label of each refusal.
 use Rattle.std.specs.Prelude.{ℕ, List, codes}
 use Rattle.ringcore.specs.RingFaults.{fault_label}
 use Rattle.caches.specs.Faults as caches

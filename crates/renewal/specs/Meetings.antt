@@ -8,13 +8,13 @@ use Rattle.ring.specs.sender.Senders.{SenderValue}
 use Rattle.engine.specs.Engines.{EngineValue}
 use Rattle.renewal.specs.Queues.{HasInIt, unknowing_senders, unknowing_consumer}
 
--- what a ring of some sender is known to be
+-- what is known of a ring that has a sender
 pub record IsOfSize (ring : RingValue) : Type 0 where
   pub geometry_is : IsGeometry ring.made_with.geometry
   pub limits : IsWithinLimits ring.made_with
 
--- The first so many have met the engine, which knows a run that has their trails. But for what each knows of the run,
--- nothing has changed.
+-- The first `many` have met the engine, which knows a run that has their trails. Except for what each knows
+-- of the run, nothing has changed.
 pub record FirstHaveMet (many : ℕ) (ring : RingValue) (old_senders senders : List SenderValue) (old new : EngineValue) : Type 0 where
   pub senders_are : unknowing_senders senders ≡ unknowing_senders old_senders
   pub unit_is : new.unit ≡ old.unit
@@ -23,6 +23,6 @@ pub record FirstHaveMet (many : ℕ) (ring : RingValue) (old_senders senders : L
   pub known : (k : ℕ) (s : SenderValue) → k < many → slice_get senders k ≡ Some s → HasInIt (Sender k) s.trail new.consumer.history
   pub size_is : 1 ≤ many → IsOfSize ring
 
--- All have.
+-- All have met the engine.
 abbrev pub HaveMet : RingValue → List SenderValue → List SenderValue → EngineValue → EngineValue → Type 0
 HaveMet ring old_senders senders old new = FirstHaveMet (length old_senders) ring old_senders senders old new

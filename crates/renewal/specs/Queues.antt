@@ -25,7 +25,7 @@ pub record IsWhole (queue : Queue) : Type 0 where
 
 -- ---- what stays
 
--- senders and a consumer without what they know of the ring's run
+-- senders and a consumer without their histories
 abbrev pub unknowing_sender : SenderValue → SenderValue
 unknowing_sender s = record s { history = [] }
 
@@ -35,7 +35,7 @@ unknowing_senders senders = map unknowing_sender senders
 abbrev pub unknowing_consumer : ConsumerValue UnitValue → ConsumerValue UnitValue
 unknowing_consumer d = record d { history = [] }
 
--- The run goes on from one in which this participant has this trail.
+-- The run went on from one in which this participant has this trail.
 pub record HasInIt (who : Who) (trail : Trail) (run : Run) : Type 0 where
   pub newer : Run
   pub older : Run
@@ -48,8 +48,9 @@ pub record HasInIt (who : Who) (trail : Trail) (run : Run) : Type 0 where
 abbrev pub EngineHasLooked : EngineValue → EngineValue → Type 0
 EngineHasLooked old new = (found : Registers) × engine.HasLooked old new found
 
--- It looked once, and found this, as it stood in the run that the engine knows from then on. That run went on from the one
--- that it knew before, and has the trails of all senders. But for this look, and for what each knows of the run, the queue is as it was.
+-- The engine looked once, and found what the run that it knows from then on says. That run went on from the
+-- one that it knew before, and has the trails of all senders. Except for this look, and for what each knows
+-- of the run, the queue is as it was.
 pub record HasLooked (old new : Queue) : Type 0 where
   pub found : Control
   pub found_is : found ≡ control old.ring.made_with.geometry (world new.engine.consumer.history)
@@ -60,17 +61,17 @@ pub record HasLooked (old new : Queue) : Type 0 where
   pub grew : GrewBy Consumer (Look found) old.engine.consumer.history new.engine.consumer.history
   pub known : (k : ℕ) (s : SenderValue) → slice_get new.senders.items k ≡ Some s → HasInIt (Sender k) s.trail new.engine.consumer.history
 
--- PROD and CONS stand at one place.
+-- PROD and CONS are equal.
 abbrev pub AreAtOnePlace : Control → Type 0
 AreAtOnePlace c = c.prod.number ≡ c.cons.number
 
--- By the newest look of a consumer with this trail they stand at two: a command is reserved that isn't taken.
+-- By the newest look of a consumer with this trail they differ: a command is reserved that isn't taken.
 pub record SawWaiting (trail : Trail) : Type 0 where
   pub found : Control
   pub looked_at : looked trail ≡ Some found
   pub apart : ¬ AreAtOnePlace found
 
--- The engine knows a run that has the trails of all senders, and in it both stand at one place.
+-- The engine knows a run that has the trails of all senders, in which PROD and CONS are equal.
 pub record KnowsNoneWaits (queue : Queue) : Type 0 where
   pub sized : IsGeometry queue.ring.made_with.geometry
   pub at_one_place : AreAtOnePlace (control queue.ring.made_with.geometry (world queue.engine.consumer.history))

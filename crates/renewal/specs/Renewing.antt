@@ -1,4 +1,4 @@
--- What a renewal makes of a queue, and why it is refused.
+-- What a renewal does to a queue, and why it is refused.
 use Rattle.std.specs.Prelude.{◌≡◌, ℕ, None}
 use Rattle.ringcore.specs.RingFaults.{number_fault, IsNotMade}
 use Rattle.caches.specs.Limits.{IsCapacity}
@@ -13,7 +13,8 @@ use Rattle.renewal.specs.declared.queue.Sizes.{Sizes}
 use Rattle.renewal.specs.Queues.{HasLooked}
 use Rattle.renewal.specs.Carried.{IsUncarried}
 
--- The queue was joined, once its engine had looked: all that any of its senders was told before stays true of its run.
+-- The queue was joined after its engine had looked: all that any of its senders was told before stays true of
+-- its run.
 pub record HasEnded (old : Queue) (end : Finished) : Type 0 where
   pub joined : Queue
   pub looked : HasLooked old joined
@@ -23,7 +24,7 @@ pub record HasEnded (old : Queue) (end : Finished) : Type 0 where
 
 -- ---- refusals
 
--- Why no new queue of these sizes was made for so many senders and these entries.
+-- Why no new queue of these sizes was made for this many senders and these entries.
 abbrev pub IsUnmade : Sizes → ℕ → Entries → RenewalFault → Type 0
 IsUnmade sizes senders entries Waiting = ⊥
 IsUnmade sizes senders entries (Ring fault) = IsCapacity sizes.capacity × IsNotMade (number_fault sizes.log2 senders sizes.max_batches) fault

@@ -1,4 +1,4 @@
-//! A queue in which nothing waits is joined.
+//! Joins a queue in which nothing waits.
 ghost use Rattle.std.specs.Prelude.{◌≡◌};
 ghost use Rattle.ring.specs.Finishing.{AreAll};
 ghost use Rattle.engine.specs.Ends.{IsEngineEnd};
@@ -9,7 +9,7 @@ use engine::Finished;
 use qindex::indexes_tell_the_queue;
 use ringcore::{batches_law, laws, world_law};
 
-/// Joins all of a queue whose engine knows all steps that were taken, and that nothing waits: all that was ever
+/// Joins a queue whose engine knows all steps that were taken, and that nothing waits: all that was ever
 /// reserved was taken.
 pub fn join(queue: Queue) -> Finished
     requires senders { AreAll queue.ring queue.senders.items }

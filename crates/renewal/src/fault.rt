@@ -6,7 +6,7 @@ use caches::CacheFault;
 use ringcore::RingFault;
 use thiserror::Error;
 
-/// Why a queue isn't renewed. The first that applies is told.
+/// Why a queue isn't renewed: the first fault that applies.
 #[derive(Clone, Copy, Debug, PartialEq, Eq, Error)]
 pub enum RenewalFault {
     /// Q6: a command is reserved that isn't taken yet.
@@ -21,7 +21,7 @@ pub enum RenewalFault {
 }
 
 impl RenewalFault {
-    /// Its label alone, `Q6` or that of the fault within.
+    /// Returns its label: `Q6`, or that of the fault within.
     pub fn label(self) -> &'static str
         ensures { result.now ≡ label_of self }
     {

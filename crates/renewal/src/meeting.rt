@@ -12,7 +12,7 @@ use ring::{Ring, Sender};
 /// The weight of SMMU_CMDQ_CONS.ERR, bits 30:24.
 const ERR: u32 = 0x0100_0000;
 
-/// Whether a command is reserved that isn't taken.
+/// Has all senders meet the engine, which then looks. Returns whether a command is reserved that isn't taken.
 pub fn is_waiting(queue: &mut Queue) -> bool
     requires senders { AreAll queue.old.ring queue.old.senders.items }
     requires ring { queue.old.engine.consumer.ring ≡ queue.old.ring }
@@ -39,7 +39,7 @@ pub fn sees_waiting(engine: &mut Engine, ring: &Ring) -> bool
     found.prod != found.cons - err * ERR
 }
 
-/// The engine meets each of them in turn.
+/// Has the engine meet each sender in turn.
 fn meet_all(ring: &Ring, senders: &mut Vec<Sender>, engine: &mut Engine)
     requires senders { AreAll ring.now senders.old.items }
     requires ring { engine.old.consumer.ring ≡ ring.now }

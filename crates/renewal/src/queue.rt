@@ -11,12 +11,12 @@ pub struct Queue {
     pub engine: Engine,
 }
 
-/// Of what size the new ring and its caches are. The number of senders stays.
+/// The sizes of the new ring and its caches. The number of senders stays the same.
 #[derive(Clone, Copy, Debug, PartialEq, Eq)]
 pub struct Sizes {
-    /// The ring has 2 to the power of this slots, 1 to 19.
+    /// The binary logarithm of the ring's slots, 1 to 19.
     pub log2: u32,
-    /// How many batches each sender may reserve, from 1.
+    /// How many batches each sender may reserve, at least 1.
     pub max_batches: u32,
     /// How many entries the caches may hold, 1 to 65,536.
     pub capacity: u32,
@@ -29,7 +29,7 @@ pub struct Renewed {
     pub queue: Queue,
 }
 
-/// A queue that isn't renewed, and goes on.
+/// A queue that wasn't renewed and goes on.
 #[derive(Drop)]
 pub struct Refused {
     pub fault: RenewalFault,

@@ -1,4 +1,4 @@
-//! A queue is renewed.
+//! Renews a queue.
 ghost use Rattle.std.specs.Prelude.{◌≡◌, ◌↔◌, length, IfOk, IfErr, OnOk, MatchResult};
 ghost use Rattle.ring.specs.Finishing.{AreAll};
 ghost use Rattle.ring.specs.NewRings.{IsNewRing};
@@ -14,12 +14,14 @@ use crate::queue::{Queue, Refused, Renewed, Sizes};
 use crate::succession::successor;
 use std::alloc::Global;
 
-/// Joins all of a ring whose commands are all taken, and goes on with a new ring of as many senders and the same
-/// entries, each born 0: older than whatever comes. What stopped the old engine is forgotten (this project's choice).
+/// Joins a queue whose commands are all taken, and continues with a new ring of as many senders and the same
+/// entries, each born 0: older than whatever comes. The old engine's stop is forgotten (this project's
+/// choice).
 ///
-/// Errors, in this order, with which the queue comes back and goes on, but that its engine has looked: Q6 where a command is
-/// reserved that isn't taken; C4, N1, N2 and N3 where the sizes aren't in range; N4 or C3 when out of memory for the ring or
-/// for a list of the entries; C1 where more entries are held than the new caches may hold; C3 when out of memory for them.
+/// Errors, in this order, with the queue, which goes on and whose engine has looked: Q6 if a command is
+/// reserved that isn't taken; C4, N1, N2 and N3 if the sizes aren't in range; N4 or C3 if memory runs out for
+/// the ring or for a list of the entries; C1 if more entries are held than the new caches may hold; C3 if
+/// memory runs out for them.
 pub fn renew(alloc: Global, queue: Queue, sizes: Sizes) -> Result<Renewed, Refused>
     requires senders { AreAll queue.ring queue.senders.items }
     requires ring { queue.engine.consumer.ring ≡ queue.ring }

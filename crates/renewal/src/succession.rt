@@ -15,10 +15,12 @@ use engine::Engine;
 use ring::Ring;
 use std::alloc::Global;
 
-/// A new queue of these sizes, with so many senders and the entries of this engine, each born 0. The engine stays as it is.
+/// Makes a new queue of these sizes, with `senders` senders and the entries of this engine, each born 0. The
+/// engine stays as it is.
 ///
-/// Errors, in this order: C4, N1, N2 and N3 where the numbers aren't in range; N4 or C3 when out of memory for the ring or
-/// for a list of the entries; C1 where more entries are held than the new caches may hold; C3 when out of memory for them.
+/// Errors, in this order: C4, N1, N2 and N3 if the numbers aren't in range; N4 or C3 if memory runs out for
+/// the ring or for a list of the entries; C1 if more entries are held than the new caches may hold; C3 if
+/// memory runs out for them.
 pub fn successor(
     alloc: Global,
     old: &Engine,
@@ -50,8 +52,8 @@ pub fn successor(
     }
 }
 
-/// Puts the entries of one engine into another that has taken nothing, and holds nothing yet but may hold so many. There
-/// each is born 0.
+/// Puts the entries of one engine, each born 0, into another that has taken nothing, holds nothing yet, and
+/// may hold `capacity` entries.
 fn carry(old: &Engine, new: &mut Engine, capacity: u32) -> Result<(), CacheFault>
     requires { new.old.unit ≡ new_unit (record { capacity = capacity; entries = held [] }) }
     ensures carried { OnOk result (IsCarried capacity old.now.unit new.new.unit) }

@@ -1,4 +1,4 @@
-//! The keeper, who has all seats of a ring and so knows the whole run. It lends one seat at a time.
+//! The keeper, which has all seats of a ring and so knows the whole run. It lends one seat at a time.
 ghost use Rattle.std.specs.Prelude.{◌≡◌, ◌<◌, Some, None};
 ghost use Rattle.ring.specs.Runs.{Sender as SenderOf, trail_of, IsOne};
 ghost use Rattle.ring.specs.table.{Grew, RunStands};

@@ -1,4 +1,4 @@
--- What a seat knows of the run that it stands in.
+-- What a seat knows of the run.
 use Rattle.std.proofs.Common.{◌≡◌, ℕ, ◌≤◌, ap, ◌∙◌, subst, arith, zero, suc, List, ◌+◌, ◌<◌, ◌^◌}
 use Rattle.ring.specs.table.{TableId, Holding, ring_of, who_of, trail_of_first, history_of_first, IsAlone, Stands, port_of, PortValue}
 use Rattle.ring.specs.Runs.{Who, Consumer, Trail, Run, raws_by, taken_by, found_ready, World, head, tail, world, Ring, EveryRun, ListsAreShort, SyncsAreInOrder, TellsTheHead, IsReadyAt, FoundIsReady}

@@ -1,4 +1,4 @@
--- One of several who know one run gets a seat of its own.
+-- One of several participants who know the same run gets its own seat.
 use Rattle.std.proofs.Common.{◌≡◌, ◌⊎◌, ℕ, Bool, cond, List, [], ◌∷◌, ap, ◌∙◌, subst, ⊎_elim, inl, inr}
 use Rattle.std.proofs.lemmas.Bool.{cond_both}
 use Rattle.ring.specs.table.{Splits, Participant, IsIn, HasTrails, SitAt, Any, RuleHolds, one_of_run, AllKnow, without}
@@ -36,14 +36,14 @@ know_less ring run who (p ∷ ps) all =
     let rest = know_less ring run who ps all.1 in
     cond_both (same p.who who) (without who ps) (p ∷ without who ps) (AllKnow ring run) (λ _. rest) (λ _. (all.0, rest))
 
--- Of one of them it is so, or of the one who leaves.
+-- P holds of one of those left, or of the one who leaves.
 pub any_parted : (P : Participant → Type 0) (z : Ring) (run : Run) (who : Who) (v : List Participant) → AllKnow z run v → Any P v → Any P (without who v) ⊎ P (one_of_run z run who)
 any_parted P z run who [] all one = absurd one
 any_parted P z run who (p ∷ ps) all one = cond_both (same p.who who) (without who ps) (p ∷ without who ps) (λ l. Any P l ⊎ P (one_of_run z run who))
     (λ is. ⊎_elim (λ here. inr (subst P (all.0 ∙ ap (one_of_run z run) (same_is p.who who is)) here)) (any_parted P z run who ps all.1) one)
     (λ _. ⊎_elim (λ here. inl (inl here)) (λ more. ⊎_elim (λ rest. inl (inr rest)) inr (any_parted P z run who ps all.1 more)) one)
 
--- one of those who know this run gets a seat of its own
+-- One of those who know this run gets its own seat.
 pub lends_at : (ring z : Ring) (id : ℕ) (who : Who) (run : Run) (v : List Participant) → AllKnow z run v → Any (λ p. p.who ≡ who) v → Splits (RuleHolds ring) id v (without who v) (one_of_run z run who ∷ [])
 lends_at ring z id who run v all one = parts_at ring id v (without who v) (one_of_run z run who) (λ seat new sit. (sits_here seat id who v sit one, sit_less who new seat id v sit))
     (λ now has. (its_trail ring z now run who v all has one, trails_less ring now who v has)) (λ P. any_parted P z run who v all)

@@ -9,7 +9,7 @@ use Rattle.ringcore.specs.memory.Shadow.{AreAfter}
 use Rattle.ring.proofs.TableLemmas.Seats.{went_on_none, seated_after, same_place, among_step}
 use Rattle.ring.proofs.TableLemmas.Steps.{deals_at, set_back}
 
--- ---- all for whom a seat stands know the run as it is
+-- ---- all participants of a seat know the run as it is
 
 knowing_sit : (seat : Who → ℕ) (i : ℕ) (run : Run) (hs : List Participant) → SitAt seat i hs → SitAt seat i (all_knowing run hs)
 knowing_sit seat i run [] sit = tt

@@ -108,7 +108,7 @@ module _ (senders : ℕ) (who : Who) where
 
   -- a run in which this one has one event more, and with which all others share what they knew
   module _ (e : Event) (old : Run) where
-    -- the older run has nothing of this one behind the newer's step
+    -- The older run has nothing of this participant after the newer one's step.
     not_whole : (new h : Run) → trail_of who new ≡ e ∷ trail_of who old → new ≡ h → (u : Who) → WentOn u h old → ⊥
     not_whole new h mine whole u on = not_longer (trail_of who on.newer) (trail_of who old) e
         (ap (trail_of who) (on.run_is ∙ ap (λ (l : Run). on.newer ++ l) (sym whole)) ∙ trail_append who on.newer new ∙ ap (λ (t : Trail). trail_of who on.newer ++ t) mine)

@@ -1,4 +1,4 @@
--- The words that the operations of a run make of zeros are one list.
+-- The operations of a run make only one list of words of zeros.
 use Rattle.std.proofs.Common.{◌≡◌, ◌≢◌, ⊎_elim, ℕ, ◌+◌, List, [], ◌∷◌, length, sym, ap, ◌∙◌, arith}
 use Rattle.std.proofs.lemmas.List.{length-set, ext_get_or}
 use Rattle.std.specs.Prelude.{slice_index, slice_set, bit_or}

@@ -73,7 +73,7 @@ module _ (table new_table : TableId) (me new : Holding) (s : ℕ) (body : List R
   trail_grown : (e : Event) → took.0 ≡ e → record (port_of new_table new) { history = [] } ≡ record (port_of table me) { trail = e ∷ t; history = [] }
   trail_grown e e_is = stepped_is table new_table me new took.0 ((who_of me.0, took.0) ∷ took.1) same took.3 ∙ ap (λ (d : Event). let q : PortValue = record (port_of table me) { trail = d ∷ t; history = [] } in q) e_is
 
-  -- it was this sender's to take, where it stands
+  -- It was this sender's to take at that point of the run.
   allowed : (e : Event) → took.0 ≡ e → Allowed (ring_of me.0) (world took.1) (trail_of (Sender s) took.1) (Sender s) e
   allowed e e_is = subst (λ (q : Who × Event). Allowed (ring_of me.0) (world took.1) (trail_of q.0 took.1) q.0 q.1) (λ k. (who_is k, e_is k)) took.4.after.after.run_is.1
 

@@ -83,7 +83,7 @@ seated_after ring run seat views id w here j v else got = ⊎_elim
 
 -- ---- one of those who sit at a seat
 
--- what is set where something was is there
+-- Something set in place of another is there.
 pub set_there : {A : Type 0} (l : List A) (i : ℕ) (a b : A) → get_elem? l i ≡ some a → get_elem? (set l i b) i ≡ some b
 set_there [] i a b e = absurd (some-ne-none a (sym e))
 set_there (x ∷ xs) zero a b e = refl

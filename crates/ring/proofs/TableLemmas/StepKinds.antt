@@ -80,7 +80,7 @@ module _ (wins : Always WinsByAnExchange) (loses : Always LosesByAnExchange) (ri
       (subst (λ (k : ℕ). MayTry ring (trail_of (Sender s) run) body k before) many tries)
       (subst (λ (t : Trail). IsNextNumber t number) (sym now.trail_is) (next_is trail closing))
       (eqb-true x old hit ∙ old_is)) in
-      -- there is a control word, and what is stored in it stands there
+      -- There is a control word, and it is what was stored in it.
       let some : control_word < length words = (let all = now.after.shadow.many in let slots : ℕ = size ring.geometry in omega (arith, all)) in (
         Won body number,
         refl,

@@ -36,7 +36,7 @@ pub record HasRoom (body : List Raw) (closes : Bool) (s : SenderValue) (seen : C
 abbrev pub control_in : SenderValue → Run → Control
 control_in s run = control s.ring.made_with.geometry (world run)
 
--- In this world there is no room for so many commands after those that are reserved and not taken.
+-- In this world there is no room for `many` commands after those that are reserved and not taken.
 abbrev pub HasNoRoom : ℕ → ℕ → World → Type 0
 HasNoRoom slots many w = head w + slots < tail w + many
 

@@ -7,8 +7,8 @@ use Rattle.ring.specs.table.Rule.{TableState, participant, RuleHolds}
 use Rattle.ring.specs.table.Operations.{AreMadeBy}
 
 -- If a seat of a single participant takes a step by which its trail grows by an event, and which leaves the
--- other views, the event is added at the end of the run, which else stays as it was. So it is allowed, and
--- finds what it says, in the world as it was at the step.
+-- other views, the event is added at the end of the run, which otherwise stays as it was. So it is allowed,
+-- and finds what it says, in the world as it was at the step.
 abbrev pub IsOneRun : Type 0
 IsOneRun =
     (ring : Ring) (s t : TableState) (before : RuleHolds ring s) (now : RuleHolds ring t)

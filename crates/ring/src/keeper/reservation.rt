@@ -12,8 +12,8 @@ use batch::BorrowedBatch;
 use qindex::Index;
 use std::marker::{Model, PhantomData};
 
-/// A reservation while the keeper has its sender's seat. It doesn't have its batch: whoever lends it again
-/// keeps that.
+/// A reservation while the keeper has its sender's seat. Its batch isn't in it: whoever lends it again keeps
+/// that.
 #[derive(Clone, Copy)]
 pub struct IdleReservation {
     /// The sender's tally, including this batch.

@@ -19,7 +19,7 @@ use Rattle.ringcore.specs.world.World.{taken_as, head, world}
 use Rattle.ringcore.specs.machine.ConsumerViews.{ConsumerValue, KnowsTaken, ConsumerKnows, unread, AreUnread, AreReadBelow, read_half, halves_at, SendersLeaveIt, ConsumersLookLeavesIt, AcknowledgementLeavesIt}
 use Rattle.ringcore.proofs.MachineLemmas.SomeAndAllBelow.{all_is}
 
--- ---- where nothing is read
+-- ---- if nothing is read
 
 -- of as many commands as are unread
 pub all_unread : (many : ℕ) → AreUnread (replicate many unread)

@@ -51,7 +51,7 @@ module _ (ring : Ring) (run : Run) (s slot count : ℕ) (exists : has_run ring s
   flip_of_foreign held fault none held_is is = judged None none ∙ ap foreign (sym held_is) ∙ sym is
 
   module _ (k : ℕ) (own : own_offset ring run s slot ≡ Some k) where
-    -- what is judged of positions of its own
+    -- the judgement on positions of its own
     abbrev of_own : Bool → Option StepFault
     of_own over =
         if over then foreign (all_below count (λ j. is_held ring run ((world run).start s + k + j)))

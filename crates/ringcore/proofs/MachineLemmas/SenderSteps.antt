@@ -1,4 +1,4 @@
--- The steps of senders that reserve, write and flip nothing: a machine that took one stands for the longer run.
+-- The sender steps that reserve, write and flip nothing: a machine that took one stands for the longer run.
 use Rattle.std.proofs.Common.{◌≡◌, ℕ, ◌<◌, ◌∷◌, Some, None, refl, sym, ap, ◌∙◌, subst, length-set}
 use Rattle.std.proofs.lemmas.Bool.{lt-ltb}
 use Rattle.std.specs.Prelude.{Option, nat_lt, bit_or, slice_get, slice_set}

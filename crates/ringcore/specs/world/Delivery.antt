@@ -40,7 +40,7 @@ abbrev pub numbers : ℕ → List Batch → List ℕ
 numbers s [] = []
 numbers s (b ∷ bs) = cond (s == b.sender) (number_of b.number (numbers s bs)) (numbers s bs)
 
--- so many consecutive numbers, starting with this one
+-- this many consecutive numbers, starting with the first
 abbrev pub counted : ℕ → ℕ → List ℕ
 counted first zero = []
 counted first (suc many) = first ∷ counted (suc first) many

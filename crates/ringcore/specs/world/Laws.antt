@@ -154,7 +154,7 @@ syncs_taken s [] = 0
 syncs_taken s (Advance raws ∷ es) = syncs_taken s es + syncs_in s raws
 syncs_taken s (e ∷ es) = syncs_taken s es
 
--- Two lists joined have as many as both together.
+-- Two lists joined have as many closing syncs as both together.
 abbrev pub SyncsAddUp : Type 0
 SyncsAddUp = (s : ℕ) (xs ys : List Raw) → syncs_in s (xs ++ ys) ≡ syncs_in s xs + syncs_in s ys
 

@@ -77,8 +77,8 @@ impl Core {
     /// An exclusive or of a flag word, for `count` slots of the sender's reservation, from this one on.
     ///
     /// Errors: F8 if there is no such sender or slot, if the count isn't 1 to 64 or is above the ring's size,
-    /// or if the slots leave their flag word; F2 if no open reservation holds one of them, F1 if others' hold
-    /// all; F3 if one is flipped, F4 if a half isn't written.
+    /// or if the slots leave their flag word; F2 if one of them is in no open reservation, F1 if others hold
+    /// those that aren't its own; F3 if one is flipped, F4 if a half isn't written.
     #[inline]
     pub fn flip(&mut self, sender: u32, slot: u32, count: u32) -> Result<Seen, StepFault>
         ensures { IsTakenOrRefused self.old self.new (Flip sender slot count) result }

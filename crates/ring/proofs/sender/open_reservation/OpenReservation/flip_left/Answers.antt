@@ -6,7 +6,7 @@ use Rattle.ring.proofs.TableLemmas.Grown.{port_step}
 use Rattle.ring.proofs.SenderLemmas.InOrder.{fewer_share, may_flip, flipped_is}
 use Rattle.ring.proofs.sender.open_reservation.OpenReservation.flip_left.Goals as goal
 
--- ---- what a flip comes to, and where none is left
+-- ---- the result of a flip, and of none
 
 some_left : (r new : ReservationValue) (n : ℕ) → new ≡ record r { trail = Flip r.flipped n ∷ r.trail; flipped = r.flipped + n } → n ≡ next_run r → 1 ≤ n → new ≡ flipped_left r
 some_left r new zero new_is is some = absurd (omega arith)
