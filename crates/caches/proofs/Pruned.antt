@@ -19,7 +19,7 @@ some_not_none : {X : Type 0} (o : Option X) → IsSome o → o ≡ None → ⊥
 some_not_none None s e = cc
 some_not_none (Some x) s e = cc
 
-none_either : {X : Type 0} (b : Bool) (o : Option X) → o ≡ None → cond b None o ≡ None
+pub none_either : {X : Type 0} (b : Bool) (o : Option X) → o ≡ None → cond b None o ≡ None
 none_either true o e = refl
 none_either false o e = e
 

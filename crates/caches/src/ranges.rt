@@ -168,7 +168,7 @@ fn sweep_within(
     ensures clean { (q : Key) → covers_key command.now q ≡ true → run.first ≤ page_of q → page_of q < run.end → tree.get ⟦<Rank as Ord>⟧.cmp map.new q ≡ None }
     ensures before { IsLastPage ⟦<Rank as Ord>⟧.cmp map.new owner run.first result }
 {
-    // A range of the map must not run backward.
+    // An empty run may end before it begins.
     let end = run.end.max(run.first);
     let Some(last) = last_page_before(map, owner, end) else {
         return None;

@@ -1,8 +1,6 @@
 //! Removes what a command covers in a range of keys.
-ghost use Rattle.std.specs.Prelude.{◌≡◌, cond, None};
+ghost use Rattle.std.specs.Prelude.{◌≡◌, cond, IfSome, None, option_map, true};
 ghost use Rattle.std.specs.BTreeMap as tree;
-ghost use Rattle.std.specs.BTreeMap.Range.{IsLeBy, IsLtBy};
-ghost use Rattle.std.specs.Range.Bound.{IsForward};
 ghost use Rattle.caches.specs.declared.key.Key.{Key};
 ghost use Rattle.caches.specs.Keys.{covers_key};
 ghost use Rattle.caches.specs.Sweep.{IsNext, IsKeeping, is_swept};
@@ -14,39 +12,61 @@ use cmdcodec::Command;
 use std::collections::BTreeMap;
 use std::ops::Bound;
 
-/// Returns the first key of a range whose entry `command` covers. Walks the map from one entry to the next.
+/// A covered entry of a range.
+#[derive(Clone, Copy)]
+struct Covered {
+    key: Rank,
+    /// Whether it is the last entry of the range.
+    is_last: bool,
+}
+
+/// The first entry of a range that the command covers. It walks along the map, from one entry to the next.
 fn next_covered(
     map: &BTreeMap<Rank, Entry>,
     from: Bound<Rank>,
     end: Rank,
     command: &Command,
-) -> Option<Rank>
-    requires forward { IsForward (IsLeBy ⟦<Rank as Ord>⟧.cmp) (IsLtBy ⟦<Rank as Ord>⟧.cmp) from (Bound.Excluded end) }
+) -> Option<Covered>
     requires keeping { IsKeeping ⟦<Rank as Ord>⟧.cmp map.now }
-    ensures { IsNext ⟦<Rank as Ord>⟧.cmp (covers_key command.now) map.now from (Bound.Excluded end) result }
+    ensures next { IsNext ⟦<Rank as Ord>⟧.cmp (covers_key command.now) map.now from (Bound.Excluded end) (option_map (λ found. found.key) result) }
+    ensures last { IfSome result (λ found. found.is_last ≡ true
+        → IsNext ⟦<Rank as Ord>⟧.cmp (covers_key command.now) map.now (Bound.Excluded found.key) (Bound.Excluded end) None) }
 {
-    for (key, entry) in map.range((from, Bound::Excluded(end))) {
+    // One search, for where it begins, is cheaper than two.
+    let mut entries = map.range((from, Bound::Unbounded));
+    while let Some((key, entry)) = entries.next() {
+        if key.cmp(&end).is_ge() {
+            return None;
+        }
         if covers(command, &entry.tag) {
-            return Some(*key);
+            let is_last = match entries.next() {
+                Some((next, _)) => next.cmp(&end).is_ge(),
+                None => true,
+            };
+            return Some(Covered { key: *key, is_last });
         }
     }
     None
 }
 
 /// Removes the covered entries with keys from `first` up to, but not including, `end`. Takes no memory.
+///
+/// After each it searches the rest of the range, unless that is empty: most commands cover a single entry.
 pub(crate) fn remove_covered(
     map: &mut BTreeMap<Rank, Entry>,
     first: Rank,
     end: Rank,
     command: &Command,
 )
-    requires forward { IsForward (IsLeBy ⟦<Rank as Ord>⟧.cmp) (IsLtBy ⟦<Rank as Ord>⟧.cmp) (Bound.Included first) (Bound.Excluded end) }
     requires keeping { IsKeeping ⟦<Rank as Ord>⟧.cmp map.old }
     ensures after { (q : Key) → tree.get ⟦<Rank as Ord>⟧.cmp map.new q ≡ cond (is_swept ⟦<Rank as Ord>⟧.cmp (covers_key command.now) (Bound.Included first) (Bound.Excluded end) q) None (tree.get ⟦<Rank as Ord>⟧.cmp map.old q) }
 {
     let mut from = Bound::Included(first);
-    while let Some(key) = next_covered(map, from, end, command) {
-        map.remove(&key);
-        from = Bound::Excluded(key);
+    while let Some(covered) = next_covered(map, from, end, command) {
+        map.remove(&covered.key);
+        if covered.is_last {
+            return;
+        }
+        from = Bound::Excluded(covered.key);
     }
 }
