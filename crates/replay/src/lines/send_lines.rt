@@ -65,6 +65,32 @@ fn open(
     }
 }
 
+/// Makes the batch that the line describes, and sends it or only reserves it.
+///
+/// Stays a call: a batch is a kilobyte on the stack, which a line without one need not clear.
+#[inline(never)]
+fn send_made(
+    simulator: &mut Simulator,
+    sending: &Sending,
+    reply: &mut String,
+) -> Result<(), AllocError>
+    requires sender { sending.now.sender < (ring_in simulator.old.queue).senders }
+    requires settled { HasOpen simulator.old sending.now.sender false }
+    ensures { OnOk result (Acts Stands (λ wanting. body_effect sending.now (body_of sending.now.content)) simulator.old simulator.new (string_bytes reply.old) (string_bytes reply.new) true) }
+{
+    let made = batch_of(&sending.content);
+    if !sending.publishes {
+        return match made {
+            Ok(batch) => open(simulator, sending, batch, reply),
+            Err(fault) => say_batch_refused(fault, reply),
+        };
+    }
+    match &made {
+        Ok(batch) => send_now(simulator, sending, batch.as_borrowed(), reply),
+        Err(fault) => say_batch_refused(*fault, reply),
+    }
+}
+
 /// Sends what the line says, or only reserves it.
 fn send_content(
     simulator: &mut Simulator,
@@ -83,13 +109,7 @@ fn send_content(
                 Err(fault) => say_batch_refused(fault, reply),
             }
         }
-        content => match batch_of(content) {
-            Ok(batch) if sending.publishes => {
-                send_now(simulator, sending, batch.as_borrowed(), reply)
-            }
-            Ok(batch) => open(simulator, sending, batch, reply),
-            Err(fault) => say_batch_refused(fault, reply),
-        },
+        _ => send_made(simulator, sending, reply),
     }
 }
 
