@@ -17,7 +17,6 @@ use crate::sweep::remove_covered;
 use crate::tag::Entry;
 use cmdcodec::{Command, PageRun, Sid};
 use std::collections::BTreeMap;
-use std::ops::Bound;
 
 /// Removes what `command` covers, which must be entries of `streams` only.
 fn sweep_streams(map: &mut BTreeMap<Rank, Entry>, streams: PageRun, command: &Command)
@@ -73,8 +72,7 @@ fn block_start(page: u64, span: u8) -> u64
 fn last_page_before(map: &BTreeMap<Rank, Entry>, owner: Owner, page: u64) -> Option<u64>
     ensures { IsLastPage ⟦<Rank as Ord>⟧.cmp map.now owner page result }
 {
-    let end = Bound::Excluded(owner.least(page, 0));
-    match map.range((Bound::Unbounded, end)).next_back() {
+    match map.range(..owner.least(page, 0)).next_back() {
         Some((key, _)) => {
             if key.cmp(&owner.least(0, 0)).is_lt() {
                 return None;

@@ -1,7 +1,7 @@
 //! Parsing a line into a request.
 ghost use Rattle.std.specs.Prelude.{◌≡◌, IfOk};
 ghost use Rattle.script.specs.Words.{words_of};
-ghost use Rattle.replay.specs.requests.Whole.{plain_line, named};
+ghost use Rattle.replay.specs.requests.Whole.{unit_line, sender_line, send_line, plain_line, named};
 
 mod cache_lines;
 mod numbers;
@@ -19,8 +19,52 @@ use sender_lines::{parse_close, parse_done, parse_look, parse_publish};
 use std::alloc::{AllocError, Global};
 use unit_lines::{parse_ack, parse_dump, parse_step};
 
-/// Parses a line without commands in hexadecimal digits.
-#[tactic(auto, unfolding(crate::specs::requests::Whole::plain_line, crate::specs::requests::Whole::send_line, crate::specs::requests::Whole::sender_line, crate::specs::requests::Whole::unit_line))]
+#[tactic(auto, unfolding(crate::specs::requests::Whole::unit_line))]
+fn parse_unit_line(name: &[u8], rest: &[u8]) -> Option<Request>
+    ensures { result ≡ unit_line name.now (words_of rest.now) }
+{
+    if name == b"step".as_slice() {
+        parse_step(rest)
+    } else if name == b"ack".as_slice() {
+        parse_ack(rest)
+    } else if name == b"dump".as_slice() {
+        parse_dump(rest)
+    } else {
+        None
+    }
+}
+
+#[tactic(auto, unfolding(crate::specs::requests::Whole::sender_line))]
+fn parse_sender_line(name: &[u8], rest: &[u8]) -> Option<Request>
+    ensures { result ≡ sender_line name.now (words_of rest.now) }
+{
+    if name == b"publish".as_slice() {
+        parse_publish(rest)
+    } else if name == b"done".as_slice() {
+        parse_done(rest)
+    } else if name == b"look".as_slice() {
+        parse_look(rest)
+    } else if name == b"close".as_slice() {
+        parse_close(rest)
+    } else {
+        parse_unit_line(name, rest)
+    }
+}
+
+#[tactic(auto, unfolding(crate::specs::requests::Whole::send_line))]
+fn parse_send_line(name: &[u8], rest: &[u8]) -> Option<Request>
+    ensures { result ≡ send_line name.now (words_of rest.now) }
+{
+    if name == b"inval".as_slice() {
+        parse_inval(rest)
+    } else if name == b"detach".as_slice() {
+        parse_detach(rest)
+    } else {
+        parse_sender_line(name, rest)
+    }
+}
+
+#[tactic(auto, unfolding(crate::specs::requests::Whole::plain_line))]
 fn parse_plain_line(name: &[u8], rest: &[u8]) -> Option<Request>
     ensures { result ≡ plain_line name.now (words_of rest.now) }
 {
@@ -32,26 +76,8 @@ fn parse_plain_line(name: &[u8], rest: &[u8]) -> Option<Request>
         parse_evict(rest)
     } else if name == b"lookup".as_slice() {
         parse_lookup(rest)
-    } else if name == b"inval".as_slice() {
-        parse_inval(rest)
-    } else if name == b"detach".as_slice() {
-        parse_detach(rest)
-    } else if name == b"publish".as_slice() {
-        parse_publish(rest)
-    } else if name == b"done".as_slice() {
-        parse_done(rest)
-    } else if name == b"look".as_slice() {
-        parse_look(rest)
-    } else if name == b"close".as_slice() {
-        parse_close(rest)
-    } else if name == b"step".as_slice() {
-        parse_step(rest)
-    } else if name == b"ack".as_slice() {
-        parse_ack(rest)
-    } else if name == b"dump".as_slice() {
-        parse_dump(rest)
     } else {
-        None
+        parse_send_line(name, rest)
     }
 }
 
