@@ -43,7 +43,7 @@ pub record IsSimulator (queue : QueueValue) (consumer : Option (IdleConsumerValu
 abbrev pub Does : {Answer : Type 0} → SimulatorValue → SimulatorValue → Answer → (State → Answered Answer) → Type 0
 Does old new answer then = (state : State) → Stands old state → (answer ≡ (then state).answer) × Stands new (then state).state
 
--- The same, with memory running out or not.
+-- The same in one of two cases: memory runs out, or it doesn't.
 abbrev pub MayDo : {Answer : Type 0} → SimulatorValue → SimulatorValue → Answer → (Bool → State → Answered Answer) → Type 0
 MayDo old new answer then = (state : State) → Stands old state → (wanting : Bool) × (answer ≡ (then wanting state).answer) × Stands new (then wanting state).state
 

@@ -18,7 +18,7 @@ pub struct Shape {
     pub capacity: u32,
 }
 
-/// Why nothing is made: the first fault that applies, in this order.
+/// Why nothing is made: the first that applies of N1, N2, N3 and C4, or else N4.
 #[derive(Clone, Copy, Debug, PartialEq, Eq, Error)]
 pub enum ShapeFault {
     /// N1 to N4: no ring is made.

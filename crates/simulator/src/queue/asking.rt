@@ -37,7 +37,7 @@ impl Queue {
         self.keeper.close(&self.ring, sender);
     }
 
-    /// Loads the number in a sender's completion cell. The sender may have an open reservation.
+    /// Loads, as a sender, the number in its completion cell. It may have an open reservation.
     pub(crate) fn ask(&mut self, sender: u32) -> u32
         requires { sender < (ring_in self.old).senders }
         ensures run { self.new.keeper.run ≡ (Sender sender, Ask result) ∷ self.old.keeper.run }
