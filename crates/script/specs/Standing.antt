@@ -13,8 +13,8 @@ StandsAt Stands None (Some state) = ⊥
 StandsAt Stands (Some kept) None = ⊥
 StandsAt Stands (Some kept) (Some state) = Stands kept state
 
--- For memory running out or not, the effect has this text and goes on so; if it goes on, `new` stands for the state
--- after it.
+-- In one of two cases, memory running out or not, the effect has this text and goes on so; if it goes on, `new` stands
+-- for the state after it.
 pub record Produces {Kept State : Type 0} (Stands : Kept → State → Type 0) (effect : Bool → Effect State) (new : Option Kept) (answer : List ℕ) (goes_on : Bool) : Type 0 where
   pub wanting : Bool
   pub text : (effect wanting).text ≡ answer

@@ -20,7 +20,7 @@ WritesAnswer may input before after ending =
 abbrev pub no_memory_line : List ℕ
 no_memory_line = codes "no memory\n"
 
--- the answers to whole lines, and then the line that tells of memory
+-- the answers to the lines before some line, each whole, and then the line that tells of memory
 pub record StopsForMemory (may : ℕ → List (List ℕ) → Outcome → Type 0) (script text : List ℕ) : Type 0 where
   pub whole : List ℕ
   pub rest : List ℕ
