@@ -134,7 +134,8 @@ pub(crate) fn close_first(plan: Plan, ring: &Ring, mut senders: Vec<Sender>) -> 
     senders
 }
 
-/// Asks each sender's completion cell, in the order of the senders, and returns the numbers in the room made for them.
+/// Lets each sender ask its completion cell, and returns the numbers in the order of the senders, in the room made for
+/// them.
 pub(crate) fn ask_all(
     plan: Plan,
     ring: &Ring,
