@@ -16,11 +16,11 @@ pub enum Request {
 /// (hi), and counts are of 1 to 64 slots in a row.
 #[derive(Debug, Drop)]
 pub enum Asked {
-    /// Look at the control word: a sender, or the consumer if none is named.
+    /// Look at the control word, as a sender, or as the consumer if none is named.
     Look {
         who: Option<u32>,
     },
-    /// Reserve commands for a sender, with a closing sync or without.
+    /// Reserve commands, with a closing sync or without, as a sender.
     Reserve {
         sender: u32,
         body: Body,
@@ -61,7 +61,7 @@ pub enum Asked {
         sender: u32,
         number: u32,
     },
-    /// Load a sender's own completion cell.
+    /// Load its own completion cell, as a sender.
     Ask {
         sender: u32,
     },
