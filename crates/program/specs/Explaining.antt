@@ -24,7 +24,7 @@ abbrev pub MayTellOf : Option LastLine → Seen → Seen → Type 0
 MayTellOf None before after = after ≡ before
 MayTellOf (Some last) before after = (after ≡ before) ⊎ TellsOfLine last before after
 
--- Depending on the exit status of the run: for 1 the line that is kept is told of, for any other nothing.
+-- Depending on the exit status of the run: for 1 it may tell of the line that is kept, for any other it tells nothing.
 pub record TellsOfLast (exit : ℕ) (last : Option LastLine) (before after : Seen) : Type 0 where
   pub refused : exit ≡ 1 → MayTellOf last before after
   pub silent : exit ≢ 1 → after ≡ before
@@ -39,7 +39,7 @@ pub record TellsOfScript (may : ℕ → List (List ℕ) → Outcome → Type 0) 
 abbrev pub MayBeTold : Seen → Seen → Type 0
 MayBeTold before after = (after ≡ before) ⊎ ((text : List ℕ) × IsTried before after text)
 
--- Depending on the exit status of the run: for 1 it is told why lines were refused, for any other nothing.
+-- Depending on the exit status of the run: for 1 it may tell why lines were refused, for any other it tells nothing.
 pub record TellsOfRefusal (exit : ℕ) (before after : Seen) : Type 0 where
   pub refused : exit ≡ 1 → MayBeTold before after
   pub silent : exit ≢ 1 → after ≡ before

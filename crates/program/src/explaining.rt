@@ -38,7 +38,7 @@ fn try_last_line<F: Write>(
     }
 }
 
-/// Returns the exit status of a script's run. If it was refused, tells why, of the line that ended it, if one is kept.
+/// Returns the exit status of a script's run. If it was refused, tells why the line that ended it was, if one is kept.
 pub(crate) fn exit_of_script<F: Write>(
     alloc: Global,
     script: Script,

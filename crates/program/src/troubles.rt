@@ -38,7 +38,7 @@ fn try_output<F: Write>(alloc: Global, why: &io::Error, faults: &mut Watched<F>)
     }
 }
 
-/// Tells which stream failed, and for standard output why, except if a pipe was closed at its other end.
+/// Tells which stream failed, and for standard output why, but nothing of a pipe that was closed at its other end.
 fn tell_stream<O: Write, F: Write>(alloc: Global, output: &Watched<O>, faults: &mut Watched<F>)
     ensures { TellsTrouble 4 output.now faults.old faults.new }
 {
