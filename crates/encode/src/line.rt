@@ -33,8 +33,8 @@ fn encode_named<'a>(name: &'a [u8], rest: &'a [u8]) -> Result<Option<Raw>, Encod
 /// Encodes a line that is the text of a command: its name and its fields, in any order. Returns the command's words,
 /// with all free bits 0, or None for a line that is skipped, one without words or a comment.
 ///
-/// Errors: its name; or else the first word that gives no field of the command; or else the first field, in the order
-/// of the command's text, that has no value.
+/// Errors: what is wrong with any other line: its name; or else the first word that gives no field of the command; or
+/// else the first field, in the order of the command's text, that has no value.
 #[tactic(auto, unfolding(crate::specs::LineEncodings::line_encoding))]
 pub fn encode_line(line: &[u8]) -> Result<Option<Raw>, EncodeFault<'_>>
     ensures value { as_told result ≡ line_encoding line.now }
