@@ -4,7 +4,7 @@ use ringcore::MOST_SENDERS;
 
 /// The base-2 logarithm of the slots of a ring that can be made.
 pub(crate) const LOG2: Expected = Expected::Count(19);
-/// How many senders such a ring has.
+/// How many senders a ring that can be made has.
 pub(crate) const SENDERS: Expected = Expected::Count(MOST_SENDERS as u64);
 
 /// What may follow the words that a line always has.

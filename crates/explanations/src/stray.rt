@@ -1,7 +1,7 @@
 //! A byte that no line may have.
 use std::fmt;
 
-/// What kind of byte outside of the printable ASCII characters it is.
+/// The kind of a byte that no line may have: one outside of the printable ASCII characters.
 #[derive(Clone, Copy, Debug, PartialEq, Eq)]
 pub(crate) enum StrayKind {
     ByteOrderMark,
