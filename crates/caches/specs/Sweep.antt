@@ -45,7 +45,7 @@ module _ {K : Type 0} (cmp : K → K → Ordering) where
   abbrev pub is_gone : (K → Bool) → Bound K → Bound K → Bound K → K → Bool
   is_gone p first end from q = not (is_from_start cmp from q) && is_swept p first end q
 
--- n is m without some of what passes the test.
+-- n is m, perhaps without some of what passes the test.
 abbrev pub IsPruned : {K X : Type 0} → (K → K → Ordering) → (K → Bool) → BTreeMap K X → BTreeMap K X → Type 0
 IsPruned {K} cmp p m n = (q : K) → (tree.get cmp n q ≡ tree.get cmp m q) ⊎ ((p q ≡ true) × (tree.get cmp n q ≡ None))
 

@@ -67,7 +67,7 @@ is_among i (run ∷ runs) = nat_le run.1 i && nat_le i run.0 || is_among i runs
 abbrev pub IsAlikeBeside : Runs → ℕ → ℕ → Type 0
 IsAlikeBeside runs word other = (i : ℕ) → i < 64 → is_among i runs ≡ false → field word i i ≡ field other i i
 
--- The words differ only in bits that are free in the spelling of this command.
+-- The words differ at most in bits that are free in the spelling of this command.
 abbrev pub DifferInFreeBits : Command → Raw → Raw → Type 0
 DifferInFreeBits command raw other =
     IsAlikeBeside (free_in_lo command) raw.lo other.lo × IsAlikeBeside (free_in_hi command) raw.hi other.hi

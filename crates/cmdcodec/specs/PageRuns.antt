@@ -37,8 +37,8 @@ run_of not_by_address = None
 abbrev pub IsIn : ℕ → PageRun → Type 0
 IsIn page run = (run.first ≤ page) × (page < run.end)
 
--- The other page is reached from the page: it is the page itself, or its granule is one of the (NUM + 1) *
--- 2^SCALE that start with the page's.
+-- The other page is reached from the page: it is the page itself, or its granule is one of the
+-- (NUM + 1) * 2^SCALE that start with the page's.
 abbrev pub IsReached : ℕ → Reach → ℕ → ℕ → Type 0
 IsReached page Page space other = other ≡ page
 IsReached page (Range tg num scale) space other =

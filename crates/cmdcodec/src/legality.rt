@@ -12,7 +12,7 @@ use crate::raw::Raw;
 /// The reserved value of `CS`.
 const RESERVED_SIGNAL: u64 = 3;
 
-/// The largest `Size` of an ATC_INV, which covers all pages.
+/// The largest `Size` of an ATC_INV, which reaches all pages.
 const ALL_PAGES: u64 = 52;
 
 impl Raw {

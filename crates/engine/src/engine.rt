@@ -36,7 +36,7 @@ pub use stepping::step_with;
 /// completes them. It is always settled for all it took.
 #[derive(Drop)]
 pub struct Engine {
-    /// `None` only while a step has it.
+    /// `None` only while a call has it.
     consumer: Option<Consumer<Unit>>,
     unit: Unit,
 }
@@ -158,9 +158,9 @@ impl Engine {
         (consumer.unwrap(), unit.into_caches())
     }
 
-    /// Joins the engine and all senders of its ring, in the order of their numbers. One run has all their
-    /// steps. Whatever number a sender was told, no entry is older than a command that was reserved before
-    /// that CMD_SYNC and covers it.
+    /// Joins the engine and all senders of its ring. `senders` has them in the order of their numbers. One run
+    /// has all their steps. Whatever number a sender was told, no entry is older than a command that was
+    /// reserved before that CMD_SYNC and covers it.
     pub fn finish(self, ring: Ring, senders: Vec<Sender>) -> Finished
         requires senders { AreAll ring senders.items }
         requires ring { self.consumer.ring ≡ ring }

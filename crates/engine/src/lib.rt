@@ -1,4 +1,4 @@
-//! The engine: a unit that applies commands to its caches and stops at an illegal one, together with the
+//! The engine: a unit that applies commands to its caches and stops at an illegal one, alone and with the
 //! consumer of a ring.
 //!
 //! 1. The consumer reads commands from the head on; they stay in the ring.

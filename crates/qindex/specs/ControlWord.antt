@@ -1,5 +1,5 @@
 -- The control word: both indexes and whether the queue is closed, in one word of 64 bits (own). The low half
--- is laid out as SMMU_CMDQ_PROD, with the closed bit above it, and the high half as SMMU_CMDQ_CONS.
+-- is laid out as SMMU_CMDQ_PROD, with the closed bit above the index, and the high half as SMMU_CMDQ_CONS.
 use Rattle.std.specs.Prelude.{◌≡◌, ◌≤◌, ℕ, ◌+◌, ◌-◌, ◌*◌, ◌/◌, ◌%◌, ◌^◌, Bool, true, false, ◌==◌, bit_xor}
 use Rattle.qindex.specs.declared.control.Control.{Control}
 use Rattle.qindex.specs.Positions.{IndexValue, size}

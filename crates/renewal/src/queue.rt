@@ -14,7 +14,7 @@ pub struct Queue {
 /// The sizes of the new ring and its caches. The number of senders stays the same.
 #[derive(Clone, Copy, Debug, PartialEq, Eq)]
 pub struct Sizes {
-    /// The binary logarithm of the ring's slots, 1 to 19.
+    /// The binary logarithm of the number of slots, 1 to 19.
     pub log2: u32,
     /// How many batches each sender may reserve, at least 1.
     pub max_batches: u32,

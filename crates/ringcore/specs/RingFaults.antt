@@ -18,7 +18,7 @@ number_fault log2 senders max_batches =
     else if max_batches == 0 then Some Batches
     else None
 
--- It isn't made because of that fault, or, if there is none, because memory ran out.
+-- Why it isn't made: that fault, or, if there is none, that memory ran out.
 abbrev pub IsNotMade : Option RingFault → RingFault → Type 0
 IsNotMade numbers (Memory error) = numbers ≡ None
 IsNotMade numbers fault = numbers ≡ Some fault

@@ -22,8 +22,8 @@ flips_from slot (suc k) = Flip slot (suc k) ∷ []
 abbrev pub run_up_to : ℕ → Trail → ℕ → ℕ → ℕ
 run_up_to geometry trail slot end = min (shared_word geometry (index_of geometry ((start_index geometry trail).number + slot)).number) (end - slot)
 
--- What hands over a reservation with `written` slots written and `flipped` of them flipped: the rest is
--- written in order, and then flipped by one step for each flag word, of which there are at most two.
+-- What hands over a reservation with `written` slots written and `flipped` of them flipped: all that is
+-- left is written in order, and then flipped by one step for each flag word, of which there are at most two.
 abbrev pub handing_over : ℕ → Trail → ℕ → ℕ → Trail
 handing_over geometry trail written flipped =
     let all = reserved_length trail in

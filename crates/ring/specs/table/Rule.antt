@@ -63,7 +63,7 @@ pub record Among (P : Participant → Type 0) (views : List (List Participant)) 
 -- The rule: there is a run whose operations, and no others, made the words what they are, and whose events of
 -- each participant that sits at a seat are that participant's trail. It is the run as the one with the newest
 -- event knew it then, and what each other knew at its own newest event is an older part of it, after which
--- that one took no step. So the run only grows at its end, and what is in it stays.
+-- that other took no step. So the run grows only at its end, and what is in it stays.
 pub record RuleHolds (ring : Ring) (s : TableState) : Type 0 where
   pub limits : IsWithinLimits ring
   pub run : Run

@@ -27,7 +27,7 @@ pub type Reservation<'b> = OpenReservation<'b, Closing>;
 /// Slots reserved for a batch without a closing CMD_SYNC (own). It must be spent by `publish`.
 pub type BareReservation<'b> = OpenReservation<'b, Bare>;
 
-/// Slots reserved for a batch of this kind. It borrows the commands, so that each is only copied into its
+/// Slots reserved for a batch of this kind. It borrows the commands, so that each is copied only into its
 /// slot. It must be spent by `hand_over` or `publish`.
 pub struct OpenReservation<'b, K: BatchKind> {
     pub(crate) port: Port,

@@ -32,7 +32,7 @@ pub record AreReadBelow (end : ℕ) (commands : List ReadHalves) : Type 0 where
   pub within : end ≤ 64
   pub behind : (k : ℕ) → end ≤ k → slice_index_or commands k unread ≡ unread
 
--- The views differ only in what was read.
+-- The views differ at most in what was read.
 pub record SameButRead (old new : ConsumerValue) : Type 0 where
   pub taken_is : new.taken ≡ old.taken
   pub found_is : new.found ≡ old.found

@@ -22,8 +22,7 @@ pub record SenderValue : Type 0 where
   pub commands : List Raw
   pub progress : List Progress
 
--- A batch has at most 64 commands, and progress is kept for as many. No more batches have a number than were
--- made.
+-- A batch has at most 64 commands, and progress is kept for 64. No more batches have a number than were made.
 pub record IsBounded (view : SenderValue) : Type 0 where
   pub few : length view.commands ≤ 64
   pub places : length view.progress ≡ 64
@@ -44,7 +43,7 @@ progress_at view k = slice_index_or view.progress k untouched
 abbrev pub flipped_by : ℕ → ℕ → ℕ → Progress → Progress
 flipped_by first count k command = record command { flipped = is_among first count k || command.flipped }
 
--- Exactly count commands from first on were marked as flipped.
+-- Count commands from first on were marked as flipped, and nothing else changed.
 abbrev pub AreFlipped : List Progress → List Progress → ℕ → ℕ → Type 0
 AreFlipped old new first count = (k : ℕ) → slice_index_or new k untouched ≡ flipped_by first count k (slice_index_or old k untouched)
 

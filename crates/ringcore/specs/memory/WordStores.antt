@@ -26,7 +26,7 @@ with_word w at x = record w { words = slice_set w.words at x }
 abbrev pub with_turned : WordsValue → ℕ → ℕ → WordsValue
 with_turned w at mask = record w { words = turned w.words at mask }
 
--- Exactly the flags of `count` positions from this one on are flipped.
+-- Exactly the flags of `count` positions from this one on were turned.
 pub record IsFlipped (old new : WordsValue) (position count : ℕ) : Type 0 where
   pub mask : ℕ
   pub mask_is : IsFlipMask old.geometry position count mask

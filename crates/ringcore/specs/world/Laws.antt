@@ -54,7 +54,7 @@ CommandsOfBatches run = map (λ (item : Item). item.raw) (world run).reserved �
 abbrev pub AllOfBatches : Run → Type 0
 AllOfBatches run = tail (world run) ≡ length (joined (batches run))
 
--- The ring is closed exactly once a close was taken.
+-- The ring is closed once a close was taken, and not before.
 abbrev pub ClosedByAClose : Run → Type 0
 ClosedByAClose run = (world run).closed ≡ has_close run
 

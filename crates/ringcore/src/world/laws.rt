@@ -24,7 +24,7 @@ pub fn world_law()
 
 /// In every run each batch is in one piece, and the batches of one sender are in the order in which it
 /// reserved them: the earlier before the later. Nothing else is reserved, each batch belongs to one of the
-/// senders, and the ring is closed exactly once a close was taken.
+/// senders, and the ring is closed once a close was taken, and not before.
 pub fn batches_law()
     ensures unbroken { EveryRun BatchesAreUnbroken }
     ensures senders_order { EveryRun SendersOrderIsKept }
