@@ -75,16 +75,9 @@ impl Ord for Rank {
 
     ghost matches_eq = { λ x y. refl };
 
-    // Greater first: a search goes on past such a key, so that it tests nothing else of most keys.
     #[inline(always)]
     fn cmp(&self, other: &Rank) -> Ordering {
-        if self.number > other.number {
-            Ordering::Greater
-        } else if self.number == other.number {
-            Ordering::Equal
-        } else {
-            Ordering::Less
-        }
+        self.number.cmp(&other.number)
     }
 }
 

@@ -20,7 +20,7 @@ struct Covered {
     is_last: bool,
 }
 
-/// The first entry of a range that the command covers. It walks along the map, from one entry to the next.
+/// Finds the first covered entry with a key from `from` on and below `end`, by a walk along the map.
 fn next_covered(
     map: &BTreeMap<Rank, Entry>,
     from: Bound<Rank>,
@@ -32,7 +32,7 @@ fn next_covered(
     ensures last { IfSome result (λ found. found.is_last ≡ true
         → IsNext ⟦<Rank as Ord>⟧.cmp (covers_key command.now) map.now (Bound.Excluded found.key) (Bound.Excluded end) None) }
 {
-    // One search, for where it begins, is cheaper than two.
+    // The loop tests for the end: a range with an end would search for that too.
     let mut entries = map.range((from, Bound::Unbounded));
     while let Some((key, entry)) = entries.next() {
         if key.cmp(&end).is_ge() {
