@@ -1,17 +1,14 @@
 -- Covered entries that begin before a page, span by span.
-use Rattle.std.proofs.Common.{◌≡◌, ℕ, ◌+◌, ◌-◌, ◌%◌, ◌^◌, ◌<◌, ◌≤◌, ◌≢◌, Bool, true, inl, inr, Option, Some, None, sym, ◌∙◌, ap, arith}
-use Rattle.std.specs.Option.{MatchOption}
+use Rattle.std.proofs.Common.{◌≡◌, ℕ, ◌+◌, ◌-◌, ◌%◌, ◌^◌, ◌<◌, ◌≤◌, Bool, true, inl, inr, Some, None, sym, ◌∙◌, arith}
 use Rattle.std.specs.BTreeMap.{BTreeMap, get}
 use Rattle.std.proofs.lemmas.Bool.{cases_lt}
 use Rattle.caches.specs.declared.tag.Entry.{Entry}
 use Rattle.caches.specs.declared.key.Key.{Key}
 use Rattle.caches.specs.declared.key.Owner.{Owner}
 use Rattle.caches.specs.Keys.{owner_of, page_of, span_of}
-use Rattle.caches.specs.Sweep.{IsKeeping, IsLastPage, IsPruned}
+use Rattle.caches.specs.Sweep.{IsKeeping, IsPruned}
 use Rattle.caches.proofs.Aligned.{aligned_start, start_falls}
-use Rattle.caches.proofs.FirstInRange.{is_some_at}
 use Rattle.caches.proofs.KeyOrder.{key_cmp}
-use Rattle.caches.proofs.Sweeping.{none_of}
 use Rattle.caches.proofs.Pruned.{aligned_key, none_pruned, none_unless}
 
 module _ (p : Key → Bool) (w : Owner) (page : ℕ) where
@@ -23,23 +20,15 @@ module _ (p : Key → Bool) (w : Owner) (page : ℕ) where
   abbrev pub AreBelow : BTreeMap Key Entry → ℕ → Type 0
   AreBelow m bound = (q : Key) (e : Entry) → p q ≡ true → page_of q < page → get key_cmp m q ≡ Some e → page_of q < bound
 
-  -- What is left begins at or before the last page found, or nothing is left.
-  abbrev pub AreFound : BTreeMap Key Entry → Option ℕ → Type 0
-  AreFound m found = MatchOption found
-      ((q : Key) → p q ≡ true → page_of q < page → get key_cmp m q ≡ None)
-      (λ last. (last < page) × AreBelow m (last + 1))
+  -- What begins before a start also begins before a bound if nothing before the start is left from the bound on.
+  pub below_bound : (m : BTreeMap Key Entry) (start bound : ℕ) → AreBelow m start → ((q : Key) → p q ≡ true → page_of q < start → bound ≤ page_of q → get key_cmp m q ≡ None) → AreBelow m bound
+  below_bound m start bound below clean q e covered before there =
+      elim (cases_lt (page_of q) bound) as (λ _. page_of q < bound) [
+        | inl less ↦ less
+        | inr from ↦ let h : None ≡ Some e = sym (clean q covered (below q e covered before there) from) ∙ there in cc
+      ]
 
   module _ (reach : (q : Key) → p q ≡ true → (owner_of q ≡ Some w) × (page < page_of q + 2 ^ span_of q)) where
-    -- A look before a bound finds what is left if it begins before that bound.
-    pub found_before : (m : BTreeMap Key Entry) (bound : ℕ) (found : Option ℕ) → bound ≤ page → AreBelow m bound → IsLastPage key_cmp m w bound found → AreFound m found
-    found_before m bound None at below is = λ q covered before. none_unless (get key_cmp m q) (λ e there. is q (reach q covered).0 (below q e covered before there))
-    found_before m bound (Some last) at below is = (
-      omega (arith, is.0),
-      λ q e covered before there.
-          let h : page_of q ≤ last = is.2 q (reach q covered).0 (below q e covered before there) (is_some_at _ e there) in
-          omega arith,
-    )
-
     starts_at : (m : BTreeMap Key Entry) → IsKeeping key_cmp m → (q : Key) (e : Entry) → p q ≡ true → page_of q < page → get key_cmp m q ≡ Some e → page - page % 2 ^ span_of q ≡ page_of q
     starts_at m keeping q e covered before there = aligned_start (page_of q) page (span_of q) (aligned_key q (keeping q e there).well_formed).1 (omega arith) (reach q covered).1
 
@@ -75,12 +64,3 @@ module _ (p : Key → Bool) (w : Owner) (page : ℕ) where
                   cc
             ]
           ]
-
--- If the last page up to a page isn't that page, it is the last before it, and nothing begins there.
-pub last_passes : (m : BTreeMap Key Entry) (w : Owner) (start : ℕ) (found : Option ℕ) → IsLastPage key_cmp m w (start + 1) found → (found ≡ Some start → ⊥)
-    → IsLastPage key_cmp m w start found × ((q : Key) → owner_of q ≡ Some w → page_of q ≡ start → get key_cmp m q ≡ None)
-last_passes m w start None is other = (λ q o before. is q o (omega arith), λ q o at. is q o (omega arith))
-last_passes m w start (Some last) is other =
-    let apart : last ≢ start = λ e. other (ap Some e) in
-    let below : last < start + 1 = is.0 in
-    ((omega arith, is.1, λ q o before some. is.2 q o (omega arith) some), λ q o at. none_of (get key_cmp m q) (λ some. let h : page_of q ≤ last = is.2 q o (omega arith) some in apart (omega arith)))

@@ -19,6 +19,7 @@ use Rattle.caches.specs.Keys.{owner_of, page_of, span_of, least, IsOfStreams}
 use Rattle.caches.specs.contracts.key.KeyOrd.TheImpl as key_order
 use Rattle.caches.specs.contracts.key.KeyOrd.TheImpl.Laws as key_laws
 use Rattle.caches.specs.contracts.key.StageOrd.TheImpl as stage_order
+use Rattle.caches.proofs.Sweeping.{not_from}
 
 abbrev pub key_cmp : Key → Key → Ordering
 key_cmp = key_order.ghosts.cmp
@@ -126,11 +127,6 @@ first_true : (a b : Bool) → (a && b) ≡ true → a ≡ true
 first_true true b e = refl
 first_true false b e = e
 
-behind_both : (r s : Ordering) → s ≡ ordering_reverse r → is_lt r ≡ true → is_le s ≡ true → ⊥
-behind_both Less s e l h = let f : false ≡ true = sym (ap is_le e) ∙ h in cc
-behind_both Equal s e l h = cc
-behind_both Greater s e l h = cc
-
 second_true : (a b : Bool) → (a && b) ≡ true → b ≡ true
 second_true true b e = e
 second_true false b e = cc
@@ -167,10 +163,6 @@ in_pages w first end k o a b = in_block w first 0 end k o a (omega arith) b
 
 pub up_to_page : (w : Owner) (end : ℕ) (k : Key) → owner_of k ≡ Some w → page_of k < end → range_contains key_cmp Unbounded (Excluded (least w end 0)) k ≡ true
 up_to_page w end k o b = second_true _ _ (in_pages w 0 end k o (omega arith) b)
-
--- blocks that begin at a page, of a span or longer
-pub in_start : (w : Owner) (page span : ℕ) (k : Key) → owner_of k ≡ Some w → page_of k ≡ page → span ≤ span_of k → range_contains key_cmp (Included (least w page span)) (Excluded (least w (page + 1) 0)) k ≡ true
-in_start w page span k o a b = in_block w page span (page + 1) k o (omega arith) b (omega arith)
 
 pub in_streams : (run : PageRun) (k : Key) → IsOfStreams run k → range_contains key_cmp (Included (Configuration run.first None)) (Excluded (Configuration run.end None)) k ≡ true
 in_streams run (Configuration s c) h = between _ _ (le_then run.first s _ h.0 (low c)) (more_then run.end s _ h.1)
@@ -246,5 +238,61 @@ owner_of-least (Device s) page span = refl
 pub from_least : (w : Owner) (k : Key) → owner_of k ≡ Some w → is_le (key_cmp (least w 0 0) k) ≡ true
 from_least w k o = first_true _ _ (in_pages w 0 (page_of k + 1) k o (omega arith) (omega arith))
 
-pub not_below_least : (w : Owner) (k : Key) → is_lt (key_cmp k (least w 0 0)) ≡ true → owner_of k ≡ Some w → ⊥
-not_below_least w k below o = behind_both (key_cmp k (least w 0 0)) (key_cmp (least w 0 0) k) (key_total.antisymm (least w 0 0) k) below (from_least w k o)
+-- ---- keys of an owner one after another
+pub at_or_after : (k q : Key) → is_lt (key_cmp k q) ≡ false → is_le (key_cmp q k) ≡ true
+at_or_after k q h =
+    elim (key_cmp k q) as (λ r. key_cmp k q ≡ r → is_lt r ≡ false → is_le (key_cmp q k) ≡ true) [
+      | Less ↦ λ e l. cc
+      | Equal ↦ λ e l. ap is_le (key_total.antisymm q k ∙ ap ordering_reverse e)
+      | Greater ↦ λ e l. ap is_le (key_total.antisymm q k ∙ ap ordering_reverse e)
+    ] refl h
+
+pub less_at_most : (k q r : Key) → key_cmp k q ≡ Less → is_le (key_cmp q r) ≡ true → key_cmp k r ≡ Less
+less_at_most k q r less h =
+    elim (key_cmp q r) as (λ o. key_cmp q r ≡ o → is_le o ≡ true → key_cmp k r ≡ Less) [
+      | Less ↦ λ e l. key_total.trans k q r less e
+      | Equal ↦ λ e l. subst (λ x. key_cmp k x ≡ Less) (key_exact q r e) less
+      | Greater ↦ λ e l. cc
+    ] refl h
+
+pub not_after : (k q : Key) → key_cmp k q ≡ Less → is_le (key_cmp q k) ≡ false
+not_after k q less = ap is_le (key_total.antisymm q k ∙ ap ordering_reverse less)
+
+-- A key of an owner is before the least key of a page past its own.
+pub before_page : (w : Owner) (page : ℕ) (k : Key) → owner_of k ≡ Some w → page_of k < page → key_cmp k (least w page 0) ≡ Less
+before_page w page k o h = not_from key_total (least w page 0) k (up_to_page w page k o h)
+
+-- What is between an owner's least key and another of its keys is the owner's too, at a page before what bounds that.
+pub own_between : (w : Owner) (page : ℕ) (k : Key) → key_cmp k (least w page 0) ≡ Less → is_lt (key_cmp k (least w 0 0)) ≡ false → (owner_of k ≡ Some w) × (page_of k < page)
+own_between w page k before from =
+    let at = stands_before w page (least w 0 0) k (owner_of-least w 0 0) (at_or_after k (least w 0 0) from) (not_after k (least w page 0) before) in
+    (at.0, at.2)
+
+lesser : (p r n m : ℕ) (o : Ordering) → p ≤ r → (p ≡ r → n < m) → ordering_then (nat_cmp p r) (ordering_then (nat_cmp n m) o) ≡ Less
+lesser p r n m o low more =
+    elim (cases_lt p r) as (λ _. ordering_then (nat_cmp p r) (ordering_then (nat_cmp n m) o) ≡ Less) [
+      | inl less ↦ ap (λ c. ordering_then c (ordering_then (nat_cmp n m) o)) (cmp_less p r less)
+      | inr from ↦
+          let same : p ≡ r = omega arith in
+          ap (λ c. ordering_then c (ordering_then (nat_cmp n m) o)) (cmp_same p r same) ∙ ap (λ c. ordering_then c o) (cmp_less n m (more same))
+    ]
+
+-- Blocks of an owner are ordered by page, and those of a page by span.
+pub block_order : (w : Owner) (k q : Key) → owner_of k ≡ Some w → owner_of q ≡ Some w → page_of k ≤ page_of q → (page_of k ≡ page_of q → span_of k < span_of q) → key_cmp k q ≡ Less
+block_order w (Configuration s c) q a b low more = cc
+block_order w (Machine v p n c) (Configuration t d) a b low more = cc
+block_order w (Machine v p n c) (Machine u r m d) a b low more =
+    let same : v ≡ u = cc in
+    ap (λ t. ordering_then t (ordering_then (nat_cmp p r) (ordering_then (nat_cmp n m) (stage_cmp c d)))) (cmp_same v u same) ∙ lesser p r n m (stage_cmp c d) low more
+block_order w (Machine v p n c) (Hypervisor r m d) a b low more = let bad : Guest v ≡ Host = cc in cc
+block_order w (Machine v p n c) (Endpoint u r m d) a b low more = let bad : Guest v ≡ Device u = cc in cc
+block_order w (Hypervisor p n c) (Configuration t d) a b low more = cc
+block_order w (Hypervisor p n c) (Machine u r m d) a b low more = let bad : Host ≡ Guest u = cc in cc
+block_order w (Hypervisor p n c) (Hypervisor r m d) a b low more = lesser p r n m (some_cmp c d) low more
+block_order w (Hypervisor p n c) (Endpoint u r m d) a b low more = let bad : Host ≡ Device u = cc in cc
+block_order w (Endpoint v p n c) (Configuration t d) a b low more = cc
+block_order w (Endpoint v p n c) (Machine u r m d) a b low more = let bad : Device v ≡ Guest u = cc in cc
+block_order w (Endpoint v p n c) (Hypervisor r m d) a b low more = let bad : Device v ≡ Host = cc in cc
+block_order w (Endpoint v p n c) (Endpoint u r m d) a b low more =
+    let same : v ≡ u = cc in
+    ap (λ t. ordering_then t (ordering_then (nat_cmp p r) (ordering_then (nat_cmp n m) (some_cmp c d)))) (cmp_same v u same) ∙ lesser p r n m (some_cmp c d) low more

@@ -1,6 +1,6 @@
 pub mod Ahead
 pub mod Aligned
-pub mod FirstInRange
+pub mod Back
 pub mod InOrder
 pub mod Kept
 pub mod KeyOrder

@@ -27,7 +27,7 @@ keys_filter t (e ∷ es) = elim (t e.0) as (λ b. keys_of (cond b (e ∷ filter 
   | false ↦ keys_filter t es
 ]
 
-at_is : (r : Ordering) → is_eq r ≡ true → r ≡ Equal
+pub at_is : (r : Ordering) → is_eq r ≡ true → r ≡ Equal
 at_is Less e = cc
 at_is Equal e = refl
 at_is Greater e = cc

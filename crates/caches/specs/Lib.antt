@@ -12,3 +12,4 @@ pub mod Stored
 pub mod Sweep
 pub mod TagOrder
 pub mod Views
+pub mod Walks

@@ -1,6 +1,5 @@
--- What removal by ranges uses: the next key that passes a test, the last page before a page, and what a sweep
--- removes.
-use Rattle.std.specs.Prelude.{◌≡◌, ◌⊎◌, ℕ, ◌<◌, ◌≤◌, cond, Bool, true, not, ◌&&◌, IsSome, Option, Some, None}
+-- What removal by ranges uses: the next key that passes a test, and what a sweep removes.
+use Rattle.std.specs.Prelude.{◌≡◌, ◌⊎◌, cond, Bool, true, not, ◌&&◌, IsSome, Option, Some, None}
 use Rattle.std.specs.declared.cmp.Ordering.{Ordering}
 use Rattle.std.specs.declared.ops.Bound.{Bound}
 use Rattle.std.specs.Option.{MatchOption}
@@ -9,8 +8,7 @@ use Rattle.std.specs.BTreeMap as tree
 use Rattle.std.specs.BTreeMap.Range.{IsLeBy, range_contains, is_from_start}
 use Rattle.caches.specs.declared.tag.Entry.{Entry}
 use Rattle.caches.specs.declared.key.Key.{Key}
-use Rattle.caches.specs.declared.key.Owner.{Owner}
-use Rattle.caches.specs.Keys.{tag_of, owner_of, page_of, IsKept}
+use Rattle.caches.specs.Keys.{tag_of, IsKept}
 
 -- Each entry of the map is under the key of its tag, whose block is well formed.
 abbrev pub IsKeeping : (Key → Key → Ordering) → BTreeMap Key Entry → Type 0
@@ -28,13 +26,6 @@ abbrev pub IsNext : {K X : Type 0} → (K → K → Ordering) → (K → Bool) �
 IsNext {K} cmp p m from end found = MatchOption found
     ((q : K) → range_contains cmp from end q ≡ true → p q ≡ true → tree.get cmp m q ≡ None)
     (IsNextKey cmp p m from end)
-
--- the greatest page below this one at which a block of the owner in the map begins, or none
-abbrev pub IsLastPage : (Key → Key → Ordering) → BTreeMap Key Entry → Owner → ℕ → Option ℕ → Type 0
-IsLastPage cmp m owner page found = MatchOption found
-    ((q : Key) → owner_of q ≡ Some owner → page_of q < page → tree.get cmp m q ≡ None)
-    (λ last. (last < page) × ((k : Key) × (owner_of k ≡ Some owner) × (page_of k ≡ last) × IsSome (tree.get cmp m k))
-    × ((q : Key) → owner_of q ≡ Some owner → page_of q < page → IsSome (tree.get cmp m q) → page_of q ≤ last))
 
 module _ {K : Type 0} (cmp : K → K → Ordering) where
   -- what a sweep from first to end removes

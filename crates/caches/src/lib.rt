@@ -20,6 +20,7 @@ mod rank;
 mod spans;
 mod sweep;
 mod tag;
+mod walk;
 
 pub use caches::{Caches, MOST_ENTRIES};
 pub use fault::CacheFault;

@@ -7,7 +7,7 @@ ghost use Rattle.caches.specs.Blocks.{block};
 ghost use Rattle.caches.specs.Covers.{meets_run};
 ghost use Rattle.caches.specs.Keys.{covers_key, owner_of, page_of, span_of, IsOfStreams, IsOfMachines};
 ghost use Rattle.caches.specs.Spanned.{AreSpansOf};
-ghost use Rattle.caches.specs.Sweep.{IsKeeping, IsLastPage, IsPruned, IsWithout};
+ghost use Rattle.caches.specs.Sweep.{IsKeeping, IsPruned, IsWithout};
 
 use crate::covering::aligned;
 use crate::key::{Key, Owner};
@@ -15,6 +15,7 @@ use crate::rank::Rank;
 use crate::spans::Spans;
 use crate::sweep::remove_covered;
 use crate::tag::Entry;
+use crate::walk::sweep_back;
 use cmdcodec::{Command, PageRun, Sid};
 use std::collections::BTreeMap;
 
@@ -68,114 +69,37 @@ fn block_start(page: u64, span: u8) -> u64
     page - page % (1 << span)
 }
 
-/// Returns the last page before `page` at which an entry of `owner` begins.
-fn last_page_before(map: &BTreeMap<Rank, Entry>, owner: Owner, page: u64) -> Option<u64>
-    ensures { IsLastPage ⟦<Rank as Ord>⟧.cmp map.now owner page result }
-{
-    match map.range(..owner.least(page, 0)).next_back() {
-        Some((key, _)) => {
-            if key.cmp(&owner.least(0, 0)).is_lt() {
-                return None;
-            }
-            Some(key.page())
-        }
-        None => None,
-    }
-}
-
-/// Removes the covered entries of `owner` that begin at `start` and have at least this span. Returns the last
-/// page before `start` at which an entry of `owner` begins. An entry of `owner` begins at page `last`.
-fn sweep_start(
-    map: &mut BTreeMap<Rank, Entry>,
-    owner: Owner,
-    start: u64,
-    span: u8,
-    last: u64,
-    command: &Command,
-) -> Option<u64>
-    requires keeping { IsKeeping ⟦<Rank as Ord>⟧.cmp map.old }
-    requires few { start < 2 ^ 64 - 1 }
-    ensures pruned { IsPruned ⟦<Rank as Ord>⟧.cmp (covers_key command.now) map.old map.new }
-    ensures clean { (q : Key) → covers_key command.now q ≡ true → owner_of q ≡ Some owner → page_of q ≡ start → span ≤ span_of q → tree.get ⟦<Rank as Ord>⟧.cmp map.new q ≡ None }
-    ensures before { IsLastPage ⟦<Rank as Ord>⟧.cmp map.new owner start result }
-{
-    if last != start {
-        let found = last_page_before(map, owner, start + 1);
-        if found != Some(start) {
-            return found;
-        }
-    }
-    remove_covered(
-        map,
-        owner.least(start, span),
-        owner.least(start + 1, 0),
-        command,
-    );
-    last_page_before(map, owner, start)
-}
-
 /// Removes the covered entries that begin before `page`, for a command that covers only blocks of `owner`
-/// that end past `page`.
+/// that end past `page`. What is covered and begins before the page also begins before page `bound`.
 ///
 /// A block begins at a multiple of its length, so one that begins before the page and holds it begins at the
 /// page rounded down to a power of two, its length. These starts fall as the powers rise. A start is skipped
-/// if no block of that length was put in, or if the owner's next entry is further down.
+/// if no block of that length was put in, or if it isn't before the bound.
 fn sweep_before(
     map: &mut BTreeMap<Rank, Entry>,
     spans: &Spans,
     owner: Owner,
     page: u64,
-    last_before: Option<u64>,
+    bound: u64,
     command: &Command,
 )
     requires keeping { IsKeeping ⟦<Rank as Ord>⟧.cmp map.old }
     requires spans { AreSpansOf spans.now ⟦<Rank as Ord>⟧.cmp map.old }
-    requires last_before { IsLastPage ⟦<Rank as Ord>⟧.cmp map.old owner page last_before }
+    requires bound { (q : Key) → covers_key command.now q ≡ true → page_of q < page → bound ≤ page_of q → tree.get ⟦<Rank as Ord>⟧.cmp map.old q ≡ None }
     requires reach { (q : Key) → covers_key command.now q ≡ true → (owner_of q ≡ Some owner) × (page < page_of q + 2 ^ span_of q) }
     ensures pruned { IsPruned ⟦<Rank as Ord>⟧.cmp (covers_key command.now) map.old map.new }
     ensures clean { (q : Key) → covers_key command.now q ≡ true → page_of q < page → tree.get ⟦<Rank as Ord>⟧.cmp map.new q ≡ None }
 {
-    let mut before = last_before;
+    let mut bound = bound;
     for span in 0..spans.end() {
-        let Some(last) = before else {
-            return;
-        };
         if !spans.has(span) {
             continue;
         }
         let start = block_start(page, span);
-        if start <= last {
-            before = sweep_start(map, owner, start, span, last, command);
+        if start < bound {
+            bound = sweep_back(map, owner, page, start + 1, command);
         }
     }
-}
-
-/// Removes the covered entries that begin in `run`, and returns the last page before it at which an entry of
-/// `owner` begins.
-///
-/// If no entry begins in the run, which is the usual case, one look-up from its end finds that page.
-fn sweep_within(
-    map: &mut BTreeMap<Rank, Entry>,
-    owner: Owner,
-    run: PageRun,
-    command: &Command,
-) -> Option<u64>
-    requires keeping { IsKeeping ⟦<Rank as Ord>⟧.cmp map.old }
-    requires reach { (q : Key) → covers_key command.now q ≡ true → owner_of q ≡ Some owner }
-    ensures pruned { IsPruned ⟦<Rank as Ord>⟧.cmp (covers_key command.now) map.old map.new }
-    ensures clean { (q : Key) → covers_key command.now q ≡ true → run.first ≤ page_of q → page_of q < run.end → tree.get ⟦<Rank as Ord>⟧.cmp map.new q ≡ None }
-    ensures before { IsLastPage ⟦<Rank as Ord>⟧.cmp map.new owner run.first result }
-{
-    // An empty run may end before it begins.
-    let end = run.end.max(run.first);
-    let Some(last) = last_page_before(map, owner, end) else {
-        return None;
-    };
-    if last < run.first {
-        return Some(last);
-    }
-    remove_covered(map, owner.least(run.first, 0), owner.least(end, 0), command);
-    last_page_before(map, owner, run.first)
 }
 
 /// Removes what `command` covers, which must be blocks of `owner` that meet `run`.
@@ -191,8 +115,8 @@ fn sweep_run(
     requires reach { (q : Key) → covers_key command.now q ≡ true → (owner_of q ≡ Some owner) × (run.first < page_of q + 2 ^ span_of q) × (page_of q < run.end) }
     ensures after { IsWithout ⟦<Rank as Ord>⟧.cmp (covers_key command.now) map.old map.new }
 {
-    let before = sweep_within(map, owner, run, command);
-    sweep_before(map, spans, owner, run.first, before, command);
+    let bound = sweep_back(map, owner, run.first, run.end, command);
+    sweep_before(map, spans, owner, run.first, bound, command);
 }
 
 /// Removes what `command` covers, which must be blocks of `owner` that meet the command's run.

@@ -1,9 +1,9 @@
 //! Keys as numbers, by which the map orders them.
-ghost use Rattle.std.specs.Prelude.{◌≡◌, ◌<◌, ◌^◌, refl};
+ghost use Rattle.std.specs.Prelude.{◌≡◌, ◌<◌, ◌≤◌, ◌+◌, ◌^◌, refl};
 ghost use Rattle.std.specs.Ordering.{eq_by_cmp, as_partial_cmp};
 ghost use Rattle.std.specs.Cmp.{eq_by_cmp_equiv, partial_equiv_from_equiv, partial_order_from_agreeing_total};
 ghost use Rattle.caches.specs.contracts.key.KeyOrd.TheImpl.Laws as key_laws;
-ghost use Rattle.caches.specs.Keys.{key_of, page_of};
+ghost use Rattle.caches.specs.Keys.{key_of, page_of, span_of};
 ghost use Rattle.caches.specs.Ranks.{part_of};
 
 use crate::key::Key;
@@ -109,5 +109,15 @@ impl Rank {
         ensures { result ≡ page_of self.now }
     {
         (self.number / PARTS / SPANS % PAGES) as u64
+    }
+
+    /// Returns the first page behind its block, or 1 if it has none.
+    pub(crate) fn block_end(&self) -> u64
+        requires span { span_of self.now ≤ 52 }
+        requires page { page_of self.now < 2 ^ 52 }
+        ensures { result ≡ page_of self.now + 2 ^ span_of self.now }
+    {
+        let span = (self.number / PARTS % SPANS) as u8;
+        self.page() + (1 << span)
     }
 }
