@@ -38,7 +38,9 @@ pub fn decode(raw: Raw) -> Result<Command, Ill>
 }
 
 /// Reads the fields of a command with this opcode.
-#[inline]
+///
+/// Inlined so that who only asks whether words are legal builds no command.
+#[inline(always)]
 fn command_with(opcode: Opcode, raw: Raw) -> Command
     requires opcode { number_of opcode ≡ opcode_of raw }
     requires legal { first_ill raw ≡ None }
