@@ -19,7 +19,7 @@ module _ {K : Type 0} (R : K → K → Ordering) (o : IsTotalOrder R) where
   apart : (q k : K) → R k q ≡ Less → is_at (R q) k ≡ false
   apart q k l = ap is_eq (o.antisymm q k ∙ ap ordering_reverse l)
 
-  pub before_end : (q end : K) → R q end ≡ Less → not (is_le (R end q)) ≡ true
+  before_end : (q end : K) → R q end ≡ Less → not (is_le (R end q)) ≡ true
   before_end q end l = ap (λ r. not (is_le r)) (o.antisymm end q ∙ ap ordering_reverse l)
 
 -- What holds of all holds of the last, and of all before it.
@@ -71,8 +71,8 @@ module _ {K X : Type 0} (R : K → K → Ordering) (p : K → Bool) (m : BTreeMa
     }
 
     -- Nothing is left between the last entry and the end.
-    pub none_behind : (q : K) → R e.0 q ≡ Less → R q end ≡ Less → p q ≡ true → get R m q ≡ None
-    none_behind q after before passes = h.left q (before_end R o q end before) passes ∙ none_after R o t e q h.sorted after
+    pub none_between : (q : K) → R e.0 q ≡ Less → R q end ≡ Less → p q ≡ true → get R m q ≡ None
+    none_between q after before passes = h.left q (before_end R o q end before) passes ∙ none_after R o t e q h.sorted after
 
   pub none_left : IsFront R p m end [] → (q : K) → R q end ≡ Less → p q ≡ true → get R m q ≡ None
   none_left h q before passes = h.left q (before_end R o q end before) passes

@@ -19,7 +19,7 @@ use Rattle.caches.specs.Keys.{owner_of, page_of, span_of, least, IsOfStreams}
 use Rattle.caches.specs.contracts.key.KeyOrd.TheImpl as key_order
 use Rattle.caches.specs.contracts.key.KeyOrd.TheImpl.Laws as key_laws
 use Rattle.caches.specs.contracts.key.StageOrd.TheImpl as stage_order
-use Rattle.caches.proofs.Sweeping.{not_from}
+use Rattle.caches.proofs.Sweeping.{left_true, right_true, not_from}
 
 abbrev pub key_cmp : Key → Key → Ordering
 key_cmp = key_order.ghosts.cmp
@@ -123,14 +123,6 @@ between : (a b : Bool) → a ≡ true → b ≡ false → (a && not b) ≡ true
 between true b p q = ap not q
 between false b p q = cc
 
-first_true : (a b : Bool) → (a && b) ≡ true → a ≡ true
-first_true true b e = refl
-first_true false b e = e
-
-second_true : (a b : Bool) → (a && b) ≡ true → b ≡ true
-second_true true b e = e
-second_true false b e = cc
-
 pub le_itself : (k : Key) → is_le (key_cmp k k) ≡ true
 le_itself k = ap is_le (tied_itself key_total k)
 
@@ -143,26 +135,23 @@ low_stage Two = refl
 low_stage (One x) = refl
 
 -- ---- keys in a range
-in_block : (w : Owner) (first span end : ℕ) (k : Key) → owner_of k ≡ Some w → first ≤ page_of k → span ≤ span_of k → page_of k < end → range_contains key_cmp (Included (least w first span)) (Excluded (least w end 0)) k ≡ true
-in_block w first span end (Configuration s c) o a b d = cc
-in_block w first span end (Machine v p n c) o a b d =
-    let e : Guest v ≡ w = cc in
-    subst (λ w. range_contains key_cmp (Included (least w first span)) (Excluded (least w end 0)) (Machine v p n c) ≡ true) e
-    (between _ _ (le_then v v _ (omega arith) (le_then first p _ a (le_then span n _ b (low_stage c)))) (same_then v v _ refl (more_then end p _ d)))
-in_block w first span end (Hypervisor p n c) o a b d =
-    let e : Host ≡ w = cc in
-    subst (λ w. range_contains key_cmp (Included (least w first span)) (Excluded (least w end 0)) (Hypervisor p n c) ≡ true) e
-    (between _ _ (le_then first p _ a (le_then span n _ b (low c))) (more_then end p _ d))
-in_block w first span end (Endpoint v p n c) o a b d =
-    let e : Device v ≡ w = cc in
-    subst (λ w. range_contains key_cmp (Included (least w first span)) (Excluded (least w end 0)) (Endpoint v p n c) ≡ true) e
-    (between _ _ (le_then v v _ (omega arith) (le_then first p _ a (le_then span n _ b (low c)))) (same_then v v _ refl (more_then end p _ d)))
-
 pub in_pages : (w : Owner) (first end : ℕ) (k : Key) → owner_of k ≡ Some w → first ≤ page_of k → page_of k < end → range_contains key_cmp (Included (least w first 0)) (Excluded (least w end 0)) k ≡ true
-in_pages w first end k o a b = in_block w first 0 end k o a (omega arith) b
+in_pages w first end (Configuration s c) o a b = cc
+in_pages w first end (Machine v p n c) o a b =
+    let e : Guest v ≡ w = cc in
+    subst (λ w. range_contains key_cmp (Included (least w first 0)) (Excluded (least w end 0)) (Machine v p n c) ≡ true) e
+    (between _ _ (le_then v v _ (omega arith) (le_then first p _ a (le_then 0 n _ (omega arith) (low_stage c)))) (same_then v v _ refl (more_then end p _ b)))
+in_pages w first end (Hypervisor p n c) o a b =
+    let e : Host ≡ w = cc in
+    subst (λ w. range_contains key_cmp (Included (least w first 0)) (Excluded (least w end 0)) (Hypervisor p n c) ≡ true) e
+    (between _ _ (le_then first p _ a (le_then 0 n _ (omega arith) (low c))) (more_then end p _ b))
+in_pages w first end (Endpoint v p n c) o a b =
+    let e : Device v ≡ w = cc in
+    subst (λ w. range_contains key_cmp (Included (least w first 0)) (Excluded (least w end 0)) (Endpoint v p n c) ≡ true) e
+    (between _ _ (le_then v v _ (omega arith) (le_then first p _ a (le_then 0 n _ (omega arith) (low c)))) (same_then v v _ refl (more_then end p _ b)))
 
 pub up_to_page : (w : Owner) (end : ℕ) (k : Key) → owner_of k ≡ Some w → page_of k < end → range_contains key_cmp Unbounded (Excluded (least w end 0)) k ≡ true
-up_to_page w end k o b = second_true _ _ (in_pages w 0 end k o (omega arith) b)
+up_to_page w end k o b = right_true _ _ (in_pages w 0 end k o (omega arith) b)
 
 pub in_streams : (run : PageRun) (k : Key) → IsOfStreams run k → range_contains key_cmp (Included (Configuration run.first None)) (Excluded (Configuration run.end None)) k ≡ true
 in_streams run (Configuration s c) h = between _ _ (le_then run.first s _ h.0 (low c)) (more_then run.end s _ h.1)
@@ -236,7 +225,7 @@ owner_of-least (Device s) page span = refl
 
 -- No key of an owner is before its least.
 pub from_least : (w : Owner) (k : Key) → owner_of k ≡ Some w → is_le (key_cmp (least w 0 0) k) ≡ true
-from_least w k o = first_true _ _ (in_pages w 0 (page_of k + 1) k o (omega arith) (omega arith))
+from_least w k o = left_true _ _ (in_pages w 0 (page_of k + 1) k o (omega arith) (omega arith))
 
 -- ---- keys of an owner one after another
 pub at_or_after : (k q : Key) → is_lt (key_cmp k q) ≡ false → is_le (key_cmp q k) ≡ true

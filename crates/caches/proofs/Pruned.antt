@@ -13,7 +13,7 @@ use Rattle.caches.specs.declared.key.Stage.TheVariants.{Two, One}
 use Rattle.caches.specs.declared.key.Key.TheVariants.{Configuration, Machine, Hypervisor, Endpoint}
 use Rattle.caches.proofs.KeyOrder.{key_cmp}
 use Rattle.caches.specs.Sweep.{is_swept, IsPruned, IsWithout, IsKeeping}
-use Rattle.caches.proofs.Sweeping.{both_true, right_true, not_both}
+use Rattle.caches.proofs.Sweeping.{not_both}
 
 some_not_none : {X : Type 0} (o : Option X) → IsSome o → o ≡ None → ⊥
 some_not_none None s e = cc
@@ -29,13 +29,6 @@ none_of_empty t (x ∷ es) e = absurd (omega arith)
 
 module _ {K X : Type 0} (R : K → K → Ordering) (p : K → Bool) where
   module _ (lo hi : Bound K) (m n : BTreeMap K X) (after : (q : K) → get R n q ≡ cond (is_swept R p lo hi q) None (get R m q)) where
-    pub pruned_from_swept : IsPruned R p m n
-    pruned_from_swept q =
-        elim (is_swept R p lo hi q) as (λ b. is_swept R p lo hi q ≡ b → get R n q ≡ cond b None (get R m q) → (get R n q ≡ get R m q) ⊎ ((p q ≡ true) × (get R n q ≡ None))) [
-          | true ↦ λ e h. inr (right_true _ _ e, h)
-          | false ↦ λ e h. inl h
-        ] refl (after q)
-
     pub without_from_swept : ((q : K) → p q ≡ true → range_contains R lo hi q ≡ true) → IsWithout R p m n
     without_from_swept reach q =
         elim (p q) as (λ b. p q ≡ b → get R n q ≡ cond (range_contains R lo hi q && b) None (get R m q) → get R n q ≡ cond b None (get R m q)) [
@@ -53,12 +46,6 @@ module _ {K X : Type 0} (R : K → K → Ordering) (p : K → Bool) where
             | false ↦ λ is h. h ∙ elim (range_contains R lo hi q) as (λ t. cond (t && false) None (get R m q) ≡ get R m q) [ true ↦ refl | false ↦ refl ]
           ] refl (after q)
         ] refl
-
-    pub none_stays : (q : K) → get R m q ≡ None → get R n q ≡ None
-    none_stays q e = after q ∙ none_either _ _ e
-
-    pub none_comes : (q : K) → p q ≡ true → range_contains R lo hi q ≡ true → get R n q ≡ None
-    none_comes q c r = after q ∙ ap (λ b. cond b None (get R m q)) (both_true _ _ r c)
 
   -- Nothing is removed from an empty map.
   pub without_nothing : (m : BTreeMap K X) → length m.entries ≡ 0 → IsWithout R p m m

@@ -8,7 +8,7 @@ use Rattle.caches.specs.declared.tag.Entry.{Entry}
 use Rattle.caches.specs.declared.key.Key.{Key}
 use Rattle.caches.specs.declared.key.Owner.{Owner}
 use Rattle.caches.specs.declared.walk.Walked.{Walked}
-use Rattle.caches.specs.declared.walk.Walked.TheVariants.{Covered, Before}
+use Rattle.caches.specs.declared.walk.Walked.TheVariants.{Covered, NoneFrom}
 use Rattle.caches.specs.Keys.{owner_of, page_of}
 
 module _ (cmp : Key → Key → Ordering) (p : Key → Bool) (m : BTreeMap Key Entry) (end : Key) where
@@ -19,13 +19,14 @@ module _ (cmp : Key → Key → Ordering) (p : Key → Bool) (m : BTreeMap Key E
     pub there : IsSome (tree.get cmp m key)
     pub last : (q : Key) → cmp key q ≡ Less → cmp q end ≡ Less → p q ≡ true → tree.get cmp m q ≡ None
 
-  -- What passes the test and is before the end begins before the page. The page isn't past `first`, and it is 0 or
-  -- that of a block of the owner before the end.
-  pub record IsBound (owner : Owner) (first page : ℕ) : Type 0 where
-    pub bound : (q : Key) → p q ≡ true → cmp q end ≡ Less → page ≤ page_of q → tree.get cmp m q ≡ None
+  -- Nothing that passes the test and is before the end begins at the page or after it. The page isn't past `first`, and
+  -- it is 0 or that of a key of the owner before the end.
+  pub record IsNoneFrom (owner : Owner) (first page : ℕ) : Type 0 where
+    pub none : (q : Key) → p q ≡ true → cmp q end ≡ Less → page ≤ page_of q → tree.get cmp m q ≡ None
     pub low : page ≤ first
     pub begins : (page ≡ 0) ⊎ ((k : Key) × (owner_of k ≡ Some owner) × (page_of k ≡ page) × (cmp k end ≡ Less))
 
+  -- what a walk back from the end may answer
   abbrev pub IsWalked : Owner → ℕ → Walked → Type 0
   IsWalked owner first (Covered key) = IsLastKey key
-  IsWalked owner first (Before page) = IsBound owner first page
+  IsWalked owner first (NoneFrom page) = IsNoneFrom owner first page

@@ -5,9 +5,11 @@
 //! command covers it. `Covers.antt` defines which tags each command covers.
 //!
 //! All entries are in one ordered map. Its keys keep together what one command removes: by stream, by virtual
-//! machine and page, by page of the hypervisor, by endpoint and page. A command walks the ranges of keys that
-//! may hold covered entries and tests each entry it meets, so a range that is too wide only costs time.
-//! Blocks that begin before an address are found at the multiples of the lengths that were ever filled.
+//! machine and page, by page of the hypervisor, by endpoint and page. A command for streams or for all of an
+//! owner walks the range of keys that may hold covered entries. One by address walks back from its run's end as
+//! far as a block that lies wholly before the run. Blocks further down that reach into the run begin at its
+//! first page rounded down to a length that was ever filled; it walks back from each of these. Each entry is
+//! tested before it is removed, so a walk that is too long only costs time.
 #![tactic(auto)]
 
 mod caches;

@@ -1,4 +1,4 @@
-//! The ranges of keys in which a command may cover entries.
+//! Where in the map a command may cover entries.
 ghost use Rattle.std.specs.Prelude.{◌≡◌, ◌<◌, ◌≤◌, ◌+◌, ◌-◌, ◌%◌, ◌^◌, Some, None, true};
 ghost use Rattle.std.specs.BTreeMap as tree;
 ghost use Rattle.cmdcodec.specs.PageRuns.{run_of};
@@ -69,35 +69,38 @@ fn block_start(page: u64, span: u8) -> u64
     page - page % (1 << span)
 }
 
-/// Removes the covered entries that begin before `page`, for a command that covers only blocks of `owner`
-/// that end past `page`. What is covered and begins before the page also begins before page `bound`.
+/// Removes the covered entries that begin before page `first`, for a command that covers only blocks of `owner`
+/// that end past it. Those that are there also begin before page `bound`.
 ///
-/// A block begins at a multiple of its length, so one that begins before the page and holds it begins at the
+/// A block begins at a multiple of its length, so one that begins before a page and holds it begins at the
 /// page rounded down to a power of two, its length. These starts fall as the powers rise. A start is skipped
 /// if no block of that length was put in, or if it isn't before the bound.
 fn sweep_before(
     map: &mut BTreeMap<Rank, Entry>,
     spans: &Spans,
     owner: Owner,
-    page: u64,
+    first: u64,
     bound: u64,
     command: &Command,
 )
     requires keeping { IsKeeping ⟦<Rank as Ord>⟧.cmp map.old }
     requires spans { AreSpansOf spans.now ⟦<Rank as Ord>⟧.cmp map.old }
-    requires bound { (q : Key) → covers_key command.now q ≡ true → page_of q < page → bound ≤ page_of q → tree.get ⟦<Rank as Ord>⟧.cmp map.old q ≡ None }
-    requires reach { (q : Key) → covers_key command.now q ≡ true → (owner_of q ≡ Some owner) × (page < page_of q + 2 ^ span_of q) }
+    requires bound { (q : Key) → covers_key command.now q ≡ true → page_of q < first → bound ≤ page_of q → tree.get ⟦<Rank as Ord>⟧.cmp map.old q ≡ None }
+    requires reach { (q : Key) → covers_key command.now q ≡ true → (owner_of q ≡ Some owner) × (first < page_of q + 2 ^ span_of q) }
     ensures pruned { IsPruned ⟦<Rank as Ord>⟧.cmp (covers_key command.now) map.old map.new }
-    ensures clean { (q : Key) → covers_key command.now q ≡ true → page_of q < page → tree.get ⟦<Rank as Ord>⟧.cmp map.new q ≡ None }
+    ensures clean { (q : Key) → covers_key command.now q ≡ true → page_of q < first → tree.get ⟦<Rank as Ord>⟧.cmp map.new q ≡ None }
 {
     let mut bound = bound;
     for span in 0..spans.end() {
+        if bound == 0 {
+            return;
+        }
         if !spans.has(span) {
             continue;
         }
-        let start = block_start(page, span);
+        let start = block_start(first, span);
         if start < bound {
-            bound = sweep_back(map, owner, page, start + 1, command);
+            bound = sweep_back(map, owner, first, start + 1, command);
         }
     }
 }

@@ -111,7 +111,7 @@ impl Rank {
         (self.number / PARTS / SPANS % PAGES) as u64
     }
 
-    /// Returns the first page behind its block, or 1 if it has none.
+    /// Returns the first page past its block, below 2^53, or 1 if it has none.
     pub(crate) fn block_end(&self) -> u64
         requires span { span_of self.now ≤ 52 }
         requires page { page_of self.now < 2 ^ 52 }

@@ -51,7 +51,7 @@ fn next_covered(
 
 /// Removes the covered entries with keys from `first` up to, but not including, `end`. Takes no memory.
 ///
-/// After each it searches the rest of the range, unless that is empty: most commands cover a single entry.
+/// After each it searches the rest of the range, unless that is empty.
 pub(crate) fn remove_covered(
     map: &mut BTreeMap<Rank, Entry>,
     first: Rank,

@@ -13,17 +13,20 @@ use crate::tag::Entry;
 use cmdcodec::Command;
 use std::collections::BTreeMap;
 
-/// What a walk back along the blocks of an owner comes to.
+/// What a walk back finds among an owner's blocks before its end.
 #[derive(Clone, Copy)]
 enum Walked {
-    /// The last block that is covered.
+    /// The last covered block.
     Covered(Rank),
-    /// None, unless it begins before this page.
-    Before(u64),
+    /// No covered block begins at this page or after it.
+    NoneFrom(u64),
 }
 
-/// Walks back along the blocks of `owner` with keys below `end`, as far as the first that ends at page `first` or
-/// before it. The command must cover only blocks of `owner` that end past that page.
+/// Finds the last covered block of `owner` with a key below `end`, by a walk back along the map. The command must cover
+/// only blocks of `owner` that end past page `first`.
+///
+/// It stops at a block that lies wholly before that page: few others further down reach it, and `sweep_before` knows
+/// where they begin.
 fn last_covered(
     map: &BTreeMap<Rank, Entry>,
     owner: Owner,
@@ -40,20 +43,23 @@ fn last_covered(
     let mut entries = map.range(..end);
     while let Some((key, entry)) = entries.next_back() {
         if key.cmp(&least).is_lt() {
-            return Walked::Before(0);
+            return Walked::NoneFrom(0);
         }
         if key.block_end() <= first {
-            return Walked::Before(key.page());
+            return Walked::NoneFrom(key.page());
         }
         if covers(command, &entry.tag) {
             return Walked::Covered(*key);
         }
     }
-    Walked::Before(0)
+    Walked::NoneFrom(0)
 }
 
-/// Removes covered blocks of `owner` that begin before page `end`, for a command that covers only blocks of `owner`
-/// that end past page `first`. Returns a page: what is covered and still there begins before it, or not before `end`.
+/// Removes the covered blocks of `owner` that begin before page `end`, as far down as a block that lies wholly before
+/// page `first`. The command must cover only blocks of `owner` that end past page `first`. Takes no memory.
+///
+/// Returns a page, at most `first`, and below `end` unless that is 0: no covered block that begins from it up to `end`
+/// is left.
 pub(crate) fn sweep_back(
     map: &mut BTreeMap<Rank, Entry>,
     owner: Owner,
@@ -68,14 +74,14 @@ pub(crate) fn sweep_back(
     ensures low { result ≤ first }
     ensures under { 0 < end → result < end }
 {
-    let mut bound = owner.least(end, 0);
+    let mut upper = owner.least(end, 0);
     loop {
-        match last_covered(map, owner, first, bound, command) {
+        match last_covered(map, owner, first, upper, command) {
             Walked::Covered(key) => {
                 map.remove(&key);
-                bound = key;
+                upper = key;
             }
-            Walked::Before(page) => return page,
+            Walked::NoneFrom(page) => return page,
         }
     }
 }

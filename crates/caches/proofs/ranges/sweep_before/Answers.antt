@@ -17,7 +17,7 @@ pub loop-span-preserved : goal.loop-span-preserved
 loop-span-preserved c =
     let p = covers_key c.args.command.now in
     let w = c.args.owner in
-    let page = c.args.page in
+    let first = c.args.first in
     let old = c.args.map.now in
     let m = c.loop-span.map in
     let start = c.block_start-start.result in
@@ -28,21 +28,21 @@ loop-span-preserved c =
           let pruned : IsPruned key_cmp p old n = pruned_trans key_cmp p old m n c.loop-span.invariant.pruned b.sweep_back-bound.ensures.pruned in
           let keeping : IsKeeping key_cmp n = keeping_pruned p old n pruned c.requires.keeping in
           let under : b.sweep_back-bound.result < start + 1 = b.sweep_back-bound.ensures.under (omega arith) in
-          let below : AreBelow p w page n start = below_start p w page c.requires.reach c.loop-span.span start c.block_start-start.ensures m n keeping c.loop-span.invariant.gone b.sweep_back-bound.ensures.pruned
+          let below : AreBelow p w first n start = below_start p w first c.requires.reach c.loop-span.span start c.block_start-start.ensures m n keeping c.loop-span.invariant.gone b.sweep_back-bound.ensures.pruned
           (λ q covered own at more. b.sweep_back-bound.ensures.clean q covered (omega (arith, at)) (omega (arith, at, under))) in
           rw (b.map-is, b.bound-is) (record {
             pruned = pruned;
-            gone = gone_below p w page c.requires.reach c.loop-span.span start c.block_start-start.ensures n keeping below;
-            few = omega (arith, b.sweep_back-bound.ensures.low, c.ranges.page.fits);
-            below = below_bound p w page n start b.sweep_back-bound.result below (λ q covered before from. b.sweep_back-bound.ensures.clean q covered (omega (arith, before)) from);
+            gone = gone_below p w first c.requires.reach c.loop-span.span start c.block_start-start.ensures n keeping below;
+            few = omega (arith, b.sweep_back-bound.ensures.low, c.ranges.first.fits);
+            below = below_bound p w first n start b.sweep_back-bound.result below (λ q covered before from. b.sweep_back-bound.ensures.clean q covered (omega (arith, before)) from);
           })
       | else-start-bound b ↦
-          let below : AreBelow p w page m start = λ q e covered before there.
+          let below : AreBelow p w first m start = λ q e covered before there.
           let h : page_of q < c.loop-span.bound = c.loop-span.invariant.below q e covered before there in
           omega (arith, b.if-start-bound.false) in
           rw (b.map-is, b.bound-is) (record {
             pruned = c.loop-span.invariant.pruned;
-            gone = gone_below p w page c.requires.reach c.loop-span.span start c.block_start-start.ensures m kept below;
+            gone = gone_below p w first c.requires.reach c.loop-span.span start c.block_start-start.ensures m kept below;
             few = c.loop-span.invariant.few;
             below = c.loop-span.invariant.below;
           })

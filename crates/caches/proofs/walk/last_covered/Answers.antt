@@ -13,8 +13,8 @@ use Rattle.caches.specs.Blocks.{IsBlock}
 use Rattle.caches.specs.Covers.{covers}
 use Rattle.caches.specs.Keys.{covers_key, least, owner_of, page_of, span_of, tag_of, IsKept}
 use Rattle.caches.specs.Sweep.{IsKeeping}
-use Rattle.caches.specs.Walks.{IsBound, IsLastKey}
-use Rattle.caches.proofs.Back.{IsFront, last_entry, front_more, none_behind, none_left}
+use Rattle.caches.specs.Walks.{IsNoneFrom, IsLastKey}
+use Rattle.caches.proofs.Back.{IsFront, last_entry, front_more, none_between, none_left}
 use Rattle.caches.proofs.KeyOrder.{key_cmp, key_total, key_exact, before_page, block_order, from_least, less_at_most, own_between}
 use Rattle.caches.proofs.Pruned.{aligned_key, page_back}
 use Rattle.caches.proofs.Rest.{rest_start}
@@ -30,9 +30,9 @@ longer n m h = elim (cases_lt n m) as (λ _. n < m) [
 
 module _ (command : Command) (m : BTreeMap Key Entry) (end : Key) (w : Owner) (first : ℕ) (keeping : IsKeeping key_cmp m) (own : owner_of end ≡ Some w)
     (reach : (q : Key) → covers_key command q ≡ true → (owner_of q ≡ Some w) × (first < page_of q + 2 ^ span_of q)) where
-  all_looked_at : IsFront key_cmp (covers_key command) m end [] → IsBound key_cmp (covers_key command) m end w first 0
+  all_looked_at : IsFront key_cmp (covers_key command) m end [] → IsNoneFrom key_cmp (covers_key command) m end w first 0
   all_looked_at front = record {
-    bound = λ q passes before low. none_left key_cmp (covers_key command) m end key_total key_exact front q before passes;
+    none = λ q passes before low. none_left key_cmp (covers_key command) m end key_total key_exact front q before passes;
     low = omega arith;
     begins = inl refl;
   }
@@ -54,20 +54,20 @@ module _ (command : Command) (m : BTreeMap Key Entry) (end : Key) (w : Owner) (f
     is_covered = sym (ap (covers command) kept.own)
 
     behind : (q : Key) → key_cmp k q ≡ Less → key_cmp q end ≡ Less → covers_key command q ≡ true → get key_cmp m q ≡ None
-    behind q = none_behind key_cmp (covers_key command) m end key_total key_exact t (k, e) here q
+    behind q = none_between key_cmp (covers_key command) m end key_total key_exact t (k, e) here q
 
-    of_other : is_lt (key_cmp k (least w 0 0)) ≡ true → IsBound key_cmp (covers_key command) m end w first 0
+    of_other : is_lt (key_cmp k (least w 0 0)) ≡ true → IsNoneFrom key_cmp (covers_key command) m end w first 0
     of_other below = record {
-      bound = λ q passes earlier low. behind q (less_at_most k (least w 0 0) q (lt_is _ below) (from_least w q (reach q passes).0)) earlier passes;
+      none = λ q passes earlier low. behind q (less_at_most k (least w 0 0) q (lt_is _ below) (from_least w q (reach q passes).0)) earlier passes;
       low = omega arith;
       begins = inl refl;
     }
 
-    ends_before : is_lt (key_cmp k (least w 0 0)) ≡ false → page_of k + 2 ^ span_of k ≤ first → IsBound key_cmp (covers_key command) m end w first (page_of k)
+    ends_before : is_lt (key_cmp k (least w 0 0)) ≡ false → page_of k + 2 ^ span_of k ≤ first → IsNoneFrom key_cmp (covers_key command) m end w first (page_of k)
     ends_before from ends =
         let last : owner_of k ≡ Some w = (own_between w (page_of end + 1) k (key_total.trans k end (least w (page_of end + 1) 0) before (before_page w (page_of end + 1) end own (omega arith))) from).0 in
         record {
-          bound = λ q passes earlier low. behind q (block_order w k q last (reach q passes).0 low (λ same.
+          none = λ q passes earlier low. behind q (block_order w k q last (reach q passes).0 low (λ same.
               let past : first < page_of q + 2 ^ span_of q = (reach q passes).1 in
               longer (span_of k) (span_of q) (omega arith))) earlier passes;
           low = omega arith;

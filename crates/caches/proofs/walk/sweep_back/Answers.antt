@@ -51,25 +51,25 @@ loop-key-preserved c =
     let k = c.in-Covered.key in
     let end = least c.args.owner c.args.end 0 in
     record {
-      pruned = pruned_trans key_cmp p c.args.map.now m n c.loop-key.invariant.pruned (without_last p m n c.loop-key.bound k c.in-Covered.ensures c.remove.ensures.updates.0);
-      clean = clean_from p m n c.loop-key.bound k c.in-Covered.ensures c.remove.ensures.updates.0 end c.loop-key.invariant.clean;
+      pruned = pruned_trans key_cmp p c.args.map.now m n c.loop-key.invariant.pruned (without_last p m n c.loop-key.upper k c.in-Covered.ensures c.remove.ensures.updates.0);
+      clean = clean_from p m n c.loop-key.upper k c.in-Covered.ensures c.remove.ensures.updates.0 end c.loop-key.invariant.clean;
       own = (c.requires.reach k c.in-Covered.ensures.passes).0;
-      within = le_of_less _ (less_at_most k c.loop-key.bound end c.in-Covered.ensures.before c.loop-key.invariant.within);
+      within = le_of_less _ (less_at_most k c.loop-key.upper end c.in-Covered.ensures.before c.loop-key.invariant.within);
     }
 
-pub returns-in-Before-clause-clean : goal.returns-in-Before-clause-clean
-returns-in-Before-clause-clean c = λ q passes before from.
-    by_bound q c.loop-key.bound (get key_cmp c.loop-key.map q ≡ None)
-    (λ less. c.in-Before.ensures.bound q passes less from)
+pub returns-in-NoneFrom-clause-clean : goal.returns-in-NoneFrom-clause-clean
+returns-in-NoneFrom-clause-clean c = λ q passes before from.
+    by_bound q c.loop-key.upper (get key_cmp c.loop-key.map q ≡ None)
+    (λ less. c.in-NoneFrom.ensures.none q passes less from)
     (c.loop-key.invariant.clean q passes (before_page c.args.owner c.args.end q (c.requires.reach q passes).0 before))
 
-pub returns-in-Before-clause-under : goal.returns-in-Before-clause-under
-returns-in-Before-clause-under c = λ some.
-    elim c.in-Before.ensures.begins as (λ _. c.in-Before.page < c.args.end) [
+pub returns-in-NoneFrom-clause-under : goal.returns-in-NoneFrom-clause-under
+returns-in-NoneFrom-clause-under c = λ some.
+    elim c.in-NoneFrom.ensures.begins as (λ _. c.in-NoneFrom.page < c.args.end) [
       | inl none ↦ omega (arith, none)
       | inr begins ↦
           let end = least c.args.owner c.args.end 0 in
-          let less = less_at_most begins.0 c.loop-key.bound end begins.3 c.loop-key.invariant.within in
+          let less = less_at_most begins.0 c.loop-key.upper end begins.3 c.loop-key.invariant.within in
           let at : page_of begins.0 < c.args.end = (stands_before c.args.owner c.args.end begins.0 begins.0 begins.1 (le_itself begins.0) (not_after begins.0 end less)).2 in
           omega (arith, begins.2)
     ]
