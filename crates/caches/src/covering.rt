@@ -183,6 +183,9 @@ fn covers_atc(command: &Command, sid: Sid, ssid: Option<Ssid>, page: Page, span:
 }
 
 /// Whether `command` covers `tag`.
+///
+/// Inlined into both walks, since each asks it of every entry that it meets.
+#[inline(always)]
 pub(crate) fn covers(command: &Command, tag: &Tag) -> bool
     requires { IsBlock tag.now }
     ensures { result ≡ covers command.now tag.now }

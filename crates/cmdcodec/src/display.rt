@@ -8,6 +8,7 @@ mod parts;
 mod translations;
 
 use crate::command::Command;
+use parts::{leaf_text, own_sync_text};
 use std::alloc::{AllocError, Global};
 use std::fmt;
 use translations::{write_by_address, write_translations};
@@ -47,16 +48,17 @@ fn write_configuration<W: fmt::Write>(command: &Command, f: &mut fmt::Formatter<
 {
     match *command {
         Command::CfgiSte { sid, leaf } => {
-            let (sid, leaf) = (sid.get(), u8::from(leaf));
-            write!(f, "CFGI_STE sid={sid} leaf={leaf}")
+            write!(f, "CFGI_STE sid={}", sid.get())?;
+            f.write_str(leaf_text(leaf))
         }
         Command::CfgiSteRange { sid, range } => {
             let (sid, range) = (sid.get(), range.get());
             write!(f, "CFGI_STE_RANGE sid={sid} range={range}")
         }
         Command::CfgiCd { sid, ssid, leaf } => {
-            let (sid, ssid, leaf) = (sid.get(), ssid.get(), u8::from(leaf));
-            write!(f, "CFGI_CD sid={sid} ssid={ssid} leaf={leaf}")
+            let (sid, ssid) = (sid.get(), ssid.get());
+            write!(f, "CFGI_CD sid={sid} ssid={ssid}")?;
+            f.write_str(leaf_text(leaf))
         }
         Command::CfgiCdAll { sid } => write!(f, "CFGI_CD_ALL sid={}", sid.get()),
         _ => unreachable!(),
@@ -101,9 +103,11 @@ fn write_sync<W: fmt::Write>(command: &Command, f: &mut fmt::Formatter<W>) -> fm
         unreachable!()
     };
     let (cs, msh, attr) = (cs.get(), msh.get(), attr.get());
+    if (cs, msh, attr) == (1, 0, 0) {
+        f.write_str(own_sync_text())?;
+    } else {
+        write!(f, "CMD_SYNC cs={cs} msh={msh} attr={attr}")?;
+    }
     let address = address.get() * 4;
-    write!(
-        f,
-        "CMD_SYNC cs={cs} msh={msh} attr={attr} data={data} addr=0x{address:x}"
-    )
+    write!(f, " data={data} addr=0x{address:x}")
 }

@@ -1,5 +1,6 @@
 //! Parts that several commands' texts share.
-ghost use Rattle.std.specs.Prelude.{Some};
+ghost use Rattle.std.specs.Prelude.{◌≡◌, ◌++◌, Some, codes, decimal};
+ghost use Rattle.cmdcodec.specs.Fields.{bit};
 ghost use Rattle.cmdcodec.specs.Text.{kept_text, reach_text, pages_text};
 
 use crate::by_address::ByAddress;
@@ -44,7 +45,22 @@ impl fmt::Display for ByAddress {
     ghost output = { λ pages. Some (pages_text pages) };
 
     fn fmt<W: fmt::Write>(&self, f: &mut fmt::Formatter<W>) -> fmt::Result {
-        let (leaf, address, reach) = (u8::from(self.leaf), self.page.get() * 4096, self.reach);
-        write!(f, " leaf={leaf} addr=0x{address:x}{reach}")
+        let (address, reach) = (self.page.get() * 4096, self.reach);
+        f.write_str(leaf_text(self.leaf))?;
+        write!(f, " addr=0x{address:x}{reach}")
     }
+}
+
+/// The text of a Leaf bit, in one piece: a number by itself takes longer than the whole.
+pub(super) fn leaf_text(leaf: bool) -> &'static str
+    ensures { result.now ≡ codes " leaf=" ++ decimal (bit leaf) }
+{
+    if leaf { " leaf=1" } else { " leaf=0" }
+}
+
+/// The beginning of the text of the CMD_SYNC that ends a batch of ours, in one piece.
+pub(super) fn own_sync_text() -> &'static str
+    ensures { result.now ≡ codes "CMD_SYNC cs=" ++ decimal 1 ++ codes " msh=" ++ decimal 0 ++ codes " attr=" ++ decimal 0 }
+{
+    "CMD_SYNC cs=1 msh=0 attr=0"
 }

@@ -1,5 +1,5 @@
 //! The answers to the lines of the unit.
-ghost use Rattle.std.specs.Prelude.{◌≡◌, ◌++◌, OnOk, flat_map, string_bytes};
+ghost use Rattle.std.specs.Prelude.{◌≡◌, ◌++◌, OnOk, flat_map, string_bytes, codes, decimal};
 ghost use Rattle.replay.specs.texts.Entries.{entry_line};
 ghost use Rattle.replay.specs.texts.UnitLines.{step_text, acknowledged_text, register_line, errors_line, registers_text, totals_line, dump_text};
 
@@ -9,6 +9,13 @@ use engine::{Counts, Registers, StepAnswer};
 use std::alloc::AllocError;
 use std::fmt::Write;
 
+/// The end of the answer for a command that removed nothing, in one piece: most remove nothing.
+fn none_removed_text() -> &'static str
+    ensures { result.now ≡ codes " removed=" ++ decimal 0 ++ codes "\n" }
+{
+    " removed=0\n"
+}
+
 /// Appends what a step did.
 pub(crate) fn say_step(answer: &StepAnswer, reply: &mut String) -> Result<(), AllocError>
     ensures { OnOk result (string_bytes reply.new ≡ string_bytes reply.old ++ step_text answer.now) }
@@ -17,6 +24,13 @@ pub(crate) fn say_step(answer: &StepAnswer, reply: &mut String) -> Result<(), Al
         StepAnswer::Empty => reply.push_str("empty\n"),
         StepAnswer::Drained => reply.push_str("drained\n"),
         StepAnswer::Unwritten => reply.push_str("unwritten\n"),
+        StepAnswer::Applied {
+            command,
+            removed: 0,
+        } => {
+            write!(reply, "applied {command}")?;
+            reply.push_str(none_removed_text())
+        }
         StepAnswer::Applied { command, removed } => {
             write!(reply, "applied {command} removed={removed}\n")
         }
