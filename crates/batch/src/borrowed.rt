@@ -12,7 +12,7 @@ use std::marker::Model;
 
 /// A batch whose commands stay with their owner, such as in an array: 1 to 63, legal or not, none of them a
 /// CMD_SYNC (own). It copies no command.
-#[derive(Drop)]
+#[derive(Debug, Drop)]
 pub struct BorrowedBatch<'b> {
     pub(crate) commands: &'b [Raw],
 }

@@ -17,7 +17,7 @@ const ALL_PAGES: u64 = 52;
 
 impl Raw {
     /// Returns the opcode, or `None` if it isn't in the profile.
-    #[inline]
+    #[inline(always)]
     pub fn opcode(self) -> Option<Opcode>
         ensures named { result ≡ opcode_named (opcode_of self) }
         ensures number { IfSome result (λ opcode. number_of opcode ≡ opcode_of self) }

@@ -53,7 +53,9 @@ pub enum Opcode {
 
 impl Opcode {
     /// Returns the opcode with this number, or `None` if it isn't in the profile.
-    #[inline]
+    ///
+    /// Inlined so that `decode` goes straight from the number to what the opcode asks for.
+    #[inline(always)]
     #[tactic(auto, unfolding(crate::specs::Opcodes::opcode_named))]
     pub fn new(number: u64) -> Option<Opcode>
         ensures named { result ≡ opcode_named number }
