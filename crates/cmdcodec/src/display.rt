@@ -103,6 +103,7 @@ fn write_sync<W: fmt::Write>(command: &Command, f: &mut fmt::Formatter<W>) -> fm
         unreachable!()
     };
     let (cs, msh, attr) = (cs.get(), msh.get(), attr.get());
+    // The fields that `closing_sync` sets.
     if (cs, msh, attr) == (1, 0, 0) {
         f.write_str(own_sync_text())?;
     } else {

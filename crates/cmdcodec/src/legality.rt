@@ -40,10 +40,10 @@ fn is_secure(raw: Raw) -> bool
     field(raw.lo, 10, 10) == 1
 }
 
-/// Returns the first fault of the words, if any.
+/// Returns the first fault of the words, if any, without decoding them: the one that `decode` returns.
 #[inline]
 #[tactic(auto, unfolding(crate::specs::Opcodes::opcode_named))]
-pub(crate) fn first_ill(raw: Raw) -> Option<Ill>
+pub fn first_ill(raw: Raw) -> Option<Ill>
     ensures { result ≡ first_ill raw }
 {
     let Some(opcode) = raw.opcode() else {

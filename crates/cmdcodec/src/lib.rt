@@ -31,6 +31,7 @@ pub use fields::{
 pub use ill::Ill;
 pub use kept::KeptRaw;
 pub use laws::{free_bits_are_ignored, legal_words_spell_one_command, runs_are_of_whole_granules};
+pub use legality::first_ill;
 pub use limits::{MOST_BATCH_COMMANDS, MOST_BATCHES, MOST_BODY_COMMANDS};
 pub use opcode::Opcode;
 pub use raw::{Raw, RawList, from_bytes, to_bytes};

@@ -54,7 +54,7 @@ pub enum Opcode {
 impl Opcode {
     /// Returns the opcode with this number, or `None` if it isn't in the profile.
     ///
-    /// Inlined so that `decode` goes straight from the number to what the opcode asks for.
+    /// Inlined since each command that is decoded would make the call.
     #[inline(always)]
     #[tactic(auto, unfolding(crate::specs::Opcodes::opcode_named))]
     pub fn new(number: u64) -> Option<Opcode>

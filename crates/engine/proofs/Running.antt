@@ -1,20 +1,28 @@
 -- What commands leave that are applied one after another.
-use Rattle.std.proofs.Common.{◌≡◌, ◌+◌, ◌≤◌, ℕ, zero, suc, List, [], ◌∷◌, ◌++◌, length, Option, Some, None, IsSome, refl, sym, ap, subst, ◌∙◌, arith, length-append}
+use Rattle.std.proofs.Common.{◌≡◌, ◌+◌, ◌≤◌, ℕ, zero, suc, Bool, true, false, cond, List, [], ◌∷◌, ◌++◌, length, Option, Some, None, IsSome, refl, sym, ap, subst, ◌∙◌, arith, length-append}
 use Rattle.std.proofs.lemmas.List.{append_assoc}
 use Rattle.std.proofs.lemmas.Option.{slice_get_within}
 use Rattle.std.specs.Prelude.{slice_get, take, drop}
+use Rattle.std.specs.FinMap as finite
+use Rattle.std.specs.FinMap.{get-empty, empty_of_len, same_map}
 use Rattle.cmdcodec.specs.declared.raw.Raw.{Raw}
 use Rattle.cmdcodec.specs.declared.command.Command.{Command}
 use Rattle.cmdcodec.specs.Legality.{first_ill}
 use Rattle.ringcore.specs.declared.world.event.Outcome.TheVariants.{Applied, Replaced}
 use Rattle.ringcore.specs.world.World.{Taken, outcome_of}
 use Rattle.ring.specs.consumer.Completing.{with_outcome, HasOutcome}
-use Rattle.caches.specs.Held.{Entries}
+use Rattle.caches.specs.declared.tag.Entry.{Entry}
+use Rattle.caches.specs.Stored.{Stored}
+use Rattle.caches.specs.Held.{Entries, without_covered}
+use Rattle.caches.proofs.Viewed.{get_without_covered}
+use Rattle.caches.specs.Covers.{covers}
+use Rattle.caches.specs.TagOrder.{tag_cmp, tag_cmp_total, tag_cmp_exact}
 use Rattle.cmdcodec.specs.declared.ill.Ill.{Ill}
-use Rattle.engine.specs.Stops.{StopValue}
+use Rattle.engine.specs.declared.stop.Mode.TheVariants.{Running}
+use Rattle.engine.specs.Stops.{StopValue, gone_on}
 use Rattle.engine.specs.Settled.{IsSettled}
-use Rattle.engine.specs.Counting.{taken}
-use Rattle.engine.specs.Units.{UnitValue, IsApplied, AreApplied, StaysSettled}
+use Rattle.engine.specs.Counting.{taken, counted_applied}
+use Rattle.engine.specs.Units.{UnitValue, IsLegal, IsApplied, AreApplied, StaysSettled}
 use Rattle.engine.proofs.Settlings.{settled_applied, settled_as_before}
 use Rattle.engine.proofs.Counted.{as_applied}
 use Rattle.engine.proofs.Stepping.{applied_more}
@@ -25,6 +33,29 @@ pub applied_settled : (raw : Raw) (command : Command) (removed : ℕ) (old new :
 applied_settled raw command removed old new is list many s =
     subst (λ (e : Entries). IsSettled e (list ++ with_outcome Applied raw ∷ [])) (sym is.entries)
     (settled_applied old.caches.entries list raw command Applied is.legal.alone s)
+
+-- A legal command has nothing to remove where no entry is held.
+none_covered : (command : Command) (entries : Entries) → finite.len entries ≡ 0 → entries ≡ without_covered command entries
+none_covered command entries none = subst (λ (e : Entries). e ≡ without_covered command e) (sym (empty_of_len entries none))
+    (same_map tag_cmp_total tag_cmp_exact finite.empty (without_covered command finite.empty) (λ tag.
+    get-empty {X = Entry} tag_cmp tag ∙ sym (get_without_covered command finite.empty tag ∙ neither (covers command tag) (get-empty {X = Entry} tag_cmp tag))))
+  where
+    neither : (b : Bool) {found : Option Entry} → found ≡ None → cond b None found ≡ None
+    neither true none = refl
+    neither false none = none
+
+pub applied_to_none : (raw : Raw) (command : Command) (old new : UnitValue) → IsLegal raw command → old.stop.mode ≡ Running → finite.len old.caches.entries ≡ 0
+    → new.caches ≡ old.caches → new.stop ≡ gone_on old.stop → new.counts ≡ counted_applied raw 0 old.counts → IsApplied raw command 0 old new
+applied_to_none raw command old new legal running none caches stop counts = record {
+  running = running;
+  legal = legal;
+  entries = ap (λ (s : Stored). s.entries) caches ∙ none_covered command old.caches.entries none;
+  removed_are = let same = ap (λ (s : Stored). finite.len s.entries) caches in omega (arith, same);
+  few = omega arith;
+  capacity = ap (λ (s : Stored). s.capacity) caches;
+  stop = stop;
+  counts = counts;
+}
 
 pub all_counted : (raws : List Raw) (removed : ℕ) (old new : UnitValue) → AreApplied raws removed old new → taken new.counts ≡ taken old.counts + length raws
 all_counted [] removed old new is = let e : taken new.counts ≡ taken old.counts = ap (λ (u : UnitValue). taken u.counts) is.1 in omega (arith, e)
@@ -69,10 +100,16 @@ one_more (r ∷ raws) removed old between new (u, c, first, rest, one, others, s
     (u, c, first, rest + more, one, one_more raws rest u between new others raw command more last, (let s = sum in let e : removed + more ≡ first + (rest + more) = omega (arith, s) in e))
 
 -- Once a command is taken, no words are kept.
-pub none_kept : (raws : List Raw) (removed : ℕ) (old new : UnitValue) → AreApplied raws removed old new → old.stop.next ≡ None → new.stop.next ≡ None
-none_kept [] removed old new is none = ap (λ (u : UnitValue). u.stop.next) is.1 ∙ none
-none_kept (raw ∷ raws) removed old new (between, command, first, rest, one, more, sum) none =
-    none_kept raws rest between new more (ap (λ (s : StopValue). s.next) one.stop)
+pub none_kept : (raws : List Raw) (removed : ℕ) (old new : UnitValue) → AreApplied raws removed old new → 1 ≤ length raws → new.stop.next ≡ None
+none_kept [] removed old new is some = absurd (omega (arith, some))
+none_kept (raw ∷ []) removed old new (between, command, first, rest, one, none, sum) some =
+    ap (λ (u : UnitValue). u.stop.next) none.1 ∙ ap (λ (s : StopValue). s.next) one.stop
+none_kept (raw ∷ next ∷ raws) removed old new (between, command, first, rest, one, more, sum) some = none_kept (next ∷ raws) rest between new more (omega arith)
+
+-- If none was applied, nothing changed.
+pub none_applied : (raws : List Raw) (n removed : ℕ) (old new : UnitValue) → AreApplied (take n raws) removed old new → n ≤ 0 → new ≡ old
+none_applied raws zero removed old new is none = is.1
+none_applied raws (suc n) removed old new is none = absurd (omega (arith, none))
 
 -- ---- places in lists
 
@@ -83,18 +120,6 @@ take_suc (y ∷ xs) (suc n) x at = ap (λ l. y ∷ l) (take_suc xs n x at)
 
 pub take_one_more : {A : Type 0} (xs : List A) (n : ℕ) (x : A) → slice_get xs n ≡ Some x → take (n + 1) xs ≡ take n xs ++ x ∷ []
 take_one_more xs n x at = ap (λ (k : ℕ). take k xs) (let e : n + 1 ≡ suc n = omega arith in e) ∙ take_suc xs n x at
-
--- after the first
-pub get_behind_first : {A : Type 0} (xs : List A) (n : ℕ) → slice_get xs (n + 1) ≡ slice_get (drop 1 xs) n
-get_behind_first {A} xs n = ap (slice_get xs) (let e : n + 1 ≡ suc n = omega arith in e) ∙ behind xs
-  where
-    behind : (ys : List A) → slice_get ys (suc n) ≡ slice_get (drop 1 ys) n
-    behind [] = refl
-    behind (y ∷ ys) = refl
-
-pub length_behind_first : {A : Type 0} (xs : List A) → 1 ≤ length xs → length xs ≡ length (drop 1 xs) + 1
-length_behind_first [] some = absurd (omega (arith, some))
-length_behind_first (x ∷ xs) some = let e : suc (length xs) ≡ length xs + 1 = omega arith in e
 
 -- There is none after the last.
 pub none_behind : {A P : Type 0} (xs : List A) (n : ℕ) (x : A) → n ≡ length xs → slice_get xs n ≡ Some x → P
@@ -113,17 +138,8 @@ first_and_rest (y ∷ ys) x at = let same : y ≡ x = cc in ap (λ z. z ∷ ys) 
 pub first_is : {A : Type 0} (xs rest : List A) (x y : A) → slice_get xs 0 ≡ Some x → xs ≡ y ∷ rest → x ≡ y
 first_is xs rest x y at is = let there : slice_get (y ∷ rest) 0 ≡ Some x = ap (λ l. slice_get l 0) (sym is) ∙ at in cc
 
-pub take_with_first : {A : Type 0} (xs : List A) (x : A) (n : ℕ) → slice_get xs 0 ≡ Some x → take (n + 1) xs ≡ x ∷ take n (drop 1 xs)
-take_with_first xs x n at = ap (λ (k : ℕ). take k xs) (let e : n + 1 ≡ suc n = omega arith in e) ∙ ap (take (suc n)) (first_and_rest xs x at)
-
 pub take_first : {A : Type 0} (xs : List A) (x : A) → slice_get xs 0 ≡ Some x → take 1 xs ≡ x ∷ []
 take_first xs x at = ap (take 1) (first_and_rest xs x at)
-
--- After the first, which was applied, more were.
-pub all_applied : (raws : List Raw) (raw : Raw) (command : Command) (n first more : ℕ) (old between new : UnitValue) → slice_get raws 0 ≡ Some raw
-    → IsApplied raw command first old between → AreApplied (take n (drop 1 raws)) more between new → AreApplied (take (n + 1) raws) (first + more) old new
-all_applied raws raw command n first more old between new at one others =
-    subst (λ (xs : List Raw). AreApplied xs (first + more) old new) (sym (take_with_first raws raw n at)) (between, command, first, more, one, others, refl)
 
 -- Only an illegal command is replaced.
 pub first_replaced : (raws : List Raw) (raw : Raw) (ill : Ill) → slice_get raws 0 ≡ Some raw → first_ill raw ≡ Some ill → HasOutcome Replaced (take 1 raws)

@@ -1,6 +1,9 @@
 //! The unit: the caches, and the stop at an illegal command.
-ghost use Rattle.std.specs.Prelude.{◌≡◌, ◌<◌, ◌↔◌, [], List, IfSome, OnOk, OnErr, IsTrue};
+ghost use Rattle.std.specs.Prelude.{◌≡◌, ◌<◌, ◌↔◌, [], List, None, Some, IfSome, OnOk, OnErr, IsTrue};
 ghost use Rattle.std.specs.FinMap as finite;
+ghost use Rattle.cmdcodec.specs.declared.command.Command.{Command as CommandOf};
+ghost use Rattle.cmdcodec.specs.declared.ill.Ill.{Ill as IllOf};
+ghost use Rattle.cmdcodec.specs.Legality.{first_ill};
 ghost use Rattle.ringcore.specs.Limits.{most_reserved};
 ghost use Rattle.ringcore.specs.world.World.{Taken};
 ghost use Rattle.caches.specs.Held.{held};
@@ -15,7 +18,7 @@ use crate::remedy::{AckFault, Remedy};
 use crate::stop::Stop;
 use crate::verdict::Verdict;
 use caches::{CacheFault, Caches, Entry, Tag};
-use cmdcodec::{Command, Raw, decode};
+use cmdcodec::{Command, Raw, decode, first_ill, legal_words_spell_one_command};
 use ring::Device;
 use std::marker::Model;
 
@@ -138,6 +141,36 @@ impl Unit {
         self.counts.count_applied(raw, removed);
         self.stop.go_on();
         removed
+    }
+
+    /// Applies a command if its words are legal, and returns how many entries it removed. It does nothing if
+    /// they aren't.
+    ///
+    /// Words are decoded only if an entry is held: that takes longer than all else here.
+    #[inline]
+    pub(crate) fn apply_words(&mut self, raw: Raw) -> Option<u32>
+        requires running { ¬ IsStopped self.old.stop.mode }
+        requires next { MayComeNext raw self.old.stop }
+        requires few { taken self.old.counts < most_reserved }
+        ensures applied { IfSome result (λ removed. (command : CommandOf) × IsApplied raw command removed self.old self.new) }
+        ensures illegal { result ≡ None → (ill : IllOf) × (first_ill raw ≡ Some ill) }
+        ensures kept { result ≡ None → self.new ≡ self.old }
+    {
+        if self.caches.len() > 0 {
+            let Ok(command) = decode(raw) else {
+                return None;
+            };
+            return Some(self.apply(raw, &command));
+        }
+        if first_ill(raw).is_some() {
+            return None;
+        }
+        // For its clause `one`.
+        legal_words_spell_one_command();
+        self.stop.is_replacing();
+        self.counts.count_applied(raw, 0);
+        self.stop.go_on();
+        Some(0)
     }
 
     /// Software writes SMMU_GERRORN and chooses what happens to the command at which consumption stopped.

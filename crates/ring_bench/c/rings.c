@@ -4,8 +4,10 @@
 //   linux_acq_rel  the same by acquire and release, its commands in plain words
 //   mutex          a plain ring under one pthread mutex
 //
-// Prints a line for each ring and each of 1 to 3 senders: the name of the ring, how many senders, the nanoseconds from
-// before the threads start to after all are joined, and how many commands were taken.
+// The consumer looks again at once, or waits after it took fewer commands than it may.
+//
+// Prints a line for each ring, each of 1 to 3 senders and either pace: the name of the ring, the pace, how many senders, the
+// nanoseconds from before the threads start to after all are joined, and how many commands were taken.
 #include <pthread.h>
 #include <stdatomic.h>
 #include <stdbool.h>
@@ -21,6 +23,8 @@ enum {
     FLAGS = 64,
     FLAG_WORDS = SLOTS / FLAGS,
     MOST_TAKEN = 64,
+    // How many hints to the processor a wait takes.
+    HINTS = 256,
     MOST_SENDERS = 3,
     MOST_SENT = 5,
     BATCHES = 300000,
@@ -229,6 +233,8 @@ static unsigned take_locked(void) {
 struct worker {
     const struct kind *kind;
     unsigned sender;
+    // Whether the consumer waits after it took fewer commands than it may.
+    bool waits;
     uint64_t wanted, taken;
 };
 
@@ -247,10 +253,19 @@ static void *send_all(void *argument) {
     return NULL;
 }
 
+static void let_more_come(void) {
+    for (unsigned i = 0; i < HINTS; i++)
+        __builtin_ia32_pause();
+}
+
 static void *take_all(void *argument) {
     struct worker *worker = argument;
-    while (worker->taken < worker->wanted)
-        worker->taken += worker->kind->take();
+    while (worker->taken < worker->wanted) {
+        unsigned count = worker->kind->take();
+        worker->taken += count;
+        if (worker->waits && count > 0 && count < MOST_TAKEN)
+            let_more_come();
+    }
     return NULL;
 }
 
@@ -267,13 +282,13 @@ static void start(pthread_t *thread, void *(*run)(void *), struct worker *worker
     }
 }
 
-static void time_one(const struct kind *kind, unsigned senders) {
+static void time_one(const struct kind *kind, unsigned senders, bool waits) {
     pthread_t threads[MOST_SENDERS + 1];
     struct worker workers[MOST_SENDERS + 1];
     memset(&linux_ring, 0, sizeof linux_ring);
     plain.prod = plain.cons = 0;
     for (unsigned i = 0; i <= senders; i++)
-        workers[i] = (struct worker){kind, i, (uint64_t)senders * BATCHES / 4 * FOUR_BATCHES, 0};
+        workers[i] = (struct worker){kind, i, waits, (uint64_t)senders * BATCHES / 4 * FOUR_BATCHES, 0};
 
     uint64_t before = nanoseconds();
     start(&threads[senders], take_all, &workers[senders]);
@@ -283,7 +298,7 @@ static void time_one(const struct kind *kind, unsigned senders) {
         pthread_join(threads[i], NULL);
     uint64_t after = nanoseconds();
 
-    printf("%s %u %llu %llu\n", kind->name, senders, (unsigned long long)(after - before),
+    printf("%s %s %u %llu %llu\n", kind->name, waits ? "waiting" : "at_once", senders, (unsigned long long)(after - before),
         (unsigned long long)workers[senders].taken);
 }
 
@@ -294,7 +309,9 @@ int main(void) {
         {"mutex", send_locked, take_locked},
     };
     for (unsigned i = 0; i < sizeof kinds / sizeof *kinds; i++)
-        for (unsigned senders = 1; senders <= MOST_SENDERS; senders++)
-            time_one(&kinds[i], senders);
+        for (unsigned senders = 1; senders <= MOST_SENDERS; senders++) {
+            time_one(&kinds[i], senders, false);
+            time_one(&kinds[i], senders, true);
+        }
     return 0;
 }

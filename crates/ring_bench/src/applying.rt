@@ -1,14 +1,14 @@
 //! The engine's part.
 ghost use Rattle.std.specs.Prelude.{◌≡◌};
 
-use crate::taker::{MOST_COMMANDS, Taker};
+use crate::taker::{MOST_COMMANDS, Pace, Taker};
 use engine::{Engine, RunAnswer};
 use ring::Ring;
 
 impl Taker for Engine {
     ghost ring_of = { λ e. e.consumer.ring };
 
-    fn take_all(self, ring: &Ring, wanted: u64) -> u64 {
+    fn take_all(self, ring: &Ring, wanted: u64, pace: Pace) -> u64 {
         let mut engine = self;
         let mut taken: u64 = 0;
         for _ in 0..u64::MAX {
@@ -18,6 +18,7 @@ impl Taker for Engine {
             match engine.step_run(ring, MOST_COMMANDS) {
                 RunAnswer::Applied { count, removed: _ } => {
                     taken = taken.saturating_add(u64::from(count));
+                    pace.let_more_come(count);
                 }
                 RunAnswer::Drained => return taken,
                 _ => {}

@@ -6,14 +6,14 @@ ghost use Rattle.ringcore.specs.declared.world.event.Outcome.TheVariants.{Applie
 ghost use Rattle.ring.specs.consumer.Completing.{HasOutcome};
 
 use crate::nothing::Nothing;
-use crate::taker::{MOST_COMMANDS, Taker};
-use cmdcodec::{Raw, decode};
+use crate::taker::{MOST_COMMANDS, Pace, Taker};
+use cmdcodec::{Raw, first_ill};
 use ring::{Consumer, Outcome, PendingRun, Ring, TakenRun};
 
 impl Taker for Consumer<Nothing> {
     ghost ring_of = { λ c. c.ring };
 
-    fn take_all(self, ring: &Ring, wanted: u64) -> u64 {
+    fn take_all(self, ring: &Ring, wanted: u64, pace: Pace) -> u64 {
         let mut consumer = self;
         for _ in 0..u64::MAX {
             if consumer.taken() >= wanted {
@@ -22,7 +22,12 @@ impl Taker for Consumer<Nothing> {
             consumer = match consumer.take_run(ring, MOST_COMMANDS) {
                 TakenRun::Drained(consumer) => return consumer.taken(),
                 TakenRun::Empty(consumer) | TakenRun::Unwritten(consumer) => consumer,
-                TakenRun::Ready(run) => complete(ring, run),
+                TakenRun::Ready(run) => {
+                    let count = run.len();
+                    let consumer = complete(ring, run);
+                    pace.let_more_come(count);
+                    consumer
+                }
             };
         }
         consumer.taken()
@@ -60,5 +65,5 @@ fn is_legal(raw: Raw) -> bool
     ensures legal { result ≡ true → Applied ≡ outcome_of raw }
     ensures illegal { result ≡ false → Replaced ≡ outcome_of raw }
 {
-    decode(raw).is_ok()
+    first_ill(raw).is_none()
 }

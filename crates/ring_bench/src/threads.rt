@@ -5,7 +5,7 @@ ghost use Rattle.std.specs.Thread.{IsSync};
 
 use crate::commands::batch_of;
 use crate::nothing::Nothing;
-use crate::taker::Taker;
+use crate::taker::{Pace, Taker};
 use batch::Batch;
 use caches::Caches;
 use engine::{Engine, Unit};
@@ -76,6 +76,7 @@ fn run_all<R: Threads + Sync, T: Taker + Send + Drop>(
     senders: Vec<Sender>,
     taker: T,
     wanted: u64,
+    pace: Pace,
 ) -> u64
     requires senders { All (λ s. s.ring ≡ ring.now) senders.items }
     requires taker { T.ring_of taker ≡ ring.now }
@@ -84,7 +85,7 @@ fn run_all<R: Threads + Sync, T: Taker + Send + Drop>(
         rt,
         move || -> u64
             requires { T.ring_of taker ≡ ring.now }
-        { taker.take_all(ring, wanted) },
+        { taker.take_all(ring, wanted, pace) },
         move ||
             requires { IsSync R.row × All (λ s. s.ring ≡ ring.now) senders.items }
         { run_senders(rt, ring, batches, senders) },
@@ -99,13 +100,14 @@ fn time_one<R: Clock + Threads + Sync, T: Taker + Send + Drop>(
     batches: &[Batch; 4],
     senders: Vec<Sender>,
     taker: T,
+    pace: Pace,
 ) -> io::Result<(u128, u64)>
     requires senders { All (λ s. s.ring ≡ ring.now) senders.items }
     requires taker { T.ring_of taker ≡ ring.now }
 {
     let wanted = (u64::from(BATCHES / 4) * FOUR_BATCHES).saturating_mul(senders.len() as u64);
     let start = Instant::now(rt)?;
-    let taken = run_all(rt, ring, batches, senders, taker, wanted);
+    let taken = run_all(rt, ring, batches, senders, taker, wanted, pace);
     Ok((start.elapsed(rt)?.as_nanos(), taken))
 }
 
@@ -114,11 +116,12 @@ fn time_consumer<R: Clock + Threads + AllocGlobal + Sync>(
     rt: &R,
     batches: &[Batch; 4],
     senders: u32,
+    pace: Pace,
 ) -> io::Result<(u128, u64)> {
     let Ok((ring, all, consumer)) = Ring::new::<Nothing>(rt.alloc(), LOG2, senders, BATCHES) else {
         return Err(io::Error::from(ErrorKind::OutOfMemory));
     };
-    time_one(rt, &ring, batches, all, consumer)
+    time_one(rt, &ring, batches, all, consumer, pace)
 }
 
 /// Times the engine, whose caches are empty.
@@ -126,6 +129,7 @@ fn time_engine<R: Clock + Threads + AllocGlobal + Sync>(
     rt: &R,
     batches: &[Batch; 4],
     senders: u32,
+    pace: Pace,
 ) -> io::Result<(u128, u64)> {
     let Ok((ring, all, consumer)) = Ring::new::<Unit>(rt.alloc(), LOG2, senders, BATCHES) else {
         return Err(io::Error::from(ErrorKind::OutOfMemory));
@@ -133,18 +137,30 @@ fn time_engine<R: Clock + Threads + AllocGlobal + Sync>(
     let Ok(caches) = Caches::new(rt.alloc(), 1) else {
         return Err(io::Error::from(ErrorKind::InvalidData));
     };
-    time_one(rt, &ring, batches, all, Engine::new(consumer, caches))
+    time_one(rt, &ring, batches, all, Engine::new(consumer, caches), pace)
 }
 
-/// Prints two lines for each of 1 to 3 senders, for a consumer without an engine and for the engine: who takes, how
-/// many senders, the nanoseconds, and how many commands were taken.
+/// Prints two lines, for a consumer without an engine and for the engine: who takes, at which pace, how many senders, the
+/// nanoseconds, and how many commands were taken.
+fn report<R: Clock + Threads + Print + AllocGlobal + Sync>(
+    rt: &R,
+    batches: &[Batch; 4],
+    senders: u32,
+    pace: Pace,
+) -> io::Result<()> {
+    let name = pace.name();
+    let (nanoseconds, taken) = time_consumer(rt, batches, senders, pace)?;
+    println!(rt; "ring {name} {senders} {nanoseconds} {taken}")?;
+    let (nanoseconds, taken) = time_engine(rt, batches, senders, pace)?;
+    println!(rt; "engine {name} {senders} {nanoseconds} {taken}")
+}
+
+/// Prints the lines of 1 to 3 senders at each pace.
 pub(crate) fn time_all<R: Clock + Threads + Print + AllocGlobal + Sync>(rt: &R) -> io::Result<()> {
     let batches = [batch_of(1)?, batch_of(2)?, batch_of(3)?, batch_of(4)?];
     for senders in 1..4 {
-        let (nanoseconds, taken) = time_consumer(rt, &batches, senders)?;
-        println!(rt; "ring {senders} {nanoseconds} {taken}")?;
-        let (nanoseconds, taken) = time_engine(rt, &batches, senders)?;
-        println!(rt; "engine {senders} {nanoseconds} {taken}")?;
+        report(rt, &batches, senders, Pace::AtOnce)?;
+        report(rt, &batches, senders, Pace::Waiting)?;
     }
     Ok(())
 }

@@ -1,14 +1,15 @@
 //! Illegal words, and which fault is told.
 use crate::answers::{expect_answers, none};
 use crate::cmdcodec_tests::words::{raw, words};
-use cmdcodec::{KeptRaw, decode};
+use cmdcodec::{KeptRaw, decode, first_ill};
 use std::alloc::Global;
 
-/// The fault of illegal words: its name, and its text.
+/// The fault of illegal words, if `decode` and `first_ill` tell the same: its name, and its text.
 pub fn fault(alloc: Global, asked: &str) -> Option<String> {
-    match decode(raw(asked)?) {
-        Ok(_) => None,
-        Err(ill) => format!(in alloc; "{ill:?}, {ill}").ok(),
+    let raw = raw(asked)?;
+    match (decode(raw), first_ill(raw)) {
+        (Err(ill), Some(first)) if ill == first => format!(in alloc; "{ill:?}, {ill}").ok(),
+        _ => None,
     }
 }
 

@@ -1,15 +1,13 @@
 //! A step of a run of commands.
-ghost use Rattle.std.specs.Prelude.{◌≡◌, ◌≤◌, ◌↔◌, ◌+◌, ◌*◌, length, take, drop, slice_get, None, Some};
+ghost use Rattle.std.specs.Prelude.{◌≡◌, ◌≤◌, ◌↔◌, length, take, slice_get, Some};
 ghost use Rattle.cmdcodec.specs.declared.raw.Raw.{Raw as RawOf};
 ghost use Rattle.cmdcodec.specs.declared.ill.Ill.{Ill as IllOf};
 ghost use Rattle.cmdcodec.specs.Legality.{first_ill};
-ghost use Rattle.caches.specs.Limits.{most_entries};
-ghost use Rattle.engine.specs.declared.stop.Mode.TheVariants.{Running};
 ghost use Rattle.ringcore.specs.Limits.{most_reserved};
 ghost use Rattle.ringcore.specs.declared.world.event.Who.TheVariants.{Consumer as ConsumerOf};
 ghost use Rattle.ring.specs.table.Histories.{Grew};
 ghost use Rattle.ring.specs.consumer.Completing.{taken_of};
-ghost use Rattle.engine.specs.Stops.{IsStopped};
+ghost use Rattle.engine.specs.Stops.{IsStopped, MayComeNext};
 ghost use Rattle.engine.specs.Counting.{taken};
 ghost use Rattle.engine.specs.Units.{AreApplied, OnlyRemoves};
 ghost use Rattle.engine.specs.Engines.{AreTogether, HasRun};
@@ -17,7 +15,6 @@ ghost use Rattle.engine.specs.Engines.{AreTogether, HasRun};
 use crate::answer::RunAnswer;
 use crate::unit::Unit;
 use crate::verdict::Verdict;
-use cmdcodec::decode;
 use ring::{Consumer, Outcome, PendingRun, Ring, TakenRun, growth_adds_up};
 use ringcore::MOST_RESERVED;
 
@@ -51,46 +48,40 @@ pub(crate) fn step_run_with(
         TakenRun::Empty(consumer) => (consumer, RunAnswer::Empty),
         TakenRun::Drained(consumer) => (consumer, RunAnswer::Drained),
         TakenRun::Unwritten(consumer) => (consumer, RunAnswer::Unwritten),
-        TakenRun::Ready(run) => match unit.judge(run.get(0).unwrap()) {
-            Verdict::Applied {
-                command: _,
-                removed,
-            } => {
-                let (more, removed_more) = apply_rest(&run, unit);
-                let (count, removed) = (more + 1, removed + removed_more);
-                (
-                    run.complete_run(ring, count, Outcome::Applied, unit),
-                    RunAnswer::Applied { count, removed },
-                )
+        TakenRun::Ready(run) => {
+            let (count, removed) = apply_legal(&run, unit);
+            if count > 0 {
+                let consumer = run.complete_run(ring, count, Outcome::Applied, unit);
+                return (consumer, RunAnswer::Applied { count, removed });
             }
-            Verdict::Replaced(ill) => (
-                run.complete_run(ring, 1, Outcome::Replaced, unit),
-                RunAnswer::Replaced(ill),
-            ),
-            Verdict::Stopped(ill) => (run.put_back(), RunAnswer::Stopped(ill)),
-        },
+            match unit.judge(run.get(0).unwrap()) {
+                Verdict::Applied { .. } => unreachable!(),
+                Verdict::Replaced(ill) => (
+                    run.complete_run(ring, 1, Outcome::Replaced, unit),
+                    RunAnswer::Replaced(ill),
+                ),
+                Verdict::Stopped(ill) => (run.put_back(), RunAnswer::Stopped(ill)),
+            }
+        }
     }
 }
 
-/// Applies the legal commands of a run after its first, up to the first illegal one. Returns how many there
-/// were and how many entries they removed.
-fn apply_rest(run: &PendingRun<Unit>, unit: &mut Unit) -> (u32, u32)
-    requires running { unit.old.stop.mode ≡ Running }
-    requires next { unit.old.stop.next ≡ None }
-    requires counted { taken unit.old.counts ≡ length (taken_of run.now.consumer.trail) + 1 }
-    ensures within { result.0 ≤ length (drop 1 run.now.raws) }
-    ensures applied { AreApplied (take result.0 (drop 1 run.now.raws)) result.1 unit.old unit.new }
-    ensures removed { result.1 ≤ most_entries * result.0 }
-    ensures longest { (raw : RawOf) → slice_get (drop 1 run.now.raws) result.0 ≡ Some raw → (ill : IllOf) × (first_ill raw ≡ Some ill) }
+/// Applies the commands of a run up to the first illegal one. Returns how many there were and how many
+/// entries they removed.
+fn apply_legal(run: &PendingRun<Unit>, unit: &mut Unit) -> (u32, u32)
+    requires running { ¬ IsStopped unit.old.stop.mode }
+    requires next { (raw : RawOf) → slice_get run.now.raws 0 ≡ Some raw → MayComeNext raw unit.old.stop }
+    requires counted { taken unit.old.counts ≡ length (taken_of run.now.consumer.trail) }
+    ensures within { result.0 ≤ length run.now.raws }
+    ensures applied { AreApplied (take result.0 run.now.raws) result.1 unit.old unit.new }
+    ensures longest { (raw : RawOf) → slice_get run.now.raws result.0 ≡ Some raw → (ill : IllOf) × (first_ill raw ≡ Some ill) }
 {
-    let behind = run.len() - 1;
     let mut removed = 0;
-    for count in 0..behind {
-        let raw = run.get(count + 1).unwrap();
-        let Ok(command) = decode(raw) else {
+    for count in 0..run.len() {
+        let Some(more) = unit.apply_words(run.get(count).unwrap()) else {
             return (count, removed);
         };
-        removed += unit.apply(raw, &command);
+        removed += more;
     }
-    (behind, removed)
+    (run.len(), removed)
 }
