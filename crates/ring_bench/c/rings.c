@@ -4,10 +4,11 @@
 //   linux_acq_rel  the same by acquire and release, its commands in plain words
 //   mutex          a plain ring under one pthread mutex
 //
-// The consumer looks again at once, or waits after it took fewer commands than it may.
+// The consumer looks again at once, or waits after it took fewer commands than it may. A sender sends one batch after
+// another, or waits until each is done.
 //
-// Prints a line for each ring, each of 1 to 3 senders and either pace: the name of the ring, the pace, how many senders, the
-// nanoseconds from before the threads start to after all are joined, and how many commands were taken.
+// Prints a line for each ring and each of 1 to 3 senders, pace and sending: the name of the ring, the pace, the sending, how
+// many senders, the nanoseconds from before the threads start to after all are joined, and how many commands were taken.
 #include <pthread.h>
 #include <stdatomic.h>
 #include <stdbool.h>
@@ -62,11 +63,13 @@ struct cell {
     _Alignas(LINE) _Atomic uint64_t done;
 };
 
-// A way to send and to take: `send` says whether the whole batch went in, `take` how many commands it took.
+// A way to send and to take: `send` says whether the whole batch went in, `take` how many commands it took, `done` the
+// number of the sender's last batch that is done.
 struct kind {
     const char *name;
     bool (*send)(const struct command *batch, unsigned count);
     unsigned (*take)(void);
+    uint64_t (*done)(unsigned sender);
 };
 
 // ---- the scheme of Linux's driver
@@ -171,6 +174,10 @@ static unsigned take_seq_cst(void) {
     return count;
 }
 
+static uint64_t done_seq_cst(unsigned sender) {
+    return atomic_load(&linux_ring.cells[sender].done);
+}
+
 static bool send_acq_rel(const struct command *batch, unsigned count) {
     uint32_t start;
     if (!reserve(count, &start, memory_order_acquire, memory_order_acq_rel))
@@ -190,6 +197,10 @@ static unsigned take_acq_rel(void) {
         taken[i] = linux_ring.commands[(linux_ring.head + i) % SLOTS];
     complete(taken, count, memory_order_release, memory_order_release);
     return count;
+}
+
+static uint64_t done_acq_rel(unsigned sender) {
+    return atomic_load_explicit(&linux_ring.cells[sender].done, memory_order_acquire);
 }
 
 // ---- a plain ring
@@ -228,13 +239,20 @@ static unsigned take_locked(void) {
     return count;
 }
 
+static uint64_t done_locked(unsigned sender) {
+    pthread_mutex_lock(&plain.mutex);
+    uint64_t done = plain.done[sender];
+    pthread_mutex_unlock(&plain.mutex);
+    return done;
+}
+
 // ---- the workload
 
 struct worker {
     const struct kind *kind;
     unsigned sender;
-    // Whether the consumer waits after it took fewer commands than it may.
-    bool waits;
+    // Whether the consumer waits after it took fewer commands than it may, and a sender until its batch is done.
+    bool waits, round_trip;
     uint64_t wanted, taken;
 };
 
@@ -248,6 +266,8 @@ static void *send_all(void *argument) {
             batch[i] = CFGI_STE;
         batch[length] = closing_sync(worker->sender, k + 1);
         while (!worker->kind->send(batch, length + 1))
+            ;
+        while (worker->round_trip && worker->kind->done(worker->sender) <= k)
             ;
     }
     return NULL;
@@ -282,13 +302,14 @@ static void start(pthread_t *thread, void *(*run)(void *), struct worker *worker
     }
 }
 
-static void time_one(const struct kind *kind, unsigned senders, bool waits) {
+static void time_one(const struct kind *kind, unsigned senders, bool waits, bool round_trip) {
     pthread_t threads[MOST_SENDERS + 1];
     struct worker workers[MOST_SENDERS + 1];
     memset(&linux_ring, 0, sizeof linux_ring);
     plain.prod = plain.cons = 0;
+    memset(plain.done, 0, sizeof plain.done);
     for (unsigned i = 0; i <= senders; i++)
-        workers[i] = (struct worker){kind, i, waits, (uint64_t)senders * BATCHES / 4 * FOUR_BATCHES, 0};
+        workers[i] = (struct worker){kind, i, waits, round_trip, (uint64_t)senders * BATCHES / 4 * FOUR_BATCHES, 0};
 
     uint64_t before = nanoseconds();
     start(&threads[senders], take_all, &workers[senders]);
@@ -298,20 +319,23 @@ static void time_one(const struct kind *kind, unsigned senders, bool waits) {
         pthread_join(threads[i], NULL);
     uint64_t after = nanoseconds();
 
-    printf("%s %s %u %llu %llu\n", kind->name, waits ? "waiting" : "at_once", senders, (unsigned long long)(after - before),
+    printf("%s %s %s %u %llu %llu\n", kind->name, waits ? "waiting" : "at_once", round_trip ? "round_trip" : "stream", senders,
+        (unsigned long long)(after - before),
         (unsigned long long)workers[senders].taken);
 }
 
 int main(void) {
     static const struct kind kinds[] = {
-        {"linux_seq_cst", send_seq_cst, take_seq_cst},
-        {"linux_acq_rel", send_acq_rel, take_acq_rel},
-        {"mutex", send_locked, take_locked},
+        {"linux_seq_cst", send_seq_cst, take_seq_cst, done_seq_cst},
+        {"linux_acq_rel", send_acq_rel, take_acq_rel, done_acq_rel},
+        {"mutex", send_locked, take_locked, done_locked},
     };
     for (unsigned i = 0; i < sizeof kinds / sizeof *kinds; i++)
         for (unsigned senders = 1; senders <= MOST_SENDERS; senders++) {
-            time_one(&kinds[i], senders, false);
-            time_one(&kinds[i], senders, true);
+            time_one(&kinds[i], senders, false, false);
+            time_one(&kinds[i], senders, true, false);
+            time_one(&kinds[i], senders, false, true);
+            time_one(&kinds[i], senders, true, true);
         }
     return 0;
 }

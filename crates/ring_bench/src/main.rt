@@ -11,6 +11,7 @@ mod threads;
 mod timing;
 
 use std::{env, io};
+use threads::Sending;
 
 fn main(rt: HostRuntime) -> io::Result<()> {
     let words: Vec<String> = env::args(&rt)?.collect(rt.alloc())?;
@@ -18,7 +19,8 @@ fn main(rt: HostRuntime) -> io::Result<()> {
         if word.as_str() == "times" {
             timing::time_all(&rt)?;
         } else if word.as_str() == "threads" {
-            threads::time_all(&rt)?;
+            threads::time_all(&rt, Sending::Stream)?;
+            threads::time_all(&rt, Sending::RoundTrip)?;
         }
     }
     Ok(())
