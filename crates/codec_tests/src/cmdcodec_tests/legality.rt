@@ -7,10 +7,13 @@ use std::alloc::Global;
 /// The fault of illegal words, if `decode` and `first_ill` tell the same: its name, and its text.
 pub fn fault(alloc: Global, asked: &str) -> Option<String> {
     let raw = raw(asked)?;
-    match (decode(raw), first_ill(raw)) {
-        (Err(ill), Some(first)) if ill == first => format!(in alloc; "{ill:?}, {ill}").ok(),
-        _ => None,
+    let Err(ill) = decode(raw) else {
+        return None;
+    };
+    if first_ill(raw) != Some(ill) {
+        return None;
     }
+    format!(in alloc; "{ill:?}, {ill}").ok()
 }
 
 /// Returns the words of a kept command.
