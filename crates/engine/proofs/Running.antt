@@ -2,9 +2,9 @@
 use Rattle.std.proofs.Common.{◌≡◌, ◌+◌, ◌≤◌, ℕ, zero, suc, Bool, true, false, cond, List, [], ◌∷◌, ◌++◌, length, Option, Some, None, IsSome, refl, sym, ap, subst, ◌∙◌, arith, length-append}
 use Rattle.std.proofs.lemmas.List.{append_assoc}
 use Rattle.std.proofs.lemmas.Option.{slice_get_within}
-use Rattle.std.specs.Prelude.{slice_get, take, drop}
+use Rattle.std.specs.Prelude.{slice_get, take, drop, not}
 use Rattle.std.specs.FinMap as finite
-use Rattle.std.specs.FinMap.{get-empty, empty_of_len, same_map}
+use Rattle.std.specs.FinMap.{get-empty, get-retain_keys, empty_of_len, same_map}
 use Rattle.cmdcodec.specs.declared.raw.Raw.{Raw}
 use Rattle.cmdcodec.specs.declared.command.Command.{Command}
 use Rattle.cmdcodec.specs.Legality.{first_ill}
@@ -14,7 +14,6 @@ use Rattle.ring.specs.consumer.Completing.{with_outcome, HasOutcome}
 use Rattle.caches.specs.declared.tag.Entry.{Entry}
 use Rattle.caches.specs.Stored.{Stored}
 use Rattle.caches.specs.Held.{Entries, without_covered}
-use Rattle.caches.proofs.Viewed.{get_without_covered}
 use Rattle.caches.specs.Covers.{covers}
 use Rattle.caches.specs.TagOrder.{tag_cmp, tag_cmp_total, tag_cmp_exact}
 use Rattle.cmdcodec.specs.declared.ill.Ill.{Ill}
@@ -34,16 +33,19 @@ applied_settled raw command removed old new is list many s =
     subst (λ (e : Entries). IsSettled e (list ++ with_outcome Applied raw ∷ [])) (sym is.entries)
     (settled_applied old.caches.entries list raw command Applied is.legal.alone s)
 
--- A legal command has nothing to remove where no entry is held.
+-- Where no entry is held a command covers none.
 none_covered : (command : Command) (entries : Entries) → finite.len entries ≡ 0 → entries ≡ without_covered command entries
 none_covered command entries none = subst (λ (e : Entries). e ≡ without_covered command e) (sym (empty_of_len entries none))
     (same_map tag_cmp_total tag_cmp_exact finite.empty (without_covered command finite.empty) (λ tag.
-    get-empty {X = Entry} tag_cmp tag ∙ sym (get_without_covered command finite.empty tag ∙ neither (covers command tag) (get-empty {X = Entry} tag_cmp tag))))
+    get-empty {X = Entry} tag_cmp tag
+    ∙ sym (get-retain_keys finite.empty (λ t. not (covers command t)) tag (λ x e. ap (λ t. not (covers command t)) (sym (tag_cmp_exact tag x e)))
+    ∙ neither (not (covers command tag)) (get-empty {X = Entry} tag_cmp tag))))
   where
-    neither : (b : Bool) {found : Option Entry} → found ≡ None → cond b None found ≡ None
-    neither true none = refl
-    neither false none = none
+    neither : (b : Bool) {found : Option Entry} → found ≡ None → cond b found None ≡ None
+    neither true none = none
+    neither false none = refl
 
+-- A legal command is applied without a change of entries then.
 pub applied_to_none : (raw : Raw) (command : Command) (old new : UnitValue) → IsLegal raw command → old.stop.mode ≡ Running → finite.len old.caches.entries ≡ 0
     → new.caches ≡ old.caches → new.stop ≡ gone_on old.stop → new.counts ≡ counted_applied raw 0 old.counts → IsApplied raw command 0 old new
 applied_to_none raw command old new legal running none caches stop counts = record {
