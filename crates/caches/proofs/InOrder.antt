@@ -122,10 +122,10 @@ in_order es xs o own p s =
     ap (map (λ (e : Tag × Entry). e.1)) (sorted_list tag_cmp_total tag_cmp_exact (tagged es) (paired xs) pairs (from_strict tag_cmp (paired xs) strict)) ∙ values-paired xs
 
 -- Each entry of the caches is under its own tag.
-pub all_own : (a : Inside) → AreCaches a → IsStrictlySortedBy key_cmp (keys_of a.map.entries) → All (λ (e : Key × Entry). e.1.tag ≡ tag_of e.0) a.map.entries
+pub all_own : (a : Inside) → AreCaches a → IsStrictlySortedBy key_cmp (keys_of a.map.ordered.entries) → All (λ (e : Key × Entry). e.1.tag ≡ tag_of e.0) a.map.ordered.entries
 all_own a h o = λ k e lt.
-    let here : Key × Entry = slice_index_or a.map.entries k e in
-    let kept : IsKept (tag_of here.0) here.1 = keeping a h.kept here.0 here.1 (found a.map.entries (IsDistinct-from_sorted key_cmp (keys_of a.map.entries) o) k e lt) in
+    let here : Key × Entry = slice_index_or a.map.ordered.entries k e in
+    let kept : IsKept (tag_of here.0) here.1 = keeping a h.kept here.0 here.1 (found a.map.ordered.entries (IsDistinct-from_sorted key_cmp (keys_of a.map.ordered.entries) o) k e lt) in
     kept.own
 
 -- And it is found under it.

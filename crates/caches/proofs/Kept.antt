@@ -90,10 +90,10 @@ less_are a b same spans h p less =
 pub len_without : (c : Command) (m : Entries) → finite.len (without_covered c m) ≤ finite.len m
 len_without c m = shorter tag_cmp_total m (without_covered c m) (λ t s. some_within (covers c t) _ (subst IsSome (get_without_covered c m t) s))
 
-pub are_without : (c : Command) (a b : Inside) → b.capacity ≡ a.capacity → b.spans ≡ a.spans → AreCaches a → IsWithout key_cmp (covers_key c) a.map b.map → AreCaches b
+pub are_without : (c : Command) (a b : Inside) → b.capacity ≡ a.capacity → b.spans ≡ a.spans → AreCaches a → IsWithout key_cmp (covers_key c) a.map.ordered b.map.ordered → AreCaches b
 are_without c a b same spans h w = less_are a b same spans h (covers c) (λ t. ap (λ m. finite.get m t) (stored_without c a b w) ∙ get_without_covered c (stored a).entries t)
 
-pub are_evicted : (a b : Inside) (t : Tag) → b.capacity ≡ a.capacity → b.spans ≡ a.spans → AreCaches a → Updates key_cmp a.map b.map (key_of t) None → AreCaches b
+pub are_evicted : (a b : Inside) (t : Tag) → b.capacity ≡ a.capacity → b.spans ≡ a.spans → AreCaches a → Updates key_cmp a.map.ordered b.map.ordered (key_of t) None → AreCaches b
 are_evicted a b t same spans h u = less_are a b same spans h (λ q. eq_by_cmp tag_cmp q t) (λ q. ap (λ m. finite.get m q) (stored_remove a b t u) ∙ get-remove tag_cmp_total (stored a).entries t q)
 
 pub are_empty : (a : Inside) → a.capacity ≤ 65536 → (stored a).entries ≡ finite.empty → AreCaches a
@@ -142,11 +142,11 @@ are_filled a b x same added more h here room e =
       spanned = λ q y is. spanned_at b x q (finite.get (stored a).entries q) y added (λ old. more _ (h.spanned q y old)) (sym (ap (λ n. finite.get n q) e ∙ get-insert tag_cmp_total (stored a).entries x.tag x q) ∙ is);
     }
 
-same_stored : (a b : Inside) → b.map.entries ≡ a.map.entries → (stored b).entries ≡ (stored a).entries
+same_stored : (a b : Inside) → b.map.ordered.entries ≡ a.map.ordered.entries → (stored b).entries ≡ (stored a).entries
 same_stored a b e = ap (λ es. finite.from_entries {R = tag_cmp} (tagged es)) e
 
 pub put_are : (a b : Inside) (x : Entry) (r : Result (Option Entry) CacheFault) → b.capacity ≡ a.capacity → IsSpanOf b.spans (span_of (key_of x.tag)) → ((n : ℕ) → IsSpanOf a.spans n → IsSpanOf b.spans n) → AreCaches a → IsBlock x.tag → page_of (key_of x.tag) < 2 ^ 52
-    → (finite.get (stored a).entries x.tag ≡ None → finite.len (stored a).entries < a.capacity) → IsPut key_cmp a.map (key_of x.tag) x b.map r → AreCaches b
+    → (finite.get (stored a).entries x.tag ≡ None → finite.len (stored a).entries < a.capacity) → IsPut key_cmp a.map.ordered (key_of x.tag) x b.map.ordered r → AreCaches b
 put_are a b x (Ok was) same added more h block page room p = are_filled a b x same added more h (kept_here x block page) (room_of _ _ _ room) (stored_insert a b x.tag x p.1)
 put_are a b x (Err f) same added more h block page room p =
     let limit = h.limit in
@@ -155,6 +155,6 @@ put_are a b x (Err f) same added more h block page room p =
     let fits : finite.len (stored b).entries ≤ a.capacity = subst (λ n. finite.len n ≤ a.capacity) (sym e) old in
     record { limit = omega (arith, same, limit); room = omega (arith, same, fits); kept = λ q y is. h.kept q y (subst (λ n. finite.get n q ≡ Some y) e is); spanned = λ q y is. more _ (h.spanned q y (subst (λ n. finite.get n q ≡ Some y) e is)) }
 
-pub put_filled : (a b : Inside) (s : Stored) (x : Entry) (r : Result (Option Entry) CacheFault) → stored a ≡ s → IsPut key_cmp a.map (key_of x.tag) x b.map r → IsFilled s.entries x (stored b).entries r
+pub put_filled : (a b : Inside) (s : Stored) (x : Entry) (r : Result (Option Entry) CacheFault) → stored a ≡ s → IsPut key_cmp a.map.ordered (key_of x.tag) x b.map.ordered r → IsFilled s.entries x (stored b).entries r
 put_filled a b s x (Ok was) e p = (p.0 ∙ sym (look_is a x.tag) ∙ ap (λ (y : Stored). finite.get y.entries x.tag) e, stored_insert a b x.tag x p.1 ∙ ap (λ (y : Stored). finite.insert y.entries x.tag x) e)
 put_filled a b s x (Err f) e p = (p.0, same_stored a b p.1 ∙ ap (λ (y : Stored). y.entries) e, ap (λ (y : Stored). finite.get y.entries x.tag) (sym e) ∙ look_is a x.tag ∙ p.2)

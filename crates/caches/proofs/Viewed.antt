@@ -75,17 +75,17 @@ find_tagged : (t : Tag) (es : List (Key × Entry)) → find tag_cmp t (tagged es
 find_tagged t [] = refl
 find_tagged t (e ∷ es) = ap (λ b. cond b (Some e.1) (find tag_cmp t (tagged es))) (same_key t e.0) ∙ ap (cond (eq_by_cmp key_cmp (key_of t) e.0) (Some e.1)) (find_tagged t es)
 
-pub look_is : (a : Inside) (t : Tag) → finite.get (stored a).entries t ≡ tree.get key_cmp a.map (key_of t)
-look_is a t = get-from_entries tag_cmp_total (tagged a.map.entries) t ∙ find_tagged t a.map.entries
+pub look_is : (a : Inside) (t : Tag) → finite.get (stored a).entries t ≡ tree.get key_cmp a.map.ordered (key_of t)
+look_is a t = get-from_entries tag_cmp_total (tagged a.map.ordered.entries) t ∙ find_tagged t a.map.ordered.entries
 
-pub keeping : (a : Inside) → ((t : Tag) (e : Entry) → finite.get (stored a).entries t ≡ Some e → IsKept t e) → IsKeeping key_cmp a.map
-keeping a kept q e is = kept (tag_of q) e (look_is a (tag_of q) ∙ ap (λ k. tree.get key_cmp a.map k) (key_back q) ∙ is)
+pub keeping : (a : Inside) → ((t : Tag) (e : Entry) → finite.get (stored a).entries t ≡ Some e → IsKept t e) → IsKeeping key_cmp a.map.ordered
+keeping a kept q e is = kept (tag_of q) e (look_is a (tag_of q) ∙ ap (λ k. tree.get key_cmp a.map.ordered k) (key_back q) ∙ is)
 
-pub spanning : (a : Inside) → ((t : Tag) (e : Entry) → finite.get (stored a).entries t ≡ Some e → IsSpanOf a.spans (span_of (key_of t))) → AreSpansOf a.spans key_cmp a.map
+pub spanning : (a : Inside) → ((t : Tag) (e : Entry) → finite.get (stored a).entries t ≡ Some e → IsSpanOf a.spans (span_of (key_of t))) → AreSpansOf a.spans key_cmp a.map.ordered
 spanning a spanned q some =
-    elim (tree.get key_cmp a.map q) as (λ o. tree.get key_cmp a.map q ≡ o → IsSome o → IsSpanOf a.spans (span_of q)) [
+    elim (tree.get key_cmp a.map.ordered q) as (λ o. tree.get key_cmp a.map.ordered q ≡ o → IsSome o → IsSpanOf a.spans (span_of q)) [
       | None ↦ λ e s. cc
-      | Some x ↦ λ e s. subst (λ k. IsSpanOf a.spans (span_of k)) (key_back q) (spanned (tag_of q) x (look_is a (tag_of q) ∙ ap (λ k. tree.get key_cmp a.map k) (key_back q) ∙ e))
+      | Some x ↦ λ e s. subst (λ k. IsSpanOf a.spans (span_of k)) (key_back q) (spanned (tag_of q) x (look_is a (tag_of q) ∙ ap (λ k. tree.get key_cmp a.map.ordered k) (key_back q) ∙ e))
     ] refl some
 
 -- ---- the length
@@ -110,8 +110,8 @@ fresh_tagged (e ∷ es) s =
     let none : lookup (is_at (key_cmp e.0)) es ≡ None = lookup-none (is_at (key_cmp e.0)) es (none_past_head (eq_by_cmp_equiv key_total) e.0 e es (IsDistinct-from_sorted key_cmp (keys_of (e ∷ es)) s) (ap is_eq (tied_itself key_total e.0))) in
     (find_tagged (tag_of e.0) es ∙ ap (λ k. lookup (is_at (key_cmp k)) es) (key_back e.0) ∙ none, fresh_tagged es (sorted_tail key_cmp e.0 (keys_of es) s))
 
-pub len_is : (a : Inside) → tree.IsOrdered key_cmp a.map → finite.len (stored a).entries ≡ length a.map.entries
-len_is a s = len_fresh (tagged a.map.entries) (fresh_tagged a.map.entries s) ∙ length_tagged a.map.entries
+pub len_is : (a : Inside) → tree.IsOrdered key_cmp a.map.ordered → finite.len (stored a).entries ≡ length a.map.ordered.entries
+len_is a s = len_fresh (tagged a.map.ordered.entries) (fresh_tagged a.map.ordered.entries s) ∙ length_tagged a.map.ordered.entries
 
 -- ---- commands
 turned : {A : Type 0} (b : Bool) (x y : A) → cond (not b) x y ≡ cond b y x
@@ -121,22 +121,22 @@ turned false x y = refl
 pub get_without_covered : (c : Command) (m : Entries) (t : Tag) → finite.get (without_covered c m) t ≡ cond (covers c t) None (finite.get m t)
 get_without_covered c m t = get-retain_keys m (λ t. not (covers c t)) t (λ x e. ap (λ y. not (covers c y)) (sym (tag_cmp_exact t x e))) ∙ turned (covers c t) _ _
 
-pub stored_without : (c : Command) (a b : Inside) → IsWithout key_cmp (covers_key c) a.map b.map → (stored b).entries ≡ without_covered c (stored a).entries
+pub stored_without : (c : Command) (a b : Inside) → IsWithout key_cmp (covers_key c) a.map.ordered b.map.ordered → (stored b).entries ≡ without_covered c (stored a).entries
 stored_without c a b w = same_map tag_cmp_total tag_cmp_exact _ _ (λ t. look_is b t ∙ w (key_of t)
-    ∙ ap (λ u. cond (covers c u) None (tree.get key_cmp a.map (key_of t))) (tag_back t)
+    ∙ ap (λ u. cond (covers c u) None (tree.get key_cmp a.map.ordered (key_of t))) (tag_back t)
     ∙ sym (get_without_covered c (stored a).entries t ∙ ap (cond (covers c t) None) (look_is a t)))
 
 -- ---- one entry put in or taken out
 flip : (x y : Tag) → eq_by_cmp tag_cmp x y ≡ eq_by_cmp tag_cmp y x
 flip x y = (eq_by_cmp_equiv tag_cmp_total).symm x y
 
-updated : (a b : Inside) (t : Tag) (w : Option Entry) → Updates key_cmp a.map b.map (key_of t) w → (q : Tag) → finite.get (stored b).entries q ≡ cond (eq_by_cmp tag_cmp q t) w (finite.get (stored a).entries q)
-updated a b t w u q = look_is b q ∙ u.0 (key_of q) ∙ ap (λ x. cond x w (tree.get key_cmp a.map (key_of q))) (sym (flip q t ∙ same_tags t q)) ∙ ap (cond (eq_by_cmp tag_cmp q t) w) (sym (look_is a q))
+updated : (a b : Inside) (t : Tag) (w : Option Entry) → Updates key_cmp a.map.ordered b.map.ordered (key_of t) w → (q : Tag) → finite.get (stored b).entries q ≡ cond (eq_by_cmp tag_cmp q t) w (finite.get (stored a).entries q)
+updated a b t w u q = look_is b q ∙ u.0 (key_of q) ∙ ap (λ x. cond x w (tree.get key_cmp a.map.ordered (key_of q))) (sym (flip q t ∙ same_tags t q)) ∙ ap (cond (eq_by_cmp tag_cmp q t) w) (sym (look_is a q))
 
-pub stored_insert : (a b : Inside) (t : Tag) (e : Entry) → Updates key_cmp a.map b.map (key_of t) (Some e) → (stored b).entries ≡ finite.insert (stored a).entries t e
+pub stored_insert : (a b : Inside) (t : Tag) (e : Entry) → Updates key_cmp a.map.ordered b.map.ordered (key_of t) (Some e) → (stored b).entries ≡ finite.insert (stored a).entries t e
 stored_insert a b t e u = same_map tag_cmp_total tag_cmp_exact _ _ (λ q. updated a b t (Some e) u q ∙ sym (get-insert tag_cmp_total (stored a).entries t e q))
 
-pub stored_remove : (a b : Inside) (t : Tag) → Updates key_cmp a.map b.map (key_of t) None → (stored b).entries ≡ finite.remove (stored a).entries t
+pub stored_remove : (a b : Inside) (t : Tag) → Updates key_cmp a.map.ordered b.map.ordered (key_of t) None → (stored b).entries ≡ finite.remove (stored a).entries t
 stored_remove a b t u = same_map tag_cmp_total tag_cmp_exact _ _ (λ q. updated a b t None u q ∙ sym (get-remove tag_cmp_total (stored a).entries t q))
 
 -- An entry found under a tag has that tag, if every one found does.

@@ -7,6 +7,7 @@ pub mod Laws
 pub mod Limits
 pub mod Puts
 pub mod Ranks
+pub mod Slots
 pub mod Spanned
 pub mod Stored
 pub mod Sweep

@@ -15,7 +15,7 @@ abbrev pub tagged : List (Key × Entry) → List (Tag × Entry)
 tagged es = map {B = Tag × Entry} (λ (e : Key × Entry). (tag_of e.0, e.1)) es
 
 abbrev pub stored : Inside → Stored
-stored inside = record { capacity = inside.capacity; entries = finite.from_entries (tagged inside.map.entries) }
+stored inside = record { capacity = inside.capacity; entries = finite.from_entries (tagged inside.map.ordered.entries) }
 
 -- The capacity is within its limit and the number of entries within the capacity; each entry may be held
 -- under its tag, and its span is among those put in.

@@ -1,4 +1,4 @@
-//! The caches: all entries in one ordered map.
+//! The caches: all entries in one ordered map, with an index for look-ups.
 ghost use Rattle.std.specs.Prelude.{◌≡◌, ◌+◌, ◌<◌, ◌≤◌, ◌↔◌, IfOk, IfSome, OnOk, OnErr, Err, None, [], ◌∷◌};
 ghost use Rattle.std.specs.FinMap as finite;
 ghost use Rattle.std.specs.List.Sorted.{IsPermutation, IsSortedByKey};
@@ -8,9 +8,9 @@ ghost use Rattle.caches.specs.declared.tag.Entry.{Entry};
 ghost use Rattle.caches.specs.Blocks.{IsBlock};
 ghost use Rattle.caches.specs.Held.{without_covered, held, History, Fill, Evict, Take};
 ghost use Rattle.caches.specs.Stored.{IsFilled, IsFillAnswer, IsListAnswer};
-ghost use Rattle.caches.specs.Puts.{IsPut};
 
 use crate::fault::CacheFault;
+use crate::indexed_map::IndexedMap;
 use crate::key::Key;
 use crate::ranges::remove_all_covered;
 use crate::rank::Rank;
@@ -18,7 +18,6 @@ use crate::spans::Spans;
 use crate::tag::{Entry, Tag};
 use cmdcodec::Command;
 use std::alloc::Global;
-use std::collections::BTreeMap;
 use std::marker::Model;
 
 /// The most entries that caches may hold (own).
@@ -29,7 +28,7 @@ pub const MOST_ENTRIES: u32 = 65_536;
 pub struct Caches {
     alloc: Global,
     capacity: u32,
-    map: BTreeMap<Rank, Entry>,
+    map: IndexedMap,
     /// The spans of the blocks that are or were in the map.
     spans: Spans,
 }
@@ -51,6 +50,9 @@ impl Model for Caches {
 impl Caches {
     /// Creates empty caches with a capacity of 1 to 65,536 entries.
     ///
+    /// Takes some 48 bytes for each of them, rounded up to a power of two, for an index; if there is no memory for that,
+    /// look-ups search.
+    ///
     /// Errors: only C4, if the capacity is out of this range.
     pub fn new(alloc: Global, capacity: u32) -> Result<Caches, CacheFault>
         ensures ok { IfOk result (λ caches. (caches.capacity ≡ capacity) × (caches.entries ≡ held [])) }
@@ -63,7 +65,7 @@ impl Caches {
         Ok(Caches {
             alloc,
             capacity,
-            map: BTreeMap::new(alloc),
+            map: IndexedMap::new(alloc, capacity),
             spans: Spans::none(),
         })
     }
@@ -73,7 +75,7 @@ impl Caches {
         ensures value { result ≡ finite.get self.now.entries tag.now }
         ensures own { IfSome result (λ entry. entry.tag ≡ tag.now) }
     {
-        self.map.get(&Rank::of(tag)).copied()
+        self.map.get(tag)
     }
 
     /// Returns the number of entries held.
@@ -82,7 +84,7 @@ impl Caches {
         ensures within { result ≤ self.now.capacity }
         ensures capacity { self.now.capacity ≤ most_entries }
     {
-        self.map.len()
+        self.map.ordered.len()
     }
 
     /// Returns all entries held, in tag order.
@@ -91,7 +93,13 @@ impl Caches {
     pub fn entries(&self) -> Result<Vec<Entry>, CacheFault>
         ensures { IsListAnswer self.now.entries result }
     {
-        match self.map.values().copied().collect::<Vec<Entry>>(self.alloc) {
+        match self
+            .map
+            .ordered
+            .values()
+            .copied()
+            .collect::<Vec<Entry>>(self.alloc)
+        {
             Ok(mut list) => {
                 sort_by_tag(&mut list);
                 Ok(list)
@@ -121,7 +129,7 @@ impl Caches {
         ensures capacity { self.new.capacity ≡ self.old.capacity }
         ensures held { (h : History) → self.old.entries ≡ held h → self.new.entries ≡ held (Evict tag.now ∷ h) }
     {
-        self.map.remove(&Rank::of(tag))
+        self.map.remove(Rank::of(tag))
     }
 
     /// Puts `entry` in and returns the one held under its tag before, if any.
@@ -153,7 +161,7 @@ impl Caches {
     {
         let key = Key::of(&entry.tag);
         self.spans.add(key.span());
-        put_entry(&mut self.map, Rank::at(key), entry)
+        self.map.put(Rank::at(key), entry)
     }
 }
 
@@ -167,18 +175,4 @@ fn sort_by_tag(list: &mut Vec<Entry>)
             ensures { result ≡ numbers entry.now.tag }
         { entry.tag.numbers() },
     );
-}
-
-/// Puts `entry` into the map under `key`; C3 if memory runs out.
-fn put_entry(
-    map: &mut BTreeMap<Rank, Entry>,
-    key: Rank,
-    entry: Entry,
-) -> Result<Option<Entry>, CacheFault>
-    ensures { IsPut ⟦<Rank as Ord>⟧.cmp map.old key entry map.new result }
-{
-    match map.insert(key, entry) {
-        Ok(was) => Ok(was),
-        Err(_) => Err(CacheFault::NoMemory),
-    }
 }

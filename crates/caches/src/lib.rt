@@ -10,15 +10,20 @@
 //! far as a block that lies wholly before the run. Blocks further down that reach into the run begin at its
 //! first page rounded down to a length that was ever filled; it walks back from each of these. Each entry is
 //! tested before it is removed, so a walk that is too long only costs time.
+//!
+//! An index beside the map answers most look-ups in one step: it has a slot for each group of ranks, which says
+//! which entry is held, or that there is none. If several entries have one slot, the map may have to be searched.
 #![tactic(auto)]
 
 mod caches;
 mod covering;
 mod fault;
+mod indexed_map;
 mod key;
 mod laws;
 mod ranges;
 mod rank;
+mod slot;
 mod spans;
 mod sweep;
 mod tag;

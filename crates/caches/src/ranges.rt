@@ -10,22 +10,21 @@ ghost use Rattle.caches.specs.Spanned.{AreSpansOf};
 ghost use Rattle.caches.specs.Sweep.{IsKeeping, IsPruned, IsWithout};
 
 use crate::covering::aligned;
+use crate::indexed_map::IndexedMap;
 use crate::key::{Key, Owner};
 use crate::rank::Rank;
 use crate::spans::Spans;
 use crate::sweep::remove_covered;
-use crate::tag::Entry;
 use crate::walk::sweep_back;
 use cmdcodec::{Command, PageRun, Sid};
-use std::collections::BTreeMap;
 
 /// Removes what `command` covers, which must be entries of `streams` only.
-fn sweep_streams(map: &mut BTreeMap<Rank, Entry>, streams: PageRun, command: &Command)
-    requires keeping { IsKeeping ⟦<Rank as Ord>⟧.cmp map.old }
+fn sweep_streams(map: &mut IndexedMap, streams: PageRun, command: &Command)
+    requires keeping { IsKeeping ⟦<Rank as Ord>⟧.cmp map.old.ordered }
     requires begins { streams.first < 2 ^ 32 }
     requires forward { streams.first < streams.end }
     requires reach { (q : Key) → covers_key command.now q ≡ true → IsOfStreams streams q }
-    ensures after { IsWithout ⟦<Rank as Ord>⟧.cmp (covers_key command.now) map.old map.new }
+    ensures after { IsWithout ⟦<Rank as Ord>⟧.cmp (covers_key command.now) map.old.ordered map.new.ordered }
 {
     let first = Rank::at(Key::Configuration {
         sid: streams.first as u32,
@@ -39,19 +38,19 @@ fn sweep_streams(map: &mut BTreeMap<Rank, Entry>, streams: PageRun, command: &Co
 }
 
 /// Removes what `command` covers, which must be entries of `owner` only.
-fn sweep_owner(map: &mut BTreeMap<Rank, Entry>, owner: Owner, command: &Command)
-    requires keeping { IsKeeping ⟦<Rank as Ord>⟧.cmp map.old }
+fn sweep_owner(map: &mut IndexedMap, owner: Owner, command: &Command)
+    requires keeping { IsKeeping ⟦<Rank as Ord>⟧.cmp map.old.ordered }
     requires reach { (q : Key) → covers_key command.now q ≡ true → owner_of q ≡ Some owner }
-    ensures after { IsWithout ⟦<Rank as Ord>⟧.cmp (covers_key command.now) map.old map.new }
+    ensures after { IsWithout ⟦<Rank as Ord>⟧.cmp (covers_key command.now) map.old.ordered map.new.ordered }
 {
     remove_covered(map, owner.least(0, 0), owner.least(1 << 52, 0), command);
 }
 
 /// Removes what `command` covers, which must be translations of virtual machines only.
-fn sweep_machines(map: &mut BTreeMap<Rank, Entry>, command: &Command)
-    requires keeping { IsKeeping ⟦<Rank as Ord>⟧.cmp map.old }
+fn sweep_machines(map: &mut IndexedMap, command: &Command)
+    requires keeping { IsKeeping ⟦<Rank as Ord>⟧.cmp map.old.ordered }
     requires reach { (q : Key) → covers_key command.now q ≡ true → IsOfMachines q }
-    ensures after { IsWithout ⟦<Rank as Ord>⟧.cmp (covers_key command.now) map.old map.new }
+    ensures after { IsWithout ⟦<Rank as Ord>⟧.cmp (covers_key command.now) map.old.ordered map.new.ordered }
 {
     remove_covered(
         map,
@@ -76,19 +75,19 @@ fn block_start(page: u64, span: u8) -> u64
 /// page rounded down to a power of two, its length. These starts fall as the powers rise. A start is skipped
 /// if no block of that length was put in, or if it isn't before the bound.
 fn sweep_before(
-    map: &mut BTreeMap<Rank, Entry>,
+    map: &mut IndexedMap,
     spans: &Spans,
     owner: Owner,
     first: u64,
     bound: u64,
     command: &Command,
 )
-    requires keeping { IsKeeping ⟦<Rank as Ord>⟧.cmp map.old }
-    requires spans { AreSpansOf spans.now ⟦<Rank as Ord>⟧.cmp map.old }
-    requires bound { (q : Key) → covers_key command.now q ≡ true → page_of q < first → bound ≤ page_of q → tree.get ⟦<Rank as Ord>⟧.cmp map.old q ≡ None }
+    requires keeping { IsKeeping ⟦<Rank as Ord>⟧.cmp map.old.ordered }
+    requires spans { AreSpansOf spans.now ⟦<Rank as Ord>⟧.cmp map.old.ordered }
+    requires bound { (q : Key) → covers_key command.now q ≡ true → page_of q < first → bound ≤ page_of q → tree.get ⟦<Rank as Ord>⟧.cmp map.old.ordered q ≡ None }
     requires reach { (q : Key) → covers_key command.now q ≡ true → (owner_of q ≡ Some owner) × (first < page_of q + 2 ^ span_of q) }
-    ensures pruned { IsPruned ⟦<Rank as Ord>⟧.cmp (covers_key command.now) map.old map.new }
-    ensures clean { (q : Key) → covers_key command.now q ≡ true → page_of q < first → tree.get ⟦<Rank as Ord>⟧.cmp map.new q ≡ None }
+    ensures pruned { IsPruned ⟦<Rank as Ord>⟧.cmp (covers_key command.now) map.old.ordered map.new.ordered }
+    ensures clean { (q : Key) → covers_key command.now q ≡ true → page_of q < first → tree.get ⟦<Rank as Ord>⟧.cmp map.new.ordered q ≡ None }
 {
     let mut bound = bound;
     for span in 0..spans.end() {
@@ -106,28 +105,22 @@ fn sweep_before(
 }
 
 /// Removes what `command` covers, which must be blocks of `owner` that meet `run`.
-fn sweep_run(
-    map: &mut BTreeMap<Rank, Entry>,
-    spans: &Spans,
-    owner: Owner,
-    run: PageRun,
-    command: &Command,
-)
-    requires keeping { IsKeeping ⟦<Rank as Ord>⟧.cmp map.old }
-    requires spans { AreSpansOf spans.now ⟦<Rank as Ord>⟧.cmp map.old }
+fn sweep_run(map: &mut IndexedMap, spans: &Spans, owner: Owner, run: PageRun, command: &Command)
+    requires keeping { IsKeeping ⟦<Rank as Ord>⟧.cmp map.old.ordered }
+    requires spans { AreSpansOf spans.now ⟦<Rank as Ord>⟧.cmp map.old.ordered }
     requires reach { (q : Key) → covers_key command.now q ≡ true → (owner_of q ≡ Some owner) × (run.first < page_of q + 2 ^ span_of q) × (page_of q < run.end) }
-    ensures after { IsWithout ⟦<Rank as Ord>⟧.cmp (covers_key command.now) map.old map.new }
+    ensures after { IsWithout ⟦<Rank as Ord>⟧.cmp (covers_key command.now) map.old.ordered map.new.ordered }
 {
     let bound = sweep_back(map, owner, run.first, run.end, command);
     sweep_before(map, spans, owner, run.first, bound, command);
 }
 
 /// Removes what `command` covers, which must be blocks of `owner` that meet the command's run.
-fn sweep_address(map: &mut BTreeMap<Rank, Entry>, spans: &Spans, owner: Owner, command: &Command)
-    requires keeping { IsKeeping ⟦<Rank as Ord>⟧.cmp map.old }
-    requires spans { AreSpansOf spans.now ⟦<Rank as Ord>⟧.cmp map.old }
+fn sweep_address(map: &mut IndexedMap, spans: &Spans, owner: Owner, command: &Command)
+    requires keeping { IsKeeping ⟦<Rank as Ord>⟧.cmp map.old.ordered }
+    requires spans { AreSpansOf spans.now ⟦<Rank as Ord>⟧.cmp map.old.ordered }
     requires reach { (q : Key) → covers_key command.now q ≡ true → (owner_of q ≡ Some owner) × (meets_run (block (page_of q) (span_of q)) (run_of command.now) ≡ true) }
-    ensures after { IsWithout ⟦<Rank as Ord>⟧.cmp (covers_key command.now) map.old map.new }
+    ensures after { IsWithout ⟦<Rank as Ord>⟧.cmp (covers_key command.now) map.old.ordered map.new.ordered }
 {
     if let Some(run) = command.pages() {
         sweep_run(map, spans, owner, run, command);
@@ -151,22 +144,22 @@ fn one_stream(sid: Sid) -> PageRun
 /// If the map is empty it doesn't look at the command, so that a command that is only judged never has to be
 /// built.
 #[inline]
-pub(crate) fn remove_all_covered(map: &mut BTreeMap<Rank, Entry>, spans: &Spans, command: &Command)
-    requires keeping { IsKeeping ⟦<Rank as Ord>⟧.cmp map.old }
-    requires spans { AreSpansOf spans.now ⟦<Rank as Ord>⟧.cmp map.old }
-    ensures after { IsWithout ⟦<Rank as Ord>⟧.cmp (covers_key command.now) map.old map.new }
+pub(crate) fn remove_all_covered(map: &mut IndexedMap, spans: &Spans, command: &Command)
+    requires keeping { IsKeeping ⟦<Rank as Ord>⟧.cmp map.old.ordered }
+    requires spans { AreSpansOf spans.now ⟦<Rank as Ord>⟧.cmp map.old.ordered }
+    ensures after { IsWithout ⟦<Rank as Ord>⟧.cmp (covers_key command.now) map.old.ordered map.new.ordered }
 {
-    if !map.is_empty() {
+    if !map.ordered.is_empty() {
         sweep_covered(map, spans, command);
     }
 }
 
 /// The same for a map that may hold entries.
 #[inline(never)]
-fn sweep_covered(map: &mut BTreeMap<Rank, Entry>, spans: &Spans, command: &Command)
-    requires keeping { IsKeeping ⟦<Rank as Ord>⟧.cmp map.old }
-    requires spans { AreSpansOf spans.now ⟦<Rank as Ord>⟧.cmp map.old }
-    ensures after { IsWithout ⟦<Rank as Ord>⟧.cmp (covers_key command.now) map.old map.new }
+fn sweep_covered(map: &mut IndexedMap, spans: &Spans, command: &Command)
+    requires keeping { IsKeeping ⟦<Rank as Ord>⟧.cmp map.old.ordered }
+    requires spans { AreSpansOf spans.now ⟦<Rank as Ord>⟧.cmp map.old.ordered }
+    ensures after { IsWithout ⟦<Rank as Ord>⟧.cmp (covers_key command.now) map.old.ordered map.new.ordered }
 {
     match *command {
         Command::CfgiSte { sid, .. } | Command::CfgiCd { sid, .. } | Command::CfgiCdAll { sid } =>

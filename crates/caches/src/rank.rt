@@ -5,6 +5,7 @@ ghost use Rattle.std.specs.Cmp.{eq_by_cmp_equiv, partial_equiv_from_equiv, parti
 ghost use Rattle.caches.specs.contracts.key.KeyOrd.TheImpl.Laws as key_laws;
 ghost use Rattle.caches.specs.Keys.{key_of, page_of, span_of};
 ghost use Rattle.caches.specs.Ranks.{part_of};
+ghost use Rattle.caches.specs.Slots.{slot_of};
 
 use crate::key::Key;
 use crate::tag::Tag;
@@ -20,6 +21,11 @@ const SPANS: u128 = 1 << 8;
 /// The number of substreams, or of stages with their address spaces, that a rank has room for beside each
 /// span.
 const PARTS: u128 = 1 << 22;
+
+/// Odd numbers by which the halves of a rank are mixed into its slot.
+const LOW_FACTOR: u64 = 0x9e37_79b9_7f4a_7c15;
+
+const HIGH_FACTOR: u64 = 0xc2b2_ae3d_27d4_eb4f;
 
 /// A key as one number, so that comparing two takes one operation. Contracts see it as the key.
 #[derive(Clone, Copy)]
@@ -119,5 +125,18 @@ impl Rank {
     {
         let span = (self.number / PARTS % SPANS) as u8;
         self.page() + (1 << span)
+    }
+
+    /// Returns its slot in an index: its mixed bits without the lower `shift` ones.
+    pub(crate) fn slot(&self, shift: u32) -> usize
+        requires { shift < 64 }
+        ensures { result ≡ slot_of shift self.now }
+    {
+        let low = (self.number % PAGES) as u64;
+        let high = (self.number / PAGES) as u64;
+        let mixed = low
+            .wrapping_mul(LOW_FACTOR)
+            .wrapping_add(high.wrapping_mul(HIGH_FACTOR));
+        (mixed >> shift) as usize
     }
 }

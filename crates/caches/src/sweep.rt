@@ -6,6 +6,7 @@ ghost use Rattle.caches.specs.Keys.{covers_key};
 ghost use Rattle.caches.specs.Sweep.{IsNext, IsKeeping, is_swept};
 
 use crate::covering::covers;
+use crate::indexed_map::IndexedMap;
 use crate::rank::Rank;
 use crate::tag::Entry;
 use cmdcodec::Command;
@@ -52,18 +53,13 @@ fn next_covered(
 /// Removes the covered entries with keys from `first` up to, but not including, `end`. Takes no memory.
 ///
 /// After each it searches the rest of the range, unless that is empty.
-pub(crate) fn remove_covered(
-    map: &mut BTreeMap<Rank, Entry>,
-    first: Rank,
-    end: Rank,
-    command: &Command,
-)
-    requires keeping { IsKeeping ⟦<Rank as Ord>⟧.cmp map.old }
-    ensures after { (q : Key) → tree.get ⟦<Rank as Ord>⟧.cmp map.new q ≡ cond (is_swept ⟦<Rank as Ord>⟧.cmp (covers_key command.now) (Bound.Included first) (Bound.Excluded end) q) None (tree.get ⟦<Rank as Ord>⟧.cmp map.old q) }
+pub(crate) fn remove_covered(map: &mut IndexedMap, first: Rank, end: Rank, command: &Command)
+    requires keeping { IsKeeping ⟦<Rank as Ord>⟧.cmp map.old.ordered }
+    ensures after { (q : Key) → tree.get ⟦<Rank as Ord>⟧.cmp map.new.ordered q ≡ cond (is_swept ⟦<Rank as Ord>⟧.cmp (covers_key command.now) (Bound.Included first) (Bound.Excluded end) q) None (tree.get ⟦<Rank as Ord>⟧.cmp map.old.ordered q) }
 {
     let mut from = Bound::Included(first);
-    while let Some(covered) = next_covered(map, from, end, command) {
-        map.remove(&covered.key);
+    while let Some(covered) = next_covered(&map.ordered, from, end, command) {
+        map.remove(covered.key);
         if covered.is_last {
             return;
         }

@@ -7,6 +7,7 @@ ghost use Rattle.caches.specs.Sweep.{IsKeeping, IsPruned};
 ghost use Rattle.caches.specs.Walks.{IsWalked};
 
 use crate::covering::covers;
+use crate::indexed_map::IndexedMap;
 use crate::key::Owner;
 use crate::rank::Rank;
 use crate::tag::Entry;
@@ -61,24 +62,24 @@ fn last_covered(
 /// Returns a page, at most `first`, and below `end` unless that is 0: no covered block that begins from it up to `end`
 /// is left.
 pub(crate) fn sweep_back(
-    map: &mut BTreeMap<Rank, Entry>,
+    map: &mut IndexedMap,
     owner: Owner,
     first: u64,
     end: u64,
     command: &Command,
 ) -> u64
-    requires keeping { IsKeeping ⟦<Rank as Ord>⟧.cmp map.old }
+    requires keeping { IsKeeping ⟦<Rank as Ord>⟧.cmp map.old.ordered }
     requires reach { (q : Key) → covers_key command.now q ≡ true → (owner_of q ≡ Some owner) × (first < page_of q + 2 ^ span_of q) }
-    ensures pruned { IsPruned ⟦<Rank as Ord>⟧.cmp (covers_key command.now) map.old map.new }
-    ensures clean { (q : Key) → covers_key command.now q ≡ true → page_of q < end → result ≤ page_of q → tree.get ⟦<Rank as Ord>⟧.cmp map.new q ≡ None }
+    ensures pruned { IsPruned ⟦<Rank as Ord>⟧.cmp (covers_key command.now) map.old.ordered map.new.ordered }
+    ensures clean { (q : Key) → covers_key command.now q ≡ true → page_of q < end → result ≤ page_of q → tree.get ⟦<Rank as Ord>⟧.cmp map.new.ordered q ≡ None }
     ensures low { result ≤ first }
     ensures under { 0 < end → result < end }
 {
     let mut upper = owner.least(end, 0);
     loop {
-        match last_covered(map, owner, first, upper, command) {
+        match last_covered(&map.ordered, owner, first, upper, command) {
             Walked::Covered(key) => {
-                map.remove(&key);
+                map.remove(key);
                 upper = key;
             }
             Walked::NoneFrom(page) => return page,

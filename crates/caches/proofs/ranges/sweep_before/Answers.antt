@@ -8,7 +8,7 @@ use Rattle.caches.proofs.ranges.sweep_before.Goals as goal
 use Rattle.caches.proofs.ranges.sweep_before.Goals.{then-start-bound, else-start-bound}
 
 pub sweep_back-bound-requires-clause-keeping : goal.sweep_back-bound-requires-clause-keeping
-sweep_back-bound-requires-clause-keeping c = keeping_pruned (covers_key c.args.command.now) c.args.map.now c.loop-span.map c.loop-span.invariant.pruned c.requires.keeping
+sweep_back-bound-requires-clause-keeping c = keeping_pruned (covers_key c.args.command.now) c.args.map.now.ordered c.loop-span.map.ordered c.loop-span.invariant.pruned c.requires.keeping
 
 pub overflow_add-start : goal.overflow_add-start
 overflow_add-start c = omega (arith, c.if-start-bound.true, c.loop-span.invariant.few)
@@ -18,13 +18,13 @@ loop-span-preserved c =
     let p = covers_key c.args.command.now in
     let w = c.args.owner in
     let first = c.args.first in
-    let old = c.args.map.now in
-    let m = c.loop-span.map in
+    let old = c.args.map.now.ordered in
+    let m = c.loop-span.map.ordered in
     let start = c.block_start-start.result in
     let kept : IsKeeping key_cmp m = keeping_pruned p old m c.loop-span.invariant.pruned c.requires.keeping in
     elim c.if-start-bound.branch [
       | then-start-bound b ↦
-          let n = b.sweep_back-bound.new.map in
+          let n = b.sweep_back-bound.new.map.ordered in
           let pruned : IsPruned key_cmp p old n = pruned_trans key_cmp p old m n c.loop-span.invariant.pruned b.sweep_back-bound.ensures.pruned in
           let keeping : IsKeeping key_cmp n = keeping_pruned p old n pruned c.requires.keeping in
           let under : b.sweep_back-bound.result < start + 1 = b.sweep_back-bound.ensures.under (omega arith) in

@@ -7,8 +7,8 @@ use Rattle.caches.proofs.ranges.sweep_before.Given as goal
 
 abbrev pub invariant-loop-span : goal.invariant-loop-span
 invariant-loop-span l = record {
-  pruned : IsPruned key_cmp (covers_key l.command) l.fn.map l.map;
-  gone : AreGone (covers_key l.command) l.owner l.first l.map l.span;
+  pruned : IsPruned key_cmp (covers_key l.command) l.fn.map.ordered l.map.ordered;
+  gone : AreGone (covers_key l.command) l.owner l.first l.map.ordered l.span;
   few : Fits w64 l.bound;
-  below : AreBelow (covers_key l.command) l.owner l.first l.map l.bound;
+  below : AreBelow (covers_key l.command) l.owner l.first l.map.ordered l.bound;
 }

@@ -7,6 +7,6 @@ use Rattle.caches.proofs.ranges.sweep_owner.Goals as goal
 
 pub returns : goal.returns
 returns c = record {
-  after = without_from_kept key_cmp (covers_key c.args.command.now) (Included (least c.args.owner 0 0)) (Excluded (least c.args.owner (2 ^ 52) 0)) c.args.map.now c.remove_covered.new.map (search rules) (λ q e covered is.
+  after = without_from_kept key_cmp (covers_key c.args.command.now) (Included (least c.args.owner 0 0)) (Excluded (least c.args.owner (2 ^ 52) 0)) c.args.map.now.ordered c.remove_covered.new.map.ordered (search rules) (λ q e covered is.
       in_pages c.args.owner 0 (2 ^ 52) q (c.requires.reach q covered) (omega arith) (subst (λ page. page < 2 ^ 52) (page_back q) (c.requires.keeping q e is).in_space));
 }

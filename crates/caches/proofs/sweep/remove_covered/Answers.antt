@@ -16,35 +16,35 @@ next_covered-requires c = record { keeping = λ q e is. c.requires.keeping q e (
 
 pub loop-covered-init : goal.loop-covered-init
 loop-covered-init c = record {
-  kept = swept_none key_total (covers_key c.args.command.now) (Included c.args.first) (Excluded c.args.end) (λ (q : Key). tree.get key_cmp c.args.map.now q);
+  kept = swept_none key_total (covers_key c.args.command.now) (Included c.args.first) (Excluded c.args.end) (λ (q : Key). tree.get key_cmp c.args.map.now.ordered q);
   starts = λ q h. h;
 }
 
 pub loop-covered-smaller : goal.loop-covered-smaller
 loop-covered-smaller c =
-    let falls = left_falls key_total c.loop-covered.from (Excluded c.args.end) c.in-Some.covered.key (tied_itself key_total c.in-Some.covered.key) key_exact c.in-Some.ensures.next.within c.loop-covered.map.entries c.in-Some.ensures.next.there in
-    rw c.remove.ensures.entries (omega (arith, falls, without_one (is_at (key_cmp c.in-Some.covered.key)) (range_contains key_cmp (Excluded c.in-Some.covered.key) (Excluded c.args.end)) c.loop-covered.map.entries))
+    let falls = left_falls key_total c.loop-covered.from (Excluded c.args.end) c.in-Some.covered.key (tied_itself key_total c.in-Some.covered.key) key_exact c.in-Some.ensures.next.within c.loop-covered.map.ordered.entries c.in-Some.ensures.next.there in
+    rw c.remove.ensures.entries (omega (arith, falls, without_one (is_at (key_cmp c.in-Some.covered.key)) (range_contains key_cmp (Excluded c.in-Some.covered.key) (Excluded c.args.end)) c.loop-covered.map.ordered.entries))
 
 pub loop-covered-preserved : goal.loop-covered-preserved
 loop-covered-preserved c =
     let p = covers_key c.args.command.now in
-    let f = λ (q : Key). tree.get key_cmp c.loop-covered.map q in
-    let old = λ (q : Key). tree.get key_cmp c.args.map.now q in
+    let f = λ (q : Key). tree.get key_cmp c.loop-covered.map.ordered q in
+    let old = λ (q : Key). tree.get key_cmp c.args.map.now.ordered q in
     record {
-      kept = swept_more key_total p (Included c.args.first) (Excluded c.args.end) old c.loop-covered.from c.in-Some.covered.key f (λ (q : Key). tree.get key_cmp c.remove.new.self q) c.loop-covered.invariant.kept c.in-Some.ensures.next.within c.in-Some.ensures.next.least c.loop-covered.invariant.starts
+      kept = swept_more key_total p (Included c.args.first) (Excluded c.args.end) old c.loop-covered.from c.in-Some.covered.key f (λ (q : Key). tree.get key_cmp c.remove.new.self.ordered q) c.loop-covered.invariant.kept c.in-Some.ensures.next.within c.in-Some.ensures.next.least c.loop-covered.invariant.starts
           (after_yes key_cmp p c.in-Some.covered.key f _ c.in-Some.ensures.next.passes c.remove.ensures.updates.0) key_exact;
       starts = starts_more key_total c.loop-covered.from (Included c.args.first) (Excluded c.args.end) c.in-Some.covered.key c.loop-covered.invariant.starts c.in-Some.ensures.next.within;
     }
 
 pub returns : goal.returns
-returns c = record { after = swept_all key_total (covers_key c.args.command.now) (Included c.args.first) (Excluded c.args.end) (λ (q : Key). tree.get key_cmp c.args.map.now q) c.loop-covered.from (λ (q : Key). tree.get key_cmp c.loop-covered.map q) c.loop-covered.invariant.kept c.in_default.ensures.next }
+returns c = record { after = swept_all key_total (covers_key c.args.command.now) (Included c.args.first) (Excluded c.args.end) (λ (q : Key). tree.get key_cmp c.args.map.now.ordered q) c.loop-covered.from (λ (q : Key). tree.get key_cmp c.loop-covered.map.ordered q) c.loop-covered.invariant.kept c.in_default.ensures.next }
 
 pub returns-then-covered : goal.returns-then-covered
 returns-then-covered c =
     let p = covers_key c.args.command.now in
-    let f = λ (q : Key). tree.get key_cmp c.loop-covered.map q in
-    let g = λ (q : Key). tree.get key_cmp c.remove.new.self q in
-    let old = λ (q : Key). tree.get key_cmp c.args.map.now q in
+    let f = λ (q : Key). tree.get key_cmp c.loop-covered.map.ordered q in
+    let g = λ (q : Key). tree.get key_cmp c.remove.new.self.ordered q in
+    let old = λ (q : Key). tree.get key_cmp c.args.map.now.ordered q in
     let k = c.in-Some.covered.key in
     record {
       after = swept_all key_total p (Included c.args.first) (Excluded c.args.end) old (Excluded k) g

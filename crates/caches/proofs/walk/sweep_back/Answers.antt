@@ -41,17 +41,17 @@ module _ (p : Key → Bool) (m n : BTreeMap Key Entry) (bound k : Key) (is : IsL
       ] refl from
 
 pub last_covered-requires-clause-keeping : goal.last_covered-requires-clause-keeping
-last_covered-requires-clause-keeping c = keeping_pruned (covers_key c.args.command.now) c.args.map.now c.loop-key.map c.loop-key.invariant.pruned c.requires.keeping
+last_covered-requires-clause-keeping c = keeping_pruned (covers_key c.args.command.now) c.args.map.now.ordered c.loop-key.map.ordered c.loop-key.invariant.pruned c.requires.keeping
 
 pub loop-key-preserved : goal.loop-key-preserved
 loop-key-preserved c =
     let p = covers_key c.args.command.now in
-    let m = c.loop-key.map in
-    let n = c.remove.new.self in
+    let m = c.loop-key.map.ordered in
+    let n = c.remove.new.self.ordered in
     let k = c.in-Covered.key in
     let end = least c.args.owner c.args.end 0 in
     record {
-      pruned = pruned_trans key_cmp p c.args.map.now m n c.loop-key.invariant.pruned (without_last p m n c.loop-key.upper k c.in-Covered.ensures c.remove.ensures.updates.0);
+      pruned = pruned_trans key_cmp p c.args.map.now.ordered m n c.loop-key.invariant.pruned (without_last p m n c.loop-key.upper k c.in-Covered.ensures c.remove.ensures.updates.0);
       clean = clean_from p m n c.loop-key.upper k c.in-Covered.ensures c.remove.ensures.updates.0 end c.loop-key.invariant.clean;
       own = (c.requires.reach k c.in-Covered.ensures.passes).0;
       within = le_of_less _ (less_at_most k c.loop-key.upper end c.in-Covered.ensures.before c.loop-key.invariant.within);
@@ -59,7 +59,7 @@ loop-key-preserved c =
 
 pub returns-in-NoneFrom-clause-clean : goal.returns-in-NoneFrom-clause-clean
 returns-in-NoneFrom-clause-clean c = λ q passes before from.
-    by_bound q c.loop-key.upper (get key_cmp c.loop-key.map q ≡ None)
+    by_bound q c.loop-key.upper (get key_cmp c.loop-key.map.ordered q ≡ None)
     (λ less. c.in-NoneFrom.ensures.none q passes less from)
     (c.loop-key.invariant.clean q passes (before_page c.args.owner c.args.end q (c.requires.reach q passes).0 before))
 

@@ -10,15 +10,15 @@ use Rattle.caches.proofs.caches.Caches.evict.Goals as goal
 
 pub invariant_of-self : goal.invariant_of-self
 invariant_of-self c = are_evicted c.self.inside (record c.self.inside { map = c.remove.new.self }) c.args.tag.now refl refl c.self.invariant
-    (subst (λ k. Updates key_cmp c.self.inside.map c.remove.new.self k None) c.of.ensures.key c.remove.ensures.updates)
+    (subst (λ k. Updates key_cmp c.self.inside.map.ordered c.remove.new.self.ordered k None) c.of.ensures.key c.remove.ensures.updates)
 
 pub returns-clause-was : goal.returns-clause-was
-returns-clause-was c = c.remove.ensures.value ∙ ap (tree.get key_cmp c.self.inside.map) c.of.ensures.key ∙ sym (look_is c.self.inside c.args.tag.now)
+returns-clause-was c = c.remove.ensures.value ∙ ap (tree.get key_cmp c.self.inside.map.ordered) c.of.ensures.key ∙ sym (look_is c.self.inside c.args.tag.now)
     ∙ ap (λ (s : Stored). finite.get s.entries c.args.tag.now) c.self.view_is
 
 pub returns-clause-after : goal.returns-clause-after
 returns-clause-after c = stored_remove c.self.inside (record c.self.inside { map = c.remove.new.self }) c.args.tag.now
-    (subst (λ k. Updates key_cmp c.self.inside.map c.remove.new.self k None) c.of.ensures.key c.remove.ensures.updates)
+    (subst (λ k. Updates key_cmp c.self.inside.map.ordered c.remove.new.self.ordered k None) c.of.ensures.key c.remove.ensures.updates)
     ∙ ap (λ (s : Stored). finite.remove s.entries c.args.tag.now) c.self.view_is
 
 pub returns-clause-held : goal.returns-clause-held

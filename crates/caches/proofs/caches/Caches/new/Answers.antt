@@ -3,4 +3,4 @@ use Rattle.caches.proofs.Kept.{are_empty}
 use Rattle.caches.proofs.caches.Caches.new.Goals as goal
 
 pub invariant_of-result : goal.invariant_of-result
-invariant_of-result c = are_empty _ (omega arith) (rw c.new.ensures.empty refl)
+invariant_of-result c = are_empty _ (omega arith) (rw c.new.ensures refl)

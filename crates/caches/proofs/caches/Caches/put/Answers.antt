@@ -12,10 +12,10 @@ pub invariant_of-self : goal.invariant_of-self
 invariant_of-self c =
     let room : finite.get (stored c.self.inside).entries c.args.entry.tag ≡ None → finite.len (stored c.self.inside).entries < c.self.inside.capacity =
     λ e. rw (← c.self.view_is) at c.requires.room e in
-    put_are c.self.inside (record c.self.inside { map = c.put_entry.new.map; spans = c.add.new.self }) c.args.entry c.put_entry.result refl (subst (λ n. IsSpanOf c.add.new.self n) (c.span.ensures ∙ ap span_of c.of-key.ensures.key) c.add.ensures.added) c.add.ensures.kept c.self.invariant c.requires.block
+    put_are c.self.inside (record c.self.inside { map = c.put.new.self; spans = c.add.new.self }) c.args.entry c.put.result refl (subst (λ n. IsSpanOf c.add.new.self n) (c.span.ensures ∙ ap span_of c.of-key.ensures.key) c.add.ensures.added) c.add.ensures.kept c.self.invariant c.requires.block
     (subst (λ k. page_of k < 2 ^ 52) c.of-key.ensures.key c.of-key.ensures.page) room
-    (subst (λ k. IsPut key_cmp c.self.inside.map k c.args.entry c.put_entry.new.map c.put_entry.result) (c.at.ensures ∙ c.of-key.ensures.key) c.put_entry.ensures)
+    (subst (λ k. IsPut key_cmp c.self.inside.map.ordered k c.args.entry c.put.new.self.ordered c.put.result) (c.at.ensures ∙ c.of-key.ensures.key) c.put.ensures)
 
 pub returns-clause-put : goal.returns-clause-put
-returns-clause-put c = put_filled c.self.inside (record c.self.inside { map = c.put_entry.new.map; spans = c.add.new.self }) c.args.self.now c.args.entry c.put_entry.result c.self.view_is
-    (subst (λ k. IsPut key_cmp c.self.inside.map k c.args.entry c.put_entry.new.map c.put_entry.result) (c.at.ensures ∙ c.of-key.ensures.key) c.put_entry.ensures)
+returns-clause-put c = put_filled c.self.inside (record c.self.inside { map = c.put.new.self; spans = c.add.new.self }) c.args.self.now c.args.entry c.put.result c.self.view_is
+    (subst (λ k. IsPut key_cmp c.self.inside.map.ordered k c.args.entry c.put.new.self.ordered c.put.result) (c.at.ensures ∙ c.of-key.ensures.key) c.put.ensures)

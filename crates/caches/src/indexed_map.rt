@@ -1,0 +1,109 @@
+//! The ordered map of all entries, with an index for look-ups.
+//!
+//! Each rank has one of the index's slots, by its mixed bits. The newest entry with this slot is noted there, until
+//! it is taken out, so a look-up of it reads one slot. So does one of an entry that isn't held, unless others with this slot
+//! were put in beside each other; only then the map is searched.
+ghost use Rattle.std.specs.Prelude.{◌≡◌, ◌≤◌, ◌<◌, ◌+◌, None, if◌then◌else◌, is_some};
+ghost use Rattle.std.specs.BTreeMap as tree;
+ghost use Rattle.std.specs.BTreeMap.{IsEmpty, Updates, btree_map_len, is_at};
+ghost use Rattle.std.specs.Map.{remove_entry};
+ghost use Rattle.caches.specs.Keys.{key_of, tag_of};
+ghost use Rattle.caches.specs.Limits.{most_entries};
+ghost use Rattle.caches.specs.Puts.{IsPut};
+ghost use Rattle.caches.specs.Slots.{IsIndexed};
+
+use crate::fault::CacheFault;
+use crate::rank::Rank;
+use crate::slot::{Noted, Slot};
+use crate::tag::{Entry, Tag};
+use std::alloc::Global;
+use std::collections::BTreeMap;
+
+/// All entries by their ranks, and the slots of the ranks.
+#[derive(Drop)]
+pub(crate) struct IndexedMap {
+    /// To be read alone: what is put in or taken out changes the slots too.
+    pub(crate) ordered: BTreeMap<Rank, Entry>,
+    /// There are none if there was no memory for them.
+    slots: Vec<Slot>,
+    /// How many of the lower of a rank's mixed bits its slot doesn't depend on.
+    shift: u32,
+    ghost shifted: { shift < 64 },
+    ghost indexed: { IsIndexed ⟦<Rank as Ord>⟧.cmp shift ordered slots.items },
+}
+
+impl IndexedMap {
+    /// Returns an empty map with a slot for each of the `most` entries that it may hold, if there is memory for them.
+    pub(crate) fn new(alloc: Global, most: u32) -> IndexedMap
+        requires { most ≤ most_entries }
+        ensures { IsEmpty result.ordered }
+    {
+        let log2 = most.next_power_of_two().trailing_zeros().max(1).min(16);
+        let slots = match vec![in alloc; Slot::Free; 1 << log2] {
+            Ok(slots) => slots,
+            Err(_) => Vec::new(alloc),
+        };
+        IndexedMap {
+            ordered: BTreeMap::new(alloc),
+            slots,
+            shift: 64 - log2,
+        }
+    }
+
+    /// Returns the entry under a tag, if there is one.
+    pub(crate) fn get(&self, tag: &Tag) -> Option<Entry>
+        ensures { result ≡ tree.get ⟦<Rank as Ord>⟧.cmp self.now.ordered (key_of tag.now) }
+    {
+        let rank = Rank::of(tag);
+        match self.slots.get(rank.slot(self.shift)) {
+            Some(Slot::Free) => None,
+            Some(Slot::Only(noted)) => noted.entry_at(rank, *tag),
+            Some(Slot::One(noted)) => match noted.entry_at(rank, *tag) {
+                Some(entry) => Some(entry),
+                None => self.search(rank),
+            },
+            Some(Slot::Unknown) | None => self.search(rank),
+        }
+    }
+
+    /// Searches the ordered map.
+    #[inline(never)]
+    fn search(&self, rank: Rank) -> Option<Entry>
+        ensures { result ≡ tree.get ⟦<Rank as Ord>⟧.cmp self.now.ordered rank }
+    {
+        self.ordered.get(&rank).copied()
+    }
+
+    /// Removes the entry of a rank, and returns it if there was one.
+    pub(crate) fn remove(&mut self, rank: Rank) -> Option<Entry>
+        ensures value { result ≡ tree.get ⟦<Rank as Ord>⟧.cmp self.old.ordered rank }
+        ensures updates { Updates ⟦<Rank as Ord>⟧.cmp self.old.ordered self.new.ordered rank None }
+        ensures len { btree_map_len self.new.ordered + (if is_some result then 1 else 0) ≡ btree_map_len self.old.ordered }
+        ensures entries { self.new.ordered.entries ≡ remove_entry (is_at (⟦<Rank as Ord>⟧.cmp rank)) self.old.ordered.entries }
+    {
+        let removed = self.ordered.remove(&rank);
+        let place = rank.slot(self.shift);
+        if place < self.slots.len() {
+            self.slots[place] = self.slots[place].taken_out(rank);
+        }
+        removed
+    }
+
+    /// Puts an entry in under its rank, and returns the one that was there; C3 if memory runs out.
+    pub(crate) fn put(&mut self, rank: Rank, entry: Entry) -> Result<Option<Entry>, CacheFault>
+        requires { entry.tag ≡ tag_of rank }
+        ensures { IsPut ⟦<Rank as Ord>⟧.cmp self.old.ordered rank entry self.new.ordered result }
+    {
+        let Entry { value, born, .. } = entry;
+        match self.ordered.insert(rank, entry) {
+            Ok(was) => {
+                let place = rank.slot(self.shift);
+                if place < self.slots.len() {
+                    self.slots[place] = self.slots[place].put_in(Noted { rank, value, born });
+                }
+                Ok(was)
+            }
+            Err(_) => Err(CacheFault::NoMemory),
+        }
+    }
+}
