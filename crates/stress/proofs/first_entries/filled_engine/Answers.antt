@@ -1,11 +1,11 @@
-use Rattle.std.proofs.Common.{◌≡◌, Result, Ok, Err, Option, false, ap, sym, ◌∙◌}
+use Rattle.std.proofs.Common.{◌≡◌, Result, Ok, Err, Option, false, ap, subst, sym, ◌∙◌, arith}
 use Rattle.std.specs.Result.{OnOk, is_err}
 use Rattle.caches.specs.declared.tag.Tag.{Tag}
 use Rattle.caches.specs.declared.tag.Entry.{Entry}
 use Rattle.caches.specs.declared.fault.CacheFault.{CacheFault}
 use Rattle.engine.specs.Units.{UnitValue, filled, with_entries}
 use Rattle.engine.specs.Engines.{EngineValue}
-use Rattle.stress.specs.FirstEntries.{tag_of}
+use Rattle.stress.specs.FirstEntries.{tag_of, IsFilled}
 use Rattle.stress.proofs.Filled.{none_filled, one_more_filled}
 use Rattle.stress.proofs.first_entries.filled_engine.Goals as goal
 
@@ -30,3 +30,8 @@ loop-sender-preserved c =
     let unit_is : c.fill.new.self.unit ≡ with_entries unit (filled (tag_of number) value unit) =
     ap (λ (e : EngineValue). e.unit) new_is ∙ ap (λ (t : Tag). with_entries unit (filled t value unit)) c.first_tag.ensures in
     (one_more_filled number value c.from.ensures unit c.loop-sender.invariant.0 c.fill.new.self.unit unit_is, c.fill.ensures.consumer ∙ c.loop-sender.invariant.1)
+
+pub returns-clause-filled : goal.returns-clause-filled
+returns-clause-filled c =
+    let all : c.loop-sender.sender ≡ c.args.senders = omega (arith, c.loop-sender-test.false, c.loop-sender.auto.sender-end) in
+    subst (λ n. IsFilled n c.loop-sender.engine.unit) all c.loop-sender.invariant.0
