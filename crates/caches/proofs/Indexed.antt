@@ -1,7 +1,7 @@
 -- The index of the ordered map stays true where an entry is put in or taken out.
-use Rattle.std.proofs.Common.{◌≡◌, ℕ, zero, suc, ◌<◌, ◌≤◌, true, false, cond, inl, inr, Option, Some, None, refl, sym, ◌∙◌, ap, subst, List, [], ◌∷◌, length, slice_index_or, slice_set, arith}
+use Rattle.std.proofs.Common.{◌≡◌, ℕ, ◌<◌, ◌≤◌, true, false, cond, inl, inr, Option, Some, None, refl, sym, ◌∙◌, ap, subst, List, length, slice_index_or, slice_set, arith}
 use Rattle.std.proofs.lemmas.Bool.{cases_eq, cases_lt}
-use Rattle.std.proofs.lemmas.List.{get_or-set_same, get_or-set_other, get_or_past}
+use Rattle.std.proofs.lemmas.List.{get_or-set_same, get_or-set_other, get_or_default, get_or_past}
 use Rattle.std.specs.Ordering.{eq_by_cmp, is_eq}
 use Rattle.std.specs.Cmp.{tied_itself, Equal-is}
 use Rattle.std.specs.Map.{lookup}
@@ -14,20 +14,14 @@ use Rattle.caches.specs.declared.slot.Slot.TheVariants.{Free, Only, One, Unknown
 use Rattle.caches.specs.Slots.{slot_of, entry_of, put_in, taken_out, IsThere, IsIndexed}
 use Rattle.caches.proofs.KeyOrder.{key_cmp, key_total, key_exact}
 
-same_key : (x y : Key) → eq_by_cmp key_cmp x y ≡ true → x ≡ y
-same_key x y e = key_exact x y ((Equal-is (key_cmp x y)).0 e)
+equal_keys : (x y : Key) → eq_by_cmp key_cmp x y ≡ true → x ≡ y
+equal_keys x y e = key_exact x y ((Equal-is (key_cmp x y)).0 e)
 
 itself : (x : Key) → eq_by_cmp key_cmp x x ≡ true
 itself x = ap is_eq (tied_itself key_total x)
 
--- An item that is there is the same by any default.
-same_item : {X : Type 0} (xs : List X) (i : ℕ) (d e : X) → i < length xs → slice_index_or xs i d ≡ slice_index_or xs i e
-same_item [] i d e h = absurd (omega (arith, h))
-same_item (x ∷ xs) zero d e h = refl
-same_item (x ∷ xs) (suc i) d e h = same_item xs i d e (omega (arith, h))
-
 item_at : (slots : List Slot) (i j : ℕ) (before : Slot) → i ≡ j → i < length slots → before ≡ slice_index_or slots i before → before ≡ slice_index_or slots j Unknown
-item_at slots i j before at within found = found ∙ same_item slots i before Unknown within ∙ ap (λ j. slice_index_or slots j Unknown) at
+item_at slots i j before at within found = found ∙ get_or_default slots i before Unknown within ∙ ap (λ j. slice_index_or slots j Unknown) at
 
 module _ (shift : ℕ) where
   -- ---- what a slot says of a map, by its cases
@@ -68,7 +62,7 @@ module _ (shift : ℕ) where
 
     other_slot : (q : Key) (j : ℕ) → slot_of shift q ≡ j → (j ≡ slot_of shift k → ⊥) → eq_by_cmp key_cmp k q ≡ false
     other_slot q j own apart = elim (eq_by_cmp key_cmp k q) as (λ b. eq_by_cmp key_cmp k q ≡ b → b ≡ false) [
-      | true ↦ λ e. absurd (apart (sym own ∙ ap (slot_of shift) (sym (same_key k q e))))
+      | true ↦ λ e. absurd (apart (sym own ∙ ap (slot_of shift) (sym (equal_keys k q e))))
       | false ↦ λ e. refl
     ] refl
 
@@ -101,7 +95,7 @@ module _ (shift : ℕ) where
     put_says : (s : Slot) → Says m (slot_of shift noted.rank) s → Says n (slot_of shift noted.rank) (put_in key_cmp s noted)
     put_says Free h = (there, λ q own other. elsewhere m n noted.rank (Some (entry_of noted)) updates q other ∙ h q own)
     put_says (Only old) h = elim (eq_by_cmp key_cmp old.rank noted.rank) as (λ b. eq_by_cmp key_cmp old.rank noted.rank ≡ b → Says n (slot_of shift noted.rank) (cond b (Only noted) (One noted))) [
-      | true ↦ λ e. (there, λ q own other. elsewhere m n noted.rank (Some (entry_of noted)) updates q other ∙ h.1 q own (subst (λ x. eq_by_cmp key_cmp x q ≡ false) (sym (same_key old.rank noted.rank e)) other))
+      | true ↦ λ e. (there, λ q own other. elsewhere m n noted.rank (Some (entry_of noted)) updates q other ∙ h.1 q own (subst (λ x. eq_by_cmp key_cmp x q ≡ false) (sym (equal_keys old.rank noted.rank e)) other))
       | false ↦ λ e. there
     ] refl
     put_says (One old) h = there
@@ -129,7 +123,7 @@ module _ (shift : ℕ) where
     still : (old : Noted) → eq_by_cmp key_cmp old.rank k ≡ false → IsThere key_cmp shift m (slot_of shift k) old → IsThere key_cmp shift n (slot_of shift k) old
     still old apart h = (
       elsewhere m n k None updates old.rank (elim (eq_by_cmp key_cmp k old.rank) as (λ b. eq_by_cmp key_cmp k old.rank ≡ b → b ≡ false) [
-        | true ↦ λ e. let differs : eq_by_cmp key_cmp old.rank old.rank ≡ false = subst (λ x. eq_by_cmp key_cmp old.rank x ≡ false) (same_key k old.rank e) apart in sym (itself old.rank) ∙ differs
+        | true ↦ λ e. let differs : eq_by_cmp key_cmp old.rank old.rank ≡ false = subst (λ x. eq_by_cmp key_cmp old.rank x ≡ false) (equal_keys k old.rank e) apart in sym (itself old.rank) ∙ differs
         | false ↦ λ e. refl
       ] refl) ∙ h.0,
       h.1,
@@ -138,7 +132,7 @@ module _ (shift : ℕ) where
     taken_says : (s : Slot) → Says m (slot_of shift k) s → Says n (slot_of shift k) (taken_out key_cmp s k)
     taken_says Free h = λ q own. not_there q (λ other. h q own)
     taken_says (Only old) h = elim (eq_by_cmp key_cmp old.rank k) as (λ b. eq_by_cmp key_cmp old.rank k ≡ b → Says n (slot_of shift k) (cond b Free (Only old))) [
-      | true ↦ λ e. λ q own. not_there q (λ other. h.1 q own (subst (λ x. eq_by_cmp key_cmp x q ≡ false) (sym (same_key old.rank k e)) other))
+      | true ↦ λ e. λ q own. not_there q (λ other. h.1 q own (subst (λ x. eq_by_cmp key_cmp x q ≡ false) (sym (equal_keys old.rank k e)) other))
       | false ↦ λ e. (still old e h.0, λ q own other. not_there q (λ _. h.1 q own other))
     ] refl
     taken_says (One old) h = elim (eq_by_cmp key_cmp old.rank k) as (λ b. eq_by_cmp key_cmp old.rank k ≡ b → Says n (slot_of shift k) (cond b Unknown (One old))) [
@@ -164,7 +158,7 @@ module _ (shift : ℕ) where
 pub only_found : (shift : ℕ) (m : BTreeMap Key Entry) (slots : List Slot) (k : Key) (noted : Noted) → IsIndexed key_cmp shift m slots → slice_index_or slots (slot_of shift k) Unknown ≡ Only noted
     → cond (eq_by_cmp key_cmp noted.rank k) (Some (entry_of noted)) None ≡ get key_cmp m k
 only_found shift m slots k noted is e = elim (eq_by_cmp key_cmp noted.rank k) as (λ b. eq_by_cmp key_cmp noted.rank k ≡ b → cond b (Some (entry_of noted)) None ≡ get key_cmp m k) [
-  | true ↦ λ y. sym (subst (λ x. get key_cmp m x ≡ Some (entry_of noted)) (same_key noted.rank k y) (is.2 (slot_of shift k) noted e).0)
+  | true ↦ λ y. sym (subst (λ x. get key_cmp m x ≡ Some (entry_of noted)) (equal_keys noted.rank k y) (is.2 (slot_of shift k) noted e).0)
   | false ↦ λ n. sym (is.1 (slot_of shift k) noted k e refl n)
 ] refl
 
@@ -172,6 +166,6 @@ only_found shift m slots k noted is e = elim (eq_by_cmp key_cmp noted.rank k) as
 pub one_found : (shift : ℕ) (m : BTreeMap Key Entry) (slots : List Slot) (k : Key) (noted : Noted) (found : Entry) → IsIndexed key_cmp shift m slots → slice_index_or slots (slot_of shift k) Unknown ≡ One noted
     → cond (eq_by_cmp key_cmp noted.rank k) (Some (entry_of noted)) None ≡ Some found → Some found ≡ get key_cmp m k
 one_found shift m slots k noted found is e h = elim (eq_by_cmp key_cmp noted.rank k) as (λ b. eq_by_cmp key_cmp noted.rank k ≡ b → cond b (Some (entry_of noted)) None ≡ Some found → Some found ≡ get key_cmp m k) [
-  | true ↦ λ y s. sym s ∙ sym (subst (λ x. get key_cmp m x ≡ Some (entry_of noted)) (same_key noted.rank k y) (is.3 (slot_of shift k) noted e).0)
+  | true ↦ λ y s. sym s ∙ sym (subst (λ x. get key_cmp m x ≡ Some (entry_of noted)) (equal_keys noted.rank k y) (is.3 (slot_of shift k) noted e).0)
   | false ↦ λ n s. cc
 ] refl h

@@ -7,7 +7,6 @@ use Rattle.std.specs.Ordering.{eq_by_cmp, is_eq, is_lt}
 use Rattle.std.specs.Cmp.{IsTotalOrder, eq_by_cmp_equiv, Equal-is}
 use Rattle.std.specs.List.{IsDistinct, AllByRecursion}
 use Rattle.std.specs.Map.{lookup, keys_of}
-use Rattle.std.specs.BTreeMap.{Updates}
 use Rattle.std.specs.FinMap as finite
 use Rattle.std.specs.FinMap.{FinMap, find, is_sorted, entries_sorted, get-entries, len-entries, contains_key-keys, get-insert, len-insert, get-remove, get-empty, len-empty}
 use Rattle.std.specs.FinMap.Entries.{below_all}
@@ -21,17 +20,14 @@ use Rattle.caches.specs.declared.fault.CacheFault.{CacheFault}
 use Rattle.caches.specs.declared.caches.Caches.TheInside.{Inside}
 use Rattle.caches.specs.Blocks.{IsBlock}
 use Rattle.caches.specs.Covers.{covers}
-use Rattle.caches.specs.Keys.{key_of, page_of, span_of, covers_key, IsKept}
+use Rattle.caches.specs.Keys.{key_of, page_of, span_of, IsKept}
 use Rattle.caches.specs.Spanned.{IsSpanOf}
 use Rattle.caches.specs.TagOrder.{tag_cmp, tag_cmp_total, tag_cmp_exact}
 use Rattle.caches.specs.Held.{Entries, without_covered}
-use Rattle.caches.specs.Stored.{Stored, IsFilled}
-use Rattle.caches.specs.Puts.{IsPut}
-use Rattle.caches.specs.Sweep.{IsWithout}
-use Rattle.caches.specs.Views.{stored, tagged, AreCaches}
-use Rattle.caches.proofs.KeyOrder.{key_cmp}
+use Rattle.caches.specs.Stored.{IsFilled}
+use Rattle.caches.specs.Views.{AreCaches}
 use Rattle.caches.proofs.Pruned.{some_was}
-use Rattle.caches.proofs.Viewed.{look_is, get_without_covered, stored_without, stored_insert, stored_remove}
+use Rattle.caches.proofs.Viewed.{get_without_covered}
 
 left : (a b : Bool) → T (a && b) → T a
 left true b p = tt
@@ -75,9 +71,9 @@ spans_same : (a b : Inside) (n : ℕ) → b.spans ≡ a.spans → IsSpanOf a.spa
 spans_same a b n same h = subst (λ s. IsSpanOf s n) (sym same) h
 
 -- Removing what passes a test leaves valid caches.
-less_are : (a b : Inside) → b.capacity ≡ a.capacity → b.spans ≡ a.spans → AreCaches a → (p : Tag → Bool) → ((t : Tag) → finite.get (stored b).entries t ≡ cond (p t) None (finite.get (stored a).entries t)) → AreCaches b
+less_are : (a b : Inside) → b.capacity ≡ a.capacity → b.spans ≡ a.spans → AreCaches a → (p : Tag → Bool) → ((t : Tag) → finite.get b.held t ≡ cond (p t) None (finite.get a.held t)) → AreCaches b
 less_are a b same spans h p less =
-    let shrinks = shorter tag_cmp_total (stored a).entries (stored b).entries (λ t s. some_within (p t) _ (subst IsSome (less t) s)) in
+    let shrinks = shorter tag_cmp_total a.held b.held (λ t s. some_within (p t) _ (subst IsSome (less t) s)) in
     let room = h.room in
     let limit = h.limit in
     record {
@@ -90,13 +86,13 @@ less_are a b same spans h p less =
 pub len_without : (c : Command) (m : Entries) → finite.len (without_covered c m) ≤ finite.len m
 len_without c m = shorter tag_cmp_total m (without_covered c m) (λ t s. some_within (covers c t) _ (subst IsSome (get_without_covered c m t) s))
 
-pub are_without : (c : Command) (a b : Inside) → b.capacity ≡ a.capacity → b.spans ≡ a.spans → AreCaches a → IsWithout key_cmp (covers_key c) a.map.ordered b.map.ordered → AreCaches b
-are_without c a b same spans h w = less_are a b same spans h (covers c) (λ t. ap (λ m. finite.get m t) (stored_without c a b w) ∙ get_without_covered c (stored a).entries t)
+pub are_without : (c : Command) (a b : Inside) → b.capacity ≡ a.capacity → b.spans ≡ a.spans → AreCaches a → b.held ≡ without_covered c a.held → AreCaches b
+are_without c a b same spans h e = less_are a b same spans h (covers c) (λ t. ap (λ m. finite.get m t) e ∙ get_without_covered c a.held t)
 
-pub are_evicted : (a b : Inside) (t : Tag) → b.capacity ≡ a.capacity → b.spans ≡ a.spans → AreCaches a → Updates key_cmp a.map.ordered b.map.ordered (key_of t) None → AreCaches b
-are_evicted a b t same spans h u = less_are a b same spans h (λ q. eq_by_cmp tag_cmp q t) (λ q. ap (λ m. finite.get m q) (stored_remove a b t u) ∙ get-remove tag_cmp_total (stored a).entries t q)
+pub are_evicted : (a b : Inside) (t : Tag) → b.capacity ≡ a.capacity → b.spans ≡ a.spans → AreCaches a → b.held ≡ finite.remove a.held t → AreCaches b
+are_evicted a b t same spans h e = less_are a b same spans h (λ q. eq_by_cmp tag_cmp q t) (λ q. ap (λ m. finite.get m q) e ∙ get-remove tag_cmp_total a.held t q)
 
-pub are_empty : (a : Inside) → a.capacity ≤ 65536 → (stored a).entries ≡ finite.empty → AreCaches a
+pub are_empty : (a : Inside) → a.capacity ≤ 65536 → a.held ≡ finite.empty → AreCaches a
 are_empty a h e = record {
   limit = h;
   room = subst (λ m. finite.len m ≤ a.capacity) (sym e) (omega (arith, len-empty tag_cmp Entry));
@@ -130,31 +126,24 @@ spanned_at b x q o e here old is =
       | false ↦ λ n s. old s
     ] refl is
 
-are_filled : (a b : Inside) (x : Entry) → b.capacity ≡ a.capacity → IsSpanOf b.spans (span_of (key_of x.tag)) → ((n : ℕ) → IsSpanOf a.spans n → IsSpanOf b.spans n) → AreCaches a → IsKept x.tag x → (is_some (finite.get (stored a).entries x.tag) ≡ true) ⊎ (finite.len (stored a).entries < a.capacity) → (stored b).entries ≡ finite.insert (stored a).entries x.tag x → AreCaches b
+are_filled : (a b : Inside) (x : Entry) → b.capacity ≡ a.capacity → IsSpanOf b.spans (span_of (key_of x.tag)) → ((n : ℕ) → IsSpanOf a.spans n → IsSpanOf b.spans n) → AreCaches a → IsKept x.tag x → (is_some (finite.get a.held x.tag) ≡ true) ⊎ (finite.len a.held < a.capacity) → b.held ≡ finite.insert a.held x.tag x → AreCaches b
 are_filled a b x same added more h here room e =
-    let longer : finite.len (finite.insert (stored a).entries x.tag x) ≤ a.capacity = subst (λ n. n ≤ a.capacity) (sym (len-insert tag_cmp_total (stored a).entries x.tag x)) (one_more (is_some (finite.get (stored a).entries x.tag)) (finite.len (stored a).entries) a.capacity h.room room) in
+    let longer : finite.len (finite.insert a.held x.tag x) ≤ a.capacity = subst (λ n. n ≤ a.capacity) (sym (len-insert tag_cmp_total a.held x.tag x)) (one_more (is_some (finite.get a.held x.tag)) (finite.len a.held) a.capacity h.room room) in
     let limit = h.limit in
-    let fits : finite.len (stored b).entries ≤ a.capacity = subst (λ n. finite.len n ≤ a.capacity) (sym e) longer in
+    let fits : finite.len b.held ≤ a.capacity = subst (λ n. finite.len n ≤ a.capacity) (sym e) longer in
     record {
       limit = omega (arith, same, limit);
       room = omega (arith, same, fits);
-      kept = λ q y is. kept_at x q (finite.get (stored a).entries q) y here (h.kept q y) (sym (ap (λ n. finite.get n q) e ∙ get-insert tag_cmp_total (stored a).entries x.tag x q) ∙ is);
-      spanned = λ q y is. spanned_at b x q (finite.get (stored a).entries q) y added (λ old. more _ (h.spanned q y old)) (sym (ap (λ n. finite.get n q) e ∙ get-insert tag_cmp_total (stored a).entries x.tag x q) ∙ is);
+      kept = λ q y is. kept_at x q (finite.get a.held q) y here (h.kept q y) (sym (ap (λ n. finite.get n q) e ∙ get-insert tag_cmp_total a.held x.tag x q) ∙ is);
+      spanned = λ q y is. spanned_at b x q (finite.get a.held q) y added (λ old. more _ (h.spanned q y old)) (sym (ap (λ n. finite.get n q) e ∙ get-insert tag_cmp_total a.held x.tag x q) ∙ is);
     }
 
-same_stored : (a b : Inside) → b.map.ordered.entries ≡ a.map.ordered.entries → (stored b).entries ≡ (stored a).entries
-same_stored a b e = ap (λ es. finite.from_entries {R = tag_cmp} (tagged es)) e
-
 pub put_are : (a b : Inside) (x : Entry) (r : Result (Option Entry) CacheFault) → b.capacity ≡ a.capacity → IsSpanOf b.spans (span_of (key_of x.tag)) → ((n : ℕ) → IsSpanOf a.spans n → IsSpanOf b.spans n) → AreCaches a → IsBlock x.tag → page_of (key_of x.tag) < 2 ^ 52
-    → (finite.get (stored a).entries x.tag ≡ None → finite.len (stored a).entries < a.capacity) → IsPut key_cmp a.map.ordered (key_of x.tag) x b.map.ordered r → AreCaches b
-put_are a b x (Ok was) same added more h block page room p = are_filled a b x same added more h (kept_here x block page) (room_of _ _ _ room) (stored_insert a b x.tag x p.1)
+    → (finite.get a.held x.tag ≡ None → finite.len a.held < a.capacity) → IsFilled a.held x b.held r → AreCaches b
+put_are a b x (Ok was) same added more h block page room p = are_filled a b x same added more h (kept_here x block page) (room_of _ _ _ room) p.1
 put_are a b x (Err f) same added more h block page room p =
     let limit = h.limit in
     let old = h.room in
-    let e = same_stored a b p.1 in
-    let fits : finite.len (stored b).entries ≤ a.capacity = subst (λ n. finite.len n ≤ a.capacity) (sym e) old in
+    let e = p.1 in
+    let fits : finite.len b.held ≤ a.capacity = subst (λ n. finite.len n ≤ a.capacity) (sym e) old in
     record { limit = omega (arith, same, limit); room = omega (arith, same, fits); kept = λ q y is. h.kept q y (subst (λ n. finite.get n q ≡ Some y) e is); spanned = λ q y is. more _ (h.spanned q y (subst (λ n. finite.get n q ≡ Some y) e is)) }
-
-pub put_filled : (a b : Inside) (s : Stored) (x : Entry) (r : Result (Option Entry) CacheFault) → stored a ≡ s → IsPut key_cmp a.map.ordered (key_of x.tag) x b.map.ordered r → IsFilled s.entries x (stored b).entries r
-put_filled a b s x (Ok was) e p = (p.0 ∙ sym (look_is a x.tag) ∙ ap (λ (y : Stored). finite.get y.entries x.tag) e, stored_insert a b x.tag x p.1 ∙ ap (λ (y : Stored). finite.insert y.entries x.tag x) e)
-put_filled a b s x (Err f) e p = (p.0, same_stored a b p.1 ∙ ap (λ (y : Stored). y.entries) e, ap (λ (y : Stored). finite.get y.entries x.tag) (sym e) ∙ look_is a x.tag ∙ p.2)

@@ -1,11 +1,13 @@
 pub mod Ahead
 pub mod Aligned
 pub mod Back
+pub mod Crossing
 pub mod InOrder
 pub mod Indexed
 pub mod Kept
 pub mod KeyOrder
 pub mod LawLemmas
+pub mod OnePages
 pub mod Pruned
 pub mod RangeLaw
 pub mod RankOrder

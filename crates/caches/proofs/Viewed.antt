@@ -1,15 +1,16 @@
--- The ordered map as a finite map of tags: its entry at a tag, and its length.
-use Rattle.std.proofs.Common.{IfSome, IsSome, ◌≡◌, ◌+◌, Bool, true, false, not, Option, Some, None, is_some, refl, sym, ◌∙◌, ap, subst, List, [], ◌∷◌, length, arith, cond}
+-- The entries of an ordered map but the listed ones, as a finite map of tags: its entry at a tag, and its length.
+use Rattle.std.proofs.Common.{IfSome, ◌≡◌, zero, suc, ◌+◌, ◌-◌, ◌≤◌, Bool, true, false, not, ◌&&◌, ◌||◌, Option, Some, None, is_some, refl, sym, ◌∙◌, ap, subst, List, [], ◌∷◌, ◌++◌, length, arith, cond}
 use Rattle.std.specs.declared.cmp.Ordering.{Ordering}
 use Rattle.std.specs.declared.cmp.Ordering.TheVariants.{Less, Equal, Greater}
 use Rattle.std.specs.Ordering.{eq_by_cmp, is_eq}
-use Rattle.std.specs.Cmp.{tied_itself, eq_by_cmp_equiv}
+use Rattle.std.specs.Cmp.{tied_itself, eq_by_cmp_equiv, Equal-is}
+use Rattle.std.specs.List.{list_any}
 use Rattle.std.specs.List.Sorted.{IsStrictlySortedBy}
 use Rattle.std.specs.Map.{lookup, keys_of}
-use Rattle.std.specs.BTreeMap.{is_at, Updates}
+use Rattle.std.specs.BTreeMap.{BTreeMap, is_at, Updates}
 use Rattle.std.specs.BTreeMap as tree
 use Rattle.std.specs.FinMap as finite
-use Rattle.std.specs.FinMap.{find, get-from_entries, len-insert, len-empty, get-retain_keys, get-insert, get-remove, same_map}
+use Rattle.std.specs.FinMap.{find, get-from_entries, len-insert, len-remove, get-empty, len-empty, empty_of_len, get-retain_keys, get-insert, get-remove, same_map}
 use Rattle.std.proofs.lemmas.Map.{lookup-none}
 use Rattle.std.proofs.lemmas.Map.Entries.{none_past_head}
 use Rattle.std.proofs.lemmas.Map.Keys.{IsDistinct-from_sorted, sorted_tail}
@@ -21,15 +22,14 @@ use Rattle.caches.specs.declared.tag.Entry.{Entry}
 use Rattle.caches.specs.declared.key.Stage.TheVariants.{Two, One}
 use Rattle.caches.specs.declared.key.Key.{Key}
 use Rattle.caches.specs.declared.key.Key.TheVariants.{Configuration, Machine, Hypervisor, Endpoint}
-use Rattle.caches.specs.declared.caches.Caches.TheInside.{Inside}
 use Rattle.caches.specs.Covers.{covers}
-use Rattle.caches.specs.Keys.{key_of, span_of, tag_of, covers_key, IsKept}
-use Rattle.caches.specs.Spanned.{IsSpanOf, AreSpansOf}
+use Rattle.caches.specs.Keys.{key_of, tag_of, covers_key}
 use Rattle.caches.specs.TagOrder.{tag_cmp, tag_cmp_total, tag_cmp_exact}
 use Rattle.caches.specs.Held.{Entries, without_covered}
-use Rattle.caches.specs.Sweep.{IsWithout, IsKeeping}
-use Rattle.caches.specs.Views.{tagged, stored}
+use Rattle.caches.specs.Sweep.{IsWithout}
+use Rattle.caches.specs.Unlisted.{tagged, is_listed, unlisted}
 use Rattle.caches.proofs.KeyOrder.{key_cmp, key_total, key_exact}
+use Rattle.caches.proofs.Pruned.{none_either}
 
 -- ---- tags and keys
 pub tag_back : (t : Tag) → tag_of (key_of t) ≡ t
@@ -71,22 +71,20 @@ same_option (Some x) b f g = sym (f x refl)
 same_option None (Some y) f g = g y refl
 same_option None None f g = refl
 
-find_tagged : (t : Tag) (es : List (Key × Entry)) → find tag_cmp t (tagged es) ≡ lookup (is_at (key_cmp (key_of t))) es
+pub find_tagged : (t : Tag) (es : List (Key × Entry)) → find tag_cmp t (tagged es) ≡ lookup (is_at (key_cmp (key_of t))) es
 find_tagged t [] = refl
 find_tagged t (e ∷ es) = ap (λ b. cond b (Some e.1) (find tag_cmp t (tagged es))) (same_key t e.0) ∙ ap (cond (eq_by_cmp key_cmp (key_of t) e.0) (Some e.1)) (find_tagged t es)
 
-pub look_is : (a : Inside) (t : Tag) → finite.get (stored a).entries t ≡ tree.get key_cmp a.map.ordered (key_of t)
-look_is a t = get-from_entries tag_cmp_total (tagged a.map.ordered.entries) t ∙ find_tagged t a.map.ordered.entries
+found : (m : BTreeMap Key Entry) (t : Tag) → finite.get (finite.from_entries {R = tag_cmp} (tagged m.entries)) t ≡ tree.get key_cmp m (key_of t)
+found m t = get-from_entries tag_cmp_total (tagged m.entries) t ∙ find_tagged t m.entries
 
-pub keeping : (a : Inside) → ((t : Tag) (e : Entry) → finite.get (stored a).entries t ≡ Some e → IsKept t e) → IsKeeping key_cmp a.map.ordered
-keeping a kept q e is = kept (tag_of q) e (look_is a (tag_of q) ∙ ap (λ k. tree.get key_cmp a.map.ordered k) (key_back q) ∙ is)
+turned : {A : Type 0} (b : Bool) (x y : A) → cond (not b) x y ≡ cond b y x
+turned true x y = refl
+turned false x y = refl
 
-pub spanning : (a : Inside) → ((t : Tag) (e : Entry) → finite.get (stored a).entries t ≡ Some e → IsSpanOf a.spans (span_of (key_of t))) → AreSpansOf a.spans key_cmp a.map.ordered
-spanning a spanned q some =
-    elim (tree.get key_cmp a.map.ordered q) as (λ o. tree.get key_cmp a.map.ordered q ≡ o → IsSome o → IsSpanOf a.spans (span_of q)) [
-      | None ↦ λ e s. cc
-      | Some x ↦ λ e s. subst (λ k. IsSpanOf a.spans (span_of k)) (key_back q) (spanned (tag_of q) x (look_is a (tag_of q) ∙ ap (λ k. tree.get key_cmp a.map.ordered k) (key_back q) ∙ e))
-    ] refl some
+pub get_unlisted : (m : BTreeMap Key Entry) (ks : List Key) (t : Tag) → finite.get (unlisted m ks) t ≡ cond (is_listed ks t) None (tree.get key_cmp m (key_of t))
+get_unlisted m ks t = get-retain_keys (finite.from_entries (tagged m.entries)) (λ t. not (is_listed ks t)) t (λ x e. ap (λ y. not (is_listed ks y)) (sym (tag_cmp_exact t x e)))
+    ∙ turned (is_listed ks t) _ _ ∙ ap (cond (is_listed ks t) None) (found m t)
 
 -- ---- the length
 abbrev Fresh : List (Tag × Entry) → Type 0
@@ -110,34 +108,144 @@ fresh_tagged (e ∷ es) s =
     let none : lookup (is_at (key_cmp e.0)) es ≡ None = lookup-none (is_at (key_cmp e.0)) es (none_past_head (eq_by_cmp_equiv key_total) e.0 e es (IsDistinct-from_sorted key_cmp (keys_of (e ∷ es)) s) (ap is_eq (tied_itself key_total e.0))) in
     (find_tagged (tag_of e.0) es ∙ ap (λ k. lookup (is_at (key_cmp k)) es) (key_back e.0) ∙ none, fresh_tagged es (sorted_tail key_cmp e.0 (keys_of es) s))
 
-pub len_is : (a : Inside) → tree.IsOrdered key_cmp a.map.ordered → finite.len (stored a).entries ≡ length a.map.ordered.entries
-len_is a s = len_fresh (tagged a.map.ordered.entries) (fresh_tagged a.map.ordered.entries s) ∙ length_tagged a.map.ordered.entries
+pub len_unlisted : (m : BTreeMap Key Entry) → tree.IsOrdered key_cmp m → finite.len (unlisted m []) ≡ length m.entries
+len_unlisted m s =
+    let all : unlisted m [] ≡ finite.from_entries (tagged m.entries) = same_map tag_cmp_total tag_cmp_exact _ _ (λ t. get_unlisted m [] t ∙ sym (found m t)) in
+    ap finite.len all ∙ len_fresh (tagged m.entries) (fresh_tagged m.entries s) ∙ length_tagged m.entries
+
+-- Nothing is in an empty map.
+pub unlisted_empty : (m : BTreeMap Key Entry) → tree.IsEmpty m → unlisted m [] ≡ finite.empty
+unlisted_empty m none = same_map tag_cmp_total tag_cmp_exact _ _ (λ t. get_unlisted m [] t ∙ ap (lookup (is_at (key_cmp (key_of t)))) none ∙ sym (get-empty tag_cmp t))
 
 -- ---- commands
-turned : {A : Type 0} (b : Bool) (x y : A) → cond (not b) x y ≡ cond b y x
-turned true x y = refl
-turned false x y = refl
-
 pub get_without_covered : (c : Command) (m : Entries) (t : Tag) → finite.get (without_covered c m) t ≡ cond (covers c t) None (finite.get m t)
 get_without_covered c m t = get-retain_keys m (λ t. not (covers c t)) t (λ x e. ap (λ y. not (covers c y)) (sym (tag_cmp_exact t x e))) ∙ turned (covers c t) _ _
 
-pub stored_without : (c : Command) (a b : Inside) → IsWithout key_cmp (covers_key c) a.map.ordered b.map.ordered → (stored b).entries ≡ without_covered c (stored a).entries
-stored_without c a b w = same_map tag_cmp_total tag_cmp_exact _ _ (λ t. look_is b t ∙ w (key_of t)
-    ∙ ap (λ u. cond (covers c u) None (tree.get key_cmp a.map.ordered (key_of t))) (tag_back t)
-    ∙ sym (get_without_covered c (stored a).entries t ∙ ap (cond (covers c t) None) (look_is a t)))
+pub unlisted_without : (c : Command) (m n : BTreeMap Key Entry) → IsWithout key_cmp (covers_key c) m n → unlisted n [] ≡ without_covered c (unlisted m [])
+unlisted_without c m n w = same_map tag_cmp_total tag_cmp_exact _ _ (λ t. get_unlisted n [] t ∙ w (key_of t)
+    ∙ ap (λ u. cond (covers c u) None (tree.get key_cmp m (key_of t))) (tag_back t)
+    ∙ sym (get_without_covered c (unlisted m []) t ∙ ap (cond (covers c t) None) (get_unlisted m [] t)))
 
 -- ---- one entry put in or taken out
 flip : (x y : Tag) → eq_by_cmp tag_cmp x y ≡ eq_by_cmp tag_cmp y x
 flip x y = (eq_by_cmp_equiv tag_cmp_total).symm x y
 
-updated : (a b : Inside) (t : Tag) (w : Option Entry) → Updates key_cmp a.map.ordered b.map.ordered (key_of t) w → (q : Tag) → finite.get (stored b).entries q ≡ cond (eq_by_cmp tag_cmp q t) w (finite.get (stored a).entries q)
-updated a b t w u q = look_is b q ∙ u.0 (key_of q) ∙ ap (λ x. cond x w (tree.get key_cmp a.map.ordered (key_of q))) (sym (flip q t ∙ same_tags t q)) ∙ ap (cond (eq_by_cmp tag_cmp q t) w) (sym (look_is a q))
+-- Whether a key is that of a tag.
+at_tag : (k : Key) (t : Tag) → eq_by_cmp key_cmp k (key_of t) ≡ eq_by_cmp tag_cmp t (tag_of k)
+at_tag k t = ap (λ x. eq_by_cmp key_cmp x (key_of t)) (sym (key_back k)) ∙ sym (same_tags (tag_of k) t) ∙ flip (tag_of k) t
 
-pub stored_insert : (a b : Inside) (t : Tag) (e : Entry) → Updates key_cmp a.map.ordered b.map.ordered (key_of t) (Some e) → (stored b).entries ≡ finite.insert (stored a).entries t e
-stored_insert a b t e u = same_map tag_cmp_total tag_cmp_exact _ _ (λ q. updated a b t (Some e) u q ∙ sym (get-insert tag_cmp_total (stored a).entries t e q))
+pub listed_none : (ks : List Key) (t : Tag) → length ks ≡ 0 → is_listed ks t ≡ false
+listed_none [] t e = refl
+listed_none (k ∷ ks) t e = absurd (omega (arith, e))
 
-pub stored_remove : (a b : Inside) (t : Tag) → Updates key_cmp a.map.ordered b.map.ordered (key_of t) None → (stored b).entries ≡ finite.remove (stored a).entries t
-stored_remove a b t u = same_map tag_cmp_total tag_cmp_exact _ _ (λ q. updated a b t None u q ∙ sym (get-remove tag_cmp_total (stored a).entries t q))
+listed_push : (ks : List Key) (k : Key) (t : Tag) → is_listed (ks ++ k ∷ []) t ≡ (eq_by_cmp tag_cmp t (tag_of k) || is_listed ks t)
+listed_push [] k t = refl
+listed_push (x ∷ ks) k t = ap (λ b. eq_by_cmp tag_cmp t (tag_of x) || b) (listed_push ks k t) ∙ swapped (eq_by_cmp tag_cmp t (tag_of x)) (eq_by_cmp tag_cmp t (tag_of k)) (is_listed ks t)
+  where
+    swapped : (a b c : Bool) → (a || (b || c)) ≡ (b || (a || c))
+    swapped true true c = refl
+    swapped true false c = refl
+    swapped false true c = refl
+    swapped false false c = refl
+
+none_if_either : {X : Type 0} (a b : Bool) (o : Option X) → cond (a || b) None o ≡ cond a None (cond b None o)
+none_if_either true b o = refl
+none_if_either false b o = refl
+
+pub either_order : {X : Type 0} (a b : Bool) (o : Option X) → cond (a || b) None o ≡ cond b None (cond a None o)
+either_order true true o = refl
+either_order true false o = refl
+either_order false true o = refl
+either_order false false o = refl
+
+-- A key that is listed counts as removed.
+pub unlisted_push : (m : BTreeMap Key Entry) (ks : List Key) (k : Key) → unlisted m (ks ++ k ∷ []) ≡ finite.remove (unlisted m ks) (tag_of k)
+unlisted_push m ks k = same_map tag_cmp_total tag_cmp_exact _ _ (λ t. get_unlisted m (ks ++ k ∷ []) t
+    ∙ ap (λ b. cond b None (tree.get key_cmp m (key_of t))) (listed_push ks k t) ∙ none_if_either (eq_by_cmp tag_cmp t (tag_of k)) (is_listed ks t) (tree.get key_cmp m (key_of t))
+    ∙ sym (get-remove tag_cmp_total (unlisted m ks) (tag_of k) t ∙ ap (cond (eq_by_cmp tag_cmp t (tag_of k)) None) (get_unlisted m ks t)))
+
+-- It may as well be taken out of the map.
+pub unlisted_taken : (m n : BTreeMap Key Entry) (ks : List Key) (k : Key) → Updates key_cmp m n k None → unlisted n ks ≡ unlisted m (ks ++ k ∷ [])
+unlisted_taken m n ks k u = same_map tag_cmp_total tag_cmp_exact _ _ (λ t. get_unlisted n ks t ∙ ap (cond (is_listed ks t) None) (u.0 (key_of t) ∙ ap (λ b. cond b None (tree.get key_cmp m (key_of t))) (at_tag k t))
+    ∙ sym (get_unlisted m (ks ++ k ∷ []) t ∙ ap (λ b. cond b None (tree.get key_cmp m (key_of t))) (listed_push ks k t) ∙ either_order (eq_by_cmp tag_cmp t (tag_of k)) (is_listed ks t) (tree.get key_cmp m (key_of t))))
+
+-- The entry of a key that isn't listed is put in.
+pub unlisted_put : (m n : BTreeMap Key Entry) (ks : List Key) (k : Key) (e : Entry) → is_listed ks (tag_of k) ≡ false → Updates key_cmp m n k (Some e) → unlisted n ks ≡ finite.insert (unlisted m ks) (tag_of k) e
+unlisted_put m n ks k e unlisted_key u = same_map tag_cmp_total tag_cmp_exact _ _ (λ t. get_unlisted n ks t ∙ ap (cond (is_listed ks t) None) (u.0 (key_of t) ∙ ap (λ b. cond b (Some e) (tree.get key_cmp m (key_of t))) (at_tag k t))
+    ∙ here (tree.get key_cmp m (key_of t)) t
+    ∙ sym (get-insert tag_cmp_total (unlisted m ks) (tag_of k) e t ∙ ap (cond (eq_by_cmp tag_cmp t (tag_of k)) (Some e)) (get_unlisted m ks t)))
+  where
+    here : (o : Option Entry) (t : Tag) → cond (is_listed ks t) None (cond (eq_by_cmp tag_cmp t (tag_of k)) (Some e) o) ≡ cond (eq_by_cmp tag_cmp t (tag_of k)) (Some e) (cond (is_listed ks t) None o)
+    here o t = elim (eq_by_cmp tag_cmp t (tag_of k)) as (λ b. eq_by_cmp tag_cmp t (tag_of k) ≡ b → cond (is_listed ks t) None (cond b (Some e) o) ≡ cond b (Some e) (cond (is_listed ks t) None o)) [
+      | true ↦ λ at. ap (λ b. cond b None (Some e)) (subst (λ x. is_listed ks x ≡ false) (sym (tag_cmp_exact t (tag_of k) ((Equal-is (tag_cmp t (tag_of k))).0 at))) unlisted_key)
+      | false ↦ λ _. refl
+    ] refl
+
+-- Whether a key is listed, as a search by its rank tells.
+pub contained : (ks : List Key) (k : Key) → list_any (λ y. eq_by_cmp key_cmp y k) ks ≡ is_listed ks (tag_of k)
+contained [] k = refl
+contained (x ∷ ks) k = ap (λ b. b || list_any (λ y. eq_by_cmp key_cmp y k) ks) (ap (eq_by_cmp key_cmp x) (sym (key_back k)) ∙ at_tag x (tag_of k)) ∙ ap (λ b. eq_by_cmp tag_cmp (tag_of k) (tag_of x) || b) (contained ks k)
+
+-- Where nothing is, removing changes nothing.
+pub unchanged_remove : (m : Entries) (t : Tag) → finite.get m t ≡ None → m ≡ finite.remove m t
+unchanged_remove m t none = same_map tag_cmp_total tag_cmp_exact _ _ (λ q. sym (get-remove tag_cmp_total m t q
+    ∙ elim (eq_by_cmp tag_cmp q t) as (λ b. eq_by_cmp tag_cmp q t ≡ b → cond b None (finite.get m q) ≡ finite.get m q) [
+      | true ↦ λ at. sym (subst (λ x. finite.get m x ≡ None) (sym (tag_cmp_exact q t ((Equal-is (tag_cmp q t)).0 at))) none)
+      | false ↦ λ _. refl
+    ] refl))
+
+-- ---- what is found, and how many there are
+-- What the map has under a key that isn't listed is found.
+pub unlisted_has : (m : BTreeMap Key Entry) (ks : List Key) (k : Key) → is_listed ks (tag_of k) ≡ false → finite.get (unlisted m ks) (tag_of k) ≡ tree.get key_cmp m k
+unlisted_has m ks k none = get_unlisted m ks (tag_of k) ∙ ap (λ b. cond b None (tree.get key_cmp m (key_of (tag_of k)))) none ∙ ap (tree.get key_cmp m) (key_back k)
+
+pub unlisted_same : (m n : BTreeMap Key Entry) (ks : List Key) → n.entries ≡ m.entries → unlisted n ks ≡ unlisted m ks
+unlisted_same m n ks e = ap (λ es. finite.retain_keys (finite.from_entries {R = tag_cmp} (tagged es)) (λ t. not (is_listed ks t))) e
+
+pub no_option : {X : Type 0} (o : Option X) → is_some o ≡ false → o ≡ None
+no_option None e = refl
+no_option (Some x) e = cc
+
+-- A key that is listed or that the map lacks isn't found.
+pub unlisted_lacks : (m : BTreeMap Key Entry) (ks : List Key) (k : Key) → (is_some (tree.get key_cmp m k) && not (is_listed ks (tag_of k))) ≡ false → finite.get (unlisted m ks) (tag_of k) ≡ None
+unlisted_lacks m ks k none = get_unlisted m ks (tag_of k) ∙ ap (λ x. cond (is_listed ks (tag_of k)) None (tree.get key_cmp m x)) (key_back k) ∙ lacks (is_listed ks (tag_of k)) (tree.get key_cmp m k) none
+  where
+    lacks : (b : Bool) (o : Option Entry) → (is_some o && not b) ≡ false → cond b None o ≡ None
+    lacks true o e = refl
+    lacks false None e = refl
+    lacks false (Some x) e = cc
+
+some_length : (m : Entries) (t : Tag) → is_some (finite.get m t) ≡ true → 1 ≤ finite.len m
+some_length m t some = elim (finite.len m) as (λ n. finite.len m ≡ n → 1 ≤ n) [
+  | zero ↦ λ none. let e : finite.get m t ≡ None = ap (λ x. finite.get x t) (empty_of_len m none) ∙ get-empty tag_cmp t in let f : false ≡ true = sym (ap is_some e) ∙ some in cc
+  | suc n ↦ λ _. omega arith
+] refl
+
+one_less : (m : Entries) (t : Tag) → is_some (finite.get m t) ≡ true → (1 ≤ finite.len m) × (finite.len m - 1 ≡ finite.len (finite.remove m t))
+one_less m t some = (some_length m t some, sym (len-remove tag_cmp_total m t ∙ ap (λ b. cond b (finite.len m - 1) (finite.len m)) some))
+
+-- An entry that is found is noted as removed.
+pub note_removed : (m n : BTreeMap Key Entry) (ks js after : List Key) (k : Key) → is_some (tree.get key_cmp m k) ≡ true → is_listed ks (tag_of k) ≡ false → unlisted n js ≡ unlisted m ks → after ≡ js ++ k ∷ []
+    → (1 ≤ finite.len (unlisted m ks)) × (finite.len (unlisted m ks) - 1 ≡ finite.len (unlisted n after)) × (unlisted n after ≡ finite.remove (unlisted m ks) (tag_of k))
+note_removed m n ks js after k some none same more =
+    let gone : unlisted n after ≡ finite.remove (unlisted m ks) (tag_of k) = ap (unlisted n) more ∙ unlisted_push n js k ∙ ap (λ x. finite.remove x (tag_of k)) same in
+    let less = one_less (unlisted m ks) (tag_of k) (ap is_some (unlisted_has m ks k none) ∙ some) in
+    (less.0, less.1 ∙ sym (ap finite.len gone), gone)
+
+-- An entry is put in under its own key, which isn't listed.
+pub put_in : (m n : BTreeMap Key Entry) (ks : List Key) (k : Key) (e : Entry) (was : Option Entry) → k ≡ key_of e.tag → is_listed ks (tag_of k) ≡ false → (was ≡ tree.get key_cmp m k) × Updates key_cmp m n k (Some e)
+    → (was ≡ finite.get (unlisted m ks) e.tag) × (unlisted n ks ≡ finite.insert (unlisted m ks) e.tag e)
+put_in m n ks k e was own none put =
+    let tag : tag_of k ≡ e.tag = ap tag_of own ∙ tag_back e.tag in
+    (put.0 ∙ sym (unlisted_has m ks k none) ∙ ap (finite.get (unlisted m ks)) tag, unlisted_put m n ks k e none put.1 ∙ ap (λ t. finite.insert (unlisted m ks) t e) tag)
+
+pub len_put : (m : Entries) (t : Tag) (e : Entry) (was : Option Entry) → was ≡ finite.get m t → finite.len (finite.insert m t e) ≡ cond (is_some was) (finite.len m) (finite.len m + 1)
+len_put m t e was is = len-insert tag_cmp_total m t e ∙ ap (λ o. cond (is_some o) (finite.len m) (finite.len m + 1)) (sym is)
+
+pub without_none : (c : Command) (m : Entries) → finite.len m ≡ 0 → m ≡ without_covered c m
+without_none c m none = same_map tag_cmp_total tag_cmp_exact m (without_covered c m) (λ t.
+    let gone : finite.get m t ≡ None = ap (λ x. finite.get x t) (empty_of_len m none) ∙ get-empty tag_cmp t in
+    gone ∙ sym (get_without_covered c m t ∙ none_either (covers c t) (finite.get m t) gone))
 
 -- An entry found under a tag has that tag, if every one found does.
 pub own_tag : (found : Option Entry) (t : Tag) → ((e : Entry) → found ≡ Some e → e.tag ≡ t) → IfSome found (λ e. e.tag ≡ t)

@@ -1,3 +1,4 @@
+pub mod EntryMaps
 pub mod Faults
 pub mod Blocks
 pub mod Covers
@@ -5,6 +6,7 @@ pub mod Held
 pub mod Keys
 pub mod Laws
 pub mod Limits
+pub mod OnePages
 pub mod Puts
 pub mod Ranks
 pub mod Slots
@@ -12,5 +14,6 @@ pub mod Spanned
 pub mod Stored
 pub mod Sweep
 pub mod TagOrder
+pub mod Unlisted
 pub mod Views
 pub mod Walks

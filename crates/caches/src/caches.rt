@@ -1,18 +1,15 @@
-//! The caches: all entries in one ordered map, with an index for look-ups.
+//! The caches: entries up to a capacity, and which spans they had.
 ghost use Rattle.std.specs.Prelude.{◌≡◌, ◌+◌, ◌<◌, ◌≤◌, ◌↔◌, IfOk, IfSome, OnOk, OnErr, Err, None, [], ◌∷◌};
 ghost use Rattle.std.specs.FinMap as finite;
-ghost use Rattle.std.specs.List.Sorted.{IsPermutation, IsSortedByKey};
 ghost use Rattle.caches.specs.Limits.{most_entries, IsCapacity};
-ghost use Rattle.caches.specs.TagOrder.{tag_cmp, numbers};
 ghost use Rattle.caches.specs.declared.tag.Entry.{Entry};
 ghost use Rattle.caches.specs.Blocks.{IsBlock};
 ghost use Rattle.caches.specs.Held.{without_covered, held, History, Fill, Evict, Take};
 ghost use Rattle.caches.specs.Stored.{IsFilled, IsFillAnswer, IsListAnswer};
 
+use crate::entry_map::EntryMap;
 use crate::fault::CacheFault;
-use crate::indexed_map::IndexedMap;
 use crate::key::Key;
-use crate::ranges::remove_all_covered;
 use crate::rank::Rank;
 use crate::spans::Spans;
 use crate::tag::{Entry, Tag};
@@ -28,8 +25,8 @@ pub const MOST_ENTRIES: u32 = 65_536;
 pub struct Caches {
     alloc: Global,
     capacity: u32,
-    map: IndexedMap,
-    /// The spans of the blocks that are or were in the map.
+    held: EntryMap,
+    /// The spans of the blocks that are or were held.
     spans: Spans,
 }
 
@@ -50,8 +47,8 @@ impl Model for Caches {
 impl Caches {
     /// Creates empty caches with a capacity of 1 to 65,536 entries.
     ///
-    /// Takes some 48 bytes for each of them, rounded up to a power of two, for an index; if there is no memory for that,
-    /// look-ups search.
+    /// Takes some 48 bytes for each of them, rounded up to a power of two and at least 48 KiB, for an index; if there is no
+    /// memory for that, look-ups search.
     ///
     /// Errors: only C4, if the capacity is out of this range.
     pub fn new(alloc: Global, capacity: u32) -> Result<Caches, CacheFault>
@@ -65,7 +62,7 @@ impl Caches {
         Ok(Caches {
             alloc,
             capacity,
-            map: IndexedMap::new(alloc, capacity),
+            held: EntryMap::new(alloc, capacity),
             spans: Spans::none(),
         })
     }
@@ -75,7 +72,7 @@ impl Caches {
         ensures value { result ≡ finite.get self.now.entries tag.now }
         ensures own { IfSome result (λ entry. entry.tag ≡ tag.now) }
     {
-        self.map.get(tag)
+        self.held.get(tag)
     }
 
     /// Returns the number of entries held.
@@ -84,7 +81,7 @@ impl Caches {
         ensures within { result ≤ self.now.capacity }
         ensures capacity { self.now.capacity ≤ most_entries }
     {
-        self.map.ordered.len()
+        self.held.len()
     }
 
     /// Returns all entries held, in tag order.
@@ -93,19 +90,7 @@ impl Caches {
     pub fn entries(&self) -> Result<Vec<Entry>, CacheFault>
         ensures { IsListAnswer self.now.entries result }
     {
-        match self
-            .map
-            .ordered
-            .values()
-            .copied()
-            .collect::<Vec<Entry>>(self.alloc)
-        {
-            Ok(mut list) => {
-                sort_by_tag(&mut list);
-                Ok(list)
-            }
-            Err(_) => Err(CacheFault::NoMemory),
-        }
+        self.held.list(self.alloc)
     }
 
     /// Removes the entries that `command` covers and returns how many there were.
@@ -118,7 +103,7 @@ impl Caches {
         ensures held { (h : History) → self.old.entries ≡ held h → self.new.entries ≡ held (Take command.now ∷ h) }
     {
         let before = self.len();
-        remove_all_covered(&mut self.map, &self.spans, command);
+        self.held.remove_covered(&self.spans, command);
         (before - self.len()) as u32
     }
 
@@ -129,7 +114,9 @@ impl Caches {
         ensures capacity { self.new.capacity ≡ self.old.capacity }
         ensures held { (h : History) → self.old.entries ≡ held h → self.new.entries ≡ held (Evict tag.now ∷ h) }
     {
-        self.map.remove(Rank::of(tag))
+        let was = self.held.get(tag);
+        self.held.remove(Rank::of(tag));
+        was
     }
 
     /// Puts `entry` in and returns the one held under its tag before, if any.
@@ -159,20 +146,7 @@ impl Caches {
         ensures put { IsFilled self.old.entries entry self.new.entries result }
         ensures capacity { self.new.capacity ≡ self.old.capacity }
     {
-        let key = Key::of(&entry.tag);
-        self.spans.add(key.span());
-        self.map.put(Rank::at(key), entry)
+        self.spans.add(Key::of(&entry.tag).span());
+        self.held.put(entry)
     }
-}
-
-/// Sorts entries by tag. Takes no memory.
-fn sort_by_tag(list: &mut Vec<Entry>)
-    ensures permutation { IsPermutation list.old.items list.new.items }
-    ensures sorted { IsSortedByKey (λ (entry : Entry). entry.tag) tag_cmp list.new.items }
-{
-    list.sort_unstable_by_key(
-        |entry: &Entry| -> [u64; 5]
-            ensures { result ≡ numbers entry.now.tag }
-        { entry.tag.numbers() },
-    );
 }

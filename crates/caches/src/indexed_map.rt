@@ -1,8 +1,8 @@
 //! The ordered map of all entries, with an index for look-ups.
 //!
 //! Each rank has one of the index's slots, by its mixed bits. The newest entry with this slot is noted there, until
-//! it is taken out, so a look-up of it reads one slot. So does one of an entry that isn't held, unless others with this slot
-//! were put in beside each other; only then the map is searched.
+//! it is taken out, so a look-up of it reads one slot. So does one of an entry that isn't held, unless the map ever held
+//! two entries with this slot at one time; then the map has to be searched.
 ghost use Rattle.std.specs.Prelude.{◌≡◌, ◌≤◌, ◌<◌, ◌+◌, None, if◌then◌else◌, is_some};
 ghost use Rattle.std.specs.BTreeMap as tree;
 ghost use Rattle.std.specs.BTreeMap.{IsEmpty, Updates, btree_map_len, is_at};
@@ -18,6 +18,13 @@ use crate::slot::{Noted, Slot};
 use crate::tag::{Entry, Tag};
 use std::alloc::Global;
 use std::collections::BTreeMap;
+
+/// The logarithm of how many slots there are at least, since a command for one page that finds others in the slots of
+/// what it looks for has to search the map.
+const FEWEST_SLOTS_LOG2: u32 = 10;
+
+/// The logarithm of how many there are at most: one for each entry that there may be.
+const MOST_SLOTS_LOG2: u32 = 16;
 
 /// All entries by their ranks, and the slots of the ranks.
 #[derive(Drop)]
@@ -38,7 +45,11 @@ impl IndexedMap {
         requires { most ≤ most_entries }
         ensures { IsEmpty result.ordered }
     {
-        let log2 = most.next_power_of_two().trailing_zeros().max(1).min(16);
+        let log2 = most
+            .next_power_of_two()
+            .trailing_zeros()
+            .max(FEWEST_SLOTS_LOG2)
+            .min(MOST_SLOTS_LOG2);
         let slots = match vec![in alloc; Slot::Free; 1 << log2] {
             Ok(slots) => slots,
             Err(_) => Vec::new(alloc),
@@ -63,6 +74,18 @@ impl IndexedMap {
                 None => self.search(rank),
             },
             Some(Slot::Unknown) | None => self.search(rank),
+        }
+    }
+
+    /// Whether there is an entry of a rank.
+    pub(crate) fn holds(&self, rank: Rank) -> bool
+        ensures { result ≡ is_some (tree.get ⟦<Rank as Ord>⟧.cmp self.now.ordered rank) }
+    {
+        match self.slots.get(rank.slot(self.shift)) {
+            Some(Slot::Free) => false,
+            Some(Slot::Only(noted)) => noted.rank == rank,
+            Some(Slot::One(noted)) => noted.rank == rank || self.search(rank).is_some(),
+            Some(Slot::Unknown) | None => self.search(rank).is_some(),
         }
     }
 

@@ -12,15 +12,21 @@
 //! tested before it is removed, so a walk that is too long only costs time.
 //!
 //! An index beside the map answers most look-ups in one step: it has a slot for each group of ranks, which says
-//! which entry is held, or that there is none. If several entries have one slot, the map may have to be searched.
+//! which entry is held, or that there is none. Where several entries had one slot at one time, the map may have to be
+//! searched.
+//!
+//! A command for one page looks by the index under each key that it may cover. What it finds it only notes as removed,
+//! and so does an eviction; up to 16 such entries stay in the map until they are taken out together.
 #![tactic(auto)]
 
 mod caches;
 mod covering;
+mod entry_map;
 mod fault;
 mod indexed_map;
 mod key;
 mod laws;
+mod one_page;
 mod ranges;
 mod rank;
 mod slot;

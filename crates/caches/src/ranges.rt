@@ -61,7 +61,7 @@ fn sweep_machines(map: &mut IndexedMap, command: &Command)
 }
 
 /// Returns the first page of the aligned block of `2^span` pages that holds `page`.
-fn block_start(page: u64, span: u8) -> u64
+pub(crate) fn block_start(page: u64, span: u8) -> u64
     requires { span ≤ 52 }
     ensures { result ≡ page - page % 2 ^ span }
 {

@@ -87,6 +87,12 @@ impl Ord for Rank {
     }
 }
 
+impl Default for Rank {
+    fn default() -> Rank {
+        Rank::at(Key::Configuration { sid: 0, ssid: None })
+    }
+}
+
 impl Rank {
     /// Returns the rank of `key`.
     pub(crate) fn at(key: Key) -> Rank

@@ -1,10 +1,10 @@
 -- What a handle owns may go to another thread.
 use denote.Param.Send.{IsSend, sendable}
 use Rattle.std.proofs.Crossing.{crosses, send, sync}
-use Rattle.std.proofs.MapsCrossing as maps
 use Rattle.atomic_table.proofs.shared.Seat.TheSendSync.{the_send as seat_send}
 use Rattle.atomic_table.proofs.shared.Shared.TheSendSync.{the_send as shared_send, the_sync as shared_sync}
 use Rattle.atomic_table.proofs.send_lease.SendLease.TheSendSync.{the_send as lease_send, the_sync as lease_sync}
+use Rattle.caches.proofs.Crossing.{caches_send}
 use Rattle.ring.proofs.Crossing.{consumer_send, ring_sync}
 use Rattle.ring.specs.contracts.ring.Ring as Ring
 use Rattle.engine.proofs.Crossing.{engine_send}
@@ -16,7 +16,7 @@ use Rattle.smmuq_c.specs.contracts.seated_consumer.SeatedConsumer as SeatedConsu
 use Rattle.smmuq_c.specs.contracts.object.Object as Object
 
 pub unit_send : IsSend HeldUnit.the_row
-unit_send = search (sendable, crosses, maps.crosses) depth 60 fits 100000
+unit_send = search (sendable, crosses, caches_send) depth 60 fits 100000
 
 pub ring_send : IsSend Ring.the_row
 ring_send = search (sendable, send, sync, crosses, shared_send, shared_sync, lease_send, lease_sync) depth 60 fits 100000

@@ -1,0 +1,269 @@
+//! The entries that are held, by their tags.
+//!
+//! Taking an entry out of the ordered map is most of what a single command costs. So a command for one page, and an
+//! eviction, note the rank of what they remove, and it counts as removed from then on. The ranks that are noted are taken
+//! out of the map together: when there are 16, when one of them is put in again, and before a walk along the map.
+ghost use Rattle.std.specs.Prelude.{◌≡◌, ◌≤◌, ◌<◌, false, not, cond, filter, [], None, Some};
+ghost use Rattle.std.specs.List.Sorted.{IsPermutation, IsSortedByKey};
+ghost use Rattle.std.specs.BTreeMap as tree;
+ghost use Rattle.std.specs.FinMap as finite;
+ghost use Rattle.arrayvec.specs.ArrayVec.{array_vec_len};
+ghost use Rattle.caches.specs.declared.tag.Tag.{Tag};
+ghost use Rattle.caches.specs.declared.tag.Entry.{Entry};
+ghost use Rattle.caches.specs.declared.key.Key.{Key};
+ghost use Rattle.caches.specs.Held.{without_covered};
+ghost use Rattle.caches.specs.Keys.{key_of, tag_of, span_of, IsKept};
+ghost use Rattle.caches.specs.Limits.{most_entries};
+ghost use Rattle.caches.specs.OnePages.{is_block_at, is_on};
+ghost use Rattle.caches.specs.Spanned.{IsSpanOf};
+ghost use Rattle.caches.specs.Stored.{IsFilled, IsListAnswer};
+ghost use Rattle.caches.specs.TagOrder.{tag_cmp, numbers};
+ghost use Rattle.caches.specs.Unlisted.{is_listed, unlisted};
+
+use crate::fault::CacheFault;
+use crate::indexed_map::IndexedMap;
+use crate::one_page::{Holder, OnePage};
+use crate::ranges::remove_all_covered;
+use crate::rank::Rank;
+use crate::spans::Spans;
+use crate::tag::{Entry, Tag};
+use arrayvec::ArrayVec;
+use cmdcodec::Command;
+use std::alloc::Global;
+use std::marker::Model;
+
+/// How many ranks are noted at most.
+const MOST_REMOVED: usize = 16;
+
+/// The entries that are held: those of a map but for a few.
+#[derive(Drop)]
+pub(crate) struct EntryMap {
+    /// The ranks of entries that count as removed, which the map may still have.
+    removed: ArrayVec<Rank, MOST_REMOVED>,
+    map: IndexedMap,
+    /// How many entries are held.
+    len: usize,
+}
+
+impl Model for EntryMap {
+    ghost use Rattle.std.specs.FinMap as finite;
+    ghost use Rattle.caches.specs.Held.{Entries};
+    ghost use Rattle.caches.specs.TagOrder.{tag_code, entry_code};
+    ghost use Rattle.caches.specs.EntryMaps.{unremoved, IsEntryMap};
+
+    ghost Value = { Entries };
+
+    ghost coded = { finite.code tag_code entry_code };
+
+    ghost view = { unremoved };
+
+    ghost invariant = { IsEntryMap ⟦<Rank as Ord>⟧.cmp };
+}
+
+impl EntryMap {
+    /// Returns an empty map with room for `most` entries in its index, if there is memory for that.
+    pub(crate) fn new(alloc: Global, most: u32) -> EntryMap
+        requires { most ≤ most_entries }
+        ensures { result ≡ finite.empty }
+    {
+        EntryMap {
+            map: IndexedMap::new(alloc, most),
+            removed: ArrayVec::new(),
+            len: 0,
+        }
+    }
+
+    /// Returns the number of entries.
+    pub(crate) fn len(&self) -> usize
+        ensures { result ≡ finite.len self.now }
+    {
+        self.len
+    }
+
+    /// Returns the entry under a tag, if there is one.
+    pub(crate) fn get(&self, tag: &Tag) -> Option<Entry>
+        ensures { result ≡ finite.get self.now tag.now }
+    {
+        if is_among(&self.removed, Rank::of(tag)) {
+            return None;
+        }
+        self.map.get(tag)
+    }
+
+    /// Returns all entries in tag order; C3 if memory runs out.
+    pub(crate) fn list(&self, alloc: Global) -> Result<Vec<Entry>, CacheFault>
+        ensures { IsListAnswer self.now result }
+    {
+        match self
+            .map
+            .ordered
+            .values()
+            .copied()
+            .collect::<Vec<Entry>>(alloc)
+        {
+            Ok(mut list) => {
+                drop_listed(&mut list, &self.removed);
+                sort_by_tag(&mut list);
+                Ok(list)
+            }
+            Err(_) => Err(CacheFault::NoMemory),
+        }
+    }
+
+    /// Puts an entry in under its tag, and returns the one that was there; C3 if memory runs out.
+    pub(crate) fn put(&mut self, entry: Entry) -> Result<Option<Entry>, CacheFault>
+        requires { finite.get self.old entry.tag ≡ None → finite.len self.old < most_entries }
+        ensures { IsFilled self.old entry self.new result }
+    {
+        let rank = Rank::of(&entry.tag);
+        settle(&mut self.map, &mut self.removed, rank);
+        match self.map.put(rank, entry) {
+            Ok(was) => {
+                if was.is_none() {
+                    self.len += 1;
+                }
+                Ok(was)
+            }
+            Err(fault) => Err(fault),
+        }
+    }
+
+    /// Removes the entry of a rank, if there is one.
+    pub(crate) fn remove(&mut self, rank: Rank)
+        ensures { self.new ≡ finite.remove self.old (tag_of rank) }
+    {
+        if self.map.holds(rank) && !is_among(&self.removed, rank) {
+            make_room(&mut self.map, &mut self.removed);
+            self.removed.push(rank);
+            self.len -= 1;
+        }
+    }
+
+    /// Removes the entries that `command` covers. `spans` has the spans of all blocks. Takes no memory.
+    ///
+    /// If there are none it doesn't look at the command, so that a command that is only judged never has to be built.
+    #[inline]
+    pub(crate) fn remove_covered(&mut self, spans: &Spans, command: &Command)
+        requires kept { (tag : Tag) (entry : Entry) → finite.get self.old tag ≡ Some entry → IsKept tag entry }
+        requires spans { (tag : Tag) (entry : Entry) → finite.get self.old tag ≡ Some entry → IsSpanOf spans.now (span_of (key_of tag)) }
+        ensures { self.new ≡ without_covered command.now self.old }
+    {
+        if self.len > 0 {
+            self.remove_some(spans, command);
+        }
+    }
+
+    /// The same where there may be entries.
+    #[inline(never)]
+    fn remove_some(&mut self, spans: &Spans, command: &Command)
+        requires kept { (tag : Tag) (entry : Entry) → finite.get self.old tag ≡ Some entry → IsKept tag entry }
+        requires spans { (tag : Tag) (entry : Entry) → finite.get self.old tag ≡ Some entry → IsSpanOf spans.now (span_of (key_of tag)) }
+        ensures { self.new ≡ without_covered command.now self.old }
+    {
+        match OnePage::of(command) {
+            Some(one) => self.remove_on(spans, one),
+            None => self.sweep(spans, command),
+        }
+    }
+
+    /// The same by a walk along the map.
+    fn sweep(&mut self, spans: &Spans, command: &Command)
+        requires kept { (tag : Tag) (entry : Entry) → finite.get self.old tag ≡ Some entry → IsKept tag entry }
+        requires spans { (tag : Tag) (entry : Entry) → finite.get self.old tag ≡ Some entry → IsSpanOf spans.now (span_of (key_of tag)) }
+        ensures { self.new ≡ without_covered command.now self.old }
+    {
+        take_out(&mut self.map, &mut self.removed);
+        remove_all_covered(&mut self.map, spans, command);
+        self.len = self.map.ordered.len();
+    }
+
+    /// Removes the blocks that hold a page.
+    fn remove_on(&mut self, spans: &Spans, one: OnePage)
+        requires { (tag : Tag) (entry : Entry) → finite.get self.old tag ≡ Some entry → IsSpanOf spans.now (span_of (key_of tag)) }
+        ensures { (tag : Tag) → finite.get self.new tag ≡ cond (is_on one tag) None (finite.get self.old tag) }
+    {
+        self.remove_blocks(spans, one.own, one.page);
+        if let Some(shared) = one.shared {
+            self.remove_blocks(spans, shared, one.page);
+        }
+    }
+
+    /// Removes the blocks of a holder that hold a page.
+    fn remove_blocks(&mut self, spans: &Spans, holder: Holder, page: u64)
+        requires { (tag : Tag) (entry : Entry) → finite.get self.old tag ≡ Some entry → IsSpanOf spans.now (span_of (key_of tag)) }
+        ensures { (tag : Tag) → finite.get self.new tag ≡ cond (is_block_at holder page tag) None (finite.get self.old tag) }
+    {
+        for span in 0..spans.end() {
+            if spans.has(span) {
+                self.remove(holder.block_at(page, span));
+            }
+        }
+    }
+}
+
+/// Whether a rank is listed.
+///
+/// Inlined, since the list is mostly empty.
+#[inline(always)]
+fn is_among(ranks: &[Rank], rank: Rank) -> bool
+    ensures { result ≡ is_listed ranks.now (tag_of rank) }
+{
+    !ranks.is_empty() && ranks.contains(&rank)
+}
+
+/// Takes what is noted out of the map.
+#[inline(never)]
+fn take_out(map: &mut IndexedMap, removed: &mut ArrayVec<Rank, MOST_REMOVED>)
+    ensures same { unlisted map.new.ordered removed.new.items ≡ unlisted map.old.ordered removed.old.items }
+    ensures pruned { (q : Key) (entry : Entry) → tree.get ⟦<Rank as Ord>⟧.cmp map.new.ordered q ≡ Some entry → tree.get ⟦<Rank as Ord>⟧.cmp map.old.ordered q ≡ Some entry }
+    ensures none { removed.new.items ≡ [] }
+{
+    while let Some(rank) = removed.pop() {
+        map.remove(rank);
+    }
+}
+
+/// Takes what is noted out of the map if this rank is among it.
+fn settle(map: &mut IndexedMap, removed: &mut ArrayVec<Rank, MOST_REMOVED>, rank: Rank)
+    ensures same { unlisted map.new.ordered removed.new.items ≡ unlisted map.old.ordered removed.old.items }
+    ensures pruned { (q : Key) (entry : Entry) → tree.get ⟦<Rank as Ord>⟧.cmp map.new.ordered q ≡ Some entry → tree.get ⟦<Rank as Ord>⟧.cmp map.old.ordered q ≡ Some entry }
+    ensures none { is_listed removed.new.items (tag_of rank) ≡ false }
+{
+    if is_among(removed, rank) {
+        take_out(map, removed);
+    }
+}
+
+/// Takes what is noted out of the map if no more can be noted.
+fn make_room(map: &mut IndexedMap, removed: &mut ArrayVec<Rank, MOST_REMOVED>)
+    ensures same { unlisted map.new.ordered removed.new.items ≡ unlisted map.old.ordered removed.old.items }
+    ensures pruned { (q : Key) (entry : Entry) → tree.get ⟦<Rank as Ord>⟧.cmp map.new.ordered q ≡ Some entry → tree.get ⟦<Rank as Ord>⟧.cmp map.old.ordered q ≡ Some entry }
+    ensures room { array_vec_len removed.new < 16 }
+{
+    if removed.is_full() {
+        take_out(map, removed);
+    }
+}
+
+/// Drops from a list the entries whose ranks are listed.
+fn drop_listed(list: &mut Vec<Entry>, ranks: &[Rank])
+    ensures { list.new.items ≡ filter (λ (entry : Entry). not (is_listed ranks.now entry.tag)) list.old.items }
+{
+    list.retain(
+        |entry: &Entry| -> bool
+            ensures { result ≡ not (is_listed ranks.entry.now entry.now.tag) }
+        { !is_among(ranks, Rank::of(&entry.tag)) },
+    );
+}
+
+/// Sorts entries by tag. Takes no memory.
+fn sort_by_tag(list: &mut Vec<Entry>)
+    ensures permutation { IsPermutation list.old.items list.new.items }
+    ensures sorted { IsSortedByKey (λ (entry : Entry). entry.tag) tag_cmp list.new.items }
+{
+    list.sort_unstable_by_key(
+        |entry: &Entry| -> [u64; 5]
+            ensures { result ≡ numbers entry.now.tag }
+        { entry.tag.numbers() },
+    );
+}
