@@ -1,171 +1,163 @@
--- The index of the ordered map stays true where an entry is put in or taken out.
-use Rattle.std.proofs.Common.{◌≡◌, ℕ, ◌<◌, ◌≤◌, true, false, cond, inl, inr, Option, Some, None, refl, sym, ◌∙◌, ap, subst, List, length, slice_index_or, slice_set, arith}
-use Rattle.std.proofs.lemmas.Bool.{cases_eq, cases_lt}
-use Rattle.std.proofs.lemmas.List.{get_or-set_same, get_or-set_other, get_or_default, get_or_past}
+-- The index of the ordered map stays true where an entry is put in or taken out, and tells what is in the map.
+use Rattle.std.proofs.Common.{◌≡◌, ℕ, ◌+◌, ◌^◌, ◌<◌, ◌≤◌, ◌==◌, Bool, true, false, true≢false, cond, inl, inr, Option, Some, None, is_some, is_none, IsSome, IfSome, refl, sym, ◌∙◌, ap, subst, List, length, map, slice_index_or, slice_set, arith}
+use Rattle.std.proofs.lemmas.Bool.{cases_eq, eq-eqb, eqb-true, ltb-true, false_from_ne_true}
+use Rattle.std.proofs.lemmas.List.{get_or-set_same, get_or-set_other, get_or_default, length-set}
+use Rattle.std.proofs.lemmas.List.Sums.{count_by-le-length}
+use Rattle.std.proofs.lemmas.Map.Entries.{length-keys_of}
+use Rattle.std.specs.Prelude.{nat_lt}
+use Rattle.std.specs.List.{count_by}
+use Rattle.std.specs.Option.{option_and_then}
 use Rattle.std.specs.Ordering.{eq_by_cmp, is_eq}
-use Rattle.std.specs.Cmp.{tied_itself, Equal-is}
-use Rattle.std.specs.Map.{lookup}
-use Rattle.std.specs.BTreeMap.{BTreeMap, Updates, IsUnchanged, get, is_at}
+use Rattle.std.specs.Cmp.{tied_itself}
+use Rattle.std.specs.Map.{lookup, remove_entry}
+use Rattle.std.specs.BTreeMap.{BTreeMap, Updates, IsUnchanged, get, is_at, keys, insert_entry}
 use Rattle.caches.specs.declared.tag.Entry.{Entry}
 use Rattle.caches.specs.declared.key.Key.{Key}
 use Rattle.caches.specs.declared.slot.Noted.{Noted}
 use Rattle.caches.specs.declared.slot.Slot.{Slot}
-use Rattle.caches.specs.declared.slot.Slot.TheVariants.{Free, Only, One, Unknown}
-use Rattle.caches.specs.Slots.{slot_of, entry_of, put_in, taken_out, IsThere, IsIndexed}
-use Rattle.caches.proofs.KeyOrder.{key_cmp, key_total, key_exact}
-
-equal_keys : (x y : Key) → eq_by_cmp key_cmp x y ≡ true → x ≡ y
-equal_keys x y e = key_exact x y ((Equal-is (key_cmp x y)).0 e)
+use Rattle.caches.specs.declared.slot.Slot.TheVariants.{Unnoted, Newest}
+use Rattle.caches.specs.Slots.{slot_of, size_of, noted_in, entry_of, sharing, IsThere, IsSlot, IsIndexed}
+use Rattle.caches.proofs.KeyOrder.{key_cmp, key_total}
+use Rattle.caches.proofs.Sharing.{equal_keys, one_if, found_counts, two_count, count_removed, count_inserted}
 
 itself : (x : Key) → eq_by_cmp key_cmp x x ≡ true
 itself x = ap is_eq (tied_itself key_total x)
 
-item_at : (slots : List Slot) (i j : ℕ) (before : Slot) → i ≡ j → i < length slots → before ≡ slice_index_or slots i before → before ≡ slice_index_or slots j Unknown
-item_at slots i j before at within found = found ∙ get_or_default slots i before Unknown within ∙ ap (λ j. slice_index_or slots j Unknown) at
+flipped : (x y : Key) → eq_by_cmp key_cmp x y ≡ false → eq_by_cmp key_cmp y x ≡ false
+flipped x y apart = false_from_ne_true _ (λ same. absurd (true≢false (sym (itself y) ∙ ap (λ z. eq_by_cmp key_cmp z y) (equal_keys y x same) ∙ apart)))
 
 module _ (shift : ℕ) where
-  -- ---- what a slot says of a map, by its cases
-  abbrev Says : BTreeMap Key Entry → ℕ → Slot → Type 0
-  Says m i Free = (q : Key) → slot_of shift q ≡ i → get key_cmp m q ≡ None
-  Says m i (Only noted) = IsThere key_cmp shift m i noted × ((q : Key) → slot_of shift q ≡ i → eq_by_cmp key_cmp noted.rank q ≡ false → get key_cmp m q ≡ None)
-  Says m i (One noted) = IsThere key_cmp shift m i noted
-  Says m i Unknown = Unit {0}
+  own : (k : Key) → (slot_of shift k == slot_of shift k) ≡ true
+  own k = eq-eqb _ _ refl
 
-  said : (m : BTreeMap Key Entry) (slots : List Slot) → IsIndexed key_cmp shift m slots → (i : ℕ) (s : Slot) → slice_index_or slots i Unknown ≡ s → Says m i s
-  said m slots is i Free e = λ q own. is.0 i q e own
-  said m slots is i (Only noted) e = (is.2 i noted e, λ q own other. is.1 i noted q e own other)
-  said m slots is i (One noted) e = is.3 i noted e
-  said m slots is i Unknown e = tt
+  -- ---- a slot, and what it says
+  pub slot_at : (m : BTreeMap Key Entry) (slots : List Slot) (k : Key) (i : ℕ) (s : Slot) → IsIndexed key_cmp shift m slots → i ≡ slot_of shift k → i < length slots → s ≡ slice_index_or slots i s → IsSlot key_cmp shift m (slot_of shift k) s
+  slot_at m slots k i s is at within found = subst (λ j. IsSlot key_cmp shift m j s) at (subst (IsSlot key_cmp shift m i) (sym (found ∙ get_or_default slots i s (Unnoted 0) within)) (is i within))
 
-  indexed : (m : BTreeMap Key Entry) (slots : List Slot) → ((i : ℕ) → Says m i (slice_index_or slots i Unknown)) → IsIndexed key_cmp shift m slots
-  indexed m slots says =
-      let at : (i : ℕ) (s : Slot) → slice_index_or slots i Unknown ≡ s → Says m i s = λ i s e. subst (Says m i) e (says i) in
-      (λ i q e own. at i Free e q own, λ i noted q e own other. (at i (Only noted) e).1 q own other, λ i noted e. (at i (Only noted) e).0, λ i noted e. at i (One noted) e)
+  -- as a look-up reads it
+  pub slot_read : (m : BTreeMap Key Entry) (slots items : List Slot) (k : Key) (i : ℕ) (read s : Slot) → IsIndexed key_cmp shift m slots → items ≡ slots → i ≡ slot_of shift k → true ≡ nat_lt i (length items) → read ≡ slice_index_or items i read → read ≡ s → IsSlot key_cmp shift m (slot_of shift k) s
+  slot_read m slots items k i read s is same at within found what = subst (IsSlot key_cmp shift m (slot_of shift k)) what
+      (slot_at m slots k i read is at (subst (λ xs. i < length xs) same (ltb-true i (length items) (sym within))) (found ∙ ap (λ xs. slice_index_or xs i read) same))
+
+  module _ (m : BTreeMap Key Entry) (k : Key) (s : Slot) (is : IsSlot key_cmp shift m (slot_of shift k) s) where
+    pub few : length m.entries < 2 ^ 63 → size_of s < 2 ^ 63
+    few short = let most = count_by-le-length (λ key. slot_of shift key == slot_of shift k) (keys m) in omega (arith, most, short, is.0, length-keys_of m.entries)
+
+    pub counted : is_some (get key_cmp m k) ≡ true → 0 < size_of s
+    counted found = let some = found_counts (λ key. slot_of shift key == slot_of shift k) m.entries k (own k) found in omega (arith, some, is.0)
+
+  pub others : (m : BTreeMap Key Entry) (k : Key) (s : Slot) → IsSlot key_cmp shift m (slot_of shift k) s → is_some (get key_cmp m k) ≡ true → IfSome (noted_in s) (λ noted. eq_by_cmp key_cmp noted.rank k ≡ false → 1 < size_of s)
+  others m k (Unnoted all) is found = tt
+  others m k (Newest more noted) is found = λ apart.
+      let two = two_count (λ key. slot_of shift key == slot_of shift k) m.entries noted.rank k (eq-eqb _ _ is.1.1) (own k) apart (ap is_some is.1.0) found in
+      omega (arith, two, is.0)
+
+  -- What it notes is the key's entry, or has another key.
+  pub noted_found : (m : BTreeMap Key Entry) (k : Key) (more : ℕ) (noted : Noted) (found : Entry) → IsSlot key_cmp shift m (slot_of shift k) (Newest more noted) → cond (eq_by_cmp key_cmp noted.rank k) (Some (entry_of noted)) None ≡ Some found → Some found ≡ get key_cmp m k
+  noted_found m k more noted found is h = elim (eq_by_cmp key_cmp noted.rank k) as (λ b. eq_by_cmp key_cmp noted.rank k ≡ b → cond b (Some (entry_of noted)) None ≡ Some found → Some found ≡ get key_cmp m k) [
+    | true ↦ λ y e. sym e ∙ sym (subst (λ x. get key_cmp m x ≡ Some (entry_of noted)) (equal_keys noted.rank k y) is.1.0)
+    | false ↦ λ n e. cc
+  ] refl h
+
+  pub noted_holds : (m : BTreeMap Key Entry) (k : Key) (more : ℕ) (noted : Noted) → IsSlot key_cmp shift m (slot_of shift k) (Newest more noted) → eq_by_cmp key_cmp noted.rank k ≡ true → is_some (get key_cmp m k) ≡ true
+  noted_holds m k more noted is same = ap (λ x. is_some (get key_cmp m x)) (sym (equal_keys noted.rank k same)) ∙ ap is_some is.1.0
+
+  -- A slot that has no others tells that the key's entry isn't there.
+  pub none_found : (m : BTreeMap Key Entry) (k : Key) (s : Slot) → IsSlot key_cmp shift m (slot_of shift k) s → size_of s ≡ 0 → get key_cmp m k ≡ None
+  none_found m k s is none = elim (get key_cmp m k) as (λ o. get key_cmp m k ≡ o → o ≡ None) [
+    | None ↦ λ _. refl
+    | Some x ↦ λ e. let some = counted m k s is (ap is_some e) in absurd (omega (arith, some, none))
+  ] refl
+
+  pub no_other : (m : BTreeMap Key Entry) (k : Key) (more : ℕ) (noted : Noted) → IsSlot key_cmp shift m (slot_of shift k) (Newest more noted) → more ≡ 0 → eq_by_cmp key_cmp noted.rank k ≡ false → get key_cmp m k ≡ None
+  no_other m k more noted is alone apart = elim (get key_cmp m k) as (λ o. get key_cmp m k ≡ o → o ≡ None) [
+    | None ↦ λ _. refl
+    | Some x ↦ λ e. let two = others m k (Newest more noted) is (ap is_some e) apart in absurd (omega (arith, two, alone))
+  ] refl
 
   -- ---- a map with the same entries
-  says_same : (m n : BTreeMap Key Entry) → ((q : Key) → get key_cmp n q ≡ get key_cmp m q) → (i : ℕ) (s : Slot) → Says m i s → Says n i s
-  says_same m n same i Free h = λ q own. same q ∙ h q own
-  says_same m n same i (Only noted) h = ((same noted.rank ∙ h.0.0, h.0.1), λ q own other. same q ∙ h.1 q own other)
-  says_same m n same i (One noted) h = (same noted.rank ∙ h.0, h.1)
-  says_same m n same i Unknown h = tt
+  same_slot : (m n : BTreeMap Key Entry) → IsUnchanged m n → (i : ℕ) (s : Slot) → IsSlot key_cmp shift m i s → IsSlot key_cmp shift n i s
+  same_slot m n same i (Unnoted all) is = (is.0 ∙ ap (λ es. count_by (λ (key : Key). slot_of shift key == i) (map {A = Key × Entry} (λ e. e.0) es)) (sym same), tt)
+  same_slot m n same i (Newest more noted) is = (is.0 ∙ ap (λ es. count_by (λ (key : Key). slot_of shift key == i) (map {A = Key × Entry} (λ e. e.0) es)) (sym same), (ap (lookup (is_at (key_cmp noted.rank))) same ∙ is.1.0, is.1.1))
 
   pub unchanged_indexed : (m n : BTreeMap Key Entry) → IsUnchanged m n → (slots : List Slot) → IsIndexed key_cmp shift m slots → IsIndexed key_cmp shift n slots
-  unchanged_indexed m n same slots is = indexed n slots (λ i. says_same m n (λ q. ap (lookup (is_at (key_cmp q))) same) i _ (said m slots is i _ refl))
+  unchanged_indexed m n same slots is = λ i within. same_slot m n same i _ (is i within)
 
-  -- ---- one key's entry changes
-  module _ (m n : BTreeMap Key Entry) (k : Key) (w : Option Entry) (updates : Updates key_cmp m n k w) where
+  -- ---- one key's entry changes, and the number of keys with other slots stays
+  module _ (m n : BTreeMap Key Entry) (k : Key) (w : Option Entry) (updates : Updates key_cmp m n k w) (counts : (j : ℕ) → (slot_of shift k == j) ≡ false → sharing key_cmp shift n j ≡ sharing key_cmp shift m j) where
     elsewhere : (q : Key) → eq_by_cmp key_cmp k q ≡ false → get key_cmp n q ≡ get key_cmp m q
     elsewhere q other = updates.0 q ∙ ap (λ b. cond b w (get key_cmp m q)) other
 
-    here : get key_cmp n k ≡ w
-    here = updates.0 k ∙ ap (λ b. cond b w (get key_cmp m k)) (itself k)
-
     other_slot : (q : Key) (j : ℕ) → slot_of shift q ≡ j → (j ≡ slot_of shift k → ⊥) → eq_by_cmp key_cmp k q ≡ false
-    other_slot q j own apart = elim (eq_by_cmp key_cmp k q) as (λ b. eq_by_cmp key_cmp k q ≡ b → b ≡ false) [
-      | true ↦ λ e. absurd (apart (sym own ∙ ap (slot_of shift) (sym (equal_keys k q e))))
-      | false ↦ λ e. refl
-    ] refl
+    other_slot q j at apart = false_from_ne_true _ (λ same. apart (sym at ∙ ap (slot_of shift) (sym (equal_keys k q same))))
 
-    -- What the other slots say stays true.
-    stays : (j : ℕ) (s : Slot) → (j ≡ slot_of shift k → ⊥) → Says m j s → Says n j s
-    stays j Free apart h = λ q own. elsewhere q (other_slot q j own apart) ∙ h q own
-    stays j (Only noted) apart h = ((elsewhere noted.rank (other_slot noted.rank j h.0.1 apart) ∙ h.0.0, h.0.1), λ q own other. elsewhere q (other_slot q j own apart) ∙ h.1 q own other)
-    stays j (One noted) apart h = (elsewhere noted.rank (other_slot noted.rank j h.1 apart) ∙ h.0, h.1)
-    stays j Unknown apart h = tt
+    stays : (j : ℕ) (s : Slot) → (j ≡ slot_of shift k → ⊥) → IsSlot key_cmp shift m j s → IsSlot key_cmp shift n j s
+    stays j (Unnoted all) apart is = (is.0 ∙ sym (counts j (false_from_ne_true _ (λ same. apart (sym (eqb-true _ _ same))))), tt)
+    stays j (Newest more noted) apart is = (
+      is.0 ∙ sym (counts j (false_from_ne_true _ (λ same. apart (sym (eqb-true _ _ same))))),
+      (elsewhere noted.rank (other_slot noted.rank j is.1.1 apart) ∙ is.1.0, is.1.1),
+    )
 
     -- Only the key's own slot is set, if there is one.
-    set_indexed : (slots : List Slot) (s : Slot) → IsIndexed key_cmp shift m slots → slot_of shift k < length slots → Says n (slot_of shift k) s → IsIndexed key_cmp shift n (slice_set slots (slot_of shift k) s)
-    set_indexed slots s is within own = indexed n (slice_set slots (slot_of shift k) s) (λ j. elim (cases_eq j (slot_of shift k)) as (λ _. Says n j (slice_index_or (slice_set slots (slot_of shift k) s) j Unknown)) [
-      | inl same ↦ subst (λ i. Says n i (slice_index_or (slice_set slots (slot_of shift k) s) i Unknown)) (sym same) (subst (Says n (slot_of shift k)) (sym (get_or-set_same slots (slot_of shift k) s Unknown within)) own)
-      | inr apart ↦ subst (Says n j) (sym (get_or-set_other slots (slot_of shift k) j s Unknown apart)) (stays j _ apart (said m slots is j _ refl))
-    ])
+    pub set_indexed : (slots : List Slot) (i : ℕ) (s : Slot) → IsIndexed key_cmp shift m slots → i ≡ slot_of shift k → i < length slots → IsSlot key_cmp shift n (slot_of shift k) s → IsIndexed key_cmp shift n (slice_set slots i s)
+    set_indexed slots i s is at within own = λ j below. elim (cases_eq j i) as (λ _. IsSlot key_cmp shift n j (slice_index_or (slice_set slots i s) j (Unnoted 0))) [
+      | inl same ↦ subst (λ x. IsSlot key_cmp shift n x (slice_index_or (slice_set slots i s) x (Unnoted 0))) (sym same) (subst (IsSlot key_cmp shift n i) (sym (get_or-set_same slots i s (Unnoted 0) within)) (subst (λ x. IsSlot key_cmp shift n x s) (sym at) own))
+      | inr apart ↦ subst (IsSlot key_cmp shift n j) (sym (get_or-set_other slots i j s (Unnoted 0) apart)) (stays j _ (λ e. apart (e ∙ sym at)) (is j (subst (λ l. j < l) (length-set slots i s) below)))
+    ]
 
     -- The key has no slot.
     pub unset_indexed : (slots : List Slot) → IsIndexed key_cmp shift m slots → length slots ≤ slot_of shift k → IsIndexed key_cmp shift n slots
-    unset_indexed slots is past = indexed n slots (λ j. elim (cases_lt j (length slots)) as (λ _. Says n j (slice_index_or slots j Unknown)) [
-      | inl within ↦ stays j _ (λ same. absurd (omega (arith, past, within, same))) (said m slots is j _ refl)
-      | inr beyond ↦ subst (Says n j) (sym (get_or_past slots j Unknown beyond)) tt
-    ])
+    unset_indexed slots is past = λ j within. stays j _ (λ same. absurd (omega (arith, past, within, same))) (is j within)
 
   -- ---- an entry is put in
-  module _ (m n : BTreeMap Key Entry) (noted : Noted) (updates : Updates key_cmp m n noted.rank (Some (entry_of noted))) where
-    there : IsThere key_cmp shift n (slot_of shift noted.rank) noted
-    there = (here m n noted.rank (Some (entry_of noted)) updates, refl)
-
-    put_says : (s : Slot) → Says m (slot_of shift noted.rank) s → Says n (slot_of shift noted.rank) (put_in key_cmp s noted)
-    put_says Free h = (there, λ q own other. elsewhere m n noted.rank (Some (entry_of noted)) updates q other ∙ h q own)
-    put_says (Only old) h = elim (eq_by_cmp key_cmp old.rank noted.rank) as (λ b. eq_by_cmp key_cmp old.rank noted.rank ≡ b → Says n (slot_of shift noted.rank) (cond b (Only noted) (One noted))) [
-      | true ↦ λ e. (there, λ q own other. elsewhere m n noted.rank (Some (entry_of noted)) updates q other ∙ h.1 q own (subst (λ x. eq_by_cmp key_cmp x q ≡ false) (sym (equal_keys old.rank noted.rank e)) other))
-      | false ↦ λ e. there
+  module _ (m n : BTreeMap Key Entry) (noted : Noted) (was : Option Entry) (found : was ≡ get key_cmp m noted.rank) (put : n.entries ≡ insert_entry key_cmp m.entries noted.rank (entry_of noted)) (stay : IsSome was → keys n ≡ keys m) where
+    put_counts : (j : ℕ) → sharing key_cmp shift n j ≡ sharing key_cmp shift m j + cond (is_none was) (one_if (slot_of shift noted.rank == j)) 0
+    put_counts j = elim was as (λ o. was ≡ o → sharing key_cmp shift n j ≡ sharing key_cmp shift m j + cond (is_none o) (one_if (slot_of shift noted.rank == j)) 0) [
+      | None ↦ λ none. ap (λ es. count_by (λ (key : Key). slot_of shift key == j) (map {A = Key × Entry} (λ e. e.0) es)) put ∙ count_inserted (λ key. slot_of shift key == j) m.entries noted.rank (entry_of noted) (ap is_some (sym found ∙ none))
+      | Some x ↦ λ some. ap (count_by (λ (key : Key). slot_of shift key == j)) (stay (ap is_some some)) ∙ omega arith
     ] refl
-    put_says (One old) h = there
-    put_says Unknown h = there
 
-    put_indexed : (slots : List Slot) → IsIndexed key_cmp shift m slots → slot_of shift noted.rank < length slots
-        → IsIndexed key_cmp shift n (slice_set slots (slot_of shift noted.rank) (put_in key_cmp (slice_index_or slots (slot_of shift noted.rank) Unknown) noted))
-    put_indexed slots is within = set_indexed m n noted.rank (Some (entry_of noted)) updates slots _ is within (put_says _ (said m slots is (slot_of shift noted.rank) _ refl))
+    others_stay : (j : ℕ) → (slot_of shift noted.rank == j) ≡ false → sharing key_cmp shift n j ≡ sharing key_cmp shift m j
+    others_stay j none = put_counts j ∙ ap (λ b. sharing key_cmp shift m j + cond (is_none was) (one_if b) 0) none ∙ nothing (is_none was) (sharing key_cmp shift m j)
+      where
+        nothing : (b : Bool) (x : ℕ) → x + cond b 0 0 ≡ x
+        nothing true x = omega arith
+        nothing false x = omega arith
 
-    pub put_at : (slots : List Slot) (i : ℕ) (before after : Slot) → IsIndexed key_cmp shift m slots → i ≡ slot_of shift noted.rank → i < length slots → before ≡ slice_index_or slots i before → after ≡ put_in key_cmp before noted
-        → IsIndexed key_cmp shift n (slice_set slots i after)
-    put_at slots i before after is at within found becomes =
-        subst (λ j. IsIndexed key_cmp shift n (slice_set slots j after)) (sym at)
-        (subst (λ t. IsIndexed key_cmp shift n (slice_set slots (slot_of shift noted.rank) t)) (sym (becomes ∙ ap (λ x. put_in key_cmp x noted) (item_at slots i (slot_of shift noted.rank) before at within found)))
-        (put_indexed slots is (subst (λ j. j < length slots) at within)))
+    pub put_at : Updates key_cmp m n noted.rank (Some (entry_of noted)) → (slots : List Slot) (i : ℕ) (before after : Slot) (is_new : Bool) → IsIndexed key_cmp shift m slots → i ≡ slot_of shift noted.rank → i < length slots → before ≡ slice_index_or slots i before
+        → is_new ≡ is_none was → size_of after ≡ size_of before + one_if is_new → noted_in after ≡ Some noted → IsIndexed key_cmp shift n (slice_set slots i after)
+    put_at updates slots i before after is_new is at within old new size notes =
+        let said = slot_at m slots noted.rank i before is at within old in
+        let more : cond (is_none was) (one_if (slot_of shift noted.rank == slot_of shift noted.rank)) 0 ≡ one_if is_new = ap (λ b. cond (is_none was) (one_if b) 0) (own noted.rank) ∙ ap one_if (sym new) in
+        let there : get key_cmp n noted.rank ≡ Some (entry_of noted) = updates.0 noted.rank ∙ ap (λ b. cond b (Some (entry_of noted)) (get key_cmp m noted.rank)) (itself noted.rank) in
+        set_indexed m n noted.rank (Some (entry_of noted)) updates others_stay slots i after is at within
+        (omega (arith, size, said.0, more, put_counts (slot_of shift noted.rank)), subst (λ o. IfSome o (IsThere key_cmp shift n (slot_of shift noted.rank))) (sym notes) (there, refl))
+
+    pub put_unset : Updates key_cmp m n noted.rank (Some (entry_of noted)) → (slots : List Slot) → IsIndexed key_cmp shift m slots → length slots ≤ slot_of shift noted.rank → IsIndexed key_cmp shift n slots
+    put_unset updates slots is past = unset_indexed m n noted.rank (Some (entry_of noted)) updates others_stay slots is past
 
   -- ---- an entry is taken out
-  module _ (m n : BTreeMap Key Entry) (k : Key) (updates : Updates key_cmp m n k None) where
-    not_there : (q : Key) → (eq_by_cmp key_cmp k q ≡ false → get key_cmp m q ≡ None) → get key_cmp n q ≡ None
-    not_there q none = elim (eq_by_cmp key_cmp k q) as (λ b. eq_by_cmp key_cmp k q ≡ b → get key_cmp n q ≡ cond b None (get key_cmp m q) → get key_cmp n q ≡ None) [
-      | true ↦ λ e h. h
-      | false ↦ λ e h. h ∙ none e
-    ] refl (updates.0 q)
+  module _ (m n : BTreeMap Key Entry) (k : Key) (found : IsSome (get key_cmp m k)) (taken : n.entries ≡ remove_entry (is_at (key_cmp k)) m.entries) (updates : Updates key_cmp m n k None) where
+    taken_counts : (j : ℕ) → sharing key_cmp shift n j + one_if (slot_of shift k == j) ≡ sharing key_cmp shift m j
+    taken_counts j = ap (λ es. count_by (λ (key : Key). slot_of shift key == j) (map {A = Key × Entry} (λ e. e.0) es) + one_if (slot_of shift k == j)) taken ∙ count_removed (λ key. slot_of shift key == j) m.entries k found
 
-    still : (old : Noted) → eq_by_cmp key_cmp old.rank k ≡ false → IsThere key_cmp shift m (slot_of shift k) old → IsThere key_cmp shift n (slot_of shift k) old
-    still old apart h = (
-      elsewhere m n k None updates old.rank (elim (eq_by_cmp key_cmp k old.rank) as (λ b. eq_by_cmp key_cmp k old.rank ≡ b → b ≡ false) [
-        | true ↦ λ e. let differs : eq_by_cmp key_cmp old.rank old.rank ≡ false = subst (λ x. eq_by_cmp key_cmp old.rank x ≡ false) (equal_keys k old.rank e) apart in sym (itself old.rank) ∙ differs
-        | false ↦ λ e. refl
-      ] refl) ∙ h.0,
-      h.1,
-    )
+    others_left : (j : ℕ) → (slot_of shift k == j) ≡ false → sharing key_cmp shift n j ≡ sharing key_cmp shift m j
+    others_left j none = let less = taken_counts j in let zero = ap one_if none in omega (arith, less, zero)
 
-    taken_says : (s : Slot) → Says m (slot_of shift k) s → Says n (slot_of shift k) (taken_out key_cmp s k)
-    taken_says Free h = λ q own. not_there q (λ other. h q own)
-    taken_says (Only old) h = elim (eq_by_cmp key_cmp old.rank k) as (λ b. eq_by_cmp key_cmp old.rank k ≡ b → Says n (slot_of shift k) (cond b Free (Only old))) [
-      | true ↦ λ e. λ q own. not_there q (λ other. h.1 q own (subst (λ x. eq_by_cmp key_cmp x q ≡ false) (sym (equal_keys old.rank k e)) other))
-      | false ↦ λ e. (still old e h.0, λ q own other. not_there q (λ _. h.1 q own other))
+    left : (before : Slot) → IsSlot key_cmp shift m (slot_of shift k) before → IfSome (option_and_then (λ noted. cond (eq_by_cmp key_cmp noted.rank k) None (Some noted)) (noted_in before)) (IsThere key_cmp shift n (slot_of shift k))
+    left (Unnoted all) is = tt
+    left (Newest more noted) is = elim (eq_by_cmp key_cmp noted.rank k) as (λ b. eq_by_cmp key_cmp noted.rank k ≡ b → IfSome (cond b None (Some noted)) (IsThere key_cmp shift n (slot_of shift k))) [
+      | true ↦ λ _. tt
+      | false ↦ λ apart. (elsewhere m n k None updates others_left noted.rank (flipped noted.rank k apart) ∙ is.1.0, is.1.1)
     ] refl
-    taken_says (One old) h = elim (eq_by_cmp key_cmp old.rank k) as (λ b. eq_by_cmp key_cmp old.rank k ≡ b → Says n (slot_of shift k) (cond b Unknown (One old))) [
-      | true ↦ λ e. tt
-      | false ↦ λ e. still old e h
-    ] refl
-    taken_says Unknown h = tt
 
-    taken_indexed : (slots : List Slot) → IsIndexed key_cmp shift m slots → slot_of shift k < length slots
-        → IsIndexed key_cmp shift n (slice_set slots (slot_of shift k) (taken_out key_cmp (slice_index_or slots (slot_of shift k) Unknown) k))
-    taken_indexed slots is within = set_indexed m n k None updates slots _ is within (taken_says _ (said m slots is (slot_of shift k) _ refl))
+    pub taken_at : (slots : List Slot) (i : ℕ) (before after : Slot) → IsIndexed key_cmp shift m slots → i ≡ slot_of shift k → i < length slots → before ≡ slice_index_or slots i before
+        → size_of after + 1 ≡ size_of before → noted_in after ≡ option_and_then (λ noted. cond (eq_by_cmp key_cmp noted.rank k) None (Some noted)) (noted_in before) → IsIndexed key_cmp shift n (slice_set slots i after)
+    taken_at slots i before after is at within old size notes =
+        let said = slot_at m slots k i before is at within old in
+        let one = ap one_if (own k) in
+        set_indexed m n k None updates others_left slots i after is at within
+        (omega (arith, size, said.0, one, taken_counts (slot_of shift k)), subst (λ o. IfSome o (IsThere key_cmp shift n (slot_of shift k))) (sym notes) (left before said))
 
-    pub taken_at : (slots : List Slot) (i : ℕ) (before after : Slot) → IsIndexed key_cmp shift m slots → i ≡ slot_of shift k → i < length slots → before ≡ slice_index_or slots i before → after ≡ taken_out key_cmp before k
-        → IsIndexed key_cmp shift n (slice_set slots i after)
-    taken_at slots i before after is at within found becomes =
-        subst (λ j. IsIndexed key_cmp shift n (slice_set slots j after)) (sym at)
-        (subst (λ t. IsIndexed key_cmp shift n (slice_set slots (slot_of shift k) t)) (sym (becomes ∙ ap (λ x. taken_out key_cmp x k) (item_at slots i (slot_of shift k) before at within found)))
-        (taken_indexed slots is (subst (λ j. j < length slots) at within)))
-
--- ---- what is found
-
--- A slot's only entry is that of the key, or the map has none.
-pub only_found : (shift : ℕ) (m : BTreeMap Key Entry) (slots : List Slot) (k : Key) (noted : Noted) → IsIndexed key_cmp shift m slots → slice_index_or slots (slot_of shift k) Unknown ≡ Only noted
-    → cond (eq_by_cmp key_cmp noted.rank k) (Some (entry_of noted)) None ≡ get key_cmp m k
-only_found shift m slots k noted is e = elim (eq_by_cmp key_cmp noted.rank k) as (λ b. eq_by_cmp key_cmp noted.rank k ≡ b → cond b (Some (entry_of noted)) None ≡ get key_cmp m k) [
-  | true ↦ λ y. sym (subst (λ x. get key_cmp m x ≡ Some (entry_of noted)) (equal_keys noted.rank k y) (is.2 (slot_of shift k) noted e).0)
-  | false ↦ λ n. sym (is.1 (slot_of shift k) noted k e refl n)
-] refl
-
--- A slot's entry that is found is the map's.
-pub one_found : (shift : ℕ) (m : BTreeMap Key Entry) (slots : List Slot) (k : Key) (noted : Noted) (found : Entry) → IsIndexed key_cmp shift m slots → slice_index_or slots (slot_of shift k) Unknown ≡ One noted
-    → cond (eq_by_cmp key_cmp noted.rank k) (Some (entry_of noted)) None ≡ Some found → Some found ≡ get key_cmp m k
-one_found shift m slots k noted found is e h = elim (eq_by_cmp key_cmp noted.rank k) as (λ b. eq_by_cmp key_cmp noted.rank k ≡ b → cond b (Some (entry_of noted)) None ≡ Some found → Some found ≡ get key_cmp m k) [
-  | true ↦ λ y s. sym s ∙ sym (subst (λ x. get key_cmp m x ≡ Some (entry_of noted)) (equal_keys noted.rank k y) (is.3 (slot_of shift k) noted e).0)
-  | false ↦ λ n s. cc
-] refl h
+    pub taken_unset : (slots : List Slot) → IsIndexed key_cmp shift m slots → length slots ≤ slot_of shift k → IsIndexed key_cmp shift n slots
+    taken_unset slots is past = unset_indexed m n k None updates others_left slots is past

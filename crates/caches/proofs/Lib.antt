@@ -13,6 +13,7 @@ pub mod RangeLaw
 pub mod RankOrder
 pub mod Reach
 pub mod Rest
+pub mod Sharing
 pub mod Standing
 pub mod Sweeping
 pub mod Viewed

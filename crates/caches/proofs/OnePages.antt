@@ -1,5 +1,5 @@
 -- A command for a single page covers just the blocks that hold it, and these are removed span by span.
-use Rattle.std.proofs.Common.{◌≡◌, inl, inr, ℕ, ◌+◌, ◌-◌, ◌%◌, ◌^◌, ◌<◌, ◌==◌, Bool, true, false, ◌&&◌, Option, Some, None, IfSome, cond, refl, sym, ◌∙◌, ap, subst, arith, pow_pos}
+use Rattle.std.proofs.Common.{◌≡◌, inl, inr, ℕ, ◌+◌, ◌-◌, ◌%◌, ◌^◌, ◌<◌, ◌==◌, Bool, true, false, ◌&&◌, Some, None, cond, refl, sym, ◌∙◌, ap, subst, arith, pow_pos}
 use Rattle.std.proofs.Math.Nat.{mod-lt}
 use Rattle.std.proofs.lemmas.Bool.{lt-ltb, le-ltb, eq-eqb, eqb-true, ltb-true, and_from, and_parts, and_right, or_left, or_right, or_cases, cases_lt, cases_eq}
 use Rattle.std.specs.Prelude.{nat_lt}
@@ -43,10 +43,6 @@ tie x y e = subst (λ z. eq_by_cmp tag_cmp x z ≡ true) e (ap is_eq (tied_itsel
 
 tied : (x y : Tag) → eq_by_cmp tag_cmp x y ≡ true → x ≡ y
 tied x y e = tag_cmp_exact x y ((Equal-is (tag_cmp x y)).0 e)
-
-pub if_some : {X : Type 0} (P Q : X → Type 0) (o : Option X) → ((x : X) → P x → Q x) → IfSome o P → IfSome o Q
-if_some P Q None f h = tt
-if_some P Q (Some x) f h = f x h
 
 -- ---- what is covered
 abbrev only : ℕ → PageRun

@@ -1,5 +1,5 @@
 -- The entries of an ordered map but the listed ones, as a finite map of tags: its entry at a tag, and its length.
-use Rattle.std.proofs.Common.{IfSome, ◌≡◌, zero, suc, ◌+◌, ◌-◌, ◌≤◌, Bool, true, false, not, ◌&&◌, ◌||◌, Option, Some, None, is_some, refl, sym, ◌∙◌, ap, subst, List, [], ◌∷◌, ◌++◌, length, arith, cond}
+use Rattle.std.proofs.Common.{IfSome, ◌≡◌, zero, suc, ◌+◌, ◌-◌, ◌≤◌, Bool, true, false, true≢false, not, filter, ◌&&◌, ◌||◌, Option, Some, None, is_some, refl, sym, ◌∙◌, ap, subst, List, [], ◌∷◌, ◌++◌, length, arith, cond}
 use Rattle.std.specs.declared.cmp.Ordering.{Ordering}
 use Rattle.std.specs.declared.cmp.Ordering.TheVariants.{Less, Equal, Greater}
 use Rattle.std.specs.Ordering.{eq_by_cmp, is_eq}
@@ -11,7 +11,10 @@ use Rattle.std.specs.BTreeMap.{BTreeMap, is_at, Updates}
 use Rattle.std.specs.BTreeMap as tree
 use Rattle.std.specs.FinMap as finite
 use Rattle.std.specs.FinMap.{find, get-from_entries, len-insert, len-remove, get-empty, len-empty, empty_of_len, get-retain_keys, get-insert, get-remove, same_map}
+use Rattle.std.proofs.lemmas.Bool.{false_from_ne_true}
+use Rattle.std.proofs.lemmas.List.Folds.{list_any-append}
 use Rattle.std.proofs.lemmas.Map.{lookup-none}
+use Rattle.std.proofs.lemmas.Map.Views.{tells_apart}
 use Rattle.std.proofs.lemmas.Map.Entries.{none_past_head}
 use Rattle.std.proofs.lemmas.Map.Keys.{IsDistinct-from_sorted, sorted_tail}
 use Rattle.cmdcodec.specs.declared.command.Command.{Command}
@@ -139,14 +142,13 @@ listed_none [] t e = refl
 listed_none (k ∷ ks) t e = absurd (omega (arith, e))
 
 listed_push : (ks : List Key) (k : Key) (t : Tag) → is_listed (ks ++ k ∷ []) t ≡ (eq_by_cmp tag_cmp t (tag_of k) || is_listed ks t)
-listed_push [] k t = refl
-listed_push (x ∷ ks) k t = ap (λ b. eq_by_cmp tag_cmp t (tag_of x) || b) (listed_push ks k t) ∙ swapped (eq_by_cmp tag_cmp t (tag_of x)) (eq_by_cmp tag_cmp t (tag_of k)) (is_listed ks t)
+listed_push ks k t = list_any-append (λ key. eq_by_cmp tag_cmp t (tag_of key)) ks (k ∷ []) ∙ turned_round (is_listed ks t) (eq_by_cmp tag_cmp t (tag_of k))
   where
-    swapped : (a b c : Bool) → (a || (b || c)) ≡ (b || (a || c))
-    swapped true true c = refl
-    swapped true false c = refl
-    swapped false true c = refl
-    swapped false false c = refl
+    turned_round : (a b : Bool) → (a || (b || false)) ≡ (b || a)
+    turned_round true true = refl
+    turned_round true false = refl
+    turned_round false true = refl
+    turned_round false false = refl
 
 none_if_either : {X : Type 0} (a b : Bool) (o : Option X) → cond (a || b) None o ≡ cond a None (cond b None o)
 none_if_either true b o = refl
@@ -169,17 +171,61 @@ pub unlisted_taken : (m n : BTreeMap Key Entry) (ks : List Key) (k : Key) → Up
 unlisted_taken m n ks k u = same_map tag_cmp_total tag_cmp_exact _ _ (λ t. get_unlisted n ks t ∙ ap (cond (is_listed ks t) None) (u.0 (key_of t) ∙ ap (λ b. cond b None (tree.get key_cmp m (key_of t))) (at_tag k t))
     ∙ sym (get_unlisted m (ks ++ k ∷ []) t ∙ ap (λ b. cond b None (tree.get key_cmp m (key_of t))) (listed_push ks k t) ∙ either_order (eq_by_cmp tag_cmp t (tag_of k)) (is_listed ks t) (tree.get key_cmp m (key_of t))))
 
--- The entry of a key that isn't listed is put in.
-pub unlisted_put : (m n : BTreeMap Key Entry) (ks : List Key) (k : Key) (e : Entry) → is_listed ks (tag_of k) ≡ false → Updates key_cmp m n k (Some e) → unlisted n ks ≡ finite.insert (unlisted m ks) (tag_of k) e
-unlisted_put m n ks k e unlisted_key u = same_map tag_cmp_total tag_cmp_exact _ _ (λ t. get_unlisted n ks t ∙ ap (cond (is_listed ks t) None) (u.0 (key_of t) ∙ ap (λ b. cond b (Some e) (tree.get key_cmp m (key_of t))) (at_tag k t))
-    ∙ here (tree.get key_cmp m (key_of t)) t
-    ∙ sym (get-insert tag_cmp_total (unlisted m ks) (tag_of k) e t ∙ ap (cond (eq_by_cmp tag_cmp t (tag_of k)) (Some e)) (get_unlisted m ks t)))
+-- ---- a key is taken off the list, and its entry put in
+module _ (ks js : List Key) (k : Key) (off : (t : Tag) → is_listed js t ≡ (is_listed ks t && not (eq_by_cmp tag_cmp t (tag_of k)))) where
+  pub unlisted_put : (m n : BTreeMap Key Entry) (e : Entry) → Updates key_cmp m n k (Some e) → unlisted n js ≡ finite.insert (unlisted m ks) (tag_of k) e
+  unlisted_put m n e u = same_map tag_cmp_total tag_cmp_exact _ _ (λ t. get_unlisted n js t ∙ ap (λ b. cond b None (tree.get key_cmp n (key_of t))) (off t)
+      ∙ ap (cond (is_listed ks t && not (eq_by_cmp tag_cmp t (tag_of k))) None) (u.0 (key_of t) ∙ ap (λ b. cond b (Some e) (tree.get key_cmp m (key_of t))) (at_tag k t))
+      ∙ either_way (is_listed ks t) (eq_by_cmp tag_cmp t (tag_of k)) (tree.get key_cmp m (key_of t))
+      ∙ sym (get-insert tag_cmp_total (unlisted m ks) (tag_of k) e t ∙ ap (cond (eq_by_cmp tag_cmp t (tag_of k)) (Some e)) (get_unlisted m ks t)))
+    where
+      either_way : (l b : Bool) (o : Option Entry) → cond (l && not b) None (cond b (Some e) o) ≡ cond b (Some e) (cond l None o)
+      either_way true true o = refl
+      either_way true false o = refl
+      either_way false true o = refl
+      either_way false false o = refl
+
+  -- Where the map has nothing under the key, nothing changes.
+  pub unlisted_off : (m n : BTreeMap Key Entry) → n.entries ≡ m.entries → tree.get key_cmp m k ≡ None → unlisted n js ≡ unlisted m ks
+  unlisted_off m n same none = same_map tag_cmp_total tag_cmp_exact _ _ (λ t. get_unlisted n js t ∙ ap (λ b. cond b None (tree.get key_cmp n (key_of t))) (off t)
+      ∙ ap (λ es. cond (is_listed ks t && not (eq_by_cmp tag_cmp t (tag_of k))) None (lookup (is_at (key_cmp (key_of t))) es)) same
+      ∙ elim (eq_by_cmp tag_cmp t (tag_of k)) as (λ b. eq_by_cmp tag_cmp t (tag_of k) ≡ b → cond (is_listed ks t && not b) None (tree.get key_cmp m (key_of t)) ≡ cond (is_listed ks t) None (tree.get key_cmp m (key_of t))) [
+        | true ↦ λ at.
+            let gone : tree.get key_cmp m (key_of t) ≡ None = subst (λ x. tree.get key_cmp m (key_of x) ≡ None) (sym (tag_cmp_exact t (tag_of k) ((Equal-is (tag_cmp t (tag_of k))).0 at))) (ap (tree.get key_cmp m) (key_back k) ∙ none) in
+            none_either (is_listed ks t && false) _ gone ∙ sym (none_either (is_listed ks t) _ gone)
+        | false ↦ λ _. ap (λ b. cond b None (tree.get key_cmp m (key_of t))) (and_true (is_listed ks t))
+      ] refl
+      ∙ sym (get_unlisted m ks t))
+    where
+      and_true : (b : Bool) → (b && true) ≡ b
+      and_true true = refl
+      and_true false = refl
+
+-- A list without a key lists the others.
+pub listed_without : (ks : List Key) (k : Key) (t : Tag) → is_listed (filter (λ x. not (eq_by_cmp key_cmp x k)) ks) t ≡ (is_listed ks t && not (eq_by_cmp tag_cmp t (tag_of k)))
+listed_without [] k t = refl
+listed_without (x ∷ ks) k t = elim (eq_by_cmp key_cmp x k) as (λ b. eq_by_cmp key_cmp x k ≡ b → is_listed (cond (not b) (x ∷ filter (λ x. not (eq_by_cmp key_cmp x k)) ks) (filter (λ x. not (eq_by_cmp key_cmp x k)) ks)) t ≡ ((eq_by_cmp tag_cmp t (tag_of x) || is_listed ks t) && not (eq_by_cmp tag_cmp t (tag_of k)))) [
+  | true ↦ λ same. listed_without ks k t ∙ absorbed (eq_by_cmp tag_cmp t (tag_of x)) (eq_by_cmp tag_cmp t (tag_of k)) (is_listed ks t) (ap (λ y. eq_by_cmp tag_cmp t (tag_of y)) (tells_apart key_exact x k same))
+  | false ↦ λ apart. ap (λ b. eq_by_cmp tag_cmp t (tag_of x) || b) (listed_without ks k t) ∙ spread (eq_by_cmp tag_cmp t (tag_of x)) (eq_by_cmp tag_cmp t (tag_of k)) (is_listed ks t) (λ at.
+      false_from_ne_true _ (λ at'.
+      let same : tag_of x ≡ tag_of k = sym (tells_apart tag_cmp_exact t (tag_of x) at) ∙ tells_apart tag_cmp_exact t (tag_of k) at' in
+      let tie : eq_by_cmp key_cmp x k ≡ true = ap (eq_by_cmp key_cmp x) (sym (key_back k)) ∙ at_tag x (tag_of k) ∙ ap (λ y. eq_by_cmp tag_cmp y (tag_of x)) (sym same) ∙ ap is_eq (tied_itself tag_cmp_total (tag_of x)) in
+      absurd (true≢false (sym tie ∙ apart))))
+] refl
   where
-    here : (o : Option Entry) (t : Tag) → cond (is_listed ks t) None (cond (eq_by_cmp tag_cmp t (tag_of k)) (Some e) o) ≡ cond (eq_by_cmp tag_cmp t (tag_of k)) (Some e) (cond (is_listed ks t) None o)
-    here o t = elim (eq_by_cmp tag_cmp t (tag_of k)) as (λ b. eq_by_cmp tag_cmp t (tag_of k) ≡ b → cond (is_listed ks t) None (cond b (Some e) o) ≡ cond b (Some e) (cond (is_listed ks t) None o)) [
-      | true ↦ λ at. ap (λ b. cond b None (Some e)) (subst (λ x. is_listed ks x ≡ false) (sym (tag_cmp_exact t (tag_of k) ((Equal-is (tag_cmp t (tag_of k))).0 at))) unlisted_key)
-      | false ↦ λ _. refl
-    ] refl
+    absorbed : (a b l : Bool) → a ≡ b → (l && not b) ≡ ((a || l) && not b)
+    absorbed true true l e = and_false l
+      where
+        and_false : (l : Bool) → (l && false) ≡ false
+        and_false true = refl
+        and_false false = refl
+    absorbed false false l e = refl
+    absorbed true false l e = absurd (true≢false e)
+    absorbed false true l e = absurd (true≢false (sym e))
+
+    spread : (a b l : Bool) → (a ≡ true → b ≡ false) → (a || (l && not b)) ≡ ((a || l) && not b)
+    spread true b l e = sym (ap not (e refl))
+    spread false b l e = refl
 
 -- Whether a key is listed, as a search by its rank tells.
 pub contained : (ks : List Key) (k : Key) → list_any (λ y. eq_by_cmp key_cmp y k) ks ≡ is_listed ks (tag_of k)
@@ -202,9 +248,9 @@ unlisted_has m ks k none = get_unlisted m ks (tag_of k) ∙ ap (λ b. cond b Non
 pub unlisted_same : (m n : BTreeMap Key Entry) (ks : List Key) → n.entries ≡ m.entries → unlisted n ks ≡ unlisted m ks
 unlisted_same m n ks e = ap (λ es. finite.retain_keys (finite.from_entries {R = tag_cmp} (tagged es)) (λ t. not (is_listed ks t))) e
 
-pub no_option : {X : Type 0} (o : Option X) → is_some o ≡ false → o ≡ None
-no_option None e = refl
-no_option (Some x) e = cc
+pub none_if_not_some : {X : Type 0} (o : Option X) → is_some o ≡ false → o ≡ None
+none_if_not_some None e = refl
+none_if_not_some (Some x) e = cc
 
 -- A key that is listed or that the map lacks isn't found.
 pub unlisted_lacks : (m : BTreeMap Key Entry) (ks : List Key) (k : Key) → (is_some (tree.get key_cmp m k) && not (is_listed ks (tag_of k))) ≡ false → finite.get (unlisted m ks) (tag_of k) ≡ None
@@ -232,15 +278,29 @@ note_removed m n ks js after k some none same more =
     let less = one_less (unlisted m ks) (tag_of k) (ap is_some (unlisted_has m ks k none) ∙ some) in
     (less.0, less.1 ∙ sym (ap finite.len gone), gone)
 
--- An entry is put in under its own key, which isn't listed.
-pub put_in : (m n : BTreeMap Key Entry) (ks : List Key) (k : Key) (e : Entry) (was : Option Entry) → k ≡ key_of e.tag → is_listed ks (tag_of k) ≡ false → (was ≡ tree.get key_cmp m k) × Updates key_cmp m n k (Some e)
-    → (was ≡ finite.get (unlisted m ks) e.tag) × (unlisted n ks ≡ finite.insert (unlisted m ks) e.tag e)
-put_in m n ks k e was own none put =
-    let tag : tag_of k ≡ e.tag = ap tag_of own ∙ tag_back e.tag in
-    (put.0 ∙ sym (unlisted_has m ks k none) ∙ ap (finite.get (unlisted m ks)) tag, unlisted_put m n ks k e none put.1 ∙ ap (λ t. finite.insert (unlisted m ks) t e) tag)
+-- An entry is put in under its own key, which is taken off the list.
+pub put_off : (m n : BTreeMap Key Entry) (ks js : List Key) (k : Key) (e : Entry) (was : Option Entry) → k ≡ key_of e.tag → ((t : Tag) → is_listed js t ≡ (is_listed ks t && not (eq_by_cmp tag_cmp t (tag_of k)))) → (was ≡ tree.get key_cmp m k) × Updates key_cmp m n k (Some e)
+    → (cond (is_listed ks (tag_of k)) None was ≡ finite.get (unlisted m ks) e.tag) × (unlisted n js ≡ finite.insert (unlisted m ks) e.tag e)
+put_off m n ks js k e was own off put =
+    let tag : tag_of k ≡ e.tag = ap tag_of own ∙ tag_back e.tag in (
+      ap (cond (is_listed ks (tag_of k)) None) (put.0 ∙ ap (tree.get key_cmp m) (sym (key_back k))) ∙ sym (get_unlisted m ks (tag_of k)) ∙ ap (finite.get (unlisted m ks)) tag,
+      unlisted_put ks js k off m n e put.1 ∙ ap (λ t. finite.insert (unlisted m ks) t e) tag,
+    )
 
 pub len_put : (m : Entries) (t : Tag) (e : Entry) (was : Option Entry) → was ≡ finite.get m t → finite.len (finite.insert m t e) ≡ cond (is_some was) (finite.len m) (finite.len m + 1)
 len_put m t e was is = len-insert tag_cmp_total m t e ∙ ap (λ o. cond (is_some o) (finite.len m) (finite.len m + 1)) (sym is)
+
+-- What a put that succeeds answers, leaves and counts. `now` is what was held.
+module _ (m n : BTreeMap Key Entry) (ks js : List Key) (k : Key) (e : Entry) (was held : Option Entry) (now : Entries) (own : k ≡ key_of e.tag) (off : (t : Tag) → is_listed js t ≡ (is_listed ks t && not (eq_by_cmp tag_cmp t (tag_of k))))
+    (put : (was ≡ tree.get key_cmp m k) × Updates key_cmp m n k (Some e)) (told : held ≡ cond (is_listed ks (tag_of k)) None was) (view : unlisted m ks ≡ now) where
+  pub held_before : held ≡ finite.get now e.tag
+  held_before = told ∙ (put_off m n ks js k e was own off put).0 ∙ ap (λ x. finite.get x e.tag) view
+
+  pub held_after : unlisted n js ≡ finite.insert now e.tag e
+  held_after = (put_off m n ks js k e was own off put).1 ∙ ap (λ x. finite.insert x e.tag e) view
+
+  pub held_len : finite.len (unlisted n js) ≡ cond (is_some held) (finite.len now) (finite.len now + 1)
+  held_len = ap (λ (x : Entries). finite.len x) held_after ∙ len_put now e.tag e held held_before
 
 pub without_none : (c : Command) (m : Entries) → finite.len m ≡ 0 → m ≡ without_covered c m
 without_none c m none = same_map tag_cmp_total tag_cmp_exact m (without_covered c m) (λ t.

@@ -1,6 +1,10 @@
--- The blocks that hold a page, by whose they are.
-use Rattle.std.specs.Prelude.{ℕ, ◌-◌, ◌%◌, ◌^◌, Bool, false, ◌||◌, Option, Some, None}
+-- Commands for one page, and the blocks that hold it, by whose they are.
+use Rattle.std.specs.Prelude.{ℕ, ◌-◌, ◌%◌, ◌^◌, Bool, true, false, ◌||◌, Option, Some, None}
 use Rattle.std.specs.Ordering.{eq_by_cmp}
+use Rattle.cmdcodec.specs.declared.command.Command.{Command}
+use Rattle.cmdcodec.specs.declared.command.Command.TheVariants.{TlbiNhVa, TlbiEl2Va, TlbiS2Ipa}
+use Rattle.cmdcodec.specs.declared.reach.Reach.{Reach}
+use Rattle.cmdcodec.specs.declared.reach.Reach.TheVariants.{Page, Range}
 use Rattle.caches.specs.declared.tag.Tag.{Tag}
 use Rattle.caches.specs.declared.key.Key.{Key}
 use Rattle.caches.specs.declared.key.Key.TheVariants.{Machine, Hypervisor}
@@ -10,6 +14,19 @@ use Rattle.caches.specs.declared.one_page.OnePage.{OnePage}
 use Rattle.caches.specs.Keys.{key_of, span_of, tag_of}
 use Rattle.caches.specs.TagOrder.{tag_cmp}
 
+-- ---- which commands
+abbrev pub is_page : Reach → Bool
+is_page Page = true
+is_page (Range tg num scale) = false
+
+-- The command is for one page, and for one address space or for stage 2.
+abbrev pub is_for_page : Command → Bool
+is_for_page (TlbiNhVa vmid asid leaf page reach) = is_page reach
+is_for_page (TlbiEl2Va asid leaf page reach) = is_page reach
+is_for_page (TlbiS2Ipa vmid leaf page reach) = is_page reach
+is_for_page command = false
+
+-- ---- which blocks
 -- the key of a holder's block, by its first page and its span
 abbrev pub key_in : Holder → ℕ → ℕ → Key
 key_in (Guest vmid stage) page span = Machine vmid page span stage

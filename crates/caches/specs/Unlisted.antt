@@ -1,8 +1,10 @@
 -- The entries of an ordered map under their tags, without those whose keys are listed.
-use Rattle.std.specs.Prelude.{Bool, not, List, map}
+use Rattle.std.specs.Prelude.{◌≡◌, Bool, not, List, map, Some}
+use Rattle.std.specs.declared.cmp.Ordering.{Ordering}
 use Rattle.std.specs.List.{list_any}
 use Rattle.std.specs.Ordering.{eq_by_cmp}
 use Rattle.std.specs.BTreeMap.{BTreeMap}
+use Rattle.std.specs.BTreeMap as tree
 use Rattle.std.specs.FinMap as finite
 use Rattle.caches.specs.declared.tag.Tag.{Tag}
 use Rattle.caches.specs.declared.tag.Entry.{Entry}
@@ -18,6 +20,10 @@ tagged es = map {B = Tag × Entry} (λ (e : Key × Entry). (tag_of e.0, e.1)) es
 -- the tag's key is listed
 abbrev pub is_listed : List Key → Tag → Bool
 is_listed keys tag = list_any (λ key. eq_by_cmp tag_cmp tag (tag_of key)) keys
+
+-- The first map's entries are entries of the second.
+abbrev pub IsPartOf : (Key → Key → Ordering) → BTreeMap Key Entry → BTreeMap Key Entry → Type 0
+IsPartOf cmp n m = (key : Key) (entry : Entry) → tree.get cmp n key ≡ Some entry → tree.get cmp m key ≡ Some entry
 
 -- the map's entries but the listed ones
 abbrev pub unlisted : BTreeMap Key Entry → List Key → Entries

@@ -1,12 +1,9 @@
 -- Caches as callers see them, and what is true of them inside.
-use Rattle.std.specs.Prelude.{◌≡◌, ◌≤◌, Some}
+use Rattle.std.specs.Prelude.{◌≤◌}
 use Rattle.std.specs.FinMap as finite
 use Rattle.caches.specs.Limits.{most_entries}
-use Rattle.caches.specs.declared.tag.Tag.{Tag}
-use Rattle.caches.specs.declared.tag.Entry.{Entry}
 use Rattle.caches.specs.declared.caches.Caches.TheInside.{Inside}
-use Rattle.caches.specs.Keys.{key_of, span_of, IsKept}
-use Rattle.caches.specs.Spanned.{IsSpanOf}
+use Rattle.caches.specs.EntryMaps.{AreKept, HaveSpans}
 use Rattle.caches.specs.Stored.{Stored}
 
 abbrev pub stored : Inside → Stored
@@ -17,5 +14,5 @@ stored inside = record { capacity = inside.capacity; entries = inside.held }
 pub record AreCaches (inside : Inside) : Type 0 where
   pub limit : inside.capacity ≤ most_entries
   pub room : finite.len inside.held ≤ inside.capacity
-  pub kept : (tag : Tag) (entry : Entry) → finite.get inside.held tag ≡ Some entry → IsKept tag entry
-  pub spanned : (tag : Tag) (entry : Entry) → finite.get inside.held tag ≡ Some entry → IsSpanOf inside.spans (span_of (key_of tag))
+  pub kept : AreKept inside.held
+  pub spanned : HaveSpans inside.spans inside.held

@@ -1,24 +1,24 @@
 //! The entries that are held, by their tags.
 //!
 //! Taking an entry out of the ordered map is most of what a single command costs. So a command for one page, and an
-//! eviction, note the rank of what they remove, and it counts as removed from then on. The ranks that are noted are taken
-//! out of the map together: when there are 16, when one of them is put in again, and before a walk along the map.
-ghost use Rattle.std.specs.Prelude.{◌≡◌, ◌≤◌, ◌<◌, false, not, cond, filter, [], None, Some};
+//! eviction, note the rank of what they remove, and it counts as removed from then on. A fill under this rank writes over
+//! what the map still has there. The ranks that are noted are taken out of the map together: before a 17th is noted, and
+//! before a walk along the map.
+ghost use Rattle.std.specs.Prelude.{◌≡◌, ◌≤◌, ◌<◌, ◌&&◌, not, cond, filter, [], None, Some};
+ghost use Rattle.std.specs.Ordering.{eq_by_cmp};
 ghost use Rattle.std.specs.List.Sorted.{IsPermutation, IsSortedByKey};
-ghost use Rattle.std.specs.BTreeMap as tree;
 ghost use Rattle.std.specs.FinMap as finite;
 ghost use Rattle.arrayvec.specs.ArrayVec.{array_vec_len};
 ghost use Rattle.caches.specs.declared.tag.Tag.{Tag};
 ghost use Rattle.caches.specs.declared.tag.Entry.{Entry};
-ghost use Rattle.caches.specs.declared.key.Key.{Key};
+ghost use Rattle.caches.specs.EntryMaps.{AreKept, HaveSpans};
 ghost use Rattle.caches.specs.Held.{without_covered};
-ghost use Rattle.caches.specs.Keys.{key_of, tag_of, span_of, IsKept};
-ghost use Rattle.caches.specs.Limits.{most_entries};
+ghost use Rattle.caches.specs.Keys.{tag_of};
+ghost use Rattle.caches.specs.Limits.{most_entries, most_removed};
 ghost use Rattle.caches.specs.OnePages.{is_block_at, is_on};
-ghost use Rattle.caches.specs.Spanned.{IsSpanOf};
 ghost use Rattle.caches.specs.Stored.{IsFilled, IsListAnswer};
 ghost use Rattle.caches.specs.TagOrder.{tag_cmp, numbers};
-ghost use Rattle.caches.specs.Unlisted.{is_listed, unlisted};
+ghost use Rattle.caches.specs.Unlisted.{is_listed, unlisted, IsPartOf};
 
 use crate::fault::CacheFault;
 use crate::indexed_map::IndexedMap;
@@ -116,13 +116,14 @@ impl EntryMap {
         ensures { IsFilled self.old entry self.new result }
     {
         let rank = Rank::of(&entry.tag);
-        settle(&mut self.map, &mut self.removed, rank);
+        let was_removed = take_off(&mut self.removed, rank);
         match self.map.put(rank, entry) {
             Ok(was) => {
-                if was.is_none() {
+                let held = unless_removed(was, was_removed);
+                if held.is_none() {
                     self.len += 1;
                 }
-                Ok(was)
+                Ok(held)
             }
             Err(fault) => Err(fault),
         }
@@ -144,20 +145,20 @@ impl EntryMap {
     /// If there are none it doesn't look at the command, so that a command that is only judged never has to be built.
     #[inline]
     pub(crate) fn remove_covered(&mut self, spans: &Spans, command: &Command)
-        requires kept { (tag : Tag) (entry : Entry) → finite.get self.old tag ≡ Some entry → IsKept tag entry }
-        requires spans { (tag : Tag) (entry : Entry) → finite.get self.old tag ≡ Some entry → IsSpanOf spans.now (span_of (key_of tag)) }
+        requires kept { AreKept self.old }
+        requires spans { HaveSpans spans.now self.old }
         ensures { self.new ≡ without_covered command.now self.old }
     {
         if self.len > 0 {
-            self.remove_some(spans, command);
+            self.remove_from_filled(spans, command);
         }
     }
 
     /// The same where there may be entries.
     #[inline(never)]
-    fn remove_some(&mut self, spans: &Spans, command: &Command)
-        requires kept { (tag : Tag) (entry : Entry) → finite.get self.old tag ≡ Some entry → IsKept tag entry }
-        requires spans { (tag : Tag) (entry : Entry) → finite.get self.old tag ≡ Some entry → IsSpanOf spans.now (span_of (key_of tag)) }
+    fn remove_from_filled(&mut self, spans: &Spans, command: &Command)
+        requires kept { AreKept self.old }
+        requires spans { HaveSpans spans.now self.old }
         ensures { self.new ≡ without_covered command.now self.old }
     {
         match OnePage::of(command) {
@@ -168,8 +169,8 @@ impl EntryMap {
 
     /// The same by a walk along the map.
     fn sweep(&mut self, spans: &Spans, command: &Command)
-        requires kept { (tag : Tag) (entry : Entry) → finite.get self.old tag ≡ Some entry → IsKept tag entry }
-        requires spans { (tag : Tag) (entry : Entry) → finite.get self.old tag ≡ Some entry → IsSpanOf spans.now (span_of (key_of tag)) }
+        requires kept { AreKept self.old }
+        requires spans { HaveSpans spans.now self.old }
         ensures { self.new ≡ without_covered command.now self.old }
     {
         take_out(&mut self.map, &mut self.removed);
@@ -179,7 +180,7 @@ impl EntryMap {
 
     /// Removes the blocks that hold a page.
     fn remove_on(&mut self, spans: &Spans, one: OnePage)
-        requires { (tag : Tag) (entry : Entry) → finite.get self.old tag ≡ Some entry → IsSpanOf spans.now (span_of (key_of tag)) }
+        requires { HaveSpans spans.now self.old }
         ensures { (tag : Tag) → finite.get self.new tag ≡ cond (is_on one tag) None (finite.get self.old tag) }
     {
         self.remove_blocks(spans, one.own, one.page);
@@ -190,7 +191,7 @@ impl EntryMap {
 
     /// Removes the blocks of a holder that hold a page.
     fn remove_blocks(&mut self, spans: &Spans, holder: Holder, page: u64)
-        requires { (tag : Tag) (entry : Entry) → finite.get self.old tag ≡ Some entry → IsSpanOf spans.now (span_of (key_of tag)) }
+        requires { HaveSpans spans.now self.old }
         ensures { (tag : Tag) → finite.get self.new tag ≡ cond (is_block_at holder page tag) None (finite.get self.old tag) }
     {
         for span in 0..spans.end() {
@@ -212,10 +213,12 @@ fn is_among(ranks: &[Rank], rank: Rank) -> bool
 }
 
 /// Takes what is noted out of the map.
-#[inline(never)]
+///
+/// Inlined, since a walk mostly finds nothing noted.
+#[inline(always)]
 fn take_out(map: &mut IndexedMap, removed: &mut ArrayVec<Rank, MOST_REMOVED>)
     ensures same { unlisted map.new.ordered removed.new.items ≡ unlisted map.old.ordered removed.old.items }
-    ensures pruned { (q : Key) (entry : Entry) → tree.get ⟦<Rank as Ord>⟧.cmp map.new.ordered q ≡ Some entry → tree.get ⟦<Rank as Ord>⟧.cmp map.old.ordered q ≡ Some entry }
+    ensures pruned { IsPartOf ⟦<Rank as Ord>⟧.cmp map.new.ordered map.old.ordered }
     ensures none { removed.new.items ≡ [] }
 {
     while let Some(rank) = removed.pop() {
@@ -223,22 +226,30 @@ fn take_out(map: &mut IndexedMap, removed: &mut ArrayVec<Rank, MOST_REMOVED>)
     }
 }
 
-/// Takes what is noted out of the map if this rank is among it.
-fn settle(map: &mut IndexedMap, removed: &mut ArrayVec<Rank, MOST_REMOVED>, rank: Rank)
-    ensures same { unlisted map.new.ordered removed.new.items ≡ unlisted map.old.ordered removed.old.items }
-    ensures pruned { (q : Key) (entry : Entry) → tree.get ⟦<Rank as Ord>⟧.cmp map.new.ordered q ≡ Some entry → tree.get ⟦<Rank as Ord>⟧.cmp map.old.ordered q ≡ Some entry }
-    ensures none { is_listed removed.new.items (tag_of rank) ≡ false }
+/// Returns what was held under a rank where the map had `was`.
+fn unless_removed(was: Option<Entry>, was_removed: bool) -> Option<Entry>
+    ensures { result ≡ cond was_removed None was }
 {
-    if is_among(removed, rank) {
-        take_out(map, removed);
+    if was_removed { None } else { was }
+}
+
+/// Takes a rank off the list, and tells whether it was on it.
+fn take_off(removed: &mut ArrayVec<Rank, MOST_REMOVED>, rank: Rank) -> bool
+    ensures was { result ≡ is_listed removed.old.items (tag_of rank) }
+    ensures rest { (tag : Tag) → is_listed removed.new.items tag ≡ (is_listed removed.old.items tag && not (eq_by_cmp tag_cmp tag (tag_of rank))) }
+{
+    let was = is_among(removed, rank);
+    if was {
+        removed.retain(|noted| *noted != rank);
     }
+    was
 }
 
 /// Takes what is noted out of the map if no more can be noted.
 fn make_room(map: &mut IndexedMap, removed: &mut ArrayVec<Rank, MOST_REMOVED>)
     ensures same { unlisted map.new.ordered removed.new.items ≡ unlisted map.old.ordered removed.old.items }
-    ensures pruned { (q : Key) (entry : Entry) → tree.get ⟦<Rank as Ord>⟧.cmp map.new.ordered q ≡ Some entry → tree.get ⟦<Rank as Ord>⟧.cmp map.old.ordered q ≡ Some entry }
-    ensures room { array_vec_len removed.new < 16 }
+    ensures pruned { IsPartOf ⟦<Rank as Ord>⟧.cmp map.new.ordered map.old.ordered }
+    ensures room { array_vec_len removed.new < most_removed }
 {
     if removed.is_full() {
         take_out(map, removed);

@@ -1,12 +1,13 @@
 //! The ordered map of all entries, with an index for look-ups.
 //!
-//! Each rank has one of the index's slots, by its mixed bits. The newest entry with this slot is noted there, until
-//! it is taken out, so a look-up of it reads one slot. So does one of an entry that isn't held, unless the map ever held
-//! two entries with this slot at one time; then the map has to be searched.
+//! Each rank has one of the index's slots, by its mixed bits. A slot counts the entries that have it and notes the newest,
+//! until that is taken out. So a look-up reads one slot if it finds the entry there, or if the slot has no others; else
+//! the map has to be searched.
 ghost use Rattle.std.specs.Prelude.{◌≡◌, ◌≤◌, ◌<◌, ◌+◌, None, if◌then◌else◌, is_some};
 ghost use Rattle.std.specs.BTreeMap as tree;
 ghost use Rattle.std.specs.BTreeMap.{IsEmpty, Updates, btree_map_len, is_at};
 ghost use Rattle.std.specs.Map.{remove_entry};
+ghost use Rattle.std.proofs.Props.{props};
 ghost use Rattle.caches.specs.Keys.{key_of, tag_of};
 ghost use Rattle.caches.specs.Limits.{most_entries};
 ghost use Rattle.caches.specs.Puts.{IsPut};
@@ -36,7 +37,7 @@ pub(crate) struct IndexedMap {
     /// How many of the lower of a rank's mixed bits its slot doesn't depend on.
     shift: u32,
     ghost shifted: { shift < 64 },
-    ghost indexed: { IsIndexed ⟦<Rank as Ord>⟧.cmp shift ordered slots.items },
+    ghost indexed: { IsIndexed ⟦<Rank as Ord>⟧.cmp shift ordered slots.items } by { Prim.hlevel props },
 }
 
 impl IndexedMap {
@@ -50,7 +51,7 @@ impl IndexedMap {
             .trailing_zeros()
             .max(FEWEST_SLOTS_LOG2)
             .min(MOST_SLOTS_LOG2);
-        let slots = match vec![in alloc; Slot::Free; 1 << log2] {
+        let slots = match vec![in alloc; Slot::Unnoted { all: 0 }; 1 << log2] {
             Ok(slots) => slots,
             Err(_) => Vec::new(alloc),
         };
@@ -67,13 +68,13 @@ impl IndexedMap {
     {
         let rank = Rank::of(tag);
         match self.slots.get(rank.slot(self.shift)) {
-            Some(Slot::Free) => None,
-            Some(Slot::Only(noted)) => noted.entry_at(rank, *tag),
-            Some(Slot::One(noted)) => match noted.entry_at(rank, *tag) {
+            Some(Slot::Newest { others, noted }) => match noted.entry_at(rank, *tag) {
                 Some(entry) => Some(entry),
+                None if *others == 0 => None,
                 None => self.search(rank),
             },
-            Some(Slot::Unknown) | None => self.search(rank),
+            Some(Slot::Unnoted { all }) if *all == 0 => None,
+            Some(Slot::Unnoted { .. }) | None => self.search(rank),
         }
     }
 
@@ -82,10 +83,11 @@ impl IndexedMap {
         ensures { result ≡ is_some (tree.get ⟦<Rank as Ord>⟧.cmp self.now.ordered rank) }
     {
         match self.slots.get(rank.slot(self.shift)) {
-            Some(Slot::Free) => false,
-            Some(Slot::Only(noted)) => noted.rank == rank,
-            Some(Slot::One(noted)) => noted.rank == rank || self.search(rank).is_some(),
-            Some(Slot::Unknown) | None => self.search(rank).is_some(),
+            Some(Slot::Newest { others, noted }) => {
+                noted.rank == rank || (*others > 0 && self.search(rank).is_some())
+            }
+            Some(Slot::Unnoted { all }) => *all > 0 && self.search(rank).is_some(),
+            None => self.search(rank).is_some(),
         }
     }
 
@@ -106,7 +108,7 @@ impl IndexedMap {
     {
         let removed = self.ordered.remove(&rank);
         let place = rank.slot(self.shift);
-        if place < self.slots.len() {
+        if removed.is_some() && place < self.slots.len() {
             self.slots[place] = self.slots[place].taken_out(rank);
         }
         removed
@@ -118,11 +120,14 @@ impl IndexedMap {
         ensures { IsPut ⟦<Rank as Ord>⟧.cmp self.old.ordered rank entry self.new.ordered result }
     {
         let Entry { value, born, .. } = entry;
+        // For its clause `small`: a slot counts some of them.
+        self.ordered.len();
         match self.ordered.insert(rank, entry) {
             Ok(was) => {
+                let noted = Noted { rank, value, born };
                 let place = rank.slot(self.shift);
                 if place < self.slots.len() {
-                    self.slots[place] = self.slots[place].put_in(Noted { rank, value, born });
+                    self.slots[place] = self.slots[place].put_in(noted, was.is_none());
                 }
                 Ok(was)
             }

@@ -11,9 +11,8 @@
 //! first page rounded down to a length that was ever filled; it walks back from each of these. Each entry is
 //! tested before it is removed, so a walk that is too long only costs time.
 //!
-//! An index beside the map answers most look-ups in one step: it has a slot for each group of ranks, which says
-//! which entry is held, or that there is none. Where several entries had one slot at one time, the map may have to be
-//! searched.
+//! An index beside the map answers most look-ups in one step: it has a slot for each group of ranks, which counts their
+//! entries and notes the newest. For the others the map is searched.
 //!
 //! A command for one page looks by the index under each key that it may cover. What it finds it only notes as removed,
 //! and so does an eviction; up to 16 such entries stay in the map until they are taken out together.

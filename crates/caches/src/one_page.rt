@@ -1,8 +1,8 @@
 //! Commands for a single page. Of each span they cover at most one block, under one key or two.
-ghost use Rattle.std.specs.Prelude.{◌≡◌, ◌<◌, ◌≤◌, ◌-◌, ◌%◌, ◌^◌, IfSome};
+ghost use Rattle.std.specs.Prelude.{◌≡◌, ◌<◌, ◌≤◌, ◌-◌, ◌%◌, ◌^◌, is_some, IfSome};
 ghost use Rattle.caches.specs.Blocks.{IsBlock};
 ghost use Rattle.caches.specs.Covers.{covers};
-ghost use Rattle.caches.specs.OnePages.{key_in, is_on};
+ghost use Rattle.caches.specs.OnePages.{key_in, is_for_page, is_on, is_page};
 ghost use Rattle.caches.specs.Ranks.{part_of};
 ghost use Rattle.caches.specs.declared.tag.Tag.{Tag};
 
@@ -64,8 +64,12 @@ impl Holder {
 
 impl OnePage {
     /// Returns what `command` covers if it is for a single page and for one address space, or for stage 2.
+    ///
+    /// Inlined, since all other commands pass by.
+    #[inline(always)]
     pub(crate) fn of(command: &Command) -> Option<OnePage>
-        ensures { IfSome result (λ one. (tag : Tag) → IsBlock tag → covers command.now tag ≡ is_on one tag) }
+        ensures when { is_some result ≡ is_for_page command.now }
+        ensures covered { IfSome result (λ one. (tag : Tag) → IsBlock tag → covers command.now tag ≡ is_on one tag) }
     {
         match *command {
             Command::TlbiNhVa {
@@ -102,7 +106,8 @@ impl OnePage {
 
     /// The blocks that hold a page, if it alone is reached.
     fn at(page: u64, reach: Reach, own: Holder, shared: Option<Holder>) -> Option<OnePage>
-        ensures { IfSome result (λ one. (reach ≡ Reach.Page) × (one ≡ record { page = page; own = own; shared = shared })) }
+        ensures when { is_some result ≡ is_page reach }
+        ensures one { IfSome result (λ one. (reach ≡ Reach.Page) × (one ≡ record { page = page; own = own; shared = shared })) }
     {
         match reach {
             Reach::Page => Some(OnePage { page, own, shared }),

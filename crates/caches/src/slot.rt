@@ -1,8 +1,9 @@
 //! What the index of the caches says of the entries whose ranks have one slot.
-ghost use Rattle.std.specs.Prelude.{◌≡◌, cond, Some, None};
+ghost use Rattle.std.specs.Prelude.{◌≡◌, ◌+◌, ◌^◌, ◌<◌, cond, false, if◌then◌else◌, Some, None, IfSome};
+ghost use Rattle.std.specs.Option.{option_and_then};
 ghost use Rattle.std.specs.Ordering.{eq_by_cmp};
 ghost use Rattle.caches.specs.Keys.{tag_of};
-ghost use Rattle.caches.specs.Slots.{entry_of, put_in, taken_out};
+ghost use Rattle.caches.specs.Slots.{entry_of, noted_in, size_of};
 
 use crate::rank::Rank;
 use crate::tag::{Entry, Tag};
@@ -16,16 +17,14 @@ pub(crate) struct Noted {
 }
 
 /// What is known of the entries whose ranks have this slot.
+///
+/// The counts stand first, where they take no room of their own.
 #[derive(Clone, Copy)]
 pub(crate) enum Slot {
-    /// There is none.
-    Free,
-    /// There is this one alone.
-    Only(Noted),
-    /// There is this one, and there may be others.
-    One(Noted),
-    /// There may be some.
-    Unknown,
+    /// How many there are. None of them is noted.
+    Unnoted { all: usize },
+    /// The newest of them, and how many others there are.
+    Newest { others: usize, noted: Noted },
 }
 
 impl Noted {
@@ -47,44 +46,40 @@ impl Noted {
 }
 
 impl Slot {
-    /// Returns what is known once this entry is put into the map.
-    pub(crate) fn put_in(self, noted: Noted) -> Slot
-        ensures { result ≡ put_in ⟦<Rank as Ord>⟧.cmp self noted }
+    /// Returns what is known once this entry is put into the map, as a new one or in place of one of the same rank.
+    pub(crate) fn put_in(self, noted: Noted, is_new: bool) -> Slot
+        requires counted { is_new ≡ false → 0 < size_of self }
+        requires few { size_of self < 2 ^ 63 }
+        ensures size { size_of result ≡ size_of self + (if is_new then 1 else 0) }
+        ensures noted { noted_in result ≡ Some noted }
     {
-        match self {
-            Slot::Free => Slot::Only(noted),
-            Slot::Only(other) => {
-                if other.rank == noted.rank {
-                    Slot::Only(noted)
-                } else {
-                    Slot::One(noted)
-                }
-            }
-            Slot::One(_) | Slot::Unknown => Slot::One(noted),
-        }
+        let before = match self {
+            Slot::Unnoted { all } => all,
+            Slot::Newest { others, .. } => others + 1,
+        };
+        let others = if is_new { before } else { before - 1 };
+        Slot::Newest { others, noted }
     }
 
     /// Returns what is known once the entry of this rank is taken out of the map.
     pub(crate) fn taken_out(self, rank: Rank) -> Slot
-        ensures { result ≡ taken_out ⟦<Rank as Ord>⟧.cmp self rank }
+        requires counted { 0 < size_of self }
+        requires others { IfSome (noted_in self) (λ noted. eq_by_cmp ⟦<Rank as Ord>⟧.cmp noted.rank rank ≡ false → 1 < size_of self) }
+        ensures size { size_of result + 1 ≡ size_of self }
+        ensures noted { noted_in result ≡ option_and_then (λ noted. cond (eq_by_cmp ⟦<Rank as Ord>⟧.cmp noted.rank rank) None (Some noted)) (noted_in self) }
     {
         match self {
-            Slot::Only(noted) => {
+            Slot::Unnoted { all } => Slot::Unnoted { all: all - 1 },
+            Slot::Newest { others, noted } => {
                 if noted.rank == rank {
-                    Slot::Free
+                    Slot::Unnoted { all: others }
                 } else {
-                    Slot::Only(noted)
+                    Slot::Newest {
+                        others: others - 1,
+                        noted,
+                    }
                 }
             }
-            Slot::One(noted) => {
-                if noted.rank == rank {
-                    Slot::Unknown
-                } else {
-                    Slot::One(noted)
-                }
-            }
-            Slot::Free => Slot::Free,
-            Slot::Unknown => Slot::Unknown,
         }
     }
 }

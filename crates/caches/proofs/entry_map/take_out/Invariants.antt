@@ -1,15 +1,12 @@
-use Rattle.std.proofs.Common.{◌≡◌, Some, length}
-use Rattle.std.specs.BTreeMap as tree
-use Rattle.caches.specs.declared.key.Key.{Key}
-use Rattle.caches.specs.declared.tag.Entry.{Entry}
-use Rattle.caches.specs.Unlisted.{unlisted}
+use Rattle.std.proofs.Common.{◌≡◌, length}
+use Rattle.caches.specs.Unlisted.{unlisted, IsPartOf}
 use Rattle.caches.proofs.KeyOrder.{key_cmp}
 use Rattle.caches.proofs.entry_map.take_out.Given as goal
 
 abbrev pub invariant-loop-rank : goal.invariant-loop-rank
 invariant-loop-rank l = record {
   same : unlisted l.map.ordered l.removed.items ≡ unlisted l.fn.map.ordered l.fn.removed.items;
-  pruned : (q : Key) (entry : Entry) → tree.get key_cmp l.map.ordered q ≡ Some entry → tree.get key_cmp l.fn.map.ordered q ≡ Some entry;
+  pruned : IsPartOf key_cmp l.map.ordered l.fn.map.ordered;
 }
 
 abbrev pub decreases-loop-rank : goal.decreases-loop-rank
