@@ -2,8 +2,8 @@
 // and the pointers to its nodes in two arrays, each node in memory of its own. Without a way to find the entries that
 // an invalidation by address covers, it walks the whole table and removes what matches.
 //
-// It times nothing, an invalidation that removes one entry, and a look-up that finds one, in turn, each alone and behind
-// a walk over 32 MB of other memory. Prints a line for each: which it is, how many entries are held, the nanoseconds,
+// It times nothing, an invalidation that removes one entry, a look-up that finds one, and one that finds nothing, in turn,
+// each alone and behind a walk over 32 MB of other memory. Prints a line for each: which it is, how many entries are held, the nanoseconds,
 // and the sum of the walk ahead of it.
 #define _POSIX_C_SOURCE 200809L
 #include <stdbool.h>
@@ -18,6 +18,7 @@ enum {
     SLOTS = 512,
     TURNS = 1000,
     STRIDE = 7919,
+    NEVER_HELD = 65000,
     WORDS = 4194304,
     LINE = 8,
 };
@@ -167,6 +168,13 @@ static void time_turn(unsigned turn) {
     after = nanoseconds();
     report("look-up", ENTRIES, before, after, sum);
     expect(found != NULL && same(&found->key, &key));
+
+    key = key_at(NEVER_HELD);
+    sum = walk(), before = nanoseconds();
+    found = look_up(&key);
+    after = nanoseconds();
+    report("miss", ENTRIES, before, after, sum);
+    expect(found == NULL);
 }
 
 int main(void) {
