@@ -21,6 +21,7 @@ use Rattle.caches.specs.declared.caches.Caches.TheInside.{Inside}
 use Rattle.caches.specs.Blocks.{IsBlock}
 use Rattle.caches.specs.Covers.{covers}
 use Rattle.caches.specs.Keys.{key_of, page_of, span_of, IsKept}
+use Rattle.caches.specs.OneStreams.{is_of_substream}
 use Rattle.caches.specs.Spanned.{IsSpanOf}
 use Rattle.caches.specs.TagOrder.{tag_cmp, tag_cmp_total, tag_cmp_exact}
 use Rattle.caches.specs.Held.{Entries, without_covered}
@@ -71,8 +72,8 @@ spans_same : (a b : Inside) (n : ℕ) → b.spans ≡ a.spans → IsSpanOf a.spa
 spans_same a b n same h = subst (λ s. IsSpanOf s n) (sym same) h
 
 -- Removing what passes a test leaves valid caches.
-less_are : (a b : Inside) → b.capacity ≡ a.capacity → b.spans ≡ a.spans → AreCaches a → (p : Tag → Bool) → ((t : Tag) → finite.get b.held t ≡ cond (p t) None (finite.get a.held t)) → AreCaches b
-less_are a b same spans h p less =
+less_are : (a b : Inside) → b.capacity ≡ a.capacity → b.spans ≡ a.spans → b.substreams ≡ a.substreams → AreCaches a → (p : Tag → Bool) → ((t : Tag) → finite.get b.held t ≡ cond (p t) None (finite.get a.held t)) → AreCaches b
+less_are a b same spans substreams h p less =
     let shrinks = shorter tag_cmp_total a.held b.held (λ t s. some_within (p t) _ (subst IsSome (less t) s)) in
     let room = h.room in
     let limit = h.limit in
@@ -81,16 +82,17 @@ less_are a b same spans h p less =
       room = omega (arith, same, shrinks, room);
       kept = λ t e is. h.kept t e (some_was (p t) _ e (sym (less t) ∙ is));
       spanned = λ t e is. spans_same a b (span_of (key_of t)) spans (h.spanned t e (some_was (p t) _ e (sym (less t) ∙ is)));
+      main = λ none t e is. h.main (sym substreams ∙ none) t e (some_was (p t) _ e (sym (less t) ∙ is));
     }
 
 pub len_without : (c : Command) (m : Entries) → finite.len (without_covered c m) ≤ finite.len m
 len_without c m = shorter tag_cmp_total m (without_covered c m) (λ t s. some_within (covers c t) _ (subst IsSome (get_without_covered c m t) s))
 
-pub are_without : (c : Command) (a b : Inside) → b.capacity ≡ a.capacity → b.spans ≡ a.spans → AreCaches a → b.held ≡ without_covered c a.held → AreCaches b
-are_without c a b same spans h e = less_are a b same spans h (covers c) (λ t. ap (λ m. finite.get m t) e ∙ get_without_covered c a.held t)
+pub are_without : (c : Command) (a b : Inside) → b.capacity ≡ a.capacity → b.spans ≡ a.spans → b.substreams ≡ a.substreams → AreCaches a → b.held ≡ without_covered c a.held → AreCaches b
+are_without c a b same spans substreams h e = less_are a b same spans substreams h (covers c) (λ t. ap (λ m. finite.get m t) e ∙ get_without_covered c a.held t)
 
-pub are_evicted : (a b : Inside) (t : Tag) → b.capacity ≡ a.capacity → b.spans ≡ a.spans → AreCaches a → b.held ≡ finite.remove a.held t → AreCaches b
-are_evicted a b t same spans h e = less_are a b same spans h (λ q. eq_by_cmp tag_cmp q t) (λ q. ap (λ m. finite.get m q) e ∙ get-remove tag_cmp_total a.held t q)
+pub are_evicted : (a b : Inside) (t : Tag) → b.capacity ≡ a.capacity → b.spans ≡ a.spans → b.substreams ≡ a.substreams → AreCaches a → b.held ≡ finite.remove a.held t → AreCaches b
+are_evicted a b t same spans substreams h e = less_are a b same spans substreams h (λ q. eq_by_cmp tag_cmp q t) (λ q. ap (λ m. finite.get m q) e ∙ get-remove tag_cmp_total a.held t q)
 
 pub are_empty : (a : Inside) → a.capacity ≤ 65536 → a.held ≡ finite.empty → AreCaches a
 are_empty a h e = record {
@@ -98,6 +100,7 @@ are_empty a h e = record {
   room = subst (λ m. finite.len m ≤ a.capacity) (sym e) (omega (arith, len-empty tag_cmp Entry));
   kept = λ t x is. let n = get-empty {X = Entry} tag_cmp t in let no_entry : None ≡ Some x = sym n ∙ subst (λ m. finite.get m t ≡ Some x) e is in cc;
   spanned = λ t x is. let n = get-empty {X = Entry} tag_cmp t in let no_entry : None ≡ Some x = sym n ∙ subst (λ m. finite.get m t ≡ Some x) e is in cc;
+  main = λ none t x is. let n = get-empty {X = Entry} tag_cmp t in let no_entry : None ≡ Some x = sym n ∙ subst (λ m. finite.get m t ≡ Some x) e is in cc;
 }
 
 -- ---- a put
@@ -126,8 +129,19 @@ spanned_at b x q o e here old is =
       | false ↦ λ n s. old s
     ] refl is
 
-are_filled : (a b : Inside) (x : Entry) → b.capacity ≡ a.capacity → IsSpanOf b.spans (span_of (key_of x.tag)) → ((n : ℕ) → IsSpanOf a.spans n → IsSpanOf b.spans n) → AreCaches a → IsKept x.tag x → (is_some (finite.get a.held x.tag) ≡ true) ⊎ (finite.len a.held < a.capacity) → b.held ≡ finite.insert a.held x.tag x → AreCaches b
-are_filled a b x same added more h here room e =
+-- Where no substream's descriptor was put in, none was before, and this isn't one.
+abbrev pub IsMainFill : Inside → Inside → Entry → Type 0
+IsMainFill a b x = b.substreams ≡ false → (a.substreams ≡ false) × (is_of_substream x.tag ≡ false)
+
+main_at : (x : Entry) (q : Tag) (o : Option Entry) (e : Entry) → is_of_substream x.tag ≡ false → (o ≡ Some e → is_of_substream q ≡ false) → cond (eq_by_cmp tag_cmp q x.tag) (Some x) o ≡ Some e → is_of_substream q ≡ false
+main_at x q o e here old is =
+    elim (eq_by_cmp tag_cmp q x.tag) as (λ t. eq_by_cmp tag_cmp q x.tag ≡ t → cond t (Some x) o ≡ Some e → is_of_substream q ≡ false) [
+      | true ↦ λ y s. subst (λ t. is_of_substream t ≡ false) (sym (tag_cmp_exact q x.tag ((Equal-is (tag_cmp q x.tag)).0 y))) here
+      | false ↦ λ n s. old s
+    ] refl is
+
+are_filled : (a b : Inside) (x : Entry) → b.capacity ≡ a.capacity → IsSpanOf b.spans (span_of (key_of x.tag)) → ((n : ℕ) → IsSpanOf a.spans n → IsSpanOf b.spans n) → IsMainFill a b x → AreCaches a → IsKept x.tag x → (is_some (finite.get a.held x.tag) ≡ true) ⊎ (finite.len a.held < a.capacity) → b.held ≡ finite.insert a.held x.tag x → AreCaches b
+are_filled a b x same added more main h here room e =
     let longer : finite.len (finite.insert a.held x.tag x) ≤ a.capacity = subst (λ n. n ≤ a.capacity) (sym (len-insert tag_cmp_total a.held x.tag x)) (one_more (is_some (finite.get a.held x.tag)) (finite.len a.held) a.capacity h.room room) in
     let limit = h.limit in
     let fits : finite.len b.held ≤ a.capacity = subst (λ n. finite.len n ≤ a.capacity) (sym e) longer in
@@ -136,14 +150,15 @@ are_filled a b x same added more h here room e =
       room = omega (arith, same, fits);
       kept = λ q y is. kept_at x q (finite.get a.held q) y here (h.kept q y) (sym (ap (λ n. finite.get n q) e ∙ get-insert tag_cmp_total a.held x.tag x q) ∙ is);
       spanned = λ q y is. spanned_at b x q (finite.get a.held q) y added (λ old. more _ (h.spanned q y old)) (sym (ap (λ n. finite.get n q) e ∙ get-insert tag_cmp_total a.held x.tag x q) ∙ is);
+      main = λ none q y is. main_at x q (finite.get a.held q) y (main none).1 (h.main (main none).0 q y) (sym (ap (λ n. finite.get n q) e ∙ get-insert tag_cmp_total a.held x.tag x q) ∙ is);
     }
 
-pub put_are : (a b : Inside) (x : Entry) (r : Result (Option Entry) CacheFault) → b.capacity ≡ a.capacity → IsSpanOf b.spans (span_of (key_of x.tag)) → ((n : ℕ) → IsSpanOf a.spans n → IsSpanOf b.spans n) → AreCaches a → IsBlock x.tag → page_of (key_of x.tag) < 2 ^ 52
+pub put_are : (a b : Inside) (x : Entry) (r : Result (Option Entry) CacheFault) → b.capacity ≡ a.capacity → IsSpanOf b.spans (span_of (key_of x.tag)) → ((n : ℕ) → IsSpanOf a.spans n → IsSpanOf b.spans n) → IsMainFill a b x → AreCaches a → IsBlock x.tag → page_of (key_of x.tag) < 2 ^ 52
     → (finite.get a.held x.tag ≡ None → finite.len a.held < a.capacity) → IsFilled a.held x b.held r → AreCaches b
-put_are a b x (Ok was) same added more h block page room p = are_filled a b x same added more h (kept_here x block page) (room_of _ _ _ room) p.1
-put_are a b x (Err f) same added more h block page room p =
+put_are a b x (Ok was) same added more main h block page room p = are_filled a b x same added more main h (kept_here x block page) (room_of _ _ _ room) p.1
+put_are a b x (Err f) same added more main h block page room p =
     let limit = h.limit in
     let old = h.room in
     let e = p.1 in
     let fits : finite.len b.held ≤ a.capacity = subst (λ n. finite.len n ≤ a.capacity) (sym e) old in
-    record { limit = omega (arith, same, limit); room = omega (arith, same, fits); kept = λ q y is. h.kept q y (subst (λ n. finite.get n q ≡ Some y) e is); spanned = λ q y is. more _ (h.spanned q y (subst (λ n. finite.get n q ≡ Some y) e is)) }
+    record { limit = omega (arith, same, limit); room = omega (arith, same, fits); kept = λ q y is. h.kept q y (subst (λ n. finite.get n q ≡ Some y) e is); spanned = λ q y is. more _ (h.spanned q y (subst (λ n. finite.get n q ≡ Some y) e is)); main = λ none q y is. h.main (main none).0 q y (subst (λ n. finite.get n q ≡ Some y) e is) }

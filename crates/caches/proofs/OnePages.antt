@@ -29,7 +29,7 @@ use Rattle.caches.proofs.Aligned.{aligned_start}
 use Rattle.caches.proofs.Pruned.{none_either}
 use Rattle.caches.proofs.Viewed.{get_without_covered, key_back}
 
-same_bool : (a b : Bool) → (a ≡ true → b ≡ true) → (b ≡ true → a ≡ true) → a ≡ b
+pub same_bool : (a b : Bool) → (a ≡ true → b ≡ true) → (b ≡ true → a ≡ true) → a ≡ b
 same_bool true b f g = sym (f refl)
 same_bool false true f g = g refl
 same_bool false false f g = refl
@@ -38,10 +38,10 @@ and_kept : (a b : Bool) → b ≡ true → (a && b) ≡ a
 and_kept true b e = e
 and_kept false b e = refl
 
-tie : (x y : Tag) → x ≡ y → eq_by_cmp tag_cmp x y ≡ true
+pub tie : (x y : Tag) → x ≡ y → eq_by_cmp tag_cmp x y ≡ true
 tie x y e = subst (λ z. eq_by_cmp tag_cmp x z ≡ true) e (ap is_eq (tied_itself tag_cmp_total x))
 
-tied : (x y : Tag) → eq_by_cmp tag_cmp x y ≡ true → x ≡ y
+pub tied : (x y : Tag) → eq_by_cmp tag_cmp x y ≡ true → x ≡ y
 tied x y e = tag_cmp_exact x y ((Equal-is (tag_cmp x y)).0 e)
 
 -- ---- what is covered
@@ -59,7 +59,7 @@ holds_page p n =
     let below : p % 2 ^ n < 2 ^ n = mod-lt p (pow_pos n) in
     and_from _ _ (lt-ltb (p - p % 2 ^ n) (p + 1) (omega arith)) (lt-ltb p (p - p % 2 ^ n + 2 ^ n) (omega (arith, below)))
 
-same_number : (n : ℕ) → (n == n) ≡ true
+pub same_number : (n : ℕ) → (n == n) ≡ true
 same_number n = eq-eqb n n refl
 
 module _ (v a p : ℕ) (leaf : Bool) where
@@ -136,13 +136,13 @@ module _ (v p : ℕ) (leaf : Bool) where
   pub stage_2_covers : (t : Tag) → IsBlock t → covers (TlbiS2Ipa v leaf p Page) t ≡ is_on stage_2_page t
   stage_2_covers t h = same_bool _ _ (stage_2_on t h) (on_stage_2 t)
 
--- Without the blocks that hold the page nothing covered is left, and nothing else is gone.
-pub without_page : (c : Command) (one : OnePage) (m n : Entries) → ((t : Tag) (e : Entry) → finite.get m t ≡ Some e → IsBlock t) → ((t : Tag) → IsBlock t → covers c t ≡ is_on one t)
-    → ((t : Tag) → finite.get n t ≡ cond (is_on one t) None (finite.get m t)) → n ≡ without_covered c m
-without_page c one m n blocks same after = same_map tag_cmp_total tag_cmp_exact n (without_covered c m) (λ t. after t
-    ∙ elim (finite.get m t) as (λ o. finite.get m t ≡ o → cond (is_on one t) None o ≡ cond (covers c t) None o) [
-      | None ↦ λ _. none_either (is_on one t) None refl ∙ sym (none_either (covers c t) None refl)
-      | Some e ↦ λ is. ap (λ b. cond b None (Some e)) (sym (same t (blocks t e is)))
+-- Without the tags that pass a test nothing covered is left, and nothing else is gone, if the two agree on what is held.
+pub without_passing : (c : Command) (test : Tag → Bool) (m n : Entries) → ((t : Tag) (e : Entry) → finite.get m t ≡ Some e → covers c t ≡ test t)
+    → ((t : Tag) → finite.get n t ≡ cond (test t) None (finite.get m t)) → n ≡ without_covered c m
+without_passing c test m n agree after = same_map tag_cmp_total tag_cmp_exact n (without_covered c m) (λ t. after t
+    ∙ elim (finite.get m t) as (λ o. finite.get m t ≡ o → cond (test t) None o ≡ cond (covers c t) None o) [
+      | None ↦ λ _. none_either (test t) None refl ∙ sym (none_either (covers c t) None refl)
+      | Some e ↦ λ is. ap (λ b. cond b None (Some e)) (sym (agree t e is))
     ] refl
     ∙ sym (get_without_covered c m t))
 

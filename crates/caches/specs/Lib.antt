@@ -7,6 +7,7 @@ pub mod Keys
 pub mod Laws
 pub mod Limits
 pub mod OnePages
+pub mod OneStreams
 pub mod Puts
 pub mod Ranks
 pub mod Slots

@@ -28,6 +28,8 @@ pub struct Caches {
     held: EntryMap,
     /// The spans of the blocks that are or were held.
     spans: Spans,
+    /// Whether a context descriptor of another substream than 0 is or was held.
+    substreams: bool,
 }
 
 impl Model for Caches {
@@ -64,6 +66,7 @@ impl Caches {
             capacity,
             held: EntryMap::new(alloc, capacity),
             spans: Spans::none(),
+            substreams: false,
         })
     }
 
@@ -103,7 +106,8 @@ impl Caches {
         ensures held { (h : History) → self.old.entries ≡ held h → self.new.entries ≡ held (Take command.now ∷ h) }
     {
         let before = self.len();
-        self.held.remove_covered(&self.spans, command);
+        self.held
+            .remove_covered(&self.spans, self.substreams, command);
         (before - self.len()) as u32
     }
 
@@ -147,6 +151,7 @@ impl Caches {
         ensures capacity { self.new.capacity ≡ self.old.capacity }
     {
         self.spans.add(Key::of(&entry.tag).span());
+        self.substreams = self.substreams || entry.tag.is_of_substream();
         self.held.put(entry)
     }
 }

@@ -1,10 +1,10 @@
 //! The entries that are held, by their tags.
 //!
-//! Taking an entry out of the ordered map is most of what a single command costs. So a command for one page, and an
-//! eviction, note the rank of what they remove, and it counts as removed from then on. A fill under this rank writes over
-//! what the map still has there. The ranks that are noted are taken out of the map together: before a 17th is noted, and
+//! Taking an entry out of the ordered map is most of what a single command costs. So a command for one page or one
+//! stream, and an eviction, note the rank of what they remove, and it counts as removed from then on. A fill under this rank
+//! writes over what the map still has there. The ranks that are noted are taken out of the map together: before a 17th is noted, and
 //! before a walk along the map.
-ghost use Rattle.std.specs.Prelude.{◌≡◌, ◌≤◌, ◌<◌, ◌&&◌, not, cond, filter, [], None, Some};
+ghost use Rattle.std.specs.Prelude.{◌≡◌, ◌≤◌, ◌<◌, ◌&&◌, false, not, cond, filter, [], None, Some};
 ghost use Rattle.std.specs.Ordering.{eq_by_cmp};
 ghost use Rattle.std.specs.List.Sorted.{IsPermutation, IsSortedByKey};
 ghost use Rattle.std.specs.FinMap as finite;
@@ -16,6 +16,7 @@ ghost use Rattle.caches.specs.Held.{without_covered};
 ghost use Rattle.caches.specs.Keys.{tag_of};
 ghost use Rattle.caches.specs.Limits.{most_entries, most_removed};
 ghost use Rattle.caches.specs.OnePages.{is_block_at, is_on};
+ghost use Rattle.caches.specs.OneStreams.{is_at, is_in, HaveNoSubstreams};
 ghost use Rattle.caches.specs.Stored.{IsFilled, IsListAnswer};
 ghost use Rattle.caches.specs.TagOrder.{tag_cmp, numbers};
 ghost use Rattle.caches.specs.Unlisted.{is_listed, unlisted, IsPartOf};
@@ -23,6 +24,7 @@ ghost use Rattle.caches.specs.Unlisted.{is_listed, unlisted, IsPartOf};
 use crate::fault::CacheFault;
 use crate::indexed_map::IndexedMap;
 use crate::one_page::{Holder, OnePage};
+use crate::one_stream::OneStream;
 use crate::ranges::remove_all_covered;
 use crate::rank::Rank;
 use crate::spans::Spans;
@@ -140,30 +142,36 @@ impl EntryMap {
         }
     }
 
-    /// Removes the entries that `command` covers. `spans` has the spans of all blocks. Takes no memory.
+    /// Removes the entries that `command` covers. `spans` has the spans of all blocks; if `substreams` is false, no context
+    /// descriptor is of another substream than 0. Takes no memory.
     ///
     /// If there are none it doesn't look at the command, so that a command that is only judged never has to be built.
     #[inline]
-    pub(crate) fn remove_covered(&mut self, spans: &Spans, command: &Command)
+    pub(crate) fn remove_covered(&mut self, spans: &Spans, substreams: bool, command: &Command)
         requires kept { AreKept self.old }
         requires spans { HaveSpans spans.now self.old }
+        requires main { substreams ≡ false → HaveNoSubstreams self.old }
         ensures { self.new ≡ without_covered command.now self.old }
     {
         if self.len > 0 {
-            self.remove_from_filled(spans, command);
+            self.remove_from_filled(spans, substreams, command);
         }
     }
 
     /// The same where there may be entries.
     #[inline(never)]
-    fn remove_from_filled(&mut self, spans: &Spans, command: &Command)
+    fn remove_from_filled(&mut self, spans: &Spans, substreams: bool, command: &Command)
         requires kept { AreKept self.old }
         requires spans { HaveSpans spans.now self.old }
+        requires main { substreams ≡ false → HaveNoSubstreams self.old }
         ensures { self.new ≡ without_covered command.now self.old }
     {
         match OnePage::of(command) {
             Some(one) => self.remove_on(spans, one),
-            None => self.sweep(spans, command),
+            None => match OneStream::of(command, substreams) {
+                Some(one) => self.remove_in(one),
+                None => self.sweep(spans, command),
+            },
         }
     }
 
@@ -186,6 +194,23 @@ impl EntryMap {
         self.remove_blocks(spans, one.own, one.page);
         if let Some(shared) = one.shared {
             self.remove_blocks(spans, shared, one.page);
+        }
+    }
+
+    /// Removes what is held of a stream's configuration under the keys that are given.
+    fn remove_in(&mut self, one: OneStream)
+        ensures { (tag : Tag) → finite.get self.new tag ≡ cond (is_in one tag) None (finite.get self.old tag) }
+    {
+        self.remove_if_some(one.ste);
+        self.remove_if_some(one.cd);
+    }
+
+    /// Removes the entry of a rank, if one is given and held.
+    fn remove_if_some(&mut self, rank: Option<Rank>)
+        ensures { (tag : Tag) → finite.get self.new tag ≡ cond (is_at rank tag) None (finite.get self.old tag) }
+    {
+        if let Some(rank) = rank {
+            self.remove(rank);
         }
     }
 

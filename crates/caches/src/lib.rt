@@ -14,8 +14,9 @@
 //! An index beside the map answers most look-ups in one step: it has a slot for each group of ranks, which counts their
 //! entries and notes the newest. For the others the map is searched.
 //!
-//! A command for one page looks by the index under each key that it may cover. What it finds it only notes as removed,
-//! and so does an eviction; up to 16 such entries stay in the map until they are taken out together.
+//! A command for one page, or for the configuration of one stream, looks by the index under each key that it may
+//! cover. What it finds it only notes as removed, and so does an eviction; up to 16 such entries stay in the map until
+//! they are taken out together.
 #![tactic(auto)]
 
 mod caches;
@@ -26,6 +27,7 @@ mod indexed_map;
 mod key;
 mod laws;
 mod one_page;
+mod one_stream;
 mod ranges;
 mod rank;
 mod slot;

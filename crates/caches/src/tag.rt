@@ -1,6 +1,7 @@
 //! Cached entries and their tags.
 ghost use Rattle.std.specs.Prelude.{◌≡◌, IsTrue, ◌↔◌};
 ghost use Rattle.caches.specs.Blocks.{IsAligned, IsBlock};
+ghost use Rattle.caches.specs.OneStreams.{is_of_substream};
 ghost use Rattle.caches.specs.TagOrder.{numbers, scope_number, substream_number};
 
 use cmdcodec::{Asid, Page, Sid, Ssid, Vmid};
@@ -126,6 +127,16 @@ impl Tag {
                 page.get(),
                 u64::from(span),
             ],
+        }
+    }
+
+    /// Whether it is that of a context descriptor of another substream than 0.
+    pub(crate) fn is_of_substream(&self) -> bool
+        ensures { result ≡ is_of_substream self.now }
+    {
+        match *self {
+            Tag::Cd { ssid, .. } => ssid.get() != 0,
+            _ => false,
         }
     }
 
