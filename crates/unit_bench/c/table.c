@@ -3,8 +3,8 @@
 // an invalidation by address covers, it walks the whole table and removes what matches.
 //
 // It times nothing, an invalidation that removes one entry, a look-up that finds one, and one that finds nothing, in turn,
-// each alone and behind a walk over 32 MB of other memory. Prints a line for each: which it is, how many entries are held, the nanoseconds,
-// and the sum of the walk ahead of it.
+// each alone and behind a walk over 32 MB of other memory. Prints a line for each: which it is, how many entries are
+// held, the nanoseconds, and the sum of the walk ahead of it.
 #define _POSIX_C_SOURCE 200809L
 #include <stdbool.h>
 #include <stdint.h>
