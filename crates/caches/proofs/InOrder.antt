@@ -8,7 +8,7 @@ use Rattle.std.specs.declared.cmp.Ordering.TheVariants.{Less, Equal, Greater}
 use Rattle.std.specs.Ordering.{eq_by_cmp, is_eq, is_lt, ordering_reverse}
 use Rattle.std.specs.Cmp.{IsTotalOrder, eq_by_cmp_equiv, Equal-is}
 use Rattle.std.specs.Map.{lookup, keys_of}
-use Rattle.std.specs.BTreeMap.{BTreeMap, Updates, get, is_at}
+use Rattle.std.specs.BTreeMap.{BTreeMap, get}
 use Rattle.std.specs.FinMap as finite
 use Rattle.std.specs.FinMap.{IsAntisymmetric, find, is_sorted, same_map, get-entries, get-from_entries, get-from_sorted, entries-from_sorted}
 use Rattle.std.specs.FinMap.Entries.{below_all}
@@ -24,10 +24,9 @@ use Rattle.caches.specs.Keys.{key_of, tag_of}
 use Rattle.caches.specs.TagOrder.{tag_cmp, tag_cmp_total, tag_cmp_exact}
 use Rattle.caches.specs.Unlisted.{tagged, is_listed, unlisted}
 use Rattle.caches.specs.Held.{Entries}
-use Rattle.caches.proofs.KeyOrder.{key_cmp, key_total, key_exact}
+use Rattle.caches.proofs.KeyOrder.{key_cmp, key_total}
 use Rattle.caches.proofs.Kept.{distinct_sorted, find_lookup}
 use Rattle.caches.proofs.Pruned.{none_either, some_was}
-use Rattle.caches.proofs.Rest.{at_is}
 use Rattle.caches.proofs.Viewed.{same_key, key_back, tag_back, same_option, find_tagged, get_unlisted}
 
 both : (a b : Bool) → T a → T b → T (a && b)
@@ -190,15 +189,6 @@ unlisted_in_order m ks xs o own p s =
     let es : List (Key × Entry) = filter (stays ks) m.entries in
     let same : unlisted m ks ≡ finite.from_entries (tagged es) = same_map tag_cmp_total tag_cmp_exact _ _ (λ t. get_unlisted m ks t ∙ ap (cond (is_listed ks t) None) (sym (find_tagged t m.entries)) ∙ sym (find_filtered ks t m.entries) ∙ sym (get-from_entries tag_cmp_total (tagged es) t)) in
     ap finite.values same ∙ in_order es xs (distinct_filtered (stays ks) m.entries d) (All-filter (stays ks) (λ (e : Key × Entry). e.1.tag ≡ tag_of e.0) m.entries all) (subst (λ ys. IsPermutation ys xs) (sym (values_filtered ks m.entries all)) p) s
-
--- An entry is put in under its own key.
-pub put_own : (m n : BTreeMap Key Entry) (k : Key) (e : Entry) → k ≡ key_of e.tag → Updates key_cmp m n k (Some e) → AreOwn m → AreOwn n
-put_own m n k e own u h q x there = elim (is_at (key_cmp k) q) as (λ b. is_at (key_cmp k) q ≡ b → cond b (Some e) (get key_cmp m q) ≡ Some x → x.tag ≡ tag_of q) [
-  | true ↦ λ at is.
-      let same : e ≡ x = cc in
-      ap (λ (y : Entry). y.tag) (sym same) ∙ sym (tag_back e.tag) ∙ ap tag_of (sym own ∙ key_exact k q (at_is _ at))
-  | false ↦ λ _ is. h q x is
-] refl (sym (u.0 q) ∙ there)
 
 -- Each entry has the tag under which it is.
 pub unlisted_own : (m : BTreeMap Key Entry) (ks : List Key) → AreOwn m → (t : Tag) (e : Entry) → finite.get (unlisted m ks) t ≡ Some e → e.tag ≡ t

@@ -2,6 +2,7 @@ pub mod Ahead
 pub mod Aligned
 pub mod Back
 pub mod Crossing
+pub mod EntryMaps
 pub mod InOrder
 pub mod Indexed
 pub mod Kept

@@ -183,8 +183,8 @@ module _ (h : Holder) (p : ℕ) (old : Entries) where
           ]
         ]
 
-    -- Nothing of this span was held.
-    pub gone_unused : ((t : Tag) → span_of (key_of t) ≡ span → finite.get old t ≡ None) → AreGone m (span + 1)
+    -- Nothing of this span is held.
+    pub gone_unused : ((t : Tag) → span_of (key_of t) ≡ span → finite.get m t ≡ None) → AreGone m (span + 1)
     gone_unused unused t =
         let o = finite.get old t in
         let s = span_of (key_of t) in
@@ -192,7 +192,9 @@ module _ (h : Holder) (p : ℕ) (old : Entries) where
         gone t ∙ elim (cases_lt s span) as (λ _. cond (b && nat_lt s span) None o ≡ cond (b && nat_lt s (span + 1)) None o) [
           | inl less ↦ ap (λ x. cond (b && x) None o) (lt-ltb s span less ∙ sym (lt-ltb s (span + 1) (omega (arith, less))))
           | inr from ↦ elim (cases_eq s span) as (λ _. cond (b && nat_lt s span) None o ≡ cond (b && nat_lt s (span + 1)) None o) [
-            | inl same ↦ none_either (b && nat_lt s span) o (unused t same) ∙ sym (none_either (b && nat_lt s (span + 1)) o (unused t same))
+            | inl same ↦
+                let none : o ≡ None = ap (λ x. cond x None o) (sym (and_right b _ (le-ltb s span from))) ∙ sym (gone t) ∙ unused t same in
+                none_either (b && nat_lt s span) o none ∙ sym (none_either (b && nat_lt s (span + 1)) o none)
             | inr apart ↦ ap (λ x. cond (b && x) None o) (le-ltb s span from ∙ sym (le-ltb s (span + 1) (omega (arith, from, apart))))
           ]
         ]

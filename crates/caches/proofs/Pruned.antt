@@ -15,7 +15,7 @@ use Rattle.caches.proofs.KeyOrder.{key_cmp}
 use Rattle.caches.specs.Sweep.{is_swept, IsPruned, IsWithout, IsKeeping}
 use Rattle.caches.proofs.Sweeping.{not_both}
 
-some_not_none : {X : Type 0} (o : Option X) → IsSome o → o ≡ None → ⊥
+pub some_not_none : {X : Type 0} (o : Option X) → IsSome o → o ≡ None → ⊥
 some_not_none None s e = cc
 some_not_none (Some x) s e = cc
 

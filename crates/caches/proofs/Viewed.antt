@@ -124,11 +124,6 @@ unlisted_empty m none = same_map tag_cmp_total tag_cmp_exact _ _ (λ t. get_unli
 pub get_without_covered : (c : Command) (m : Entries) (t : Tag) → finite.get (without_covered c m) t ≡ cond (covers c t) None (finite.get m t)
 get_without_covered c m t = get-retain_keys m (λ t. not (covers c t)) t (λ x e. ap (λ y. not (covers c y)) (sym (tag_cmp_exact t x e))) ∙ turned (covers c t) _ _
 
-pub unlisted_without : (c : Command) (m n : BTreeMap Key Entry) → IsWithout key_cmp (covers_key c) m n → unlisted n [] ≡ without_covered c (unlisted m [])
-unlisted_without c m n w = same_map tag_cmp_total tag_cmp_exact _ _ (λ t. get_unlisted n [] t ∙ w (key_of t)
-    ∙ ap (λ u. cond (covers c u) None (tree.get key_cmp m (key_of t))) (tag_back t)
-    ∙ sym (get_without_covered c (unlisted m []) t ∙ ap (cond (covers c t) None) (get_unlisted m [] t)))
-
 -- ---- one entry put in or taken out
 flip : (x y : Tag) → eq_by_cmp tag_cmp x y ≡ eq_by_cmp tag_cmp y x
 flip x y = (eq_by_cmp_equiv tag_cmp_total).symm x y
@@ -159,6 +154,14 @@ either_order true true o = refl
 either_order true false o = refl
 either_order false true o = refl
 either_order false false o = refl
+
+-- What a command covers goes from the map, listed or not.
+pub unlisted_without : (c : Command) (m n : BTreeMap Key Entry) (ks : List Key) → IsWithout key_cmp (covers_key c) m n → unlisted n ks ≡ without_covered c (unlisted m ks)
+unlisted_without c m n ks w = same_map tag_cmp_total tag_cmp_exact _ _ (λ t.
+    let o = tree.get key_cmp m (key_of t) in
+    get_unlisted n ks t ∙ ap (cond (is_listed ks t) None) (w (key_of t) ∙ ap (λ u. cond (covers c u) None o) (tag_back t))
+    ∙ sym (none_if_either (is_listed ks t) (covers c t) o) ∙ either_order (is_listed ks t) (covers c t) o
+    ∙ sym (get_without_covered c (unlisted m ks) t ∙ ap (cond (covers c t) None) (get_unlisted m ks t)))
 
 -- A key that is listed counts as removed.
 pub unlisted_push : (m : BTreeMap Key Entry) (ks : List Key) (k : Key) → unlisted m (ks ++ k ∷ []) ≡ finite.remove (unlisted m ks) (tag_of k)
@@ -267,7 +270,7 @@ some_length m t some = elim (finite.len m) as (λ n. finite.len m ≡ n → 1 �
   | suc n ↦ λ _. omega arith
 ] refl
 
-one_less : (m : Entries) (t : Tag) → is_some (finite.get m t) ≡ true → (1 ≤ finite.len m) × (finite.len m - 1 ≡ finite.len (finite.remove m t))
+pub one_less : (m : Entries) (t : Tag) → is_some (finite.get m t) ≡ true → (1 ≤ finite.len m) × (finite.len m - 1 ≡ finite.len (finite.remove m t))
 one_less m t some = (some_length m t some, sym (len-remove tag_cmp_total m t ∙ ap (λ b. cond b (finite.len m - 1) (finite.len m)) some))
 
 -- An entry that is found is noted as removed.

@@ -1,31 +1,23 @@
 -- What callers see of the entries that are held, and what is true of them inside.
-use Rattle.std.specs.Prelude.{◌≡◌, Some}
+use Rattle.std.specs.Prelude.{◌≡◌, false}
 use Rattle.std.specs.declared.cmp.Ordering.{Ordering}
-use Rattle.std.specs.BTreeMap as tree
 use Rattle.std.specs.FinMap as finite
-use Rattle.caches.specs.declared.tag.Entry.{Entry}
 use Rattle.caches.specs.declared.key.Key.{Key}
 use Rattle.caches.specs.declared.entry_map.EntryMap.TheInside.{Inside}
 use Rattle.caches.specs.Held.{Entries}
-use Rattle.caches.specs.Keys.{key_of, span_of, tag_of, IsKept}
-use Rattle.caches.specs.Spanned.{IsSpanOf}
-use Rattle.caches.specs.declared.spans.Spans.{Spans}
-use Rattle.caches.specs.declared.tag.Tag.{Tag}
+use Rattle.caches.specs.OneStreams.{HaveNoSubstreams}
+use Rattle.caches.specs.Spanned.{AreSpansOf}
+use Rattle.caches.specs.Sweep.{IsKeeping}
 use Rattle.caches.specs.Unlisted.{unlisted}
 
 -- the entries of the map but those that count as removed
 abbrev pub unremoved : Inside → Entries
 unremoved inside = unlisted inside.map.ordered inside.removed.items
 
--- They are counted, and the map has each of its entries under its own key.
+-- They are counted. Each entry of the map is one that may be held, under its own key; its span was put in. No entry that
+-- is held is of another substream than 0 unless such a one was put in.
 pub record IsEntryMap (cmp : Key → Key → Ordering) (inside : Inside) : Type 0 where
   pub counted : inside.len ≡ finite.len (unremoved inside)
-  pub own : (key : Key) (entry : Entry) → tree.get cmp inside.map.ordered key ≡ Some entry → entry.tag ≡ tag_of key
-
--- Each entry may be held under its tag.
-abbrev pub AreKept : Entries → Type 0
-AreKept entries = (tag : Tag) (entry : Entry) → finite.get entries tag ≡ Some entry → IsKept tag entry
-
--- The spans of all entries were put in.
-abbrev pub HaveSpans : Spans → Entries → Type 0
-HaveSpans spans entries = (tag : Tag) (entry : Entry) → finite.get entries tag ≡ Some entry → IsSpanOf spans (span_of (key_of tag))
+  pub keeping : IsKeeping cmp inside.map.ordered
+  pub spanned : AreSpansOf inside.spans cmp inside.map.ordered
+  pub main : inside.substreams ≡ false → HaveNoSubstreams (unremoved inside)

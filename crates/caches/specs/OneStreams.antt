@@ -28,10 +28,11 @@ is_of_substream tag = false
 abbrev pub HaveNoSubstreams : Entries → Type 0
 HaveNoSubstreams entries = (tag : Tag) (entry : Entry) → finite.get entries tag ≡ Some entry → is_of_substream tag ≡ false
 
-abbrev pub is_at : Option Key → Tag → Bool
-is_at None tag = false
-is_at (Some key) tag = eq_by_cmp tag_cmp tag (tag_of key)
+-- the tag is that of a key, if one is given
+abbrev pub is_of : Option Key → Tag → Bool
+is_of None tag = false
+is_of (Some key) tag = eq_by_cmp tag_cmp tag (tag_of key)
 
 -- the tag is that of either key
 abbrev pub is_in : OneStream → Tag → Bool
-is_in one tag = is_at one.ste tag || is_at one.cd tag
+is_in one tag = is_of one.ste tag || is_of one.cd tag

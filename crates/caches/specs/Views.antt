@@ -1,20 +1,14 @@
 -- Caches as callers see them, and what is true of them inside.
-use Rattle.std.specs.Prelude.{◌≡◌, ◌≤◌, false}
+use Rattle.std.specs.Prelude.{◌≤◌}
 use Rattle.std.specs.FinMap as finite
 use Rattle.caches.specs.Limits.{most_entries}
 use Rattle.caches.specs.declared.caches.Caches.TheInside.{Inside}
-use Rattle.caches.specs.EntryMaps.{AreKept, HaveSpans}
-use Rattle.caches.specs.OneStreams.{HaveNoSubstreams}
 use Rattle.caches.specs.Stored.{Stored}
 
 abbrev pub stored : Inside → Stored
 stored inside = record { capacity = inside.capacity; entries = inside.held }
 
--- The capacity is within its limit and the number of entries within the capacity; each entry may be held
--- under its tag, its span is among those put in, and it is of no other substream than 0 unless such an entry was put in.
+-- The capacity is within its limit and the number of entries within the capacity.
 pub record AreCaches (inside : Inside) : Type 0 where
   pub limit : inside.capacity ≤ most_entries
   pub room : finite.len inside.held ≤ inside.capacity
-  pub kept : AreKept inside.held
-  pub spanned : HaveSpans inside.spans inside.held
-  pub main : inside.substreams ≡ false → HaveNoSubstreams inside.held

@@ -1,4 +1,4 @@
-//! The caches: entries up to a capacity, and which spans they had.
+//! The caches: entries up to a capacity.
 ghost use Rattle.std.specs.Prelude.{◌≡◌, ◌+◌, ◌<◌, ◌≤◌, ◌↔◌, IfOk, IfSome, OnOk, OnErr, Err, None, [], ◌∷◌};
 ghost use Rattle.std.specs.FinMap as finite;
 ghost use Rattle.caches.specs.Limits.{most_entries, IsCapacity};
@@ -9,9 +9,7 @@ ghost use Rattle.caches.specs.Stored.{IsFilled, IsFillAnswer, IsListAnswer};
 
 use crate::entry_map::EntryMap;
 use crate::fault::CacheFault;
-use crate::key::Key;
 use crate::rank::Rank;
-use crate::spans::Spans;
 use crate::tag::{Entry, Tag};
 use cmdcodec::Command;
 use std::alloc::Global;
@@ -26,10 +24,6 @@ pub struct Caches {
     alloc: Global,
     capacity: u32,
     held: EntryMap,
-    /// The spans of the blocks that are or were held.
-    spans: Spans,
-    /// Whether a context descriptor of another substream than 0 is or was held.
-    substreams: bool,
 }
 
 impl Model for Caches {
@@ -65,8 +59,6 @@ impl Caches {
             alloc,
             capacity,
             held: EntryMap::new(alloc, capacity),
-            spans: Spans::none(),
-            substreams: false,
         })
     }
 
@@ -106,8 +98,7 @@ impl Caches {
         ensures held { (h : History) → self.old.entries ≡ held h → self.new.entries ≡ held (Take command.now ∷ h) }
     {
         let before = self.len();
-        self.held
-            .remove_covered(&self.spans, self.substreams, command);
+        self.held.remove_covered(command);
         (before - self.len()) as u32
     }
 
@@ -150,8 +141,6 @@ impl Caches {
         ensures put { IsFilled self.old.entries entry self.new.entries result }
         ensures capacity { self.new.capacity ≡ self.old.capacity }
     {
-        self.spans.add(Key::of(&entry.tag).span());
-        self.substreams = self.substreams || entry.tag.is_of_substream();
         self.held.put(entry)
     }
 }

@@ -1,28 +1,28 @@
 //! The entries that are held, by their tags.
 //!
 //! Taking an entry out of the ordered map is most of what a single command costs. So a command for one page or one
-//! stream, and an eviction, note the rank of what they remove, and it counts as removed from then on. A fill under this rank
-//! writes over what the map still has there. The ranks that are noted are taken out of the map together: before a 17th is noted, and
-//! before a walk along the map.
-ghost use Rattle.std.specs.Prelude.{◌≡◌, ◌≤◌, ◌<◌, ◌&&◌, false, not, cond, filter, [], None, Some};
+//! stream, and an eviction, list the rank of what they remove, and it counts as removed from then on. A fill under this rank
+//! writes over what the map still has there. The ranks that are listed are taken out of the map together, before a 17th is.
+ghost use Rattle.std.specs.Prelude.{◌≡◌, ◌≤◌, ◌<◌, ◌&&◌, IfSome, not, cond, filter, [], None};
 ghost use Rattle.std.specs.Ordering.{eq_by_cmp};
 ghost use Rattle.std.specs.List.Sorted.{IsPermutation, IsSortedByKey};
 ghost use Rattle.std.specs.FinMap as finite;
 ghost use Rattle.arrayvec.specs.ArrayVec.{array_vec_len};
 ghost use Rattle.caches.specs.declared.tag.Tag.{Tag};
 ghost use Rattle.caches.specs.declared.tag.Entry.{Entry};
-ghost use Rattle.caches.specs.EntryMaps.{AreKept, HaveSpans};
+ghost use Rattle.caches.specs.Blocks.{IsBlock};
 ghost use Rattle.caches.specs.Held.{without_covered};
 ghost use Rattle.caches.specs.Keys.{tag_of};
 ghost use Rattle.caches.specs.Limits.{most_entries, most_removed};
 ghost use Rattle.caches.specs.OnePages.{is_block_at, is_on};
-ghost use Rattle.caches.specs.OneStreams.{is_at, is_in, HaveNoSubstreams};
+ghost use Rattle.caches.specs.OneStreams.{is_of, is_in};
 ghost use Rattle.caches.specs.Stored.{IsFilled, IsListAnswer};
 ghost use Rattle.caches.specs.TagOrder.{tag_cmp, numbers};
 ghost use Rattle.caches.specs.Unlisted.{is_listed, unlisted, IsPartOf};
 
 use crate::fault::CacheFault;
 use crate::indexed_map::IndexedMap;
+use crate::key::Key;
 use crate::one_page::{Holder, OnePage};
 use crate::one_stream::OneStream;
 use crate::ranges::remove_all_covered;
@@ -34,7 +34,7 @@ use cmdcodec::Command;
 use std::alloc::Global;
 use std::marker::Model;
 
-/// How many ranks are noted at most.
+/// How many ranks are listed at most.
 const MOST_REMOVED: usize = 16;
 
 /// The entries that are held: those of a map but for a few.
@@ -45,6 +45,10 @@ pub(crate) struct EntryMap {
     map: IndexedMap,
     /// How many entries are held.
     len: usize,
+    /// The spans of the blocks that are or were in the map.
+    spans: Spans,
+    /// Whether a context descriptor of another substream than 0 is or was held.
+    substreams: bool,
 }
 
 impl Model for EntryMap {
@@ -72,6 +76,8 @@ impl EntryMap {
             map: IndexedMap::new(alloc, most),
             removed: ArrayVec::new(),
             len: 0,
+            spans: Spans::none(),
+            substreams: false,
         }
     }
 
@@ -84,7 +90,8 @@ impl EntryMap {
 
     /// Returns the entry under a tag, if there is one.
     pub(crate) fn get(&self, tag: &Tag) -> Option<Entry>
-        ensures { result ≡ finite.get self.now tag.now }
+        ensures value { result ≡ finite.get self.now tag.now }
+        ensures own { IfSome result (λ entry. entry.tag ≡ tag.now) }
     {
         if is_among(&self.removed, Rank::of(tag)) {
             return None;
@@ -114,9 +121,12 @@ impl EntryMap {
 
     /// Puts an entry in under its tag, and returns the one that was there; C3 if memory runs out.
     pub(crate) fn put(&mut self, entry: Entry) -> Result<Option<Entry>, CacheFault>
-        requires { finite.get self.old entry.tag ≡ None → finite.len self.old < most_entries }
+        requires block { IsBlock entry.tag }
+        requires room { finite.get self.old entry.tag ≡ None → finite.len self.old < most_entries }
         ensures { IsFilled self.old entry self.new result }
     {
+        self.spans.add(Key::of(&entry.tag).span());
+        self.substreams = self.substreams || entry.tag.is_of_substream();
         let rank = Rank::of(&entry.tag);
         let was_removed = take_off(&mut self.removed, rank);
         match self.map.put(rank, entry) {
@@ -142,58 +152,51 @@ impl EntryMap {
         }
     }
 
-    /// Removes the entries that `command` covers. `spans` has the spans of all blocks; if `substreams` is false, no context
-    /// descriptor is of another substream than 0. Takes no memory.
+    /// Removes the entries that `command` covers. Takes no memory.
     ///
     /// If there are none it doesn't look at the command, so that a command that is only judged never has to be built.
     #[inline]
-    pub(crate) fn remove_covered(&mut self, spans: &Spans, substreams: bool, command: &Command)
-        requires kept { AreKept self.old }
-        requires spans { HaveSpans spans.now self.old }
-        requires main { substreams ≡ false → HaveNoSubstreams self.old }
+    pub(crate) fn remove_covered(&mut self, command: &Command)
         ensures { self.new ≡ without_covered command.now self.old }
     {
         if self.len > 0 {
-            self.remove_from_filled(spans, substreams, command);
+            self.remove_from_filled(command);
         }
     }
 
     /// The same where there may be entries.
     #[inline(never)]
-    fn remove_from_filled(&mut self, spans: &Spans, substreams: bool, command: &Command)
-        requires kept { AreKept self.old }
-        requires spans { HaveSpans spans.now self.old }
-        requires main { substreams ≡ false → HaveNoSubstreams self.old }
+    fn remove_from_filled(&mut self, command: &Command)
         ensures { self.new ≡ without_covered command.now self.old }
     {
+        let substreams = self.substreams;
         match OnePage::of(command) {
-            Some(one) => self.remove_on(spans, one),
+            Some(one) => self.remove_on(one),
             None => match OneStream::of(command, substreams) {
                 Some(one) => self.remove_in(one),
-                None => self.sweep(spans, command),
+                None => self.sweep(command),
             },
         }
     }
 
-    /// The same by a walk along the map.
-    fn sweep(&mut self, spans: &Spans, command: &Command)
-        requires kept { AreKept self.old }
-        requires spans { HaveSpans spans.now self.old }
+    /// The same by a walk along the map. What is listed stays in it if the walk finds nothing.
+    fn sweep(&mut self, command: &Command)
         ensures { self.new ≡ without_covered command.now self.old }
     {
-        take_out(&mut self.map, &mut self.removed);
-        remove_all_covered(&mut self.map, spans, command);
-        self.len = self.map.ordered.len();
+        let before = self.map.ordered.len();
+        remove_all_covered(&mut self.map, &self.spans, command);
+        if self.map.ordered.len() != before {
+            self.len = recount(&self.map, &mut self.removed);
+        }
     }
 
     /// Removes the blocks that hold a page.
-    fn remove_on(&mut self, spans: &Spans, one: OnePage)
-        requires { HaveSpans spans.now self.old }
+    fn remove_on(&mut self, one: OnePage)
         ensures { (tag : Tag) → finite.get self.new tag ≡ cond (is_on one tag) None (finite.get self.old tag) }
     {
-        self.remove_blocks(spans, one.own, one.page);
+        self.remove_blocks(one.own, one.page);
         if let Some(shared) = one.shared {
-            self.remove_blocks(spans, shared, one.page);
+            self.remove_blocks(shared, one.page);
         }
     }
 
@@ -207,7 +210,7 @@ impl EntryMap {
 
     /// Removes the entry of a rank, if one is given and held.
     fn remove_if_some(&mut self, rank: Option<Rank>)
-        ensures { (tag : Tag) → finite.get self.new tag ≡ cond (is_at rank tag) None (finite.get self.old tag) }
+        ensures { (tag : Tag) → finite.get self.new tag ≡ cond (is_of rank tag) None (finite.get self.old tag) }
     {
         if let Some(rank) = rank {
             self.remove(rank);
@@ -215,12 +218,11 @@ impl EntryMap {
     }
 
     /// Removes the blocks of a holder that hold a page.
-    fn remove_blocks(&mut self, spans: &Spans, holder: Holder, page: u64)
-        requires { HaveSpans spans.now self.old }
+    fn remove_blocks(&mut self, holder: Holder, page: u64)
         ensures { (tag : Tag) → finite.get self.new tag ≡ cond (is_block_at holder page tag) None (finite.get self.old tag) }
     {
-        for span in 0..spans.end() {
-            if spans.has(span) {
+        for span in 0..self.spans.end() {
+            if self.spans.has(span) {
                 self.remove(holder.block_at(page, span));
             }
         }
@@ -237,10 +239,7 @@ fn is_among(ranks: &[Rank], rank: Rank) -> bool
     !ranks.is_empty() && ranks.contains(&rank)
 }
 
-/// Takes what is noted out of the map.
-///
-/// Inlined, since a walk mostly finds nothing noted.
-#[inline(always)]
+/// Takes what is listed out of the map.
 fn take_out(map: &mut IndexedMap, removed: &mut ArrayVec<Rank, MOST_REMOVED>)
     ensures same { unlisted map.new.ordered removed.new.items ≡ unlisted map.old.ordered removed.old.items }
     ensures pruned { IsPartOf ⟦<Rank as Ord>⟧.cmp map.new.ordered map.old.ordered }
@@ -265,12 +264,12 @@ fn take_off(removed: &mut ArrayVec<Rank, MOST_REMOVED>, rank: Rank) -> bool
 {
     let was = is_among(removed, rank);
     if was {
-        removed.retain(|noted| *noted != rank);
+        removed.retain(|listed| *listed != rank);
     }
     was
 }
 
-/// Takes what is noted out of the map if no more can be noted.
+/// Takes what is listed out of the map if no more can be listed.
 fn make_room(map: &mut IndexedMap, removed: &mut ArrayVec<Rank, MOST_REMOVED>)
     ensures same { unlisted map.new.ordered removed.new.items ≡ unlisted map.old.ordered removed.old.items }
     ensures pruned { IsPartOf ⟦<Rank as Ord>⟧.cmp map.new.ordered map.old.ordered }
@@ -279,6 +278,22 @@ fn make_room(map: &mut IndexedMap, removed: &mut ArrayVec<Rank, MOST_REMOVED>)
     if removed.is_full() {
         take_out(map, removed);
     }
+}
+
+/// Drops from the list what the map no longer has, and returns how many of its entries are not on the list.
+fn recount(map: &IndexedMap, removed: &mut ArrayVec<Rank, MOST_REMOVED>) -> usize
+    ensures same { unlisted map.now.ordered removed.new.items ≡ unlisted map.now.ordered removed.old.items }
+    ensures len { result ≡ finite.len (unlisted map.now.ordered removed.new.items) }
+{
+    let mut len = map.ordered.len();
+    let listed = removed.take();
+    for &rank in listed.iter() {
+        if map.holds(rank) && !is_among(removed, rank) {
+            removed.push(rank);
+            len -= 1;
+        }
+    }
+    len
 }
 
 /// Drops from a list the entries whose ranks are listed.

@@ -15,7 +15,7 @@
 //! entries and notes the newest. For the others the map is searched.
 //!
 //! A command for one page, or for the configuration of one stream, looks by the index under each key that it may
-//! cover. What it finds it only notes as removed, and so does an eviction; up to 16 such entries stay in the map until
+//! cover. What it finds it only lists as removed, and so does an eviction; up to 16 such entries stay in the map until
 //! they are taken out together.
 #![tactic(auto)]
 

@@ -1,5 +1,5 @@
-//! Commands for the configuration of one stream. They cover one key or two where no substream but 0 has a context
-//! descriptor, and CFGI_CD covers one key anywhere.
+//! Commands for the configuration of one stream. CFGI_CD covers one key, and CFGI_STE and CFGI_CD_ALL one or two where no
+//! other substream than 0 has a context descriptor.
 ghost use Rattle.std.specs.Prelude.{◌≡◌, ◌<◌, ◌^◌, false, not, is_some, Some, IfSome};
 ghost use Rattle.caches.specs.Covers.{covers};
 ghost use Rattle.caches.specs.OneStreams.{is_for_stream, is_in, is_of_substream};

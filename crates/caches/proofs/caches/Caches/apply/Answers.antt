@@ -5,11 +5,8 @@ use Rattle.caches.specs.Stored.{Stored}
 use Rattle.caches.proofs.Kept.{are_without, len_without}
 use Rattle.caches.proofs.caches.Caches.apply.Goals as goal
 
-pub remove_covered-requires : goal.remove_covered-requires
-remove_covered-requires c = record { kept = c.self.invariant.kept; spans = c.self.invariant.spanned; main = c.self.invariant.main }
-
 pub invariant_of-self : goal.invariant_of-self
-invariant_of-self c = are_without c.args.command.now c.self.inside (record c.self.inside { held = c.remove_covered.new.self }) refl refl refl c.self.invariant c.remove_covered.ensures
+invariant_of-self c = are_without c.args.command.now c.self.inside (record c.self.inside { held = c.remove_covered.new.self }) refl c.self.invariant c.remove_covered.ensures
 
 pub returns-clause-after : goal.returns-clause-after
 returns-clause-after c = c.remove_covered.ensures ∙ ap (λ (s : Stored). without_covered c.args.command.now s.entries) c.self.view_is

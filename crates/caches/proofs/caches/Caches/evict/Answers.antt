@@ -7,11 +7,11 @@ use Rattle.caches.proofs.Kept.{are_evicted}
 use Rattle.caches.proofs.caches.Caches.evict.Goals as goal
 
 pub invariant_of-self : goal.invariant_of-self
-invariant_of-self c = are_evicted c.self.inside (record c.self.inside { held = c.remove.new.self }) c.args.tag.now refl refl refl c.self.invariant
+invariant_of-self c = are_evicted c.self.inside (record c.self.inside { held = c.remove.new.self }) c.args.tag.now refl c.self.invariant
     (c.remove.ensures ∙ ap (finite.remove c.self.inside.held) (ap tag_of c.of.ensures.key ∙ tag_back c.args.tag.now))
 
 pub returns-clause-was : goal.returns-clause-was
-returns-clause-was c = c.get-was.ensures ∙ ap (λ (s : Stored). finite.get s.entries c.args.tag.now) c.self.view_is
+returns-clause-was c = c.get-was.ensures.value ∙ ap (λ (s : Stored). finite.get s.entries c.args.tag.now) c.self.view_is
 
 pub returns-clause-after : goal.returns-clause-after
 returns-clause-after c = c.remove.ensures ∙ ap (finite.remove c.self.inside.held) (ap tag_of c.of.ensures.key ∙ tag_back c.args.tag.now)

@@ -22,12 +22,12 @@ returns-in-Ok c =
     let stay : c.drop_listed.new.list.items ≡ filter (λ (e : Entry). not (is_listed ks e.tag)) (map (λ e. e.1) m.entries) =
     c.drop_listed.ensures ∙ ap (λ rs. filter (λ (e : Entry). not (is_listed rs e.tag)) c.in-Ok.list.items) c.deref.ensures.0 ∙ ap (filter (λ (e : Entry). not (is_listed ks e.tag))) copied in
     let ok : c.sort_by_tag.new.list.items ≡ finite.values c.args.self.now =
-    sym (unlisted_in_order m ks c.sort_by_tag.new.list.items c.values.ensures.ordered c.self.invariant.own
+    sym (unlisted_in_order m ks c.sort_by_tag.new.list.items c.values.ensures.ordered (λ q e there. (c.self.invariant.keeping q e there).own)
     (subst (λ es. IsPermutation es c.sort_by_tag.new.list.items) stay c.sort_by_tag.ensures.permutation) c.sort_by_tag.ensures.sorted)
     ∙ ap finite.values c.self.view_is in
     record {
       ok = ok;
       own = subst (All (λ (e : Entry). finite.get c.args.self.now e.tag ≡ Some e)) (sym ok)
-          (subst (λ (m : Entries). All (λ (e : Entry). finite.get m e.tag ≡ Some e) (finite.values m)) c.self.view_is (values_own (unremoved c.self.inside) (unlisted_own m ks c.self.invariant.own)));
+          (subst (λ (m : Entries). All (λ (e : Entry). finite.get m e.tag ≡ Some e) (finite.values m)) c.self.view_is (values_own (unremoved c.self.inside) (unlisted_own m ks (λ q e there. (c.self.invariant.keeping q e there).own))));
       err = tt;
     }

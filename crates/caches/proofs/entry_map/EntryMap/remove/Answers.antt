@@ -1,9 +1,11 @@
-use Rattle.std.proofs.Common.{◌≡◌, ◌∙◌, not, sym, ap, arith, None}
+use Rattle.std.proofs.Common.{◌≡◌, ◌∙◌, not, sym, ap, subst, arith, None}
 use Rattle.std.specs.FinMap as finite
 use Rattle.std.proofs.lemmas.Bool.{and_left, and_right}
 use Rattle.caches.specs.Held.{Entries}
 use Rattle.caches.specs.Keys.{tag_of}
-use Rattle.caches.specs.Unlisted.{is_listed}
+use Rattle.caches.specs.OneStreams.{HaveNoSubstreams}
+use Rattle.caches.specs.Unlisted.{is_listed, unlisted}
+use Rattle.caches.proofs.EntryMaps.{part_keeping, part_spanned, removed_main}
 use Rattle.caches.proofs.Viewed.{note_removed, unlisted_lacks, unchanged_remove}
 use Rattle.caches.proofs.entry_map.EntryMap.remove.Goals as goal
 use Rattle.caches.proofs.entry_map.EntryMap.remove.Goals.{else-holds-via-then-holds+else-not-is_among, else-holds-via-else-holds}
@@ -20,7 +22,9 @@ invariant_of-self c =
     (ap (λ xs. is_listed xs (tag_of c.args.rank)) (sym c.deref.ensures.0) ∙ sym c.is_among.ensures ∙ c.if-not-is_among.true) c.make_room.ensures.same c.push.ensures.items in
     record {
       counted = omega (arith, c.self.invariant.counted, noted.1);
-      own = λ key entry there. c.self.invariant.own key entry (c.make_room.ensures.pruned key entry there);
+      keeping = part_keeping c.self.inside.map.ordered c.make_room.new.map.ordered c.make_room.ensures.pruned c.self.invariant.keeping;
+      spanned = part_spanned c.self.inside.map.ordered c.make_room.new.map.ordered c.make_room.ensures.pruned c.self.inside.spans c.self.invariant.spanned;
+      main = λ none. subst HaveNoSubstreams (sym noted.2) (removed_main (unlisted c.self.inside.map.ordered c.self.inside.removed.items) (tag_of c.args.rank) (c.self.invariant.main none));
     }
 
 pub returns-then-not-is_among : goal.returns-then-not-is_among

@@ -1,12 +1,8 @@
 use Rattle.std.proofs.Common.{◌∙◌, ◌||◌, sym, ap, cond, None}
 use Rattle.std.specs.FinMap as finite
 use Rattle.caches.specs.OnePages.{is_block_at, is_shared_at}
-use Rattle.caches.proofs.Pruned.{some_was}
 use Rattle.caches.proofs.Viewed.{either_order}
 use Rattle.caches.proofs.entry_map.EntryMap.remove_on.Goals as goal
-
-pub remove_blocks-requires-in-Some : goal.remove_blocks-requires-in-Some
-remove_blocks-requires-in-Some c = λ t e is. c.requires t e (some_was _ _ e (sym (c.remove_blocks.ensures t) ∙ is))
 
 pub returns-in-Some : goal.returns-in-Some
 returns-in-Some c = λ t.
