@@ -6,7 +6,7 @@ use itoa::Buffer;
 use qindex::Index;
 use std::alloc::AllocError;
 
-/// Appends a number. `write!` takes five times as long for one, and most lines that send tell two.
+/// Appends a number, by itoa: with `write!` a text of two numbers takes 1.7 times as many instructions.
 fn say_number(number: u32, reply: &mut String) -> Result<(), AllocError>
     ensures { OnOk result (string_bytes reply.new ≡ string_bytes reply.old ++ decimal number) }
 {
