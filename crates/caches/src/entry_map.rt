@@ -281,6 +281,9 @@ fn make_room(map: &mut IndexedMap, removed: &mut ArrayVec<Rank, MOST_REMOVED>)
 }
 
 /// Drops from the list what the map no longer has, and returns how many of its entries are not on the list.
+///
+/// Stays a call, since few walks need it.
+#[inline(never)]
 fn recount(map: &IndexedMap, removed: &mut ArrayVec<Rank, MOST_REMOVED>) -> usize
     ensures same { unlisted map.now.ordered removed.new.items ≡ unlisted map.now.ordered removed.old.items }
     ensures len { result ≡ finite.len (unlisted map.now.ordered removed.new.items) }

@@ -79,6 +79,9 @@ impl IndexedMap {
     }
 
     /// Whether there is an entry of a rank.
+    ///
+    /// Inlined, since a command for one page does little else.
+    #[inline(always)]
     pub(crate) fn holds(&self, rank: Rank) -> bool
         ensures { result ≡ is_some (tree.get ⟦<Rank as Ord>⟧.cmp self.now.ordered rank) }
     {
