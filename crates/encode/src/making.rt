@@ -1,9 +1,10 @@
 //! Making a command of the values that words give its fields.
-ghost use Rattle.std.specs.Prelude.{◌≡◌, true};
+ghost use Rattle.std.specs.Prelude.{◌≡◌, ◌==◌, true};
 ghost use Rattle.line_answers.specs.LineWords.{words_of};
 ghost use Rattle.encode.specs.Groups.{is_configuration, is_of_all_pages};
 ghost use Rattle.encode.specs.Values.{value_of};
 ghost use Rattle.encode.specs.Commands.{command_of, flag_of, kept_of, kept_raw, range_of, reach_of};
+ghost use Rattle.cmdcodec.specs.Opcodes.{number_of, opcode_of};
 ghost use Rattle.cmdcodec.specs.declared.opcode.Opcode.TheVariants as op;
 ghost use Rattle.encode.specs.declared.field.Field.TheVariants as field;
 
@@ -238,11 +239,17 @@ fn sync(text: &[u8]) -> Result<Command, FieldFault>
     })
 }
 
+fn has_opcode(raw: Raw, opcode: Opcode) -> bool
+    ensures { result ≡ (opcode_of raw == number_of opcode) }
+{
+    raw.lo % 256 == opcode as u64
+}
+
 fn kept_raw(opcode: Opcode, raw: Raw) -> Result<Command, FieldFault>
     ensures { result ≡ kept_raw opcode raw }
 {
     match KeptRaw::new(raw) {
-        Some(kept) if raw.lo % 256 == opcode as u64 => Ok(Command::Kept(kept)),
+        Some(kept) if has_opcode(raw, opcode) => Ok(Command::Kept(kept)),
         _ => Err(FieldFault::OtherCommand),
     }
 }
