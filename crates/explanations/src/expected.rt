@@ -1,16 +1,15 @@
 //! What a word of a line has to be.
+use crate::replay_forms::tag_words;
 use script::{number, raw};
 use std::fmt;
 
 /// What a word of a line has to be.
-#[derive(Clone, Copy, Debug, PartialEq, Eq)]
+#[derive(Clone, Copy)]
 pub(crate) enum Expected {
     /// The name of a line.
     Name,
-    /// A number from 0 to this.
-    UpTo(u64),
-    /// A number from 1 to this.
-    Count(u64),
+    /// A number from the first to the second.
+    Number(u64, u64),
     /// An address space of 16 bits, or `g` for all of them.
     Scope,
     /// A substream of 20 bits, or `-` for none.
@@ -27,17 +26,17 @@ pub(crate) enum Expected {
     End,
 }
 
-pub(crate) const EIGHT_BITS: Expected = Expected::UpTo(0xff);
+pub(crate) const EIGHT_BITS: Expected = Expected::Number(0, 0xff);
 
-pub(crate) const SIXTEEN_BITS: Expected = Expected::UpTo(0xffff);
+pub(crate) const SIXTEEN_BITS: Expected = Expected::Number(0, 0xffff);
 
-pub(crate) const TWENTY_BITS: Expected = Expected::UpTo(0xf_ffff);
+pub(crate) const TWENTY_BITS: Expected = Expected::Number(0, 0xf_ffff);
 
-pub(crate) const THIRTY_TWO_BITS: Expected = Expected::UpTo(0xffff_ffff);
+pub(crate) const THIRTY_TWO_BITS: Expected = Expected::Number(0, 0xffff_ffff);
 
-pub(crate) const FIFTY_TWO_BITS: Expected = Expected::UpTo(0xf_ffff_ffff_ffff);
+pub(crate) const FIFTY_TWO_BITS: Expected = Expected::Number(0, 0xf_ffff_ffff_ffff);
 
-pub(crate) const SIXTY_FOUR_BITS: Expected = Expected::UpTo(u64::MAX);
+pub(crate) const SIXTY_FOUR_BITS: Expected = Expected::Number(0, u64::MAX);
 
 /// Whether a word is a number from `least` to `most`.
 fn is_number(least: u64, most: u64, word: &[u8]) -> bool {
@@ -47,12 +46,13 @@ fn is_number(least: u64, most: u64, word: &[u8]) -> bool {
     }
 }
 
-/// Whether a word is a kind of tag.
-fn is_tag_kind(word: &[u8]) -> bool {
-    matches!(
-        str::from_utf8(word),
-        Ok("ste" | "cd" | "s1" | "s2" | "el2" | "atc")
-    )
+/// Whether a word is this mark, or a number from 0 to `most`.
+fn is_mark_or_number(mark: &[u8], most: u64, word: &[u8]) -> bool {
+    word == mark || is_number(0, most, word)
+}
+
+fn is_remedy(word: &[u8]) -> bool {
+    word == b"retry".as_slice() || word == b"replace".as_slice()
 }
 
 impl Expected {
@@ -60,14 +60,13 @@ impl Expected {
     pub(crate) fn is_met_by(self, word: &[u8]) -> bool {
         match self {
             Expected::Name => !word.is_empty(),
-            Expected::UpTo(most) => is_number(0, most, word),
-            Expected::Count(most) => is_number(1, most, word),
-            Expected::Scope => word == b"g".as_slice() || is_number(0, 0xffff, word),
-            Expected::Substream => word == b"-".as_slice() || is_number(0, 0xf_ffff, word),
-            Expected::Looker => word == b"c".as_slice() || is_number(0, 0xffff_ffff, word),
+            Expected::Number(least, most) => is_number(least, most, word),
+            Expected::Scope => is_mark_or_number(b"g", 0xffff, word),
+            Expected::Substream => is_mark_or_number(b"-", 0xf_ffff, word),
+            Expected::Looker => is_mark_or_number(b"c", 0xffff_ffff, word),
             Expected::Command => raw(word).is_some(),
-            Expected::TagKind => is_tag_kind(word),
-            Expected::Remedy => word == b"retry".as_slice() || word == b"replace".as_slice(),
+            Expected::TagKind => tag_words(word).is_some(),
+            Expected::Remedy => is_remedy(word),
             Expected::End => word.is_empty(),
         }
     }
@@ -77,8 +76,7 @@ impl fmt::Display for Expected {
     fn fmt<W: fmt::Write>(&self, f: &mut fmt::Formatter<W>) -> fmt::Result {
         match *self {
             Expected::Name => f.write_str("the name of a line"),
-            Expected::UpTo(most) => write!(f, "a number from 0 to {most}"),
-            Expected::Count(most) => write!(f, "a number from 1 to {most}"),
+            Expected::Number(least, most) => write!(f, "a number from {least} to {most}"),
             Expected::Scope => f.write_str("a number from 0 to 65535, or g,"),
             Expected::Substream => f.write_str("a number from 0 to 1048575, or -,"),
             Expected::Looker => f.write_str("a number from 0 to 4294967295, or c,"),

@@ -4,7 +4,7 @@ ghost use Rattle.explanations.specs.Explaining.{IsSaidOf};
 
 use crate::expected::Expected;
 use crate::fault::{fault_in, meaning, step_fault};
-use crate::form::Form;
+use crate::form::{Form, form_of};
 use crate::misread::Misread;
 use crate::stray::Stray;
 use crate::words::Words;
@@ -12,7 +12,7 @@ use crate::{replay_forms, schedule_forms};
 use ringcore::StepFault;
 use script::LastLine;
 use std::alloc::{AllocError, Global};
-use std::fmt;
+use std::fmt::{self, Display};
 
 /// The kind of script, by its lines.
 #[derive(Clone, Copy, Debug, PartialEq, Eq)]
@@ -27,16 +27,16 @@ impl Script {
     /// The form of a line of this name, if there is one.
     fn form_of(self, name: &str) -> Option<Form> {
         match self {
-            Script::Replay => replay_forms::form_of(name),
-            Script::Schedule => schedule_forms::form_of(name),
+            Script::Replay => form_of(&replay_forms::FORMS, name),
+            Script::Schedule => form_of(&schedule_forms::FORMS, name),
         }
     }
 
     /// The form of a line for a ring that can be made.
     fn ring_form(self) -> Form {
         match self {
-            Script::Replay => replay_forms::ring_form(),
-            Script::Schedule => schedule_forms::ring_form(),
+            Script::Replay => replay_forms::RING,
+            Script::Schedule => schedule_forms::RING,
         }
     }
 }
@@ -53,9 +53,9 @@ enum Why<'a> {
 impl fmt::Display for Why<'_> {
     fn fmt<W: fmt::Write>(&self, f: &mut fmt::Formatter<W>) -> fmt::Result {
         match self {
-            Why::Stray(stray) => write!(f, "{stray}"),
-            Why::Misread(misread) => write!(f, "{misread}"),
-            Why::Step(fault) => write!(f, "{fault}"),
+            Why::Stray(stray) => stray.fmt(f),
+            Why::Misread(misread) => misread.fmt(f),
+            Why::Step(fault) => fault.fmt(f),
             Why::Line(meaning) => f.write_str(meaning),
         }
     }

@@ -38,6 +38,11 @@ pub(crate) fn meaning(fault: &str) -> Option<&'static str> {
 
 /// Returns the name of the fault in an answer `line N: ` and the name.
 pub(crate) fn fault_in(answer: &[u8]) -> Option<&str> {
-    let (_, name) = str::from_utf8(answer).ok()?.trim_end().split_once(": ")?;
-    Some(name)
+    let Ok(answer) = str::from_utf8(answer) else {
+        return None;
+    };
+    match answer.trim_end().split_once(": ") {
+        Some((_, name)) => Some(name),
+        None => None,
+    }
 }

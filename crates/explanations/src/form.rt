@@ -3,12 +3,12 @@ use crate::expected::Expected;
 use ringcore::MOST_SENDERS;
 
 /// The base-2 logarithm of the slots of a ring that can be made.
-pub(crate) const LOG2: Expected = Expected::Count(19);
+pub(crate) const LOG2: Expected = Expected::Number(1, 19);
 /// How many senders a ring that can be made has.
-pub(crate) const SENDERS: Expected = Expected::Count(MOST_SENDERS as u64);
+pub(crate) const SENDERS: Expected = Expected::Number(1, MOST_SENDERS as u64);
 
 /// What may follow the words that a line always has.
-#[derive(Clone, Copy, Debug, PartialEq, Eq)]
+#[derive(Clone, Copy)]
 pub(crate) enum Rest {
     /// Nothing.
     Nothing,
@@ -19,36 +19,18 @@ pub(crate) enum Rest {
 }
 
 /// What the words of a line have to be, from its second on.
-#[derive(Clone, Copy, Debug)]
-pub(crate) struct Form {
-    /// Whether the second word is the kind of a tag, which decides the tag's words.
-    pub has_tag: bool,
-    /// The words that it always has, after those of a tag.
-    pub words: &'static [Expected],
-    /// What may follow these.
-    pub rest: Rest,
+#[derive(Clone, Copy)]
+pub(crate) enum Form {
+    /// These words, and what may follow them.
+    Words(&'static [Expected], Rest),
+    /// The kind of a tag, the words that the kind decides, and these words.
+    Tagged(&'static [Expected]),
 }
 
-impl Form {
-    /// A form of these words and then others.
-    pub(crate) fn and(words: &'static [Expected], rest: Rest) -> Form {
-        Form {
-            has_tag: false,
-            words,
-            rest,
-        }
-    }
-
-    /// A form of just these words.
-    pub(crate) fn of(words: &'static [Expected]) -> Form {
-        Form::and(words, Rest::Nothing)
-    }
-
-    /// A form of a tag and these words.
-    pub(crate) fn with_tag(words: &'static [Expected]) -> Form {
-        Form {
-            has_tag: true,
-            ..Form::of(words)
-        }
+/// The form of a line of this name, if there is one.
+pub(crate) fn form_of(forms: &[(&str, Form)], name: &str) -> Option<Form> {
+    match forms.iter().find(|(each, _)| *each == name) {
+        Some((_, form)) => Some(*form),
+        None => None,
     }
 }

@@ -3,7 +3,7 @@ use crate::expected::Expected;
 use std::fmt;
 
 /// A word of a line that isn't as expected.
-#[derive(Clone, Copy, Debug)]
+#[derive(Clone, Copy)]
 pub(crate) struct Misread<'a> {
     /// Which word of the line, counted from 1.
     pub word: u64,

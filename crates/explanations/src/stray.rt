@@ -2,8 +2,8 @@
 use std::fmt;
 
 /// The kind of a byte that no line may have: one outside of the printable ASCII characters.
-#[derive(Clone, Copy, Debug, PartialEq, Eq)]
-pub(crate) enum StrayKind {
+#[derive(Clone, Copy)]
+enum StrayKind {
     ByteOrderMark,
     Tab,
     CarriageReturn,
@@ -11,22 +11,24 @@ pub(crate) enum StrayKind {
 }
 
 /// The first byte of a line that no line may have.
-#[derive(Clone, Copy, Debug, PartialEq, Eq)]
+#[derive(Clone, Copy)]
 pub(crate) struct Stray {
     /// Which byte of the line, counted from 1.
-    pub place: usize,
-    pub kind: StrayKind,
+    place: usize,
+    kind: StrayKind,
 }
 
 impl Stray {
     /// Returns the first such byte of a line, if it has one.
     pub(crate) fn first_of(line: &[u8]) -> Option<Stray> {
-        let at = line.iter().position(|byte| *byte < 0x20 || 0x7e < *byte)?;
-        let kind = match line.get(at) {
-            Some(b'\t') => StrayKind::Tab,
-            Some(b'\r') => StrayKind::CarriageReturn,
+        let Some(at) = line.iter().position(|byte| *byte < 0x20 || 0x7e < *byte) else {
+            return None;
+        };
+        let kind = match line[at] {
+            b'\t' => StrayKind::Tab,
+            b'\r' => StrayKind::CarriageReturn,
             _ if line.starts_with(b"\xef\xbb\xbf") => StrayKind::ByteOrderMark,
-            other => StrayKind::Other(*other?),
+            other => StrayKind::Other(other),
         };
         Some(Stray {
             place: at.saturating_add(1),

@@ -49,10 +49,19 @@ impl<'a> Words<'a> {
         Ok(())
     }
 
+    /// Passes the end of the line.
+    fn expect_end(&mut self) -> Result<(), Misread<'a>> {
+        self.expect(Expected::End)?;
+        Ok(())
+    }
+
     /// Passes a tag.
     fn expect_tag(&mut self) -> Result<(), Misread<'a>> {
         let kind = self.expect(Expected::TagKind)?;
-        self.expect_each(tag_words(str::from_utf8(kind).unwrap_or_default()))
+        match tag_words(kind) {
+            Some(words) => self.expect_each(words),
+            None => Ok(()),
+        }
     }
 
     /// Passes commands to the line's end.
@@ -64,25 +73,33 @@ impl<'a> Words<'a> {
             }
             self.expect(Expected::Command)?;
         }
-        Ok(())
+        self.expect_end()
+    }
+
+    /// Passes what may follow the words that a line always has.
+    fn expect_rest(&mut self, rest: Rest) -> Result<(), Misread<'a>> {
+        match rest {
+            Rest::Commands => self.expect_commands(),
+            Rest::Optional(word) if !is_end(self.left) => {
+                self.expect(word)?;
+                self.expect_end()
+            }
+            _ => self.expect_end(),
+        }
     }
 
     /// Passes all that is left, which has to be of this form.
     pub(crate) fn expect_form(&mut self, form: Form) -> Result<(), Misread<'a>> {
-        if form.has_tag {
-            self.expect_tag()?;
-        }
-        self.expect_each(form.words)?;
-        match form.rest {
-            Rest::Nothing => {}
-            Rest::Commands => self.expect_commands()?,
-            Rest::Optional(word) => {
-                if !is_end(self.left) {
-                    self.expect(word)?;
-                }
+        match form {
+            Form::Words(words, rest) => {
+                self.expect_each(words)?;
+                self.expect_rest(rest)
+            }
+            Form::Tagged(words) => {
+                self.expect_tag()?;
+                self.expect_each(words)?;
+                self.expect_end()
             }
         }
-        self.expect(Expected::End)?;
-        Ok(())
     }
 }
