@@ -1,5 +1,5 @@
 -- The texts of ATC_INV, CMD_SYNC and the commands that are kept.
-use Rattle.std.proofs.Common.{◌≡◌, ℕ, ◌==◌, ◌&&◌, Bool, true, cond, List, [], ◌∷◌, ◌++◌, refl, ap, ◌∙◌, codes, None, is_none, Ok, Err, eq-eqb, append_assoc}
+use Rattle.std.proofs.Common.{◌≡◌, true≢false, sym, ℕ, ◌==◌, ◌&&◌, Bool, true, cond, List, [], ◌∷◌, ◌++◌, refl, ap, ◌∙◌, codes, None, is_none, Ok, Err, eq-eqb, append_assoc}
 use Rattle.cmdcodec.specs.declared.opcode.Opcode.{Opcode}
 use Rattle.cmdcodec.specs.declared.opcode.Opcode.TheVariants as op
 use Rattle.cmdcodec.specs.declared.raw.Raw.{Raw}
@@ -49,8 +49,12 @@ record IsKept (opcode : Opcode) : Type 0 where
 
 is_kept_by : (opcode : Opcode) → is_kept (number_of opcode) ≡ true → IsKept opcode
 unfolding command_of
+is_kept_by op.PrefetchConfig h = record { called = refl; fields = refl; by_words = λ words. refl }
+is_kept_by op.PrefetchAddr h = record { called = refl; fields = refl; by_words = λ words. refl }
+is_kept_by op.PriResp h = record { called = refl; fields = refl; by_words = λ words. refl }
 is_kept_by op.Resume h = record { called = refl; fields = refl; by_words = λ words. refl }
-is_kept_by other h = record { called = cc; fields = cc; by_words = λ words. cc }
+is_kept_by op.StallTerm h = record { called = refl; fields = refl; by_words = λ words. refl }
+is_kept_by other h = absurd (true≢false (sym h))
 
 -- Its words, if they are legal and have the opcode, make it.
 made_kept : (opcode : Opcode) (raw : Raw) → is_kept (number_of opcode) ≡ true → opcode_of raw ≡ number_of opcode → first_ill raw ≡ None
