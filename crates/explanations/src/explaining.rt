@@ -25,7 +25,7 @@ pub enum Script {
 
 impl Script {
     /// The form of a line of this name, if there is one.
-    fn form_of(self, name: &str) -> Option<Form> {
+    fn form_of(self, name: &[u8]) -> Option<Form> {
         match self {
             Script::Replay => form_of(&replay_forms::FORMS, name),
             Script::Schedule => form_of(&schedule_forms::FORMS, name),
@@ -65,7 +65,7 @@ impl fmt::Display for Why<'_> {
 fn misread_in(script: Script, line: &[u8]) -> Result<(), Misread<'_>> {
     let mut words = Words::of(line);
     let name = words.expect(Expected::Name)?;
-    match script.form_of(str::from_utf8(name).unwrap_or_default()) {
+    match script.form_of(name) {
         Some(form) => words.expect_form(form),
         None => Err(words.misread(Expected::Name, name)),
     }

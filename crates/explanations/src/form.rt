@@ -28,8 +28,8 @@ pub(crate) enum Form {
 }
 
 /// The form of a line of this name, if there is one.
-pub(crate) fn form_of(forms: &[(&str, Form)], name: &str) -> Option<Form> {
-    match forms.iter().find(|(each, _)| *each == name) {
+pub(crate) fn form_of(forms: &[(&str, Form)], name: &[u8]) -> Option<Form> {
+    match forms.iter().find(|(each, _)| each.as_bytes() == name) {
         Some((_, form)) => Some(*form),
         None => None,
     }
