@@ -3,6 +3,7 @@ pub mod Bodies
 pub mod Turns
 pub mod Own
 pub mod Lines
+pub mod Last
 pub mod Asked
 pub mod Filled
 pub mod Numbered
