@@ -1,6 +1,7 @@
 pub mod Crossing
 pub mod Bodies
 pub mod Turns
+pub mod Tried
 pub mod Own
 pub mod Lines
 pub mod Last
