@@ -68,7 +68,9 @@ impl Start {
         ensures done { IfOk result (λ start. (start.room.done.items ≡ []) × (plan.senders ≤ vec_capacity start.room.done)) }
         ensures err { OnErr result (result ≡ Err StressFault.NoMemory) }
     {
-        let room = Room::new(alloc, plan.senders())?;
+        let Ok(room) = Room::new(alloc, plan.senders()) else {
+            return Err(StressFault::NoMemory);
+        };
         let Ok((ring, senders, consumer)) = Ring::new(
             alloc,
             plan.log2(),
@@ -77,7 +79,9 @@ impl Start {
         ) else {
             return Err(StressFault::NoMemory);
         };
-        let engine = filled_engine(alloc, consumer, plan.senders())?;
+        let Ok(engine) = filled_engine(alloc, consumer, plan.senders()) else {
+            return Err(StressFault::NoMemory);
+        };
         let Ok(workers) = employ(alloc, plan, senders) else {
             return Err(StressFault::NoMemory);
         };
@@ -97,7 +101,7 @@ fn finish(
     plan: Plan,
     ring: Ring,
     workers: Vec<Worker>,
-    engine: Engine,
+    mut engine: Engine,
     room: Room,
 ) -> Result<Report, StressFault>
     requires plan { IsPlan plan }
@@ -111,7 +115,6 @@ fn finish(
     ensures err { OnErr result (result ≡ Err StressFault.Unfinished) }
     ensures unfinished { OnErr result (IsUnfinished plan) }
 {
-    let mut engine = engine;
     let senders = send_and_drain(plan, &ring, workers, room.senders, &mut engine)?;
     let (senders, done) = ask_all(plan, &ring, senders, room.done);
     let finished = engine.finish(ring, senders);

@@ -7,5 +7,5 @@ use Rattle.stress.proofs.run.Start.new.Goals as goal
 
 pub employ-requires-clause-new : goal.employ-requires-clause-new
 employ-requires-clause-new c =
-    let all = all_new c.args.plan c.in-Ok.ring c.senders-2.result (let e = c.senders-2.ensures.value in omega (arith, e)) in
-    subst (λ (l : List SenderValue). All (IsNew c.args.plan) l) (sym c.in-Ok.ensures.made.unused.senders_are) all
+    let all = all_new c.args.plan c.in-Ok-new.ring c.senders-2.result (let e = c.senders-2.ensures.value in omega (arith, e)) in
+    subst (λ (l : List SenderValue). All (IsNew c.args.plan) l) (sym c.in-Ok-new.ensures.made.unused.senders_are) all
