@@ -1,6 +1,5 @@
 -- One more sender has asked.
-use Rattle.std.proofs.Common.{◌≡◌, ◌⊎◌, ℕ, zero, suc, ◌≤◌, List, [], ◌∷◌, ◌++◌, length, length-append, Some, inl, inr, ⊎_elim, refl, sym, ap, ◌∙◌, subst, slice_index_or, arith}
-use Rattle.std.specs.List.{All}
+use Rattle.std.proofs.Common.{◌≡◌, ◌⊎◌, ℕ, zero, suc, ◌≤◌, List, [], ◌∷◌, ◌++◌, length, length-append, Some, inl, inr, ⊎_elim, refl, sym, ap, ◌∙◌, subst, arith}
 use Rattle.std.specs.Prelude.{slice_get}
 use Rattle.ringcore.specs.declared.world.event.Event.TheVariants.{Ask}
 use Rattle.ringcore.specs.world.Trails.{Trail}
@@ -52,13 +51,3 @@ one_more_asked most senders done sender found older before few newest = record {
       let b = length-append senders (sender ∷ []) in
       omega (arith, m, a, b);
 }
-
--- What is so of all is so of the last.
-pub last_of : {A : Type 0} (P : A → Type 0) (all xs : List A) (x : A) → All P all → all ≡ xs ++ x ∷ [] → P x
-last_of {A} P all xs x has is =
-    let longer = length-append xs (x ∷ []) in
-    subst P (at_end xs) (subst (All P) is has (length xs) x (omega (arith, longer)))
-  where
-    at_end : (ys : List A) → slice_index_or (ys ++ x ∷ []) (length ys) x ≡ x
-    at_end [] = refl
-    at_end (y ∷ ys) = at_end ys

@@ -1,8 +1,10 @@
 pub mod Crossing
 pub mod Bodies
 pub mod Turns
+pub mod Tried
 pub mod Own
 pub mod Lines
+pub mod Last
 pub mod Asked
 pub mod Filled
 pub mod Numbered

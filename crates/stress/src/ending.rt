@@ -1,13 +1,15 @@
 //! What is left to do once all workers have ended, on one thread.
 ghost use Rattle.std.specs.Prelude.{◌≡◌, ◌+◌, ◌<◌, ◌≤◌, [], OnOk, OnErr, IfOk, Err, vec_len, vec_capacity};
 ghost use Rattle.std.specs.List.{All};
+ghost use Rattle.ringcore.specs.world.ConsumerLaws.{SawDrained};
+ghost use Rattle.ring.specs.NewRings.{new_senders};
 ghost use Rattle.stress.specs.Plans.{IsPlan};
 ghost use Rattle.qindex.specs.Positions.{size};
 ghost use Rattle.stress.specs.EngineTurns.{GoesOn, HasGivenUp};
 ghost use Rattle.stress.specs.Workers.{IsNew, assignment, assignments, assignment_of, assignments_of, HasSent};
 ghost use Rattle.stress.specs.Reports.{HaveAsked};
 
-use crate::engine_turns::drain;
+use crate::engine_turns::{drain, drain_closed};
 use crate::fault::StressFault;
 use crate::plan::Plan;
 use crate::worker::Worker;
@@ -92,7 +94,7 @@ fn send_left(
 /// Sends what is left of all plans, and returns the senders in their order, in the room made for them.
 ///
 /// Errors: S2.
-pub(crate) fn send_all(
+fn send_all(
     plan: Plan,
     ring: &Ring,
     mut workers: Vec<Worker>,
@@ -121,7 +123,7 @@ pub(crate) fn send_all(
 }
 
 /// Closes the ring, by the first sender.
-pub(crate) fn close_first(plan: Plan, ring: &Ring, mut senders: Vec<Sender>) -> Vec<Sender>
+fn close_first(plan: Plan, ring: &Ring, mut senders: Vec<Sender>) -> Vec<Sender>
     requires ring { All (λ s. s.ring ≡ ring.now) senders.items }
     requires sent { All (HasSent plan) senders.items }
     ensures assignments { assignments_of plan result.items ≡ assignments_of plan senders.items }
@@ -132,6 +134,34 @@ pub(crate) fn close_first(plan: Plan, ring: &Ring, mut senders: Vec<Sender>) -> 
         senders[0].close(ring);
     }
     senders
+}
+
+/// Sends what is left of all plans, closes the ring and takes all that was sent. Returns the senders in their order, in
+/// the room made for them.
+///
+/// Errors: S2.
+pub(crate) fn send_and_drain(
+    plan: Plan,
+    ring: &Ring,
+    workers: Vec<Worker>,
+    room: Vec<Sender>,
+    engine: &mut Engine,
+) -> Result<Vec<Sender>, StressFault>
+    requires ring { ring.now.made_with.senders ≡ plan.senders }
+    requires workers { assignments workers.items ≡ assignments_of plan (new_senders ring.now plan.senders) }
+    requires engine { engine.old.consumer.ring ≡ ring.now }
+    requires room { (room.items ≡ []) × (plan.senders ≤ vec_capacity room) }
+    ensures senders { IfOk result (λ v. assignments_of plan v.items ≡ assignments_of plan (new_senders ring.now plan.senders)) }
+    ensures sent { IfOk result (λ v. All (HasSent plan) v.items) }
+    ensures engine { OnOk result (GoesOn 0 engine.old engine.new) }
+    ensures drained { OnOk result (SawDrained engine.new.consumer.trail) }
+    ensures err { OnErr result (result ≡ Err StressFault.Unfinished) }
+    ensures given_up { OnErr result (HasGivenUp (size plan.log2) engine.old engine.new) }
+{
+    let senders = send_all(plan, ring, workers, room, engine)?;
+    let senders = close_first(plan, ring, senders);
+    drain_closed(ring, plan.slots(), engine)?;
+    Ok(senders)
 }
 
 /// Lets each sender ask its completion cell, and returns the numbers in the order of the senders, in the room made for

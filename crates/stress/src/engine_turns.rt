@@ -1,7 +1,7 @@
 //! The engine's part in a run.
-ghost use Rattle.std.specs.Prelude.{◌≡◌, Ok, Err, OnErr, IfOk};
+ghost use Rattle.std.specs.Prelude.{◌≡◌, Ok, Err, OnOk, OnErr, IfOk};
 ghost use Rattle.ringcore.specs.world.ConsumerLaws.{SawDrained};
-ghost use Rattle.stress.specs.EngineTurns.{GoesOn, HasTurned, IsAny, HasDrained, IsUndrained};
+ghost use Rattle.stress.specs.EngineTurns.{GoesOn, HasTurned, IsAny, HasDrained, HasGivenUp, IsUndrained};
 
 use crate::fault::StressFault;
 use crate::gate::Gate;
@@ -51,4 +51,20 @@ pub(crate) fn drain(ring: &Ring, slots: u32, engine: &mut Engine) -> Result<Foun
         }
     }
     Err(StressFault::Unfinished)
+}
+
+/// Takes turns until the ring is found empty and closed.
+///
+/// Errors: S2 if a drain didn't come to its end, or the ring was found open.
+pub(crate) fn drain_closed(ring: &Ring, slots: u32, engine: &mut Engine) -> Result<(), StressFault>
+    requires { engine.old.consumer.ring ≡ ring.now }
+    ensures goes_on { GoesOn 1 engine.old engine.new }
+    ensures drained { OnOk result (SawDrained engine.new.consumer.trail) }
+    ensures err { OnErr result (result ≡ Err StressFault.Unfinished) }
+    ensures given_up { OnErr result (HasGivenUp slots engine.old engine.new) }
+{
+    let Found::Drained = drain(ring, slots, engine)? else {
+        return Err(StressFault::Unfinished);
+    };
+    Ok(())
 }

@@ -8,8 +8,7 @@ ghost use Rattle.stress.specs.FirstEntries.{IsFilled};
 ghost use Rattle.stress.specs.EngineTurns.{IsStarted};
 ghost use Rattle.stress.specs.Reports.{IsAsPlanned, IsOfARun, IsUnfinished};
 
-use crate::ending::{ask_all, close_first, employ, send_all};
-use crate::engine_turns::{Found, drain};
+use crate::ending::{ask_all, employ, send_and_drain};
 use crate::fault::StressFault;
 use crate::first_entries::filled_engine;
 use crate::gate::Gate;
@@ -39,22 +38,60 @@ pub fn run_all<R: Threads + AllocGlobal + Sync, G: Gate + Sync>(
     ensures run { IfOk result (λ r. IsOfARun plan.now r) }
     ensures unfinished { result ≡ Err StressFault.Unfinished → IsUnfinished plan.now }
 {
-    let alloc: Global = rt.alloc();
-    let Ok((ring, senders, consumer)) = Ring::new(
-        alloc,
-        plan.log2(),
-        plan.senders(),
-        plan.batches(),
-    ) else {
-        return Err(StressFault::NoMemory);
-    };
-    let engine = filled_engine(alloc, consumer, plan.senders())?;
-    let room = Room::new(alloc, plan.senders())?;
-    let Ok(workers) = employ(alloc, *plan, senders) else {
-        return Err(StressFault::NoMemory);
-    };
+    let Start {
+        ring,
+        workers,
+        engine,
+        room,
+    } = Start::new(rt.alloc(), *plan)?;
     let (engine, workers) = run_at_once(rt, &ring, gate, plan.turns(), engine, workers);
     finish(*plan, ring, workers, engine, room)
+}
+
+/// What a run begins with. All its memory is taken here.
+#[derive(Drop)]
+struct Start {
+    ring: Ring,
+    workers: Vec<Worker>,
+    engine: Engine,
+    room: Room,
+}
+
+impl Start {
+    /// Errors: S1.
+    fn new(alloc: Global, plan: Plan) -> Result<Start, StressFault>
+        ensures ring { IfOk result (λ start. start.ring.made_with ≡ made_with plan.log2 plan.senders plan.batches) }
+        ensures workers { IfOk result (λ start. assignments start.workers.items ≡ assignments_of plan (new_senders start.ring plan.senders)) }
+        ensures filled { IfOk result (λ start. IsFilled plan.senders start.engine.unit) }
+        ensures engine { IfOk result (λ start. start.engine.consumer.ring ≡ start.ring) }
+        ensures senders { IfOk result (λ start. (start.room.senders.items ≡ []) × (plan.senders ≤ vec_capacity start.room.senders)) }
+        ensures done { IfOk result (λ start. (start.room.done.items ≡ []) × (plan.senders ≤ vec_capacity start.room.done)) }
+        ensures err { OnErr result (result ≡ Err StressFault.NoMemory) }
+    {
+        let Ok(room) = Room::new(alloc, plan.senders()) else {
+            return Err(StressFault::NoMemory);
+        };
+        let Ok((ring, senders, consumer)) = Ring::new(
+            alloc,
+            plan.log2(),
+            plan.senders(),
+            plan.batches(),
+        ) else {
+            return Err(StressFault::NoMemory);
+        };
+        let Ok(engine) = filled_engine(alloc, consumer, plan.senders()) else {
+            return Err(StressFault::NoMemory);
+        };
+        let Ok(workers) = employ(alloc, plan, senders) else {
+            return Err(StressFault::NoMemory);
+        };
+        Ok(Start {
+            ring,
+            workers,
+            engine,
+            room,
+        })
+    }
 }
 
 /// Does what is left once all workers have ended.
@@ -64,7 +101,7 @@ fn finish(
     plan: Plan,
     ring: Ring,
     workers: Vec<Worker>,
-    engine: Engine,
+    mut engine: Engine,
     room: Room,
 ) -> Result<Report, StressFault>
     requires plan { IsPlan plan }
@@ -78,12 +115,7 @@ fn finish(
     ensures err { OnErr result (result ≡ Err StressFault.Unfinished) }
     ensures unfinished { OnErr result (IsUnfinished plan) }
 {
-    let mut engine = engine;
-    let senders = send_all(plan, &ring, workers, room.senders, &mut engine)?;
-    let senders = close_first(plan, &ring, senders);
-    let Found::Drained = drain(&ring, plan.slots(), &mut engine)? else {
-        return Err(StressFault::Unfinished);
-    };
+    let senders = send_and_drain(plan, &ring, workers, room.senders, &mut engine)?;
     let (senders, done) = ask_all(plan, &ring, senders, room.done);
     let finished = engine.finish(ring, senders);
     Ok(Report::new(plan, finished, done))

@@ -1,4 +1,4 @@
-use Rattle.std.proofs.Common.{◌≡◌, ◌≤◌, ◌∷◌, ℕ, List, ap, sym, subst}
+use Rattle.std.proofs.Common.{◌≡◌, ◌≤◌, ◌∷◌, ℕ, List, ap, sym, subst, arith}
 use Rattle.std.proofs.lemmas.List.Elements.{All-push}
 use Rattle.std.specs.List.{All}
 use Rattle.ringcore.specs.declared.world.event.Event.TheVariants.{Ask}
@@ -7,10 +7,36 @@ use Rattle.ringcore.specs.world.Laws.{own_batches}
 use Rattle.ring.specs.Rings.{RingValue}
 use Rattle.ring.specs.sender.Senders.{SenderValue}
 use Rattle.stress.specs.Plans.{planned}
-use Rattle.stress.specs.Workers.{HasSent}
+use Rattle.stress.specs.Workers.{assignment_of, HasSent}
 use Rattle.stress.specs.Reports.{HaveAsked}
-use Rattle.stress.proofs.Asked.{last_of, one_more_asked}
+use Rattle.stress.proofs.Last.{last_of, ahead_of, alike}
+use Rattle.stress.proofs.Asked.{one_more_asked}
 use Rattle.stress.proofs.ending.+ask_all.Goals as goal
+
+pub ask_all-senders-requires : goal.ask_all-senders-requires
+ask_all-senders-requires t c = (
+  omega (arith, c.in-Some.ensures.len),
+  (
+    omega (arith, c.in-Some.ensures.len),
+    (
+      c.requires.empty,
+      (
+        ahead_of (λ (s : SenderValue). s.ring ≡ c.args.ring.now) c.args.senders.items c.pop.new.self.items c.in-Some.sender c.requires.ring c.in-Some.ensures.items,
+        ahead_of (HasSent c.args.plan) c.args.senders.items c.pop.new.self.items c.in-Some.sender c.requires.sent c.in-Some.ensures.items,
+      ),
+    ),
+  ),
+)
+
+pub done_up_to-found-requires : goal.done_up_to-found-requires
+done_up_to-found-requires t c =
+    last_of (λ (s : SenderValue). s.ring ≡ c.args.ring.now) c.args.senders.items c.pop.new.self.items c.in-Some.sender c.requires.ring c.in-Some.ensures.items
+
+pub returns-clause-assignments : goal.returns-clause-assignments
+returns-clause-assignments t c =
+    alike (assignment_of c.args.plan) (assignment_of c.args.plan) c.push_reserved-2.new.self.items c.ask_all-senders.result.0.items c.done_up_to-found.new.self c.args.senders.items
+    c.pop.new.self.items c.in-Some.sender c.push_reserved-2.ensures.items c.in-Some.ensures.items c.ask_all-senders.ensures.assignments
+    (ap (assignment_of c.args.plan) c.done_up_to-found.ensures.asked)
 
 pub returns-clause-sent : goal.returns-clause-sent
 returns-clause-sent t c =
