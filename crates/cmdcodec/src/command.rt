@@ -11,7 +11,7 @@ use crate::reach::{PageRun, Reach};
 /// A command. It is always legal: the field types keep every field in range.
 ///
 /// `leaf` asks for last-level entries only; it narrows no command of this profile (own).
-#[derive(Clone, Copy, Debug, PartialEq, Eq)]
+#[derive(Clone, Copy, PartialEq, Eq)]
 pub enum Command {
     /// CMD_CFGI_STE: the stream table entry of a stream is no longer valid.
     CfgiSte {

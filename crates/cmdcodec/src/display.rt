@@ -8,7 +8,7 @@ mod parts;
 mod translations;
 
 use crate::command::Command;
-use parts::{leaf_text, own_sync_text};
+use parts::{Signal, leaf_text};
 use std::alloc::{AllocError, Global};
 use std::fmt;
 use translations::{write_by_address, write_translations};
@@ -41,6 +41,15 @@ impl fmt::Display for Command {
     }
 }
 
+/// The same text as `{}`. A derived one takes a fifteenth of the time of the crate's check.
+impl fmt::Debug for Command {
+    ghost debug_output = { λ command. Some (text_of command) };
+
+    fn fmt<W: fmt::Write>(&self, f: &mut fmt::Formatter<W>) -> fmt::Result {
+        fmt::Display::fmt(self, f)
+    }
+}
+
 #[tactic(auto, unfolding(crate::specs::Text::text_of))]
 fn write_configuration<W: fmt::Write>(command: &Command, f: &mut fmt::Formatter<W>) -> fmt::Result
     requires { is_configuration command.now ≡ true }
@@ -48,17 +57,16 @@ fn write_configuration<W: fmt::Write>(command: &Command, f: &mut fmt::Formatter<
 {
     match *command {
         Command::CfgiSte { sid, leaf } => {
-            write!(f, "CFGI_STE sid={}", sid.get())?;
-            f.write_str(leaf_text(leaf))
+            let (sid, leaf) = (sid.get(), leaf_text(leaf));
+            write!(f, "CFGI_STE sid={sid}{leaf}")
         }
         Command::CfgiSteRange { sid, range } => {
             let (sid, range) = (sid.get(), range.get());
             write!(f, "CFGI_STE_RANGE sid={sid} range={range}")
         }
         Command::CfgiCd { sid, ssid, leaf } => {
-            let (sid, ssid) = (sid.get(), ssid.get());
-            write!(f, "CFGI_CD sid={sid} ssid={ssid}")?;
-            f.write_str(leaf_text(leaf))
+            let (sid, ssid, leaf) = (sid.get(), ssid.get(), leaf_text(leaf));
+            write!(f, "CFGI_CD sid={sid} ssid={ssid}{leaf}")
         }
         Command::CfgiCdAll { sid } => write!(f, "CFGI_CD_ALL sid={}", sid.get()),
         _ => unreachable!(),
@@ -102,13 +110,6 @@ fn write_sync<W: fmt::Write>(command: &Command, f: &mut fmt::Formatter<W>) -> fm
     else {
         unreachable!()
     };
-    let (cs, msh, attr) = (cs.get(), msh.get(), attr.get());
-    // The fields that `closing_sync` sets.
-    if (cs, msh, attr) == (1, 0, 0) {
-        f.write_str(own_sync_text())?;
-    } else {
-        write!(f, "CMD_SYNC cs={cs} msh={msh} attr={attr}")?;
-    }
-    let address = address.get() * 4;
-    write!(f, " data={data} addr=0x{address:x}")
+    let (signal, address) = (Signal { cs, msh, attr }, address.get() * 4);
+    write!(f, "{signal} data={data} addr=0x{address:x}")
 }
