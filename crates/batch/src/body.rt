@@ -50,10 +50,7 @@ impl Batch {
     pub fn from_raws(raws: &[Raw]) -> Result<Batch, BatchFault>
         ensures { result ≡ unless (list_refusal raws.now) raws.now }
     {
-        BorrowedBatch::new(raws)?;
-        let mut commands = Commands::new();
-        commands.try_extend_from_slice(raws).unwrap();
-        Ok(Batch { commands })
+        Ok(Batch::from(BorrowedBatch::new(raws)?))
     }
 
     /// Creates a batch that invalidates the stage 1 translations of an address space for `pages` pages of
@@ -163,5 +160,16 @@ impl Batch {
         ensures no_sync { IfSome result (λ raw. is_sync raw ≡ false) }
     {
         self.commands.get(index).copied()
+    }
+}
+
+impl From<BorrowedBatch<'_>> for Batch {
+    /// Copies the commands.
+    fn from(batch: BorrowedBatch<'_>) -> Batch
+        ensures { result ≡ batch.entry }
+    {
+        let mut commands = Commands::new();
+        commands.try_extend_from_slice(batch.commands).unwrap();
+        Batch { commands }
     }
 }

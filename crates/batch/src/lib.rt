@@ -4,6 +4,7 @@
 
 mod body;
 mod borrowed;
+mod buffer;
 mod detach;
 mod fault;
 mod laws;
@@ -11,5 +12,6 @@ mod range;
 
 pub use body::Batch;
 pub use borrowed::BorrowedBatch;
+pub use buffer::BatchBuffer;
 pub use fault::BatchFault;
 pub use laws::ranges_are_reached_exactly;

@@ -2,7 +2,7 @@
 use crate::answers::{expect_text, none};
 use crate::cmdcodec_tests::words::{raw, words};
 use crate::numbers::{next_u64, number};
-use batch::{Batch, BatchFault};
+use batch::{Batch, BatchBuffer, BatchFault};
 use cmdcodec::{Asid, Page, Raw, Sid, Vmid, decode};
 use std::alloc::Global;
 use std::process::Abort;
@@ -21,6 +21,20 @@ fn range(asked: &str) -> Option<Result<Batch, BatchFault>> {
     let (vmid, asid) = space();
     let page = Page::new(next_u64(&mut numbers)?)?;
     Some(Batch::range(vmid, asid, page, next_u64(&mut numbers)?))
+}
+
+/// The same, made in a buffer in which another batch was made before.
+fn buffered(asked: &str) -> Option<Result<Batch, BatchFault>> {
+    let mut numbers = asked.split_whitespace();
+    let (vmid, asid) = space();
+    let page = Page::new(next_u64(&mut numbers)?)?;
+    let pages = next_u64(&mut numbers)?;
+    let mut buffer = BatchBuffer::new();
+    buffer.detach(Sid::new(5)?);
+    match buffer.range(vmid, asid, page, pages) {
+        Ok(batch) => Some(Ok(Batch::from(batch))),
+        Err(fault) => Some(Err(fault)),
+    }
 }
 
 fn invalidate(batch: &mut Batch, asked: &str) -> Option<Result<(), BatchFault>> {
@@ -60,6 +74,7 @@ fn maker(name: &str, asked: &str) -> Option<Result<Batch, BatchFault>> {
         "new" => Some(Batch::new(raw(asked)?)),
         "list" => list(asked),
         "range" => range(asked),
+        "buffered" => buffered(asked),
         "detach" => Some(Batch::detach(Sid::new(number(asked)?)?)),
         _ => None,
     }
@@ -124,6 +139,19 @@ fn pages_become_ranges(rt: HostRuntime) {
          get 0 = 0x2000100000012 0x10001\n\
          get 1 = 0x2000100500012 0x11401\n\
          get 2 = none",
+    );
+}
+
+#[test]
+fn a_buffer_has_one_batch_at_a_time(rt: HostRuntime) {
+    expect_answers(
+        &rt,
+        "buffered 0x10 33 = 2\n\
+         get 0 = 0x2000100000012 0x10001\n\
+         get 1 = 0x2000100500012 0x11401\n\
+         get 2 = none\n\
+         buffered 0 0 = B3\n\
+         len = 2",
     );
 }
 
