@@ -8,26 +8,10 @@ ghost use Rattle.replay.specs.effects.SendLines.{body_of, body_effect, send_effe
 use crate::request::{Content, Sending};
 use crate::sender_fault::settled_fault;
 use crate::telling::{say_batch_refused, say_opened, say_reserving_refused, say_sent};
-use batch::{Batch, BatchFault, BorrowedBatch};
+use batch::{Batch, BatchBuffer, BatchFault, BorrowedBatch};
 use script::say_fault;
 use simulator::Simulator;
 use std::alloc::AllocError;
-
-/// Returns the commands of a batch, or why they are refused.
-fn batch_of(content: &Content) -> Result<Batch, BatchFault>
-    ensures { result ≡ body_of content.now }
-{
-    match content {
-        Content::Commands(body) => Batch::from_raws(body.as_slice()),
-        Content::Range {
-            vmid,
-            asid,
-            page,
-            pages,
-        } => Batch::range(*vmid, *asid, *page, *pages),
-        Content::Detach { sid } => Batch::detach(*sid),
-    }
-}
 
 /// Sends a batch and publishes it at once.
 fn send_now(
@@ -65,9 +49,28 @@ fn open(
     }
 }
 
+/// Makes the batch that the line describes in this buffer, or refuses it.
+fn made_in<'b>(
+    buffer: &'b mut BatchBuffer,
+    content: &'b Content,
+) -> Result<BorrowedBatch<'b>, BatchFault>
+    ensures { result ≡ body_of content.now }
+{
+    match content {
+        Content::Commands(body) => BorrowedBatch::new(body.as_slice()),
+        Content::Range {
+            vmid,
+            asid,
+            page,
+            pages,
+        } => buffer.range(*vmid, *asid, *page, *pages),
+        Content::Detach { sid } => Ok(buffer.detach(*sid)),
+    }
+}
+
 /// Makes the batch that the line describes, and sends it or only reserves it.
 ///
-/// Stays a call: a batch is a kilobyte on the stack, which a line without one need not clear.
+/// Stays a call: the buffer is a kilobyte on the stack, which a line that needs none need not clear.
 #[inline(never)]
 fn send_made(
     simulator: &mut Simulator,
@@ -78,16 +81,11 @@ fn send_made(
     requires settled { HasOpen simulator.old sending.now.sender false }
     ensures { OnOk result (Acts Stands (λ wanting. body_effect sending.now (body_of sending.now.content)) simulator.old simulator.new (string_bytes reply.old) (string_bytes reply.new) true) }
 {
-    let made = batch_of(&sending.content);
-    if !sending.publishes {
-        return match made {
-            Ok(batch) => open(simulator, sending, batch, reply),
-            Err(fault) => say_batch_refused(fault, reply),
-        };
-    }
-    match &made {
-        Ok(batch) => send_now(simulator, sending, batch.as_borrowed(), reply),
-        Err(fault) => say_batch_refused(*fault, reply),
+    let mut buffer = BatchBuffer::new();
+    match made_in(&mut buffer, &sending.content) {
+        Ok(batch) if sending.publishes => send_now(simulator, sending, batch, reply),
+        Ok(batch) => open(simulator, sending, Batch::from(batch), reply),
+        Err(fault) => say_batch_refused(fault, reply),
     }
 }
 
@@ -102,7 +100,7 @@ fn send_content(
     ensures { OnOk result (Acts Stands (λ wanting. body_effect sending.now (body_of sending.now.content)) simulator.old simulator.new (string_bytes reply.old) (string_bytes reply.new) true) }
 {
     match &sending.content {
-        // Makes no batch: each command is copied only into its slot.
+        // Needs no buffer: each command is copied only into its slot.
         Content::Commands(body) if sending.publishes => {
             match BorrowedBatch::new(body.as_slice()) {
                 Ok(batch) => send_now(simulator, sending, batch, reply),

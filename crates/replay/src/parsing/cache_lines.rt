@@ -15,7 +15,9 @@ pub(super) fn parse_fill(text: &[u8]) -> Option<Request>
     let Some((tag, rest)) = next_tag(text) else {
         return None;
     };
-    let (value, rest) = next_u64(rest)?;
+    let Some((value, rest)) = next_u64(rest) else {
+        return None;
+    };
     if !is_end(rest) {
         return None;
     }

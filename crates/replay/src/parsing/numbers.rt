@@ -6,14 +6,18 @@ ghost use Rattle.replay.specs.requests.Numbers.{scope_of, substream_of};
 
 use caches::Scope;
 use cmdcodec::{Asid, Page, Sid, Ssid, Vmid};
-use script::{next_word, number};
+use script::{next_u64, next_word};
 
 #[tactic(auto, unfolding(script::specs::Fields::next_below))]
 pub(super) fn next_sid(text: &[u8]) -> Option<(Sid, &[u8])>
     ensures { option_map (λ found. (found.0, words_of found.1.now)) result ≡ next_below (2 ^ 32) (words_of text.now) }
 {
-    let (word, rest) = next_word(text)?;
-    let sid = Sid::new(number(word)?)?;
+    let Some((value, rest)) = next_u64(text) else {
+        return None;
+    };
+    let Some(sid) = Sid::new(value) else {
+        return None;
+    };
     Some((sid, rest))
 }
 
@@ -21,8 +25,12 @@ pub(super) fn next_sid(text: &[u8]) -> Option<(Sid, &[u8])>
 pub(super) fn next_ssid(text: &[u8]) -> Option<(Ssid, &[u8])>
     ensures { option_map (λ found. (found.0, words_of found.1.now)) result ≡ next_below (2 ^ 20) (words_of text.now) }
 {
-    let (word, rest) = next_word(text)?;
-    let ssid = Ssid::new(number(word)?)?;
+    let Some((value, rest)) = next_u64(text) else {
+        return None;
+    };
+    let Some(ssid) = Ssid::new(value) else {
+        return None;
+    };
     Some((ssid, rest))
 }
 
@@ -30,8 +38,12 @@ pub(super) fn next_ssid(text: &[u8]) -> Option<(Ssid, &[u8])>
 pub(super) fn next_vmid(text: &[u8]) -> Option<(Vmid, &[u8])>
     ensures { option_map (λ found. (found.0, words_of found.1.now)) result ≡ next_below (2 ^ 16) (words_of text.now) }
 {
-    let (word, rest) = next_word(text)?;
-    let vmid = Vmid::new(number(word)?)?;
+    let Some((value, rest)) = next_u64(text) else {
+        return None;
+    };
+    let Some(vmid) = Vmid::new(value) else {
+        return None;
+    };
     Some((vmid, rest))
 }
 
@@ -39,8 +51,12 @@ pub(super) fn next_vmid(text: &[u8]) -> Option<(Vmid, &[u8])>
 pub(super) fn next_asid(text: &[u8]) -> Option<(Asid, &[u8])>
     ensures { option_map (λ found. (found.0, words_of found.1.now)) result ≡ next_below (2 ^ 16) (words_of text.now) }
 {
-    let (word, rest) = next_word(text)?;
-    let asid = Asid::new(number(word)?)?;
+    let Some((value, rest)) = next_u64(text) else {
+        return None;
+    };
+    let Some(asid) = Asid::new(value) else {
+        return None;
+    };
     Some((asid, rest))
 }
 
@@ -48,8 +64,12 @@ pub(super) fn next_asid(text: &[u8]) -> Option<(Asid, &[u8])>
 pub(super) fn next_page(text: &[u8]) -> Option<(Page, &[u8])>
     ensures { option_map (λ found. (found.0, words_of found.1.now)) result ≡ next_below (2 ^ 52) (words_of text.now) }
 {
-    let (word, rest) = next_word(text)?;
-    let page = Page::new(number(word)?)?;
+    let Some((value, rest)) = next_u64(text) else {
+        return None;
+    };
+    let Some(page) = Page::new(value) else {
+        return None;
+    };
     Some((page, rest))
 }
 
@@ -58,7 +78,9 @@ pub(super) fn next_page(text: &[u8]) -> Option<(Page, &[u8])>
 pub(super) fn next_scope(text: &[u8]) -> Option<(Scope, &[u8])>
     ensures { option_map (λ found. (found.0, words_of found.1.now)) result ≡ scope_of (words_of text.now) }
 {
-    let (word, rest) = next_word(text)?;
+    let Some((word, rest)) = next_word(text) else {
+        return None;
+    };
     if word == b"g".as_slice() {
         return Some((Scope::Global, rest));
     }
@@ -73,7 +95,9 @@ pub(super) fn next_scope(text: &[u8]) -> Option<(Scope, &[u8])>
 pub(super) fn next_substream(text: &[u8]) -> Option<(Option<Ssid>, &[u8])>
     ensures { option_map (λ found. (found.0, words_of found.1.now)) result ≡ substream_of (words_of text.now) }
 {
-    let (word, rest) = next_word(text)?;
+    let Some((word, rest)) = next_word(text) else {
+        return None;
+    };
     if word == b"-".as_slice() {
         return Some((None, rest));
     }

@@ -11,10 +11,18 @@ use simulator::Shape;
 pub(super) fn parse_ring(text: &[u8]) -> Option<Request>
     ensures { result ≡ ring_of (words_of text.now) }
 {
-    let (log2, rest) = next_u32(text)?;
-    let (senders, rest) = next_u32(rest)?;
-    let (max_batches, rest) = next_u32(rest)?;
-    let (capacity, rest) = next_u32(rest)?;
+    let Some((log2, rest)) = next_u32(text) else {
+        return None;
+    };
+    let Some((senders, rest)) = next_u32(rest) else {
+        return None;
+    };
+    let Some((max_batches, rest)) = next_u32(rest) else {
+        return None;
+    };
+    let Some((capacity, rest)) = next_u32(rest) else {
+        return None;
+    };
     if !is_end(rest) {
         return None;
     }

@@ -64,7 +64,9 @@ fn whole_batch(sender: u32, content: Content) -> Request
 pub(super) fn parse_inval(text: &[u8]) -> Option<Request>
     ensures { result ≡ inval_of (words_of text.now) }
 {
-    let (sender, rest) = next_u32(text)?;
+    let Some((sender, rest)) = next_u32(text) else {
+        return None;
+    };
     let Some((vmid, rest)) = next_vmid(rest) else {
         return None;
     };
@@ -74,7 +76,9 @@ pub(super) fn parse_inval(text: &[u8]) -> Option<Request>
     let Some((page, rest)) = next_page(rest) else {
         return None;
     };
-    let (pages, rest) = next_u64(rest)?;
+    let Some((pages, rest)) = next_u64(rest) else {
+        return None;
+    };
     if !is_end(rest) {
         return None;
     }
@@ -91,7 +95,9 @@ pub(super) fn parse_inval(text: &[u8]) -> Option<Request>
 pub(super) fn parse_detach(text: &[u8]) -> Option<Request>
     ensures { result ≡ detach_of (words_of text.now) }
 {
-    let (sender, rest) = next_u32(text)?;
+    let Some((sender, rest)) = next_u32(text) else {
+        return None;
+    };
     let Some((sid, rest)) = next_sid(rest) else {
         return None;
     };

@@ -43,7 +43,9 @@ fn next_s1(text: &[u8]) -> Option<(Tag, &[u8])>
     let Some((page, rest)) = next_page(rest) else {
         return None;
     };
-    let (span, rest) = next_u8(rest)?;
+    let Some((span, rest)) = next_u8(rest) else {
+        return None;
+    };
     let tag = Tag::S1 {
         vmid,
         scope,
@@ -63,7 +65,9 @@ fn next_s2(text: &[u8]) -> Option<(Tag, &[u8])>
     let Some((page, rest)) = next_page(rest) else {
         return None;
     };
-    let (span, rest) = next_u8(rest)?;
+    let Some((span, rest)) = next_u8(rest) else {
+        return None;
+    };
     Some((Tag::S2 { vmid, page, span }, rest))
 }
 
@@ -77,7 +81,9 @@ fn next_el2(text: &[u8]) -> Option<(Tag, &[u8])>
     let Some((page, rest)) = next_page(rest) else {
         return None;
     };
-    let (span, rest) = next_u8(rest)?;
+    let Some((span, rest)) = next_u8(rest) else {
+        return None;
+    };
     Some((Tag::El2 { scope, page, span }, rest))
 }
 
@@ -94,7 +100,9 @@ fn next_atc(text: &[u8]) -> Option<(Tag, &[u8])>
     let Some((page, rest)) = next_page(rest) else {
         return None;
     };
-    let (span, rest) = next_u8(rest)?;
+    let Some((span, rest)) = next_u8(rest) else {
+        return None;
+    };
     let tag = Tag::Atc {
         sid,
         ssid,
@@ -109,7 +117,9 @@ fn next_atc(text: &[u8]) -> Option<(Tag, &[u8])>
 pub(super) fn next_tag(text: &[u8]) -> Option<(Tag, &[u8])>
     ensures { option_map (λ found. (found.0, words_of found.1.now)) result ≡ tag_of (words_of text.now) }
 {
-    let (kind, rest) = next_word(text)?;
+    let Some((kind, rest)) = next_word(text) else {
+        return None;
+    };
     if kind == b"ste".as_slice() {
         next_ste(rest)
     } else if kind == b"cd".as_slice() {

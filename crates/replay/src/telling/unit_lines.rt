@@ -1,10 +1,12 @@
 //! The answers to the lines of the unit.
 ghost use Rattle.std.specs.Prelude.{◌≡◌, ◌++◌, OnOk, flat_map, string_bytes, codes, decimal};
+ghost use Rattle.engine.specs.declared.answer.StepAnswer.TheVariants.{Applied};
 ghost use Rattle.replay.specs.texts.Entries.{entry_line};
 ghost use Rattle.replay.specs.texts.UnitLines.{step_text, acknowledged_text, register_line, errors_line, registers_text, totals_line, dump_text};
 
 use super::entries::say_entry;
 use caches::Entry;
+use cmdcodec::Command;
 use engine::{Counts, Registers, StepAnswer};
 use std::alloc::AllocError;
 use std::fmt::Write;
@@ -16,6 +18,18 @@ fn none_removed_text() -> &'static str
     " removed=0\n"
 }
 
+/// Appends that a command was applied.
+fn say_applied(command: &Command, removed: u32, reply: &mut String) -> Result<(), AllocError>
+    ensures { OnOk result (string_bytes reply.new ≡ string_bytes reply.old ++ step_text (Applied command.now removed)) }
+{
+    if removed == 0 {
+        write!(reply, "applied {command}")?;
+        reply.push_str(none_removed_text())
+    } else {
+        write!(reply, "applied {command} removed={removed}\n")
+    }
+}
+
 /// Appends what a step did.
 pub(crate) fn say_step(answer: &StepAnswer, reply: &mut String) -> Result<(), AllocError>
     ensures { OnOk result (string_bytes reply.new ≡ string_bytes reply.old ++ step_text answer.now) }
@@ -24,16 +38,7 @@ pub(crate) fn say_step(answer: &StepAnswer, reply: &mut String) -> Result<(), Al
         StepAnswer::Empty => reply.push_str("empty\n"),
         StepAnswer::Drained => reply.push_str("drained\n"),
         StepAnswer::Unwritten => reply.push_str("unwritten\n"),
-        StepAnswer::Applied {
-            command,
-            removed: 0,
-        } => {
-            write!(reply, "applied {command}")?;
-            reply.push_str(none_removed_text())
-        }
-        StepAnswer::Applied { command, removed } => {
-            write!(reply, "applied {command} removed={removed}\n")
-        }
+        StepAnswer::Applied { command, removed } => say_applied(command, *removed, reply),
         StepAnswer::Stopped(ill) => {
             let label = ill.label();
             write!(reply, "stopped {label}\n")
