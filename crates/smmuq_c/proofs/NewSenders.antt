@@ -1,8 +1,9 @@
 -- A new ring's senders are its own.
-use Rattle.std.proofs.Common.{◌≡◌, ℕ, zero, suc, List, [], ◌∷◌, length, map, length-append, refl, sym, ap, subst, ◌∙◌, arith}
-use Rattle.std.proofs.lemmas.List.{length-map, length-reverse}
+use Rattle.std.proofs.Common.{◌≡◌, ◌++◌, reverse, Some, ℕ, zero, suc, List, [], ◌∷◌, length, map, length-append, refl, sym, ap, subst, ◌∙◌, arith}
+use mathlib.Core.List.{append_assoc}
+use Rattle.std.proofs.lemmas.List.{length-map, length-reverse, map-append, reverse-append}
 use Rattle.std.specs.Global.{Box}
-use Rattle.std.proofs.lemmas.List.Elements.{All-push}
+use Rattle.std.proofs.lemmas.List.Elements.{All-push, All-pop}
 use Rattle.std.specs.List.{All}
 use Rattle.ring.specs.Rings.{RingValue}
 use Rattle.ring.specs.sender.Senders.{SenderValue}
@@ -38,3 +39,20 @@ as_many_boxes boxes all same many =
     let back = length-reverse (map (λ (b : Box Object). b.value) boxes) in
     let those : length (boxed boxes) ≡ length (map SenderOf all) = ap (λ (l : List Object). length l) same in
     let senders = length-map all SenderOf in omega (arith, values, back, those, senders, many)
+
+-- ---- one more is seated
+
+-- The last sender's seat is put behind the others'.
+pub one_seated : (before : List Object) (all rest : List SenderValue) (sender : SenderValue) (seats : List (Box Object)) (seat : Box Object)
+    → before ≡ map SenderOf all ++ boxed seats → all ≡ rest ++ sender ∷ [] → seat.value ≡ SenderOf sender
+    → before ≡ map SenderOf rest ++ boxed (seats ++ seat ∷ [])
+one_seated before all rest sender seats seat was popped its =
+    let values : List (Box Object) → List Object = map (λ (b : Box Object). b.value) in
+    let split : map SenderOf all ≡ map SenderOf rest ++ SenderOf sender ∷ [] = ap (map SenderOf) popped ∙ map-append SenderOf rest (sender ∷ []) in
+    let turned : boxed (seats ++ seat ∷ []) ≡ seat.value ∷ boxed seats =
+    ap (λ (l : List Object). reverse l) (map-append (λ (b : Box Object). b.value) seats (seat ∷ [])) ∙ reverse-append (values seats) (seat.value ∷ []) in
+    was ∙ ap (λ (l : List Object). l ++ boxed seats) split ∙ append_assoc (map SenderOf rest) (SenderOf sender ∷ []) (boxed seats)
+    ∙ ap (λ (l : List Object). map SenderOf rest ++ l) (ap (λ (o : Object). o ∷ boxed seats) (sym its) ∙ sym turned)
+
+pub own_rest : (ring : RingValue) (all rest : List SenderValue) (sender : SenderValue) → All (λ s. s.ring ≡ ring) all → all ≡ rest ++ sender ∷ [] → All (λ s. s.ring ≡ ring) rest
+own_rest ring all rest sender own popped = (All-pop (λ (s : SenderValue). s.ring ≡ ring) all rest (Some sender) popped own).0

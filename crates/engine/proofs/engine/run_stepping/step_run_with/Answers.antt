@@ -5,10 +5,12 @@ use Rattle.cmdcodec.specs.declared.raw.Raw.{Raw}
 use Rattle.ringcore.specs.declared.world.event.Outcome.TheVariants.{Applied, Replaced}
 use Rattle.ringcore.specs.world.World.{Taken}
 use Rattle.ring.specs.consumer.Completing.{taken_of, with_outcome}
+use Rattle.engine.specs.Counting.{taken}
 use Rattle.engine.specs.Units.{UnitValue, IsSettledUnit, IsStoppedAt, IsReplaced, StaysSettled}
 use Rattle.engine.proofs.Counted.{StaysCounted, run_counted, replaced_counted, run_removes, stopped_removes, replaced_removes}
 use Rattle.engine.proofs.Stepping.{still_none, still_unwritten, taken_before, taken_settled, taken_unit, taken_together, stopped_together, replaced_more}
 use Rattle.engine.proofs.Running.{all_legal, all_settled, all_counted, none_kept, none_applied, has_first, first_is, first_and_rest, take_first, first_replaced}
+use Rattle.engine.proofs.Unstopped.{not_still, not_exhausted}
 use Rattle.engine.proofs.engine.run_stepping.step_run_with.Goals as goal
 use Rattle.engine.proofs.engine.run_stepping.step_run_with.Goals.{In-Replaced, In-Stopped}
 
@@ -139,3 +141,41 @@ returns-in-Drained-clause-together c = still_none _ _ c.requires.together true _
 
 pub returns-in-Unwritten-clause-together : goal.returns-in-Unwritten-clause-together
 returns-in-Unwritten-clause-together c = still_unwritten _ _ c.requires.together _ _ c.in-Unwritten.ensures.taken
+
+-- ---- it was neither stopped nor exhausted
+
+pub returns-in-Empty-clause-still : goal.returns-in-Empty-clause-still
+returns-in-Empty-clause-still c = not_still c.stopped.result (λ is. cc) c.stopped.ensures c.if-stopped.false
+
+pub returns-in-Empty-clause-exhausted : goal.returns-in-Empty-clause-exhausted
+returns-in-Empty-clause-exhausted c = not_exhausted (λ is. cc) (λ most. c.if-taken-eq-MOST_RESERVED.false (c.taken.ensures.value ∙ ap taken c.counts.ensures ∙ most))
+
+pub returns-in-Drained-clause-still : goal.returns-in-Drained-clause-still
+returns-in-Drained-clause-still c = not_still c.stopped.result (λ is. cc) c.stopped.ensures c.if-stopped.false
+
+pub returns-in-Drained-clause-exhausted : goal.returns-in-Drained-clause-exhausted
+returns-in-Drained-clause-exhausted c = not_exhausted (λ is. cc) (λ most. c.if-taken-eq-MOST_RESERVED.false (c.taken.ensures.value ∙ ap taken c.counts.ensures ∙ most))
+
+pub returns-in-Unwritten-clause-still : goal.returns-in-Unwritten-clause-still
+returns-in-Unwritten-clause-still c = not_still c.stopped.result (λ is. cc) c.stopped.ensures c.if-stopped.false
+
+pub returns-in-Unwritten-clause-exhausted : goal.returns-in-Unwritten-clause-exhausted
+returns-in-Unwritten-clause-exhausted c = not_exhausted (λ is. cc) (λ most. c.if-taken-eq-MOST_RESERVED.false (c.taken.ensures.value ∙ ap taken c.counts.ensures ∙ most))
+
+pub returns-then-count-gt0-clause-still : goal.returns-then-count-gt0-clause-still
+returns-then-count-gt0-clause-still c = not_still c.stopped.result (λ is. cc) c.stopped.ensures c.if-stopped.false
+
+pub returns-then-count-gt0-clause-exhausted : goal.returns-then-count-gt0-clause-exhausted
+returns-then-count-gt0-clause-exhausted c = not_exhausted (λ is. cc) (λ most. c.if-taken-eq-MOST_RESERVED.false (c.taken.ensures.value ∙ ap taken c.counts.ensures ∙ most))
+
+pub returns-in-Replaced-clause-still : goal.returns-in-Replaced-clause-still
+returns-in-Replaced-clause-still c = not_still c.stopped.result (λ is. cc) c.stopped.ensures c.if-stopped.false
+
+pub returns-in-Replaced-clause-exhausted : goal.returns-in-Replaced-clause-exhausted
+returns-in-Replaced-clause-exhausted c = not_exhausted (λ is. cc) (λ most. c.if-taken-eq-MOST_RESERVED.false (c.taken.ensures.value ∙ ap taken c.counts.ensures ∙ most))
+
+pub returns-in-Stopped-clause-still : goal.returns-in-Stopped-clause-still
+returns-in-Stopped-clause-still c = not_still c.stopped.result (λ is. cc) c.stopped.ensures c.if-stopped.false
+
+pub returns-in-Stopped-clause-exhausted : goal.returns-in-Stopped-clause-exhausted
+returns-in-Stopped-clause-exhausted c = not_exhausted (λ is. cc) (λ most. c.if-taken-eq-MOST_RESERVED.false (c.taken.ensures.value ∙ ap taken c.counts.ensures ∙ most))

@@ -1,8 +1,10 @@
 use Rattle.std.proofs.Common.{true, false, ap, ◌∙◌}
 use Rattle.engine.specs.Stops.{StopValue}
+use Rattle.engine.specs.Counting.{taken}
 use Rattle.engine.specs.Units.{UnitValue}
 use Rattle.engine.proofs.Counted.{applied_counted, replaced_counted, same_words, applied_removes, stopped_removes, replaced_removes}
 use Rattle.engine.proofs.Stepping.{still_none, still_unwritten, one_settled, one_unit, taken_together, stopped_together, applied_more, replaced_more}
+use Rattle.engine.proofs.Unstopped.{not_still, not_exhausted}
 use Rattle.engine.proofs.engine.stepping.step_with.Goals as goal
 
 pub judge-requires-clause-next : goal.judge-requires-clause-next
@@ -57,3 +59,41 @@ returns-in-Replaced-clause-removes c = replaced_removes _ _ _ _ c.in-Replaced.en
 
 pub returns-in-Stopped-clause-removes : goal.returns-in-Stopped-clause-removes
 returns-in-Stopped-clause-removes c = stopped_removes _ _ _ _ c.in-Stopped.ensures.judged
+
+-- ---- it was neither stopped nor exhausted
+
+pub returns-in-Empty-clause-still : goal.returns-in-Empty-clause-still
+returns-in-Empty-clause-still c = not_still c.stopped.result (λ is. cc) c.stopped.ensures c.if-stopped.false
+
+pub returns-in-Empty-clause-exhausted : goal.returns-in-Empty-clause-exhausted
+returns-in-Empty-clause-exhausted c = not_exhausted (λ is. cc) (λ most. c.if-taken-eq-MOST_RESERVED.false (c.taken.ensures.value ∙ ap taken c.counts.ensures ∙ most))
+
+pub returns-in-Drained-clause-still : goal.returns-in-Drained-clause-still
+returns-in-Drained-clause-still c = not_still c.stopped.result (λ is. cc) c.stopped.ensures c.if-stopped.false
+
+pub returns-in-Drained-clause-exhausted : goal.returns-in-Drained-clause-exhausted
+returns-in-Drained-clause-exhausted c = not_exhausted (λ is. cc) (λ most. c.if-taken-eq-MOST_RESERVED.false (c.taken.ensures.value ∙ ap taken c.counts.ensures ∙ most))
+
+pub returns-in-Unwritten-clause-still : goal.returns-in-Unwritten-clause-still
+returns-in-Unwritten-clause-still c = not_still c.stopped.result (λ is. cc) c.stopped.ensures c.if-stopped.false
+
+pub returns-in-Unwritten-clause-exhausted : goal.returns-in-Unwritten-clause-exhausted
+returns-in-Unwritten-clause-exhausted c = not_exhausted (λ is. cc) (λ most. c.if-taken-eq-MOST_RESERVED.false (c.taken.ensures.value ∙ ap taken c.counts.ensures ∙ most))
+
+pub returns-in-Applied-clause-still : goal.returns-in-Applied-clause-still
+returns-in-Applied-clause-still c = not_still c.stopped.result (λ is. cc) c.stopped.ensures c.if-stopped.false
+
+pub returns-in-Applied-clause-exhausted : goal.returns-in-Applied-clause-exhausted
+returns-in-Applied-clause-exhausted c = not_exhausted (λ is. cc) (λ most. c.if-taken-eq-MOST_RESERVED.false (c.taken.ensures.value ∙ ap taken c.counts.ensures ∙ most))
+
+pub returns-in-Replaced-clause-still : goal.returns-in-Replaced-clause-still
+returns-in-Replaced-clause-still c = not_still c.stopped.result (λ is. cc) c.stopped.ensures c.if-stopped.false
+
+pub returns-in-Replaced-clause-exhausted : goal.returns-in-Replaced-clause-exhausted
+returns-in-Replaced-clause-exhausted c = not_exhausted (λ is. cc) (λ most. c.if-taken-eq-MOST_RESERVED.false (c.taken.ensures.value ∙ ap taken c.counts.ensures ∙ most))
+
+pub returns-in-Stopped-clause-still : goal.returns-in-Stopped-clause-still
+returns-in-Stopped-clause-still c = not_still c.stopped.result (λ is. cc) c.stopped.ensures c.if-stopped.false
+
+pub returns-in-Stopped-clause-exhausted : goal.returns-in-Stopped-clause-exhausted
+returns-in-Stopped-clause-exhausted c = not_exhausted (λ is. cc) (λ most. c.if-taken-eq-MOST_RESERVED.false (c.taken.ensures.value ∙ ap taken c.counts.ensures ∙ most))
