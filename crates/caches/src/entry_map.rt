@@ -169,6 +169,7 @@ impl EntryMap {
     fn remove_from_filled(&mut self, command: &Command)
         ensures { self.new ≡ without_covered command.now self.old }
     {
+        // Read ahead of the match, so that what holds of the whole is known in each of its branches.
         let substreams = self.substreams;
         match OnePage::of(command) {
             Some(one) => self.remove_on(one),
@@ -179,7 +180,8 @@ impl EntryMap {
         }
     }
 
-    /// The same by a walk along the map. What is listed stays in it if the walk finds nothing.
+    /// The same by a walk along the map. What is listed stays in it: only if the walk takes out others is the list
+    /// made anew.
     fn sweep(&mut self, command: &Command)
         ensures { self.new ≡ without_covered command.now self.old }
     {
