@@ -12,7 +12,6 @@ pub mod OnePages
 pub mod Pruned
 pub mod RangeLaw
 pub mod RankOrder
-pub mod Reach
 pub mod Rest
 pub mod Sharing
 pub mod Standing
