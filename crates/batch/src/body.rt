@@ -9,6 +9,7 @@ ghost use Rattle.batch.specs.Detaching.{detach_commands};
 ghost use Rattle.batch.specs.Refusals.{unless, new_refusal, list_refusal, push_refusal, room_refusal, range_refusal};
 
 use crate::borrowed::BorrowedBatch;
+use crate::copying::copy_of;
 use crate::detach::{DETACH_COMMANDS, append_detach};
 use crate::fault::BatchFault;
 use crate::range::append_range;
@@ -46,11 +47,15 @@ impl Batch {
         Ok(Batch { commands })
     }
 
-    /// Creates a batch of these commands. Errors: the first of B5, B1 and B2 that applies.
+    /// Creates a batch of these commands. Errors: the first of B5, B1 and B2 that applies. It judges its own copy: each
+    /// word is read once (own).
     pub fn from_raws(raws: &[Raw]) -> Result<Batch, BatchFault>
         ensures { result ≡ unless (list_refusal raws.now) raws.now }
     {
-        Ok(Batch::from(BorrowedBatch::new(raws)?))
+        let mut commands = Commands::new();
+        copy_of(raws, &mut commands)?;
+        BorrowedBatch::new(commands.as_slice())?;
+        Ok(Batch { commands })
     }
 
     /// Creates a batch that invalidates the stage 1 translations of an address space for `pages` pages of

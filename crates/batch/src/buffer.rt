@@ -3,14 +3,15 @@ ghost use Rattle.std.specs.Prelude.{◌≡◌, [], map};
 ghost use Rattle.cmdcodec.specs.Words.{encoding};
 ghost use Rattle.batch.specs.Ranges.{range_commands};
 ghost use Rattle.batch.specs.Detaching.{detach_commands};
-ghost use Rattle.batch.specs.Refusals.{unless, range_refusal};
+ghost use Rattle.batch.specs.Refusals.{unless, list_refusal, range_refusal};
 
 use crate::body::Commands;
 use crate::borrowed::BorrowedBatch;
+use crate::copying::copy_of;
 use crate::detach::append_detach;
 use crate::fault::BatchFault;
 use crate::range::append_range;
-use cmdcodec::{Asid, Page, Sid, Vmid};
+use cmdcodec::{Asid, Page, Raw, Sid, Vmid};
 
 /// A place in which batches are made, one after another, and from which each is lent (own). A `Batch` is a
 /// kilobyte, which moves with it; what is lent stays where it was made.
@@ -25,6 +26,15 @@ impl BatchBuffer {
         BatchBuffer {
             commands: Commands::new(),
         }
+    }
+
+    /// Makes the batch that `Batch::from_raws` makes. Errors: the first of B5, B1 and B2 that applies. It judges its own
+    /// copy: each word is read once.
+    pub fn copied(&mut self, commands: &[Raw]) -> Result<BorrowedBatch<'_>, BatchFault>
+        ensures { result ≡ unless (list_refusal commands.now) commands.now }
+    {
+        copy_of(commands, &mut self.commands)?;
+        BorrowedBatch::new(self.commands.as_slice())
     }
 
     /// Makes the batch that `Batch::range` makes. Errors: the first of B3, B4 and B1 that applies.

@@ -5,6 +5,7 @@
 mod body;
 mod borrowed;
 mod buffer;
+mod copying;
 mod detach;
 mod fault;
 mod laws;

@@ -129,6 +129,12 @@ impl Ring {
         self.made_with.geometry
     }
 
+    pub(crate) fn senders(&self) -> u32
+        ensures { result ≡ self.now.made_with.senders }
+    {
+        self.made_with.senders
+    }
+
     pub(crate) fn max_batches(&self) -> u32
         ensures { result ≡ self.now.made_with.max_batches }
     {

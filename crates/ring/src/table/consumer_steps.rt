@@ -4,6 +4,8 @@ ghost use Rattle.cmdcodec.specs.Opcodes.{is_sync};
 ghost use Rattle.qindex.specs.Positions.{size, index_of};
 ghost use Rattle.ring.specs.Runs.{Consumer, Test, Read, Advance, Acknowledge, taken_by, acknowledged_by, found_ready, MayAdvance, syncs_taken};
 ghost use Rattle.ringcore.specs.memory.Flags.{ready_in};
+ghost use Rattle.ringcore.specs.Limits.{most_senders};
+ghost use Rattle.ringcore.specs.memory.Layout.{cell};
 ghost use Rattle.ring.specs.table.Intents.{tests, reads, advances, acknowledges};
 ghost use Rattle.ring.specs.table.Rule.{IsWithinLimits};
 ghost use Rattle.ring.specs.table.Histories.{GrewBy, Grew};
@@ -115,11 +117,7 @@ impl Port {
         laws::consumer_trail();
         counts_law();
         let words = &ring.table.shared;
-        words.store::<StepFor<I>>(
-            &mut self.seat,
-            cell(ring.geometry(), sender),
-            u64::from(number),
-        );
+        words.store::<StepFor<I>>(&mut self.seat, cell_of(ring, sender), u64::from(number));
     }
 
     /// Acknowledges each CMD_SYNC among the first `count` of these commands, past which it has just advanced.
@@ -144,12 +142,27 @@ impl Port {
     }
 }
 
+/// Returns the word that is a sender's completion cell.
+///
+/// A CMD_SYNC in the ring names one of its senders. If something else ever wrote to the ring's memory, this is still a
+/// cell of the ring: the wrong one, but none outside.
+fn cell_of(ring: &Ring, sender: u32) -> usize
+    requires known { sender < ring.now.made_with.senders }
+    requires few { sender ≤ most_senders }
+    ensures { result ≡ cell ring.now.made_with.geometry sender }
+{
+    cell(ring.geometry(), sender.min(ring.senders() - 1))
+}
+
 /// Returns the sender of a closing CMD_SYNC, by the completion cell that it writes to.
 fn closing_sender(raw: Raw) -> u32
     requires { IsClosingSync raw }
     ensures { result ≡ sync_sender raw }
 {
-    cell_owner(raw.hi).unwrap() as u32
+    match cell_owner(raw.hi) {
+        Some(owner) => owner as u32,
+        None => 0,
+    }
 }
 
 /// Returns the number of a closing CMD_SYNC: its MSIDATA.

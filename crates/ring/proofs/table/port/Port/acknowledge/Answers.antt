@@ -7,7 +7,7 @@ use Rattle.ring.specs.Rings.{RingValue}
 
 pub store-requires : goal.store-requires
 store-requires g c =
-    let at = c.cell.ensures ∙ ap (λ geometry. cell geometry c.args.sender) (c.geometry.ensures ∙ ap (λ (r : RingValue). r.made_with.geometry) (sym c.requires.ring)) in (
+    let at = c.cell_of.ensures ∙ ap (λ (r : RingValue). cell r.made_with.geometry c.args.sender) (sym c.requires.ring) in (
       search rules,
       cell_inside _ _ _ _ _ (words_are _ _ c.ring.invariant.words _ _ c.requires.ring _ (sym c.ring.view_is)) at (subst (λ (r : RingValue). c.args.sender < r.made_with.senders) (sym c.requires.ring) c.requires.known),
       may_store _ _ _ c.self.view_is c.self.invariant _ _ _ _ _ c.requires.intent _ c.requires.who _ _
