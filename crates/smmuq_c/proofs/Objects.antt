@@ -1,5 +1,5 @@
 -- What a call does to a unit, a sender, an engine or a consumer, it does to the object that it is.
-use Rattle.std.proofs.Common.{◌≡◌, ℕ, [], refl, sym, ap, subst, Option, Some}
+use Rattle.std.proofs.Common.{◌≡◌, ℕ, [], Bool, true, false, refl, sym, ap, subst, Option, Some, None, true≢false}
 use Rattle.ringcore.specs.world.Trails.{Trail}
 use Rattle.ring.specs.consumer.Completing.{taken_of}
 use Rattle.ring.specs.sender.Senders.{SenderValue}
@@ -10,10 +10,12 @@ use Rattle.engine.specs.Engines.{EngineValue}
 use Rattle.smmuq_c.specs.HeldUnits.{HeldValue}
 use Rattle.smmuq_c.specs.HeldConsumers.{HeldConsumer}
 use Rattle.smmuq_c.specs.declared.status.Status.{Status}
+use Rattle.smmuq_c.specs.declared.status.Status.TheVariants.{WrongHandle, BadField}
 use Rattle.smmuq_c.specs.declared.stop_remedy.StopRemedy.{StopRemedy}
 use Rattle.smmuq_c.specs.declared.object.Object.{Object}
-use Rattle.smmuq_c.specs.declared.object.Object.TheVariants.{Unit as UnitOf, Sender as SenderOf, Engine as EngineOf, Consumer as ConsumerOf}
+use Rattle.smmuq_c.specs.declared.object.Object.TheVariants.{Unit as UnitOf, Sender as SenderOf, Reservation as ReservationOf, Engine as EngineOf, Consumer as ConsumerOf}
 use Rattle.smmuq_c.specs.Registers.{HasAcknowledged, HasAcknowledgedHeld, IsRemedyOf, remedy_for}
+use Rattle.smmuq_c.specs.Kept.{has_unit}
 use Rattle.smmuq_c.specs.Calls.{OfUnit, OfSender, OfEngine, OfConsumer, OfAnyUnit, OfStop, BySaid, OfSaid}
 
 pub of_unit : (does : HeldValue → HeldValue → Status → Type 0) {object : Object} {old new : HeldValue} {status : Status}
@@ -50,31 +52,51 @@ any_engine does {object} {old} {new} {status} is same settled done =
 pub said_unit : {X : Type 0} (said : Option X → Type 0) (does : X → UnitValue → UnitValue → Status → Type 0) {object : Object} {old new : HeldValue} {status : Status} (x : X)
     → said (Some x) → object ≡ UnitOf old → new ≡ record old { unit = new.unit } → StaysSettled old.unit new.unit []
     → does x old.unit new.unit status → OfSaid said does object (UnitOf new) status
-said_unit said does x says is same settled done = (Some x, says, any_unit (does x) is same settled done)
+said_unit said does {object} {old} {new} {status} x says is same settled done =
+    subst (λ (o : Object). OfSaid said does o (UnitOf new) status) (sym is) (Some x, says, any_unit (does x) refl same settled done)
 
 pub said_engine : {X : Type 0} (said : Option X → Type 0) (does : X → UnitValue → UnitValue → Status → Type 0) {object : Object} {old new : EngineValue} {status : Status} (x : X)
     → said (Some x) → object ≡ EngineOf old → new ≡ record old { unit = new.unit } → IsSettled new.unit.caches.entries (taken_of new.consumer.trail)
     → does x old.unit new.unit status → OfSaid said does object (EngineOf new) status
-said_engine said does x says is same settled done = (Some x, says, any_engine (does x) is same settled done)
+said_engine said does {object} {old} {new} {status} x says is same settled done =
+    subst (λ (o : Object). OfSaid said does o (EngineOf new) status) (sym is) (Some x, says, any_engine (does x) refl same settled done)
+
+-- if it has no unit
+pub said_to_another : {X : Type 0} (said : Option X → Type 0) (does : X → Object → Object → Status → Type 0) (object : Object)
+    → has_unit object ≡ false → BySaid said does object object WrongHandle
+said_to_another said does (UnitOf h) none = absurd (true≢false none)
+said_to_another said does (SenderOf s) none = (refl, refl)
+said_to_another said does (ReservationOf r) none = (refl, refl)
+said_to_another said does (EngineOf e) none = absurd (true≢false none)
+said_to_another said does (ConsumerOf c) none = (refl, refl)
+
+-- if the words say nothing
+pub unsaid : {X : Type 0} (said : Option X → Type 0) (does : X → Object → Object → Status → Type 0) (object : Object)
+    → has_unit object ≡ true → said None → BySaid said does object object BadField
+unsaid said does (UnitOf h) has none = (None, none, (refl, refl))
+unsaid said does (SenderOf s) has none = absurd (true≢false (sym has))
+unsaid said does (ReservationOf r) has none = absurd (true≢false (sym has))
+unsaid said does (EngineOf e) has none = (None, none, (refl, refl))
+unsaid said does (ConsumerOf c) has none = absurd (true≢false (sym has))
 
 -- ---- a stop that is acknowledged
 
 pub stop_of_unit : {number gerrorn : ℕ} {object : Object} {old new : HeldValue} {status : Status} (remedy : StopRemedy)
     → IsRemedyOf number (Some remedy) → object ≡ UnitOf old → StaysSettled old.unit new.unit [] → HasAcknowledgedHeld gerrorn remedy old new status
     → BySaid (IsRemedyOf number) (OfStop gerrorn) object (UnitOf new) status
-stop_of_unit {gerrorn = gerrorn} {new = new} {status = status} remedy says is settled done =
-    (Some remedy, says, subst (λ (o : Object). OfStop gerrorn remedy o (UnitOf new) status) (sym is) (new, refl, settled, done))
+stop_of_unit {number} {gerrorn} {object} {old} {new} {status} remedy says is settled done =
+    subst (λ (o : Object). BySaid (IsRemedyOf number) (OfStop gerrorn) o (UnitOf new) status) (sym is) (Some remedy, says, (new, refl, settled, done))
 
 pub stop_of_engine : {number gerrorn : ℕ} {object : Object} {old new : EngineValue} {status : Status} (remedy : StopRemedy) {told : Remedy}
     → IsRemedyOf number (Some remedy) → told ≡ remedy_for remedy → object ≡ EngineOf old → new ≡ record old { unit = new.unit }
     → IsSettled new.unit.caches.entries (taken_of new.consumer.trail) → HasAcknowledged gerrorn told old.unit new.unit status
     → BySaid (IsRemedyOf number) (OfStop gerrorn) object (EngineOf new) status
-stop_of_engine {gerrorn = gerrorn} {old = old} {new = new} {status = status} remedy says which is same settled done = (
-  Some remedy,
-  says,
-  subst (λ (o : Object). OfStop gerrorn remedy o (EngineOf new) status) (sym is)
-      (any_engine (HasAcknowledged gerrorn (remedy_for remedy)) refl same settled (subst (λ (r : Remedy). HasAcknowledged gerrorn r old.unit new.unit status) which done)),
-)
+stop_of_engine {number} {gerrorn} {object} {old} {new} {status} remedy says which is same settled done =
+    subst (λ (o : Object). BySaid (IsRemedyOf number) (OfStop gerrorn) o (EngineOf new) status) (sym is) (
+      Some remedy,
+      says,
+      any_engine (HasAcknowledged gerrorn (remedy_for remedy)) refl same settled (subst (λ (r : Remedy). HasAcknowledged gerrorn r old.unit new.unit status) which done),
+    )
 
 -- ---- if nothing is changed
 
@@ -91,9 +113,11 @@ read_engine does {object} {engine} {status} is settled done =
 
 pub said_read_unit : {X : Type 0} (said : Option X → Type 0) (does : X → UnitValue → UnitValue → Status → Type 0) {object : Object} {held : HeldValue} {status : Status} (x : X)
     → said (Some x) → object ≡ UnitOf held → StaysSettled held.unit held.unit [] → does x held.unit held.unit status → OfSaid said does object object status
-said_read_unit said does x says is settled done = (Some x, says, read_unit (does x) is settled done)
+said_read_unit said does {object} {held} {status} x says is settled done =
+    subst (λ (o : Object). OfSaid said does o o status) (sym is) (Some x, says, read_unit (does x) refl settled done)
 
 pub said_read_engine : {X : Type 0} (said : Option X → Type 0) (does : X → UnitValue → UnitValue → Status → Type 0) {object : Object} {engine : EngineValue} {status : Status} (x : X)
     → said (Some x) → object ≡ EngineOf engine → IsSettled engine.unit.caches.entries (taken_of engine.consumer.trail)
     → does x engine.unit engine.unit status → OfSaid said does object object status
-said_read_engine said does x says is settled done = (Some x, says, read_engine (does x) is settled done)
+said_read_engine said does {object} {engine} {status} x says is settled done =
+    subst (λ (o : Object). OfSaid said does o o status) (sym is) (Some x, says, read_engine (does x) refl settled done)

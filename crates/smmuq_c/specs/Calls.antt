@@ -58,9 +58,15 @@ OfStop gerrorn remedy (UnitOf old) new status =
 OfStop gerrorn remedy other new status = OfAnyUnit (HasAcknowledged gerrorn (remedy_for remedy)) other new status
 
 -- It did this with what its words say; if they say nothing, it did nothing.
-abbrev pub BySaid : {X : Type 0} → (Option X → Type 0) → (X → Object → Object → Status → Type 0) → Object → Object → Status → Type 0
-BySaid {X} said does old new status =
+abbrev pub DoesSaid : {X : Type 0} → (Option X → Type 0) → (X → Object → Object → Status → Type 0) → Object → Object → Status → Type 0
+DoesSaid {X} said does old new status =
     (found : Option X) × said found × MatchOption found ((new ≡ old) × (status ≡ BadField)) (λ x. does x old new status)
+
+-- The same of a unit or an engine. An object of another kind is refused, whatever the words say.
+abbrev pub BySaid : {X : Type 0} → (Option X → Type 0) → (X → Object → Object → Status → Type 0) → Object → Object → Status → Type 0
+BySaid said does (UnitOf h) new status = DoesSaid said does (UnitOf h) new status
+BySaid said does (EngineOf e) new status = DoesSaid said does (EngineOf e) new status
+BySaid said does other new status = (new ≡ other) × (status ≡ WrongHandle)
 
 abbrev pub OfSaid : {X : Type 0} → (Option X → Type 0) → (X → UnitValue → UnitValue → Status → Type 0) → Object → Object → Status → Type 0
 OfSaid said does old new status = BySaid said (λ x. OfAnyUnit (does x)) old new status

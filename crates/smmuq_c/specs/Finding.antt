@@ -17,12 +17,24 @@ use Rattle.smmuq_c.specs.declared.words.Held.{Held}
 use Rattle.smmuq_c.specs.Entries.{entry_status, entry_words}
 use Rattle.smmuq_c.specs.Lists.{tag_words}
 
+-- 2^32 - 1 stands for none
+abbrev pub no_substream : ℕ
+no_substream = 4294967295
+
+abbrev pub SaysSubstream : ℕ → Option ℕ → Type 0
+SaysSubstream space None = space ≡ no_substream
+SaysSubstream space (Some ssid) = (space ≡ ssid) × (ssid < 2 ^ 20)
+
+abbrev pub IsSubstreamOf : ℕ → Option (Option ℕ) → Type 0
+IsSubstreamOf space None = (ssid : Option ℕ) → ¬ SaysSubstream space ssid
+IsSubstreamOf space (Some ssid) = SaysSubstream space ssid
+
 -- The kind is that of the owner's entries, and the numbers are its own, in range.
 abbrev pub SaysOwner : ℕ → ℕ → ℕ → Owner → Type 0
 SaysOwner kind owner space (S1 vmid asid) = (kind ≡ 3) × (owner ≡ vmid) × (vmid < 2 ^ 16) × (space ≡ asid) × (asid < 2 ^ 16)
 SaysOwner kind owner space (S2 vmid) = (kind ≡ 4) × (owner ≡ vmid) × (vmid < 2 ^ 16)
 SaysOwner kind owner space (El2 asid) = (kind ≡ 5) × (space ≡ asid) × (asid < 2 ^ 16)
-SaysOwner kind owner space (Atc sid ssid) = (kind ≡ 6) × (owner ≡ sid) × (space ≡ ssid) × (ssid < 2 ^ 20)
+SaysOwner kind owner space (Atc sid ssid) = (kind ≡ 6) × (owner ≡ sid) × SaysSubstream space ssid
 
 abbrev pub IsOwnerOf : ℕ → ℕ → ℕ → Option Owner → Type 0
 IsOwnerOf kind owner space None = (o : Owner) → ¬ SaysOwner kind owner space o
@@ -39,14 +51,14 @@ abbrev pub own_tag : Owner → ℕ → ℕ → Tag
 own_tag (S1 vmid asid) page span = tag.S1 vmid (Of asid) (block_at page span) span
 own_tag (S2 vmid) page span = tag.S2 vmid (block_at page span) span
 own_tag (El2 asid) page span = tag.El2 (Of asid) (block_at page span) span
-own_tag (Atc sid ssid) page span = tag.Atc sid (Some ssid) (block_at page span) span
+own_tag (Atc sid ssid) page span = tag.Atc sid ssid (block_at page span) span
 
--- the global one, or that of no substream; for stage 2 there is only one
+-- the global one; for stage 2 and for an endpoint's space there is only one
 abbrev pub shared_tag : Owner → ℕ → ℕ → Tag
 shared_tag (S1 vmid asid) page span = tag.S1 vmid Global (block_at page span) span
 shared_tag (S2 vmid) page span = tag.S2 vmid (block_at page span) span
 shared_tag (El2 asid) page span = tag.El2 Global (block_at page span) span
-shared_tag (Atc sid ssid) page span = tag.Atc sid None (block_at page span) span
+shared_tag (Atc sid ssid) page span = tag.Atc sid ssid (block_at page span) span
 
 -- ---- what is found
 

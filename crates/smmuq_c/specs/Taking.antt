@@ -14,7 +14,7 @@ use Rattle.smmuq_c.specs.declared.status.Status.{Status}
 use Rattle.smmuq_c.specs.declared.status.Status.TheVariants as status
 use Rattle.smmuq_c.specs.declared.status.Status.TheVariants.{Done, Illegal, BadField, ShortBuffer, RingEmpty, RingDrained, RingUnwritten}
 use Rattle.smmuq_c.specs.Batches.{IsGiven}
-use Rattle.smmuq_c.specs.HeldConsumers.{HeldConsumer}
+use Rattle.smmuq_c.specs.HeldConsumers.{HeldConsumer, with_none}
 
 -- ---- taking a run
 
@@ -39,11 +39,11 @@ pub record HasLookedAhead (old_buffer new_buffer : List Raw) (told : ℕ) (old n
   pub again : (raw : Raw) (rest : List Raw) → old.raws ≡ raw ∷ rest → (more : List Raw) × (new.raws ≡ raw ∷ more)
   pub ring_is : new.consumer.ring ≡ old.consumer.ring
 
--- There is no room for a command, and nothing was done.
+-- There is no room for a command: none was looked for, and what was pending isn't any more.
 pub record HadNoRoom (buffer : List Raw) (told : ℕ) (old new : HeldConsumer) (status : Status) : Type 0 where
   pub none : length buffer ≡ 0
   pub told_is : told ≡ 0
-  pub new_is : new ≡ old
+  pub new_is : new ≡ with_none old.consumer
   pub status_is : status ≡ ShortBuffer
 
 abbrev pub HasTakenRun : List Raw → List Raw → ℕ → HeldConsumer → HeldConsumer → Status → Type 0

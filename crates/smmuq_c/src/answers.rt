@@ -5,6 +5,7 @@ ghost use Rattle.smmuq_c.specs.Entries.{fill_status, entry_status, entry_words};
 ghost use Rattle.smmuq_c.specs.Registers.{acknowledgement_status};
 ghost use Rattle.smmuq_c.specs.Runs.{run_status};
 ghost use Rattle.smmuq_c.specs.Renewing.{renewal_status};
+ghost use Rattle.smmuq_c.specs.Kept.{IsKept};
 
 use crate::held_unit::Refusal;
 use crate::status::Status;
@@ -77,6 +78,7 @@ pub(crate) fn fill_status(filled: Result<Option<Entry>, CacheFault>) -> Status
 pub(crate) fn tell_entry(entry: Option<Entry>, told: &mut Held) -> Status
     ensures status { result ≡ entry_status entry }
     ensures told { IfSome entry (λ entry. told.new ≡ entry_words entry) }
+    ensures kept { IsKept result told.old told.new }
 {
     match entry {
         Some(entry) => {

@@ -3,6 +3,7 @@ ghost use Rattle.std.specs.Prelude.{◌≡◌, map};
 ghost use Rattle.cmdcodec.specs.Words.{encoding};
 ghost use Rattle.smmuq_c.specs.Calls.{Answers};
 ghost use Rattle.smmuq_c.specs.Batches.{IsGiven, HasRange, HasDetach};
+ghost use Rattle.smmuq_c.specs.Kept.{CountKept, IsCountKept, IsKept, KeptUnlessDone};
 
 use crate::status::Status;
 use batch::Batch;
@@ -32,7 +33,9 @@ pub extern "C" fn smmuq_range(
     buffer: &mut [Raw],
     count: &mut usize,
 ) -> u32
-    ensures { Answers (HasRange vmid asid address pages buffer.old buffer.new count.new) result }
+    ensures answered { Answers (HasRange vmid asid address pages buffer.old buffer.new count.new) result }
+    ensures buffer { KeptUnlessDone result buffer.old buffer.new }
+    ensures count { CountKept result count.old count.new }
 {
     write_range(vmid, asid, address, pages, buffer, count).number()
 }
@@ -45,7 +48,9 @@ fn write_range(
     buffer: &mut [Raw],
     count: &mut usize,
 ) -> Status
-    ensures { HasRange vmid asid address pages buffer.old buffer.new count.new result }
+    ensures answered { HasRange vmid asid address pages buffer.old buffer.new count.new result }
+    ensures buffer { IsKept result buffer.old buffer.new }
+    ensures count { IsCountKept result count.old count.new }
 {
     let Some(vmid) = Vmid::new(u64::from(vmid)) else {
         return Status::BadField;
@@ -64,13 +69,17 @@ fn write_range(
 /// all the same.
 #[unsafe(no_mangle)]
 pub extern "C" fn smmuq_detach(sid: u32, buffer: &mut [Raw], count: &mut usize) -> u32
-    ensures { Answers (HasDetach sid buffer.old buffer.new count.new) result }
+    ensures answered { Answers (HasDetach sid buffer.old buffer.new count.new) result }
+    ensures buffer { KeptUnlessDone result buffer.old buffer.new }
+    ensures count { CountKept result count.old count.new }
 {
     write_detach(sid, buffer, count).number()
 }
 
 fn write_detach(sid: u32, buffer: &mut [Raw], count: &mut usize) -> Status
-    ensures { HasDetach sid buffer.old buffer.new count.new result }
+    ensures answered { HasDetach sid buffer.old buffer.new count.new result }
+    ensures buffer { IsKept result buffer.old buffer.new }
+    ensures count { IsCountKept result count.old count.new }
 {
     let sid = Sid::new(u64::from(sid)).unwrap();
     match Batch::detach(sid) {

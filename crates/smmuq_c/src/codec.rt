@@ -5,6 +5,7 @@ ghost use Rattle.smmuq_c.specs.Statuses.{number_of};
 ghost use Rattle.smmuq_c.specs.Calls.{Answers};
 ghost use Rattle.smmuq_c.specs.Commands.{decode_status, HasDecoded, HasEncoded};
 ghost use Rattle.smmuq_c.specs.Texts.{HasTold, IsCopied};
+ghost use Rattle.smmuq_c.specs.Kept.{CountKept, IsCountKept, IsKept, KeptUnlessDone};
 
 use crate::fields::{Fields, command_of};
 use crate::status::Status;
@@ -55,13 +56,16 @@ pub extern "C" fn smmuq_decode(lo: u64, hi: u64, fields: &mut Fields) -> u32
 /// `BAD_FIELD` if they say none.
 #[unsafe(no_mangle)]
 pub extern "C" fn smmuq_encode(fields: &Fields, words: &mut Raw) -> u32
-    ensures { Answers (HasEncoded fields.now words.old words.new) result }
+    ensures answered { Answers (HasEncoded fields.now words.old words.new) result }
+    ensures kept { KeptUnlessDone result words.old words.new }
 {
-    encode_fields(fields, words).number()
+    let fields = Fields::read(fields);
+    encode_fields(&fields, words).number()
 }
 
 fn encode_fields(fields: &Fields, words: &mut Raw) -> Status
-    ensures { HasEncoded fields.now words.old words.new result }
+    ensures answered { HasEncoded fields.now words.old words.new result }
+    ensures kept { IsKept result words.old words.new }
 {
     let Some(command) = command_of(fields) else {
         return Status::BadField;
@@ -80,13 +84,17 @@ pub extern "C" fn smmuq_text(
     buffer: &mut [u8],
     written: &mut usize,
 ) -> u32
-    ensures { Answers (HasTold (decoding (record { lo = lo; hi = hi })) buffer.old buffer.new written.new) result }
+    ensures answered { Answers (HasTold (decoding (record { lo = lo; hi = hi })) buffer.old buffer.new written.new) result }
+    ensures buffer { KeptUnlessDone result buffer.old buffer.new }
+    ensures written { CountKept result written.old written.new }
 {
     write_text(alloc, Raw { lo, hi }, buffer, written).number()
 }
 
 fn write_text(alloc: Global, raw: Raw, buffer: &mut [u8], written: &mut usize) -> Status
-    ensures { HasTold (decoding raw) buffer.old buffer.new written.new result }
+    ensures answered { HasTold (decoding raw) buffer.old buffer.new written.new result }
+    ensures buffer { IsKept result buffer.old buffer.new }
+    ensures written { IsCountKept result written.old written.new }
 {
     match decode(raw) {
         Ok(command) => match text(alloc, &command) {

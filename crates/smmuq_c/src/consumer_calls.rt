@@ -1,6 +1,8 @@
 //! The exports of a consumer of the caller's own.
+ghost use Rattle.std.specs.Prelude.{◌≡◌, false};
 ghost use Rattle.smmuq_c.specs.Calls.{HasCalled, OfConsumer};
 ghost use Rattle.smmuq_c.specs.Taking.{HasTakenRun, HasCompletedFor};
+ghost use Rattle.smmuq_c.specs.Kept.{is_consumer, KeptOfOthers};
 
 use crate::handle::{Handle, put, take};
 use crate::object::Object;
@@ -18,7 +20,9 @@ pub extern "C" fn smmuq_take_run(
     buffer: &mut [Raw],
     count: &mut usize,
 ) -> u32
-    ensures { HasCalled (OfConsumer (HasTakenRun buffer.old buffer.new count.new)) consumer.old.object consumer.new.object result }
+    ensures called { HasCalled (OfConsumer (HasTakenRun buffer.old buffer.new count.new)) consumer.old.object consumer.new.object result }
+    ensures buffer { KeptOfOthers is_consumer consumer.old.object buffer.old buffer.new }
+    ensures count { KeptOfOthers is_consumer consumer.old.object count.old count.new }
 {
     let Some(mut object) = take(alloc, consumer) else {
         return Status::EmptyHandle.number();
@@ -29,7 +33,9 @@ pub extern "C" fn smmuq_take_run(
 }
 
 fn take_run(object: &mut Object, buffer: &mut [Raw], count: &mut usize) -> Status
-    ensures { OfConsumer (HasTakenRun buffer.old buffer.new count.new) object.old object.new result }
+    ensures called { OfConsumer (HasTakenRun buffer.old buffer.new count.new) object.old object.new result }
+    ensures buffer { is_consumer object.old ≡ false → buffer.new ≡ buffer.old }
+    ensures count { is_consumer object.old ≡ false → count.new ≡ count.old }
 {
     match object {
         Object::Consumer(consumer) => consumer.take_run(buffer, count),

@@ -1,6 +1,8 @@
 //! The exports of an engine.
+ghost use Rattle.std.specs.Prelude.{◌≡◌, false};
 ghost use Rattle.smmuq_c.specs.Calls.{HasCalled, OfEngine};
 ghost use Rattle.smmuq_c.specs.Runs.{HasRunFor, HasToldRegisters};
+ghost use Rattle.smmuq_c.specs.Kept.{is_engine, IsKept, KeptOfOthers, KeptUnlessDone};
 
 use crate::handle::{Handle, put, take};
 use crate::object::Object;
@@ -18,7 +20,8 @@ pub extern "C" fn smmuq_run(
     most: u32,
     answer: &mut RunWords,
 ) -> u32
-    ensures { HasCalled (OfEngine (HasRunFor most answer.new)) engine.old.object engine.new.object result }
+    ensures called { HasCalled (OfEngine (HasRunFor most answer.new)) engine.old.object engine.new.object result }
+    ensures kept { KeptOfOthers is_engine engine.old.object answer.old answer.new }
 {
     let Some(mut object) = take(alloc, engine) else {
         return Status::EmptyHandle.number();
@@ -29,7 +32,8 @@ pub extern "C" fn smmuq_run(
 }
 
 fn run(object: &mut Object, most: u32, answer: &mut RunWords) -> Status
-    ensures { OfEngine (HasRunFor most answer.new) object.old object.new result }
+    ensures called { OfEngine (HasRunFor most answer.new) object.old object.new result }
+    ensures kept { is_engine object.old ≡ false → answer.new ≡ answer.old }
 {
     match object {
         Object::Engine(engine) => engine.run(most, answer),
@@ -45,7 +49,8 @@ pub extern "C" fn smmuq_registers(
     engine: &mut Handle,
     told: &mut RegisterWords,
 ) -> u32
-    ensures { HasCalled (OfEngine (HasToldRegisters told.new)) engine.old.object engine.new.object result }
+    ensures called { HasCalled (OfEngine (HasToldRegisters told.new)) engine.old.object engine.new.object result }
+    ensures kept { KeptUnlessDone result told.old told.new }
 {
     let Some(mut object) = take(alloc, engine) else {
         return Status::EmptyHandle.number();
@@ -56,7 +61,8 @@ pub extern "C" fn smmuq_registers(
 }
 
 fn tell_registers(object: &mut Object, told: &mut RegisterWords) -> Status
-    ensures { OfEngine (HasToldRegisters told.new) object.old object.new result }
+    ensures called { OfEngine (HasToldRegisters told.new) object.old object.new result }
+    ensures kept { IsKept result told.old told.new }
 {
     match object {
         Object::Engine(engine) => engine.registers(told),

@@ -2,6 +2,7 @@
 ghost use Rattle.smmuq_c.specs.Calls.{HasCalled, OfSaid};
 ghost use Rattle.smmuq_c.specs.Entries.{HasFilled, HasEvicted, HasLookedUp};
 ghost use Rattle.smmuq_c.specs.Tags.{IsTagOf};
+ghost use Rattle.smmuq_c.specs.Kept.{IsKept, KeptUnlessDone};
 
 use crate::handle::{Handle, put, take};
 use crate::object::Object;
@@ -19,7 +20,8 @@ pub extern "C" fn smmuq_fill(alloc: Global, handle: &mut Handle, tag: &TagWords,
     let Some(mut object) = take(alloc, handle) else {
         return Status::EmptyHandle.number();
     };
-    let status = fill(object.as_mut(), tag, value);
+    let tag = TagWords::read(tag);
+    let status = fill(object.as_mut(), &tag, value);
     put(handle, object);
     status.number()
 }
@@ -27,6 +29,9 @@ pub extern "C" fn smmuq_fill(alloc: Global, handle: &mut Handle, tag: &TagWords,
 fn fill(object: &mut Object, tag: &TagWords, value: u64) -> Status
     ensures { OfSaid (IsTagOf tag.now) (λ t. HasFilled t value) object.old object.new result }
 {
+    if !object.has_unit() {
+        return Status::WrongHandle;
+    }
     let Some(tag) = tag_of(tag) else {
         return Status::BadField;
     };
@@ -45,19 +50,25 @@ pub extern "C" fn smmuq_lookup(
     tag: &TagWords,
     held: &mut Held,
 ) -> u32
-    ensures { HasCalled (OfSaid (IsTagOf tag.now) (λ t. HasLookedUp t held.new)) handle.old.object handle.new.object result }
+    ensures called { HasCalled (OfSaid (IsTagOf tag.now) (λ t. HasLookedUp t held.new)) handle.old.object handle.new.object result }
+    ensures kept { KeptUnlessDone result held.old held.new }
 {
     let Some(object) = take(alloc, handle) else {
         return Status::EmptyHandle.number();
     };
-    let status = lookup(object.as_ref(), tag, held);
+    let tag = TagWords::read(tag);
+    let status = lookup(object.as_ref(), &tag, held);
     put(handle, object);
     status.number()
 }
 
 fn lookup(object: &Object, tag: &TagWords, held: &mut Held) -> Status
-    ensures { OfSaid (IsTagOf tag.now) (λ t. HasLookedUp t held.new) object.now object.now result }
+    ensures called { OfSaid (IsTagOf tag.now) (λ t. HasLookedUp t held.new) object.now object.now result }
+    ensures kept { IsKept result held.old held.new }
 {
+    if !object.has_unit() {
+        return Status::WrongHandle;
+    }
     let Some(tag) = tag_of(tag) else {
         return Status::BadField;
     };
@@ -77,19 +88,25 @@ pub extern "C" fn smmuq_evict(
     tag: &TagWords,
     held: &mut Held,
 ) -> u32
-    ensures { HasCalled (OfSaid (IsTagOf tag.now) (λ t. HasEvicted t held.new)) handle.old.object handle.new.object result }
+    ensures called { HasCalled (OfSaid (IsTagOf tag.now) (λ t. HasEvicted t held.new)) handle.old.object handle.new.object result }
+    ensures kept { KeptUnlessDone result held.old held.new }
 {
     let Some(mut object) = take(alloc, handle) else {
         return Status::EmptyHandle.number();
     };
-    let status = evict(object.as_mut(), tag, held);
+    let tag = TagWords::read(tag);
+    let status = evict(object.as_mut(), &tag, held);
     put(handle, object);
     status.number()
 }
 
 fn evict(object: &mut Object, tag: &TagWords, held: &mut Held) -> Status
-    ensures { OfSaid (IsTagOf tag.now) (λ t. HasEvicted t held.new) object.old object.new result }
+    ensures called { OfSaid (IsTagOf tag.now) (λ t. HasEvicted t held.new) object.old object.new result }
+    ensures kept { IsKept result held.old held.new }
 {
+    if !object.has_unit() {
+        return Status::WrongHandle;
+    }
     let Some(tag) = tag_of(tag) else {
         return Status::BadField;
     };

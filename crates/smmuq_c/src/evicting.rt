@@ -2,6 +2,7 @@
 ghost use Rattle.std.specs.Prelude.{◌≡◌};
 ghost use Rattle.smmuq_c.specs.Calls.{HasCalled, OfSaid};
 ghost use Rattle.smmuq_c.specs.Evicting.{AreKindsOf, has_kind, HasEvictedAll};
+ghost use Rattle.smmuq_c.specs.Kept.{IsKept, KeptUnlessDone};
 
 use crate::handle::{Handle, put, take};
 use crate::object::Object;
@@ -47,7 +48,8 @@ pub extern "C" fn smmuq_evict_all(
     kinds: u32,
     count: &mut usize,
 ) -> u32
-    ensures { HasCalled (OfSaid (AreKindsOf kinds) (λ k. HasEvictedAll k count.new)) handle.old.object handle.new.object result }
+    ensures called { HasCalled (OfSaid (AreKindsOf kinds) (λ k. HasEvictedAll k count.new)) handle.old.object handle.new.object result }
+    ensures kept { KeptUnlessDone result count.old count.new }
 {
     let Some(mut object) = take(alloc, handle) else {
         return Status::EmptyHandle.number();
@@ -58,8 +60,12 @@ pub extern "C" fn smmuq_evict_all(
 }
 
 fn evict_all(object: &mut Object, kinds: u32, count: &mut usize) -> Status
-    ensures { OfSaid (AreKindsOf kinds) (λ k. HasEvictedAll k count.new) object.old object.new result }
+    ensures called { OfSaid (AreKindsOf kinds) (λ k. HasEvictedAll k count.new) object.old object.new result }
+    ensures kept { IsKept result count.old count.new }
 {
+    if !object.has_unit() {
+        return Status::WrongHandle;
+    }
     let Some(kinds) = Kinds::of(kinds) else {
         return Status::BadField;
     };

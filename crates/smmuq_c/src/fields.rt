@@ -1,4 +1,6 @@
 //! A command's fields, flat, as C sees them.
+ghost use Rattle.std.specs.Prelude.{◌≡◌};
+
 mod of_command;
 mod to_command;
 
@@ -31,4 +33,15 @@ pub struct Fields {
     /// The words of a command that is kept as it is.
     pub lo: u64,
     pub hi: u64,
+}
+
+impl Fields {
+    /// Reads each field once, so that what is judged is what is used. It isn't inlined, so that no read of the copy is
+    /// made a second read of the caller's fields.
+    #[inline(never)]
+    pub(crate) fn read(fields: &Fields) -> Fields
+        ensures { result ≡ fields.now }
+    {
+        *fields
+    }
 }

@@ -4,7 +4,8 @@ ghost use Rattle.std.specs.FinMap as finite;
 ghost use Rattle.smmuq_c.specs.Calls.{HasCalled, OfSaid};
 ghost use Rattle.smmuq_c.specs.Entries.{entry_status, entry_words};
 ghost use Rattle.smmuq_c.specs.Lists.{tag_words};
-ghost use Rattle.smmuq_c.specs.Finding.{IsOwnerOf, block_at, own_tag, shared_tag, NoneAt, IsHeldAt, IsFound, HasFound, entries_of};
+ghost use Rattle.smmuq_c.specs.Finding.{IsOwnerOf, block_at, own_tag, shared_tag, NoneAt, IsHeldAt, IsFound, HasFound, entries_of, IsSubstreamOf};
+ghost use Rattle.smmuq_c.specs.Kept.{IsKept, KeptUnlessDone};
 
 use crate::handle::{Handle, put, take};
 use crate::object::Object;
@@ -24,8 +25,23 @@ pub(crate) enum Owner {
     S2 { vmid: Vmid },
     /// An address space of the hypervisor.
     El2 { asid: Asid },
-    /// A substream of an endpoint.
-    Atc { sid: Sid, ssid: Ssid },
+    /// A substream of an endpoint, or its accesses without a substream: a space of its own.
+    Atc { sid: Sid, ssid: Option<Ssid> },
+}
+
+/// `space` of an endpoint's accesses without a substream.
+const NO_SUBSTREAM: u32 = 0xffff_ffff;
+
+fn substream_of(space: u32) -> Option<Option<Ssid>>
+    ensures { IsSubstreamOf space result }
+{
+    if space == NO_SUBSTREAM {
+        return Some(None);
+    }
+    match Ssid::new(u64::from(space)) {
+        Some(ssid) => Some(Some(ssid)),
+        None => None,
+    }
 }
 
 fn owner_of(kind: u32, owner: u32, space: u32) -> Option<Owner>
@@ -47,7 +63,7 @@ fn owner_of(kind: u32, owner: u32, space: u32) -> Option<Owner>
         }
         6 => {
             let sid = Sid::new(u64::from(owner))?;
-            let ssid = Ssid::new(u64::from(space))?;
+            let ssid = substream_of(space)?;
             Some(Owner::Atc { sid, ssid })
         }
         _ => None,
@@ -83,7 +99,7 @@ impl Owner {
             },
             Owner::Atc { sid, ssid } => Tag::Atc {
                 sid,
-                ssid: Some(ssid),
+                ssid,
                 page,
                 span,
             },
@@ -108,9 +124,9 @@ impl Owner {
                 page,
                 span,
             },
-            Owner::Atc { sid, .. } => Tag::Atc {
+            Owner::Atc { sid, ssid } => Tag::Atc {
                 sid,
-                ssid: None,
+                ssid,
                 page,
                 span,
             },
@@ -159,6 +175,8 @@ fn tell_found(found: &Option<Entry>, tag: &mut TagWords, held: &mut Held) -> Sta
     ensures status { result ≡ entry_status found.now }
     ensures tag { IfSome found.now (λ entry. tag.new ≡ tag_words entry.tag) }
     ensures held { IfSome found.now (λ entry. held.new ≡ entry_words entry) }
+    ensures tag_kept { IsKept result tag.old tag.new }
+    ensures held_kept { IsKept result held.old held.new }
 {
     match found {
         Some(entry) => {
@@ -193,8 +211,8 @@ struct Sought {
 /// Tells the entry of a unit or an engine that holds an address, and its tag. `kind` is 3 to 6, as in a tag; `owner` is
 /// the VMID, or for kind 6 the stream, and is ignored for kind 5; `space` is the ASID, or for kind 6 the substream, and
 /// is ignored for kind 4. Each span whose bit is set in `spans`, 0 to 52, is tried, the greatest first, and at each the
-/// entry of that space before the global one, or before that of no substream. `NOT_HELD` if none is held, `BAD_FIELD`
-/// if the words say no owner.
+/// entry of that space before the global one. An endpoint has no global ones: just the substream asked for is looked up,
+/// or with `space` 0xffffffff what has none. `NOT_HELD` if none is held, `BAD_FIELD` if the words say no owner.
 #[unsafe(no_mangle)]
 pub extern "C" fn smmuq_find(
     alloc: Global,
@@ -207,7 +225,9 @@ pub extern "C" fn smmuq_find(
     tag: &mut TagWords,
     held: &mut Held,
 ) -> u32
-    ensures { HasCalled (OfSaid (IsOwnerOf kind owner space) (HasFound (address / 4096) spans tag.new held.new)) handle.old.object handle.new.object result }
+    ensures called { HasCalled (OfSaid (IsOwnerOf kind owner space) (HasFound (address / 4096) spans tag.new held.new)) handle.old.object handle.new.object result }
+    ensures tag { KeptUnlessDone result tag.old tag.new }
+    ensures held { KeptUnlessDone result held.old held.new }
 {
     let Some(object) = take(alloc, handle) else {
         return Status::EmptyHandle.number();
@@ -225,8 +245,13 @@ pub extern "C" fn smmuq_find(
 }
 
 fn find(object: &Object, sought: Sought, tag: &mut TagWords, held: &mut Held) -> Status
-    ensures { OfSaid (IsOwnerOf sought.kind sought.owner sought.space) (HasFound (sought.address / 4096) sought.spans tag.new held.new) object.now object.now result }
+    ensures called { OfSaid (IsOwnerOf sought.kind sought.owner sought.space) (HasFound (sought.address / 4096) sought.spans tag.new held.new) object.now object.now result }
+    ensures tag { IsKept result tag.old tag.new }
+    ensures held { IsKept result held.old held.new }
 {
+    if !object.has_unit() {
+        return Status::WrongHandle;
+    }
     let Some(owner) = owner_of(sought.kind, sought.owner, sought.space) else {
         return Status::BadField;
     };

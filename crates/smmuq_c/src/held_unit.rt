@@ -13,6 +13,7 @@ ghost use Rattle.caches.specs.Limits.{IsCapacity};
 ghost use Rattle.smmuq_c.specs.Making.{AreNewCaches, IsNewUnit};
 ghost use Rattle.smmuq_c.specs.Evicting.{HasLost, HasEvictedAll};
 ghost use Rattle.smmuq_c.specs.Own.{AreOwn};
+ghost use Rattle.smmuq_c.specs.Kept.{IsCountKept, IsKept};
 
 use crate::answers::{fill_status, tell_entry, verdict_status};
 use crate::evicting::Kinds;
@@ -231,6 +232,7 @@ impl HeldUnit {
 
     pub(crate) fn evict(&mut self, tag: &Tag, told: &mut Held) -> Status
         ensures evicted { HasEvicted tag.now told.new self.old.unit self.new.unit result }
+        ensures kept { IsKept result told.old told.new }
         ensures rereads { self.new ≡ record self.old { unit = self.new.unit } }
         ensures settled { StaysSettled self.old.unit self.new.unit [] }
     {
@@ -240,6 +242,7 @@ impl HeldUnit {
     /// Evicts the entries of these kinds, and tells how many they were.
     pub(crate) fn evict_all(&mut self, kinds: Kinds, count: &mut usize) -> Status
         ensures evicted { HasEvictedAll kinds count.new self.old.unit self.new.unit result }
+        ensures kept { IsKept result count.old count.new }
         ensures rereads { self.new ≡ record self.old { unit = self.new.unit } }
         ensures settled { StaysSettled self.old.unit self.new.unit [] }
     {
@@ -254,6 +257,7 @@ impl HeldUnit {
 
     pub(crate) fn lookup(&self, tag: &Tag, told: &mut Held) -> Status
         ensures tells { TellsEntry tag.now told.new self.now.unit result }
+        ensures kept { IsKept result told.old told.new }
         ensures settled { StaysSettled self.now.unit self.now.unit [] }
     {
         tell_entry(self.unit.lookup(tag), told)
@@ -276,6 +280,8 @@ impl HeldUnit {
     /// Writes all entries to the buffer, and tells how many they are.
     pub(crate) fn entries(&self, buffer: &mut [EntryWords], count: &mut usize) -> Status
         ensures listed { IsListed (finite.values self.now.unit.caches.entries) buffer.old buffer.new count.new result }
+        ensures buffer { IsKept result buffer.old buffer.new }
+        ensures count { IsCountKept result count.old count.new }
         ensures settled { StaysSettled self.now.unit self.now.unit [] }
     {
         match self.unit.entries() {

@@ -4,6 +4,7 @@ ghost use Rattle.std.specs.FinMap as finite;
 ghost use Rattle.smmuq_c.specs.Batches.{IsGiven};
 ghost use Rattle.smmuq_c.specs.Calls.{HasCalled, OfAnyUnit};
 ghost use Rattle.smmuq_c.specs.Lists.{tag_words, listed, HasListed, with_scope, with_substream};
+ghost use Rattle.smmuq_c.specs.Kept.{CountKept, IsCountKept, IsKept, KeptUnlessDone};
 
 use crate::handle::{Handle, put, take};
 use crate::object::Object;
@@ -170,7 +171,9 @@ pub extern "C" fn smmuq_entries(
     buffer: &mut [EntryWords],
     count: &mut usize,
 ) -> u32
-    ensures { HasCalled (OfAnyUnit (HasListed buffer.old buffer.new count.new)) handle.old.object handle.new.object result }
+    ensures called { HasCalled (OfAnyUnit (HasListed buffer.old buffer.new count.new)) handle.old.object handle.new.object result }
+    ensures buffer { KeptUnlessDone result buffer.old buffer.new }
+    ensures count { CountKept result count.old count.new }
 {
     let Some(object) = take(alloc, handle) else {
         return Status::EmptyHandle.number();
@@ -181,7 +184,9 @@ pub extern "C" fn smmuq_entries(
 }
 
 fn list(object: &Object, buffer: &mut [EntryWords], count: &mut usize) -> Status
-    ensures { OfAnyUnit (HasListed buffer.old buffer.new count.new) object.now object.now result }
+    ensures called { OfAnyUnit (HasListed buffer.old buffer.new count.new) object.now object.now result }
+    ensures buffer { IsKept result buffer.old buffer.new }
+    ensures count { IsCountKept result count.old count.new }
 {
     match object {
         Object::Unit(unit) => unit.entries(buffer, count),

@@ -1,4 +1,7 @@
 //! What a handle owns.
+ghost use Rattle.std.specs.Prelude.{◌≡◌};
+ghost use Rattle.smmuq_c.specs.Kept.{has_unit};
+
 use crate::held_unit::HeldUnit;
 use crate::seated_consumer::SeatedConsumer;
 use crate::seated_engine::SeatedEngine;
@@ -21,4 +24,13 @@ fn may_cross_threads<T: Send>(_value: &T) {}
 /// Shows that C may pass a handle from one thread to another. It does nothing.
 pub(crate) fn objects_may_cross_threads(object: &Object) {
     may_cross_threads(object);
+}
+
+impl Object {
+    /// Whether it is a unit, or an engine, which has one.
+    pub(crate) fn has_unit(&self) -> bool
+        ensures { result ≡ has_unit self.now }
+    {
+        matches!(self, Object::Unit(_) | Object::Engine(_))
+    }
 }

@@ -3,6 +3,7 @@ ghost use Rattle.std.specs.Prelude.{◌≡◌, ℕ, IfOk, IfErr};
 ghost use Rattle.smmuq_c.specs.declared.status.Status.TheVariants.{Done};
 ghost use Rattle.smmuq_c.specs.Calls.{HasCalled};
 ghost use Rattle.smmuq_c.specs.Reserving.{HasReserved, HasPublished};
+ghost use Rattle.smmuq_c.specs.Kept.{KeptUnlessDone};
 
 use crate::handle::{Handle, put, take};
 use crate::object::Object;
@@ -43,7 +44,8 @@ fn reserve(object: Object, commands: &[Raw]) -> (Object, Status)
 /// reserved.
 #[unsafe(no_mangle)]
 pub extern "C" fn smmuq_publish(alloc: Global, sender: &mut Handle, number: &mut u32) -> u32
-    ensures { HasCalled (HasPublished number.new) sender.old.object sender.new.object result }
+    ensures called { HasCalled (HasPublished number.new) sender.old.object sender.new.object result }
+    ensures kept { KeptUnlessDone result number.old number.new }
 {
     let Some(mut object) = take(alloc, sender) else {
         return Status::EmptyHandle.number();

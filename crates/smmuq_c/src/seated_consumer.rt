@@ -166,11 +166,12 @@ impl SeatedConsumer {
     pub(crate) fn take_run(&mut self, buffer: &mut [Raw], count: &mut usize) -> Status
         ensures { HasTakenRun buffer.old buffer.new count.new self.old self.new result }
     {
+        let stand = self.stand.take().unwrap();
         if buffer.is_empty() {
             *count = 0;
+            self.stand = Some(Stand::Idle(stand.into_consumer()));
             return Status::ShortBuffer;
         }
-        let stand = self.stand.take().unwrap();
         let (stand, status) = stand.take_run(&self.ring, buffer, count);
         self.stand = Some(stand);
         status

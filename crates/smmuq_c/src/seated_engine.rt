@@ -11,6 +11,7 @@ ghost use Rattle.smmuq_c.specs.Runs.{HasRunFor, HasToldRegisters};
 ghost use Rattle.smmuq_c.specs.Evicting.{HasLost, HasEvictedAll};
 ghost use Rattle.smmuq_c.specs.Own.{AreOwn};
 ghost use Rattle.smmuq_c.specs.Renewing.{HasRenewed};
+ghost use Rattle.smmuq_c.specs.Kept.{IsCountKept, IsKept};
 
 use crate::answers::{acknowledgement_status, fill_status, tell_entry};
 use crate::evicting::Kinds;
@@ -89,7 +90,8 @@ impl SeatedEngine {
     }
 
     pub(crate) fn registers(&mut self, told: &mut RegisterWords) -> Status
-        ensures { HasToldRegisters told.new self.old self.new result }
+        ensures told { HasToldRegisters told.new self.old self.new result }
+        ensures done { result ≡ Status.Done }
     {
         *told = RegisterWords::from(self.engine.registers(&self.ring));
         Status::Done
@@ -130,6 +132,7 @@ impl SeatedEngine {
 
     pub(crate) fn evict(&mut self, tag: &Tag, told: &mut Held) -> Status
         ensures evicted { HasEvicted tag.now told.new self.old.unit self.new.unit result }
+        ensures kept { IsKept result told.old told.new }
         ensures consumer { self.new ≡ record self.old { unit = self.new.unit } }
         ensures settled { IsSettled self.new.unit.caches.entries (taken_of self.new.consumer.trail) }
     {
@@ -139,6 +142,7 @@ impl SeatedEngine {
     /// Evicts the entries of these kinds, and tells how many they were.
     pub(crate) fn evict_all(&mut self, kinds: Kinds, count: &mut usize) -> Status
         ensures evicted { HasEvictedAll kinds count.new self.old.unit self.new.unit result }
+        ensures kept { IsKept result count.old count.new }
         ensures consumer { self.new ≡ record self.old { unit = self.new.unit } }
         ensures settled { IsSettled self.new.unit.caches.entries (taken_of self.new.consumer.trail) }
     {
@@ -154,6 +158,7 @@ impl SeatedEngine {
 
     pub(crate) fn lookup(&self, tag: &Tag, told: &mut Held) -> Status
         ensures tells { TellsEntry tag.now told.new self.now.unit result }
+        ensures kept { IsKept result told.old told.new }
         ensures settled { IsSettled self.now.unit.caches.entries (taken_of self.now.consumer.trail) }
     {
         self.engine.is_settled();
@@ -177,6 +182,8 @@ impl SeatedEngine {
     /// Writes all entries to the buffer, and tells how many they are.
     pub(crate) fn entries(&self, buffer: &mut [EntryWords], count: &mut usize) -> Status
         ensures listed { IsListed (finite.values self.now.unit.caches.entries) buffer.old buffer.new count.new result }
+        ensures buffer { IsKept result buffer.old buffer.new }
+        ensures count { IsCountKept result count.old count.new }
         ensures settled { IsSettled self.now.unit.caches.entries (taken_of self.now.consumer.trail) }
     {
         self.engine.is_settled();

@@ -3,11 +3,12 @@ ghost use Rattle.std.specs.Prelude.{◌≡◌, IfOk, IfErr};
 ghost use Rattle.std.specs.Arc.{arc_value};
 ghost use Rattle.smmuq_c.specs.Reserving.{IsOpened, IsUnreserved};
 ghost use Rattle.smmuq_c.specs.Sends.{HasSent, HasSentBare, HasTold, HasToldLeft, HasClosed, HasLookedFor};
+ghost use Rattle.smmuq_c.specs.Kept.{IsKept};
 
 use crate::seated_reservation::SeatedReservation;
 use crate::status::Status;
 use crate::words::ControlWords;
-use batch::{Batch, BorrowedBatch};
+use batch::{Batch, BatchBuffer};
 use cmdcodec::Raw;
 use ring::{Cause, Receipt, Refused, Ring, Sender};
 use std::marker::Model;
@@ -70,9 +71,11 @@ impl SeatedSender {
 
     /// Sends a batch of these commands with its closing CMD_SYNC, in at most `tries` tries, 0 meaning 1.
     pub(crate) fn send(&mut self, commands: &[Raw], tries: u32, number: &mut u32) -> Status
-        ensures { HasSent commands.now tries number.new self.old self.new result }
+        ensures sent { HasSent commands.now tries number.new self.old self.new result }
+        ensures kept { IsKept result number.old number.new }
     {
-        let batch = match BorrowedBatch::new(commands) {
+        let mut buffer = BatchBuffer::new();
+        let batch = match buffer.copied(commands) {
             Ok(batch) => batch,
             Err(fault) => return Status::Batch(fault),
         };
@@ -94,7 +97,8 @@ impl SeatedSender {
     pub(crate) fn send_bare(&mut self, commands: &[Raw], tries: u32) -> Status
         ensures { HasSentBare commands.now tries self.old self.new result }
     {
-        let batch = match BorrowedBatch::new(commands) {
+        let mut buffer = BatchBuffer::new();
+        let batch = match buffer.copied(commands) {
             Ok(batch) => batch,
             Err(fault) => return Status::Batch(fault),
         };
@@ -112,7 +116,8 @@ impl SeatedSender {
     }
 
     pub(crate) fn done_up_to(&mut self, number: &mut u32) -> Status
-        ensures { HasTold number.new self.old self.new result }
+        ensures told { HasTold number.new self.old self.new result }
+        ensures done { result ≡ Status.Done }
     {
         let SeatedSender { ring, sender } = self;
         let Some(sender) = sender else {
@@ -124,7 +129,8 @@ impl SeatedSender {
 
     /// Tells how many batches it may still reserve.
     pub(crate) fn left(&mut self, batches: &mut u32) -> Status
-        ensures { HasToldLeft batches.new self.old self.new result }
+        ensures told { HasToldLeft batches.new self.old self.new result }
+        ensures done { result ≡ Status.Done }
     {
         let SeatedSender { ring, sender } = self;
         let Some(sender) = sender else {
@@ -146,7 +152,8 @@ impl SeatedSender {
     }
 
     pub(crate) fn look(&mut self, told: &mut ControlWords) -> Status
-        ensures { HasLookedFor told.new self.old self.new result }
+        ensures looked { HasLookedFor told.new self.old self.new result }
+        ensures done { result ≡ Status.Done }
     {
         let SeatedSender { ring, sender } = self;
         let Some(sender) = sender else {

@@ -1,6 +1,7 @@
 //! The exports of a sender.
 ghost use Rattle.smmuq_c.specs.Calls.{HasCalled, OfSender};
 ghost use Rattle.smmuq_c.specs.Sends.{HasSent, HasSentBare, HasTold, HasToldLeft, HasClosed, HasLookedFor};
+ghost use Rattle.smmuq_c.specs.Kept.{IsKept, KeptUnlessDone};
 
 use crate::handle::{Handle, put, take};
 use crate::object::Object;
@@ -20,7 +21,8 @@ pub extern "C" fn smmuq_send(
     tries: u32,
     number: &mut u32,
 ) -> u32
-    ensures { HasCalled (OfSender (HasSent commands.now tries number.new)) sender.old.object sender.new.object result }
+    ensures called { HasCalled (OfSender (HasSent commands.now tries number.new)) sender.old.object sender.new.object result }
+    ensures kept { KeptUnlessDone result number.old number.new }
 {
     let Some(mut object) = take(alloc, sender) else {
         return Status::EmptyHandle.number();
@@ -31,7 +33,8 @@ pub extern "C" fn smmuq_send(
 }
 
 fn send(object: &mut Object, commands: &[Raw], tries: u32, number: &mut u32) -> Status
-    ensures { OfSender (HasSent commands.now tries number.new) object.old object.new result }
+    ensures called { OfSender (HasSent commands.now tries number.new) object.old object.new result }
+    ensures kept { IsKept result number.old number.new }
 {
     match object {
         Object::Sender(sender) => sender.send(commands, tries, number),
@@ -71,7 +74,8 @@ fn send_bare(object: &mut Object, commands: &[Raw], tries: u32) -> Status
 /// Tells the number of the sender's last CMD_SYNC that completed, or 0 if none did.
 #[unsafe(no_mangle)]
 pub extern "C" fn smmuq_done_up_to(alloc: Global, sender: &mut Handle, number: &mut u32) -> u32
-    ensures { HasCalled (OfSender (HasTold number.new)) sender.old.object sender.new.object result }
+    ensures called { HasCalled (OfSender (HasTold number.new)) sender.old.object sender.new.object result }
+    ensures kept { KeptUnlessDone result number.old number.new }
 {
     let Some(mut object) = take(alloc, sender) else {
         return Status::EmptyHandle.number();
@@ -82,7 +86,8 @@ pub extern "C" fn smmuq_done_up_to(alloc: Global, sender: &mut Handle, number: &
 }
 
 fn done_up_to(object: &mut Object, number: &mut u32) -> Status
-    ensures { OfSender (HasTold number.new) object.old object.new result }
+    ensures called { OfSender (HasTold number.new) object.old object.new result }
+    ensures kept { IsKept result number.old number.new }
 {
     match object {
         Object::Sender(sender) => sender.done_up_to(number),
@@ -94,7 +99,8 @@ fn done_up_to(object: &mut Object, number: &mut u32) -> Status
 /// Tells how many batches the sender may still reserve, with a CMD_SYNC or without. After the last, the answer is Q5.
 #[unsafe(no_mangle)]
 pub extern "C" fn smmuq_left(alloc: Global, sender: &mut Handle, batches: &mut u32) -> u32
-    ensures { HasCalled (OfSender (HasToldLeft batches.new)) sender.old.object sender.new.object result }
+    ensures called { HasCalled (OfSender (HasToldLeft batches.new)) sender.old.object sender.new.object result }
+    ensures kept { KeptUnlessDone result batches.old batches.new }
 {
     let Some(mut object) = take(alloc, sender) else {
         return Status::EmptyHandle.number();
@@ -105,7 +111,8 @@ pub extern "C" fn smmuq_left(alloc: Global, sender: &mut Handle, batches: &mut u
 }
 
 fn left(object: &mut Object, batches: &mut u32) -> Status
-    ensures { OfSender (HasToldLeft batches.new) object.old object.new result }
+    ensures called { OfSender (HasToldLeft batches.new) object.old object.new result }
+    ensures kept { IsKept result batches.old batches.new }
 {
     match object {
         Object::Sender(sender) => sender.left(batches),
@@ -140,7 +147,8 @@ fn close(object: &mut Object) -> Status
 /// Tells SMMU_CMDQ_PROD and SMMU_CMDQ_CONS.RD at this moment, and whether the ring is closed.
 #[unsafe(no_mangle)]
 pub extern "C" fn smmuq_look(alloc: Global, sender: &mut Handle, told: &mut ControlWords) -> u32
-    ensures { HasCalled (OfSender (HasLookedFor told.new)) sender.old.object sender.new.object result }
+    ensures called { HasCalled (OfSender (HasLookedFor told.new)) sender.old.object sender.new.object result }
+    ensures kept { KeptUnlessDone result told.old told.new }
 {
     let Some(mut object) = take(alloc, sender) else {
         return Status::EmptyHandle.number();
@@ -151,7 +159,8 @@ pub extern "C" fn smmuq_look(alloc: Global, sender: &mut Handle, told: &mut Cont
 }
 
 fn look(object: &mut Object, told: &mut ControlWords) -> Status
-    ensures { OfSender (HasLookedFor told.new) object.old object.new result }
+    ensures called { OfSender (HasLookedFor told.new) object.old object.new result }
+    ensures kept { IsKept result told.old told.new }
 {
     match object {
         Object::Sender(sender) => sender.look(told),

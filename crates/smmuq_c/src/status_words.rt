@@ -2,6 +2,7 @@
 ghost use Rattle.std.specs.Prelude.{◌≡◌, ◌<◌};
 ghost use Rattle.smmuq_c.specs.Calls.{Answers};
 ghost use Rattle.smmuq_c.specs.StatusWords.{words_of, IsNumbered, HasToldStatus};
+ghost use Rattle.smmuq_c.specs.Kept.{CountKept, IsCountKept, IsKept, KeptUnlessDone};
 
 use crate::codec::copy_text;
 use crate::status::Status;
@@ -117,13 +118,17 @@ fn numbered(number: u32) -> Option<Status>
 /// buffer is too short, the length is told all the same. `BAD_FIELD` if no status has this number.
 #[unsafe(no_mangle)]
 pub extern "C" fn smmuq_status_text(status: u32, buffer: &mut [u8], written: &mut usize) -> u32
-    ensures { Answers (HasToldStatus status buffer.old buffer.new written.new) result }
+    ensures answered { Answers (HasToldStatus status buffer.old buffer.new written.new) result }
+    ensures buffer { KeptUnlessDone result buffer.old buffer.new }
+    ensures written { CountKept result written.old written.new }
 {
     write_words(status, buffer, written).number()
 }
 
 fn write_words(number: u32, buffer: &mut [u8], written: &mut usize) -> Status
-    ensures { HasToldStatus number buffer.old buffer.new written.new result }
+    ensures answered { HasToldStatus number buffer.old buffer.new written.new result }
+    ensures buffer { IsKept result buffer.old buffer.new }
+    ensures written { IsCountKept result written.old written.new }
 {
     match numbered(number) {
         Some(status) => copy_text(status.words().as_bytes(), buffer, written),

@@ -1,6 +1,7 @@
 //! The exports of the error stop and the counts, of a unit or of an engine.
 ghost use Rattle.smmuq_c.specs.Calls.{HasCalled, OfAnyUnit, OfStop, BySaid};
 ghost use Rattle.smmuq_c.specs.Registers.{IsRemedyOf, HasToldState};
+ghost use Rattle.smmuq_c.specs.Kept.{IsKept, KeptUnlessDone};
 
 use crate::handle::{Handle, put, take};
 use crate::object::Object;
@@ -43,6 +44,9 @@ fn remedy_of(number: u32) -> Option<StopRemedy>
 fn acknowledge(object: &mut Object, gerrorn: u32, remedy: u32) -> Status
     ensures { BySaid (IsRemedyOf remedy) (OfStop gerrorn) object.old object.new result }
 {
+    if !object.has_unit() {
+        return Status::WrongHandle;
+    }
     let Some(remedy) = remedy_of(remedy) else {
         return Status::BadField;
     };
@@ -61,7 +65,9 @@ pub extern "C" fn smmuq_state(
     errors: &mut Errors,
     tallies: &mut Tallies,
 ) -> u32
-    ensures { HasCalled (OfAnyUnit (HasToldState errors.new tallies.new)) handle.old.object handle.new.object result }
+    ensures called { HasCalled (OfAnyUnit (HasToldState errors.new tallies.new)) handle.old.object handle.new.object result }
+    ensures errors { KeptUnlessDone result errors.old errors.new }
+    ensures tallies { KeptUnlessDone result tallies.old tallies.new }
 {
     let Some(object) = take(alloc, handle) else {
         return Status::EmptyHandle.number();
@@ -72,7 +78,9 @@ pub extern "C" fn smmuq_state(
 }
 
 fn tell_state(object: &Object, errors: &mut Errors, tallies: &mut Tallies) -> Status
-    ensures { OfAnyUnit (HasToldState errors.new tallies.new) object.now object.now result }
+    ensures called { OfAnyUnit (HasToldState errors.new tallies.new) object.now object.now result }
+    ensures errors { IsKept result errors.old errors.new }
+    ensures tallies { IsKept result tallies.old tallies.new }
 {
     match object {
         Object::Unit(unit) => {

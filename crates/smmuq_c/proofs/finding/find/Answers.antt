@@ -12,8 +12,8 @@ found_of : (object what : Object) (owner : Owner) (page number spans : ℕ) (ans
 found_of object what owner page number spans answer is same found =
     subst (λ (p : ℕ). IsFound (entries_of what) owner p spans answer) same (subst (λ (o : Object). IsFound (entries_of o) owner page spans answer) is found)
 
-pub returns-in-Unit : goal.returns-in-Unit
-returns-in-Unit c =
+pub returns-in-Unit-clause-called : goal.returns-in-Unit-clause-called
+returns-in-Unit-clause-called c =
     let e = c.tell_found-status.ensures in
     said_read_unit _ _ c.in-Some.owner c.in-Some.ensures c.in-Unit.is c.is_settled.ensures
     (record {
@@ -25,8 +25,8 @@ returns-in-Unit c =
       new_is = refl;
     })
 
-pub returns-in-Engine : goal.returns-in-Engine
-returns-in-Engine c =
+pub returns-in-Engine-clause-called : goal.returns-in-Engine-clause-called
+returns-in-Engine-clause-called c =
     let e = c.tell_found-status.ensures in
     said_read_engine _ _ c.in-Some.owner c.in-Some.ensures c.in-Engine.is c.is_settled-in-Engine.ensures
     (record {
