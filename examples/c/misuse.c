@@ -280,6 +280,79 @@ static void *send_on_shared(void *sent) {
     return NULL;
 }
 
+/* A refused call leaves what it would have told as it was, and that the handle is of another kind comes first. */
+static void be_refused(void) {
+    smmuq_handle empty = SMMUQ_EMPTY, unit = SMMUQ_EMPTY, sender = SMMUQ_EMPTY, consumer = SMMUQ_EMPTY;
+    smmuq_tag bad = {.kind = 7};
+    smmuq_held held = {11, 12};
+    smmuq_verdict verdict = {13, 14};
+    smmuq_words room[4] = {{15, 16}};
+    uint32_t number = 17;
+    size_t count = 18;
+    WANT(smmuq_unit_new(4, &unit), SMMUQ_OK);
+    WANT(smmuq_consumer_ring_new(4, 100, &sender, 1, &consumer), SMMUQ_OK);
+    WANT(smmuq_done_up_to(&empty, &number), SMMUQ_EMPTY_HANDLE);
+    WANT(smmuq_send(&sender, &CMD_SYNC, 1, 1, &number), SMMUQ_B2);
+    WANT(smmuq_publish(&sender, &number), SMMUQ_NO_RESERVATION);
+    WANT(smmuq_reserve(&sender, &CFGI_STE, 1), SMMUQ_OK);
+    WANT(smmuq_done_up_to(&sender, &number), SMMUQ_OPEN_RESERVATION);
+    WANT(number, 17);
+    WANT(smmuq_fill(&sender, &bad, 1), SMMUQ_WRONG_HANDLE);
+    WANT(smmuq_lookup(&sender, &bad, &held), SMMUQ_WRONG_HANDLE);
+    WANT(smmuq_evict(&unit, &bad, &held), SMMUQ_BAD_FIELD);
+    WANT(smmuq_find(&consumer, 9, 0, 0, 0, 1, &bad, &held), SMMUQ_WRONG_HANDLE);
+    WANT(smmuq_acknowledge(&consumer, 1, 9), SMMUQ_WRONG_HANDLE);
+    WANT(smmuq_evict_all(&sender, 0x40, &count), SMMUQ_WRONG_HANDLE);
+    WANT(smmuq_unit_judge(&sender, 3, 0, &verdict), SMMUQ_WRONG_HANDLE);
+    WANT(smmuq_take_run(&unit, room, 4, &count), SMMUQ_WRONG_HANDLE);
+    WANT(held.value == 11 && held.born == 12 && verdict.removed == 13 && verdict.ill == 14, 1);
+    WANT(room[0].lo == 15 && room[0].hi == 16 && count == 18, 1);
+    WANT(smmuq_publish(&sender, &number), SMMUQ_OK);
+    /* What a take without room told, nothing, is what can be completed. */
+    WANT(smmuq_take_run(&consumer, room, 4, &count), SMMUQ_OK);
+    WANT(smmuq_take_run(&consumer, room, 0, &count), SMMUQ_SHORT_BUFFER);
+    WANT(smmuq_complete(&consumer, 1), SMMUQ_BAD_FIELD);
+    smmuq_free(&unit);
+    smmuq_free(&sender);
+    smmuq_free(&consumer);
+}
+
+/* With a substream and without one are two spaces of an endpoint. */
+static void find_in_an_endpoint(void) {
+    smmuq_handle unit = SMMUQ_EMPTY;
+    smmuq_tag tag = {.kind = SMMUQ_ATC, .sid = 5, .address = 0x1000}, found;
+    smmuq_held held;
+    WANT(smmuq_unit_new(4, &unit), SMMUQ_OK);
+    WANT(smmuq_fill(&unit, &tag, 21), SMMUQ_OK);
+    WANT(smmuq_find(&unit, SMMUQ_ATC, 5, 2, 0x1234, 1, &found, &held), SMMUQ_NOT_HELD);
+    WANT(smmuq_find(&unit, SMMUQ_ATC, 5, SMMUQ_NO_SUBSTREAM, 0x1234, 1, &found, &held), SMMUQ_OK);
+    WANT(held.value, 21);
+    WANT(found.has_ssid, 0);
+    WANT(smmuq_find(&unit, SMMUQ_ATC, 5, 1u << 20, 0x1234, 1, &found, &held), SMMUQ_BAD_FIELD);
+    tag.has_ssid = 1;
+    tag.ssid = 2;
+    WANT(smmuq_fill(&unit, &tag, 22), SMMUQ_OK);
+    WANT(smmuq_find(&unit, SMMUQ_ATC, 5, 2, 0x1234, 1, &found, &held), SMMUQ_OK);
+    WANT(held.value, 22);
+    smmuq_free(&unit);
+}
+
+/* Closing ends a ring, and a closed one can be renewed: whoever was left out is answered Q1, and the new one is open. */
+static void renew_a_closed_ring(void) {
+    smmuq_handle senders[2] = {SMMUQ_EMPTY, SMMUQ_EMPTY}, engine = SMMUQ_EMPTY;
+    uint32_t number;
+    WANT(smmuq_ring_new(4, 100, 8, senders, 2, &engine), SMMUQ_OK);
+    WANT(smmuq_close(&senders[0]), SMMUQ_OK);
+    WANT(smmuq_send(&senders[1], &CFGI_STE, 1, 1, &number), SMMUQ_Q1);
+    WANT(smmuq_renew(4, 100, 8, senders, 1, &engine), SMMUQ_OK);
+    WANT(smmuq_send(&senders[0], &CFGI_STE, 1, 1, &number), SMMUQ_OK);
+    WANT(number, 1);
+    WANT(smmuq_send(&senders[1], &CFGI_STE, 1, 1, &number), SMMUQ_Q1);
+    smmuq_free(&senders[0]);
+    smmuq_free(&senders[1]);
+    smmuq_free(&engine);
+}
+
 /* Two threads on one sender: whoever comes second is refused, and all that was sent is taken. */
 static void share_a_guarded_handle(void) {
     smmuq_handle sender = SMMUQ_EMPTY, engine = SMMUQ_EMPTY;
@@ -309,6 +382,9 @@ int main(void) {
     misuse_a_ring();
     misuse_a_consumer();
     free_a_consumer_midway();
+    be_refused();
+    find_in_an_endpoint();
+    renew_a_closed_ring();
     share_a_guarded_handle();
     puts("misuse: all told");
     return 0;

@@ -1,0 +1,69 @@
+/* Another thread changes the words of a batch and of a tag while calls read them, as a guest can whose memory a hypervisor
+ * passes on: the words of a CMD_SYNC to a cell of nobody, and of an entry of 2^200 pages. Each word is read once, so what is
+ * judged is what is used: a call does what it would do for some words, and nothing that it would refuse.
+ *
+ *     changing_words [CALLS]
+ */
+#include "smmuq.h"
+
+#include <pthread.h>
+#include <stdio.h>
+#include <stdlib.h>
+
+static volatile uint64_t words[2];
+static volatile smmuq_tag tag;
+static volatile uint32_t stop;
+
+static void *change(void *nothing) {
+    (void)nothing;
+    while (!stop) {
+        words[0] = 0x500000003u; /* CFGI_STE */
+        words[1] = 1;
+        words[1] = 0x40000000u + 4ull * 0x0fffffff;
+        words[0] = 0x900001046u; /* CMD_SYNC of sender 0x0fffffff, number 9 */
+        tag.span = 0;
+        tag.address = 0x1000;
+        tag.span = 200;
+        tag.address = 0x1001;
+    }
+    return NULL;
+}
+
+int main(int argc, char **argv) {
+    smmuq_handle sender = SMMUQ_EMPTY, engine = SMMUQ_EMPTY;
+    unsigned long calls = argc > 1 ? strtoul(argv[1], NULL, 10) : 1000000, i;
+    smmuq_run_answer answer;
+    uint32_t number, status, sent = 0, done;
+    smmuq_held held;
+    pthread_t thread;
+    tag.kind = SMMUQ_S1;
+    if (smmuq_ring_new(4, 0xfffffffeu, 8, &sender, 1, &engine) != SMMUQ_OK)
+        return 1;
+    pthread_create(&thread, NULL, change, NULL);
+    for (i = 0; i < calls; i++) {
+        status = smmuq_send(&sender, (const smmuq_words *)words, 1, 1, &number);
+        if (status == SMMUQ_OK)
+            sent++;
+        else if (status != SMMUQ_B2)
+            return 1;
+        while ((status = smmuq_run(&engine, 64, &answer)) != SMMUQ_RING_EMPTY) {
+            if (status >= SMMUQ_ILL1 && status <= SMMUQ_ILL4 && smmuq_acknowledge(&engine, 1, SMMUQ_REPLACE) != SMMUQ_OK &&
+                smmuq_acknowledge(&engine, 0, SMMUQ_REPLACE) != SMMUQ_OK)
+                return 1;
+        }
+        status = smmuq_fill(&engine, (const smmuq_tag *)&tag, i);
+        if (status != SMMUQ_OK && status != SMMUQ_BAD_FIELD)
+            return 1;
+        status = smmuq_lookup(&engine, (const smmuq_tag *)&tag, &held);
+        if (status != SMMUQ_OK && status != SMMUQ_BAD_FIELD && status != SMMUQ_NOT_HELD)
+            return 1;
+    }
+    stop = 1;
+    pthread_join(thread, NULL);
+    if (smmuq_done_up_to(&sender, &done) != SMMUQ_OK || done != sent)
+        return 1;
+    smmuq_free(&sender);
+    smmuq_free(&engine);
+    puts("changing_words: each that was sent is done");
+    return 0;
+}
