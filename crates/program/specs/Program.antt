@@ -43,7 +43,7 @@ ExitsAs Schedule exit input rest before after = ExitsAsSchedule exit input rest 
 ExitsAs (Decode word) exit input rest before after = Keeps input rest × ExitsAsDecode exit word.now before after
 ExitsAs (Stress numbers) exit input rest before after = Keeps input rest × ExitsAsStress exit (plan_of numbers) before after
 ExitsAs Words exit input rest before after = ExitsAsWords exit input rest before.bytes after.bytes
-ExitsAs (Image arguments) exit input rest before after = ExitsAsImage (asked_of arguments) exit input before.bytes after.bytes
+ExitsAs (Image arguments) exit input rest before after = ExitsAsImage (asked_of arguments) exit input rest before.bytes after.bytes
 ExitsAs Encode exit input rest before after = ExitsAsEncode exit input rest before.bytes after.bytes
 
 -- The words have no fault, and it did what they ask for; on standard error it told first of the line that ended a

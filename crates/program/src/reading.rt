@@ -28,7 +28,7 @@ pub(crate) fn image_to_exit<I: Read, O: Write>(
     input: &mut I,
     output: &mut O,
 ) -> u8
-    ensures { ExitsAsImage (asked_of arguments.now) result (I.remaining input.old) (O.contents output.old) (O.contents output.new) }
+    ensures { ExitsAsImage (asked_of arguments.now) result (I.remaining input.old) (I.remaining input.new) (O.contents output.old) (O.contents output.new) }
 {
     let asked = asked(arguments);
     image(alloc, &asked, input, output).exit_status()
