@@ -84,8 +84,8 @@ fn a_taken_slot_may_hold_its_msi(rt: HostRuntime) {
     let text = "size 4\nprod 0x00000004\ncons 0x00000003\nerr 0\nwaiting 1\n\
                 slot 0 taken CMD_SYNC completed by its MSI\n\
                 slot 1 taken CMD_SYNC completed by its MSI\n\
-                slot 2 taken illegal ILL1\n\
-                slot 3 waiting illegal ILL1\n";
+                slot 2 taken illegal ILL1: unknown opcode\n\
+                slot 3 waiting illegal ILL1: unknown opcode\n";
     let asked = registers(4, 3, true);
     expect_of(&rt, &asked, OVERWRITTEN.as_slice(), text, Status::Good);
 }
@@ -94,8 +94,8 @@ fn a_taken_slot_may_hold_its_msi(rt: HostRuntime) {
 #[test]
 fn slots_of_zeros_are_illegal(rt: HostRuntime) {
     let text = "size 4\nprod 0x00000000\ncons 0x00000000\nerr 0\nwaiting 0\n\
-                slot 0 taken illegal ILL1\nslot 1 taken illegal ILL1\n\
-                slot 2 taken illegal ILL1\nslot 3 taken illegal ILL1\n";
+                slot 0 taken illegal ILL1: unknown opcode\nslot 1 taken illegal ILL1: unknown opcode\n\
+                slot 2 taken illegal ILL1: unknown opcode\nslot 3 taken illegal ILL1: unknown opcode\n";
     let zeros = [0; 64];
     let asked = registers(0, 0, true);
     expect_of(&rt, &asked, zeros.as_slice(), text, Status::Good);
