@@ -7,9 +7,11 @@ use Rattle.ringcore.specs.machine.StepAnswers.{next_number}
 use Rattle.ring.specs.Rings.{RingValue}
 use Rattle.ring.specs.sender.Senders.{SenderValue}
 use Rattle.ring.specs.sender.Publishing.{ReservesNone}
+use Rattle.ring.specs.sender.Reserving.{IsRefused}
+use Rattle.ring.specs.declared.sender.cause.Cause.{Cause}
 use Rattle.stress.specs.declared.attempt.Attempt.{Attempt}
 use Rattle.stress.specs.declared.attempt.Attempt.TheVariants.{Refused, Sent, SentBare}
-use Rattle.stress.specs.Plans.{PlanValue, IsPlan, numbered, planned}
+use Rattle.stress.specs.Plans.{PlanValue, IsPlan, body, closes, numbered, planned}
 
 pub record WorkerValue : Type 0 where
   pub plan : PlanValue
@@ -71,8 +73,12 @@ pub record HasReservedOne (body : List Raw) (closes : Bool) (s t : SenderValue) 
   pub batches : own_batches s.number t.trail ≡ own_batches s.number s.trail ++ record { sender = s.number; number = next_number s.trail closes; body = body } ∷ []
   pub numbers : numbers_given t.trail ≡ cond closes (suc (numbers_given s.trail)) (numbers_given s.trail)
 
--- If it was refused nothing was reserved, else this batch; the receipt is for it.
+-- If it was refused, by what was found then, nothing was reserved, else this batch; the receipt is for it.
 abbrev pub HasTried : List Raw → Bool → SenderValue → SenderValue → Attempt → Type 0
-HasTried body closes s t Refused = ReservesNone s.trail t.trail
+HasTried body closes s t Refused = ReservesNone s.trail t.trail × ((cause : Cause) × IsRefused body closes s cause t)
 HasTried body closes s t (Sent receipt) = HasReservedOne body closes s t × (receipt.sender ≡ s.number) × (next_number s.trail closes ≡ Some receipt.number)
 HasTried body closes s t SentBare = HasReservedOne body closes s t × (next_number s.trail closes ≡ None)
+
+-- A try of the worker's next batch went so.
+abbrev pub HasTriedNext : WorkerValue → WorkerValue → Attempt → Type 0
+HasTriedNext w v attempt = HasTried (body w.plan w.sender.number (suc w.sent)) (closes w.plan (suc w.sent)) w.sender v.sender attempt

@@ -1,7 +1,7 @@
 //! A sender that follows its plan.
 ghost use Rattle.std.specs.Prelude.{◌≡◌, ◌<◌, ◌+◌, ◌≤◌, if◌then◌else◌};
 ghost use Rattle.stress.specs.Plans.{IsPlan};
-ghost use Rattle.stress.specs.Workers.{assignment, assignment_of, is_sent, HasSent};
+ghost use Rattle.stress.specs.Workers.{assignment, assignment_of, is_sent, HasSent, HasTriedNext};
 
 use crate::attempt::{Attempt, send_once};
 use crate::gate::Gate;
@@ -55,6 +55,7 @@ impl Worker {
         requires left { self.sent < self.plan.batches }
         ensures assignment { assignment result.0 ≡ assignment self }
         ensures sent { result.0.sent ≡ (if is_sent result.1 then self.sent + 1 else self.sent) }
+        ensures tried { HasTriedNext self result.0 result.1 }
     {
         let Worker { plan, sender, sent } = self;
         let next = sent + 1;
