@@ -1,5 +1,5 @@
 -- What a worker has sent.
-use Rattle.std.specs.Prelude.{◌≡◌, ℕ, suc, ◌<◌, ◌≤◌, Bool, true, false, cond, List, [], ◌∷◌, ◌++◌, map, Some, None, slice_get}
+use Rattle.std.specs.Prelude.{◌≡◌, ℕ, zero, suc, ◌+◌, if◌then◌else◌, ◌<◌, ◌≤◌, Bool, true, false, cond, List, [], ◌∷◌, ◌++◌, map, Some, None, slice_get}
 use Rattle.cmdcodec.specs.declared.raw.Raw.{Raw}
 use Rattle.ringcore.specs.world.Trails.{numbers_given}
 use Rattle.ringcore.specs.world.Laws.{own_batches}
@@ -82,3 +82,22 @@ HasTried body closes s t SentBare = HasReservedOne body closes s t × (next_numb
 -- A try of the worker's next batch went so.
 abbrev pub HasTriedNext : WorkerValue → WorkerValue → Attempt → Type 0
 HasTriedNext w v attempt = HasTried (body w.plan w.sender.number (suc w.sent)) (closes w.plan (suc w.sent)) w.sender v.sender attempt
+
+-- A try of the worker's next batch led from `w` to `v`.
+pub record IsTry (w v : WorkerValue) : Type 0 where
+  pub attempt : Attempt
+  pub same : assignment v ≡ assignment w
+  pub sent : v.sent ≡ (if is_sent attempt then w.sent + 1 else w.sent)
+  pub tried : HasTriedNext w v attempt
+
+-- So many tries, one after another, and nothing else.
+abbrev pub HasTriedTimes : ℕ → WorkerValue → WorkerValue → Type 0
+HasTriedTimes zero w v = v ≡ w
+HasTriedTimes (suc n) w v = (between : WorkerValue) × HasTriedTimes n w between × IsTry between v
+
+-- It tried until the whole of its plan was sent, or as often as its plan has turns.
+pub record HasWorked (w v : WorkerValue) : Type 0 where
+  pub tries : ℕ
+  pub tried : HasTriedTimes tries w v
+  pub few : tries ≤ w.plan.turns
+  pub enough : (v.sent ≡ v.plan.batches → ⊥) → tries ≡ w.plan.turns

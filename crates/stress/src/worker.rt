@@ -1,7 +1,7 @@
 //! A sender that follows its plan.
 ghost use Rattle.std.specs.Prelude.{◌≡◌, ◌<◌, ◌+◌, ◌≤◌, if◌then◌else◌};
 ghost use Rattle.stress.specs.Plans.{IsPlan};
-ghost use Rattle.stress.specs.Workers.{assignment, assignment_of, is_sent, HasSent, HasTriedNext};
+ghost use Rattle.stress.specs.Workers.{assignment, assignment_of, is_sent, HasSent, HasTriedNext, HasWorked};
 
 use crate::attempt::{Attempt, send_once};
 use crate::gate::Gate;
@@ -69,7 +69,8 @@ impl Worker {
     /// Sends as many of its batches as its turns allow.
     pub(crate) fn run<G: Gate>(self, ring: &Ring, gate: &G) -> Worker
         requires { self.sender.ring ≡ ring.now }
-        ensures { assignment result ≡ assignment self }
+        ensures assignment { assignment result ≡ assignment self }
+        ensures worked { HasWorked self result }
     {
         let mut worker = self;
         let id = worker.sender.id();
