@@ -43,6 +43,6 @@ module _ (plan : PlanValue) (s t : SenderValue) (k : ℕ) (on : IsOnPlan plan s 
 
   pub goes : suc k ≤ plan.batches → (attempt : Attempt) → HasTried (body plan s.number (suc k)) (closes plan (suc k)) s t attempt
       → IsOnPlan plan t (cond (is_sent attempt) (suc k) k)
-  goes left Refused tried = stays tried
+  goes left Refused tried = stays tried.0
   goes left (Sent receipt) tried = moves left tried.0
   goes left SentBare tried = moves left tried.0

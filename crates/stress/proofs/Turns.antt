@@ -1,13 +1,23 @@
 -- An engine that goes on, and on.
-use Rattle.std.proofs.Common.{◌≡◌, ℕ, zero, suc, ◌+◌, ◌≤◌, refl, sym, ◌∙◌, subst, arith}
+use Rattle.std.proofs.Common.{◌≡◌, ℕ, zero, suc, ◌+◌, ◌≤◌, Bool, true, false, List, refl, sym, ◌∙◌, subst, arith}
+use Rattle.cmdcodec.specs.declared.raw.Raw.{Raw}
+use Rattle.ringcore.specs.declared.world.event.Who.TheVariants.{Consumer}
 use Rattle.ring.specs.Rings.{RingValue}
+use Rattle.ring.specs.table.Histories.{Grew}
+use Rattle.ring.specs.declared.sender.cause.Cause.{Cause}
+use Rattle.ring.specs.sender.Senders.{SenderValue}
+use Rattle.ring.specs.sender.Reserving.{IsRefused}
 use Rattle.std.specs.Prelude.{Result, Ok, Err, OnErr}
 use Rattle.engine.specs.declared.answer.RunAnswer.{RunAnswer}
 use Rattle.engine.specs.Units.{OnlyRemoves}
 use Rattle.engine.specs.Engines.{EngineValue, HasRun}
 use Rattle.stress.specs.declared.engine_turns.Found.{Found}
 use Rattle.stress.specs.declared.engine_turns.Found.TheVariants.{Empty, Drained}
-use Rattle.stress.specs.EngineTurns.{most_commands, IsTurn, HasTurned, IsAny, GoesOn, IsStarted, HasDrained, HasGivenUp, undrained, refused, open_still, most_tries}
+use Rattle.stress.specs.declared.attempt.Attempt.{Attempt}
+use Rattle.stress.specs.declared.attempt.Attempt.TheVariants.{Refused, Sent, SentBare}
+use Rattle.stress.specs.Plans.{PlanValue, body, closes}
+use Rattle.stress.specs.Workers.{WorkerValue, HasTriedNext, is_sent}
+use Rattle.stress.specs.EngineTurns.{most_commands, IsTurn, HasTurned, IsAny, GoesOn, IsStarted, HasDrained, IsRefusedAfterADrain, AreRefused, HasGivenUp, undrained, refused, open_still}
 
 -- ---- turns
 
@@ -48,11 +58,11 @@ at_least n m a b less on = record {
 
 -- one more turn
 pub one_step : (n : ℕ) (a b c : EngineValue) (answer : RunAnswer) → GoesOn n a b → HasRun most_commands b c answer → c.consumer.ring ≡ b.consumer.ring → OnlyRemoves b.unit c.unit
-    → GoesOn (n + 1) a c
-one_step n a b c answer first ran ring removes = on_and_on n 1 a b c first (record {
+    → Grew Consumer b.consumer.trail c.consumer.trail b.consumer.history c.consumer.history → GoesOn (n + 1) a c
+one_step n a b c answer first ran ring removes grew = on_and_on n 1 a b c first (record {
   turns = 1;
   enough = omega arith;
-  turned = (b, refl, record { answer = answer; ran = ran; is = tt });
+  turned = (b, refl, record { answer = answer; ran = ran; is = tt; grew = grew });
   ring = ring;
   removes = removes;
 })
@@ -67,10 +77,25 @@ still_started senders n m ring old new started more = record {
 
 -- ---- what is given up
 
-pub later_given_up : (slots n : ℕ) (a b c : EngineValue) → GoesOn n a b → HasGivenUp slots b c → HasGivenUp slots a c
-later_given_up slots n a b c first (undrained before on busy) = undrained before (at_least (n + 0) 0 a before (omega arith) (on_and_on n 0 a b before first on)) busy
-later_given_up slots n a b c first (refused on) = refused (at_least (n + most_tries) most_tries a c (omega arith) (on_and_on n most_tries a b c first on))
-later_given_up slots n a b c first (open_still before on found) = open_still before (at_least (n + 0) 0 a before (omega arith) (on_and_on n 0 a b before first on)) found
+on_to : (n : ℕ) (a b c : EngineValue) → GoesOn n a b → GoesOn 0 b c → GoesOn 0 a c
+on_to n a b c first next = at_least (n + 0) 0 a c (omega arith) (on_and_on n 0 a b c first next)
+
+pub later_given_up : (plan : PlanValue) (n : ℕ) (a b c : EngineValue) → GoesOn n a b → HasGivenUp plan b c → HasGivenUp plan a c
+later_given_up plan n a b c first (undrained before on busy) = undrained before (on_to n a b before first on) busy
+later_given_up plan n a b c first (refused before on tries) = refused before (on_to n a b before first on) tries
+later_given_up plan n a b c first (open_still before senders on closed how) = open_still before senders (on_to n a b before first on) closed how
+
+pub one_more_refused : (slots : ℕ) (body : List Raw) (closes : Bool) (n : ℕ) (s t u : SenderValue) (a b c : EngineValue) → AreRefused slots body closes n s t a b
+    → IsRefusedAfterADrain slots body closes t u b c → AreRefused slots body closes (n + 1) s u a c
+one_more_refused slots body closes n s t u a b c so_far once =
+    subst (λ (k : ℕ). AreRefused slots body closes k s u a c) (let e : suc n ≡ n + 1 = omega arith in e) (t, b, so_far, once)
+
+-- A try that didn't send was refused.
+pub refused_try : (w v : WorkerValue) (attempt : Attempt) → is_sent attempt ≡ false → HasTriedNext w v attempt
+    → (cause : Cause) × IsRefused (body w.plan w.sender.number (suc w.sent)) (closes w.plan (suc w.sent)) w.sender cause v.sender
+refused_try w v Refused unsent tried = tried.1
+refused_try w v (Sent receipt) unsent tried = let bad : true ≡ false = unsent in cc
+refused_try w v SentBare unsent tried = let bad : true ≡ false = unsent in cc
 
 -- What isn't closed is open.
 pub left_open : (slots : ℕ) (how : Found) (a b : EngineValue) → (how ≡ Drained → ⊥) → HasDrained slots how a b → HasDrained slots Empty a b

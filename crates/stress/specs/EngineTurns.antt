@@ -1,6 +1,15 @@
 -- The engine's turns, and what never changes of it in them.
-use Rattle.std.specs.Prelude.{◌≡◌, ◌≢◌, ℕ, zero, suc, ◌+◌, ◌≤◌, ⊤}
+use Rattle.std.specs.Prelude.{◌≡◌, ◌≢◌, ℕ, zero, suc, ◌+◌, ◌≤◌, ⊤, Bool, List, ◌∷◌, Some, slice_get}
+use Rattle.cmdcodec.specs.declared.raw.Raw.{Raw}
+use Rattle.qindex.specs.Positions.{size}
+use Rattle.ringcore.specs.declared.world.event.Event.TheVariants.{Close}
+use Rattle.ringcore.specs.declared.world.event.Who.TheVariants.{Consumer}
+use Rattle.ringcore.specs.world.Trails.{Trail}
 use Rattle.ring.specs.Rings.{RingValue}
+use Rattle.ring.specs.table.Histories.{Grew}
+use Rattle.ring.specs.declared.sender.cause.Cause.{Cause}
+use Rattle.ring.specs.sender.Senders.{SenderValue}
+use Rattle.ring.specs.sender.Reserving.{IsRefused}
 use Rattle.engine.specs.declared.answer.RunAnswer.{RunAnswer}
 use Rattle.engine.specs.declared.answer.RunAnswer.TheVariants as run
 use Rattle.engine.specs.Units.{OnlyRemoves}
@@ -8,6 +17,8 @@ use Rattle.engine.specs.Engines.{EngineValue, HasRun}
 use Rattle.stress.specs.declared.engine_turns.Found.{Found}
 use Rattle.stress.specs.declared.engine_turns.Found.TheVariants as found
 use Rattle.stress.specs.FirstEntries.{IsFilled}
+use Rattle.stress.specs.Plans.{PlanValue, body, closes}
+use Rattle.stress.specs.Workers.{IsOnPlan}
 
 -- ---- turns
 
@@ -15,11 +26,12 @@ use Rattle.stress.specs.FirstEntries.{IsFilled}
 abbrev pub most_commands : ℕ
 most_commands = 64
 
--- A turn led from `old` to `new`, with such an answer.
+-- A turn led from `old` to `new`, with such an answer, and the run that the consumer knows grew by its steps.
 pub record IsTurn (answers : RunAnswer → Type 0) (old new : EngineValue) : Type 0 where
   pub answer : RunAnswer
   pub ran : HasRun most_commands old new answer
   pub is : answers answer
+  pub grew : Grew Consumer old.consumer.trail new.consumer.trail old.consumer.history new.consumer.history
 
 -- So many turns led from `old` to `new`, one after another, and nothing else.
 abbrev pub HasTurned : (RunAnswer → Type 0) → ℕ → EngineValue → EngineValue → Type 0
@@ -69,13 +81,52 @@ pub record HasDrained (slots : ℕ) (how : Found) (old new : EngineValue) : Type
 abbrev pub IsUndrained : ℕ → EngineValue → EngineValue → Type 0
 IsUndrained slots old new = HasTurned IsBusy (slots + 1) old new
 
+-- ---- what is given up
+
 -- How often a batch is tried, each time after a drain.
 abbrev pub most_tries : ℕ
 most_tries = 8
 
--- It goes on until a drain comes to no end, or for all the tries of a batch, or until the ring is found empty and open
--- although it was to be closed.
-pub data HasGivenUp (slots : ℕ) (old new : EngineValue) : Type 0 where
-  undrained : (before : EngineValue) → GoesOn 0 old before → IsUndrained slots before new → HasGivenUp slots old new
-  refused : GoesOn most_tries old new → HasGivenUp slots old new
-  open_still : (before : EngineValue) → GoesOn 0 old before → HasDrained slots found.Empty before new → HasGivenUp slots old new
+-- A try to reserve this batch was refused, behind a drain that came to its end.
+pub record IsRefusedAfterADrain (slots : ℕ) (body : List Raw) (closes : Bool) (s t : SenderValue) (old new : EngineValue) : Type 0 where
+  pub found : Found
+  pub drained : HasDrained slots found old new
+  pub cause : Cause
+  pub refused : IsRefused body closes s cause t
+
+-- So many such tries, one after another, and nothing else.
+abbrev pub AreRefused : ℕ → List Raw → Bool → ℕ → SenderValue → SenderValue → EngineValue → EngineValue → Type 0
+AreRefused slots body closes zero s t old new = (t ≡ s) × (new ≡ old)
+AreRefused slots body closes (suc n) s t old new =
+    (between : SenderValue) × (drained : EngineValue) × AreRefused slots body closes n s between old drained
+    × IsRefusedAfterADrain slots body closes between t drained new
+
+-- All tries of the next batch of one of the ring's senders were refused.
+pub record IsRefusedForGood (plan : PlanValue) (old new : EngineValue) : Type 0 where
+  pub sent : ℕ
+  pub before : SenderValue
+  pub after : SenderValue
+  pub on_plan : IsOnPlan plan before sent
+  pub ring_is : before.ring ≡ old.consumer.ring
+  pub refused : AreRefused (size plan.log2) (body plan before.number (suc sent)) (closes plan (suc sent)) most_tries before after old new
+
+-- The first of the senders is of this ring, and its newest step is the close.
+pub record HaveClosed (ring : RingValue) (senders : List SenderValue) : Type 0 where
+  pub first : SenderValue
+  pub is : slice_get senders 0 ≡ Some first
+  pub ring_is : first.ring ≡ ring
+  pub older : Trail
+  pub newest : first.trail ≡ Close ∷ older
+
+-- A drain came to no end, or found the ring empty and open.
+pub data IsNotDrained (slots : ℕ) (old new : EngineValue) : Type 0 where
+  no_end : IsUndrained slots old new → IsNotDrained slots old new
+  found_open : HasDrained slots found.Empty old new → IsNotDrained slots old new
+
+-- It goes on until a drain comes to no end, or for all the tries of a batch, or until a drain behind the ring's close
+-- doesn't find it closed.
+pub data HasGivenUp (plan : PlanValue) (old new : EngineValue) : Type 0 where
+  undrained : (before : EngineValue) → GoesOn 0 old before → IsUndrained (size plan.log2) before new → HasGivenUp plan old new
+  refused : (before : EngineValue) → GoesOn 0 old before → IsRefusedForGood plan before new → HasGivenUp plan old new
+  open_still : (before : EngineValue) (senders : List SenderValue) → GoesOn 0 old before → HaveClosed before.consumer.ring senders → IsNotDrained (size plan.log2) before new
+      → HasGivenUp plan old new

@@ -3,7 +3,6 @@ use Rattle.std.specs.Prelude.{◌≡◌, ℕ, ◌≤◌, true, List, ◌∷◌, 
 use Rattle.std.specs.FinMap as finite
 use Rattle.ringcore.specs.declared.world.event.Event.TheVariants.{Ask}
 use Rattle.ringcore.specs.world.Trails.{Trail}
-use Rattle.qindex.specs.Positions.{size}
 use Rattle.ring.specs.Rings.{RingValue}
 use Rattle.ring.specs.sender.Senders.{SenderValue}
 use Rattle.ring.specs.NewRings.{made_with}
@@ -67,4 +66,4 @@ pub record IsUnfinished (plan : PlanValue) : Type 0 where
   pub end : EngineValue
   pub made_is : ring.made_with ≡ made_with plan.log2 plan.senders plan.batches
   pub started : IsStarted plan.senders plan.turns ring engine
-  pub given_up : HasGivenUp (size plan.log2) engine end
+  pub given_up : HasGivenUp plan engine end

@@ -1,5 +1,5 @@
 -- What a worker has sent.
-use Rattle.std.specs.Prelude.{◌≡◌, ℕ, suc, ◌<◌, ◌≤◌, Bool, true, false, cond, List, [], ◌∷◌, ◌++◌, map, Some, None, slice_get}
+use Rattle.std.specs.Prelude.{◌≡◌, ℕ, zero, suc, ◌+◌, if◌then◌else◌, ◌<◌, ◌≤◌, Bool, true, false, cond, List, [], ◌∷◌, ◌++◌, map, Some, None, slice_get}
 use Rattle.cmdcodec.specs.declared.raw.Raw.{Raw}
 use Rattle.ringcore.specs.world.Trails.{numbers_given}
 use Rattle.ringcore.specs.world.Laws.{own_batches}
@@ -7,9 +7,11 @@ use Rattle.ringcore.specs.machine.StepAnswers.{next_number}
 use Rattle.ring.specs.Rings.{RingValue}
 use Rattle.ring.specs.sender.Senders.{SenderValue}
 use Rattle.ring.specs.sender.Publishing.{ReservesNone}
+use Rattle.ring.specs.sender.Reserving.{IsRefused}
+use Rattle.ring.specs.declared.sender.cause.Cause.{Cause}
 use Rattle.stress.specs.declared.attempt.Attempt.{Attempt}
 use Rattle.stress.specs.declared.attempt.Attempt.TheVariants.{Refused, Sent, SentBare}
-use Rattle.stress.specs.Plans.{PlanValue, IsPlan, numbered, planned}
+use Rattle.stress.specs.Plans.{PlanValue, IsPlan, body, closes, numbered, planned}
 
 pub record WorkerValue : Type 0 where
   pub plan : PlanValue
@@ -71,8 +73,31 @@ pub record HasReservedOne (body : List Raw) (closes : Bool) (s t : SenderValue) 
   pub batches : own_batches s.number t.trail ≡ own_batches s.number s.trail ++ record { sender = s.number; number = next_number s.trail closes; body = body } ∷ []
   pub numbers : numbers_given t.trail ≡ cond closes (suc (numbers_given s.trail)) (numbers_given s.trail)
 
--- If it was refused nothing was reserved, else this batch; the receipt is for it.
+-- If it was refused, by what was found then, nothing was reserved, else this batch; the receipt is for it.
 abbrev pub HasTried : List Raw → Bool → SenderValue → SenderValue → Attempt → Type 0
-HasTried body closes s t Refused = ReservesNone s.trail t.trail
+HasTried body closes s t Refused = ReservesNone s.trail t.trail × ((cause : Cause) × IsRefused body closes s cause t)
 HasTried body closes s t (Sent receipt) = HasReservedOne body closes s t × (receipt.sender ≡ s.number) × (next_number s.trail closes ≡ Some receipt.number)
 HasTried body closes s t SentBare = HasReservedOne body closes s t × (next_number s.trail closes ≡ None)
+
+-- A try of the worker's next batch went so.
+abbrev pub HasTriedNext : WorkerValue → WorkerValue → Attempt → Type 0
+HasTriedNext w v attempt = HasTried (body w.plan w.sender.number (suc w.sent)) (closes w.plan (suc w.sent)) w.sender v.sender attempt
+
+-- A try of the worker's next batch led from `w` to `v`.
+pub record IsTry (w v : WorkerValue) : Type 0 where
+  pub attempt : Attempt
+  pub same : assignment v ≡ assignment w
+  pub sent : v.sent ≡ (if is_sent attempt then w.sent + 1 else w.sent)
+  pub tried : HasTriedNext w v attempt
+
+-- So many tries, one after another, and nothing else.
+abbrev pub HasTriedTimes : ℕ → WorkerValue → WorkerValue → Type 0
+HasTriedTimes zero w v = v ≡ w
+HasTriedTimes (suc n) w v = (between : WorkerValue) × HasTriedTimes n w between × IsTry between v
+
+-- It tried until the whole of its plan was sent, or as often as its plan has turns.
+pub record HasWorked (w v : WorkerValue) : Type 0 where
+  pub tries : ℕ
+  pub tried : HasTriedTimes tries w v
+  pub few : tries ≤ w.plan.turns
+  pub enough : (v.sent ≡ v.plan.batches → ⊥) → tries ≡ w.plan.turns

@@ -4,8 +4,7 @@ ghost use Rattle.std.specs.List.{All};
 ghost use Rattle.ringcore.specs.world.ConsumerLaws.{SawDrained};
 ghost use Rattle.ring.specs.NewRings.{new_senders};
 ghost use Rattle.stress.specs.Plans.{IsPlan};
-ghost use Rattle.qindex.specs.Positions.{size};
-ghost use Rattle.stress.specs.EngineTurns.{GoesOn, HasGivenUp};
+ghost use Rattle.stress.specs.EngineTurns.{GoesOn, HasGivenUp, HaveClosed};
 ghost use Rattle.stress.specs.Workers.{IsNew, assignment, assignments, assignment_of, assignments_of, HasSent};
 ghost use Rattle.stress.specs.Reports.{HaveAsked};
 
@@ -53,7 +52,7 @@ fn send_next(ring: &Ring, worker: Worker, engine: &mut Engine) -> Result<Worker,
     ensures sent { IfOk result (λ next. next.sent ≡ worker.sent + 1) }
     ensures engine { OnOk result (GoesOn 1 engine.old engine.new) }
     ensures err { OnErr result (result ≡ Err StressFault.Unfinished) }
-    ensures given_up { OnErr result (HasGivenUp (size worker.plan.log2) engine.old engine.new) }
+    ensures given_up { OnErr result (HasGivenUp worker.plan engine.old engine.new) }
 {
     let mut worker = worker;
     let slots = worker.plan.slots();
@@ -82,7 +81,7 @@ fn send_left(
     ensures sent { IfOk result (λ sender. HasSent plan sender) }
     ensures engine { OnOk result (GoesOn 0 engine.old engine.new) }
     ensures err { OnErr result (result ≡ Err StressFault.Unfinished) }
-    ensures given_up { OnErr result (HasGivenUp (size plan.log2) engine.old engine.new) }
+    ensures given_up { OnErr result (HasGivenUp plan engine.old engine.new) }
 {
     let mut worker = worker;
     for _ in 0..worker.left() {
@@ -111,7 +110,7 @@ fn send_all(
     ensures capacity { IfOk result (λ v. vec_capacity v ≡ vec_capacity room) }
     ensures engine { OnOk result (GoesOn 0 engine.old engine.new) }
     ensures err { OnErr result (result ≡ Err StressFault.Unfinished) }
-    ensures given_up { OnErr result (HasGivenUp (size plan.log2) engine.old engine.new) }
+    ensures given_up { OnErr result (HasGivenUp plan engine.old engine.new) }
 {
     let Some(worker) = workers.pop() else {
         return Ok(room);
@@ -126,13 +125,13 @@ fn send_all(
 fn close_first(plan: Plan, ring: &Ring, mut senders: Vec<Sender>) -> Vec<Sender>
     requires ring { All (λ s. s.ring ≡ ring.now) senders.items }
     requires sent { All (HasSent plan) senders.items }
+    requires some { 1 ≤ vec_len senders }
     ensures assignments { assignments_of plan result.items ≡ assignments_of plan senders.items }
     ensures sent { All (HasSent plan) result.items }
     ensures many { vec_len result ≡ vec_len senders }
+    ensures closed { HaveClosed ring.now result.items }
 {
-    if !senders.is_empty() {
-        senders[0].close(ring);
-    }
+    senders[0].close(ring);
     senders
 }
 
@@ -147,6 +146,7 @@ pub(crate) fn send_and_drain(
     room: Vec<Sender>,
     engine: &mut Engine,
 ) -> Result<Vec<Sender>, StressFault>
+    requires plan { IsPlan plan }
     requires ring { ring.now.made_with.senders ≡ plan.senders }
     requires workers { assignments workers.items ≡ assignments_of plan (new_senders ring.now plan.senders) }
     requires engine { engine.old.consumer.ring ≡ ring.now }
@@ -156,7 +156,7 @@ pub(crate) fn send_and_drain(
     ensures engine { OnOk result (GoesOn 0 engine.old engine.new) }
     ensures drained { OnOk result (SawDrained engine.new.consumer.trail) }
     ensures err { OnErr result (result ≡ Err StressFault.Unfinished) }
-    ensures given_up { OnErr result (HasGivenUp (size plan.log2) engine.old engine.new) }
+    ensures given_up { OnErr result (HasGivenUp plan engine.old engine.new) }
 {
     let senders = send_all(plan, ring, workers, room, engine)?;
     let senders = close_first(plan, ring, senders);

@@ -1,7 +1,7 @@
 //! The engine's part in a run.
 ghost use Rattle.std.specs.Prelude.{◌≡◌, Ok, Err, OnOk, OnErr, IfOk};
 ghost use Rattle.ringcore.specs.world.ConsumerLaws.{SawDrained};
-ghost use Rattle.stress.specs.EngineTurns.{GoesOn, HasTurned, IsAny, HasDrained, HasGivenUp, IsUndrained};
+ghost use Rattle.stress.specs.EngineTurns.{GoesOn, HasTurned, IsAny, HasDrained, IsUndrained, IsNotDrained};
 
 use crate::fault::StressFault;
 use crate::gate::Gate;
@@ -61,7 +61,7 @@ pub(crate) fn drain_closed(ring: &Ring, slots: u32, engine: &mut Engine) -> Resu
     ensures goes_on { GoesOn 1 engine.old engine.new }
     ensures drained { OnOk result (SawDrained engine.new.consumer.trail) }
     ensures err { OnErr result (result ≡ Err StressFault.Unfinished) }
-    ensures given_up { OnErr result (HasGivenUp slots engine.old engine.new) }
+    ensures undrained { OnErr result (IsNotDrained slots engine.old engine.new) }
 {
     let Found::Drained = drain(ring, slots, engine)? else {
         return Err(StressFault::Unfinished);

@@ -1,7 +1,7 @@
 //! A sender that follows its plan.
 ghost use Rattle.std.specs.Prelude.{◌≡◌, ◌<◌, ◌+◌, ◌≤◌, if◌then◌else◌};
 ghost use Rattle.stress.specs.Plans.{IsPlan};
-ghost use Rattle.stress.specs.Workers.{assignment, assignment_of, is_sent, HasSent};
+ghost use Rattle.stress.specs.Workers.{assignment, assignment_of, is_sent, HasSent, HasTriedNext, HasWorked};
 
 use crate::attempt::{Attempt, send_once};
 use crate::gate::Gate;
@@ -55,6 +55,7 @@ impl Worker {
         requires left { self.sent < self.plan.batches }
         ensures assignment { assignment result.0 ≡ assignment self }
         ensures sent { result.0.sent ≡ (if is_sent result.1 then self.sent + 1 else self.sent) }
+        ensures tried { HasTriedNext self result.0 result.1 }
     {
         let Worker { plan, sender, sent } = self;
         let next = sent + 1;
@@ -68,7 +69,8 @@ impl Worker {
     /// Sends as many of its batches as its turns allow.
     pub(crate) fn run<G: Gate>(self, ring: &Ring, gate: &G) -> Worker
         requires { self.sender.ring ≡ ring.now }
-        ensures { assignment result ≡ assignment self }
+        ensures assignment { assignment result ≡ assignment self }
+        ensures worked { HasWorked self result }
     {
         let mut worker = self;
         let id = worker.sender.id();

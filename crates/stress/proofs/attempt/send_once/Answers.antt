@@ -1,5 +1,5 @@
 use Rattle.std.proofs.Common.{Bool, true, false, sym, ap, ◌∙◌, subst, refl}
-use Rattle.stress.specs.declared.attempt.Attempt.TheVariants.{Sent, SentBare}
+use Rattle.stress.specs.declared.attempt.Attempt.TheVariants.{Refused, Sent, SentBare}
 use Rattle.ring.specs.sender.Reservations.{reserved_number}
 use Rattle.stress.specs.Workers.{HasTried}
 use Rattle.stress.proofs.Tried.{refused_none, won, reserved_one}
@@ -16,7 +16,11 @@ returns-in-Ok-clause-tried c =
     )
 
 pub returns-in-Err-clause-tried : goal.returns-in-Err-clause-tried
-returns-in-Err-clause-tried c = refused_none c.args.batch.now true c.args.sender c.in-Err.refused.cause c.in-Err.refused.sender c.in-Err.ensures.refused
+returns-in-Err-clause-tried c =
+    subst (λ (closes : Bool). HasTried c.args.batch.now closes c.args.sender c.in-Err.refused.sender Refused) (sym c.if-closes.true) (
+      refused_none c.args.batch.now true c.args.sender c.in-Err.refused.cause c.in-Err.refused.sender c.in-Err.ensures.refused,
+      (c.in-Err.refused.cause, c.in-Err.ensures.refused),
+    )
 
 pub returns-in-Ok-reserve_bare-clause-tried : goal.returns-in-Ok-reserve_bare-clause-tried
 returns-in-Ok-reserve_bare-clause-tried c =
@@ -25,4 +29,7 @@ returns-in-Ok-reserve_bare-clause-tried c =
 
 pub returns-in-Err-reserve_bare-clause-tried : goal.returns-in-Err-reserve_bare-clause-tried
 returns-in-Err-reserve_bare-clause-tried c =
-    refused_none c.args.batch.now false c.args.sender c.in-Err-reserve_bare.refused.cause c.in-Err-reserve_bare.refused.sender c.in-Err-reserve_bare.ensures.refused
+    subst (λ (closes : Bool). HasTried c.args.batch.now closes c.args.sender c.in-Err-reserve_bare.refused.sender Refused) (sym c.if-closes.false) (
+      refused_none c.args.batch.now false c.args.sender c.in-Err-reserve_bare.refused.cause c.in-Err-reserve_bare.refused.sender c.in-Err-reserve_bare.ensures.refused,
+      (c.in-Err-reserve_bare.refused.cause, c.in-Err-reserve_bare.ensures.refused),
+    )

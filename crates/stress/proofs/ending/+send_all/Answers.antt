@@ -1,7 +1,6 @@
 use Rattle.std.proofs.Common.{◌≡◌, ◌∙◌, List, sym, subst, arith}
 use Rattle.std.proofs.lemmas.List.Elements.{All-push}
 use Rattle.std.specs.List.{All}
-use Rattle.qindex.specs.Positions.{size}
 use Rattle.ring.specs.sender.Senders.{SenderValue}
 use Rattle.stress.specs.Workers.{WorkerValue, assignment, assignment_of, HasSent}
 use Rattle.stress.specs.EngineTurns.{HasGivenUp}
@@ -37,8 +36,8 @@ send_left-requires-clause-engine t c = c.in_ok-senders.ensures.engine.ring ∙ c
 
 pub returns-in_err-sender-clause-given_up : goal.returns-in_err-sender-clause-given_up
 returns-in_err-sender-clause-given_up t c =
-    when_err c.from_residual-in_err-sender.result (HasGivenUp (size c.args.plan.log2) c.args.engine.now c.send_left.new.engine)
-    (later_given_up (size c.args.plan.log2) 0 c.args.engine.now c.send_all.new.engine c.send_left.new.engine c.in_ok-senders.ensures.engine c.in_err-sender.ensures.given_up)
+    when_err c.from_residual-in_err-sender.result (HasGivenUp c.args.plan c.args.engine.now c.send_left.new.engine)
+    (later_given_up c.args.plan 0 c.args.engine.now c.send_all.new.engine c.send_left.new.engine c.in_ok-senders.ensures.engine c.in_err-sender.ensures.given_up)
 
 pub returns-clause-sent : goal.returns-clause-sent
 returns-clause-sent t c =

@@ -1,5 +1,4 @@
 use Rattle.std.proofs.Common.{◌≡◌, ap, ◌∙◌, subst, arith}
-use Rattle.qindex.specs.Positions.{size}
 use Rattle.stress.specs.Plans.{PlanValue}
 use Rattle.stress.specs.Workers.{Assignment}
 use Rattle.stress.specs.EngineTurns.{HasGivenUp}
@@ -9,9 +8,9 @@ use Rattle.stress.proofs.ending.send_left.Goals as goal
 pub returns-in_err-worker-clause-given_up : goal.returns-in_err-worker-clause-given_up
 returns-in_err-worker-clause-given_up c =
     let same : c.loop.worker.plan ≡ c.args.plan = ap (λ (a : Assignment). a.plan) c.loop.invariant.0 ∙ c.requires.plan in
-    when_err c.from_residual.result (HasGivenUp (size c.args.plan.log2) c.args.engine.now c.send_next.new.engine)
-    (later_given_up (size c.args.plan.log2) 0 c.args.engine.now c.loop.engine c.send_next.new.engine c.loop.invariant.2
-    (subst (λ (p : PlanValue). HasGivenUp (size p.log2) c.loop.engine c.send_next.new.engine) same c.in_err-worker.ensures.given_up))
+    when_err c.from_residual.result (HasGivenUp c.args.plan c.args.engine.now c.send_next.new.engine)
+    (later_given_up c.args.plan 0 c.args.engine.now c.loop.engine c.send_next.new.engine c.loop.invariant.2
+    (subst (λ (p : PlanValue). HasGivenUp p c.loop.engine c.send_next.new.engine) same c.in_err-worker.ensures.given_up))
 
 pub loop-preserved : goal.loop-preserved
 loop-preserved c = (
