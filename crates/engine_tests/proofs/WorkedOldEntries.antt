@@ -4,7 +4,7 @@ use Rattle.std.specs.Prelude.{slice_get}
 use Rattle.std.specs.FinMap as finite
 use Rattle.cmdcodec.specs.declared.raw.Raw.{Raw}
 use Rattle.cmdcodec.specs.declared.command.Command.TheVariants.{CfgiSte}
-use Rattle.cmdcodec.specs.Opcodes.{opcode_named}
+use Rattle.cmdcodec.specs.Opcodes.{opcode_named, is_sync}
 use Rattle.cmdcodec.specs.Words.{encoding}
 use Rattle.cmdcodec.specs.Legality.{first_ill}
 use Rattle.cmdcodec.specs.Spelling.{Spells}
@@ -12,7 +12,7 @@ use Rattle.ringcore.specs.declared.world.event.Who.TheVariants.{Sender}
 use Rattle.ringcore.specs.declared.world.event.Event.{Event}
 use Rattle.ringcore.specs.declared.world.event.Event.TheVariants.{Ask}
 use Rattle.ringcore.specs.world.Trails.{Run, Trail, trail_of}
-use Rattle.ringcore.specs.world.World.{sync_raw, taken_as}
+use Rattle.ringcore.specs.world.World.{Taken, sync_raw, taken_as, world}
 use Rattle.ringcore.specs.world.Delivery.{Batch, batches, joined}
 use Rattle.ringcore.specs.world.Laws.{IsApplied}
 use Rattle.caches.specs.declared.tag.Tag.{Tag}
@@ -23,9 +23,9 @@ use Rattle.ring.specs.Rings.{RingValue}
 use Rattle.ring.specs.sender.Senders.{SenderValue}
 use Rattle.ring.specs.Finishing.{SummaryValue}
 use Rattle.engine.specs.Settled.{IsSettled}
-use Rattle.engine.specs.Counting.{CountsValue}
-use Rattle.engine.specs.Engines.{EngineValue}
-use Rattle.engine.specs.Ends.{NoneIsOlder, reserved_ahead, WasToldTruly, IsEngineEnd}
+use Rattle.engine.specs.Counting.{CountsValue, how_many, taken}
+use Rattle.engine.specs.Engines.{EngineValue, HasAppliedRun}
+use Rattle.engine.specs.Ends.{NoneIsOlder, reserved_ahead, WasToldTruly, WasToldAllTruly, IsEngineEnd}
 use Rattle.ringcore_tests.proofs.WorkedCases.{x, y}
 use Rattle.ringcore_tests.proofs.WorkedTold.{told_21, told_22}
 
@@ -194,3 +194,35 @@ pub end_tells_each_sender : (ring : RingValue) (senders : List SenderValue) (eng
 end_tells_each_sender ring senders engine summary counts entries end run_is s at trail_is held =
     let older = trail_of (Sender 1) told_21 in
     own_command_is_missed entries older held (subst (λ run. WasToldTruly run entries 1 1 older) run_is (end.told 1 s at [] older 1 trail_is))
+
+-- ---- an end of that run
+
+-- An entry is held that CFGI_STE of its stream should have removed.
+pub end_holds_nothing_stale : (ring : RingValue) (senders : List SenderValue) (engine : EngineValue) (summary : SummaryValue) (counts : CountsValue) (entries : Entries) (end : IsEngineEnd ring senders engine summary counts entries)
+    → end.end_is.run ≡ told_22 → ¬ Holds entries 5 0
+unfolding opcode_named
+end_holds_nothing_stale ring senders engine summary counts entries end run_is held =
+    let settled : IsSettled entries (world told_22).taken = subst (λ (run : Run). IsSettled entries (world run).taken) run_is end.settled in
+    (settled (Ste 5) (entry_of 5 0) held).uncovered 0 (taken_as x) refl (leb-true 0 0 refl) (record { applied = refl; command = CfgiSte 5 true; spelled = spelled_x; covered = refl })
+
+-- Each CMD_SYNC that was taken counts.
+pub end_counts_its_syncs : (ring : RingValue) (senders : List SenderValue) (engine : EngineValue) (summary : SummaryValue) (counts : CountsValue) (entries : Entries) (end : IsEngineEnd ring senders engine summary counts entries)
+    → end.end_is.run ≡ told_22 → counts.syncs ≡ how_many (λ t. is_sync t.raw) (world told_22).taken
+end_counts_its_syncs ring senders engine summary counts entries end run_is =
+    end.counted.syncs ∙ ap (λ (run : Run). how_many (λ (t : Taken). is_sync t.raw) (world run).taken) run_is
+
+pub end_counts_all_that_was_taken : (ring : RingValue) (senders : List SenderValue) (engine : EngineValue) (summary : SummaryValue) (counts : CountsValue) (entries : Entries) (end : IsEngineEnd ring senders engine summary counts entries)
+    → summary.taken ≡ 3 → taken counts ≡ 3
+end_counts_all_that_was_taken ring senders engine summary counts entries end three = sym end.taken_are ∙ three
+
+-- What was told by an ask before the newest counts too.
+pub first_of_two_asks_was_told_truly : (run : Run) (entries : Entries) → WasToldAllTruly run entries 1 (Ask 2 ∷ Ask 1 ∷ []) → WasToldTruly run entries 1 1 []
+first_of_two_asks_was_told_truly run entries truly = truly (Ask 2 ∷ []) [] 1 refl
+
+-- ---- a run of the engine
+
+-- It ends at an illegal command, and not at a legal one.
+pub run_goes_on_at_a_legal_command : (most count removed : ℕ) (old new : EngineValue) (did : HasAppliedRun most count removed old new) (raw : Raw)
+    → slice_get did.pending.raws count ≡ Some raw → ¬ (first_ill raw ≡ None)
+run_goes_on_at_a_legal_command most count removed old new did raw at legal =
+    let found = did.longest raw at in let none : None ≡ Some found.0 = sym legal ∙ found.1 in absurd (cc)

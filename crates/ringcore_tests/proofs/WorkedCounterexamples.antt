@@ -6,11 +6,12 @@ use Rattle.cmdcodec.specs.declared.raw.Raw.{Raw}
 use Rattle.qindex.specs.declared.control.Control.{Control}
 use Rattle.ringcore.specs.declared.world.event.Who.TheVariants.{Consumer, Sender}
 use Rattle.ringcore.specs.declared.world.event.Event.TheVariants.{Look, Won, Test, Advance, Close}
-use Rattle.ringcore.specs.world.Trails.{Run}
-use Rattle.ringcore.specs.world.World.{Item, World, opening, sync_raw}
+use Rattle.ringcore.specs.world.Trails.{Run, trail_of}
+use Rattle.ringcore.specs.declared.world.event.Outcome.TheVariants.{Applied}
+use Rattle.ringcore.specs.world.World.{Item, World, Taken, opening, world, sync_raw}
 use Rattle.ringcore.specs.world.Allowed.{Ring, IsRun}
-use Rattle.ringcore.specs.world.Delivery.{Batch, joined, TakenInOrder, NoneAfterClose, IsCompleted}
-use Rattle.ringcore.specs.world.Laws.{StandsAt, StandInOrder}
+use Rattle.ringcore.specs.world.Delivery.{Batch, batches, joined, TakenInOrder, NumberedInOrder, NoneAfterClose, IsCompleted}
+use Rattle.ringcore.specs.world.Laws.{StandsAt, StandInOrder, IsApplied, BatchesAreUnbroken, SendersOrderIsKept, batches_of, own_batches}
 use Rattle.ringcore_tests.proofs.WorkedCases.{x, y, shows}
 
 -- the low words of the first command, and of the second
@@ -164,3 +165,30 @@ another_is_not_completed it =
     let ahead : joined it.ahead ++ it.body ≡ x ∷ [] = ap₂ (λ ahead (b : Batch). joined ahead ++ b.body) only.0 (sym only.1) in
     let same : 0x600000003 ≡ 0x500000003 = ap first_lo it.all_ahead.1 ∙ ap (λ raws. first_lo (raws ++ it.all_ahead.0)) ahead in
     absurd (omega (arith, same))
+
+-- ---- each sender's batches in order, and each batch in its place
+
+abbrev numbered_2 : Run
+numbered_2 = (Sender 0, Won (x ∷ []) (Some 2)) ∷ []
+
+abbrev first_number : List ℕ → ℕ
+first_number [] = 0
+first_number (n ∷ ns) = n
+
+pub two_is_not_the_first_number : ¬ NumberedInOrder numbered_2
+two_is_not_the_first_number in_order = let same : 2 ≡ 1 = ap first_number (in_order 0) in absurd (omega (arith, same))
+
+-- What a sender reserved is what is reserved of it, batch by batch.
+pub order_is_kept_batch_by_batch : (run : Run) (s : ℕ) (bs : List Batch) → SendersOrderIsKept run → batches_of s (batches run) ≡ bs → own_batches s (trail_of (Sender s) run) ≡ bs
+order_is_kept_batch_by_batch run s bs kept is = sym (kept s) ∙ is
+
+abbrev two_batches : Run
+two_batches = (Sender 1, Won (y ∷ []) None) ∷ (Sender 0, Won (x ∷ []) None) ∷ []
+
+pub second_stands_behind_the_first : BatchesAreUnbroken two_batches → StandsAt (world two_batches) 1 (bare 1 y)
+second_stands_behind_the_first unbroken = unbroken (bare 0 x ∷ []) [] (bare 1 y) refl
+
+-- A closing sync that was taken without effect isn't applied.
+pub replaced_sync_is_not_applied : (run : Run) (s number : ℕ) (it : IsApplied run s number) (t : Taken)
+    → slice_get (world run).taken (length (joined it.completed.ahead ++ it.completed.body)) ≡ Some t → t.outcome ≡ Applied
+replaced_sync_is_not_applied run s number it t at = ap (λ (t : Taken). t.outcome) (same_Some _ _ (sym at ∙ it.applied))
