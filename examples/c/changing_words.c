@@ -1,3 +1,4 @@
+/* SPDX-License-Identifier: MIT OR Apache-2.0 */
 /* Another thread changes the words of a batch and of a tag while calls read them, as a guest can whose memory a hypervisor
  * passes on: the words of a CMD_SYNC to a cell of nobody, and of an entry of 2^200 pages. Each word is read once, so what is
  * judged is what is used: a call does what it would do for some words, and nothing that it would refuse.

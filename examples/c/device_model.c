@@ -1,3 +1,4 @@
+/* SPDX-License-Identifier: MIT OR Apache-2.0 */
 /* The command queue of a device model: commands lie in the guest's memory, a write of SMMU_CMDQ_PROD is the doorbell, and
  * the library judges each command and keeps the entries that translations and configurations are cached in.
  *

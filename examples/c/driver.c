@@ -1,3 +1,4 @@
+/* SPDX-License-Identifier: MIT OR Apache-2.0 */
 /* Drivers' threads send batches into one ring and wait for their completion, and a thread of its own is the SMMU: it takes
  * commands and applies them. One of the drivers sends an illegal command, which stops the queue for all, until a thread
  * that has nothing else to do acknowledges it.

@@ -1,3 +1,4 @@
+/* SPDX-License-Identifier: MIT OR Apache-2.0 */
 /* Passes commands on: drivers' threads send batches into a ring, whose consumer copies the commands into the queue of some
  * hardware. It completes what that hardware's CONS has passed, and nothing else, so no driver is told too early. The
  * hardware is played by a thread with a unit of its own.

@@ -1,3 +1,4 @@
+// SPDX-License-Identifier: MIT OR Apache-2.0
 // A unit from C++: a class that owns its handle, which is moved and never copied.
 #include "smmuq.h"
 

@@ -1,3 +1,4 @@
+/* SPDX-License-Identifier: MIT OR Apache-2.0 */
 /* Reads commands, 32 hexadecimal digits a line as they lie in the queue, and prints what each says. Each legal one is
  * encoded again from its fields, and that has to decode to the same fields.
  *

@@ -1,3 +1,4 @@
+# SPDX-License-Identifier: MIT OR Apache-2.0
 """Judges commands by the shared library: python3 judge.py LIBSMMUQ_SO < WORDS
 
 Each line of the input is 32 hexadecimal digits, a command as it lies in the queue. What each says is printed, or the

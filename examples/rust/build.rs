@@ -1,3 +1,4 @@
+// SPDX-License-Identifier: MIT OR Apache-2.0
 //! SMMUQ_LIB names the folder of libsmmuq.a, as `tools/make-c-library FOLDER` makes it in FOLDER/lib.
 fn main() {
     println!("cargo:rerun-if-env-changed=SMMUQ_LIB");

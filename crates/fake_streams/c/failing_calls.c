@@ -1,3 +1,4 @@
+/* SPDX-License-Identifier: MIT OR Apache-2.0 */
 // Calls of libc that fail or are cut short, for a program that is started with this library ahead of libc (LD_PRELOAD).
 // tools/fail-calls builds it and says by the environment what is to happen:
 //

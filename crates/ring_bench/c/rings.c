@@ -1,3 +1,4 @@
+/* SPDX-License-Identifier: MIT OR Apache-2.0 */
 // Rings of 1,024 slots, to compare ours with: many senders, each on a thread, and one consumer on a thread.
 //
 //   linux_seq_cst  the scheme of Linux's driver, by the steps of our ring, every access sequentially consistent

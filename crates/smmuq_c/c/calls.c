@@ -1,3 +1,4 @@
+/* SPDX-License-Identifier: MIT OR Apache-2.0 */
 /* Times calls of the C library, for bench/c: the best of so many rounds each, a line of the call's name and nanoseconds.
  *
  *     calls < WORDS          32 hexadecimal digits a line

@@ -1,3 +1,4 @@
+/* SPDX-License-Identifier: MIT OR Apache-2.0 */
 /* A decoder as one writes it by hand: a switch over the opcode, shifts and masks. It is what smmuq_decode is timed beside. */
 #ifndef DECODER_H
 #define DECODER_H

@@ -1,3 +1,4 @@
+/* SPDX-License-Identifier: MIT OR Apache-2.0 */
 // Calls of the C library with each allocation failing in turn, alone and with all behind it. Where memory is wanting a call
 // is refused by the status that the header names, and all handles are as they were. tools/check-c links it with
 // --wrap=malloc,--wrap=realloc.

@@ -1,3 +1,4 @@
+/* SPDX-License-Identifier: MIT OR Apache-2.0 */
 // The translation table of an emulator's SMMU model, to compare a unit's time with: a hash table that keeps its hashes
 // and the pointers to its nodes in two arrays, each node in memory of its own. Without a way to find the entries that
 // an invalidation by address covers, it walks the whole table and removes what matches.

@@ -1,3 +1,4 @@
+// SPDX-License-Identifier: MIT OR Apache-2.0
 //! Two senders and an engine, a thread each, over the C library. The types here keep what C callers owe: a handle is never
 //! copied, and one call at a time is made on it.
 mod sys;

@@ -1,3 +1,4 @@
+// SPDX-License-Identifier: MIT OR Apache-2.0
 //! The calls of smmuq.h that this program makes.
 
 /// `smmuq_handle`.
