@@ -54,8 +54,8 @@ static uint32_t doorbell(struct model *model, uint32_t prod) {
     return serve(model);
 }
 
-/* The guest acknowledges the error by SMMU_GERRORN. Linux has written a CMD_SYNC over the illegal command by then: what the
- * slot holds now says whether the old one is judged again, or was given up. */
+/* The guest acknowledges the error by SMMU_GERRORN. Linux has written a CMD_SYNC over the illegal command by then (it does so
+ * after CERROR_ILL, the only error of this unit): what the slot holds now says whether the old one is judged again, or was given up. */
 static uint32_t write_gerrorn(struct model *model, uint32_t gerrorn) {
     uint32_t status = smmuq_acknowledge(&model->unit, gerrorn, SMMUQ_REREAD);
     return status == SMMUQ_OK ? serve(model) : status;
