@@ -218,8 +218,6 @@ waiting, and then a line for each command from CONS to PROD.
 Example:
     smmuq image --log2 7 --prod 0x98 --cons 0x85 < QUEUE
 
-P and C are decimal without a leading 0, or hexadecimal behind 0x.
-
 Refused, with exit status 1 and one of these lines alone:
     bad log2        L isn't 1 to 19
     bad prod        a bit above the wrap bit, or no number

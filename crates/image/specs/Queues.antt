@@ -1,5 +1,5 @@
 -- The queue that two registers tell of, and what is at fault in them.
-use Rattle.std.specs.Prelude.{◌≡◌, ◌≤◌, ℕ, ◌-◌, ◌*◌, ◌/◌, ◌%◌, ◌^◌, nat_lt, nat_le, ◌&&◌, Option, Some, None, Result, Ok, Err, IsErr, List, ◌++◌, codes, decimal, if◌then◌else◌}
+use Rattle.std.specs.Prelude.{◌≡◌, ◌≤◌, ℕ, ◌-◌, ◌*◌, ◌/◌, ◌%◌, ◌^◌, nat_lt, nat_le, ◌&&◌, Option, Some, None, Result, Ok, Err, List, ◌++◌, codes, decimal, if◌then◌else◌}
 use Rattle.qindex.specs.Positions.{size}
 use Rattle.qindex.specs.Indexes.{distance}
 use Rattle.image.specs.declared.asked.Asked.{Asked}
@@ -47,10 +47,6 @@ with_log2 log2 prod cons = if nat_le 1 log2 && nat_le log2 19 then with_prod log
 
 unfoldable pub queue_of : Asked → Result Queue ImageFault
 queue_of asked = with_log2 asked.log2 asked.prod asked.cons
-
--- The size or the registers are at fault.
-abbrev pub HasFault : Asked → Type 0
-HasFault asked = IsErr (queue_of asked)
 
 -- the one line of a fault
 abbrev pub fault_text : ImageFault → List ℕ

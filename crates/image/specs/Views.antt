@@ -1,9 +1,8 @@
 -- What is shown of a queue, by its registers and the bytes of its memory.
-use Rattle.std.specs.Prelude.{ℕ, ◌+◌, ◌-◌, ◌*◌, ◌%◌, ◌^◌, ◌==◌, ◌&&◌, not, nat_lt, nat_le, List, [], ◌++◌, Bool, true, false, Result, Ok, Err, take, drop, length, codes, decimal, if◌then◌else◌}
+use Rattle.std.specs.Prelude.{ℕ, ◌+◌, ◌-◌, ◌*◌, ◌%◌, ◌^◌, ◌==◌, nat_lt, List, [], ◌++◌, Bool, true, false, Result, Ok, Err, take, drop, length, codes, decimal, if◌then◌else◌}
 use Rattle.std.specs.List.{flat_map, range_with_len}
 use Rattle.std.specs.Fmt.{digits, format_spec, padded_integral}
 use Rattle.cmdcodec.specs.Bytes.{raw_of}
-use Rattle.cmdcodec.specs.declared.raw.Raw.{Raw}
 use Rattle.decode.specs.CommandText.{words_text}
 use Rattle.qindex.specs.Positions.{size, place, wrap_bit}
 use Rattle.image.specs.declared.asked.Asked.{Asked}
@@ -61,27 +60,8 @@ standing waiting = if waiting then codes "waiting" else codes "taken"
 abbrev pub standing_text : ℕ → Bool → List ℕ
 standing_text slot waiting = codes "slot " ++ decimal slot ++ codes " " ++ standing waiting ++ codes " "
 
-abbrev pub raw_at : List ℕ → ℕ → Raw
-raw_at image slot = raw_of (take 16 (drop (16 * slot) image))
-
--- The words of a CMD_SYNC in a slot of a queue of so many bytes, after its MSI of 0 was written there. All of the first
--- word is 0; the second is the address of the slot, in a queue that is aligned to its length and isn't at 0.
-abbrev pub is_overwritten : ℕ → ℕ → Raw → Bool
-is_overwritten bytes slot raw = raw.lo == 0 && (nat_le bytes raw.hi && (nat_lt raw.hi (2 ^ 52) && raw.hi % bytes == 16 * slot))
-
--- A CMD_SYNC that was taken, and whose MSI told so in its own slot.
-abbrev pub is_completed : List ℕ → Queue → ℕ → Bool
-is_completed image queue slot = not (is_waiting queue slot) && is_overwritten (16 * size queue.cons.geometry) slot (raw_at image slot)
-
-abbrev pub completed_text : List ℕ
-completed_text = codes "CMD_SYNC completed by its MSI\n"
-
--- what a slot holds, where all are shown
-abbrev pub held_text : List ℕ → Queue → ℕ → List ℕ
-held_text image queue slot = if is_completed image queue slot then completed_text else slot_text image slot
-
 abbrev pub slot_line : List ℕ → Queue → ℕ → List ℕ
-slot_line image queue slot = standing_text slot (is_waiting queue slot) ++ held_text image queue slot
+slot_line image queue slot = standing_text slot (is_waiting queue slot) ++ slot_text image slot
 
 abbrev pub slots : Queue → List ℕ
 slots queue = range_with_len 0 (size queue.cons.geometry)

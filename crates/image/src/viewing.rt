@@ -1,11 +1,10 @@
 //! `image` from any reader to any writer.
-ghost use Rattle.std.specs.Prelude.{◌≡◌, ◌*◌, ◌++◌, ◌^◌, ◌⊎◌, ℕ, Bool, List, Option, Ok, Err, IfErr, IfSome, IsErrAnd, OnErr, OnOk, length, string_bytes, false, true};
+ghost use Rattle.std.specs.Prelude.{◌≡◌, ◌*◌, ◌++◌, ℕ, Bool, List, Option, Ok, IfErr, IfSome, OnErr, OnOk, length, string_bytes, false, true};
 ghost use Rattle.std.specs.Io.KnownBytes.{Appends};
 ghost use Rattle.qindex.specs.Positions.{size};
 ghost use Rattle.script.specs.Errors.{is_endless, is_read};
 ghost use Rattle.script.specs.Serving.{WritesFront};
-ghost use Rattle.script.specs.Writing.{ReadsAtLeast};
-ghost use Rattle.image.specs.Queues.{HasFault, IsShown, fault_text};
+ghost use Rattle.image.specs.Queues.{IsShown, fault_text};
 ghost use Rattle.image.specs.Showings.{Moved};
 ghost use Rattle.image.specs.Tellings.{Serves, TellsOfBytes, TellsOfImage};
 ghost use Rattle.image.specs.Views.{answer_by, answer_to, lines_shown, view};
@@ -85,9 +84,7 @@ fn answer_fault<W: Write>(
     fault: ImageFault,
     output: &mut W,
 ) -> Result<Ending, ServeError>
-    ensures answer { Serves result (fault_text fault, false) (W.contents output.old) (W.contents output.new) }
-    ensures read { IfErr result (λ e. is_read e ≡ false) }
-    ensures endless { IfErr result (λ e. is_endless e ≡ false) }
+    ensures { Serves result (fault_text fault, false) (W.contents output.old) (W.contents output.new) }
 {
     match refuse(alloc, fault, output) {
         Ok(()) => Ok(Ending::Refused),
@@ -105,8 +102,7 @@ fn answer_view<W: Write>(
 ) -> Result<Ending, ServeError>
     requires shown { IsShown queue.now }
     requires image { length image.now ≡ 16 * size queue.now.cons.geometry }
-    ensures answer { Serves result (view image.now queue.now all, true) (W.contents output.old) (W.contents output.new) }
-    ensures endless { IfErr result (λ e. is_endless e ≡ false) }
+    ensures { Serves result (view image.now queue.now all, true) (W.contents output.old) (W.contents output.new) }
 {
     match show(alloc, image, queue, all, output) {
         Ok(()) => Ok(Ending::Finished),
@@ -123,8 +119,7 @@ fn answer<W: Write>(
     output: &mut W,
 ) -> Result<Ending, ServeError>
     requires { IsShown queue.now }
-    ensures answer { Serves result (answer_by (Ok queue.now) all image.now) (W.contents output.old) (W.contents output.new) }
-    ensures endless { IfErr result (λ e. is_endless e ≡ false) }
+    ensures { Serves result (answer_by (Ok queue.now) all image.now) (W.contents output.old) (W.contents output.new) }
 {
     if image.len() == 16 * queue.cons.geometry().size() as usize {
         answer_view(alloc, image, queue, all, output)
@@ -140,10 +135,7 @@ fn serve<R: Read, W: Write>(
     input: &mut R,
     output: &mut W,
 ) -> Result<Ending, ServeError>
-    ensures answer { IfSome (R.remaining input.old) (λ bytes. Serves result (answer_to asked.now bytes) (W.contents output.old) (W.contents output.new)) }
-    ensures endless { IfErr result (λ e. is_endless e ≡ true → ReadsAtLeast (2 ^ 63) (R.remaining input.old) (R.remaining input.new)) }
-    ensures unread { HasFault asked.now → R.remaining input.new ≡ R.remaining input.old }
-    ensures judged { HasFault asked.now → IfErr result (λ e. (is_read e ≡ false) × (is_endless e ≡ false)) }
+    ensures { IfSome (R.remaining input.old) (λ bytes. Serves result (answer_to asked.now bytes) (W.contents output.old) (W.contents output.new)) }
 {
     match queue_of(asked) {
         Ok(queue) => match read_image(alloc, input) {
@@ -156,8 +148,7 @@ fn serve<R: Read, W: Write>(
 
 /// Tells that memory ran out, after a beginning of an answer was written.
 fn tell<W: Write>(output: &mut W, e: AllocError) -> Status
-    ensures memory { (result ≡ Status.NoMemory) ⊎ (result ≡ Status.WriteFailed) }
-    ensures told { (answer : List ℕ × Bool) (before : Option (List ℕ)) → WritesFront before (W.contents output.old) answer.0 → TellsOfBytes result answer before (W.contents output.new) }
+    ensures { (answer : List ℕ × Bool) (before : Option (List ℕ)) → WritesFront before (W.contents output.old) answer.0 → TellsOfBytes result answer before (W.contents output.new) }
 {
     match tell_of_memory(output, e) {
         ServeError::Memory(_) => Status::NoMemory,
@@ -167,9 +158,7 @@ fn tell<W: Write>(output: &mut W, e: AllocError) -> Status
 
 /// Returns the status of what was served, once a lack of memory is told.
 fn finish<W: Write>(served: Result<Ending, ServeError>, output: &mut W) -> Status
-    ensures endless { result ≡ Status.Endless → IsErrAnd served (λ e. is_endless e ≡ true) }
-    ensures read { result ≡ Status.ReadFailed → IsErrAnd served (λ e. is_read e ≡ true) }
-    ensures told { (answer : List ℕ × Bool) (before : Option (List ℕ)) → Serves served answer before (W.contents output.old) → TellsOfBytes result answer before (W.contents output.new) }
+    ensures { (answer : List ℕ × Bool) (before : Option (List ℕ)) → Serves served answer before (W.contents output.old) → TellsOfBytes result answer before (W.contents output.new) }
 {
     match served {
         Ok(Ending::Finished) => Status::Good,
@@ -191,7 +180,7 @@ pub fn image<R: Read, W: Write>(
     input: &mut R,
     output: &mut W,
 ) -> Status
-    ensures { TellsOfImage asked.now result (R.remaining input.old) (R.remaining input.new) (W.contents output.old) (W.contents output.new) }
+    ensures { TellsOfImage asked.now result (R.remaining input.old) (W.contents output.old) (W.contents output.new) }
 {
     let served = serve(alloc, asked, input, output);
     finish(served, output)

@@ -70,37 +70,6 @@ fn commands_wait_across_the_wrap(rt: HostRuntime) {
     expect_view(&rt, &registers(1, 7, false), text);
 }
 
-/// Four slots of a queue at 0x80001000, with 0 in the first word of each: the second words are the addresses of slots 0,
-/// 1, 1 and 3.
-const OVERWRITTEN: [u8; 64] = [
-    0, 0, 0, 0, 0, 0, 0, 0, 0x00, 0x10, 0, 0x80, 0, 0, 0, 0, //
-    0, 0, 0, 0, 0, 0, 0, 0, 0x10, 0x10, 0, 0x80, 0, 0, 0, 0, //
-    0, 0, 0, 0, 0, 0, 0, 0, 0x10, 0x10, 0, 0x80, 0, 0, 0, 0, //
-    0, 0, 0, 0, 0, 0, 0, 0, 0x30, 0x10, 0, 0x80, 0, 0, 0, 0, //
-];
-
-#[test]
-fn a_taken_slot_may_hold_its_msi(rt: HostRuntime) {
-    let text = "size 4\nprod 0x00000004\ncons 0x00000003\nerr 0\nwaiting 1\n\
-                slot 0 taken CMD_SYNC completed by its MSI\n\
-                slot 1 taken CMD_SYNC completed by its MSI\n\
-                slot 2 taken illegal ILL1: unknown opcode\n\
-                slot 3 waiting illegal ILL1: unknown opcode\n";
-    let asked = registers(4, 3, true);
-    expect_of(&rt, &asked, OVERWRITTEN.as_slice(), text, Status::Good);
-}
-
-/// Memory that was never written holds no CMD_SYNC.
-#[test]
-fn slots_of_zeros_are_illegal(rt: HostRuntime) {
-    let text = "size 4\nprod 0x00000000\ncons 0x00000000\nerr 0\nwaiting 0\n\
-                slot 0 taken illegal ILL1: unknown opcode\nslot 1 taken illegal ILL1: unknown opcode\n\
-                slot 2 taken illegal ILL1: unknown opcode\nslot 3 taken illegal ILL1: unknown opcode\n";
-    let zeros = [0; 64];
-    let asked = registers(0, 0, true);
-    expect_of(&rt, &asked, zeros.as_slice(), text, Status::Good);
-}
-
 #[test]
 fn all_slots_wait_or_are_taken(rt: HostRuntime) {
     let text = "size 4\nprod 0x00000005\ncons 0x00000003\nerr 0\nwaiting 2\n\

@@ -15,11 +15,11 @@ use Rattle.encode.specs.Tellings.{ExitsAsEncode}
 use Rattle.image.specs.Tellings.{ExitsAsImage}
 use Rattle.words.specs.Tellings.{ExitsAsWords}
 use Rattle.program.specs.Explaining.{Explains}
-use Rattle.program.specs.Images.{asked_of, is_unclear, unclear_line}
+use Rattle.program.specs.Images.{asked_of}
 use Rattle.program.specs.Stressing.{ExitsAsStress, plan_of}
 use Rattle.program.specs.Telling.{ExitsAsTold, line_of}
 use Rattle.program.specs.Troubles.{TellsTrouble}
-use Rattle.program.specs.Watching.{HasFailed, Seen, Tells, TellsWith}
+use Rattle.program.specs.Watching.{HasFailed, Seen, Tells}
 
 -- What the status of `decode` says: the line that says what the word means was told, and the word is legal or isn't; or
 -- memory ran out; or a call of the writer failed. It reads nothing.
@@ -43,7 +43,7 @@ ExitsAs Schedule exit input rest before after = ExitsAsSchedule exit input rest 
 ExitsAs (Decode word) exit input rest before after = Keeps input rest × ExitsAsDecode exit word.now before after
 ExitsAs (Stress numbers) exit input rest before after = Keeps input rest × ExitsAsStress exit (plan_of numbers) before after
 ExitsAs Words exit input rest before after = ExitsAsWords exit input rest before.bytes after.bytes
-ExitsAs (Image arguments) exit input rest before after = ExitsAsImage (asked_of arguments) exit input rest before.bytes after.bytes
+ExitsAs (Image arguments) exit input rest before after = ExitsAsImage (asked_of arguments) exit input before.bytes after.bytes
 ExitsAs Encode exit input rest before after = ExitsAsEncode exit input rest before.bytes after.bytes
 
 -- The words have no fault, and it did what they ask for; on standard error it told first of the line that ended a
@@ -52,21 +52,10 @@ pub record ExitsAsAsked (words : List Text) (exit : ℕ) (input rest : Option (L
   pub sound : fault_of smmuq words ≡ []
   pub subcommand : Subcommand
   pub asked : AskFor words subcommand
-  pub clear : is_unclear subcommand ≡ false
   pub done : ExitsAs subcommand exit input rest before after
   pub faults_between : Seen
   pub explained : Explains subcommand exit input before after faults_before faults_between
   pub troubles : TellsTrouble exit after faults_between faults_after
-
--- The words have no fault, but a register is written in a way that asks for nothing; that was told, and nothing was read.
-pub record ExitsAsUnclear (words : List Text) (exit : ℕ) (input rest : Option (List ℕ)) (before after faults_before faults_after : Seen) : Type 0 where
-  pub sound : fault_of smmuq words ≡ []
-  pub subcommand : Subcommand
-  pub asked : AskFor words subcommand
-  pub unclear : is_unclear subcommand ≡ true
-  pub told : TellsWith 2 unclear_line exit faults_before faults_after
-  pub silent : after ≡ before
-  pub unread : Keeps input rest
 
 -- Memory ran out over the words, or they ask for help, or they have a fault; that was told, and nothing was read.
 pub record ExitsAsMisunderstood (words : List Text) (exit : ℕ) (input rest : Option (List ℕ)) (before after faults_before faults_after : Seen) : Type 0 where
@@ -78,5 +67,4 @@ pub record ExitsAsMisunderstood (words : List Text) (exit : ℕ) (input rest : O
 abbrev pub ExitsAsProgram : List Text → ℕ → Option (List ℕ) → Option (List ℕ) → Seen → Seen → Seen → Seen → Type 0
 ExitsAsProgram words exit input rest before after faults_before faults_after =
     ExitsAsAsked words exit input rest before after faults_before faults_after
-    ⊎ (ExitsAsUnclear words exit input rest before after faults_before faults_after
-    ⊎ ExitsAsMisunderstood words exit input rest before after faults_before faults_after)
+    ⊎ ExitsAsMisunderstood words exit input rest before after faults_before faults_after

@@ -6,7 +6,7 @@ ghost use Rattle.program.specs.Stressing.{HasPlan};
 ghost use Rattle.program.specs.Program.{Decodes, ExitsAs, ExitsAsDecode, ExitsAsProgram};
 
 use crate::explaining::{exit_of_lines, exit_of_script};
-use crate::reading::{image_to_exit, is_unclear, tell_unclear};
+use crate::reading::image_to_exit;
 use crate::serving::decode_text;
 use crate::stressing::stress_to_exit;
 use crate::telling::{print_line, tell, tell_of_memory};
@@ -96,9 +96,6 @@ pub fn program<'a, A: Threads + AllocGlobal + Sync, I: Read, O: Write, F: Write>
 {
     match understand(rt.alloc(), words) {
         Ok(subcommand) => {
-            if is_unclear(&subcommand) {
-                return tell_unclear(faults);
-            }
             let exit = serve(rt, subcommand, input, output, faults);
             tell_trouble(rt.alloc(), exit, output, faults);
             exit

@@ -31,17 +31,6 @@ fn long_lines(rt: HostRuntime) {
     }
 }
 
-/// A register with a leading zero may be hexadecimal digits whose 0x was left out.
-#[test]
-fn registers_with_a_leading_zero(rt: HostRuntime) {
-    let why =
-        "error: --prod and --cons take decimal digits without a leading 0, or 0x and hexadecimal digits: write 98 or 0x98 for 098\n";
-    for (prod, cons) in [("00000098", "0x85"), ("98", "0085"), ("00", "0")] {
-        let words = ["image", "--log2", "7", "--prod", prod, "--cons", cons];
-        expect_explained(&rt, &words, "", (2, "", why));
-    }
-}
-
 #[test]
 fn the_memory_of_a_queue(rt: HostRuntime) {
     let command = "\x03\0\0\0\x05\0\0\0\x01\0\0\0\0\0\0\0";
