@@ -8,17 +8,15 @@ use Rattle.std.specs.BTreeMap as tree
 use Rattle.std.specs.FinMap as finite
 use Rattle.std.specs.FinMap.{get-empty, get-insert, get-remove, same_map}
 use Rattle.std.proofs.lemmas.List.Folds.{list_any-append}
-use Rattle.cmdcodec.specs.declared.command.Command.{Command}
 use Rattle.caches.specs.declared.tag.Tag.{Tag}
 use Rattle.caches.specs.declared.tag.Entry.{Entry}
 use Rattle.caches.specs.declared.key.Key.{Key}
 use Rattle.caches.specs.declared.entry_map.EntryMap.TheInside.{Inside}
 use Rattle.caches.specs.declared.spans.Spans.{Spans}
 use Rattle.caches.specs.Blocks.{IsBlock}
-use Rattle.caches.specs.Covers.{covers}
 use Rattle.caches.specs.EntryMaps.{unremoved, IsEntryMap}
-use Rattle.caches.specs.Held.{Entries, without_covered}
-use Rattle.caches.specs.Keys.{key_of, tag_of, page_of, span_of, covers_key, IsKept}
+use Rattle.caches.specs.Held.{Entries, without_passing}
+use Rattle.caches.specs.Keys.{key_of, tag_of, page_of, span_of, passes_key, IsKept}
 use Rattle.caches.specs.OneStreams.{is_of_substream, HaveNoSubstreams}
 use Rattle.caches.specs.Spanned.{IsSpanOf, AreSpansOf}
 use Rattle.caches.specs.Sweep.{IsKeeping, IsWithout}
@@ -28,7 +26,7 @@ use Rattle.std.proofs.lemmas.Map.Views.{tells_apart}
 use Rattle.caches.proofs.KeyOrder.{key_cmp, key_exact}
 use Rattle.caches.proofs.Kept.{shorter, some_within}
 use Rattle.caches.proofs.Pruned.{none_either, some_was, some_not_none}
-use Rattle.caches.proofs.Viewed.{get_unlisted, get_without_covered, len_unlisted, one_less, unlisted_lacks, key_back, tag_back}
+use Rattle.caches.proofs.Viewed.{get_unlisted, get_without, len_unlisted, one_less, unlisted_lacks, key_back, tag_back}
 
 -- What is held in a map but for the listed ones is an entry of the map.
 pub in_map : (m : BTreeMap Key Entry) (ks : List Key) (t : Tag) (e : Entry) → finite.get (unlisted m ks) t ≡ Some e → tree.get key_cmp m (key_of t) ≡ Some e
@@ -72,11 +70,11 @@ module _ (m n : BTreeMap Key Entry) (part : IsPartOf key_cmp n m) where
     | Some x ↦ λ e h. spanned q (some_is _ x (part q x e))
   ] refl some
 
-pub part_without : (c : Command) (m n : BTreeMap Key Entry) → IsWithout key_cmp (covers_key c) m n → IsPartOf key_cmp n m
-part_without c m n w q e there = some_was _ _ e (sym (w q) ∙ there)
+pub part_without : (p : Tag → Bool) (m n : BTreeMap Key Entry) → IsWithout key_cmp (passes_key p) m n → IsPartOf key_cmp n m
+part_without p m n w q e there = some_was _ _ e (sym (w q) ∙ there)
 
-pub without_main : (c : Command) (m : Entries) → HaveNoSubstreams m → HaveNoSubstreams (without_covered c m)
-without_main c m none t e is = none t e (some_was (covers c t) _ e (sym (get_without_covered c m t) ∙ is))
+pub without_main : (p : Tag → Bool) (m : Entries) → HaveNoSubstreams m → HaveNoSubstreams (without_passing p m)
+without_main p m none t e is = none t e (some_was (p t) _ e (sym (get_without p m t) ∙ is))
 
 pub removed_main : (m : Entries) (t : Tag) → HaveNoSubstreams m → HaveNoSubstreams (finite.remove m t)
 removed_main m t none u e is = none u e (some_was (eq_by_cmp tag_cmp u t) _ e (sym (get-remove tag_cmp_total m t u) ∙ is))
@@ -117,15 +115,15 @@ put_stays a b k e before own put block page more added main after counted =
     }
 
 -- Where a tag's entry is gone, what is left is left without that too.
-is_left : (c : Command) (m n : BTreeMap Key Entry) → IsWithout key_cmp (covers_key c) m n → (t : Tag) → finite.get (unlisted n []) t ≡ None → (u : Tag) → IsSome (finite.get (unlisted n []) u) → IsSome (finite.get (finite.remove (unlisted m []) t) u)
-is_left c m n w t gone u some = subst IsSome (sym (get-remove tag_cmp_total (unlisted m []) t u)) (elim (eq_by_cmp tag_cmp u t) as (λ b. eq_by_cmp tag_cmp u t ≡ b → IsSome (cond b None (finite.get (unlisted m []) u))) [
+is_left : (p : Tag → Bool) (m n : BTreeMap Key Entry) → IsWithout key_cmp (passes_key p) m n → (t : Tag) → finite.get (unlisted n []) t ≡ None → (u : Tag) → IsSome (finite.get (unlisted n []) u) → IsSome (finite.get (finite.remove (unlisted m []) t) u)
+is_left p m n w t gone u some = subst IsSome (sym (get-remove tag_cmp_total (unlisted m []) t u)) (elim (eq_by_cmp tag_cmp u t) as (λ b. eq_by_cmp tag_cmp u t ≡ b → IsSome (cond b None (finite.get (unlisted m []) u))) [
   | true ↦ λ at. absurd (some_not_none _ some (ap (finite.get (unlisted n [])) (tag_cmp_exact u t ((Equal-is (tag_cmp u t)).0 at)) ∙ gone))
-  | false ↦ λ _. subst IsSome (sym (get_unlisted m [] u)) (some_within (covers_key c (key_of u)) _ (subst IsSome (get_unlisted n [] u ∙ w (key_of u)) some))
+  | false ↦ λ _. subst IsSome (sym (get_unlisted m [] u)) (some_within (passes_key p (key_of u)) _ (subst IsSome (get_unlisted n [] u ∙ w (key_of u)) some))
 ] refl)
 
 -- Where as many are left as there were, nothing was taken out.
-none_gone : (c : Command) (m n : BTreeMap Key Entry) → IsWithout key_cmp (covers_key c) m n → tree.IsOrdered key_cmp m → tree.IsOrdered key_cmp n → length n.entries ≡ length m.entries → (q : Key) → tree.get key_cmp n q ≡ tree.get key_cmp m q
-none_gone c m n w om on same q = w q ∙ elim (covers_key c q) as (λ b. covers_key c q ≡ b → cond b None (tree.get key_cmp m q) ≡ tree.get key_cmp m q) [
+none_gone : (p : Tag → Bool) (m n : BTreeMap Key Entry) → IsWithout key_cmp (passes_key p) m n → tree.IsOrdered key_cmp m → tree.IsOrdered key_cmp n → length n.entries ≡ length m.entries → (q : Key) → tree.get key_cmp n q ≡ tree.get key_cmp m q
+none_gone p m n w om on same q = w q ∙ elim (passes_key p q) as (λ b. passes_key p q ≡ b → cond b None (tree.get key_cmp m q) ≡ tree.get key_cmp m q) [
   | false ↦ λ _. refl
   | true ↦ λ covered. elim (tree.get key_cmp m q) as (λ o. tree.get key_cmp m q ≡ o → None ≡ o) [
     | None ↦ λ _. refl
@@ -134,15 +132,15 @@ none_gone c m n w om on same q = w q ∙ elim (covers_key c q) as (λ b. covers_
         let some : is_some (finite.get (unlisted m []) t) ≡ true = ap is_some (get_unlisted m [] t ∙ ap (tree.get key_cmp m) (key_back q) ∙ there) in
         let less = one_less (unlisted m []) t some in
         let gone : finite.get (unlisted n []) t ≡ None = get_unlisted n [] t ∙ ap (tree.get key_cmp n) (key_back q) ∙ w q ∙ ap (λ b. cond b None (tree.get key_cmp m q)) covered in
-        let within : finite.len (unlisted n []) ≤ finite.len (finite.remove (unlisted m []) t) = shorter tag_cmp_total (finite.remove (unlisted m []) t) (unlisted n []) (λ u some. is_left c m n w t gone u some) in
+        let within : finite.len (unlisted n []) ≤ finite.len (finite.remove (unlisted m []) t) = shorter tag_cmp_total (finite.remove (unlisted m []) t) (unlisted n []) (λ u some. is_left p m n w t gone u some) in
         let before = len_unlisted m om in
         let after = len_unlisted n on in
         absurd (omega (arith, same, before, after, within, less.0, less.1))
   ] refl
 ] refl
 
-pub unlisted_whole : (c : Command) (m n : BTreeMap Key Entry) (ks : List Key) → IsWithout key_cmp (covers_key c) m n → tree.IsOrdered key_cmp m → tree.IsOrdered key_cmp n → length n.entries ≡ length m.entries → unlisted n ks ≡ unlisted m ks
-unlisted_whole c m n ks w om on same = same_map tag_cmp_total tag_cmp_exact _ _ (λ t. get_unlisted n ks t ∙ ap (cond (is_listed ks t) None) (none_gone c m n w om on same (key_of t)) ∙ sym (get_unlisted m ks t))
+pub unlisted_whole : (p : Tag → Bool) (m n : BTreeMap Key Entry) (ks : List Key) → IsWithout key_cmp (passes_key p) m n → tree.IsOrdered key_cmp m → tree.IsOrdered key_cmp n → length n.entries ≡ length m.entries → unlisted n ks ≡ unlisted m ks
+unlisted_whole p m n ks w om on same = same_map tag_cmp_total tag_cmp_exact _ _ (λ t. get_unlisted n ks t ∙ ap (cond (is_listed ks t) None) (none_gone p m n w om on same (key_of t)) ∙ sym (get_unlisted m ks t))
 
 -- ---- a list is made anew
 either_none : (a s : Bool) (o : Option Entry) → cond a None o ≡ None → cond (a || s) None o ≡ None

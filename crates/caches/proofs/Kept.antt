@@ -13,17 +13,15 @@ use Rattle.std.specs.FinMap.Entries.{below_all}
 use Rattle.std.proofs.lemmas.Map.Steps.{length-le_from_keys}
 use Rattle.std.proofs.lemmas.Map.Entries.{length-keys_of}
 use Rattle.std.proofs.lemmas.Map.Keys.{IsDistinct-cons}
-use Rattle.cmdcodec.specs.declared.command.Command.{Command}
 use Rattle.caches.specs.declared.tag.Tag.{Tag}
 use Rattle.caches.specs.declared.tag.Entry.{Entry}
 use Rattle.caches.specs.declared.fault.CacheFault.{CacheFault}
 use Rattle.caches.specs.declared.caches.Caches.TheInside.{Inside}
-use Rattle.caches.specs.Covers.{covers}
 use Rattle.caches.specs.TagOrder.{tag_cmp, tag_cmp_total}
-use Rattle.caches.specs.Held.{Entries, without_covered}
+use Rattle.caches.specs.Held.{Entries, without_passing}
 use Rattle.caches.specs.Stored.{IsFilled}
 use Rattle.caches.specs.Views.{AreCaches}
-use Rattle.caches.proofs.Viewed.{get_without_covered}
+use Rattle.caches.proofs.Viewed.{get_without}
 
 left : (a b : Bool) → T (a && b) → T a
 left true b p = tt
@@ -71,11 +69,11 @@ less_are a b same h p less =
     let limit = h.limit in
     record { limit = omega (arith, same, limit); room = omega (arith, same, shrinks, room) }
 
-pub len_without : (c : Command) (m : Entries) → finite.len (without_covered c m) ≤ finite.len m
-len_without c m = shorter tag_cmp_total m (without_covered c m) (λ t s. some_within (covers c t) _ (subst IsSome (get_without_covered c m t) s))
+pub len_without : (p : Tag → Bool) (m : Entries) → finite.len (without_passing p m) ≤ finite.len m
+len_without p m = shorter tag_cmp_total m (without_passing p m) (λ t s. some_within (p t) _ (subst IsSome (get_without p m t) s))
 
-pub are_without : (c : Command) (a b : Inside) → b.capacity ≡ a.capacity → AreCaches a → b.held ≡ without_covered c a.held → AreCaches b
-are_without c a b same h e = less_are a b same h (covers c) (λ t. ap (λ m. finite.get m t) e ∙ get_without_covered c a.held t)
+pub are_without : (p : Tag → Bool) (a b : Inside) → b.capacity ≡ a.capacity → AreCaches a → b.held ≡ without_passing p a.held → AreCaches b
+are_without p a b same h e = less_are a b same h p (λ t. ap (λ m. finite.get m t) e ∙ get_without p a.held t)
 
 pub are_evicted : (a b : Inside) (t : Tag) → b.capacity ≡ a.capacity → AreCaches a → b.held ≡ finite.remove a.held t → AreCaches b
 are_evicted a b t same h e = less_are a b same h (λ q. eq_by_cmp tag_cmp q t) (λ q. ap (λ m. finite.get m q) e ∙ get-remove tag_cmp_total a.held t q)

@@ -13,7 +13,7 @@ use Rattle.caches.specs.Held.{held, without_covered}
 use Rattle.caches.specs.TagOrder.{tag_cmp_total, tag_cmp_exact}
 use Rattle.caches.specs.Laws.{HeldSpeaksOfEachTagOnce, UncoveredEntriesStay, Range31IsAllStreams, Size52IsAllPages, NsnhIsAllMachines, MeetingIsToShareAPage}
 use Rattle.caches.proofs.Standing.{held_are}
-use Rattle.caches.proofs.Viewed.{get_without_covered}
+use Rattle.caches.proofs.Viewed.{get_without}
 
 pub once : HeldSpeaksOfEachTagOnce
 once h x y s u same =
@@ -28,7 +28,7 @@ uncovered true None h = refl
 uncovered true (Some e) h = let n : true ≡ false = h e refl in cc
 
 pub stay : UncoveredEntriesStay
-stay c m none = same_map tag_cmp_total tag_cmp_exact (without_covered c m) m (λ t. get_without_covered c m t ∙ uncovered (covers c t) (finite.get m t) (none t))
+stay c m none = same_map tag_cmp_total tag_cmp_exact (without_covered c m) m (λ t. get_without (covers c) m t ∙ uncovered (covers c t) (finite.get m t) (none t))
 
 all_held : (n m size : ℕ) → n < size → m < size → holds (aligned n size) m ≡ true
 all_held n m size h k =

@@ -27,7 +27,7 @@ use Rattle.caches.specs.OnePages.{key_in, is_block_at, is_on}
 use Rattle.caches.specs.TagOrder.{tag_cmp, tag_cmp_total, tag_cmp_exact}
 use Rattle.caches.proofs.Aligned.{aligned_start}
 use Rattle.caches.proofs.Pruned.{none_either}
-use Rattle.caches.proofs.Viewed.{get_without_covered, key_back}
+use Rattle.caches.proofs.Viewed.{get_without, key_back}
 
 pub same_bool : (a b : Bool) → (a ≡ true → b ≡ true) → (b ≡ true → a ≡ true) → a ≡ b
 same_bool true b f g = sym (f refl)
@@ -144,7 +144,7 @@ without_passing c test m n agree after = same_map tag_cmp_total tag_cmp_exact n 
       | None ↦ λ _. none_either (test t) None refl ∙ sym (none_either (covers c t) None refl)
       | Some e ↦ λ is. ap (λ b. cond b None (Some e)) (sym (agree t e is))
     ] refl
-    ∙ sym (get_without_covered c m t))
+    ∙ sym (get_without (covers c) m t))
 
 -- ---- span by span
 span_in : (h : Holder) (p n : ℕ) → span_of (key_of (tag_of (key_in h p n))) ≡ n

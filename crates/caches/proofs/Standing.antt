@@ -7,9 +7,10 @@ use Rattle.std.specs.FinMap.{get-empty, get-insert, get-remove, same_map}
 use Rattle.std.proofs.lemmas.List.Elements.{All-nil, All-cons, All-head, All-tail}
 use Rattle.caches.specs.declared.tag.Tag.{Tag}
 use Rattle.caches.specs.declared.tag.Entry.{Entry}
+use Rattle.caches.specs.Covers.{covers}
 use Rattle.caches.specs.Held.{Item, Fill, Evict, Take, History, held, ends, IsStanding, HeldAre, Entries}
 use Rattle.caches.specs.TagOrder.{tag_cmp, tag_cmp_total, tag_cmp_exact}
-use Rattle.caches.proofs.Viewed.{get_without_covered, same_option}
+use Rattle.caches.proofs.Viewed.{get_without, same_option}
 
 -- An item that doesn't end the entry of a tag leaves it; one that does leaves none, or its own entry.
 standing_more : (i : Item) (h : History) (e : Entry) → ends i e.tag ≡ false → IsStanding h e → IsStanding (i ∷ h) e
@@ -24,7 +25,7 @@ get_held : (i : Item) (h : History) (t : Tag) → finite.get (held (i ∷ h)) t 
 unfolding given
 get_held (Fill e) h t = get-insert tag_cmp_total (held h) e.tag e t
 get_held (Evict u) h t = get-remove tag_cmp_total (held h) u t
-get_held (Take c) h t = get_without_covered c (held h) t
+get_held (Take c) h t = get_without (covers c) (held h) t
 
 -- what is held at a tag
 abbrev StandsAt : History → Tag → Entry → Type 0

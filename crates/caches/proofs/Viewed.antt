@@ -17,7 +17,6 @@ use Rattle.std.proofs.lemmas.Map.{lookup-none}
 use Rattle.std.proofs.lemmas.Map.Views.{tells_apart}
 use Rattle.std.proofs.lemmas.Map.Entries.{none_past_head}
 use Rattle.std.proofs.lemmas.Map.Keys.{IsDistinct-from_sorted, sorted_tail}
-use Rattle.cmdcodec.specs.declared.command.Command.{Command}
 use Rattle.caches.specs.declared.tag.Scope.TheVariants.{Global, Of}
 use Rattle.caches.specs.declared.tag.Tag.{Tag}
 use Rattle.caches.specs.declared.tag.Tag.TheVariants.{Ste, Cd, S1, S2, El2, Atc}
@@ -25,10 +24,9 @@ use Rattle.caches.specs.declared.tag.Entry.{Entry}
 use Rattle.caches.specs.declared.key.Stage.TheVariants.{Two, One}
 use Rattle.caches.specs.declared.key.Key.{Key}
 use Rattle.caches.specs.declared.key.Key.TheVariants.{Configuration, Machine, Hypervisor, Endpoint}
-use Rattle.caches.specs.Covers.{covers}
-use Rattle.caches.specs.Keys.{key_of, tag_of, covers_key}
+use Rattle.caches.specs.Keys.{key_of, tag_of, passes_key}
 use Rattle.caches.specs.TagOrder.{tag_cmp, tag_cmp_total, tag_cmp_exact}
-use Rattle.caches.specs.Held.{Entries, without_covered}
+use Rattle.caches.specs.Held.{Entries, without_passing}
 use Rattle.caches.specs.Sweep.{IsWithout}
 use Rattle.caches.specs.Unlisted.{tagged, is_listed, unlisted}
 use Rattle.caches.proofs.KeyOrder.{key_cmp, key_total, key_exact}
@@ -120,9 +118,9 @@ len_unlisted m s =
 pub unlisted_empty : (m : BTreeMap Key Entry) → tree.IsEmpty m → unlisted m [] ≡ finite.empty
 unlisted_empty m none = same_map tag_cmp_total tag_cmp_exact _ _ (λ t. get_unlisted m [] t ∙ ap (lookup (is_at (key_cmp (key_of t)))) none ∙ sym (get-empty tag_cmp t))
 
--- ---- commands
-pub get_without_covered : (c : Command) (m : Entries) (t : Tag) → finite.get (without_covered c m) t ≡ cond (covers c t) None (finite.get m t)
-get_without_covered c m t = get-retain_keys m (λ t. not (covers c t)) t (λ x e. ap (λ y. not (covers c y)) (sym (tag_cmp_exact t x e))) ∙ turned (covers c t) _ _
+-- ---- tests
+pub get_without : (p : Tag → Bool) (m : Entries) (t : Tag) → finite.get (without_passing p m) t ≡ cond (p t) None (finite.get m t)
+get_without p m t = get-retain_keys m (λ t. not (p t)) t (λ x e. ap (λ y. not (p y)) (sym (tag_cmp_exact t x e))) ∙ turned (p t) _ _
 
 -- ---- one entry put in or taken out
 flip : (x y : Tag) → eq_by_cmp tag_cmp x y ≡ eq_by_cmp tag_cmp y x
@@ -155,13 +153,13 @@ either_order true false o = refl
 either_order false true o = refl
 either_order false false o = refl
 
--- What a command covers goes from the map, listed or not.
-pub unlisted_without : (c : Command) (m n : BTreeMap Key Entry) (ks : List Key) → IsWithout key_cmp (covers_key c) m n → unlisted n ks ≡ without_covered c (unlisted m ks)
-unlisted_without c m n ks w = same_map tag_cmp_total tag_cmp_exact _ _ (λ t.
+-- What passes a test goes from the map, listed or not.
+pub unlisted_without : (p : Tag → Bool) (m n : BTreeMap Key Entry) (ks : List Key) → IsWithout key_cmp (passes_key p) m n → unlisted n ks ≡ without_passing p (unlisted m ks)
+unlisted_without p m n ks w = same_map tag_cmp_total tag_cmp_exact _ _ (λ t.
     let o = tree.get key_cmp m (key_of t) in
-    get_unlisted n ks t ∙ ap (cond (is_listed ks t) None) (w (key_of t) ∙ ap (λ u. cond (covers c u) None o) (tag_back t))
-    ∙ sym (none_if_either (is_listed ks t) (covers c t) o) ∙ either_order (is_listed ks t) (covers c t) o
-    ∙ sym (get_without_covered c (unlisted m ks) t ∙ ap (cond (covers c t) None) (get_unlisted m ks t)))
+    get_unlisted n ks t ∙ ap (cond (is_listed ks t) None) (w (key_of t) ∙ ap (λ u. cond (p u) None o) (tag_back t))
+    ∙ sym (none_if_either (is_listed ks t) (p t) o) ∙ either_order (is_listed ks t) (p t) o
+    ∙ sym (get_without p (unlisted m ks) t ∙ ap (cond (p t) None) (get_unlisted m ks t)))
 
 -- A key that is listed counts as removed.
 pub unlisted_push : (m : BTreeMap Key Entry) (ks : List Key) (k : Key) → unlisted m (ks ++ k ∷ []) ≡ finite.remove (unlisted m ks) (tag_of k)
@@ -305,10 +303,10 @@ module _ (m n : BTreeMap Key Entry) (ks js : List Key) (k : Key) (e : Entry) (wa
   pub held_len : finite.len (unlisted n js) ≡ cond (is_some held) (finite.len now) (finite.len now + 1)
   held_len = ap (λ (x : Entries). finite.len x) held_after ∙ len_put now e.tag e held held_before
 
-pub without_none : (c : Command) (m : Entries) → finite.len m ≡ 0 → m ≡ without_covered c m
-without_none c m none = same_map tag_cmp_total tag_cmp_exact m (without_covered c m) (λ t.
+pub without_none : (p : Tag → Bool) (m : Entries) → finite.len m ≡ 0 → m ≡ without_passing p m
+without_none p m none = same_map tag_cmp_total tag_cmp_exact m (without_passing p m) (λ t.
     let gone : finite.get m t ≡ None = ap (λ x. finite.get x t) (empty_of_len m none) ∙ get-empty tag_cmp t in
-    gone ∙ sym (get_without_covered c m t ∙ none_either (covers c t) (finite.get m t) gone))
+    gone ∙ sym (get_without p m t ∙ none_either (p t) (finite.get m t) gone))
 
 -- An entry found under a tag has that tag, if every one found does.
 pub own_tag : (found : Option Entry) (t : Tag) → ((e : Entry) → found ≡ Some e → e.tag ≡ t) → IfSome found (λ e. e.tag ≡ t)

@@ -1,5 +1,5 @@
 -- Which entries are held after a history.
-use Rattle.std.specs.Prelude.{◌≡◌, Bool, false, not, List, [], ◌∷◌, ◌++◌, Some}
+use Rattle.std.specs.Prelude.{◌≡◌, Bool, false, not, List, [], ◌∷◌, ◌++◌, Some, filter, map}
 use Rattle.std.specs.Ordering.{eq_by_cmp}
 use Rattle.std.specs.FinMap as finite
 use Rattle.std.specs.FinMap.{FinMap}
@@ -23,9 +23,13 @@ pub data Item : Type 0 where
 abbrev pub History : Type 0
 History = List Item
 
+-- the entries whose tags don't pass a test
+abbrev pub without_passing : (Tag → Bool) → Entries → Entries
+without_passing passes entries = finite.retain_keys entries (λ tag. not (passes tag))
+
 -- the entries that the command doesn't cover
 abbrev pub without_covered : Command → Entries → Entries
-without_covered command entries = finite.retain_keys entries (λ tag. not (covers command tag))
+without_covered command entries = without_passing (covers command) entries
 
 -- what is held after a history
 abbrev pub held : History → Entries
@@ -39,6 +43,10 @@ abbrev pub ends : Item → Tag → Bool
 ends (Fill entry) tag = eq_by_cmp tag_cmp tag entry.tag
 ends (Evict other) tag = eq_by_cmp tag_cmp tag other
 ends (Take command) tag = covers command tag
+
+-- evictions of all that these entries hold under tags that pass a test
+abbrev pub evictions : (Tag → Bool) → Entries → History
+evictions passes entries = map Evict (filter passes (finite.keys entries))
 
 -- The history has a fill of this entry that no later item ends.
 pub record IsStanding (history : History) (entry : Entry) : Type 0 where

@@ -74,8 +74,11 @@ abbrev pub IsOfMachines : Key → Type 0
 IsOfMachines (Machine vmid page span stage) = Unit {0}
 IsOfMachines other = ⊥
 
+abbrev pub passes_key : (Tag → Bool) → Key → Bool
+passes_key passes key = passes (tag_of key)
+
 abbrev pub covers_key : Command → Key → Bool
-covers_key command key = covers command (tag_of key)
+covers_key command key = passes_key (covers command) key
 
 -- an entry that may be held under the tag
 pub record IsKept (tag : Tag) (entry : Entry) : Type 0 where

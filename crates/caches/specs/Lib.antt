@@ -4,6 +4,7 @@ pub mod Blocks
 pub mod Covers
 pub mod Held
 pub mod Keys
+pub mod Kinds
 pub mod Laws
 pub mod Limits
 pub mod OnePages

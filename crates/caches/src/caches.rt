@@ -1,16 +1,17 @@
 //! The caches: entries up to a capacity.
-ghost use Rattle.std.specs.Prelude.{◌≡◌, ◌+◌, ◌<◌, ◌≤◌, ◌↔◌, IfOk, IfSome, OnOk, OnErr, Err, None, [], ◌∷◌};
+ghost use Rattle.std.specs.Prelude.{◌≡◌, ◌+◌, ◌<◌, ◌≤◌, ◌↔◌, IfOk, IfSome, OnOk, OnErr, Err, None, [], ◌∷◌, ◌++◌};
 ghost use Rattle.std.specs.FinMap as finite;
 ghost use Rattle.caches.specs.Limits.{most_entries, IsCapacity};
 ghost use Rattle.caches.specs.declared.tag.Entry.{Entry};
 ghost use Rattle.caches.specs.Blocks.{IsBlock};
-ghost use Rattle.caches.specs.Held.{without_covered, held, History, Fill, Evict, Take};
+ghost use Rattle.caches.specs.Held.{without_covered, without_passing, evictions, held, History, Fill, Evict, Take};
 ghost use Rattle.caches.specs.Stored.{IsFilled, IsFillAnswer, IsListAnswer};
 
 use crate::entry_map::EntryMap;
 use crate::fault::CacheFault;
 use crate::rank::Rank;
 use crate::tag::{Entry, Tag};
+use crate::tag_test::TagTest;
 use cmdcodec::Command;
 use std::alloc::Global;
 use std::marker::Model;
@@ -112,6 +113,21 @@ impl Caches {
         let was = self.held.get(tag);
         self.held.remove(Rank::of(tag));
         was
+    }
+
+    /// Removes all entries whose tags pass `test` and returns how many there were. Takes no memory, so that it makes
+    /// room in full caches whatever else is short; one walk along all entries (this project's choice).
+    pub fn evict_all<T: TagTest>(&mut self, test: &T) -> u32
+        ensures after { self.new.entries ≡ without_passing (T.passing test.now) self.old.entries }
+        ensures capacity { self.new.capacity ≡ self.old.capacity }
+        ensures removed { result + finite.len self.new.entries ≡ finite.len self.old.entries }
+        ensures few { result ≤ most_entries }
+        ensures held { (h : History) → self.old.entries ≡ held h
+            → self.new.entries ≡ held (evictions (T.passing test.now) self.old.entries ++ h) }
+    {
+        let held = self.len();
+        self.held.remove_passing(test);
+        (held - self.len()) as u32
     }
 
     /// Puts `entry` in and returns the one held under its tag before, if any.

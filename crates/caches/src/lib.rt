@@ -22,6 +22,7 @@
 mod caches;
 mod covering;
 mod entry_map;
+mod evicting;
 mod fault;
 mod indexed_map;
 mod key;
@@ -34,6 +35,7 @@ mod slot;
 mod spans;
 mod sweep;
 mod tag;
+mod tag_test;
 mod walk;
 
 pub use caches::{Caches, MOST_ENTRIES};
@@ -43,3 +45,4 @@ pub use laws::{
     ranges_cover_their_pages, uncovered_entries_stay, whole_spaces_are_covered,
 };
 pub use tag::{Entry, Scope, Tag};
+pub use tag_test::{Kind, TagTest};

@@ -11,6 +11,8 @@ mod capacity;
 #[cfg(test)]
 mod coverage;
 #[cfg(test)]
+mod evicting;
+#[cfg(test)]
 mod listing;
 #[cfg(test)]
 mod memory;

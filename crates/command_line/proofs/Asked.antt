@@ -45,7 +45,7 @@ of_replay rows Replay h = refl
 of_replay rows Schedule h = h
 of_replay rows (Decode word) h = h
 of_replay rows (Stress numbers) h = absurd (differ _ _ refl h.0)
-of_replay rows Words h = absurd (differ _ _ refl h)
+of_replay rows (Words asked) h = absurd (differ _ _ refl h.0)
 of_replay rows (Image asked) h = absurd (differ _ _ refl h.0)
 of_replay rows Encode h = absurd (differ _ _ refl h)
 
@@ -54,7 +54,7 @@ of_schedule rows Replay h = absurd (h.0 refl)
 of_schedule rows Schedule h = h
 of_schedule rows (Decode word) h = h
 of_schedule rows (Stress numbers) h = absurd (differ _ _ refl h.0)
-of_schedule rows Words h = absurd (differ _ _ refl h)
+of_schedule rows (Words asked) h = absurd (differ _ _ refl h.0)
 of_schedule rows (Image asked) h = absurd (differ _ _ refl h.0)
 of_schedule rows Encode h = absurd (differ _ _ refl h)
 
@@ -63,7 +63,7 @@ of_decode rows Replay has h = absurd (true≢false (ap is_some (sym has.1 ∙ h.
 of_decode rows Schedule has h = h
 of_decode rows (Decode word) has h = h
 of_decode rows (Stress numbers) has h = absurd (differ _ _ refl h.0)
-of_decode rows Words has h = absurd (differ _ _ refl h)
+of_decode rows (Words asked) has h = absurd (differ _ _ refl h.0)
 of_decode rows (Image asked) has h = absurd (differ _ _ refl h.0)
 of_decode rows Encode has h = absurd (differ _ _ refl h)
 
@@ -78,7 +78,7 @@ of_stress : (rows : List Row) (subcommand : Subcommand) → HasNumbers rows → 
 of_stress rows Replay has h = absurd (h.1 refl)
 of_stress rows Schedule has h = h
 of_stress rows (Decode word) has h = h
-of_stress rows Words has h = absurd (differ _ _ refl h)
+of_stress rows (Words asked) has h = absurd (differ _ _ refl h.0)
 of_stress rows (Image asked) has h = absurd (differ _ _ refl h.0)
 of_stress rows Encode has h = absurd (differ _ _ refl h)
 of_stress rows (Stress numbers) has h = (
@@ -97,7 +97,7 @@ of_words rows Replay h = absurd (h.2 refl)
 of_words rows Schedule h = h
 of_words rows (Decode word) h = h
 of_words rows (Stress numbers) h = absurd (differ _ _ refl h.0)
-of_words rows Words h = refl
+of_words rows (Words asked) h = (refl, h.1)
 of_words rows (Image asked) h = absurd (differ _ _ refl h.0)
 of_words rows Encode h = absurd (differ _ _ refl h)
 
@@ -106,7 +106,7 @@ of_image rows Replay h = absurd (h.3 refl)
 of_image rows Schedule h = h
 of_image rows (Decode word) h = h
 of_image rows (Stress numbers) h = absurd (differ _ _ refl h.0)
-of_image rows Words h = absurd (differ _ _ refl h)
+of_image rows (Words asked) h = absurd (differ _ _ refl h.0)
 of_image rows (Image asked) h = (refl, h.1)
 of_image rows Encode h = absurd (differ _ _ refl h)
 
@@ -115,7 +115,7 @@ of_encode rows Replay h = absurd (h.4 refl)
 of_encode rows Schedule h = h
 of_encode rows (Decode word) h = h
 of_encode rows (Stress numbers) h = absurd (differ _ _ refl h.0)
-of_encode rows Words h = absurd (differ _ _ refl h)
+of_encode rows (Words asked) h = absurd (differ _ _ refl h.0)
 of_encode rows (Image asked) h = absurd (differ _ _ refl h.0)
 of_encode rows Encode h = refl
 

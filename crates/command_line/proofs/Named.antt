@@ -3,9 +3,10 @@ use Rattle.std.proofs.Common.{◌≡◌, ◌∙◌, List, Option, Some, None, re
 use Rattle.std.specs.Borrow.{Bor}
 use Rattle.std.proofs.lemmas.Option.{same_Some}
 use Rattle.clap.specs.Words.{Row, Text, first_of}
-use Rattle.command_line.specs.CommandLine.{Reads, ReadsImage, ReadsNumbers}
+use Rattle.command_line.specs.CommandLine.{Reads, ReadsImage, ReadsNumbers, ReadsWords}
 use Rattle.command_line.specs.declared.image_arguments.ImageArguments.{ImageArguments}
 use Rattle.command_line.specs.declared.stress_numbers.StressNumbers.{StressNumbers}
+use Rattle.command_line.specs.declared.words_arguments.WordsArguments.{WordsArguments}
 use Rattle.command_line.specs.declared.subcommand.Subcommand.TheVariants.{Replay, Schedule, Decode, Stress, Words, Image, Encode}
 
 abbrev pub name_in : Option (Text × List Row) → Option Text
@@ -27,9 +28,10 @@ pub stressed : (o : Option (Text × List Row)) (rows : List Row) (numbers : Stre
 stressed None rows numbers name has h = cc
 stressed (Some p) rows numbers name has h = (same_Some _ _ name, subst (λ rs. ReadsNumbers rs numbers) (same_Some _ _ (sym has)) h)
 
-pub worded : (o : Option (Text × List Row)) → name_in o ≡ Some (codes "words") → Reads o Words
-worded None name = cc
-worded (Some p) name = same_Some _ _ name
+pub worded : (o : Option (Text × List Row)) (rows : List Row) (asked : WordsArguments) → name_in o ≡ Some (codes "words") → rows_in o ≡ Some rows → ReadsWords rows asked
+    → Reads o (Words asked)
+worded None rows asked name has h = cc
+worded (Some p) rows asked name has h = (same_Some _ _ name, subst (λ rs. ReadsWords rs asked) (same_Some _ _ (sym has)) h)
 
 pub encoded : (o : Option (Text × List Row)) → name_in o ≡ Some (codes "encode") → Reads o Encode
 encoded None name = cc

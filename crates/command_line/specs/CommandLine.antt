@@ -1,5 +1,6 @@
 -- What a command line may say, and what it asks for.
-use Rattle.std.specs.Prelude.{◌≡◌, ◌≢◌, ◌⊎◌, ◌<◌, ◌≤◌, ◌^◌, ℕ, Bool, true, false, List, ◌∷◌, [], Option, Some, None, Result, MatchResult, codes, pos}
+use Rattle.std.specs.Prelude.{◌≡◌, ◌≢◌, ◌⊎◌, ◌<◌, ◌≤◌, ◌^◌, ℕ, Bool, true, false, List, ◌∷◌, [], Option, Some, None, Result, MatchResult, codes, pos, option_map}
+use Rattle.std.specs.Borrow.{Bor}
 use Rattle.std.specs.Str.Parse.{IsNumeral, digits_value, without_leading_plus}
 use Rattle.clap.specs.Words.{App, Kinds, Row, Rule, first_of, new_app, new_rule, one_of, subcommand_of, with_rule, with_subcommand}
 pub use Rattle.clap.specs.Words.{IsAmong, Text, fault_of}
@@ -12,6 +13,7 @@ use Rattle.clap.specs.declared.builder.action.ArgAction.TheVariants.{SetTrue}
 use Rattle.command_line.specs.declared.image_arguments.ImageArguments.{ImageArguments}
 use Rattle.command_line.specs.declared.stress_numbers.StressNumbers.{StressNumbers}
 use Rattle.command_line.specs.declared.subcommand.Subcommand.{Subcommand}
+use Rattle.command_line.specs.declared.words_arguments.WordsArguments.{WordsArguments}
 use Rattle.command_line.specs.declared.subcommand.Subcommand.TheVariants.{Replay, Schedule, Decode, Stress, Words, Image, Encode}
 
 -- ---- what it may say
@@ -59,12 +61,23 @@ bare = record (number (codes "bare") (between 0 100000)) { defaults = codes "0" 
 abbrev pub stress : App
 stress = with_rule (with_rule (with_rule (with_rule (with_rule (new_app (codes "stress")) log2) senders) batches) turns) bare
 
-abbrev pub words : App
-words = new_app (codes "words")
+-- the option `--name`, which has no text
+abbrev pub flag : Text → Rule
+flag name = record (new_rule name) { long = Some name; action = Some SetTrue }
 
--- the option `--name` with its text, which must be given
+abbrev pub words : App
+words = with_rule (with_rule (new_app (codes "words")) (flag (codes "log"))) (flag (codes "hex"))
+
+-- the option `--name` with its text, which may be left out
+abbrev pub text : Text → Rule
+text name = record (new_rule name) { long = Some name; value_names = 1 }
+
+-- the same, which must be given
 abbrev pub wanted_text : Text → Rule
-wanted_text name = record (new_rule name) { long = Some name; value_names = 1; required = true }
+wanted_text name = record (text name) { required = true }
+
+abbrev pub image_log2 : Rule
+image_log2 = number (codes "log2") (between 1 19)
 
 abbrev pub prod : Rule
 prod = wanted_text (codes "prod")
@@ -72,12 +85,16 @@ prod = wanted_text (codes "prod")
 abbrev pub cons : Rule
 cons = wanted_text (codes "cons")
 
--- the option `--all`, which has no text
-abbrev pub all : Rule
-all = record (new_rule (codes "all")) { long = Some (codes "all"); action = Some SetTrue }
+-- the two registers and how many slots, of which the last may be left out
+abbrev pub image_of_queue : App
+image_of_queue = with_rule (with_rule (with_rule (new_app (codes "image")) image_log2) prod) cons
+
+-- with the registers of errors, which may be left out
+abbrev pub image_with_errors : App
+image_with_errors = with_rule (with_rule image_of_queue (text (codes "gerror"))) (text (codes "gerrorn"))
 
 abbrev pub image : App
-image = with_rule (with_rule (with_rule (with_rule (new_app (codes "image")) log2) prod) cons) all
+image = with_rule (with_rule image_with_errors (flag (codes "all"))) (flag (codes "hex"))
 
 abbrev pub encode : App
 encode = new_app (codes "encode")
@@ -118,11 +135,28 @@ IsFlag name rows given = (one_of name rows ≡ Some (codes "true") → given ≡
 abbrev pub ReadsText : List Row → Text → Text → Type 0
 ReadsText rows name text = (found : Text) → first_of name rows ≡ Some found → text ≡ found
 
+-- The number of an option that may be left out is there if one of 32 bits was found for it, and not if no text was.
+pub record MayReadNumber (rows : List Row) (name : Text) (given : Option ℕ) : Type 0 where
+  pub left_out : one_of name rows ≡ None → given ≡ None
+  pub read : (text : Text) → one_of name rows ≡ Some text → IsNumeral 10 (without_leading_plus text)
+      → digits_value 10 (without_leading_plus text) < 2 ^ 32 → given ≡ Some (digits_value 10 (without_leading_plus text))
+
+-- the text of an option that may be left out
+abbrev pub MayReadText : List Row → Text → Option (Bor Text) → Type 0
+MayReadText rows name given = option_map (λ text. text.now) given ≡ first_of name rows
+
 pub record ReadsImage (rows : List Row) (asked : ImageArguments) : Type 0 where
-  pub log2 : ReadsNumber rows (codes "log2") asked.log2
+  pub log2 : MayReadNumber rows (codes "log2") asked.log2
   pub prod : ReadsText rows (codes "prod") asked.prod.now
   pub cons : ReadsText rows (codes "cons") asked.cons.now
+  pub gerror : MayReadText rows (codes "gerror") asked.gerror
+  pub gerrorn : MayReadText rows (codes "gerrorn") asked.gerrorn
   pub all : IsFlag (codes "all") rows asked.all
+  pub hex : IsFlag (codes "hex") rows asked.hex
+
+pub record ReadsWords (rows : List Row) (asked : WordsArguments) : Type 0 where
+  pub log : IsFlag (codes "log") rows asked.log
+  pub hex : IsFlag (codes "hex") rows asked.hex
 
 -- what a subcommand of this name asks for, given what was found for its arguments
 abbrev pub Asks : Text → List Row → Subcommand → Type 0
@@ -130,7 +164,7 @@ Asks name rows Replay = name ≡ codes "replay"
 Asks name rows Schedule = name ≡ codes "schedule"
 Asks name rows (Decode word) = (name ≡ codes "decode") × (first_of (codes "HEX") rows ≡ Some word.now)
 Asks name rows (Stress numbers) = (name ≡ codes "stress") × AreNumbers rows numbers
-Asks name rows Words = name ≡ codes "words"
+Asks name rows (Words asked) = (name ≡ codes "words") × ReadsWords rows asked
 Asks name rows (Image asked) = (name ≡ codes "image") × ReadsImage rows asked
 Asks name rows Encode = name ≡ codes "encode"
 
@@ -165,7 +199,7 @@ ReadsOf name rows Replay =
 ReadsOf name rows Schedule = name ≡ codes "schedule"
 ReadsOf name rows (Decode word) = (name ≡ codes "decode") × (first_of (codes "HEX") rows ≡ Some word.now)
 ReadsOf name rows (Stress numbers) = (name ≡ codes "stress") × ReadsNumbers rows numbers
-ReadsOf name rows Words = name ≡ codes "words"
+ReadsOf name rows (Words asked) = (name ≡ codes "words") × ReadsWords rows asked
 ReadsOf name rows (Image asked) = (name ≡ codes "image") × ReadsImage rows asked
 ReadsOf name rows Encode = name ≡ codes "encode"
 

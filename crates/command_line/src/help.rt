@@ -186,8 +186,16 @@ line is one word of 32 hexadecimal digits, or two words of 0x and at most 16
 hexadecimal digits, lo and then hi. A line without words, or whose first begins
 with #, is skipped.
 
+With --log the lines are a kernel's log. Two in a row whose last word is 0x and
+16 hexadecimal digits are a command, lo and then hi; one alone is a 'bad line'.
+All others are skipped.
+
+With --hex each line is one of a hex dump, an address and 16 bytes, as xxd,
+hexdump -C -v, or x/gx and x/wx of gdb print it.
+
 Example:
     smmuq words < WORDS
+    dmesg | smmuq words --log
 
 What is no command is 'bad hex', 'bad length' and the number of bytes, 'bad line',
 or 'illegal', a label and what it means. One such line makes exit status 1:
@@ -213,14 +221,23 @@ status 1.";
 pub(crate) const IMAGE: &str = "\
 Reads the memory of a queue from standard input, 16 bytes a slot in the order of
 the slots. Writes five lines to standard output, size, prod, cons, err and
-waiting, and then a line for each command from CONS to PROD.
+waiting, and then a line for each command from CONS to PROD. With GERROR and
+GERRORN a last line says what holds the queue up.
+
+With --hex the input is a hex dump, of which each line has an address and 16
+bytes, as xxd, hexdump -C -v, or x/gx and x/wx of gdb print it.
 
 Example:
-    smmuq image --log2 7 --prod 0x98 --cons 0x85 < QUEUE
+    smmuq image --prod 0x98 --cons 0x85 < QUEUE
+
+Registers are decimal without a leading 0, or hexadecimal behind 0x.
 
 Refused, with exit status 1 and one of these lines alone:
     bad log2        L isn't 1 to 19
     bad prod        a bit above the wrap bit, or no number
     bad cons        a bit above the wrap bit but ERR's, or no number
+    bad gerror      no number
+    bad gerrorn     no number
+    bad line N      line N of a hex dump can't be read, or doesn't go on
     bad distance N  PROD is further ahead than the queue is long
     bad length N    so many bytes aren't 16 a slot";

@@ -6,8 +6,10 @@ mod image_arguments;
 mod misunderstood;
 mod stress_numbers;
 mod subcommand;
+mod words_arguments;
 
 pub use image_arguments::ImageArguments;
 pub use misunderstood::Misunderstood;
 pub use stress_numbers::StressNumbers;
 pub use subcommand::{Subcommand, understand};
+pub use words_arguments::WordsArguments;

@@ -4,10 +4,11 @@ ghost use Rattle.clap.specs.Words.{FailsBy, app_of, fault_of, rule_of, subcomman
 ghost use Rattle.clap.specs.Walk.{texts};
 ghost use Rattle.command_line.specs.CommandLine as spec;
 
-use crate::help;
-use crate::image_arguments::{IMAGE, ImageArguments, arguments_in, image};
+use crate::image_arguments::{IMAGE, ImageArguments, image};
 use crate::misunderstood::Misunderstood;
 use crate::stress_numbers::{STRESS, StressNumbers, numbers_in, stress};
+use crate::words_arguments::{WORDS, WordsArguments, words};
+use crate::{help, image_arguments, words_arguments};
 use clap::{Arg, ArgMatches, Command, Error};
 use std::alloc::{AllocError, Global};
 
@@ -18,9 +19,6 @@ const SCHEDULE: &str = "schedule";
 const DECODE: &str = "decode";
 
 const HEX: &str = "HEX";
-
-/// The subcommand that says what lines of words mean.
-const WORDS: &str = "words";
 
 /// The subcommand that says which words lines of text mean.
 const ENCODE: &str = "encode";
@@ -37,7 +35,7 @@ pub enum Subcommand<'a> {
     /// Run many senders and an engine at the same time.
     Stress(StressNumbers),
     /// Say what each line of words means as a command.
-    Words,
+    Words(WordsArguments),
     /// Show the memory of a queue.
     Image(ImageArguments<'a>),
     /// Say which words each line of text means as a command.
@@ -82,15 +80,6 @@ fn decode<'a>(alloc: Global) -> Result<Command<'a>, AllocError>
         .arg(hex(alloc))
 }
 
-fn words<'a>(alloc: Global) -> Command<'a>
-    ensures { app_of result ≡ spec.words }
-{
-    Command::new(alloc, WORDS)
-        .about("Says what each line of words means as a command")
-        .override_usage("smmuq words < WORDS")
-        .after_help(help::WORDS)
-}
-
 fn encode<'a>(alloc: Global) -> Command<'a>
     ensures { app_of result ≡ spec.encode }
 {
@@ -113,7 +102,7 @@ fn command_line<'a>(alloc: Global) -> Result<Command<'a>, AllocError>
         .subcommand(schedule(alloc))?
         .subcommand(decode(alloc)?)?
         .subcommand(stress(alloc)?)?
-        .subcommand(words(alloc))?
+        .subcommand(words(alloc)?)?
         .subcommand(image(alloc)?)?
         .subcommand(encode(alloc))
 }
@@ -127,11 +116,11 @@ fn subcommand_in<'a>(matches: &ArgMatches<'a>) -> Subcommand<'a>
     if let Some(stress) = matches.subcommand_matches(STRESS) {
         return Subcommand::Stress(numbers_in(stress));
     }
-    if matches.subcommand_matches(WORDS).is_some() {
-        return Subcommand::Words;
+    if let Some(words) = matches.subcommand_matches(WORDS) {
+        return Subcommand::Words(words_arguments::arguments_in(words));
     }
     if let Some(image) = matches.subcommand_matches(IMAGE) {
-        return Subcommand::Image(arguments_in(image));
+        return Subcommand::Image(image_arguments::arguments_in(image));
     }
     if matches.subcommand_matches(ENCODE).is_some() {
         return Subcommand::Encode;

@@ -4,15 +4,19 @@ use script::Status;
 use std::alloc::Global;
 use std::io::{Read, Write};
 use std::process::Abort;
-use words::words;
+use words::{hex_dump_with_notes, log_with_notes, words};
 
-/// A kind of lines that are each answered on their own.
+/// A kind of lines.
 #[derive(Clone, Copy)]
 pub enum Kind {
     /// Texts of commands, which `encode` answers.
     Texts,
     /// Words of commands, which `words` answers.
     Words,
+    /// A kernel's log, whose commands `log_with_notes` answers.
+    Log,
+    /// A hex dump, whose lines `hex_dump_with_notes` answers.
+    Dump,
 }
 
 impl Kind {
@@ -26,6 +30,8 @@ impl Kind {
         match self {
             Kind::Texts => encode(alloc, input, output),
             Kind::Words => words(alloc, input, output),
+            Kind::Log => log_with_notes(alloc, input, output).0,
+            Kind::Dump => hex_dump_with_notes(alloc, input, output).0,
         }
     }
 }

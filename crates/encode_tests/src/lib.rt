@@ -4,9 +4,13 @@
 #[cfg(test)]
 mod answered;
 #[cfg(test)]
+mod dump_tests;
+#[cfg(test)]
 mod encode_caller;
 #[cfg(test)]
 mod line_tests;
+#[cfg(test)]
+mod log_tests;
 #[cfg(test)]
 mod rows;
 #[cfg(test)]

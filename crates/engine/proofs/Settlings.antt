@@ -14,7 +14,7 @@ use Rattle.ringcore.specs.world.World.{Taken}
 use Rattle.caches.specs.declared.tag.Tag.{Tag}
 use Rattle.caches.specs.declared.tag.Entry.{Entry}
 use Rattle.caches.specs.Covers.{covers}
-use Rattle.caches.specs.Held.{Entries, without_covered}
+use Rattle.caches.specs.Held.{Entries, without_covered, without_passing}
 use Rattle.caches.specs.TagOrder.{tag_cmp, tag_cmp_total, tag_cmp_exact}
 use Rattle.engine.specs.Settled.{HasCovered, IsSettledEntry, IsSettled}
 
@@ -35,6 +35,15 @@ settled_evict entries taken tag s u e is =
     (λ (own : (eq_by_cmp tag_cmp u tag ≡ true) × (None ≡ Some e)). let no = own.1 in absurd (cc))
     (λ (old : finite.get entries u ≡ Some e). s u e old)
     (at_changed (eq_by_cmp tag_cmp u tag) None (finite.get entries u) e (sym (get-remove tag_cmp_total entries tag u) ∙ is))
+
+-- what a map has under a key that may have been taken out
+at_kept : (b : Bool) (old : Option Entry) (e : Entry) → cond (not b) old None ≡ Some e → old ≡ Some e
+at_kept true old e is = absurd (cc)
+at_kept false old e is = is
+
+pub settled_without : (entries : Entries) (taken : List Taken) (p : Tag → Bool) → IsSettled entries taken → IsSettled (without_passing p entries) taken
+settled_without entries taken p s u e is =
+    s u e (at_kept (p u) (finite.get entries u) e (sym (get-retain_keys entries (λ t. not (p t)) u (λ x e. ap (λ y. not (p y)) (sym (tag_cmp_exact u x e)))) ∙ is))
 
 -- No command of the list came after an entry that was filled at its end.
 settled_new : (taken : List Taken) (tag : Tag) (entry : Entry) → entry.born ≡ length taken → IsSettledEntry taken tag entry

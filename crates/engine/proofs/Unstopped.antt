@@ -1,5 +1,5 @@
 -- What a step answers that found the unit neither stopped nor exhausted.
-use Rattle.std.proofs.Common.{◌≡◌, Bool, true, false}
+use Rattle.std.proofs.Common.{◌≡◌, Bool, false}
 use Rattle.std.specs.Prelude.{IsTrue, ◌↔◌}
 
 pub not_still : {still stopped : Type 0} (b : Bool) → (still → ⊥) → IsTrue b ↔ stopped → b ≡ false → still ↔ stopped

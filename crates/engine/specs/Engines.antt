@@ -8,7 +8,7 @@ use Rattle.ringcore.specs.Limits.{most_reserved}
 use Rattle.ringcore.specs.declared.world.event.Who.TheVariants.{Consumer}
 use Rattle.ringcore.specs.declared.world.event.Event.TheVariants.{Look}
 use Rattle.ringcore.specs.world.World.{world, control as control_of}
-use Rattle.ring.specs.table.Histories.{GrewBy}
+use Rattle.ring.specs.table.Histories.{Grew, GrewBy}
 use Rattle.ring.specs.NewRings.{made_with}
 use Rattle.ring.specs.consumer.Consumers.{ConsumerValue}
 use Rattle.ring.specs.consumer.Pendings.{PendingValue, HasSeen}
@@ -57,6 +57,12 @@ IsEngine (Some consumer) unit = AreTogether consumer unit
 
 -- ---- what a step of at most `most` commands took from the ring
 
+-- The first `count` of what was pending were completed, and the run that the consumer knows grew by exactly the steps of
+-- that.
+pub record HasCompleted (count : ℕ) (unit : UnitValue) (p : PendingValue UnitValue) (new : ConsumerValue UnitValue) : Type 0 where
+  pub consumer_is : record new { history = [] } ≡ completed count unit (unknowing p)
+  pub grew : Grew Consumer p.consumer.trail new.trail p.consumer.history new.history
+
 -- This command was read at the head, perhaps with more after it.
 pub record IsFirst (most : ℕ) (consumer : ConsumerValue UnitValue) (p : PendingValue UnitValue) (raw : Raw) : Type 0 where
   pub read : TookRun most consumer p
@@ -69,7 +75,7 @@ HasStoppedAt most ill old new =
 
 abbrev pub HasReplaced : ℕ → Ill → EngineValue → EngineValue → Type 0
 HasReplaced most ill old new =
-    (p : PendingValue UnitValue) × (raw : Raw) × IsFirst most old.consumer p raw × IsReplaced raw ill old.unit new.unit × (record new.consumer { history = [] } ≡ completed 1 new.unit (unknowing p))
+    (p : PendingValue UnitValue) × (raw : Raw) × IsFirst most old.consumer p raw × IsReplaced raw ill old.unit new.unit × HasCompleted 1 new.unit p new.consumer
 
 -- ---- one command
 
@@ -79,7 +85,7 @@ HasStepped old new Empty = TookNone false old.consumer new.consumer × (new.unit
 HasStepped old new Drained = TookNone true old.consumer new.consumer × (new.unit ≡ old.unit)
 HasStepped old new Unwritten = TookUnwritten 1 old.consumer new.consumer × (new.unit ≡ old.unit)
 HasStepped old new (Applied command removed) =
-    (p : PendingValue UnitValue) × (raw : Raw) × IsFirst 1 old.consumer p raw × IsApplied raw command removed old.unit new.unit × (record new.consumer { history = [] } ≡ completed 1 new.unit (unknowing p))
+    (p : PendingValue UnitValue) × (raw : Raw) × IsFirst 1 old.consumer p raw × IsApplied raw command removed old.unit new.unit × HasCompleted 1 new.unit p new.consumer
 HasStepped old new (Stopped ill) = HasStoppedAt 1 ill old new
 HasStepped old new (Replaced ill) = HasReplaced 1 ill old new
 HasStepped old new StillStopped = IsStopped old.unit.stop.mode × (new ≡ old)
@@ -96,7 +102,7 @@ pub record HasAppliedRun (most count removed : ℕ) (old new : EngineValue) : Ty
   pub within : count ≤ length pending.raws
   pub applied : AreApplied (take count pending.raws) removed old.unit new.unit
   pub longest : (raw : Raw) → slice_get pending.raws count ≡ Some raw → (ill : Ill) × (first_ill raw ≡ Some ill)
-  pub completed_are : record new.consumer { history = [] } ≡ completed count new.unit (unknowing pending)
+  pub completed_are : HasCompleted count new.unit pending new.consumer
 
 -- What a step of at most `most` commands did, by its answer.
 abbrev pub HasRun : ℕ → EngineValue → EngineValue → RunAnswer → Type 0

@@ -1,10 +1,11 @@
 //! The engine: a unit with the consumer of a ring.
-ghost use Rattle.std.specs.Prelude.{◌≡◌, ◌≤◌, ◌↔◌, [], length, IfSome, IsTrue, OnOk, OnErr};
+ghost use Rattle.std.specs.Prelude.{◌≡◌, ◌+◌, ◌≤◌, ◌↔◌, [], length, IfSome, IsTrue, OnOk, OnErr};
 ghost use Rattle.std.specs.FinMap as finite;
+ghost use Rattle.qindex.specs.ControlWord.{IsControl};
 ghost use Rattle.ringcore.specs.Limits.{most_reserved};
 ghost use Rattle.ringcore.specs.declared.world.event.Who.TheVariants.{Consumer as ConsumerOf, Sender as SenderOf};
-ghost use Rattle.ringcore.specs.world.World.{world};
-ghost use Rattle.caches.specs.Held.{held};
+ghost use Rattle.ringcore.specs.world.World.{world, control as control_of};
+ghost use Rattle.caches.specs.Held.{held, without_passing};
 ghost use Rattle.caches.specs.Stored.{IsFillAnswer, IsListAnswer};
 ghost use Rattle.ring.specs.table.Rule.{WentOn};
 ghost use Rattle.ring.specs.table.Histories.{IsHistory, Grew};
@@ -25,7 +26,8 @@ use crate::counts::Counts;
 use crate::finished::Finished;
 use crate::remedy::{AckFault, Remedy};
 use crate::unit::Unit;
-use caches::{CacheFault, Caches, Entry, Tag};
+use caches::{CacheFault, Caches, Entry, Tag, TagTest};
+use qindex::Control;
 use ring::{Consumer, Ring, Sender};
 use ringcore::laws;
 use run_stepping::step_run_with;
@@ -127,7 +129,9 @@ impl Engine {
     /// A witness, while the ring runs, that a sender was told truly: whatever number it was told, no entry is
     /// older than a command that was reserved before that CMD_SYNC and covers it. From then on both know the
     /// run as it is at this moment, which has the steps of both. Otherwise both stay as they are.
-    pub fn told(&mut self, ring: &Ring, sender: &mut Sender)
+    ///
+    /// Returns what the control word says at this moment, which is what that run leaves in it.
+    pub fn told(&mut self, ring: &Ring, sender: &mut Sender) -> Control
         requires ring { self.old.consumer.ring ≡ ring.now }
         requires sender { sender.old.ring ≡ ring.now }
         ensures told { WasToldAllTruly self.new.consumer.history self.new.unit.caches.entries sender.old.number sender.old.trail }
@@ -140,12 +144,15 @@ impl Engine {
         ensures of_sender { IsHistory sender.old.ring.made_with (SenderOf sender.old.number) sender.old.trail self.new.consumer.history }
         ensures known_to_consumer { WentOn ConsumerOf self.old.consumer.history self.new.consumer.history }
         ensures known_to_sender { WentOn (SenderOf sender.old.number) sender.old.history self.new.consumer.history }
+        ensures control { IsControl self.old.consumer.ring.made_with.geometry result }
+        ensures current { result ≡ control_of self.old.consumer.ring.made_with.geometry (world self.new.consumer.history) }
     {
         laws::consumer_trail();
         self.is_settled();
         let mut consumer = self.consumer.take().unwrap();
-        consumer.meet(ring, sender);
+        let control = consumer.meet(ring, sender);
         self.consumer = Some(consumer);
+        control
     }
 
     /// Returns the consumer and the caches, which are settled for all it took.
@@ -250,6 +257,16 @@ impl Engine {
         ensures settled { IsSettled self.new.unit.caches.entries (taken_of self.new.consumer.trail) }
     {
         self.unit.evict(tag)
+    }
+
+    /// Removes all entries whose tags pass `test` and returns how many there were. Takes no memory.
+    pub fn evict_all<T: TagTest>(&mut self, test: &T) -> u32
+        ensures unit { self.new.unit ≡ with_entries self.old.unit (without_passing (T.passing test.now) self.old.unit.caches.entries) }
+        ensures new { self.new ≡ record self.old { unit = self.new.unit } }
+        ensures removed { result + finite.len self.new.unit.caches.entries ≡ finite.len self.old.unit.caches.entries }
+        ensures settled { IsSettled self.new.unit.caches.entries (taken_of self.new.consumer.trail) }
+    {
+        self.unit.evict_all(test)
     }
 
     /// Returns the entry held under `tag`, if any.

@@ -1,12 +1,12 @@
 //! The unit: the caches, and the stop at an illegal command.
-ghost use Rattle.std.specs.Prelude.{◌≡◌, ◌<◌, ◌↔◌, [], List, None, Some, IfSome, OnOk, OnErr, IsTrue};
+ghost use Rattle.std.specs.Prelude.{◌≡◌, ◌+◌, ◌<◌, ◌↔◌, [], List, None, Some, IfSome, OnOk, OnErr, IsTrue};
 ghost use Rattle.std.specs.FinMap as finite;
 ghost use Rattle.cmdcodec.specs.declared.command.Command.{Command as CommandOf};
 ghost use Rattle.cmdcodec.specs.declared.ill.Ill.{Ill as IllOf};
 ghost use Rattle.cmdcodec.specs.Legality.{first_ill};
 ghost use Rattle.ringcore.specs.Limits.{most_reserved};
 ghost use Rattle.ringcore.specs.world.World.{Taken};
-ghost use Rattle.caches.specs.Held.{held};
+ghost use Rattle.caches.specs.Held.{held, without_passing};
 ghost use Rattle.caches.specs.Stored.{IsFillAnswer, IsListAnswer};
 ghost use Rattle.engine.specs.Settled.{IsSettled};
 ghost use Rattle.engine.specs.Stops.{IsStopped, MayComeNext, IsAcknowledgementAnswer, told, err_of, word_of};
@@ -17,7 +17,7 @@ use crate::counts::Counts;
 use crate::remedy::{AckFault, Remedy};
 use crate::stop::Stop;
 use crate::verdict::Verdict;
-use caches::{CacheFault, Caches, Entry, Tag};
+use caches::{CacheFault, Caches, Entry, Tag, TagTest};
 use cmdcodec::{Command, Raw, decode, first_ill, legal_words_spell_one_command};
 use ring::Device;
 use std::marker::Model;
@@ -218,6 +218,15 @@ impl Unit {
         ensures settled { StaysSettled self.old self.new [] }
     {
         self.caches.evict(tag)
+    }
+
+    /// Removes all entries whose tags pass `test` and returns how many there were. Takes no memory.
+    pub fn evict_all<T: TagTest>(&mut self, test: &T) -> u32
+        ensures new { self.new ≡ with_entries self.old (without_passing (T.passing test.now) self.old.caches.entries) }
+        ensures removed { result + finite.len self.new.caches.entries ≡ finite.len self.old.caches.entries }
+        ensures settled { StaysSettled self.old self.new [] }
+    {
+        self.caches.evict_all(test)
     }
 
     /// Returns the entry held under `tag`, if any.

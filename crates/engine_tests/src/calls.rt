@@ -3,7 +3,7 @@ ghost use Rattle.std.specs.Prelude.{◌≡◌, []};
 
 use crate::commands::batch;
 use crate::told;
-use caches::{Caches, Tag};
+use caches::{Caches, Kind, Tag};
 use cmdcodec::Sid;
 use engine::{Engine, Finished, Remedy};
 use ring::{Ring, Sender};
@@ -113,6 +113,7 @@ fn call(alloc: Global, ring: &Ring, engine: &mut Engine, name: &str, text: &str)
         "ack" => acknowledge(alloc, engine, text),
         "fill" => fill(alloc, engine, text),
         "evict" => evict(alloc, engine, text),
+        "evict_all" => engine.evict_all(&Kind::Ste).to_string(alloc).ok(),
         _ => state(alloc, engine, name, text),
     }
 }

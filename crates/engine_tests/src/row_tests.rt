@@ -165,6 +165,8 @@ lookup 5 = none
 evict 6 = value=102 born=0
 evict 6 = none
 entries = 1
+evict_all = 1
+entries = 0
 counts = taken 4 applied 3 replaced 1 syncs 1 removed 2",
     );
 }

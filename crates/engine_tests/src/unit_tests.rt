@@ -1,6 +1,6 @@
 //! A unit without a ring.
 use crate::commands::{ILLEGAL, LEGAL};
-use caches::{Caches, Entry, Tag};
+use caches::{Caches, Entry, Kind, Tag};
 use cmdcodec::{Ill, Sid, Ssid};
 use engine::{Remedy, Unit, Verdict};
 use std::process::Abort;
@@ -29,6 +29,11 @@ fn a_unit_alone(rt: HostRuntime) {
     assert_eq!(rt; unit.acknowledge(1, Remedy::Replace), Ok(()));
     assert_eq!(rt; unit.error(), (0, 1, 1));
     assert_eq!(rt; unit.evict(&tag), Some(entry(&tag, 8, 1)));
+    assert!(rt; unit.fill(tag, 9).is_ok());
+    assert_eq!(rt;
+        (unit.evict_all(&Kind::Cd), unit.evict_all(&Kind::Ste)),
+        (0, 1)
+    );
     let counts = unit.counts();
     assert_eq!(rt;
         (

@@ -1,23 +1,20 @@
 -- What of an answer was written.
-use Rattle.std.proofs.Common.{◌≡◌, ◌≢◌, ℕ, ◌*◌, length, eq-eqb, ne_eqb, Bool, true, false, List, [], ◌++◌, refl, ap, sym, ◌∙◌, subst, append_assoc, append-nil, Option, Some, None, IfSome, Ok, Err, inr}
+use Rattle.std.proofs.Common.{◌≡◌, ℕ, Bool, true, false, List, [], ◌++◌, refl, ap, sym, ◌∙◌, subst, append_assoc, append-nil, Option, Some, None, IfSome, Ok, Err, inr}
 use Rattle.std.specs.Prelude.{Result}
 use Rattle.std.specs.Io.KnownBytes.{Appends, Consumes, IsAtEnd}
 use Rattle.std.proofs.KnownBytes.{Appends-nil, Appends-trans}
-use Rattle.script.specs.declared.ending.Ending.{Ending}
 use Rattle.script.specs.declared.error.ServeError.{ServeError}
 use Rattle.script.specs.declared.error.ServeError.TheVariants.{Memory, Read, Write, Endless}
 use Rattle.script.specs.Errors.{is_endless, is_read, is_write}
 use Rattle.script.specs.Serving.{WritesFront}
 use Rattle.script.specs.Writing.{no_memory_line}
-use Rattle.std.proofs.lemmas.Bool.{cond-false, cond-true}
-use Rattle.qindex.specs.Positions.{size}
+use Rattle.image.specs.declared.answered.Answered.{Answered}
 use Rattle.image.specs.declared.asked.Asked.{Asked}
 use Rattle.image.specs.declared.fault.ImageFault.{ImageFault}
-use Rattle.image.specs.declared.fault.ImageFault.TheVariants.{BadLength}
-use Rattle.image.specs.declared.queue.Queue.{Queue}
-use Rattle.image.specs.Queues.{fault_text, queue_of}
+use Rattle.image.specs.declared.request.Request.{Request}
+use Rattle.image.specs.Queues.{fault_text, request_of}
 use Rattle.image.specs.Showings.{Moved}
-use Rattle.image.specs.Views.{answer_by, answer_to, view}
+use Rattle.image.specs.Views.{answer_in, answer_to, image_of}
 use Rattle.image.specs.Tellings.{EndsWithoutMemory, IsToBeWritten, Serves}
 
 pub nothing_written : (before : Option (List ℕ)) (text : List ℕ) → WritesFront before before text
@@ -35,6 +32,25 @@ shown_part before mid after old head text lines is moved f = record {
   rest = f.rest;
   split = ap (λ t. t ++ lines) (sym is) ∙ moved.split ∙ ap (λ t. moved.told ++ t) f.split ∙ sym (append_assoc moved.told f.front f.rest);
   written = Appends-trans before mid after moved.told f.front moved.written f.written;
+}
+
+-- A line more was gathered behind what was shown.
+pub moved_and_said : (before mid : Option (List ℕ)) (old text lines said more : List ℕ) → Moved before mid old text lines → said ≡ text ++ more
+    → Moved before mid old said (lines ++ more)
+moved_and_said before mid old text lines said more moved say = record {
+  told = moved.told;
+  written = moved.written;
+  split =
+      sym (append_assoc old lines more) ∙ ap (λ t. t ++ more) moved.split ∙ append_assoc moved.told text more ∙ ap (λ t. moved.told ++ t) (sym say);
+}
+
+-- A beginning is one of what has more lines.
+pub part_of_more : (before after : Option (List ℕ)) (head lines more : List ℕ) → WritesFront before after (head ++ lines) → WritesFront before after (head ++ (lines ++ more))
+part_of_more before after head lines more f = record {
+  front = f.front;
+  rest = f.rest ++ more;
+  split = sym (append_assoc head lines more) ∙ ap (λ t. t ++ more) f.split ∙ append_assoc f.front f.rest more;
+  written = f.written;
 }
 
 off : {b : Bool} → b ≡ false → b ≡ true → ⊥
@@ -80,28 +96,21 @@ memory_cut answer before mid after f g = (
   },
 )
 
--- ---- by what the registers and the length are
+-- ---- by what is known before the image is read
 
-pub of_length : (image : List ℕ) (queue : Queue) (all : Bool) → length image ≡ 16 * size queue.cons.geometry → answer_by (Ok queue) all image ≡ (view image queue all, true)
-of_length image queue all is = cond-true _ (view image queue all, true) (fault_text (BadLength (length image)), false) (eq-eqb _ _ is)
-
-pub of_another : (image : List ℕ) (queue : Queue) (all : Bool) → length image ≢ 16 * size queue.cons.geometry
-    → answer_by (Ok queue) all image ≡ (fault_text (BadLength (length image)), false)
-of_another image queue all is_not = cond-false _ (view image queue all, true) (fault_text (BadLength (length image)), false) (ne_eqb _ _ is_not)
-
-pub refused_at_once : (asked : Asked) (fault : ImageFault) (result : Result Ending ServeError) (input before after : Option (List ℕ)) → queue_of asked ≡ Err fault
+pub refused_at_once : (asked : Asked) (fault : ImageFault) (result : Result Answered ServeError) (input before after : Option (List ℕ)) → request_of asked ≡ Err fault
     → Serves result (fault_text fault, false) before after → IfSome input (λ bytes. Serves result (answer_to asked bytes) before after)
 unfolding answer_to
 refused_at_once asked fault result input before after is served =
-    always input _ (λ bytes. subst (λ q. Serves result (answer_by q asked.all bytes) before after) (sym is) served)
+    always input _ (λ bytes. subst (λ r. Serves result (answer_in r (image_of asked.hex bytes)) before after) (sym is) served)
 
-pub read_and_answered : (asked : Asked) (queue : Queue) (bytes : List ℕ) (result : Result Ending ServeError) (input rest before after : Option (List ℕ)) → queue_of asked ≡ Ok queue
-    → Consumes input rest bytes → IsAtEnd rest → Serves result (answer_by (Ok queue) asked.all bytes) before after
+pub read_and_answered : (asked : Asked) (request : Request) (bytes : List ℕ) (result : Result Answered ServeError) (input rest before after : Option (List ℕ)) → request_of asked ≡ Ok request
+    → Consumes input rest bytes → IsAtEnd rest → Serves result (answer_in (Ok request) (image_of asked.hex bytes)) before after
     → IfSome input (λ script. Serves result (answer_to asked script) before after)
 unfolding answer_to
-read_and_answered asked queue bytes result input rest before after is read end served =
-    all_read input rest bytes (λ script. Serves result (answer_by (queue_of asked) asked.all script) before after) read end
-    (subst (λ q. Serves result (answer_by q asked.all bytes) before after) (sym is) served)
+read_and_answered asked request bytes result input rest before after is read end served =
+    all_read input rest bytes (λ script. Serves result (answer_in (request_of asked) (image_of asked.hex script)) before after) read end
+    (subst (λ r. Serves result (answer_in r (image_of asked.hex bytes)) before after) (sym is) served)
 
 -- Nothing was written where the image wasn't read.
 pub unread : (e : ServeError) (answer : List ℕ × Bool) (before : Option (List ℕ)) → is_write e ≡ false → Serves (Err e) answer before before

@@ -4,8 +4,6 @@ use Rattle.std.proofs.lemmas.Bool.{cases_lt, lt-ltb, ltb-true}
 use Rattle.std.proofs.lemmas.Nat.{mod_below}
 use Rattle.std.proofs.Math.Nat.{add-mod-mod, add-mod_right, mod-add-mod, mod-eq_of_lt}
 use Rattle.qindex.specs.Positions.{size}
-use Rattle.image.specs.declared.queue.Queue.{Queue}
-use Rattle.image.specs.Queues.{IsShown, waiting_of}
 use Rattle.image.specs.WaitingLaws.{SlotsWaitByPosition}
 
 -- `n` is the position at CONS, `s` a slot.

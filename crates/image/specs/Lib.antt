@@ -1,5 +1,9 @@
 pub mod Queues
+pub mod Slots
+pub mod States
+pub mod Dumps
 pub mod Views
 pub mod Showings
 pub mod Tellings
+pub mod Hints
 pub mod WaitingLaws

@@ -1,17 +1,17 @@
 -- What the status says of an image that was read from an input, and of what was written.
-use Rattle.std.specs.Prelude.{◌≡◌, ◌⊎◌, ℕ, List, [], ◌++◌, Bool, true, false, Option, IfSome, Result, Ok, Err}
+use Rattle.std.specs.Prelude.{◌≡◌, ◌≢◌, ◌⊎◌, ◌^◌, ℕ, List, [], ◌++◌, Bool, true, false, Option, IfSome, Result, Ok, Err}
 use Rattle.std.specs.Io.KnownBytes.{Appends}
 use Rattle.script.specs.Serving.{WritesFront}
 use Rattle.script.specs.Statuses.{exit_status}
-use Rattle.script.specs.Writing.{no_memory_line}
-use Rattle.script.specs.declared.ending.Ending.{Ending}
-use Rattle.script.specs.declared.ending.Ending.TheVariants as endings
-use Rattle.script.specs.declared.ending.Ending.TheVariants.{Finished}
+use Rattle.script.specs.Writing.{ReadsAtLeast, no_memory_line}
 use Rattle.script.specs.declared.error.ServeError.{ServeError}
 use Rattle.script.specs.declared.error.ServeError.TheVariants as errors
 use Rattle.script.specs.declared.status.Status.{Status}
 use Rattle.script.specs.declared.status.Status.TheVariants.{Good, Refused, NoMemory, ReadFailed, WriteFailed, Endless}
+use Rattle.image.specs.declared.answered.Answered.{Answered}
+use Rattle.image.specs.declared.answered.Answered.TheVariants.{View, Fault}
 use Rattle.image.specs.declared.asked.Asked.{Asked}
+use Rattle.image.specs.Queues.{HasFault}
 use Rattle.image.specs.Views.{answer_to}
 
 -- a beginning of the answer, and then the line that tells of memory
@@ -22,9 +22,9 @@ pub record EndsWithoutMemory (answer text : List ℕ) : Type 0 where
   pub told : text ≡ front ++ no_memory_line
 
 -- What came of answering an image, before a lack of memory is told. A failed read comes before anything is written.
-abbrev pub Serves : Result Ending ServeError → (List ℕ × Bool) → Option (List ℕ) → Option (List ℕ) → Type 0
-Serves (Ok Finished) answer before after = (answer.1 ≡ true) × Appends before after answer.0
-Serves (Ok endings.Refused) answer before after = (answer.1 ≡ false) × Appends before after answer.0
+abbrev pub Serves : Result Answered ServeError → (List ℕ × Bool) → Option (List ℕ) → Option (List ℕ) → Type 0
+Serves (Ok View) answer before after = (answer.1 ≡ true) × Appends before after answer.0
+Serves (Ok (Fault fault)) answer before after = (answer.1 ≡ false) × Appends before after answer.0
 Serves (Err (errors.Memory e)) answer before after = WritesFront before after answer.0
 Serves (Err (errors.Read e)) answer before after = Appends before after []
 Serves (Err (errors.Write e)) answer before after = WritesFront before after answer.0
@@ -43,9 +43,15 @@ TellsOfBytes ReadFailed answer before after = Appends before after []
 TellsOfBytes WriteFailed answer before after = (text : List ℕ) × IsToBeWritten answer.0 text × WritesFront before after text
 TellsOfBytes Endless answer before after = Appends before after []
 
-abbrev pub TellsOfImage : Asked → Status → Option (List ℕ) → Option (List ℕ) → Option (List ℕ) → Type 0
-TellsOfImage asked status input before after = IfSome input (λ bytes. TellsOfBytes status (answer_to asked bytes) before after)
+-- Of a reader that had `input` and has `rest` left. That there is no end is told of 2^63 bytes and more alone; and where
+-- the registers are at fault nothing is read, so that nothing is told of a read.
+pub record TellsOfImage (asked : Asked) (status : Status) (input rest before after : Option (List ℕ)) : Type 0 where
+  pub told : IfSome input (λ bytes. TellsOfBytes status (answer_to asked bytes) before after)
+  pub endless : status ≡ Endless → ReadsAtLeast (2 ^ 63) input rest
+  pub unread : HasFault asked → rest ≡ input
+  pub no_read_failed : HasFault asked → status ≢ ReadFailed
+  pub no_end_missed : HasFault asked → status ≢ Endless
 
 -- It ended with the exit status of that.
-abbrev pub ExitsAsImage : Asked → ℕ → Option (List ℕ) → Option (List ℕ) → Option (List ℕ) → Type 0
-ExitsAsImage asked exit input before after = (status : Status) × (exit ≡ exit_status status) × TellsOfImage asked status input before after
+abbrev pub ExitsAsImage : Asked → ℕ → Option (List ℕ) → Option (List ℕ) → Option (List ℕ) → Option (List ℕ) → Type 0
+ExitsAsImage asked exit input rest before after = (status : Status) × (exit ≡ exit_status status) × TellsOfImage asked status input rest before after

@@ -1,15 +1,19 @@
 -- What is shown of a queue, by its registers and the bytes of its memory.
-use Rattle.std.specs.Prelude.{ℕ, ◌+◌, ◌-◌, ◌*◌, ◌%◌, ◌^◌, ◌==◌, nat_lt, List, [], ◌++◌, Bool, true, false, Result, Ok, Err, take, drop, length, codes, decimal, if◌then◌else◌}
+use Rattle.std.specs.Prelude.{ℕ, ◌-◌, ◌*◌, ◌^◌, List, [], ◌++◌, Bool, true, false, Result, Ok, Err, take, drop, length, codes, decimal, if◌then◌else◌}
 use Rattle.std.specs.List.{flat_map, range_with_len}
 use Rattle.std.specs.Fmt.{digits, format_spec, padded_integral}
 use Rattle.cmdcodec.specs.Bytes.{raw_of}
 use Rattle.decode.specs.CommandText.{words_text}
 use Rattle.qindex.specs.Positions.{size, place, wrap_bit}
+use Rattle.image.specs.Dumps.{dump_image}
 use Rattle.image.specs.declared.asked.Asked.{Asked}
 use Rattle.image.specs.declared.fault.ImageFault.{ImageFault}
-use Rattle.image.specs.declared.fault.ImageFault.TheVariants.{BadLength}
+use Rattle.image.specs.declared.request.Request.{Request}
+use Rattle.image.specs.declared.request.Shown.{Shown}
 use Rattle.image.specs.declared.queue.Queue.{Queue}
-use Rattle.image.specs.Queues.{err_of, fault_text, queue_of, waiting_of}
+use Rattle.image.specs.Slots.{is_completed, is_waiting}
+use Rattle.image.specs.States.{state_text}
+use Rattle.image.specs.Queues.{err_of, fault_text, queue_in, request_of, waiting_of}
 
 -- lower-case hexadecimal digits, filled up to eight with zeros
 abbrev pub eight_digits : ℕ → List ℕ
@@ -48,20 +52,21 @@ waiting_lines image queue = flat_map (waiting_line image queue.cons.geometry) (p
 
 -- ---- all slots
 
--- A slot waits if it comes fewer slots after that of CONS, going round, than commands wait.
-abbrev pub is_waiting : Queue → ℕ → Bool
-is_waiting queue slot =
-    let slots = size queue.cons.geometry in
-    nat_lt ((slot + slots - place queue.cons.geometry queue.cons.number) % slots) (waiting_of queue)
-
 abbrev pub standing : Bool → List ℕ
 standing waiting = if waiting then codes "waiting" else codes "taken"
 
 abbrev pub standing_text : ℕ → Bool → List ℕ
 standing_text slot waiting = codes "slot " ++ decimal slot ++ codes " " ++ standing waiting ++ codes " "
 
+abbrev pub completed_text : List ℕ
+completed_text = codes "CMD_SYNC completed by its MSI\n"
+
+-- what a slot holds, where all are shown
+abbrev pub held_text : List ℕ → Queue → ℕ → List ℕ
+held_text image queue slot = if is_completed image queue slot then completed_text else slot_text image slot
+
 abbrev pub slot_line : List ℕ → Queue → ℕ → List ℕ
-slot_line image queue slot = standing_text slot (is_waiting queue slot) ++ slot_text image slot
+slot_line image queue slot = standing_text slot (is_waiting queue slot) ++ held_text image queue slot
 
 abbrev pub slots : Queue → List ℕ
 slots queue = range_with_len 0 (size queue.cons.geometry)
@@ -74,15 +79,24 @@ slot_lines image queue = flat_map (slot_line image queue) (slots queue)
 abbrev pub lines_shown : List ℕ → Queue → Bool → List ℕ
 lines_shown image queue all = if all then slot_lines image queue else waiting_lines image queue
 
-abbrev pub view : List ℕ → Queue → Bool → List ℕ
-view image queue all = heading queue ++ lines_shown image queue all
+-- The last line comes only where the error registers were given.
+abbrev pub view : List ℕ → Queue → Shown → List ℕ
+view image queue shown = heading queue ++ (lines_shown image queue shown.all ++ state_text image queue shown.error)
 
--- An image has 16 bytes a slot.
-abbrev pub answer_by : Result Queue ImageFault → Bool → List ℕ → List ℕ × Bool
-answer_by (Ok queue) all image =
-    if length image == 16 * size queue.cons.geometry then (view image queue all, true) else (fault_text (BadLength (length image)), false)
-answer_by (Err fault) all image = (fault_text fault, false)
+abbrev pub answer_by : Result Queue ImageFault → Shown → List ℕ → List ℕ × Bool
+answer_by (Err fault) shown image = (fault_text fault, false)
+answer_by (Ok queue) shown image = (view image queue shown, true)
 
--- what is written for an image, and whether it is no refusal
+-- What doesn't depend on the image is judged first, then the lines of a dump.
+abbrev pub answer_in : Result Request ImageFault → Result (List ℕ) ImageFault → List ℕ × Bool
+answer_in (Err fault) image = (fault_text fault, false)
+answer_in (Ok request) (Err fault) = (fault_text fault, false)
+answer_in (Ok request) (Ok image) = answer_by (queue_in request.known (length image)) request.shown image
+
+-- the image that was read: the bytes themselves, or what the lines of a dump have
+abbrev pub image_of : Bool → List ℕ → Result (List ℕ) ImageFault
+image_of hex input = if hex then dump_image input else Ok input
+
+-- what is written for an input, and whether it is no refusal
 unfoldable pub answer_to : Asked → List ℕ → List ℕ × Bool
-answer_to asked image = answer_by (queue_of asked) asked.all image
+answer_to asked input = answer_in (request_of asked) (image_of asked.hex input)

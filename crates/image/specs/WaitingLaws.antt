@@ -3,7 +3,7 @@ use Rattle.std.specs.Prelude.{◌≡◌, ◌↔◌, ◌<◌, ℕ, ◌+◌, true}
 use Rattle.qindex.specs.Positions.{place, size}
 use Rattle.image.specs.declared.queue.Queue.{Queue}
 use Rattle.image.specs.Queues.{IsShown, waiting_of}
-use Rattle.image.specs.Views.{is_waiting}
+use Rattle.image.specs.Slots.{is_waiting}
 
 -- It is the place of one of the positions from CONS on, as many as wait.
 abbrev pub HasPosition : Queue → ℕ → Type 0

@@ -3,7 +3,8 @@ ghost use Rattle.std.specs.Prelude.{◌≡◌, ◌<◌, ◌≤◌, ℕ, ◌+◌,
 ghost use Rattle.cmdcodec.specs.Bytes.{raw_of};
 ghost use Rattle.qindex.specs.Positions.{index_of, size, wrap_bit};
 ghost use Rattle.image.specs.Queues.{IsShown};
-ghost use Rattle.image.specs.Views.{counts_text, heading, is_waiting, place_text, registers_text, slot_line, slot_text, standing, standing_text, waiting_line};
+ghost use Rattle.image.specs.Slots.{is_completed, is_overwritten, is_waiting};
+ghost use Rattle.image.specs.Views.{completed_text, counts_text, heading, held_text, place_text, registers_text, slot_line, slot_text, standing, standing_text, waiting_line};
 
 use crate::queue::{Queue, err_of};
 use cmdcodec::{Raw, from_bytes};
@@ -13,7 +14,7 @@ use std::alloc::AllocError;
 use std::fmt::Write;
 
 /// Returns the two words of a slot.
-fn raw_at(image: &[u8], slot: u32) -> Raw
+pub(crate) fn raw_at(image: &[u8], slot: u32) -> Raw
     requires { 16 * slot + 16 ≤ length image.now }
     ensures { result ≡ raw_of (take 16 (drop (16 * slot) image.now)) }
 {
@@ -110,6 +111,45 @@ fn say_standing(slot: u32, waiting: bool, text: &mut String) -> Result<(), Alloc
     write!(text, "slot {slot} {standing} ")
 }
 
+/// Whether a slot of a queue of so many bytes has the words of a CMD_SYNC whose MSI of 0 was written there.
+fn is_overwritten(bytes: u64, slot: u32, raw: Raw) -> bool
+    requires { 0 < bytes }
+    ensures { result ≡ is_overwritten bytes slot raw }
+{
+    raw.lo == 0 && raw.hi >= bytes && raw.hi < 1 << 52 && raw.hi % bytes == 16 * slot as u64
+}
+
+/// Whether a slot has a CMD_SYNC that was taken, and whose MSI told so in that slot.
+pub(crate) fn is_completed(image: &[u8], queue: &Queue, slot: u32) -> bool
+    requires shown { IsShown queue.now }
+    requires image { length image.now ≡ 16 * size queue.now.cons.geometry }
+    requires slot { slot < size queue.now.cons.geometry }
+    ensures { result ≡ is_completed image.now queue.now slot }
+{
+    let bytes = 16 * queue.cons.geometry().size() as u64;
+    !is_waiting(queue, slot) && is_overwritten(bytes, slot, raw_at(image, slot))
+}
+
+fn say_completed(text: &mut String) -> Result<(), AllocError>
+    ensures { OnOk result (string_bytes text.new ≡ string_bytes text.old ++ completed_text) }
+{
+    text.push_str("CMD_SYNC completed by its MSI\n")
+}
+
+/// Appends what a slot holds, and ends the line.
+fn say_held(image: &[u8], queue: &Queue, slot: u32, text: &mut String) -> Result<(), AllocError>
+    requires shown { IsShown queue.now }
+    requires image { length image.now ≡ 16 * size queue.now.cons.geometry }
+    requires slot { slot < size queue.now.cons.geometry }
+    ensures { OnOk result (string_bytes text.new ≡ string_bytes text.old ++ held_text image.now queue.now slot) }
+{
+    if is_completed(image, queue, slot) {
+        say_completed(text)
+    } else {
+        say_slot_text(image, slot, text)
+    }
+}
+
 /// Appends the line of a slot, whether it waits or not.
 pub(crate) fn say_slot(
     image: &[u8],
@@ -123,5 +163,5 @@ pub(crate) fn say_slot(
     ensures { OnOk result (string_bytes text.new ≡ string_bytes text.old ++ slot_line image.now queue.now slot) }
 {
     say_standing(slot, is_waiting(queue, slot), text)?;
-    say_slot_text(image, slot, text)
+    say_held(image, queue, slot, text)
 }

@@ -1,8 +1,8 @@
 //! The queue that two registers describe.
-ghost use Rattle.std.specs.Prelude.{◌≡◌, ◌≤◌, ◌*◌, ◌^◌, IfOk};
-ghost use Rattle.image.specs.Queues.{IsShown, err_of, judged, queue_of, waiting_of, with_cons, with_prod, without_err};
+ghost use Rattle.std.specs.Prelude.{◌≡◌, ◌≤◌, ◌-◌, ◌*◌, ◌^◌, IfOk};
+ghost use Rattle.qindex.specs.Positions.{size};
+ghost use Rattle.image.specs.Queues.{IsShown, err_of, judged, waiting_of, with_cons, with_log2, with_prod, without_err};
 
-use crate::asked::Asked;
 use crate::fault::ImageFault;
 use qindex::{Geometry, Index};
 
@@ -31,12 +31,21 @@ impl Queue {
     {
         self.prod.distance(self.cons)
     }
+
+    /// How many slots don't wait.
+    pub(crate) fn taken(&self) -> u32
+        requires { IsShown self.now }
+        ensures { result ≡ size self.now.cons.geometry - waiting_of self.now }
+    {
+        self.cons.geometry().size() - self.waiting()
+    }
 }
 
 fn judged(queue: Queue) -> Result<Queue, ImageFault>
     requires { queue.prod.geometry ≡ queue.cons.geometry }
     ensures value { result ≡ judged queue }
     ensures shown { IfOk result IsShown }
+    ensures geometry { IfOk result (λ judged. judged.cons.geometry ≡ queue.cons.geometry) }
 {
     let waiting = queue.waiting();
     if waiting <= queue.cons.geometry().size() {
@@ -50,6 +59,7 @@ fn with_cons(geometry: Geometry, prod: Index, cons: Option<u32>) -> Result<Queue
     requires { prod.geometry ≡ geometry }
     ensures value { result ≡ with_cons geometry prod.number cons }
     ensures shown { IfOk result IsShown }
+    ensures geometry { IfOk result (λ queue. queue.cons.geometry ≡ geometry) }
 {
     let Some(register) = cons else {
         return Err(ImageFault::BadCons);
@@ -65,27 +75,36 @@ fn with_cons(geometry: Geometry, prod: Index, cons: Option<u32>) -> Result<Queue
     }
 }
 
-fn with_prod(geometry: Geometry, asked: &Asked) -> Result<Queue, ImageFault>
-    ensures value { result ≡ with_prod geometry asked.now.prod asked.now.cons }
+/// Judges the registers of a queue of this size.
+pub(crate) fn with_prod(
+    geometry: Geometry,
+    prod: Option<u32>,
+    cons: Option<u32>,
+) -> Result<Queue, ImageFault>
+    ensures value { result ≡ with_prod geometry prod cons }
     ensures shown { IfOk result IsShown }
+    ensures geometry { IfOk result (λ queue. queue.cons.geometry ≡ geometry) }
 {
-    let Some(number) = asked.prod else {
+    let Some(number) = prod else {
         return Err(ImageFault::BadProd);
     };
     match Index::new(geometry, number) {
-        Some(prod) => with_cons(geometry, prod, asked.cons),
+        Some(prod) => with_cons(geometry, prod, cons),
         None => Err(ImageFault::BadProd),
     }
 }
 
 /// Returns the queue, or what is wrong with its size and registers.
-#[tactic(auto, unfolding(crate::specs::Queues::queue_of))]
-pub(crate) fn queue_of(asked: &Asked) -> Result<Queue, ImageFault>
-    ensures value { result ≡ queue_of asked.now }
+pub(crate) fn with_log2(
+    log2: u32,
+    prod: Option<u32>,
+    cons: Option<u32>,
+) -> Result<Queue, ImageFault>
+    ensures value { result ≡ with_log2 log2 prod cons }
     ensures shown { IfOk result IsShown }
 {
-    match Geometry::new(asked.log2) {
-        Some(geometry) => with_prod(geometry, asked),
+    match Geometry::new(log2) {
+        Some(geometry) => with_prod(geometry, prod, cons),
         None => Err(ImageFault::BadLog2),
     }
 }

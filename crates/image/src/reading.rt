@@ -1,7 +1,8 @@
 //! Reading an image to its end.
-ghost use Rattle.std.specs.Prelude.{◌≡◌, ◌<◌, IfOk, IfErr, length, false};
+ghost use Rattle.std.specs.Prelude.{◌≡◌, ◌<◌, ◌^◌, IfOk, IfErr, length, false, true};
 ghost use Rattle.std.specs.Io.KnownBytes.{Consumes, IsAtEnd};
-ghost use Rattle.script.specs.Errors.{is_write};
+ghost use Rattle.script.specs.Errors.{is_endless, is_write};
+ghost use Rattle.script.specs.Writing.{ReadsAtLeast};
 
 use script::{ServeError, read_once};
 use std::alloc::Global;
@@ -16,9 +17,10 @@ fn read_by<R: Read>(alloc: Global, input: &mut R, piece: &mut [u8]) -> Result<Ve
     ensures read { IfOk result (λ bytes. Consumes (R.remaining input.old) (R.remaining input.new) bytes.items) }
     ensures end { IfOk result (λ bytes. IsAtEnd (R.remaining input.new)) }
     ensures error { IfErr result (λ e. is_write e ≡ false) }
+    ensures endless { IfErr result (λ e. is_endless e ≡ true → ReadsAtLeast (2 ^ 63) (R.remaining input.old) (R.remaining input.new)) }
 {
     let mut bytes = Vec::new(alloc);
-    'reads: for _ in 0..u64::MAX {
+    'reads: for turn in 0..u64::MAX {
         let count = match read_once(input, piece) {
             Ok(count) => count,
             Err(e) => return Err(ServeError::Read(e)),
@@ -38,6 +40,7 @@ pub(crate) fn read_image<R: Read>(alloc: Global, input: &mut R) -> Result<Vec<u8
     ensures read { IfOk result (λ bytes. Consumes (R.remaining input.old) (R.remaining input.new) bytes.items) }
     ensures end { IfOk result (λ bytes. IsAtEnd (R.remaining input.new)) }
     ensures error { IfErr result (λ e. is_write e ≡ false) }
+    ensures endless { IfErr result (λ e. is_endless e ≡ true → ReadsAtLeast (2 ^ 63) (R.remaining input.old) (R.remaining input.new)) }
 {
     match vec![in alloc; 0; PIECE] {
         Ok(mut piece) => read_by(alloc, input, piece.as_mut_slice()),

@@ -1,21 +1,28 @@
 //! `image` from any reader to any writer.
-ghost use Rattle.std.specs.Prelude.{◌≡◌, ◌*◌, ◌++◌, ℕ, Bool, List, Option, Ok, IfErr, IfSome, OnErr, OnOk, length, string_bytes, false, true};
+ghost use Rattle.std.specs.Prelude.{◌≡◌, ◌≢◌, ◌*◌, ◌++◌, ◌^◌, ◌⊎◌, ℕ, Bool, List, Option, None, Ok, Err, IfErr, IfSome, IsErrAnd, OnErr, OnOk, length, string_bytes, false, true};
 ghost use Rattle.std.specs.Io.KnownBytes.{Appends};
 ghost use Rattle.qindex.specs.Positions.{size};
 ghost use Rattle.script.specs.Errors.{is_endless, is_read};
 ghost use Rattle.script.specs.Serving.{WritesFront};
-ghost use Rattle.image.specs.Queues.{IsShown, fault_text};
+ghost use Rattle.script.specs.Writing.{ReadsAtLeast};
+ghost use Rattle.image.specs.Dumps.{dump_image};
+ghost use Rattle.image.specs.Queues.{HasFault, IsKnown, IsShown, fault_text};
 ghost use Rattle.image.specs.Showings.{Moved};
 ghost use Rattle.image.specs.Tellings.{Serves, TellsOfBytes, TellsOfImage};
-ghost use Rattle.image.specs.Views.{answer_by, answer_to, lines_shown, view};
+ghost use Rattle.image.specs.Views.{answer_in, answer_to, image_of, lines_shown, view};
 
+use crate::answered::Answered;
 use crate::asked::Asked;
+use crate::dump::{DumpError, read_dump};
 use crate::fault::{ImageFault, say_fault};
+use crate::hint::Hint;
 use crate::lines::say_heading;
-use crate::queue::{Queue, queue_of};
+use crate::queue::Queue;
 use crate::reading::read_image;
+use crate::request::{Request, Shown};
 use crate::showing::{show_slots, show_waiting};
-use script::{Ending, ServeError, Status, tell_of_memory, write_whole};
+use crate::state::say_state;
+use script::{ServeError, Status, tell_of_memory, write_whole};
 use std::alloc::{AllocError, Global};
 use std::io::{Read, Write};
 
@@ -46,13 +53,13 @@ fn show<W: Write>(
     alloc: Global,
     image: &[u8],
     queue: &Queue,
-    all: bool,
+    shown: Shown,
     output: &mut W,
 ) -> Result<(), ServeError>
     requires shown { IsShown queue.now }
     requires image { length image.now ≡ 16 * size queue.now.cons.geometry }
-    ensures ok { OnOk result (Appends (W.contents output.old) (W.contents output.new) (view image.now queue.now all)) }
-    ensures err { OnErr result (WritesFront (W.contents output.old) (W.contents output.new) (view image.now queue.now all)) }
+    ensures ok { OnOk result (Appends (W.contents output.old) (W.contents output.new) (view image.now queue.now shown)) }
+    ensures err { OnErr result (WritesFront (W.contents output.old) (W.contents output.new) (view image.now queue.now shown)) }
     ensures read { IfErr result (λ e. is_read e ≡ false) }
     ensures endless { IfErr result (λ e. is_endless e ≡ false) }
 {
@@ -60,7 +67,10 @@ fn show<W: Write>(
     if let Err(e) = say_heading(queue, &mut text) {
         return Err(ServeError::Memory(e));
     }
-    show_lines(image, queue, all, output, &mut text)?;
+    show_lines(image, queue, shown.all, output, &mut text)?;
+    if let Err(e) = say_state(alloc, image, queue, shown.error, &mut text) {
+        return Err(ServeError::Memory(e));
+    }
     write_whole(output, text.as_bytes())
 }
 
@@ -83,11 +93,13 @@ fn answer_fault<W: Write>(
     alloc: Global,
     fault: ImageFault,
     output: &mut W,
-) -> Result<Ending, ServeError>
-    ensures { Serves result (fault_text fault, false) (W.contents output.old) (W.contents output.new) }
+) -> Result<Answered, ServeError>
+    ensures answer { Serves result (fault_text fault, false) (W.contents output.old) (W.contents output.new) }
+    ensures read { IfErr result (λ e. is_read e ≡ false) }
+    ensures endless { IfErr result (λ e. is_endless e ≡ false) }
 {
     match refuse(alloc, fault, output) {
-        Ok(()) => Ok(Ending::Refused),
+        Ok(()) => Ok(Answered::Fault(fault)),
         Err(e) => Err(e),
     }
 }
@@ -97,15 +109,16 @@ fn answer_view<W: Write>(
     alloc: Global,
     image: &[u8],
     queue: &Queue,
-    all: bool,
+    shown: Shown,
     output: &mut W,
-) -> Result<Ending, ServeError>
+) -> Result<Answered, ServeError>
     requires shown { IsShown queue.now }
     requires image { length image.now ≡ 16 * size queue.now.cons.geometry }
-    ensures { Serves result (view image.now queue.now all, true) (W.contents output.old) (W.contents output.new) }
+    ensures answer { Serves result (view image.now queue.now shown, true) (W.contents output.old) (W.contents output.new) }
+    ensures endless { IfErr result (λ e. is_endless e ≡ false) }
 {
-    match show(alloc, image, queue, all, output) {
-        Ok(()) => Ok(Ending::Finished),
+    match show(alloc, image, queue, shown, output) {
+        Ok(()) => Ok(Answered::View),
         Err(e) => Err(e),
     }
 }
@@ -114,32 +127,73 @@ fn answer_view<W: Write>(
 fn answer<W: Write>(
     alloc: Global,
     image: &[u8],
-    queue: &Queue,
-    all: bool,
+    request: &Request,
     output: &mut W,
-) -> Result<Ending, ServeError>
-    requires { IsShown queue.now }
-    ensures { Serves result (answer_by (Ok queue.now) all image.now) (W.contents output.old) (W.contents output.new) }
+) -> Result<Answered, ServeError>
+    requires { IsKnown request.now.known }
+    ensures answer { Serves result (answer_in (Ok request.now) (Ok image.now)) (W.contents output.old) (W.contents output.new) }
+    ensures endless { IfErr result (λ e. is_endless e ≡ false) }
 {
-    if image.len() == 16 * queue.cons.geometry().size() as usize {
-        answer_view(alloc, image, queue, all, output)
-    } else {
-        answer_fault(alloc, ImageFault::BadLength(image.len()), output)
+    match request.known.queue_in(image.len()) {
+        Ok(queue) => answer_view(alloc, image, &queue, request.shown, output),
+        Err(fault) => answer_fault(alloc, fault, output),
     }
 }
 
-/// Judges the registers, then reads the image and answers it.
+/// Answers the text of a dump of a queue.
+fn answer_dump<W: Write>(
+    alloc: Global,
+    text: &[u8],
+    request: &Request,
+    output: &mut W,
+) -> Result<Answered, ServeError>
+    requires { IsKnown request.now.known }
+    ensures answer { Serves result (answer_in (Ok request.now) (dump_image text.now)) (W.contents output.old) (W.contents output.new) }
+    ensures endless { IfErr result (λ e. is_endless e ≡ false) }
+{
+    match read_dump(alloc, text) {
+        Ok(image) => answer(alloc, image.as_slice(), request, output),
+        Err(DumpError::BadLine(number)) => {
+            answer_fault(alloc, ImageFault::BadLine(number), output)
+        }
+        Err(DumpError::Memory(e)) => Err(ServeError::Memory(e)),
+    }
+}
+
+/// Answers what was read of a queue: its image, or the text of a dump.
+fn answer_input<W: Write>(
+    alloc: Global,
+    input: &[u8],
+    hex: bool,
+    request: &Request,
+    output: &mut W,
+) -> Result<Answered, ServeError>
+    requires { IsKnown request.now.known }
+    ensures answer { Serves result (answer_in (Ok request.now) (image_of hex input.now)) (W.contents output.old) (W.contents output.new) }
+    ensures endless { IfErr result (λ e. is_endless e ≡ false) }
+{
+    if hex {
+        answer_dump(alloc, input, request, output)
+    } else {
+        answer(alloc, input, request, output)
+    }
+}
+
+/// Judges what is asked, then reads the image and answers it.
 fn serve<R: Read, W: Write>(
     alloc: Global,
     asked: &Asked,
     input: &mut R,
     output: &mut W,
-) -> Result<Ending, ServeError>
-    ensures { IfSome (R.remaining input.old) (λ bytes. Serves result (answer_to asked.now bytes) (W.contents output.old) (W.contents output.new)) }
+) -> Result<Answered, ServeError>
+    ensures answer { IfSome (R.remaining input.old) (λ bytes. Serves result (answer_to asked.now bytes) (W.contents output.old) (W.contents output.new)) }
+    ensures endless { IfErr result (λ e. is_endless e ≡ true → ReadsAtLeast (2 ^ 63) (R.remaining input.old) (R.remaining input.new)) }
+    ensures unread { HasFault asked.now → R.remaining input.new ≡ R.remaining input.old }
+    ensures judged { HasFault asked.now → IfErr result (λ e. (is_read e ≡ false) × (is_endless e ≡ false)) }
 {
-    match queue_of(asked) {
-        Ok(queue) => match read_image(alloc, input) {
-            Ok(image) => answer(alloc, image.as_slice(), &queue, asked.all, output),
+    match Request::of(asked) {
+        Ok(request) => match read_image(alloc, input) {
+            Ok(bytes) => answer_input(alloc, bytes.as_slice(), asked.hex, &request, output),
             Err(e) => Err(e),
         },
         Err(fault) => answer_fault(alloc, fault, output),
@@ -148,7 +202,8 @@ fn serve<R: Read, W: Write>(
 
 /// Tells that memory ran out, after a beginning of an answer was written.
 fn tell<W: Write>(output: &mut W, e: AllocError) -> Status
-    ensures { (answer : List ℕ × Bool) (before : Option (List ℕ)) → WritesFront before (W.contents output.old) answer.0 → TellsOfBytes result answer before (W.contents output.new) }
+    ensures memory { (result ≡ Status.NoMemory) ⊎ (result ≡ Status.WriteFailed) }
+    ensures told { (answer : List ℕ × Bool) (before : Option (List ℕ)) → WritesFront before (W.contents output.old) answer.0 → TellsOfBytes result answer before (W.contents output.new) }
 {
     match tell_of_memory(output, e) {
         ServeError::Memory(_) => Status::NoMemory,
@@ -157,12 +212,14 @@ fn tell<W: Write>(output: &mut W, e: AllocError) -> Status
 }
 
 /// Returns the status of what was served, once a lack of memory is told.
-fn finish<W: Write>(served: Result<Ending, ServeError>, output: &mut W) -> Status
-    ensures { (answer : List ℕ × Bool) (before : Option (List ℕ)) → Serves served answer before (W.contents output.old) → TellsOfBytes result answer before (W.contents output.new) }
+fn finish<W: Write>(served: Result<Answered, ServeError>, output: &mut W) -> Status
+    ensures endless { result ≡ Status.Endless → IsErrAnd served (λ e. is_endless e ≡ true) }
+    ensures read { result ≡ Status.ReadFailed → IsErrAnd served (λ e. is_read e ≡ true) }
+    ensures told { (answer : List ℕ × Bool) (before : Option (List ℕ)) → Serves served answer before (W.contents output.old) → TellsOfBytes result answer before (W.contents output.new) }
 {
     match served {
-        Ok(Ending::Finished) => Status::Good,
-        Ok(Ending::Refused) => Status::Refused,
+        Ok(Answered::View) => Status::Good,
+        Ok(Answered::Fault(_)) => Status::Refused,
         Err(ServeError::Memory(e)) => tell(output, e),
         Err(ServeError::Read(_)) => Status::ReadFailed,
         Err(ServeError::Write(_)) => Status::WriteFailed,
@@ -170,18 +227,54 @@ fn finish<W: Write>(served: Result<Ending, ServeError>, output: &mut W) -> Statu
     }
 }
 
-/// Reads the memory of a queue, 16 bytes a slot in the order of the slots, and writes what its registers make of it:
-/// five lines, and then a line for each command that waits, or for each slot. Returns how it went; bad registers and an
-/// image of another length are refused with one line. The registers are judged before anything is read, and all is read
-/// before anything is written.
+/// Returns what may help with what was refused, if anything does.
+fn hint_of(asked: &Asked, served: &Result<Answered, ServeError>) -> Option<Hint> {
+    match served {
+        Ok(Answered::Fault(fault)) => Hint::of(*fault, asked),
+        _ => None,
+    }
+}
+
+/// Returns the hint if the image was refused.
+fn hint_with(status: Status, hint: Option<Hint>) -> Option<Hint>
+    ensures { status ≢ Status.Refused → result ≡ None }
+{
+    match status {
+        Status::Refused => hint,
+        _ => None,
+    }
+}
+
+/// Reads the memory of a queue, 16 bytes a slot in the order of the slots, or a hex dump of it, and writes what its
+/// registers make of it: five lines, then a line for each command that waits, or for each slot, and if the error
+/// registers are given, a last line that says what holds the queue up. Returns how it went, and what may help with a
+/// refusal, which no clause describes.
+///
+/// Bad registers, a bad line of a dump and an image of another length are refused with one line. What doesn't depend on
+/// the image is judged before anything is read, and all is read before anything is written.
+pub fn image_with_hint<R: Read, W: Write>(
+    alloc: Global,
+    asked: &Asked,
+    input: &mut R,
+    output: &mut W,
+) -> (Status, Option<Hint>)
+    ensures told { TellsOfImage asked.now result.0 (R.remaining input.old) (R.remaining input.new) (W.contents output.old) (W.contents output.new) }
+    ensures hint { result.0 ≢ Status.Refused → result.1 ≡ None }
+{
+    let served = serve(alloc, asked, input, output);
+    let hint = hint_of(asked, &served);
+    let status = finish(served, output);
+    (status, hint_with(status, hint))
+}
+
+/// The same without the hint.
 pub fn image<R: Read, W: Write>(
     alloc: Global,
     asked: &Asked,
     input: &mut R,
     output: &mut W,
 ) -> Status
-    ensures { TellsOfImage asked.now result (R.remaining input.old) (W.contents output.old) (W.contents output.new) }
+    ensures { TellsOfImage asked.now result (R.remaining input.old) (R.remaining input.new) (W.contents output.old) (W.contents output.new) }
 {
-    let served = serve(alloc, asked, input, output);
-    finish(served, output)
+    image_with_hint(alloc, asked, input, output).0
 }

@@ -5,10 +5,12 @@ use script::Status;
 #[test]
 fn empty_queue(rt: HostRuntime) {
     let asked = Asked {
-        log2: 1,
+        log2: Some(1),
         prod: Some(3),
         cons: Some(3),
         all: false,
+        hex: false,
+        errors: None,
     };
     let mut input = [0u8; 32].as_slice();
     let mut output = Vec::new(rt.alloc());

@@ -28,10 +28,12 @@ fn status_of<R: Read, W: Write>(
 
 fn registers(prod: u32, cons: u32, all: bool) -> Asked {
     Asked {
-        log2: 2,
+        log2: Some(2),
         prod: Some(prod),
         cons: Some(cons),
         all,
+        hex: false,
+        errors: None,
     }
 }
 
@@ -68,6 +70,37 @@ fn commands_wait_across_the_wrap(rt: HostRuntime) {
                 slot 3 wrap 1 CMD_SYNC cs=0 msh=0 attr=0 data=0 addr=0x0\n\
                 slot 0 wrap 0 CFGI_STE sid=5 leaf=1\n";
     expect_view(&rt, &registers(1, 7, false), text);
+}
+
+/// Four slots of a queue at 0x80001000, with 0 in the first word of each: the second words are the addresses of slots 0,
+/// 1, 1 and 3.
+const OVERWRITTEN: [u8; 64] = [
+    0, 0, 0, 0, 0, 0, 0, 0, 0x00, 0x10, 0, 0x80, 0, 0, 0, 0, //
+    0, 0, 0, 0, 0, 0, 0, 0, 0x10, 0x10, 0, 0x80, 0, 0, 0, 0, //
+    0, 0, 0, 0, 0, 0, 0, 0, 0x10, 0x10, 0, 0x80, 0, 0, 0, 0, //
+    0, 0, 0, 0, 0, 0, 0, 0, 0x30, 0x10, 0, 0x80, 0, 0, 0, 0, //
+];
+
+#[test]
+fn a_taken_slot_may_hold_its_msi(rt: HostRuntime) {
+    let text = "size 4\nprod 0x00000004\ncons 0x00000003\nerr 0\nwaiting 1\n\
+                slot 0 taken CMD_SYNC completed by its MSI\n\
+                slot 1 taken CMD_SYNC completed by its MSI\n\
+                slot 2 taken illegal ILL1: unknown opcode\n\
+                slot 3 waiting illegal ILL1: unknown opcode\n";
+    let asked = registers(4, 3, true);
+    expect_of(&rt, &asked, OVERWRITTEN.as_slice(), text, Status::Good);
+}
+
+/// Memory that was never written holds no CMD_SYNC.
+#[test]
+fn slots_of_zeros_are_illegal(rt: HostRuntime) {
+    let text = "size 4\nprod 0x00000000\ncons 0x00000000\nerr 0\nwaiting 0\n\
+                slot 0 taken illegal ILL1: unknown opcode\nslot 1 taken illegal ILL1: unknown opcode\n\
+                slot 2 taken illegal ILL1: unknown opcode\nslot 3 taken illegal ILL1: unknown opcode\n";
+    let zeros = [0; 64];
+    let asked = registers(0, 0, true);
+    expect_of(&rt, &asked, zeros.as_slice(), text, Status::Good);
 }
 
 #[test]
@@ -112,24 +145,30 @@ fn registers_at_fault_are_refused(rt: HostRuntime) {
     expect_refused(&rt, &registers(7, 0x8000_0007, false), "bad cons\n");
     expect_refused(&rt, &registers(0, 3, false), "bad distance 5\n");
     let none = Asked {
-        log2: 2,
+        log2: Some(2),
         prod: None,
         cons: None,
         all: false,
+        hex: false,
+        errors: None,
     };
     expect_refused(&rt, &none, "bad prod\n");
     let none = Asked {
-        log2: 2,
+        log2: Some(2),
         prod: Some(0),
         cons: None,
         all: false,
+        hex: false,
+        errors: None,
     };
     expect_refused(&rt, &none, "bad cons\n");
     let large = Asked {
-        log2: 20,
+        log2: Some(20),
         prod: Some(0),
         cons: Some(0),
         all: false,
+        hex: false,
+        errors: None,
     };
     expect_refused(&rt, &large, "bad log2\n");
 }

@@ -2,6 +2,14 @@
 #![tactic(auto)]
 
 #[cfg(test)]
+mod dump_tests;
+#[cfg(test)]
+mod hint_tests;
+#[cfg(test)]
 mod image_caller;
 #[cfg(test)]
 mod image_tests;
+#[cfg(test)]
+mod size_tests;
+#[cfg(test)]
+mod state_tests;

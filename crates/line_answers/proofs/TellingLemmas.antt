@@ -9,9 +9,8 @@ use Rattle.script.specs.declared.status.Status.{Status}
 use Rattle.script.specs.declared.status.Status.TheVariants.{Good, Refused, NoMemory, ReadFailed, WriteFailed, Endless}
 use Rattle.script.specs.Lines.{lines_of}
 use Rattle.script.specs.Statuses.{Tells, status_of}
-use Rattle.line_answers.specs.LineAnswers.{LineAnswer}
-use Rattle.line_answers.specs.Answering.{Comes, all_good}
-use Rattle.line_answers.specs.Tellings.{TellsOfLines, judged}
+use Rattle.script.specs.Outcome.{Outcome}
+use Rattle.line_answers.specs.Tellings.{TellsOf, judged}
 
 -- what holds if the run finished
 pub finished : (served : Result Ending ServeError) (P : Type 0) → IfOk served (λ ending. ending ≡ Finished → P) → status_of served ≡ Good → P
@@ -22,22 +21,22 @@ finished (Err (Read m)) P holds e = absurd cc
 finished (Err (Write m)) P holds e = absurd cc
 finished (Err NoEnd) P holds e = absurd cc
 
--- The bytes of the input, if they are known, are lines that are all good, or aren't.
-abbrev pub AreGood : (List ℕ → LineAnswer) → Bool → Option (List ℕ) → Type 0
-AreGood answer_of good input = IfSome input (λ bytes. good ≡ all_good answer_of (lines_of bytes))
+-- The lines of the input, if they are known, are all good, or aren't.
+abbrev pub AreGood : (List (List ℕ) → Bool) → Bool → Option (List ℕ) → Type 0
+AreGood all_good good input = IfSome input (λ bytes. good ≡ all_good (lines_of bytes))
 
-known : (answer_of : List ℕ → LineAnswer) (good : Bool) (input : Option (List ℕ)) → AreGood answer_of good input
-    → IfSome input (λ bytes. all_good answer_of (lines_of bytes) ≡ good)
-known answer_of good None are = tt
-known answer_of good (Some bytes) are = sym are
+known : (all_good : List (List ℕ) → Bool) (good : Bool) (input : Option (List ℕ)) → AreGood all_good good input
+    → IfSome input (λ bytes. all_good (lines_of bytes) ≡ good)
+known all_good good None are = tt
+known all_good good (Some bytes) are = sym are
 
-pub tells_of_lines : (answer_of : List ℕ → LineAnswer) (status : Status) (good : Bool) (input rest before after : Option (List ℕ))
-    → Tells (Comes answer_of) status input rest before after → (status ≡ Good → AreGood answer_of good input)
-    → TellsOfLines answer_of (judged status good) input rest before after
-tells_of_lines answer_of Good true input rest before after tells are = (tells, known answer_of true input (are refl))
-tells_of_lines answer_of Good false input rest before after tells are = inl (tells, known answer_of false input (are refl))
-tells_of_lines answer_of Refused good input rest before after tells are = inr tells
-tells_of_lines answer_of NoMemory good input rest before after tells are = tells
-tells_of_lines answer_of ReadFailed good input rest before after tells are = tells
-tells_of_lines answer_of WriteFailed good input rest before after tells are = tells
-tells_of_lines answer_of Endless good input rest before after tells are = tells
+pub tells_of : (may : ℕ → List (List ℕ) → Outcome → Type 0) (all_good : List (List ℕ) → Bool) (status : Status) (good : Bool) (input rest before after : Option (List ℕ))
+    → Tells may status input rest before after → (status ≡ Good → AreGood all_good good input)
+    → TellsOf may all_good (judged status good) input rest before after
+tells_of may all_good Good true input rest before after tells are = (tells, known all_good true input (are refl))
+tells_of may all_good Good false input rest before after tells are = inl (tells, known all_good false input (are refl))
+tells_of may all_good Refused good input rest before after tells are = inr tells
+tells_of may all_good NoMemory good input rest before after tells are = tells
+tells_of may all_good ReadFailed good input rest before after tells are = tells
+tells_of may all_good WriteFailed good input rest before after tells are = tells
+tells_of may all_good Endless good input rest before after tells are = tells

@@ -23,7 +23,7 @@ long_line answer_of n line lines long =
 pub begins : (answer_of : List ℕ → LineAnswer) (n : ℕ) (lines : List (List ℕ)) → Comes answer_of n lines (record { text = []; ending = None })
 begins answer_of n lines = ((answers_from answer_of n lines).text, refl)
 
-ends_cut : (answer : Answer) (text front rest : List ℕ) (ending : Option Ending) → EndsAs answer text ending → text ≡ front ++ rest → EndsAs answer front None
+pub ends_cut : (answer : Answer) (text front rest : List ℕ) (ending : Option Ending) → EndsAs answer text ending → text ≡ front ++ rest → EndsAs answer front None
 ends_cut answer text front rest (Some Finished) e split = (rest, ap (λ (a : Answer). a.text) e ∙ split)
 ends_cut answer text front rest (Some Refused) e split = (rest, ap (λ (a : Answer). a.text) e ∙ split)
 ends_cut answer text front rest None e split = (rest ++ e.0, e.1 ∙ ap (λ t. t ++ e.0) split ∙ append_assoc front rest e.0)

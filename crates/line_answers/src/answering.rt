@@ -76,6 +76,6 @@ impl<K: AnswersLines> Interpreter for Answering<K> {
     }
 
     fn hear_of_long_line(&mut self, number: u64, _reply: &str) {
-        self.notes.add_long_line(self.alloc, number);
+        self.notes.note_long_line(self.alloc, number);
     }
 }

@@ -9,5 +9,5 @@ mod word;
 
 pub use kind::AnswersLines;
 pub use notes::Notes;
-pub use serving::{answer_lines, answer_lines_with_notes};
+pub use serving::{answer_lines, answer_lines_with_notes, judged};
 pub use word::next_word;

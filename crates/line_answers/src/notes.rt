@@ -15,7 +15,8 @@ pub struct Notes {
 }
 
 impl Notes {
-    pub(crate) fn new(alloc: Global) -> Notes {
+    /// Returns no notes.
+    pub fn new(alloc: Global) -> Notes {
         Notes {
             text: String::new(alloc),
             left_out: 0,
@@ -45,11 +46,16 @@ impl Notes {
         }
     }
 
-    /// Notes that a line is too long.
-    pub(crate) fn add_long_line(&mut self, alloc: Global, number: u64) {
-        if self.is_full() || self.push_note(alloc, number, LONG_LINE_MEANS).is_err() {
+    /// Notes why the line of this number isn't good.
+    pub fn note(&mut self, alloc: Global, number: u64, why: &str) {
+        if self.is_full() || self.push_note(alloc, number, why).is_err() {
             self.leave_out();
         }
+    }
+
+    /// Notes that the line of this number is too long.
+    pub fn note_long_line(&mut self, alloc: Global, number: u64) {
+        self.note(alloc, number, LONG_LINE_MEANS);
     }
 
     fn is_full(&self) -> bool {

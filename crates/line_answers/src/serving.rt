@@ -40,7 +40,7 @@ pub fn answer_lines<K: AnswersLines, R: Read, W: Write>(
 }
 
 /// Returns the status of a run, given whether all lines were good.
-fn judged(status: Status, all_good: bool) -> Status
+pub fn judged(status: Status, all_good: bool) -> Status
     ensures { result ≡ judged status all_good }
 {
     match status {

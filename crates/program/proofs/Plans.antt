@@ -9,7 +9,7 @@ pub has_plan : (words : List Text) (subcommand : Subcommand) → AskFor words su
 has_plan words Replay asked = tt
 has_plan words Schedule asked = tt
 has_plan words (Decode word) asked = tt
-has_plan words Words asked = tt
+has_plan words (Words form) asked = tt
 has_plan words (Image arguments) asked = tt
 has_plan words Encode asked = tt
 has_plan words (Stress numbers) asked =

@@ -1,7 +1,7 @@
 -- What is told on standard error of lines that can't be served.
 use Rattle.std.specs.Prelude.{◌≡◌, ◌≢◌, ℕ, List, ◌⊎◌, Option, None, Some}
 use Rattle.command_line.specs.declared.subcommand.Subcommand.{Subcommand}
-use Rattle.command_line.specs.declared.subcommand.Subcommand.TheVariants.{Encode, Replay, Schedule, Words}
+use Rattle.command_line.specs.declared.subcommand.Subcommand.TheVariants.{Encode, Image, Replay, Schedule, Words}
 use Rattle.explanations.specs.Explaining.{IsSaidOf}
 use Rattle.replay.specs.ReplayText.{replays}
 use Rattle.schedule.specs.ScheduleText.{schedules}
@@ -39,15 +39,17 @@ pub record TellsOfScript (may : ℕ → List (List ℕ) → Outcome → Type 0) 
 abbrev pub MayBeTold : Seen → Seen → Type 0
 MayBeTold before after = (after ≡ before) ⊎ ((text : List ℕ) × IsTried before after text)
 
--- Depending on the exit status of the run: for 1 it may tell why lines were refused, for any other it tells nothing.
+-- Depending on the exit status of the run: for 1 it may tell why lines or an image were refused, for any other it tells
+-- nothing.
 pub record TellsOfRefusal (exit : ℕ) (before after : Seen) : Type 0 where
   pub refused : exit ≡ 1 → MayBeTold before after
   pub silent : exit ≢ 1 → after ≡ before
 
--- For scripts, and for lines that bring a command each.
+-- For scripts, for lines that bring a command each, and for images.
 abbrev pub Explains : Subcommand → ℕ → Option (List ℕ) → Seen → Seen → Seen → Seen → Type 0
 Explains Replay exit input output written before after = TellsOfScript (MayAnswer replays) exit input output.bytes written.bytes before after
 Explains Schedule exit input output written before after = TellsOfScript (Answers schedules) exit input output.bytes written.bytes before after
-Explains Words exit input output written before after = TellsOfRefusal exit before after
+Explains (Words asked) exit input output written before after = TellsOfRefusal exit before after
+Explains (Image asked) exit input output written before after = TellsOfRefusal exit before after
 Explains Encode exit input output written before after = TellsOfRefusal exit before after
 Explains other exit input output written before after = after ≡ before

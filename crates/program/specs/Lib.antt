@@ -1,5 +1,6 @@
 pub mod Explaining
 pub mod Images
+pub mod Unclear
 pub mod Program
 pub mod Stressing
 pub mod Telling

@@ -6,6 +6,7 @@ ghost use Rattle.script.specs.Statuses.{exit_status};
 use crate::telling::{try_line, try_text};
 use crate::watched::Watched;
 use explanations::{Script, explain};
+use image::Hint;
 use line_answers::Notes;
 use script::{LastLine, Status};
 use std::alloc::Global;
@@ -51,6 +52,33 @@ pub(crate) fn exit_of_script<F: Write>(
 {
     if status == Status::Refused {
         try_last_line(alloc, script, last, faults);
+    }
+    status.exit_status()
+}
+
+/// Tells what may help where an image is refused.
+fn try_hint<F: Write>(alloc: Global, hint: Hint, faults: &mut Watched<F>)
+    ensures { MayBeTold faults.old faults.new }
+{
+    if let Ok(text) = format!(in alloc; "{hint}\n") {
+        try_text(text.as_str(), faults);
+    }
+}
+
+/// Returns the exit status of an image. If it was refused, tells what may help.
+pub(crate) fn exit_of_image<F: Write>(
+    alloc: Global,
+    status: Status,
+    hint: Option<Hint>,
+    faults: &mut Watched<F>,
+) -> u8
+    ensures exit { result ≡ exit_status status }
+    ensures explained { TellsOfRefusal result faults.old faults.new }
+{
+    if status == Status::Refused {
+        if let Some(hint) = hint {
+            try_hint(alloc, hint, faults);
+        }
     }
     status.exit_status()
 }

@@ -8,6 +8,7 @@ mod serving;
 mod stressing;
 mod telling;
 mod troubles;
+mod unclear;
 mod watched;
 
 pub use running::program;

@@ -6,11 +6,12 @@ ghost use Rattle.program.specs.Stressing.{HasPlan};
 ghost use Rattle.program.specs.Program.{Decodes, ExitsAs, ExitsAsDecode, ExitsAsProgram};
 
 use crate::explaining::{exit_of_lines, exit_of_script};
-use crate::reading::image_to_exit;
+use crate::reading::{image_to_exit, words_to_exit};
 use crate::serving::decode_text;
 use crate::stressing::stress_to_exit;
 use crate::telling::{print_line, tell, tell_of_memory};
 use crate::troubles::tell_trouble;
+use crate::unclear::{tell_unclear, unclear_of};
 use crate::watched::Watched;
 use command_line::{Subcommand, understand};
 use encode::encode_with_notes;
@@ -21,7 +22,6 @@ use script::Status;
 use std::alloc::{AllocError, Global};
 use std::io::{Read, Write};
 use std::thread::Threads;
-use words::words_with_notes;
 
 /// Writes a line that says what a word means as a command.
 fn decode<W: Write>(alloc: Global, word: &str, output: &mut Watched<W>) -> Status
@@ -66,11 +66,14 @@ fn serve<'a, A: Threads + AllocGlobal + Sync, I: Read, O: Write, F: Write>(
         }
         Subcommand::Decode(word) => decode_to_exit(rt.alloc(), word, output),
         Subcommand::Stress(numbers) => stress_to_exit(rt, numbers, output),
-        Subcommand::Words => {
-            let (status, notes) = words_with_notes(rt.alloc(), input, output);
-            exit_of_lines(rt.alloc(), status, &notes, faults)
-        }
-        Subcommand::Image(arguments) => image_to_exit(rt.alloc(), &arguments, input, output),
+        Subcommand::Words(asked) => words_to_exit(rt.alloc(), asked, input, output, faults),
+        Subcommand::Image(arguments) => image_to_exit(
+            rt.alloc(),
+            &arguments,
+            input,
+            output,
+            faults,
+        ),
         Subcommand::Encode => {
             let (status, notes) = encode_with_notes(rt.alloc(), input, output);
             exit_of_lines(rt.alloc(), status, &notes, faults)
@@ -96,6 +99,9 @@ pub fn program<'a, A: Threads + AllocGlobal + Sync, I: Read, O: Write, F: Write>
 {
     match understand(rt.alloc(), words) {
         Ok(subcommand) => {
+            if let Some(unclear) = unclear_of(&subcommand) {
+                return tell_unclear(unclear, faults);
+            }
             let exit = serve(rt, subcommand, input, output, faults);
             tell_trouble(rt.alloc(), exit, output, faults);
             exit

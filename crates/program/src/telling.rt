@@ -73,6 +73,13 @@ fn tell_line<W: Write>(line: &str, status: u8, output: &mut Watched<W>) -> u8
     }
 }
 
+/// Tells what is wrong with the command line, and returns the exit status.
+pub(crate) fn tell_fault<W: Write>(why: &str, faults: &mut Watched<W>) -> u8
+    ensures { TellsWith 2 (line_of why.now) result faults.old faults.new }
+{
+    tell_line(why, NOT_UNDERSTOOD, faults)
+}
+
 /// Tells that memory ran out, on the output and on standard error.
 fn tell_both_of_memory<O: Write, F: Write>(
     alloc: Global,

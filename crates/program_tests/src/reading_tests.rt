@@ -31,6 +31,93 @@ fn long_lines(rt: HostRuntime) {
     }
 }
 
+/// A register with a leading zero may be hexadecimal digits whose 0x was left out.
+#[test]
+fn registers_with_a_leading_zero(rt: HostRuntime) {
+    let why =
+        "error: a register is decimal digits without a leading 0, or 0x and hexadecimal digits: write 98 or 0x98 for 098\n";
+    for (prod, cons) in [("00000098", "0x85"), ("98", "0085"), ("00", "0")] {
+        let words = ["image", "--log2", "7", "--prod", prod, "--cons", cons];
+        expect_explained(&rt, &words, "", (2, "", why));
+    }
+    for (gerror, gerrorn) in [("01", "0"), ("1", "00")] {
+        let words = [
+            "image",
+            "--prod",
+            "0",
+            "--cons",
+            "0",
+            "--gerror",
+            gerror,
+            "--gerrorn",
+            gerrorn,
+        ];
+        expect_explained(&rt, &words, "", (2, "", why));
+    }
+}
+
+/// Options that say too little or too much together.
+#[test]
+fn options_that_are_unclear(rt: HostRuntime) {
+    let why = "error: --gerror and --gerrorn are given together or not at all\n";
+    for option in ["--gerror", "--gerrorn"] {
+        let words = ["image", "--prod", "0", "--cons", "0", option, "1"];
+        expect_explained(&rt, &words, "", (2, "", why));
+    }
+    let why = "error: --log and --hex aren't given together\n";
+    expect_explained(&rt, &["words", "--log", "--hex"], "", (2, "", why));
+}
+
+#[test]
+fn a_log_of_a_kernel(rt: HostRuntime) {
+    let lines = "[ 1.2] arm-smmu-v3 smmu: skipping command in error state:\n\
+                 [ 1.2] arm-smmu-v3 smmu: \t0x0000002800000008\n\
+                 [ 1.2] arm-smmu-v3 smmu: \t0x0000000000000000\n";
+    let text = "illegal ILL1: unknown opcode\n";
+    expect_explained(&rt, &["words", "--log"], lines, (1, text, ""));
+}
+
+#[test]
+fn lines_of_a_hex_dump(rt: HostRuntime) {
+    let lines = "00000000: 0300 0000 0500 0000 0100 0000 0000 0000  ................\n\
+                 0x10:\t0x0000000000000030\t0x0000000000000000\n";
+    let text = "CFGI_STE sid=5 leaf=1\nTLBI_NSNH_ALL\n";
+    expect_explained(&rt, &["words", "--hex"], lines, (0, text, ""));
+}
+
+/// The length of a dump says how many slots there are, and a last line what holds the queue up.
+#[test]
+fn a_dump_of_a_queue_that_stopped(rt: HostRuntime) {
+    let dump = "00000000: 0300 0000 0500 0000 0100 0000 0000 0000  ................\n\
+                00000010: ff00 0000 0000 0000 0000 0000 0000 0000  ................\n";
+    let words = [
+        "image",
+        "--prod",
+        "2",
+        "--cons",
+        "0x1000001",
+        "--gerror",
+        "1",
+        "--gerrorn",
+        "0",
+        "--hex",
+    ];
+    let text = "size 2\nprod 0x00000002\ncons 0x01000001\nerr 1\nwaiting 1\n\
+                slot 1 wrap 0 illegal ILL1: unknown opcode\n\
+                stopped at slot 1: illegal ILL1: unknown opcode\n";
+    expect_explained(&rt, &words, dump, (0, text, ""));
+}
+
+/// Where an image is refused, a hint may say why.
+#[test]
+fn an_image_of_another_length(rt: HostRuntime) {
+    let memory = "\x03\0\0\0\x05\0\0\0\x01\0\0\0\0\0\0\0";
+    let memory = format!(in rt.alloc(); "{memory}{memory}").expect(&rt, "memory");
+    let words = ["image", "--log2", "2", "--prod", "1", "--cons", "0"];
+    let (text, hint) = ("bad length 32\n", "the length is that of log2 1\n");
+    expect_explained(&rt, &words, memory.as_str(), (1, text, hint));
+}
+
 #[test]
 fn the_memory_of_a_queue(rt: HostRuntime) {
     let command = "\x03\0\0\0\x05\0\0\0\x01\0\0\0\0\0\0\0";

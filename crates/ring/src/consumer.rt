@@ -89,7 +89,9 @@ impl<D: Device> Consumer<D> {
     /// A witness, while the ring runs, that its steps and those of a sender are steps of one run, which both
     /// know from now on. Whatever number the sender was told, it was told in that run. Otherwise both stay as
     /// they are.
-    pub fn meet(&mut self, ring: &Ring, sender: &mut Sender)
+    ///
+    /// Returns what the control word says at this moment, which is what that run leaves in it.
+    pub fn meet(&mut self, ring: &Ring, sender: &mut Sender) -> Control
         requires ring { self.old.ring ≡ ring.now }
         requires sender { sender.old.ring ≡ ring.now }
         ensures consumer { record self.new { history = [] } ≡ record self.old { history = [] } }
@@ -100,11 +102,14 @@ impl<D: Device> Consumer<D> {
         ensures known_to_consumer { WentOn ConsumerOf self.old.history self.new.history }
         ensures known_to_sender { WentOn (SenderOf sender.old.number) sender.old.history self.new.history }
         ensures told { WasToldAll self.new.history sender.old.number sender.old.trail }
+        ensures control { IsControl self.old.ring.made_with.geometry result }
+        ensures current { result ≡ control_of self.old.ring.made_with.geometry (world self.new.history) }
     {
         world_law();
-        self.port.port.meet(ring, &mut sender.port);
+        let control = self.port.port.meet(ring, &mut sender.port);
         self.port.port.trail_stands_in_a_run();
         sender.port.trail_stands_in_a_run();
+        control
     }
 
     /// Returns how many commands it has taken, at most `2^46`.

@@ -229,8 +229,8 @@ module _ (tells : IndexesTellTheQueue) (within : NeverMoreThanFull) (decoded : W
         let trail_is = ap (λ (c : ConsumerValue UnitValue). c.trail) did.0.trail_is ∙ ap (λ (t : Trail). Test 1 0 ∷ Look did.0.seen ∷ t) d_is in
         let is = finds head.Unwritten did.0.seen [] did.0.something trail_is in
         stays Unwritten at_head.run is.run_is did.1 (reads_head Unwritten still exhausted (λ x. absurd cc) (λ x. absurd cc) head.Unwritten [] is)
-    by_answer (Applied command removed) (p, raw, first, did, completed_are) still exhausted =
-        let is = completed_then p raw first completed_are in
+    by_answer (Applied command removed) (p, raw, first, did, done) still exhausted =
+        let is = completed_then p raw first done.consumer_is in
         let says = reads_head (Applied command removed) still exhausted (λ x. absurd cc) (λ x. absurd cc) (head.Ready raw) _ is ∙ ap (λ (r : Result Command Ill). judged raw r at_head) (decoded raw command did.legal.spelled) in
         let held_before = ap (λ (u : UnitValue). u.caches.entries) unit_is in
         let held_after = did.entries ∙ ap (without_covered command) held_before in
@@ -247,8 +247,8 @@ module _ (tells : IndexesTellTheQueue) (within : NeverMoreThanFull) (decoded : W
         let says = reads_head (Stopped ill) still exhausted (λ x. absurd cc) (λ x. absurd cc) (head.Ready raw) [] is ∙ refused raw ill did.first did.running in
         subst (Comes (Stopped ill)) (sym says)
         (refl, stands_for (illegal raw ill mode.Running at_head).state _ refl is.run_is (did.new_is ∙ ap (λ (u : UnitValue). record u { stop = stopped_at raw ill u.stop }) unit_is) refl)
-    by_answer (Replaced ill) (p, raw, first, did, completed_are) still exhausted =
-        let is = completed_then p raw first completed_are in
+    by_answer (Replaced ill) (p, raw, first, did, done) still exhausted =
+        let is = completed_then p raw first done.consumer_is in
         let says = reads_head (Replaced ill) still exhausted (λ x. absurd cc) (λ x. absurd cc) (head.Ready raw) _ is ∙ refused raw ill did.first did.told in
         subst (Comes (Replaced ill)) (sym says)
         (refl, stands_for (illegal raw ill mode.Replacing at_head).state _ refl is.run_is (did.new_is ∙ ap (λ (u : UnitValue). record u { stop = gone_on u.stop; counts = counted_replaced raw u.counts }) unit_is) refl)

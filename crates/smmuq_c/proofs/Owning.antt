@@ -9,7 +9,7 @@ use Rattle.cmdcodec.specs.declared.raw.Raw.{Raw}
 use Rattle.caches.specs.declared.tag.Tag.{Tag}
 use Rattle.caches.specs.declared.tag.Entry.{Entry}
 use Rattle.caches.specs.declared.fault.CacheFault.{CacheFault}
-use Rattle.caches.specs.Held.{Entries, held}
+use Rattle.caches.specs.Held.{Entries, held, without_passing}
 use Rattle.caches.specs.TagOrder.{tag_cmp, tag_cmp_total, tag_cmp_exact}
 use Rattle.caches.proofs.Pruned.{some_was}
 use Rattle.engine.specs.declared.verdict.Verdict.{Verdict}
@@ -18,7 +18,7 @@ use Rattle.engine.specs.Units.{UnitValue, HasJudged, OnlyRemoves, with_entries, 
 use Rattle.engine.specs.Engines.{EngineValue}
 use Rattle.engine.proofs.Counted.{applied_removes, stopped_removes, replaced_removes}
 use Rattle.smmuq_c.specs.declared.evicting.Kinds.{Kinds}
-use Rattle.smmuq_c.specs.Evicting.{has_kind, without_kinds, HasLost}
+use Rattle.smmuq_c.specs.Evicting.{has_kind, HasLost}
 use Rattle.smmuq_c.specs.Own.{AreOwn}
 
 pub empty_own : (entries : Entries) → entries ≡ held [] → AreOwn entries
@@ -31,7 +31,7 @@ empty_own entries empty tag entry is =
 pub was_before : (entries : Entries) (gone tag : Tag) (entry : Entry) → finite.get (finite.remove entries gone) tag ≡ Some entry → finite.get entries tag ≡ Some entry
 was_before entries gone tag entry is = some_was (eq_by_cmp tag_cmp tag gone) _ entry (sym (get-remove tag_cmp_total entries gone tag) ∙ is)
 
-pub get_without : (kinds : Kinds) (entries : Entries) (tag : Tag) → finite.get (without_kinds kinds entries) tag ≡ cond (not (has_kind kinds tag)) (finite.get entries tag) None
+pub get_without : (kinds : Kinds) (entries : Entries) (tag : Tag) → finite.get (without_passing (has_kind kinds) entries) tag ≡ cond (not (has_kind kinds tag)) (finite.get entries tag) None
 get_without kinds entries tag =
     get-retain_keys entries (λ t. not (has_kind kinds t)) tag (λ other same. ap (λ t. not (has_kind kinds t)) (sym (tag_cmp_exact tag other same)))
 
@@ -39,7 +39,7 @@ some_where : (b : Bool) (o : Option Entry) (entry : Entry) → cond b o None ≡
 some_where true o entry is = is
 some_where false o entry is = absurd (cc)
 
-pub had_before : (kinds : Kinds) (entries : Entries) (tag : Tag) (entry : Entry) → finite.get (without_kinds kinds entries) tag ≡ Some entry → finite.get entries tag ≡ Some entry
+pub had_before : (kinds : Kinds) (entries : Entries) (tag : Tag) (entry : Entry) → finite.get (without_passing (has_kind kinds) entries) tag ≡ Some entry → finite.get entries tag ≡ Some entry
 had_before kinds entries tag entry is = some_where (not (has_kind kinds tag)) _ entry (sym (get_without kinds entries tag) ∙ is)
 
 -- ---- what a call does to a unit

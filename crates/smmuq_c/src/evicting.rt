@@ -1,14 +1,14 @@
 //! Evicting entries by their kinds, and the export that does it.
 ghost use Rattle.std.specs.Prelude.{◌≡◌};
 ghost use Rattle.smmuq_c.specs.Calls.{HasCalled, OfSaid};
-ghost use Rattle.smmuq_c.specs.Evicting.{AreKindsOf, has_kind, HasEvictedAll};
+ghost use Rattle.smmuq_c.specs.Evicting.{AreKindsOf, HasEvictedAll};
 ghost use Rattle.smmuq_c.specs.Kept.{IsKept, KeptUnlessDone};
 
 use crate::handle::{Handle, put, take};
 use crate::object::Object;
 use crate::status::Status;
 use crate::tags::TagWords;
-use caches::Tag;
+use caches::{Tag, TagTest};
 use std::alloc::Global;
 
 /// Kinds of tags: bit `kind - 1` of the mask for each.
@@ -28,19 +28,22 @@ impl Kinds {
             None
         }
     }
+}
 
-    /// Whether the tag is of one of them.
-    pub(crate) fn has(&self, tag: &Tag) -> bool
-        ensures { result ≡ has_kind self.now tag.now }
-    {
+impl TagTest for Kinds {
+    ghost use Rattle.smmuq_c.specs.Evicting.{has_kind};
+
+    ghost passing = { has_kind };
+
+    fn passes(&self, tag: &Tag) -> bool {
         let kind = TagWords::of(tag).kind;
         (self.mask >> (kind - 1)) % 2 == 1
     }
 }
 
 /// Evicts all entries of a unit or an engine whose tags are of some kinds, and tells how many they were. Bit `kind - 1`
-/// of `kinds` stands for each of the kinds 1 to 6: 0x3f evicts all entries, 0 none. `BAD_FIELD` if another bit is set,
-/// C3 if memory runs out: then nothing changed.
+/// of `kinds` stands for each of the kinds 1 to 6: 0x3f evicts all entries, 0 none. `BAD_FIELD` if another bit is set:
+/// then nothing changed. Takes no memory for that.
 #[unsafe(no_mangle)]
 pub extern "C" fn smmuq_evict_all(
     alloc: Global,

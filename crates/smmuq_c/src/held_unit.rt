@@ -77,22 +77,6 @@ pub(crate) fn new_caches(alloc: Global, capacity: u32) -> Result<Caches, Status>
     }
 }
 
-/// Evicts the entries of these kinds from a unit, and returns how many they were. `all` lists all its entries.
-fn evict_kinds(unit: &mut Unit, all: &[Entry], kinds: Kinds) -> usize
-    requires listed { all.now ≡ finite.values unit.old.caches.entries }
-    requires own { AreOwn unit.old.caches.entries }
-    ensures { HasLost kinds result unit.old unit.new }
-{
-    let mut gone = 0;
-    for entry in all {
-        if kinds.has(&entry.tag) {
-            let was = unit.evict(&entry.tag);
-            gone += usize::from(was.is_some());
-        }
-    }
-    gone
-}
-
 impl HeldUnit {
     /// Returns a unit with empty caches for `capacity` entries. C4 if that isn't 1 to 65,536.
     pub(crate) fn new(alloc: Global, capacity: u32) -> Result<HeldUnit, Status>
@@ -246,13 +230,8 @@ impl HeldUnit {
         ensures rereads { self.new ≡ record self.old { unit = self.new.unit } }
         ensures settled { StaysSettled self.old.unit self.new.unit [] }
     {
-        match self.unit.entries() {
-            Ok(list) => {
-                *count = evict_kinds(&mut self.unit, list.as_slice(), kinds);
-                Status::Done
-            }
-            Err(fault) => Status::Cache(fault),
-        }
+        *count = self.unit.evict_all(&kinds) as usize;
+        Status::Done
     }
 
     pub(crate) fn lookup(&self, tag: &Tag, told: &mut Held) -> Status

@@ -52,25 +52,6 @@ impl Model for SeatedEngine {
     ghost invariant = { λ e. (e.engine.consumer.ring ≡ arc_value e.ring) × AreOwn e.engine.unit.caches.entries };
 }
 
-/// Evicts the entries of these kinds from an engine, and returns how many they were. `all` lists all its entries.
-fn evict_kinds(engine: &mut Engine, all: &[Entry], kinds: Kinds) -> usize
-    requires listed { all.now ≡ finite.values engine.old.unit.caches.entries }
-    requires own { AreOwn engine.old.unit.caches.entries }
-    ensures lost { HasLost kinds result engine.old.unit engine.new.unit }
-    ensures consumer { engine.new ≡ record engine.old { unit = engine.new.unit } }
-    ensures settled { IsSettled engine.new.unit.caches.entries (taken_of engine.new.consumer.trail) }
-{
-    let mut gone = 0;
-    for entry in all {
-        if kinds.has(&entry.tag) {
-            let was = engine.evict(&entry.tag);
-            gone += usize::from(was.is_some());
-        }
-    }
-    engine.is_settled();
-    gone
-}
-
 impl SeatedEngine {
     pub(crate) fn new(ring: Arc<Ring>, engine: Engine) -> SeatedEngine
         requires ring { engine.consumer.ring ≡ arc_value ring }
@@ -146,14 +127,8 @@ impl SeatedEngine {
         ensures consumer { self.new ≡ record self.old { unit = self.new.unit } }
         ensures settled { IsSettled self.new.unit.caches.entries (taken_of self.new.consumer.trail) }
     {
-        self.engine.is_settled();
-        match self.engine.entries() {
-            Ok(list) => {
-                *count = evict_kinds(&mut self.engine, list.as_slice(), kinds);
-                Status::Done
-            }
-            Err(fault) => Status::Cache(fault),
-        }
+        *count = self.engine.evict_all(&kinds) as usize;
+        Status::Done
     }
 
     pub(crate) fn lookup(&self, tag: &Tag, told: &mut Held) -> Status

@@ -19,7 +19,7 @@ fn end_line(reply: &mut String) -> Result<(), AllocError>
 }
 
 /// Appends what the words of a command mean, as a line.
-fn say_raw(raw: Raw, reply: &mut String) -> Result<bool, AllocError>
+pub(crate) fn say_raw(raw: Raw, reply: &mut String) -> Result<bool, AllocError>
     ensures text { OnOk result (string_bytes reply.new ≡ string_bytes reply.old ++ (told (words_text raw)).text) }
     ensures good { IfOk result (λ is_good. is_good ≡ (told (words_text raw)).is_good) }
 {
@@ -28,7 +28,7 @@ fn say_raw(raw: Raw, reply: &mut String) -> Result<bool, AllocError>
     Ok(is_legal)
 }
 
-fn say_bad_line(reply: &mut String) -> Result<bool, AllocError>
+pub(crate) fn say_bad_line(reply: &mut String) -> Result<bool, AllocError>
     ensures text { OnOk result (string_bytes reply.new ≡ string_bytes reply.old ++ bad_line.text) }
     ensures good { IfOk result (λ is_good. is_good ≡ bad_line.is_good) }
 {

@@ -4,7 +4,11 @@ use mathlib.Core.Option.{some, none}
 use lib.ListN.{get_elem?}
 use Rattle.ring.specs.table.{step, keeps, Allows, Splits, TableId, Participant, TableState, Holding, participant, WentOn, HasTrails, SitAt, Any, RuleHolds, Stands, ring_of, who_of, trail_of_first}
 use Rattle.ring.specs.table.{history_of_first, IsAlone, AreMadeBy, without_first, first_alone, both_of, all_knowing, HasAll, AllSit, HaveMet, has_met, has_found, port_of, PortValue}
-use Rattle.ring.specs.Runs.{Who, Run, same, Ring, IsOne}
+use Rattle.std.specs.Prelude.{slice_index}
+use Rattle.qindex.specs.ControlWord.{control_in}
+use Rattle.ringcore.specs.memory.Layout.{control_word}
+use Rattle.ringcore.specs.memory.StepLaws.{Always, LooksByALoad}
+use Rattle.ring.specs.Runs.{Who, Run, same, Ring, IsOne, Consumer, world, control}
 use Rattle.ringcore.specs.memory.Shadow.{AreAfter}
 use Rattle.ring.proofs.TableLemmas.Seats.{went_on_none, seated_after, same_place, among_step}
 use Rattle.ring.proofs.TableLemmas.Steps.{deals_at, set_back}
@@ -85,6 +89,9 @@ pub meets_as : (ring : Ring) (slots id i : ℕ) (g : Participant) (hs : List Par
 meets_as ring slots id i g hs me is = subst (λ (m : Holding). Allows (RuleHolds ring) slots id m i (λ x. x) (has_met (step slots i 0 0 none) m)) (sym is)
     (λ s k many at low. let did = finds_at ring slots id i g hs s k many at low in (did.0, did.1, did.2, did.3, did.4.0))
 
+pub found_as : (ring : Ring) (slots id i : ℕ) (g : Participant) (hs : List Participant) (me : Holding) → me ≡ (g ∷ hs, []) → Allows (RuleHolds ring) slots id me i (λ x. x) (has_found (step slots i 0 0 none) me)
+found_as ring slots id i g hs me is = subst (λ (m : Holding). Allows (RuleHolds ring) slots id m i (λ x. x) (has_found (step slots i 0 0 none) m)) (sym is) (finds_at ring slots id i g hs)
+
 -- ---- two seats of a single participant each
 
 -- Both know the same run, and neither took a step.
@@ -159,6 +166,20 @@ module _ (mine theirs : Holding) (my_own : IsAlone mine (who_of mine.0)) (their_
         words = words;
         stands = record { limits = all.limits; after = all.after; only = all.only; known = all.has.0.known; trail_is = all.has.0.trail };
       }
+
+      -- what the load found is what that run leaves in the control word
+      pub finds_now : (my_table my_new_table : TableId) (p : PortValue) → port_of my_table mine ≡ p → Always LooksByALoad → (i word : ℕ) → i ≡ control_word → word ≡ slice_index did.1 i
+          → control_in p.ring.made_with.geometry word ≡ control p.ring.made_with.geometry (world (port_of my_new_table left).history)
+      finds_now my_table my_new_table p p_is finds i word at word_is =
+          let key : Ring = ring_of joined.0 in
+          let key_is : key ≡ me.ring = ap (λ (m : Holding). ring_of m.0) is ∙ sym all.has.1.0.ring_is in
+          let run_is : history_of_first left.0 ≡ did.0 =
+          ap (λ (m : Holding). history_of_first m.0) left_is ∙ ap (λ (m : Holding). history_of_first (without_first m.0)) did.3 ∙ ap (λ (m : Holding). history_of_first (without_first (all_knowing did.0 m.0))) is in
+          let here : control_in key.geometry word ≡ control key.geometry (world did.0) =
+          ap (control_in key.geometry) (word_is ∙ ap (slice_index did.1) at) ∙ (finds key did.0 did.1 did.2.after Consumer).run_is.1 in
+          let mine_now : control_in me.ring.geometry word ≡ control me.ring.geometry (world (history_of_first left.0)) =
+          subst (λ (x : Ring × Run). control_in x.0.geometry word ≡ control x.0.geometry (world x.1)) (λ k. (key_is k, sym run_is k)) here in
+          subst (λ (q : PortValue). control_in q.ring.made_with.geometry word ≡ control q.ring.made_with.geometry (world (port_of my_new_table left).history)) p_is mine_now
 
       -- what contracts see of it
       pub have_met : (my_table my_new_table their_table their_new_table : TableId) → my_new_table ≡ my_table → their_new_table ≡ their_table → (p q : PortValue) → port_of my_table mine ≡ p → port_of their_table theirs ≡ q

@@ -1,6 +1,7 @@
 -- The events that a send added, by its answer.
 use Rattle.std.specs.Prelude.{◌≡◌, ℕ, zero, suc, ◌+◌, ◌<◌, Bool, true, false, List, []}
-use Rattle.ring.specs.Runs.{Raw}
+use Rattle.ring.specs.Runs.{Raw, Sender}
+use Rattle.ring.specs.table.Histories.{Grew}
 use Rattle.ring.specs.declared.sender.cause.Cause.{Cause}
 use Rattle.ring.specs.declared.sender.cause.Cause.TheVariants.{TooLong, Exhausted, Closed, Full, Contended}
 use Rattle.ring.specs.sender.Senders.{SenderValue, ReceiptValue}
@@ -30,17 +31,20 @@ pub record IsReservedWithin (body : List Raw) (closes : Bool) (tries : ℕ) (s :
   pub tried : HasTried body closes refusals s after
   pub reserved : IsReserved body closes after r
 
--- Some refused tries, and then the whole batch was sent.
+-- Some refused tries, and then the whole batch was sent. The run that the sender knows grew by exactly the steps that
+-- published what was reserved.
 pub record IsSent (body : List Raw) (tries : ℕ) (s t : SenderValue) (receipt : ReceiptValue) : Type 0 where
   pub reservation : ReservationValue
   pub reserved : IsReservedWithin body true tries s reservation
   pub sender_is : record t { history = [] } ≡ sender_of (published (record reservation { history = [] }))
+  pub grew : Grew (Sender reservation.sender) reservation.trail t.trail reservation.history t.history
   pub receipt_is : IsReceiptOf reservation receipt
 
 pub record IsSentBare (body : List Raw) (tries : ℕ) (s t : SenderValue) : Type 0 where
   pub reservation : ReservationValue
   pub reserved : IsReservedWithin body false tries s reservation
   pub sender_is : record t { history = [] } ≡ sender_of (published (record reservation { history = [] }))
+  pub grew : Grew (Sender reservation.sender) reservation.trail t.trail reservation.history t.history
 
 -- The answer is the last refusal: after `tries` tries, or at once if its cause doesn't pass.
 pub record IsGivenUp (body : List Raw) (closes : Bool) (tries : ℕ) (s : SenderValue) (cause : Cause) (t : SenderValue) : Type 0 where

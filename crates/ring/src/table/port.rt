@@ -12,7 +12,7 @@ ghost use Rattle.ring.specs.table.Ports.{PortValue, SitsFor, IsWonOrLost, IsSlot
 
 use crate::ring::Ring;
 use crate::table::rule::Participants;
-use crate::table::steps::{Asks, Closes, Deals, Gathers, HasIntent, Looks, Meets, StepFor};
+use crate::table::steps::{Asks, Closes, Deals, Finds, Gathers, HasIntent, Looks, StepFor};
 use atomic_table::Seat;
 use batch::BorrowedBatch;
 use cmdcodec::Raw;
@@ -67,8 +67,9 @@ impl Port {
         seat
     }
 
-    /// Joins both seats for a load and splits them again: both know the run as it is then. It adds no event.
-    pub(crate) fn meet(&mut self, ring: &Ring, other: &mut Port)
+    /// Joins both seats for a load and splits them again: both know the run as it is then. It adds no event. Returns
+    /// the control word that the load found.
+    pub(crate) fn meet(&mut self, ring: &Ring, other: &mut Port) -> Control
         requires ring { self.old.ring ≡ ring.now }
         requires other { other.old.ring ≡ ring.now }
         requires apart { same self.old.who other.old.who ≡ false }
@@ -77,12 +78,16 @@ impl Port {
         ensures one { other.new.history ≡ self.new.history }
         ensures i_knew { WentOn self.old.who self.old.history self.new.history }
         ensures they_knew { WentOn other.old.who other.old.history self.new.history }
+        ensures control { IsControl self.old.ring.made_with.geometry result }
+        ensures current { result ≡ control_of self.old.ring.made_with.geometry (world self.new.history) }
     {
+        laws::look();
         let words = &ring.table.shared;
         let one = words.split_seat::<Deals>(&mut other.seat);
         words.join_seat::<Gathers>(&mut self.seat, one);
-        words.load::<Meets>(&mut self.seat, control_word());
+        let found = words.load::<Finds>(&mut self.seat, control_word());
         other.seat = words.split_seat::<Deals>(&mut self.seat);
+        Control::unpack(ring.geometry(), found).unwrap()
     }
 
     /// A load of the control word.

@@ -37,7 +37,7 @@ returns c =
     let third : app_of c.in_ok-subcommand-3.field-0 ≡ with_subcommand (with_subcommand (with_subcommand spec.alone spec.replay.top) spec.schedule.top) spec.decode.top =
     c.in_ok-subcommand-3.ensures.shape (is_false _ (both _ _ (both _ _ (both _ _ (ap (λ (a : App). a.top.is_plain) decode_is)).1).1).0)
     ∙ ap₂ with_subcommand second (ap (λ (a : App). a.top) decode_is) in
-    let words_is : app_of c.words.result ≡ spec.words = c.words.ensures in
+    let words_is : app_of c.in_ok-words.field-0 ≡ spec.words = search rules in
     let image_is : app_of c.in_ok-image.field-0 ≡ spec.image = search rules in
     let fourth : app_of c.in_ok-subcommand-4.field-0 ≡ with_subcommand (with_subcommand (with_subcommand (with_subcommand spec.alone spec.replay.top) spec.schedule.top) spec.decode.top) spec.stress.top =
     c.in_ok-subcommand-4.ensures.shape (is_false _ (both _ _ (both _ _ (both _ _ (ap (λ (a : App). a.top.is_plain) stress_is)).1).1).0)

@@ -1,5 +1,6 @@
 use Rattle.std.proofs.Common.{◌≡◌, ◌∙◌, sym, ap, subst}
 use Rattle.std.specs.FinMap as finite
+use Rattle.caches.specs.Covers.{covers}
 use Rattle.caches.specs.Held.{Entries, without_covered}
 use Rattle.caches.specs.OneStreams.{HaveNoSubstreams}
 use Rattle.caches.specs.Unlisted.{unlisted}
@@ -12,13 +13,13 @@ invariant_of-self c =
     let command = c.args.command.now in
     let m = c.self.inside.map.ordered in
     let n = c.remove_all_covered.new.map.ordered in
-    let part = part_without command m n c.remove_all_covered.ensures.after in
-    let gone = c.recount-self-inside.ensures.same ∙ unlisted_without command m n c.self.inside.removed.items c.remove_all_covered.ensures.after in
+    let part = part_without (covers command) m n c.remove_all_covered.ensures.after in
+    let gone = c.recount-self-inside.ensures.same ∙ unlisted_without (covers command) m n c.self.inside.removed.items c.remove_all_covered.ensures.after in
     record {
       counted = c.recount-self-inside.ensures.len;
       keeping = part_keeping m n part c.self.invariant.keeping;
       spanned = part_spanned m n part c.self.inside.spans c.self.invariant.spanned;
-      main = λ none. subst HaveNoSubstreams (sym gone) (without_main command (unlisted m c.self.inside.removed.items) (c.self.invariant.main none));
+      main = λ none. subst HaveNoSubstreams (sym gone) (without_main (covers command) (unlisted m c.self.inside.removed.items) (c.self.invariant.main none));
     }
 
 pub invariant_of-self-else-len-before : goal.invariant_of-self-else-len-before
@@ -27,8 +28,8 @@ invariant_of-self-else-len-before c =
     let m = c.self.inside.map.ordered in
     let n = c.remove_all_covered.new.map.ordered in
     let ks = c.self.inside.removed.items in
-    let part = part_without command m n c.remove_all_covered.ensures.after in
-    let whole : unlisted n ks ≡ unlisted m ks = unlisted_whole command m n ks c.remove_all_covered.ensures.after c.len-before.ensures.ordered c.len.ensures.ordered (sym c.len.ensures.len ∙ c.if-len-before.false ∙ c.len-before.ensures.len) in
+    let part = part_without (covers command) m n c.remove_all_covered.ensures.after in
+    let whole : unlisted n ks ≡ unlisted m ks = unlisted_whole (covers command) m n ks c.remove_all_covered.ensures.after c.len-before.ensures.ordered c.len.ensures.ordered (sym c.len.ensures.len ∙ c.if-len-before.false ∙ c.len-before.ensures.len) in
     record {
       counted = c.self.invariant.counted ∙ sym (ap (λ (x : Entries). finite.len x) whole);
       keeping = part_keeping m n part c.self.invariant.keeping;
@@ -39,9 +40,9 @@ invariant_of-self-else-len-before c =
 pub returns-then-len-before : goal.returns-then-len-before
 returns-then-len-before c =
     let command = c.args.command.now in
-    c.recount-self-inside.ensures.same ∙ unlisted_without command c.self.inside.map.ordered c.remove_all_covered.new.map.ordered c.self.inside.removed.items c.remove_all_covered.ensures.after ∙ ap (without_covered command) c.self.view_is
+    c.recount-self-inside.ensures.same ∙ unlisted_without (covers command) c.self.inside.map.ordered c.remove_all_covered.new.map.ordered c.self.inside.removed.items c.remove_all_covered.ensures.after ∙ ap (without_covered command) c.self.view_is
 
 pub returns-else-len-before : goal.returns-else-len-before
 returns-else-len-before c =
     let command = c.args.command.now in
-    unlisted_without command c.self.inside.map.ordered c.remove_all_covered.new.map.ordered c.self.inside.removed.items c.remove_all_covered.ensures.after ∙ ap (without_covered command) c.self.view_is
+    unlisted_without (covers command) c.self.inside.map.ordered c.remove_all_covered.new.map.ordered c.self.inside.removed.items c.remove_all_covered.ensures.after ∙ ap (without_covered command) c.self.view_is

@@ -90,7 +90,7 @@ complete_run-requires-clause-settled c = settled c
 pub returns-in-Replaced-clause-stepped : goal.returns-in-Replaced-clause-stepped
 returns-in-Replaced-clause-stepped c =
     let raws = first_and_rest c.in-Ready.run'.raws c.unwrap.result (sym c.get.ensures ∙ c.unwrap.ensures) in
-    (c.in-Ready.run', c.unwrap.result, record { read = c.in-Ready.ensures.taken; rest = drop 1 c.in-Ready.run'.raws; raws_are = raws }, replaced c.before, c.complete_run.ensures.consumer)
+    (c.in-Ready.run', c.unwrap.result, record { read = c.in-Ready.ensures.taken; rest = drop 1 c.in-Ready.run'.raws; raws_are = raws }, replaced c.before, record { consumer_is = c.complete_run.ensures.consumer; grew = c.complete_run.ensures.history })
 
 pub returns-in-Replaced-clause-together : goal.returns-in-Replaced-clause-together
 returns-in-Replaced-clause-together c =

@@ -6,5 +6,5 @@ use Rattle.ring.proofs.consumer.Consumer.meet.Goals as goal
 
 pub returns-clause-told : goal.returns-clause-told
 returns-clause-told g c =
-    let of_sender : IsHistory c.args.sender.now.ring.made_with (Sender c.args.sender.now.number) c.args.sender.now.trail c.meet.new.self.history = search rules in
+    let of_sender : IsHistory c.args.sender.now.ring.made_with (Sender c.args.sender.now.number) c.args.sender.now.trail c.meet-control.new.self.history = search rules in
     was_told_all c.world_law.ensures.told_of_all _ _ _ _ of_sender
