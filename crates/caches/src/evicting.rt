@@ -1,7 +1,6 @@
 //! Takes all entries out of the map whose tags pass a test.
 ghost use Rattle.std.specs.BTreeMap as tree;
-ghost use Rattle.caches.specs.Keys.{passes_key};
-ghost use Rattle.caches.specs.Sweep.{IsKeeping, IsNext, IsWithout};
+ghost use Rattle.caches.specs.Sweep.{IsKeeping, IsNextPassing, IsRidOf};
 
 use crate::indexed_map::IndexedMap;
 use crate::rank::Rank;
@@ -17,7 +16,7 @@ fn next_passing<T: TagTest>(
     test: &T,
 ) -> Option<Rank>
     requires { IsKeeping ⟦<Rank as Ord>⟧.cmp map.now }
-    ensures { IsNext ⟦<Rank as Ord>⟧.cmp (passes_key (T.passing test.now)) map.now from Bound.Unbounded result }
+    ensures { IsNextPassing ⟦<Rank as Ord>⟧.cmp (T.passing test.now) map.now from result }
 {
     let mut entries = map.range((from, Bound::Unbounded));
     while let Some((key, entry)) = entries.next() {
@@ -31,7 +30,7 @@ fn next_passing<T: TagTest>(
 /// Removes the entries whose tags pass a test, in one walk along the map. Takes no memory.
 pub(crate) fn remove_passing<T: TagTest>(map: &mut IndexedMap, test: &T)
     requires { IsKeeping ⟦<Rank as Ord>⟧.cmp map.old.ordered }
-    ensures { IsWithout ⟦<Rank as Ord>⟧.cmp (passes_key (T.passing test.now)) map.old.ordered map.new.ordered }
+    ensures { IsRidOf ⟦<Rank as Ord>⟧.cmp (T.passing test.now) map.old.ordered map.new.ordered }
 {
     let mut from = Bound::Unbounded;
     while let Some(key) = next_passing(&map.ordered, from, test) {

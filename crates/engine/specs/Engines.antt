@@ -10,6 +10,8 @@ use Rattle.ringcore.specs.declared.world.event.Event.TheVariants.{Look}
 use Rattle.ringcore.specs.world.World.{world, control as control_of}
 use Rattle.ring.specs.table.Histories.{Grew, GrewBy}
 use Rattle.ring.specs.NewRings.{made_with}
+use Rattle.ring.specs.Rings.{RingValue}
+use Rattle.ring.specs.Runs.{Run}
 use Rattle.ring.specs.consumer.Consumers.{ConsumerValue}
 use Rattle.ring.specs.consumer.Pendings.{PendingValue, HasSeen}
 use Rattle.ring.specs.consumer.Taking.{with_trail, TookNone, TookUnwritten, TookRun}
@@ -36,6 +38,10 @@ pub record AreTogether (consumer : ConsumerValue UnitValue) (unit : UnitValue) :
   pub counted : AreCountsOf (taken_of consumer.trail) unit.counts
   pub settled : IsSettled unit.caches.entries (taken_of consumer.trail)
   pub seen : (raw : Raw) → unit.stop.next ≡ Some raw → HasSeen consumer.trail raw
+
+-- The unit is settled for what the consumer has taken.
+abbrev pub IsSettledEngine : EngineValue → Type 0
+IsSettledEngine engine = IsSettled engine.unit.caches.entries (taken_of engine.consumer.trail)
 
 -- ---- an engine lends its consumer to each step and then has it back
 
@@ -117,13 +123,17 @@ HasRun most old new run.Exhausted = (most_reserved ≤ taken old.unit.counts) ×
 
 -- ---- registers
 
+-- what a run of the ring leaves in its control word
+abbrev pub control_after : RingValue → Run → Control
+control_after ring run = control_of ring.made_with.geometry (world run)
+
 -- It looked. The registers say what it found, which is how the run known then has it, and the state of the
 -- stop.
 pub record HasLooked (old new : EngineValue) (found : Registers) : Type 0 where
   pub control : Control
   pub consumer_is : record new.consumer { history = [] } ≡ with_trail (record old.consumer { history = [] }) (Look control ∷ old.consumer.trail)
   pub grew : GrewBy Consumer (Look control) old.consumer.history new.consumer.history
-  pub control_is : control ≡ control_of old.consumer.ring.made_with.geometry (world new.consumer.history)
+  pub control_is : control ≡ control_after old.consumer.ring new.consumer.history
   pub unit_is : new.unit ≡ old.unit
   pub prod : found.prod ≡ control.prod.number
   pub cons : found.cons ≡ control.cons.number + err_of old.unit.stop.mode * 2 ^ 24

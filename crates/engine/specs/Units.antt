@@ -1,5 +1,5 @@
 -- The unit as contracts see it, and what a command does to it.
-use Rattle.std.specs.Prelude.{◌≡◌, ◌≤◌, ◌+◌, ℕ, List, [], ◌∷◌, ◌++◌, length, None, Some}
+use Rattle.std.specs.Prelude.{◌≡◌, ◌≤◌, ◌+◌, ℕ, Bool, List, [], ◌∷◌, ◌++◌, length, None, Some}
 use Rattle.std.specs.FinMap as finite
 use Rattle.cmdcodec.specs.declared.raw.Raw.{Raw}
 use Rattle.cmdcodec.specs.declared.command.Command.{Command}
@@ -12,7 +12,7 @@ use Rattle.caches.specs.Limits.{most_entries}
 use Rattle.caches.specs.declared.tag.Tag.{Tag}
 use Rattle.caches.specs.declared.tag.Entry.{Entry}
 use Rattle.caches.specs.Stored.{Stored}
-use Rattle.caches.specs.Held.{Entries, without_covered}
+use Rattle.caches.specs.Held.{Entries, without_covered, without_passing}
 use Rattle.engine.specs.declared.stop.Mode.TheVariants.{Running, Replacing}
 use Rattle.engine.specs.declared.verdict.Verdict.{Verdict}
 use Rattle.engine.specs.declared.verdict.Verdict.TheVariants.{Applied, Stopped, Replaced}
@@ -41,6 +41,11 @@ with_entries u entries = record u { caches = record u.caches { entries = entries
 -- the entries with a new one that is born now
 abbrev pub filled : Tag → ℕ → UnitValue → Entries
 filled tag value u = finite.insert u.caches.entries tag (record { tag = tag; value = value; born = taken u.counts })
+
+-- The entries whose tags pass, `count` of them, are gone, and nothing else changed.
+pub record HasLost (passes : Tag → Bool) (count : ℕ) (old new : UnitValue) : Type 0 where
+  pub new_is : new ≡ with_entries old (without_passing passes old.caches.entries)
+  pub count_is : count + finite.len new.caches.entries ≡ finite.len old.caches.entries
 
 -- ---- what a command does
 

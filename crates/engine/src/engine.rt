@@ -1,11 +1,11 @@
 //! The engine: a unit with the consumer of a ring.
-ghost use Rattle.std.specs.Prelude.{◌≡◌, ◌+◌, ◌≤◌, ◌↔◌, [], length, IfSome, IsTrue, OnOk, OnErr};
+ghost use Rattle.std.specs.Prelude.{◌≡◌, ◌≤◌, ◌↔◌, [], length, IfSome, IsTrue, OnOk, OnErr};
 ghost use Rattle.std.specs.FinMap as finite;
 ghost use Rattle.qindex.specs.ControlWord.{IsControl};
 ghost use Rattle.ringcore.specs.Limits.{most_reserved};
 ghost use Rattle.ringcore.specs.declared.world.event.Who.TheVariants.{Consumer as ConsumerOf, Sender as SenderOf};
-ghost use Rattle.ringcore.specs.world.World.{world, control as control_of};
-ghost use Rattle.caches.specs.Held.{held, without_passing};
+ghost use Rattle.ringcore.specs.world.World.{world};
+ghost use Rattle.caches.specs.Held.{held};
 ghost use Rattle.caches.specs.Stored.{IsFillAnswer, IsListAnswer};
 ghost use Rattle.ring.specs.table.Rule.{WentOn};
 ghost use Rattle.ring.specs.table.Histories.{IsHistory, Grew};
@@ -14,8 +14,8 @@ ghost use Rattle.ring.specs.consumer.Completing.{taken_of};
 ghost use Rattle.engine.specs.Settled.{IsSettled};
 ghost use Rattle.engine.specs.Stops.{IsStopped, IsAcknowledgementAnswer, told, err_of, word_of};
 ghost use Rattle.engine.specs.Counting.{taken, AreCountsOf};
-ghost use Rattle.engine.specs.Units.{new_unit, filled, with_entries, OnlyRemoves};
-ghost use Rattle.engine.specs.Engines.{HasStepped, HasRun, HasLooked};
+ghost use Rattle.engine.specs.Units.{HasLost, new_unit, filled, with_entries, OnlyRemoves};
+ghost use Rattle.engine.specs.Engines.{HasStepped, HasRun, HasLooked, IsSettledEngine, control_after};
 ghost use Rattle.engine.specs.Ends.{WasToldAllTruly, IsEngineEnd};
 
 mod run_stepping;
@@ -78,7 +78,7 @@ impl Engine {
         ensures history { Grew ConsumerOf self.old.consumer.trail self.new.consumer.trail self.old.consumer.history self.new.consumer.history }
         ensures still { (result ≡ StepAnswer.StillStopped) ↔ IsStopped self.old.unit.stop.mode }
         ensures exhausted { (result ≡ StepAnswer.Exhausted) ↔ (¬ IsStopped self.old.unit.stop.mode × (taken self.old.unit.counts ≡ most_reserved)) }
-        ensures settled { IsSettled self.new.unit.caches.entries (taken_of self.new.consumer.trail) }
+        ensures settled { IsSettledEngine self.new }
         ensures removes { OnlyRemoves self.old.unit self.new.unit }
         ensures ring { self.new.consumer.ring ≡ self.old.consumer.ring }
     {
@@ -98,7 +98,7 @@ impl Engine {
         ensures history { Grew ConsumerOf self.old.consumer.trail self.new.consumer.trail self.old.consumer.history self.new.consumer.history }
         ensures still { (result ≡ RunAnswer.StillStopped) ↔ IsStopped self.old.unit.stop.mode }
         ensures exhausted { (result ≡ RunAnswer.Exhausted) ↔ (¬ IsStopped self.old.unit.stop.mode × (taken self.old.unit.counts ≡ most_reserved)) }
-        ensures settled { IsSettled self.new.unit.caches.entries (taken_of self.new.consumer.trail) }
+        ensures settled { IsSettledEngine self.new }
         ensures removes { OnlyRemoves self.old.unit self.new.unit }
         ensures ring { self.new.consumer.ring ≡ self.old.consumer.ring }
     {
@@ -145,7 +145,7 @@ impl Engine {
         ensures known_to_consumer { WentOn ConsumerOf self.old.consumer.history self.new.consumer.history }
         ensures known_to_sender { WentOn (SenderOf sender.old.number) sender.old.history self.new.consumer.history }
         ensures control { IsControl self.old.consumer.ring.made_with.geometry result }
-        ensures current { result ≡ control_of self.old.consumer.ring.made_with.geometry (world self.new.consumer.history) }
+        ensures current { result ≡ control_after self.old.consumer.ring self.new.consumer.history }
     {
         laws::consumer_trail();
         self.is_settled();
@@ -230,7 +230,7 @@ impl Engine {
         ensures ok { OnOk result (self.new ≡ record self.old { unit = record self.old.unit { stop = told remedy self.old.unit.stop } }) }
         ensures err { OnErr result (self.new ≡ self.old) }
         ensures consumer { self.new.consumer ≡ self.old.consumer }
-        ensures settled { IsSettled self.new.unit.caches.entries (taken_of self.new.consumer.trail) }
+        ensures settled { IsSettledEngine self.new }
     {
         self.unit.acknowledge(gerrorn, remedy)
     }
@@ -244,7 +244,7 @@ impl Engine {
         ensures ok { OnOk result (self.new ≡ record self.old { unit = with_entries self.old.unit (filled tag value self.old.unit) }) }
         ensures err { OnErr result (self.new ≡ self.old) }
         ensures consumer { self.new.consumer ≡ self.old.consumer }
-        ensures settled { IsSettled self.new.unit.caches.entries (taken_of self.new.consumer.trail) }
+        ensures settled { IsSettledEngine self.new }
     {
         self.unit.fill(tag, value)
     }
@@ -254,17 +254,16 @@ impl Engine {
         ensures was { result ≡ finite.get self.old.unit.caches.entries tag.now }
         ensures new { self.new ≡ record self.old { unit = with_entries self.old.unit (finite.remove self.old.unit.caches.entries tag.now) } }
         ensures consumer { self.new.consumer ≡ self.old.consumer }
-        ensures settled { IsSettled self.new.unit.caches.entries (taken_of self.new.consumer.trail) }
+        ensures settled { IsSettledEngine self.new }
     {
         self.unit.evict(tag)
     }
 
     /// Removes all entries whose tags pass `test` and returns how many there were. Takes no memory.
     pub fn evict_all<T: TagTest>(&mut self, test: &T) -> u32
-        ensures unit { self.new.unit ≡ with_entries self.old.unit (without_passing (T.passing test.now) self.old.unit.caches.entries) }
+        ensures lost { HasLost (T.passing test.now) result self.old.unit self.new.unit }
         ensures new { self.new ≡ record self.old { unit = self.new.unit } }
-        ensures removed { result + finite.len self.new.unit.caches.entries ≡ finite.len self.old.unit.caches.entries }
-        ensures settled { IsSettled self.new.unit.caches.entries (taken_of self.new.consumer.trail) }
+        ensures settled { IsSettledEngine self.new }
     {
         self.unit.evict_all(test)
     }

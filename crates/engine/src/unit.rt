@@ -1,17 +1,17 @@
 //! The unit: the caches, and the stop at an illegal command.
-ghost use Rattle.std.specs.Prelude.{◌≡◌, ◌+◌, ◌<◌, ◌↔◌, [], List, None, Some, IfSome, OnOk, OnErr, IsTrue};
+ghost use Rattle.std.specs.Prelude.{◌≡◌, ◌<◌, ◌↔◌, [], List, None, Some, IfSome, OnOk, OnErr, IsTrue};
 ghost use Rattle.std.specs.FinMap as finite;
 ghost use Rattle.cmdcodec.specs.declared.command.Command.{Command as CommandOf};
 ghost use Rattle.cmdcodec.specs.declared.ill.Ill.{Ill as IllOf};
 ghost use Rattle.cmdcodec.specs.Legality.{first_ill};
 ghost use Rattle.ringcore.specs.Limits.{most_reserved};
 ghost use Rattle.ringcore.specs.world.World.{Taken};
-ghost use Rattle.caches.specs.Held.{held, without_passing};
+ghost use Rattle.caches.specs.Held.{held};
 ghost use Rattle.caches.specs.Stored.{IsFillAnswer, IsListAnswer};
 ghost use Rattle.engine.specs.Settled.{IsSettled};
 ghost use Rattle.engine.specs.Stops.{IsStopped, MayComeNext, IsAcknowledgementAnswer, told, err_of, word_of};
 ghost use Rattle.engine.specs.Counting.{taken};
-ghost use Rattle.engine.specs.Units.{HasJudged, StaysSettled, IsSettledUnit, IsLegal, IsApplied, took, new_unit, filled, with_entries};
+ghost use Rattle.engine.specs.Units.{HasJudged, HasLost, StaysSettled, IsSettledUnit, IsLegal, IsApplied, took, new_unit, filled, with_entries};
 
 use crate::counts::Counts;
 use crate::remedy::{AckFault, Remedy};
@@ -222,8 +222,7 @@ impl Unit {
 
     /// Removes all entries whose tags pass `test` and returns how many there were. Takes no memory.
     pub fn evict_all<T: TagTest>(&mut self, test: &T) -> u32
-        ensures new { self.new ≡ with_entries self.old (without_passing (T.passing test.now) self.old.caches.entries) }
-        ensures removed { result + finite.len self.new.caches.entries ≡ finite.len self.old.caches.entries }
+        ensures lost { HasLost (T.passing test.now) result self.old self.new }
         ensures settled { StaysSettled self.old self.new [] }
     {
         self.caches.evict_all(test)

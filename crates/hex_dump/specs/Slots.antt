@@ -1,6 +1,8 @@
 -- The 16 bytes that the data words of a line say, as the two words of a slot.
-use Rattle.std.specs.Prelude.{ℕ, ◌+◌, ◌-◌, ◌*◌, ◌/◌, ◌%◌, ◌^◌, List, [], ◌∷◌, ◌==◌, ◌&&◌, ◌||◌, not, Bool, true, false, if◌then◌else◌, Option, Some, None, length}
+use Rattle.std.specs.Prelude.{ℕ, ◌+◌, ◌-◌, ◌*◌, ◌/◌, ◌%◌, ◌^◌, List, [], ◌∷◌, ◌==◌, ◌&&◌, ◌||◌, not, Bool, true, false, if◌then◌else◌, Option, Some, None, length, option_map}
+use Rattle.std.specs.Borrow.{Bor}
 use Rattle.cmdcodec.specs.declared.raw.Raw.{Raw}
+use Rattle.line_answers.specs.LineWords.{words_of}
 use Rattle.script.specs.Fields.{◌>>=◌, guard, is_end}
 use Rattle.script.specs.Words.{is_hex}
 use Rattle.hex_dump.specs.declared.layout.Layout.{Layout}
@@ -30,6 +32,10 @@ is_prefixed (Words prefixed) = prefixed
 is_prefixed (Doublewords prefixed) = prefixed
 
 -- ---- numbers, each with the words after it
+
+-- what was parsed from a text: a number, and the words of the text after it
+abbrev pub number_and_words : Option (ℕ × Bor (List ℕ)) → Option (ℕ × List (List ℕ))
+number_and_words found = option_map (λ f. (f.0, words_of f.1.now)) found
 
 -- what parses a number from words
 abbrev pub Part : Type 0

@@ -3,9 +3,8 @@ ghost use Rattle.std.specs.Prelude.{◌≡◌, ◌<◌, length, true};
 ghost use Rattle.line_answers.specs.LineWords.{words_of};
 ghost use Rattle.hex_dump.specs.Dumps.{address_of, data_words, has_colon, is_symbol, without_colon, without_prefix};
 
-use crate::digits::hex_number;
-use crate::layout::is_hex;
 use line_answers::next_word;
+use script::{hex_number, is_hex};
 
 /// Whether a word ends with a colon.
 pub(crate) fn has_colon(word: &[u8]) -> bool

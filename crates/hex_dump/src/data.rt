@@ -1,8 +1,8 @@
 //! Parses the data words of a line.
-ghost use Rattle.std.specs.Prelude.{◌≡◌, ◌<◌, ◌^◌, IfSome, option_map, false};
+ghost use Rattle.std.specs.Prelude.{◌≡◌, ◌<◌, ◌^◌, IfSome, false};
 ghost use Rattle.line_answers.specs.LineWords.{words_of};
 ghost use Rattle.script.specs.Fields.{is_end};
-ghost use Rattle.hex_dump.specs.Slots.{byte_pair, doubleword, four_bytes, part, paired, slot_in, slot_of, two_bytes};
+ghost use Rattle.hex_dump.specs.Slots.{byte_pair, doubleword, four_bytes, number_and_words, part, paired, slot_in, slot_of, two_bytes};
 
 use crate::digits::word_number;
 use crate::layout::Layout;
@@ -18,7 +18,7 @@ pub(crate) fn is_end(text: &[u8]) -> bool
 
 /// Parses the next word as so many digits, and returns the text after it too. So do the others.
 fn part(prefixed: bool, count: usize, text: &[u8]) -> Option<(u64, &[u8])>
-    ensures value { option_map (λ found. (found.0, words_of found.1.now)) result ≡ part prefixed count (words_of text.now) }
+    ensures value { number_and_words result ≡ part prefixed count (words_of text.now) }
     ensures small { IfSome result (λ found. found.0 < 16 ^ count) }
 {
     let (word, rest) = next_word(text)?;
@@ -26,21 +26,21 @@ fn part(prefixed: bool, count: usize, text: &[u8]) -> Option<(u64, &[u8])>
 }
 
 fn byte(text: &[u8]) -> Option<(u8, &[u8])>
-    ensures { option_map (λ found. (found.0, words_of found.1.now)) result ≡ part false 2 (words_of text.now) }
+    ensures { number_and_words result ≡ part false 2 (words_of text.now) }
 {
     let (number, rest) = part(false, 2, text)?;
     Some((number as u8, rest))
 }
 
 fn byte_pair(text: &[u8]) -> Option<(u16, &[u8])>
-    ensures { option_map (λ found. (found.0, words_of found.1.now)) result ≡ byte_pair (words_of text.now) }
+    ensures { number_and_words result ≡ byte_pair (words_of text.now) }
 {
     let (number, rest) = part(false, 4, text)?;
     Some(((number / 256 + number % 256 * 256) as u16, rest))
 }
 
 fn two_single_bytes(text: &[u8]) -> Option<(u16, &[u8])>
-    ensures { option_map (λ found. (found.0, words_of found.1.now)) result ≡ paired 8 (part false 2) (words_of text.now) }
+    ensures { number_and_words result ≡ paired 8 (part false 2) (words_of text.now) }
 {
     let (low, rest) = byte(text)?;
     let (high, rest) = byte(rest)?;
@@ -48,7 +48,7 @@ fn two_single_bytes(text: &[u8]) -> Option<(u16, &[u8])>
 }
 
 fn two_bytes(pairs: bool, text: &[u8]) -> Option<(u16, &[u8])>
-    ensures { option_map (λ found. (found.0, words_of found.1.now)) result ≡ two_bytes pairs (words_of text.now) }
+    ensures { number_and_words result ≡ two_bytes pairs (words_of text.now) }
 {
     if pairs {
         byte_pair(text)
@@ -58,7 +58,7 @@ fn two_bytes(pairs: bool, text: &[u8]) -> Option<(u16, &[u8])>
 }
 
 fn four_bytes(pairs: bool, text: &[u8]) -> Option<(u32, &[u8])>
-    ensures { option_map (λ found. (found.0, words_of found.1.now)) result ≡ four_bytes pairs (words_of text.now) }
+    ensures { number_and_words result ≡ four_bytes pairs (words_of text.now) }
 {
     let (low, rest) = two_bytes(pairs, text)?;
     let (high, rest) = two_bytes(pairs, rest)?;
@@ -66,7 +66,7 @@ fn four_bytes(pairs: bool, text: &[u8]) -> Option<(u32, &[u8])>
 }
 
 fn eight_bytes(pairs: bool, text: &[u8]) -> Option<(u64, &[u8])>
-    ensures { option_map (λ found. (found.0, words_of found.1.now)) result ≡ paired 32 (four_bytes pairs) (words_of text.now) }
+    ensures { number_and_words result ≡ paired 32 (four_bytes pairs) (words_of text.now) }
 {
     let (low, rest) = four_bytes(pairs, text)?;
     let (high, rest) = four_bytes(pairs, rest)?;
@@ -74,7 +74,7 @@ fn eight_bytes(pairs: bool, text: &[u8]) -> Option<(u64, &[u8])>
 }
 
 fn two_words(prefixed: bool, text: &[u8]) -> Option<(u64, &[u8])>
-    ensures { option_map (λ found. (found.0, words_of found.1.now)) result ≡ paired 32 (part prefixed 8) (words_of text.now) }
+    ensures { number_and_words result ≡ paired 32 (part prefixed 8) (words_of text.now) }
 {
     let (low, rest) = part(prefixed, 8, text)?;
     let (high, rest) = part(prefixed, 8, rest)?;
@@ -82,7 +82,7 @@ fn two_words(prefixed: bool, text: &[u8]) -> Option<(u64, &[u8])>
 }
 
 fn doubleword(layout: Layout, text: &[u8]) -> Option<(u64, &[u8])>
-    ensures { option_map (λ found. (found.0, words_of found.1.now)) result ≡ doubleword layout (words_of text.now) }
+    ensures { number_and_words result ≡ doubleword layout (words_of text.now) }
 {
     match layout {
         Layout::Bytes => eight_bytes(false, text),

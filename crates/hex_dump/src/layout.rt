@@ -1,7 +1,8 @@
 //! How the bytes of a line are laid out.
-ghost use Rattle.std.specs.Prelude.{◌≡◌, ◌≤◌, length, true};
-ghost use Rattle.script.specs.Words.{is_hex};
+ghost use Rattle.std.specs.Prelude.{◌≡◌};
 ghost use Rattle.hex_dump.specs.Slots.{bare_layout, is_prefixed, layout_of, prefixed_layout};
+
+use script::is_hex;
 
 /// How the bytes of a line are laid out. Numbers of 32 and of 64 bits are those of a little-endian machine.
 #[derive(Clone, Copy, Debug, PartialEq, Eq)]
@@ -14,14 +15,6 @@ pub(crate) enum Layout {
     Words { prefixed: bool },
     /// Sixteen digits, a number of 64 bits, behind 0x or not.
     Doublewords { prefixed: bool },
-}
-
-/// Whether 0x comes ahead of digits.
-pub(crate) fn is_hex(word: &[u8]) -> bool
-    ensures value { result ≡ is_hex word.now }
-    ensures long { result ≡ true → 2 ≤ length word.now }
-{
-    word.len() >= 2 && word[0] == b'0' && word[1] == b'x'
 }
 
 fn prefixed_layout(digits: usize) -> Option<Layout>

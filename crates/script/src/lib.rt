@@ -33,4 +33,4 @@ pub use serving::serve;
 pub use session::{parse, serve_script, serve_to_last_line};
 pub use status::{Status, status_of};
 pub use telling::{say_fault, say_ring};
-pub use words::{next_word, number};
+pub use words::{hex_number, is_hex, next_word, number};

@@ -33,17 +33,25 @@ pub fn number(word: &[u8]) -> Option<u64>
     ensures { result ≡ number_of word.now }
 {
     if is_hex(word) {
-        number_in(16, 16, &word[2..])
+        hex_number(16, &word[2..])
     } else {
         number_in(10, 20, word)
     }
 }
 
-fn is_hex(word: &[u8]) -> bool
+/// Whether a word begins with `0x`.
+pub fn is_hex(word: &[u8]) -> bool
     ensures test { result ≡ is_hex word.now }
     ensures long { result ≡ true → 2 ≤ length word.now }
 {
     word.len() >= 2 && word[0] == b'0' && word[1] == b'x'
+}
+
+/// Parses 1 to `most` hexadecimal digits of either case as a number below 2^64.
+pub fn hex_number(most: usize, digits: &[u8]) -> Option<u64>
+    ensures { result ≡ number_in 16 most digits.now }
+{
+    number_in(16, most, digits)
 }
 
 // Parses 1 to `most` digits as a number below 2^64.

@@ -3,13 +3,12 @@ use Rattle.std.proofs.Common.{◌≡◌, ◌+◌, ℕ, Bool, true, false, List, 
 use Rattle.cmdcodec.specs.declared.raw.Raw.{Raw}
 use Rattle.ringcore.specs.world.World.{Taken}
 use Rattle.caches.specs.Stored.{Stored}
+use Rattle.caches.specs.declared.tag.Tag.{Tag}
 use Rattle.engine.specs.declared.remedy.Remedy.TheVariants.{Retry}
 use Rattle.engine.specs.Stops.{IsStopped, StopValue, told}
 use Rattle.engine.specs.Counting.{taken}
 use Rattle.engine.specs.Settled.{IsSettled}
-use Rattle.engine.specs.Units.{UnitValue, StaysSettled}
-use Rattle.smmuq_c.specs.declared.evicting.Kinds.{Kinds}
-use Rattle.smmuq_c.specs.Evicting.{HasLost}
+use Rattle.engine.specs.Units.{UnitValue, HasLost, StaysSettled}
 use Rattle.smmuq_c.specs.Own.{AreOwn}
 use Rattle.smmuq_c.specs.HeldUnits.{HeldValue, shown}
 use Rattle.smmuq_c.specs.Judging.{HasReplaced, took_old}
@@ -64,7 +63,7 @@ keeps old new rereads awaited same kept own =
     (ap (λ (s : StopValue). s.next) same ∙ kept.0, λ set. subst (λ (s : StopValue). IsStopped s.mode) (sym same) (kept.1 set), own)
 
 -- Entries are lost of a unit as it is shown, as they are of the one below.
-pub lost_shown : (kinds : Kinds) (count : ℕ) (old : HeldValue) (rereads : Bool) (below after : UnitValue) → record { unit = shown rereads below; rereads = rereads } ≡ old
-    → HasLost kinds count below after → HasLost kinds count old.unit (shown rereads after)
-lost_shown kinds count old rereads below after is lost =
-    subst (λ (h : HeldValue). HasLost kinds count h.unit (shown rereads after)) is (record { new_is = ap (shown rereads) lost.new_is; count_is = lost.count_is })
+pub lost_shown : (passes : Tag → Bool) (count : ℕ) (old : HeldValue) (rereads : Bool) (below after : UnitValue) → record { unit = shown rereads below; rereads = rereads } ≡ old
+    → HasLost passes count below after → HasLost passes count old.unit (shown rereads after)
+lost_shown passes count old rereads below after is lost =
+    subst (λ (h : HeldValue). HasLost passes count h.unit (shown rereads after)) is (record { new_is = ap (shown rereads) lost.new_is; count_is = lost.count_is })

@@ -4,7 +4,7 @@ use Rattle.std.specs.Prelude.{not, OnOk, OnErr}
 use Rattle.std.specs.Ordering.{eq_by_cmp}
 use Rattle.std.specs.Cmp.{Equal-is}
 use Rattle.std.specs.FinMap as finite
-use Rattle.std.specs.FinMap.{get-empty, get-insert, get-remove, get-retain_keys}
+use Rattle.std.specs.FinMap.{get-empty, get-insert, get-remove}
 use Rattle.cmdcodec.specs.declared.raw.Raw.{Raw}
 use Rattle.caches.specs.declared.tag.Tag.{Tag}
 use Rattle.caches.specs.declared.tag.Entry.{Entry}
@@ -12,13 +12,12 @@ use Rattle.caches.specs.declared.fault.CacheFault.{CacheFault}
 use Rattle.caches.specs.Held.{Entries, held, without_passing}
 use Rattle.caches.specs.TagOrder.{tag_cmp, tag_cmp_total, tag_cmp_exact}
 use Rattle.caches.proofs.Pruned.{some_was}
+use Rattle.caches.proofs.Viewed.{get_without}
 use Rattle.engine.specs.declared.verdict.Verdict.{Verdict}
 use Rattle.engine.specs.declared.verdict.Verdict.TheVariants.{Applied, Stopped, Replaced}
-use Rattle.engine.specs.Units.{UnitValue, HasJudged, OnlyRemoves, with_entries, filled}
+use Rattle.engine.specs.Units.{UnitValue, HasJudged, HasLost, OnlyRemoves, with_entries, filled}
 use Rattle.engine.specs.Engines.{EngineValue}
 use Rattle.engine.proofs.Counted.{applied_removes, stopped_removes, replaced_removes}
-use Rattle.smmuq_c.specs.declared.evicting.Kinds.{Kinds}
-use Rattle.smmuq_c.specs.Evicting.{has_kind, HasLost}
 use Rattle.smmuq_c.specs.Own.{AreOwn}
 
 pub empty_own : (entries : Entries) → entries ≡ held [] → AreOwn entries
@@ -31,16 +30,8 @@ empty_own entries empty tag entry is =
 pub was_before : (entries : Entries) (gone tag : Tag) (entry : Entry) → finite.get (finite.remove entries gone) tag ≡ Some entry → finite.get entries tag ≡ Some entry
 was_before entries gone tag entry is = some_was (eq_by_cmp tag_cmp tag gone) _ entry (sym (get-remove tag_cmp_total entries gone tag) ∙ is)
 
-pub get_without : (kinds : Kinds) (entries : Entries) (tag : Tag) → finite.get (without_passing (has_kind kinds) entries) tag ≡ cond (not (has_kind kinds tag)) (finite.get entries tag) None
-get_without kinds entries tag =
-    get-retain_keys entries (λ t. not (has_kind kinds t)) tag (λ other same. ap (λ t. not (has_kind kinds t)) (sym (tag_cmp_exact tag other same)))
-
-some_where : (b : Bool) (o : Option Entry) (entry : Entry) → cond b o None ≡ Some entry → o ≡ Some entry
-some_where true o entry is = is
-some_where false o entry is = absurd (cc)
-
-pub had_before : (kinds : Kinds) (entries : Entries) (tag : Tag) (entry : Entry) → finite.get (without_passing (has_kind kinds) entries) tag ≡ Some entry → finite.get entries tag ≡ Some entry
-had_before kinds entries tag entry is = some_where (not (has_kind kinds tag)) _ entry (sym (get_without kinds entries tag) ∙ is)
+had_before : (passes : Tag → Bool) (entries : Entries) (tag : Tag) (entry : Entry) → finite.get (without_passing passes entries) tag ≡ Some entry → finite.get entries tag ≡ Some entry
+had_before passes entries tag entry is = some_was (passes tag) _ entry (sym (get_without passes entries tag) ∙ is)
 
 -- ---- what a call does to a unit
 
@@ -56,9 +47,9 @@ pub evicted_own : (gone : Tag) (old new : UnitValue) → new ≡ with_entries ol
 evicted_own gone old new is own =
     subst (λ (u : UnitValue). AreOwn u.caches.entries) (sym is) (λ tag entry at. own tag entry (was_before old.caches.entries gone tag entry at))
 
-pub lost_own : (kinds : Kinds) (count : ℕ) (old new : UnitValue) → HasLost kinds count old new → AreOwn old.caches.entries → AreOwn new.caches.entries
-lost_own kinds count old new lost own =
-    subst (λ (u : UnitValue). AreOwn u.caches.entries) (sym lost.new_is) (λ tag entry at. own tag entry (had_before kinds old.caches.entries tag entry at))
+pub lost_own : (passes : Tag → Bool) (count : ℕ) (old new : UnitValue) → HasLost passes count old new → AreOwn old.caches.entries → AreOwn new.caches.entries
+lost_own passes count old new lost own =
+    subst (λ (u : UnitValue). AreOwn u.caches.entries) (sym lost.new_is) (λ tag entry at. own tag entry (had_before passes old.caches.entries tag entry at))
 
 -- what is held at a tag is the new entry, or was held before
 own_at : (entry : Entry) (tag : Tag) (o : Option Entry) (e : Entry) → (o ≡ Some e → e.tag ≡ tag) → cond (eq_by_cmp tag_cmp tag entry.tag) (Some entry) o ≡ Some e → e.tag ≡ tag

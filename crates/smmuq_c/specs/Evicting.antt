@@ -1,9 +1,7 @@
 -- Evicting all entries whose tags are of some kinds.
-use Rattle.std.specs.Prelude.{◌≡◌, ◌<◌, ◌+◌, ◌-◌, ◌/◌, ◌%◌, ◌^◌, ◌==◌, ℕ, Bool, Option, None, Some}
-use Rattle.std.specs.FinMap as finite
+use Rattle.std.specs.Prelude.{◌≡◌, ◌<◌, ◌-◌, ◌/◌, ◌%◌, ◌^◌, ◌==◌, ℕ, Bool, Option, None, Some}
 use Rattle.caches.specs.declared.tag.Tag.{Tag}
-use Rattle.caches.specs.Held.{without_passing}
-use Rattle.engine.specs.Units.{UnitValue, with_entries}
+use Rattle.engine.specs.Units.{UnitValue, HasLost}
 use Rattle.smmuq_c.specs.declared.evicting.Kinds.{Kinds}
 use Rattle.smmuq_c.specs.declared.status.Status.{Status}
 use Rattle.smmuq_c.specs.declared.status.Status.TheVariants.{Done}
@@ -18,12 +16,7 @@ AreKindsOf mask (Some kinds) = (mask < 2 ^ 6) × (kinds ≡ record { mask = mask
 abbrev pub has_kind : Kinds → Tag → Bool
 has_kind kinds tag = kinds.mask / 2 ^ ((tag_words tag).kind - 1) % 2 == 1
 
--- The entries of these kinds, `count` of them, are gone, and nothing else changed.
-pub record HasLost (kinds : Kinds) (count : ℕ) (old new : UnitValue) : Type 0 where
-  pub new_is : new ≡ with_entries old (without_passing (has_kind kinds) old.caches.entries)
-  pub count_is : count + finite.len new.caches.entries ≡ finite.len old.caches.entries
-
--- They are gone, and their number is told.
+-- The entries of these kinds are gone, and their number is told.
 abbrev pub HasEvictedAll : Kinds → ℕ → UnitValue → UnitValue → Status → Type 0
-HasEvictedAll kinds told old new Done = HasLost kinds told old new
+HasEvictedAll kinds told old new Done = HasLost (has_kind kinds) told old new
 HasEvictedAll kinds told old new other = ⊥

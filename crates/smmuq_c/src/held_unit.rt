@@ -11,7 +11,7 @@ ghost use Rattle.smmuq_c.specs.Entries.{HasFilled, HasEvicted, TellsEntry};
 ghost use Rattle.smmuq_c.specs.Registers.{HasAcknowledgedHeld, error_words, count_words};
 ghost use Rattle.caches.specs.Limits.{IsCapacity};
 ghost use Rattle.smmuq_c.specs.Making.{AreNewCaches, IsNewUnit};
-ghost use Rattle.smmuq_c.specs.Evicting.{HasLost, HasEvictedAll};
+ghost use Rattle.smmuq_c.specs.Evicting.{HasEvictedAll};
 ghost use Rattle.smmuq_c.specs.Own.{AreOwn};
 ghost use Rattle.smmuq_c.specs.Kept.{IsCountKept, IsKept};
 

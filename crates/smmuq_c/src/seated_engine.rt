@@ -8,7 +8,7 @@ ghost use Rattle.smmuq_c.specs.Lists.{IsListed};
 ghost use Rattle.smmuq_c.specs.Entries.{HasFilled, HasEvicted, TellsEntry};
 ghost use Rattle.smmuq_c.specs.Registers.{HasAcknowledged, error_words, count_words};
 ghost use Rattle.smmuq_c.specs.Runs.{HasRunFor, HasToldRegisters};
-ghost use Rattle.smmuq_c.specs.Evicting.{HasLost, HasEvictedAll};
+ghost use Rattle.smmuq_c.specs.Evicting.{HasEvictedAll};
 ghost use Rattle.smmuq_c.specs.Own.{AreOwn};
 ghost use Rattle.smmuq_c.specs.Renewing.{HasRenewed};
 ghost use Rattle.smmuq_c.specs.Kept.{IsCountKept, IsKept};
