@@ -4,3 +4,4 @@ pub mod SizeLemmas
 pub mod StreamLemmas
 pub mod ViewLemmas
 pub mod WaitingLemmas
+pub mod HintLemmas

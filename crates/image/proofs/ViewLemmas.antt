@@ -12,9 +12,9 @@ use Rattle.image.specs.declared.answered.Answered.{Answered}
 use Rattle.image.specs.declared.asked.Asked.{Asked}
 use Rattle.image.specs.declared.fault.ImageFault.{ImageFault}
 use Rattle.image.specs.declared.request.Request.{Request}
-use Rattle.image.specs.Queues.{fault_text, request_of}
+use Rattle.image.specs.Queues.{request_of}
 use Rattle.image.specs.Showings.{Moved}
-use Rattle.image.specs.Views.{answer_in, answer_to, image_of}
+use Rattle.image.specs.Views.{Answer, answer_in, answer_to, image_of, refusal}
 use Rattle.image.specs.Tellings.{EndsWithoutMemory, IsToBeWritten, Serves}
 
 pub nothing_written : (before : Option (List ℕ)) (text : List ℕ) → WritesFront before before text
@@ -57,7 +57,7 @@ off : {b : Bool} → b ≡ false → b ≡ true → ⊥
 off is_off is_on = let no : false ≡ true = sym is_off ∙ is_on in absurd cc
 
 -- an error that is neither a failed read nor that there is no end
-pub broken_off : (e : ServeError) (answer : List ℕ × Bool) (before after : Option (List ℕ)) → is_read e ≡ false → is_endless e ≡ false → WritesFront before after answer.0
+pub broken_off : (e : ServeError) (answer : Answer) (before after : Option (List ℕ)) → is_read e ≡ false → is_endless e ≡ false → WritesFront before after answer.text
     → Serves (Err e) answer before after
 broken_off (Memory e) answer before after read endless written = written
 broken_off (Read e) answer before after read endless written = absurd (off read refl)
@@ -99,22 +99,22 @@ memory_cut answer before mid after f g = (
 -- ---- by what is known before the image is read
 
 pub refused_at_once : (asked : Asked) (fault : ImageFault) (result : Result Answered ServeError) (input before after : Option (List ℕ)) → request_of asked ≡ Err fault
-    → Serves result (fault_text fault, false) before after → IfSome input (λ bytes. Serves result (answer_to asked bytes) before after)
+    → Serves result (refusal asked.cons fault) before after → IfSome input (λ bytes. Serves result (answer_to asked bytes) before after)
 unfolding answer_to
 refused_at_once asked fault result input before after is served =
-    always input _ (λ bytes. subst (λ r. Serves result (answer_in r (image_of asked.hex bytes)) before after) (sym is) served)
+    always input _ (λ bytes. subst (λ r. Serves result (answer_in asked.cons r (image_of asked.hex bytes)) before after) (sym is) served)
 
 pub read_and_answered : (asked : Asked) (request : Request) (bytes : List ℕ) (result : Result Answered ServeError) (input rest before after : Option (List ℕ)) → request_of asked ≡ Ok request
-    → Consumes input rest bytes → IsAtEnd rest → Serves result (answer_in (Ok request) (image_of asked.hex bytes)) before after
+    → Consumes input rest bytes → IsAtEnd rest → Serves result (answer_in asked.cons (Ok request) (image_of asked.hex bytes)) before after
     → IfSome input (λ script. Serves result (answer_to asked script) before after)
 unfolding answer_to
 read_and_answered asked request bytes result input rest before after is read end served =
-    all_read input rest bytes (λ script. Serves result (answer_in (request_of asked) (image_of asked.hex script)) before after) read end
-    (subst (λ r. Serves result (answer_in r (image_of asked.hex bytes)) before after) (sym is) served)
+    all_read input rest bytes (λ script. Serves result (answer_in asked.cons (request_of asked) (image_of asked.hex script)) before after) read end
+    (subst (λ r. Serves result (answer_in asked.cons r (image_of asked.hex bytes)) before after) (sym is) served)
 
 -- Nothing was written where the image wasn't read.
-pub unread : (e : ServeError) (answer : List ℕ × Bool) (before : Option (List ℕ)) → is_write e ≡ false → Serves (Err e) answer before before
-unread (Memory e) answer before kept = nothing_written before answer.0
+pub unread : (e : ServeError) (answer : Answer) (before : Option (List ℕ)) → is_write e ≡ false → Serves (Err e) answer before before
+unread (Memory e) answer before kept = nothing_written before answer.text
 unread (Read e) answer before kept = Appends-nil before
 unread (Write e) answer before kept = absurd (off kept refl)
 unread Endless answer before kept = Appends-nil before

@@ -1,5 +1,5 @@
 -- What is shown of a queue, by its registers and the bytes of its memory.
-use Rattle.std.specs.Prelude.{ℕ, ◌-◌, ◌*◌, ◌^◌, List, [], ◌++◌, Bool, true, false, Result, Ok, Err, take, drop, length, codes, decimal, if◌then◌else◌}
+use Rattle.std.specs.Prelude.{ℕ, ◌-◌, ◌*◌, ◌^◌, List, [], ◌++◌, Bool, true, false, Option, Result, Ok, Err, take, drop, length, codes, decimal, if◌then◌else◌}
 use Rattle.std.specs.List.{flat_map, range_with_len}
 use Rattle.std.specs.Fmt.{digits, format_spec, padded_integral}
 use Rattle.cmdcodec.specs.Bytes.{raw_of}
@@ -10,7 +10,9 @@ use Rattle.image.specs.declared.asked.Asked.{Asked}
 use Rattle.image.specs.declared.fault.ImageFault.{ImageFault}
 use Rattle.image.specs.declared.request.Request.{Request}
 use Rattle.image.specs.declared.request.Shown.{Shown}
+use Rattle.image.specs.declared.hint.Hint.{Hint}
 use Rattle.image.specs.declared.queue.Queue.{Queue}
+use Rattle.image.specs.Hints.{fault_hint, view_hint}
 use Rattle.image.specs.Slots.{is_completed, is_waiting}
 use Rattle.image.specs.States.{state_text}
 use Rattle.image.specs.Queues.{err_of, fault_text, queue_in, request_of, waiting_of}
@@ -83,20 +85,31 @@ lines_shown image queue all = if all then slot_lines image queue else waiting_li
 abbrev pub view : List ℕ → Queue → Shown → List ℕ
 view image queue shown = heading queue ++ (lines_shown image queue shown.all ++ state_text image queue shown.error)
 
-abbrev pub answer_by : Result Queue ImageFault → Shown → List ℕ → List ℕ × Bool
-answer_by (Err fault) shown image = (fault_text fault, false)
-answer_by (Ok queue) shown image = (view image queue shown, true)
+-- what an input is answered with, whether that is no refusal, and what may help
+pub record Answer : Type 0 where
+  pub text : List ℕ
+  pub good : Bool
+  pub hint : Option Hint
+
+abbrev pub refusal : Option ℕ → ImageFault → Answer
+refusal cons fault = record { text = fault_text fault; good = false; hint = fault_hint cons fault }
+
+abbrev pub shown_as : List ℕ → Queue → Shown → Answer
+shown_as image queue shown = record { text = view image queue shown; good = true; hint = view_hint image queue }
+
+abbrev pub answer_by : Option ℕ → Result Queue ImageFault → Shown → List ℕ → Answer
+answer_by cons (Err fault) shown image = refusal cons fault
+answer_by cons (Ok queue) shown image = shown_as image queue shown
 
 -- What doesn't depend on the image is judged first, then the lines of a dump.
-abbrev pub answer_in : Result Request ImageFault → Result (List ℕ) ImageFault → List ℕ × Bool
-answer_in (Err fault) image = (fault_text fault, false)
-answer_in (Ok request) (Err fault) = (fault_text fault, false)
-answer_in (Ok request) (Ok image) = answer_by (queue_in request.known (length image)) request.shown image
+abbrev pub answer_in : Option ℕ → Result Request ImageFault → Result (List ℕ) ImageFault → Answer
+answer_in cons (Err fault) image = refusal cons fault
+answer_in cons (Ok request) (Err fault) = refusal cons fault
+answer_in cons (Ok request) (Ok image) = answer_by cons (queue_in request.known (length image)) request.shown image
 
 -- the image that was read: the bytes themselves, or what the lines of a dump have
 abbrev pub image_of : Bool → List ℕ → Result (List ℕ) ImageFault
 image_of hex input = if hex then dump_image input else Ok input
 
--- what is written for an input, and whether it is no refusal
-unfoldable pub answer_to : Asked → List ℕ → List ℕ × Bool
-answer_to asked input = answer_in (request_of asked) (image_of asked.hex input)
+unfoldable pub answer_to : Asked → List ℕ → Answer
+answer_to asked input = answer_in asked.cons (request_of asked) (image_of asked.hex input)

@@ -19,6 +19,6 @@ mod streams;
 mod viewing;
 
 pub use asked::{Asked, ErrorRegisters};
-pub use hint::Hint;
+pub use hint::{Hint, Width};
 pub use laws::slots_wait_by_position;
 pub use viewing::{image, image_with_hint};

@@ -1,5 +1,5 @@
 //! `image` from any reader to any writer.
-ghost use Rattle.std.specs.Prelude.{◌≡◌, ◌≢◌, ◌*◌, ◌++◌, ◌^◌, ◌⊎◌, ℕ, Bool, List, Option, None, Ok, Err, IfErr, IfSome, IsErrAnd, OnErr, OnOk, length, string_bytes, false, true};
+ghost use Rattle.std.specs.Prelude.{◌≡◌, ◌≢◌, ◌*◌, ◌++◌, ◌^◌, ◌⊎◌, ℕ, List, Option, None, Ok, Err, IfErr, IfSome, IsErrAnd, OnErr, OnOk, length, string_bytes, false, true};
 ghost use Rattle.std.specs.Io.KnownBytes.{Appends};
 ghost use Rattle.qindex.specs.Positions.{size};
 ghost use Rattle.script.specs.Errors.{is_endless, is_read};
@@ -8,8 +8,8 @@ ghost use Rattle.script.specs.Writing.{ReadsAtLeast};
 ghost use Rattle.image.specs.Dumps.{dump_image};
 ghost use Rattle.image.specs.Queues.{HasFault, IsKnown, IsShown, fault_text};
 ghost use Rattle.image.specs.Showings.{Moved};
-ghost use Rattle.image.specs.Tellings.{Serves, TellsOfBytes, TellsOfImage};
-ghost use Rattle.image.specs.Views.{answer_in, answer_to, image_of, lines_shown, view};
+ghost use Rattle.image.specs.Tellings.{HasHint, IsHint, Serves, TellsOfBytes, TellsOfImage};
+ghost use Rattle.image.specs.Views.{Answer, answer_in, answer_to, image_of, lines_shown, refusal, shown_as, view};
 
 use crate::answered::Answered;
 use crate::asked::Asked;
@@ -91,15 +91,19 @@ fn refuse<W: Write>(alloc: Global, fault: ImageFault, output: &mut W) -> Result<
 /// Writes the one line of a fault, as the answer.
 fn answer_fault<W: Write>(
     alloc: Global,
+    asked: &Asked,
     fault: ImageFault,
     output: &mut W,
 ) -> Result<Answered, ServeError>
-    ensures answer { Serves result (fault_text fault, false) (W.contents output.old) (W.contents output.new) }
+    ensures answer { Serves result (refusal asked.now.cons fault) (W.contents output.old) (W.contents output.new) }
     ensures read { IfErr result (λ e. is_read e ≡ false) }
     ensures endless { IfErr result (λ e. is_endless e ≡ false) }
 {
     match refuse(alloc, fault, output) {
-        Ok(()) => Ok(Answered::Fault(fault)),
+        Ok(()) => Ok(Answered {
+            good: false,
+            hint: Hint::of_fault(fault, asked),
+        }),
         Err(e) => Err(e),
     }
 }
@@ -114,11 +118,14 @@ fn answer_view<W: Write>(
 ) -> Result<Answered, ServeError>
     requires shown { IsShown queue.now }
     requires image { length image.now ≡ 16 * size queue.now.cons.geometry }
-    ensures answer { Serves result (view image.now queue.now shown, true) (W.contents output.old) (W.contents output.new) }
+    ensures answer { Serves result (shown_as image.now queue.now shown) (W.contents output.old) (W.contents output.new) }
     ensures endless { IfErr result (λ e. is_endless e ≡ false) }
 {
     match show(alloc, image, queue, shown, output) {
-        Ok(()) => Ok(Answered::View),
+        Ok(()) => Ok(Answered {
+            good: true,
+            hint: Hint::of_view(image, queue),
+        }),
         Err(e) => Err(e),
     }
 }
@@ -127,16 +134,17 @@ fn answer_view<W: Write>(
 fn answer<W: Write>(
     alloc: Global,
     image: &[u8],
+    asked: &Asked,
     request: &Request,
     output: &mut W,
 ) -> Result<Answered, ServeError>
     requires { IsKnown request.now.known }
-    ensures answer { Serves result (answer_in (Ok request.now) (Ok image.now)) (W.contents output.old) (W.contents output.new) }
+    ensures answer { Serves result (answer_in asked.now.cons (Ok request.now) (Ok image.now)) (W.contents output.old) (W.contents output.new) }
     ensures endless { IfErr result (λ e. is_endless e ≡ false) }
 {
     match request.known.queue_in(image.len()) {
         Ok(queue) => answer_view(alloc, image, &queue, request.shown, output),
-        Err(fault) => answer_fault(alloc, fault, output),
+        Err(fault) => answer_fault(alloc, asked, fault, output),
     }
 }
 
@@ -144,17 +152,18 @@ fn answer<W: Write>(
 fn answer_dump<W: Write>(
     alloc: Global,
     text: &[u8],
+    asked: &Asked,
     request: &Request,
     output: &mut W,
 ) -> Result<Answered, ServeError>
     requires { IsKnown request.now.known }
-    ensures answer { Serves result (answer_in (Ok request.now) (dump_image text.now)) (W.contents output.old) (W.contents output.new) }
+    ensures answer { Serves result (answer_in asked.now.cons (Ok request.now) (dump_image text.now)) (W.contents output.old) (W.contents output.new) }
     ensures endless { IfErr result (λ e. is_endless e ≡ false) }
 {
     match read_dump(alloc, text) {
-        Ok(image) => answer(alloc, image.as_slice(), request, output),
+        Ok(image) => answer(alloc, image.as_slice(), asked, request, output),
         Err(DumpError::BadLine(number)) => {
-            answer_fault(alloc, ImageFault::BadLine(number), output)
+            answer_fault(alloc, asked, ImageFault::BadLine(number), output)
         }
         Err(DumpError::Memory(e)) => Err(ServeError::Memory(e)),
     }
@@ -164,18 +173,18 @@ fn answer_dump<W: Write>(
 fn answer_input<W: Write>(
     alloc: Global,
     input: &[u8],
-    hex: bool,
+    asked: &Asked,
     request: &Request,
     output: &mut W,
 ) -> Result<Answered, ServeError>
     requires { IsKnown request.now.known }
-    ensures answer { Serves result (answer_in (Ok request.now) (image_of hex input.now)) (W.contents output.old) (W.contents output.new) }
+    ensures answer { Serves result (answer_in asked.now.cons (Ok request.now) (image_of asked.now.hex input.now)) (W.contents output.old) (W.contents output.new) }
     ensures endless { IfErr result (λ e. is_endless e ≡ false) }
 {
-    if hex {
-        answer_dump(alloc, input, request, output)
+    if asked.hex {
+        answer_dump(alloc, input, asked, request, output)
     } else {
-        answer(alloc, input, request, output)
+        answer(alloc, input, asked, request, output)
     }
 }
 
@@ -193,17 +202,17 @@ fn serve<R: Read, W: Write>(
 {
     match Request::of(asked) {
         Ok(request) => match read_image(alloc, input) {
-            Ok(bytes) => answer_input(alloc, bytes.as_slice(), asked.hex, &request, output),
+            Ok(bytes) => answer_input(alloc, bytes.as_slice(), asked, &request, output),
             Err(e) => Err(e),
         },
-        Err(fault) => answer_fault(alloc, fault, output),
+        Err(fault) => answer_fault(alloc, asked, fault, output),
     }
 }
 
 /// Tells that memory ran out, after a beginning of an answer was written.
 fn tell<W: Write>(output: &mut W, e: AllocError) -> Status
     ensures memory { (result ≡ Status.NoMemory) ⊎ (result ≡ Status.WriteFailed) }
-    ensures told { (answer : List ℕ × Bool) (before : Option (List ℕ)) → WritesFront before (W.contents output.old) answer.0 → TellsOfBytes result answer before (W.contents output.new) }
+    ensures told { (answer : Answer) (before : Option (List ℕ)) → WritesFront before (W.contents output.old) answer.text → TellsOfBytes result answer before (W.contents output.new) }
 {
     match tell_of_memory(output, e) {
         ServeError::Memory(_) => Status::NoMemory,
@@ -211,44 +220,31 @@ fn tell<W: Write>(output: &mut W, e: AllocError) -> Status
     }
 }
 
-/// Returns the status of what was served, once a lack of memory is told.
-fn finish<W: Write>(served: Result<Answered, ServeError>, output: &mut W) -> Status
-    ensures endless { result ≡ Status.Endless → IsErrAnd served (λ e. is_endless e ≡ true) }
-    ensures read { result ≡ Status.ReadFailed → IsErrAnd served (λ e. is_read e ≡ true) }
-    ensures told { (answer : List ℕ × Bool) (before : Option (List ℕ)) → Serves served answer before (W.contents output.old) → TellsOfBytes result answer before (W.contents output.new) }
+/// Returns the status of what was served, once a lack of memory is told, and the hint.
+fn finish<W: Write>(
+    served: Result<Answered, ServeError>,
+    output: &mut W,
+) -> (Status, Option<Hint>)
+    ensures endless { result.0 ≡ Status.Endless → IsErrAnd served (λ e. is_endless e ≡ true) }
+    ensures read { result.0 ≡ Status.ReadFailed → IsErrAnd served (λ e. is_read e ≡ true) }
+    ensures told { (answer : Answer) (before : Option (List ℕ)) → Serves served answer before (W.contents output.old) → TellsOfBytes result.0 answer before (W.contents output.new) }
+    ensures hint { (answer : Answer) (before : Option (List ℕ)) → Serves served answer before (W.contents output.old) → IsHint result.0 result.1 answer }
+    ensures none { result.0 ≢ Status.Good → result.0 ≢ Status.Refused → result.1 ≡ None }
 {
     match served {
-        Ok(Answered::View) => Status::Good,
-        Ok(Answered::Fault(_)) => Status::Refused,
-        Err(ServeError::Memory(e)) => tell(output, e),
-        Err(ServeError::Read(_)) => Status::ReadFailed,
-        Err(ServeError::Write(_)) => Status::WriteFailed,
-        Err(ServeError::Endless) => Status::Endless,
-    }
-}
-
-/// Returns what may help with what was refused, if anything does.
-fn hint_of(asked: &Asked, served: &Result<Answered, ServeError>) -> Option<Hint> {
-    match served {
-        Ok(Answered::Fault(fault)) => Hint::of(*fault, asked),
-        _ => None,
-    }
-}
-
-/// Returns the hint if the image was refused.
-fn hint_with(status: Status, hint: Option<Hint>) -> Option<Hint>
-    ensures { status ≢ Status.Refused → result ≡ None }
-{
-    match status {
-        Status::Refused => hint,
-        _ => None,
+        Ok(answered) if answered.good => (Status::Good, answered.hint),
+        Ok(answered) => (Status::Refused, answered.hint),
+        Err(ServeError::Memory(e)) => (tell(output, e), None),
+        Err(ServeError::Read(_)) => (Status::ReadFailed, None),
+        Err(ServeError::Write(_)) => (Status::WriteFailed, None),
+        Err(ServeError::Endless) => (Status::Endless, None),
     }
 }
 
 /// Reads the memory of a queue, 16 bytes a slot in the order of the slots, or a hex dump of it, and writes what its
 /// registers make of it: five lines, then a line for each command that waits, or for each slot, and if the error
 /// registers are given, a last line that says what holds the queue up. Returns how it went, and what may help with a
-/// refusal, which no clause describes.
+/// refusal or with commands that can't be right.
 ///
 /// Bad registers, a bad line of a dump and an image of another length are refused with one line. What doesn't depend on
 /// the image is judged before anything is read, and all is read before anything is written.
@@ -259,12 +255,9 @@ pub fn image_with_hint<R: Read, W: Write>(
     output: &mut W,
 ) -> (Status, Option<Hint>)
     ensures told { TellsOfImage asked.now result.0 (R.remaining input.old) (R.remaining input.new) (W.contents output.old) (W.contents output.new) }
-    ensures hint { result.0 ≢ Status.Refused → result.1 ≡ None }
+    ensures hint { HasHint asked.now result.0 result.1 (R.remaining input.old) }
 {
-    let served = serve(alloc, asked, input, output);
-    let hint = hint_of(asked, &served);
-    let status = finish(served, output);
-    (status, hint_with(status, hint))
+    finish(serve(alloc, asked, input, output), output)
 }
 
 /// The same without the hint.
