@@ -46,3 +46,8 @@ IsFault (errors.Memory e) image = ⊤
 abbrev pub Adds : List ℕ → List ℕ → (Option ℕ → Result (List ℕ) ImageFault) → Result (Option ℕ) DumpError → Result (List ℕ) ImageFault → Type 0
 Adds old new rest (Ok last) image = behind old image ≡ behind new (rest last)
 Adds old new rest (Err e) image = IsFault e image
+
+-- So it is whatever the lines after it are.
+abbrev pub AddsLine : ℕ → Option ℕ → Dumped → List ℕ → List ℕ → Result (Option ℕ) DumpError → Type 0
+AddsLine number last line old new result =
+    (rest : Option ℕ → Result (List ℕ) ImageFault) → Adds old new rest result (with_line number last line rest)

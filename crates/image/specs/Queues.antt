@@ -1,6 +1,6 @@
 -- The queue that two registers tell of, and what is at fault in them.
 use Rattle.std.specs.Prelude.{◌≡◌, ◌≤◌, ⊤, ℕ, ◌-◌, ◌*◌, ◌/◌, ◌%◌, ◌^◌, ◌==◌, nat_lt, nat_le, ◌&&◌, Bool, Option, Some, None, Result, Ok, Err, IsErr, List, [], ◌∷◌, ◌++◌, codes, decimal, if◌then◌else◌}
-use Rattle.std.specs.List.{range_with_len}
+use Rattle.std.specs.List.{find, range_with_len}
 use Rattle.qindex.specs.Positions.{size}
 use Rattle.qindex.specs.Indexes.{distance}
 use Rattle.image.specs.declared.asked.Asked.{Asked}
@@ -105,13 +105,13 @@ HasFault asked = IsErr (request_of asked)
 
 -- ---- by the length of the image, in bytes
 
-unfoldable pub first_of : (ℕ → Bool) → List ℕ → Option ℕ
-first_of test [] = None
-first_of test (x ∷ xs) = if test x then Some x else first_of test xs
+-- 16 bytes a slot
+abbrev pub has_length : ℕ → ℕ → Bool
+has_length bytes log2 = 16 * size log2 == bytes
 
 -- the binary logarithm of the slots, of 1 to 19, that so many bytes are
-abbrev pub log2_of : ℕ → Option ℕ
-log2_of bytes = first_of (λ log2. 16 * size log2 == bytes) (range_with_len 1 19)
+unfoldable pub log2_of : ℕ → Option ℕ
+log2_of bytes = find (has_length bytes) (range_with_len 1 19)
 
 abbrev pub sized : Option ℕ → ℕ → ℕ → ℕ → Result Queue ImageFault
 sized None bytes prod cons = Err (BadLength bytes)

@@ -1,6 +1,6 @@
 -- What holds a queue up, by PROD, CONS and CMDQ_ERR.
 use Rattle.std.specs.Prelude.{ℕ, ◌-◌, ◌==◌, ◌||◌, List, [], ◌∷◌, ◌++◌, Bool, true, false, Result, Ok, Err, codes, decimal, if◌then◌else◌}
-use Rattle.std.specs.List.{flat_map, list_any, range_with_len}
+use Rattle.std.specs.List.{after_last, flat_map, range_with_len}
 use Rattle.cmdcodec.specs.Words.{decoding}
 use Rattle.cmdcodec.specs.declared.command.Command.{Command}
 use Rattle.cmdcodec.specs.declared.command.Command.TheVariants.{AtcInv, CmdSync}
@@ -37,18 +37,17 @@ stream_text (Err ill) = []
 abbrev pub is_sync_at : List ℕ → Queue → ℕ → Bool
 is_sync_at image queue slot = is_completed image queue slot || is_sync (decoding (raw_at image slot))
 
--- what comes after the last that passes the test, or all if none does
-unfoldable pub behind_last : (ℕ → Bool) → List ℕ → List ℕ
-behind_last test [] = []
-behind_last test (x ∷ xs) = if list_any test (x ∷ xs) then behind_last test xs else x ∷ xs
-
 -- The slots that don't wait, from PROD on and round to CONS: the last is that of the command taken last.
 abbrev pub taken_positions : Queue → List ℕ
 taken_positions queue = range_with_len queue.prod.number (size queue.cons.geometry - waiting_of queue)
 
 -- those since the last CMD_SYNC
 abbrev pub since_sync : List ℕ → Queue → List ℕ
-since_sync image queue = behind_last (λ position. is_sync_at image queue (place queue.prod.geometry position)) (taken_positions queue)
+since_sync image queue = after_last (λ position. is_sync_at image queue (place queue.prod.geometry position)) (taken_positions queue)
+
+-- the streams so far, and that of a slot: at a CMD_SYNC none stay
+abbrev pub streams_at : List ℕ → Queue → ℕ → List ℕ → List ℕ
+streams_at image queue slot text = if is_sync_at image queue slot then [] else text ++ stream_text (decoding (raw_at image slot))
 
 -- the streams of the ATC_INVs among them, in the order of the queue, as text
 abbrev pub streams_text : List ℕ → Queue → List ℕ

@@ -1,11 +1,10 @@
 //! Reading an image from the text of a hex dump.
-ghost use Rattle.std.specs.Prelude.{◌≡◌, ◌<◌, ℕ, ◌∷◌, Ok, Err, List, Option, Result, length, IfErr, IfOk};
+ghost use Rattle.std.specs.Prelude.{◌≡◌, ◌<◌, ◌∷◌, Ok, length, IfErr, IfOk};
 ghost use Rattle.hex_dump.specs.Dumps.{dumped};
 ghost use Rattle.hex_dump.specs.declared.dumped.Dumped.TheVariants.{Slot};
 ghost use Rattle.line_answers.specs.LineWords.{words_of};
 ghost use Rattle.script.specs.Lines.{lines_of};
-ghost use Rattle.image.specs.declared.fault.ImageFault.{ImageFault};
-ghost use Rattle.image.specs.Dumps.{Adds, IsFault, dump_image, follows, with_line};
+ghost use Rattle.image.specs.Dumps.{AddsLine, IsFault, dump_image, follows};
 
 use cmdcodec::to_bytes;
 use hex_dump::{DumpLine, Dumped, dump_line};
@@ -51,7 +50,7 @@ fn add_slot(
     last: Option<u64>,
     image: &mut Vec<u8>,
 ) -> Result<Option<u64>, DumpError>
-    ensures { (rest : Option ℕ → Result (List ℕ) ImageFault) → Adds image.old.items image.new.items rest result (with_line number last (Slot slot) rest) }
+    ensures { AddsLine number last (Slot slot) image.old.items image.new.items result }
 {
     if !follows(last, slot.address) {
         return Err(DumpError::BadLine(number));
@@ -69,7 +68,7 @@ fn add_line(
     last: Option<u64>,
     image: &mut Vec<u8>,
 ) -> Result<Option<u64>, DumpError>
-    ensures { (rest : Option ℕ → Result (List ℕ) ImageFault) → Adds image.old.items image.new.items rest result (with_line number last (dumped (words_of line.now)) rest) }
+    ensures { AddsLine number last (dumped (words_of line.now)) image.old.items image.new.items result }
 {
     match dump_line(line) {
         Dumped::Nothing => Ok(last),

@@ -1,7 +1,7 @@
 //! What is known of a queue before its image is read.
-ghost use Rattle.std.specs.Prelude.{◌≡◌, ◌≤◌, ◌*◌, ◌==◌, IfOk, IfSome, MatchOption, false, true};
+ghost use Rattle.std.specs.Prelude.{◌≡◌, ◌≤◌, ◌*◌, IfOk, IfSome, None, false, true};
 ghost use Rattle.qindex.specs.Positions.{size};
-ghost use Rattle.image.specs.Queues.{IsKnown, IsShown, known_of, log2_of, numbers, queue_in, sized};
+ghost use Rattle.image.specs.Queues.{IsKnown, IsShown, has_length, known_of, log2_of, numbers, queue_in, sized};
 
 use crate::asked::Asked;
 use crate::fault::ImageFault;
@@ -43,7 +43,7 @@ pub(crate) fn known_of(asked: &Asked) -> Result<Known, ImageFault>
 }
 
 fn has_length(geometry: Geometry, bytes: usize) -> bool
-    ensures { result ≡ (16 * size geometry == bytes) }
+    ensures { result ≡ has_length bytes geometry }
 {
     16 * geometry.size() as usize == bytes
 }
@@ -52,7 +52,8 @@ fn has_length(geometry: Geometry, bytes: usize) -> bool
 fn of_length(log2: u32, bytes: usize) -> Option<Geometry>
     requires low { 1 ≤ log2 }
     requires high { log2 ≤ 19 }
-    ensures { MatchOption result ((16 * size log2 == bytes) ≡ false) (λ geometry. (geometry ≡ log2) × ((16 * size log2 == bytes) ≡ true)) }
+    ensures some { IfSome result (λ geometry. (geometry ≡ log2) × (has_length bytes log2 ≡ true)) }
+    ensures none { result ≡ None → has_length bytes log2 ≡ false }
 {
     match Geometry::new(log2) {
         Some(geometry) if has_length(geometry, bytes) => Some(geometry),

@@ -1,10 +1,9 @@
 //! The streams of the ATC_INVs that were taken since the last CMD_SYNC.
-ghost use Rattle.std.specs.Prelude.{◌≡◌, ◌<◌, ◌*◌, ◌++◌, [], OnOk, IfOk, if◌then◌else◌, length, string_bytes};
+ghost use Rattle.std.specs.Prelude.{◌≡◌, ◌<◌, ◌*◌, ◌++◌, OnOk, IfOk, length, string_bytes};
 ghost use Rattle.cmdcodec.specs.Words.{decoding};
 ghost use Rattle.qindex.specs.Positions.{size};
 ghost use Rattle.image.specs.Queues.{IsShown};
-ghost use Rattle.image.specs.Slots.{raw_at};
-ghost use Rattle.image.specs.States.{command_stream, is_sync, is_sync_at, stream_text, streams_text};
+ghost use Rattle.image.specs.States.{command_stream, is_sync, is_sync_at, stream_text, streams_at, streams_text};
 
 use crate::lines::{is_completed, raw_at};
 use crate::queue::Queue;
@@ -60,7 +59,7 @@ fn add_slot(image: &[u8], queue: &Queue, slot: u32, text: &mut String) -> Result
     requires shown { IsShown queue.now }
     requires image { length image.now ≡ 16 * size queue.now.cons.geometry }
     requires slot { slot < size queue.now.cons.geometry }
-    ensures { OnOk result (string_bytes text.new ≡ (if is_sync_at image.now queue.now slot then [] else string_bytes text.old ++ stream_text (decoding (raw_at image.now slot)))) }
+    ensures { OnOk result (string_bytes text.new ≡ streams_at image.now queue.now slot (string_bytes text.old)) }
 {
     if is_sync_at(image, queue, slot) {
         text.clear();

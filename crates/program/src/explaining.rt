@@ -1,6 +1,6 @@
 //! What is told on standard error of lines that can't be served.
-ghost use Rattle.std.specs.Prelude.{◌≡◌, ◌⊎◌};
-ghost use Rattle.program.specs.Explaining.{MayBeTold, MayTellOf, TellsOfLast, TellsOfLine, TellsOfRefusal};
+ghost use Rattle.std.specs.Prelude.{◌≡◌, ◌⊎◌, Some};
+ghost use Rattle.program.specs.Explaining.{MayBeTold, MayTellHint, MayTellOf, TellsOfLast, TellsOfLine, TellsOfRefusal};
 ghost use Rattle.script.specs.Statuses.{exit_status};
 
 use crate::telling::{try_line, try_text};
@@ -56,16 +56,16 @@ pub(crate) fn exit_of_script<F: Write>(
     status.exit_status()
 }
 
-/// Tells what may help where an image is refused.
+/// Tells what may help with an image.
 fn try_hint<F: Write>(alloc: Global, hint: Hint, faults: &mut Watched<F>)
-    ensures { MayBeTold faults.old faults.new }
+    ensures { MayTellHint (Some hint) faults.old faults.new }
 {
-    if let Ok(text) = format!(in alloc; "{hint}\n") {
-        try_text(text.as_str(), faults);
+    if let Ok(text) = format!(in alloc; "{hint}") {
+        try_line(text.as_str(), faults);
     }
 }
 
-/// Returns the exit status of an image. If it was refused, tells what may help.
+/// Returns the exit status of an image, and tells what may help, if anything does.
 pub(crate) fn exit_of_image<F: Write>(
     alloc: Global,
     status: Status,
@@ -73,12 +73,10 @@ pub(crate) fn exit_of_image<F: Write>(
     faults: &mut Watched<F>,
 ) -> u8
     ensures exit { result ≡ exit_status status }
-    ensures explained { TellsOfRefusal result faults.old faults.new }
+    ensures told { MayTellHint hint faults.old faults.new }
 {
-    if status == Status::Refused {
-        if let Some(hint) = hint {
-            try_hint(alloc, hint, faults);
-        }
+    if let Some(hint) = hint {
+        try_hint(alloc, hint, faults);
     }
     status.exit_status()
 }

@@ -1,7 +1,7 @@
 //! The parts of the program that read lines of words and the memory of a queue.
 ghost use Rattle.std.specs.Prelude.{◌≡◌};
 ghost use Rattle.image.specs.Tellings.{ExitsAsImage};
-ghost use Rattle.program.specs.Explaining.{TellsOfRefusal};
+ghost use Rattle.program.specs.Explaining.{TellsOfHint, TellsOfRefusal};
 ghost use Rattle.program.specs.Images.{asked_of, errors_of, register};
 ghost use Rattle.program.specs.Program.{ExitsInForm};
 
@@ -76,7 +76,7 @@ pub(crate) fn image_to_exit<I: Read, O: Write, F: Write>(
     output: &mut O,
     faults: &mut Watched<F>,
 ) -> u8
-    ensures explained { TellsOfRefusal result faults.old faults.new }
+    ensures explained { TellsOfHint (asked_of arguments.now) result (I.remaining input.old) faults.old faults.new }
     ensures done { ExitsAsImage (asked_of arguments.now) result (I.remaining input.old) (I.remaining input.new) (O.contents output.old) (O.contents output.new) }
 {
     let asked = asked(arguments);

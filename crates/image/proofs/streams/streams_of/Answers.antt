@@ -1,14 +1,14 @@
 use Rattle.std.proofs.Common.{◌≡◌, ℕ, List, [], Bool, cond, ◌+◌, ◌-◌, ◌<◌, ◌≤◌, ◌++◌, get_or, length, string_bytes, sym, ap, ◌∙◌, arith}
 use Rattle.std.proofs.lemmas.List.{take_all}
 use Rattle.std.proofs.lemmas.List.FromFn.{length-range_with_len, get_or-range_with_len}
-use Rattle.std.specs.List.{flat_map}
+use Rattle.std.specs.List.{after_last, flat_map}
 use Rattle.cmdcodec.specs.Words.{decoding}
 use Rattle.qindex.specs.Positions.{place, size}
 use Rattle.image.specs.declared.queue.Queue.{Queue}
 use Rattle.image.specs.Queues.{waiting_of}
 use Rattle.image.specs.Slots.{raw_at}
-use Rattle.image.specs.States.{behind_last, is_sync_at, stream_text, taken_positions}
-use Rattle.image.proofs.StreamLemmas.{since_more, since_start}
+use Rattle.image.specs.States.{is_sync_at, stream_text, taken_positions}
+use Rattle.image.proofs.StreamLemmas.{since_more}
 use Rattle.image.proofs.streams.streams_of.Goals as goal
 
 abbrev ends : List ℕ → Queue → ℕ → Bool
@@ -18,10 +18,7 @@ abbrev stream : List ℕ → Queue → ℕ → List ℕ
 stream image queue position = stream_text (decoding (raw_at image (place queue.prod.geometry position)))
 
 pub slots-init : goal.slots-init
-slots-init c =
-    let image = c.args.image.now in
-    let queue = c.args.queue.now in
-    c.new-text.ensures.bytes ∙ sym (since_start (ends image queue) (stream image queue) (taken_positions queue))
+slots-init c = c.new-text.ensures.bytes
 
 pub slots-preserved : goal.slots-preserved
 slots-preserved c =
@@ -44,4 +41,4 @@ returns c =
     let queue = c.args.queue.now in
     let taken = size queue.cons.geometry - waiting_of queue in
     let all : length (taken_positions queue) ≤ c.slots.steps = omega (arith, c.taken-steps-end.ensures, length-range_with_len queue.prod.number taken) in
-    c.slots.invariant ∙ ap (λ ys. flat_map (stream image queue) (behind_last (ends image queue) ys)) (take_all c.slots.steps (taken_positions queue) all)
+    c.slots.invariant ∙ ap (λ ys. flat_map (stream image queue) (after_last (ends image queue) ys)) (take_all c.slots.steps (taken_positions queue) all)
