@@ -1,9 +1,9 @@
 //! Queues whose memory comes as the text of a hex dump.
+use crate::answered::status_of;
 use fake_streams::{Sink, Source};
-use image::{Asked, image};
+use image::Asked;
 use script::Status;
-use std::alloc::Global;
-use std::io::{ErrorKind, Read, Write};
+use std::io::ErrorKind;
 use std::process::Abort;
 
 /// As xxd prints them: CFGI_STE of stream 5 as a leaf, TLBI_NSNH_ALL, an unknown opcode and CMD_SYNC.
@@ -15,16 +15,6 @@ const SLOTS: &str = "00000000: 0300 0000 0500 0000 0100 0000 0000 0000  ........
 const VIEW: &str = "size 4\nprod 0x00000005\ncons 0x00000003\nerr 0\nwaiting 2\n\
                     slot 3 wrap 0 CMD_SYNC cs=0 msh=0 attr=0 data=0 addr=0x0\n\
                     slot 0 wrap 1 CFGI_STE sid=5 leaf=1\n";
-
-// The theorem of `image` isn't passed on, since it would be costly in each test.
-fn status_of<R: Read, W: Write>(
-    alloc: Global,
-    asked: &Asked,
-    input: &mut R,
-    output: &mut W,
-) -> Status {
-    image(alloc, asked, input, output)
-}
 
 fn of_dump(prod: u32, cons: u32) -> Asked {
     Asked {

@@ -1,19 +1,26 @@
 //! What may help where an image is refused.
-use image::{Asked, Hint, image_with_hint};
+use crate::answered::status_and_hint;
+use image::{Asked, Hint, Width};
 use script::Status;
-use std::alloc::Global;
-use std::io::{Read, Write};
 use std::process::Abort;
 
-// The theorem of `image_with_hint` isn't passed on, since it would be costly in each test.
-fn answer_to<R: Read, W: Write>(
-    alloc: Global,
-    asked: &Asked,
-    input: &mut R,
-    output: &mut W,
-) -> (Status, Option<Hint>) {
-    image_with_hint(alloc, asked, input, output)
-}
+/// TLBI_NSNH_ALL and CMD_SYNC, with the bytes of each 8 the other way round.
+const DOUBLEWORDS: [u8; 32] = [
+    0, 0, 0, 0, 0, 0, 0, 0x30, 0, 0, 0, 0, 0, 0, 0, 0, //
+    0, 0, 0, 0, 0, 0, 0, 0x46, 0, 0, 0, 0, 0, 0, 0, 0, //
+];
+
+/// The same with the bytes of each 4.
+const WORDS: [u8; 32] = [
+    0, 0, 0, 0x30, 0, 0, 0, 0, 0, 0, 0, 0, 0, 0, 0, 0, //
+    0, 0, 0, 0x46, 0, 0, 0, 0, 0, 0, 0, 0, 0, 0, 0, 0, //
+];
+
+/// The first of them as it should be.
+const ONE_RIGHT: [u8; 32] = [
+    0x30, 0, 0, 0, 0, 0, 0, 0, 0, 0, 0, 0, 0, 0, 0, 0, //
+    0, 0, 0, 0, 0, 0, 0, 0x46, 0, 0, 0, 0, 0, 0, 0, 0, //
+];
 
 fn registers(log2: Option<u32>, prod: u32, cons: u32) -> Asked {
     Asked {
@@ -26,7 +33,20 @@ fn registers(log2: Option<u32>, prod: u32, cons: u32) -> Asked {
     }
 }
 
-/// Shows so many bytes of zeros, and expects this answer.
+/// Shows a queue's memory, and expects this answer.
+fn expect_of<R: AllocGlobal + Abort>(
+    rt: &R,
+    asked: &Asked,
+    memory: &[u8],
+    expected: (Status, Option<Hint>),
+) {
+    let mut input = memory;
+    let mut output = Vec::new(rt.alloc());
+    let answer = status_and_hint(rt.alloc(), asked, &mut input, &mut output);
+    assert_eq!(rt; answer, expected);
+}
+
+/// The same of so many bytes of zeros.
 fn expect<R: AllocGlobal + Abort>(
     rt: &R,
     asked: &Asked,
@@ -34,10 +54,7 @@ fn expect<R: AllocGlobal + Abort>(
     expected: (Status, Option<Hint>),
 ) {
     let zeros = vec![in rt.alloc(); 0u8; bytes].expect(rt, "there is memory");
-    let mut input = zeros.as_slice();
-    let mut output = Vec::new(rt.alloc());
-    let answer = answer_to(rt.alloc(), asked, &mut input, &mut output);
-    assert_eq!(rt; answer, expected);
+    expect_of(rt, asked, zeros.as_slice(), expected);
 }
 
 #[test]
@@ -90,4 +107,31 @@ fn exchanged_registers(rt: HostRuntime) {
 fn no_hint_on_other_answers(rt: HostRuntime) {
     expect(&rt, &registers(Some(2), 3, 3), 64, (Status::Good, None));
     expect(&rt, &registers(Some(2), 8, 3), 64, (Status::Refused, None));
+}
+
+#[test]
+fn zeros(rt: HostRuntime) {
+    let hint = Hint::Zeros;
+    expect(
+        &rt,
+        &registers(Some(2), 1, 0),
+        64,
+        (Status::Good, Some(hint)),
+    );
+    let text = format!(in rt.alloc(); "{hint}").expect(&rt, "there is memory");
+    assert_eq!(rt; text.as_str(), "the image is all zeros");
+}
+
+#[test]
+fn swapped_bytes(rt: HostRuntime) {
+    let asked = registers(Some(1), 2, 0);
+    let hint = Hint::Swapped(Width::Doubleword);
+    expect_of(&rt, &asked, &DOUBLEWORDS, (Status::Good, Some(hint)));
+    let text = format!(in rt.alloc(); "{hint}").expect(&rt, "there is memory");
+    assert_eq!(rt; text.as_str(), "the image looks byte-swapped, in units of 8 bytes");
+    let hint = Hint::Swapped(Width::Word);
+    expect_of(&rt, &asked, &WORDS, (Status::Good, Some(hint)));
+    let text = format!(in rt.alloc(); "{hint}").expect(&rt, "there is memory");
+    assert_eq!(rt; text.as_str(), "the image looks byte-swapped, in units of 4 bytes");
+    expect_of(&rt, &asked, &ONE_RIGHT, (Status::Good, None));
 }

@@ -1,9 +1,9 @@
 //! The memory of queues. A slot holds lo and then hi, each with its lowest byte first.
+use crate::answered::status_of;
 use fake_streams::{Sink, Source};
-use image::{Asked, image};
+use image::Asked;
 use script::Status;
-use std::alloc::Global;
-use std::io::{ErrorKind, Read, Write};
+use std::io::ErrorKind;
 use std::process::Abort;
 
 const PIPE: ErrorKind = ErrorKind::BrokenPipe;
@@ -15,16 +15,6 @@ const IMAGE: [u8; 64] = [
     0xff, 0, 0, 0, 0, 0, 0, 0, 0, 0, 0, 0, 0, 0, 0, 0, //
     0x46, 0, 0, 0, 0, 0, 0, 0, 0, 0, 0, 0, 0, 0, 0, 0, //
 ];
-
-// The theorem of `image` isn't passed on, since it would be costly in each test.
-fn status_of<R: Read, W: Write>(
-    alloc: Global,
-    asked: &Asked,
-    input: &mut R,
-    output: &mut W,
-) -> Status {
-    image(alloc, asked, input, output)
-}
 
 fn registers(prod: u32, cons: u32, all: bool) -> Asked {
     Asked {

@@ -2,6 +2,8 @@
 #![tactic(auto)]
 
 #[cfg(test)]
+mod answered;
+#[cfg(test)]
 mod dump_tests;
 #[cfg(test)]
 mod hint_tests;

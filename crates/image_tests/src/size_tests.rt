@@ -1,19 +1,8 @@
 //! Queues whose size the length of their image says.
-use image::{Asked, image};
+use crate::answered::status_of;
+use image::Asked;
 use script::Status;
-use std::alloc::Global;
-use std::io::{Read, Write};
 use std::process::Abort;
-
-// The theorem of `image` isn't passed on, since it would be costly in each test.
-fn status_of<R: Read, W: Write>(
-    alloc: Global,
-    asked: &Asked,
-    input: &mut R,
-    output: &mut W,
-) -> Status {
-    image(alloc, asked, input, output)
-}
 
 fn registers(prod: Option<u32>, cons: Option<u32>) -> Asked {
     Asked {

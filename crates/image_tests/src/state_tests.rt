@@ -1,8 +1,7 @@
 //! What holds a queue up: the last line, where the error registers are given.
-use image::{Asked, ErrorRegisters, image};
+use crate::answered::status_of;
+use image::{Asked, ErrorRegisters};
 use script::Status;
-use std::alloc::Global;
-use std::io::{Read, Write};
 use std::process::Abort;
 
 /// Four slots: ATC_INV of stream 5, ATC_INV of stream 7, CMD_SYNC and an unknown opcode.
@@ -29,16 +28,6 @@ const OVERWRITTEN: [u8; 64] = [
     0x46, 0, 0, 0, 0, 0, 0, 0, 0, 0, 0, 0, 0, 0, 0, 0, //
     0x40, 0, 0, 0, 9, 0, 0, 0, 0, 0, 0, 0, 0, 0, 0, 0, //
 ];
-
-// The theorem of `image` isn't passed on, since it would be costly in each test.
-fn status_of<R: Read, W: Write>(
-    alloc: Global,
-    asked: &Asked,
-    input: &mut R,
-    output: &mut W,
-) -> Status {
-    image(alloc, asked, input, output)
-}
 
 fn registers(prod: u32, cons: u32, gerror: Option<u32>, gerrorn: Option<u32>) -> Asked {
     Asked {

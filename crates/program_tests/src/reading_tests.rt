@@ -118,6 +118,26 @@ fn an_image_of_another_length(rt: HostRuntime) {
     expect_explained(&rt, &words, memory.as_str(), (1, text, hint));
 }
 
+/// So it may where no command that waits can be right.
+#[test]
+fn an_image_that_is_another(rt: HostRuntime) {
+    let zero = "\0\0\0\0\0\0\0\0";
+    let zeros = format!(in rt.alloc(); "{zero}{zero}{zero}{zero}").expect(&rt, "memory");
+    let words = ["image", "--log2", "1", "--prod", "1", "--cons", "0"];
+    let text = "size 2\nprod 0x00000001\ncons 0x00000000\nerr 0\nwaiting 1\n\
+                slot 0 wrap 0 illegal ILL1: unknown opcode\n";
+    let hint = "the image is all zeros\n";
+    expect_explained(&rt, &words, zeros.as_str(), (0, text, hint));
+    // xxd -g 8 prints the bytes in order.
+    let dump = "00000000: 0300000005000000 0100000000000000\n\
+                00000010: 0000000000000000 0000000000000000\n";
+    let words = [
+        "image", "--log2", "1", "--prod", "1", "--cons", "0", "--hex",
+    ];
+    let hint = "the image looks byte-swapped, in units of 8 bytes\n";
+    expect_explained(&rt, &words, dump, (0, text, hint));
+}
+
 #[test]
 fn the_memory_of_a_queue(rt: HostRuntime) {
     let command = "\x03\0\0\0\x05\0\0\0\x01\0\0\0\0\0\0\0";
