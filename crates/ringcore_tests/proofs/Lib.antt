@@ -5,3 +5,4 @@ pub mod WorkedSchedules
 pub mod WorkedCounterexamples
 pub mod WorkedTold
 pub mod WorkedLimits
+pub mod WorkedShadows
