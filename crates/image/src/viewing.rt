@@ -221,10 +221,7 @@ fn tell<W: Write>(output: &mut W, e: AllocError) -> Status
 }
 
 /// Returns the status of what was served, once a lack of memory is told, and the hint.
-fn finish<W: Write>(
-    served: Result<Answered, ServeError>,
-    output: &mut W,
-) -> (Status, Option<Hint>)
+fn finish<W: Write>(served: Result<Answered, ServeError>, output: &mut W) -> (Status, Option<Hint>)
     ensures endless { result.0 ≡ Status.Endless → IsErrAnd served (λ e. is_endless e ≡ true) }
     ensures read { result.0 ≡ Status.ReadFailed → IsErrAnd served (λ e. is_read e ≡ true) }
     ensures told { (answer : Answer) (before : Option (List ℕ)) → Serves served answer before (W.contents output.old) → TellsOfBytes result.0 answer before (W.contents output.new) }

@@ -128,10 +128,16 @@ fn swapped_bytes(rt: HostRuntime) {
     let hint = Hint::Swapped(Width::Doubleword);
     expect_of(&rt, &asked, &DOUBLEWORDS, (Status::Good, Some(hint)));
     let text = format!(in rt.alloc(); "{hint}").expect(&rt, "there is memory");
-    assert_eq!(rt; text.as_str(), "the image looks byte-swapped, in units of 8 bytes");
+    assert_eq!(rt;
+        text.as_str(),
+        "the image looks byte-swapped, in units of 8 bytes"
+    );
     let hint = Hint::Swapped(Width::Word);
     expect_of(&rt, &asked, &WORDS, (Status::Good, Some(hint)));
     let text = format!(in rt.alloc(); "{hint}").expect(&rt, "there is memory");
-    assert_eq!(rt; text.as_str(), "the image looks byte-swapped, in units of 4 bytes");
+    assert_eq!(rt;
+        text.as_str(),
+        "the image looks byte-swapped, in units of 4 bytes"
+    );
     expect_of(&rt, &asked, &ONE_RIGHT, (Status::Good, None));
 }
