@@ -1,11 +1,9 @@
--- Which words spell no such command, and which are illegal: for each clause words of which it alone is false.
-use Rattle.std.proofs.Common.{◌≡◌, ℕ, ◌+◌, ◌*◌, ◌^◌, true, false, Some, refl, arith}
+-- Which words spell no such command: for each clause words of which it alone is false.
+use Rattle.std.proofs.Common.{◌≡◌, ℕ, ◌+◌, ◌*◌, ◌^◌, true, false, arith}
 use Rattle.cmdcodec.specs.declared.command.Command.TheVariants.{AtcInv, CfgiSte, CmdSync, TlbiNhVa}
-use Rattle.cmdcodec.specs.declared.ill.Ill.TheVariants.{OversizedSpan, ReservedSignal, SecureStream}
 use Rattle.cmdcodec.specs.declared.raw.Raw.{Raw}
 use Rattle.cmdcodec.specs.declared.reach.Granule.TheVariants.{Kib4}
 use Rattle.cmdcodec.specs.declared.reach.Reach.TheVariants.{Page, Range}
-use Rattle.cmdcodec.specs.Legality.{first_ill}
 use Rattle.cmdcodec.specs.Spelling.{Spells}
 
 abbrev words : ℕ → ℕ → Raw
@@ -30,12 +28,3 @@ a_span_too_large spells = absurd (omega (arith, spells.1.1))
 -- CMD_SYNC with CS 3
 pub a_reserved_signal : ¬ Spells (words 0x3046 0) (CmdSync 3 0 0 0 0)
 a_reserved_signal spells = absurd (omega (arith, spells.0.2))
-
-pub a_secure_stream_is_illegal : first_ill (words 0x403 0) ≡ Some SecureStream
-a_secure_stream_is_illegal = refl
-
-pub a_reserved_signal_is_illegal : first_ill (words 0x3046 0) ≡ Some ReservedSignal
-a_reserved_signal_is_illegal = refl
-
-pub a_span_too_large_is_illegal : first_ill (words 0x40 53) ≡ Some OversizedSpan
-a_span_too_large_is_illegal = refl
