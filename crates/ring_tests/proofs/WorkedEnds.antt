@@ -1,18 +1,20 @@
 -- What an end says of the worked run, in which sender 0 sends x, sender 1 sends y with a closing sync, and all three are
 -- taken while the ring is open; and what a won exchange and a receipt say.
 use Rattle.std.proofs.Common.{◌≡◌, ℕ, ◌<◌, Bool, true, false, List, [], ◌∷◌, ◌++◌, length, Some, None, refl, sym, ap, ◌∙◌, arith}
+use Rattle.std.proofs.lemmas.Option.{same_Some}
 use Rattle.std.specs.Prelude.{slice_get}
 use Rattle.cmdcodec.specs.declared.raw.Raw.{Raw}
 use Rattle.qindex.specs.declared.control.Control.{Control}
 use Rattle.ringcore.specs.declared.world.event.Who.TheVariants.{Sender}
+use Rattle.ringcore.specs.declared.world.event.Event.TheVariants.{Won}
 use Rattle.ringcore.specs.world.Trails.{Trail, Run, trail_of, raws_by}
 use Rattle.ringcore.specs.world.World.{sync_raw, taken_as, world}
 use Rattle.ringcore.specs.world.Delivery.{Batch, batches, joined, has_close}
 use Rattle.ringcore.specs.world.Laws.{batches_of, own_batches}
 use Rattle.ringcore.specs.world.ConsumerLaws.{SawDrained}
 use Rattle.ring.specs.Rings.{RingValue}
-use Rattle.ring.specs.sender.Senders.{SenderValue}
-use Rattle.ring.specs.sender.Reservations.{ReservationValue}
+use Rattle.ring.specs.sender.Senders.{SenderValue, ReceiptValue}
+use Rattle.ring.specs.sender.Reservations.{ReservationValue, IsReceiptOf, reserved_number}
 use Rattle.ring.specs.sender.Reserving.{IsWon, control_in}
 use Rattle.ring.specs.consumer.Consumers.{ConsumerValue}
 use Rattle.ring.specs.consumer.Completing.{taken_of}
@@ -75,3 +77,10 @@ pub old_look_wins_nothing : (body : List Raw) (closes : Bool) (s : SenderValue) 
     → ¬ (control_in s won.grew.before ≡ shows 2 1 0 false)
 old_look_wins_nothing body closes s r won now =
     let same : 0 ≡ 1 = ap (λ (c : Control). c.prod.number) (won.stood ∙ now) in absurd (omega (arith, same))
+
+-- ---- a receipt
+
+-- The batch was reserved with number 3, and its receipt tells no other.
+pub receipt_tells_the_number : (r : ReservationValue) (receipt : ReceiptValue) (is : IsReceiptOf r receipt)
+    → r.trail ≡ Won (y ∷ []) (Some 3) ∷ Won (x ∷ []) (Some 2) ∷ [] → receipt.number ≡ 3
+receipt_tells_the_number r receipt is trail = sym (same_Some _ _ (sym (ap reserved_number trail) ∙ is.number_is))
