@@ -4,5 +4,7 @@ pub mod Counted
 pub mod Stepping
 pub mod Unstopped
 pub mod Running
+pub mod Syncs
+pub mod Rewritten
 pub mod Ending
 pub mod Crossing

@@ -4,18 +4,19 @@ use Rattle.std.proofs.lemmas.List.{append_assoc}
 use Rattle.std.proofs.lemmas.Option.{slice_get_within}
 use Rattle.std.specs.Prelude.{slice_get, take, drop, not}
 use Rattle.std.specs.FinMap as finite
-use Rattle.std.specs.FinMap.{get-empty, get-retain_keys, empty_of_len, same_map}
+use Rattle.std.specs.FinMap.{get-empty, empty_of_len}
 use Rattle.cmdcodec.specs.declared.raw.Raw.{Raw}
 use Rattle.cmdcodec.specs.declared.command.Command.{Command}
 use Rattle.cmdcodec.specs.Legality.{first_ill}
 use Rattle.ringcore.specs.declared.world.event.Outcome.TheVariants.{Applied, Replaced}
 use Rattle.ringcore.specs.world.World.{Taken, outcome_of}
 use Rattle.ring.specs.consumer.Completing.{with_outcome, HasOutcome}
+use Rattle.caches.specs.declared.tag.Tag.{Tag}
 use Rattle.caches.specs.declared.tag.Entry.{Entry}
 use Rattle.caches.specs.Stored.{Stored}
 use Rattle.caches.specs.Held.{Entries, without_covered}
 use Rattle.caches.specs.Covers.{covers}
-use Rattle.caches.specs.TagOrder.{tag_cmp, tag_cmp_total, tag_cmp_exact}
+use Rattle.caches.specs.TagOrder.{tag_cmp}
 use Rattle.cmdcodec.specs.declared.ill.Ill.{Ill}
 use Rattle.engine.specs.declared.stop.Mode.TheVariants.{Running}
 use Rattle.engine.specs.Stops.{StopValue, gone_on}
@@ -34,24 +35,17 @@ applied_settled raw command removed old new is list many s =
     (settled_applied old.caches.entries list raw command Applied is.legal.alone s)
 
 -- Where no entry is held a command covers none.
-none_covered : (command : Command) (entries : Entries) → finite.len entries ≡ 0 → entries ≡ without_covered command entries
-none_covered command entries none = subst (λ (e : Entries). e ≡ without_covered command e) (sym (empty_of_len entries none))
-    (same_map tag_cmp_total tag_cmp_exact finite.empty (without_covered command finite.empty) (λ tag.
-    get-empty {X = Entry} tag_cmp tag
-    ∙ sym (get-retain_keys finite.empty (λ t. not (covers command t)) tag (λ x e. ap (λ t. not (covers command t)) (sym (tag_cmp_exact tag x e)))
-    ∙ neither (not (covers command tag)) (get-empty {X = Entry} tag_cmp tag))))
-  where
-    neither : (b : Bool) {found : Option Entry} → found ≡ None → cond b found None ≡ None
-    neither true none = none
-    neither false none = refl
+pub none_covered : (command : Command) (entries : Entries) → finite.len entries ≡ 0 → (tag : Tag) (entry : Entry) → finite.get entries tag ≡ Some entry → covers command tag ≡ false
+none_covered command entries none tag entry held =
+    let nothing : None ≡ Some entry = sym (get-empty {X = Entry} tag_cmp tag) ∙ ap (λ (e : Entries). finite.get e tag) (sym (empty_of_len entries none)) ∙ held in absurd (cc)
 
--- A legal command is applied without a change of entries then.
-pub applied_to_none : (raw : Raw) (command : Command) (old new : UnitValue) → IsLegal raw command → old.stop.mode ≡ Running → finite.len old.caches.entries ≡ 0
+-- A legal command that covers none is applied without a change of entries.
+pub applied_to_none : (raw : Raw) (command : Command) (old new : UnitValue) → IsLegal raw command → old.stop.mode ≡ Running → without_covered command old.caches.entries ≡ old.caches.entries
     → new.caches ≡ old.caches → new.stop ≡ gone_on old.stop → new.counts ≡ counted_applied raw 0 old.counts → IsApplied raw command 0 old new
 applied_to_none raw command old new legal running none caches stop counts = record {
   running = running;
   legal = legal;
-  entries = ap (λ (s : Stored). s.entries) caches ∙ none_covered command old.caches.entries none;
+  entries = ap (λ (s : Stored). s.entries) caches ∙ sym none;
   removed_are = let same = ap (λ (s : Stored). finite.len s.entries) caches in omega (arith, same);
   few = omega arith;
   capacity = ap (λ (s : Stored). s.capacity) caches;

@@ -2,5 +2,6 @@ pub mod Settled
 pub mod Stops
 pub mod Counting
 pub mod Units
+pub mod QueueUnits
 pub mod Engines
 pub mod Ends

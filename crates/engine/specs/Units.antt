@@ -16,6 +16,8 @@ use Rattle.caches.specs.Held.{Entries, without_covered, without_passing}
 use Rattle.engine.specs.declared.stop.Mode.TheVariants.{Running, Replacing}
 use Rattle.engine.specs.declared.verdict.Verdict.{Verdict}
 use Rattle.engine.specs.declared.verdict.Verdict.TheVariants.{Applied, Stopped, Replaced}
+use Rattle.engine.specs.declared.verdict.Judgement.{Judgement}
+use Rattle.engine.specs.declared.verdict.Judgement.TheVariants as judgement
 use Rattle.engine.specs.Settled.{IsSettled}
 use Rattle.engine.specs.Stops.{StopValue, unstopped, stopped_at, gone_on}
 use Rattle.engine.specs.Counting.{CountsValue, taken, none_counted, counted_applied, counted_replaced, AreCountsOf}
@@ -88,6 +90,31 @@ abbrev pub took : Raw → Verdict → List Taken
 took raw (Applied command removed) = record { raw = raw; outcome = AsApplied } ∷ []
 took raw (Stopped ill) = []
 took raw (Replaced ill) = record { raw = raw; outcome = AsReplaced } ∷ []
+
+-- ---- the same of words whose command isn't told
+
+abbrev pub HasJudgedWords : Raw → UnitValue → UnitValue → Judgement → Type 0
+HasJudgedWords raw old new (judgement.Applied removed) = (command : Command) × IsApplied raw command removed old new
+HasJudgedWords raw old new (judgement.Stopped ill) = IsStoppedAt raw ill old new
+HasJudgedWords raw old new (judgement.Replaced ill) = IsReplaced raw ill old new
+
+abbrev pub took_words : Raw → Judgement → List Taken
+took_words raw (judgement.Applied removed) = record { raw = raw; outcome = AsApplied } ∷ []
+took_words raw (judgement.Stopped ill) = []
+took_words raw (judgement.Replaced ill) = record { raw = raw; outcome = AsReplaced } ∷ []
+
+-- It took the illegal words at which it stopped without effect, in place of judging them again, and goes on.
+pub record HasReplacedAwaited (awaited : Raw) (old new : UnitValue) : Type 0 where
+  pub ill : Ill
+  pub next_is : old.stop.next ≡ Some awaited
+  pub first : first_ill awaited ≡ Some ill
+  pub new_is : new ≡ record old { stop = gone_on old.stop; counts = counted_replaced awaited old.counts }
+
+-- what is taken by that
+abbrev pub took_awaited : Raw → List Taken
+took_awaited awaited = record { raw = awaited; outcome = AsReplaced } ∷ []
+
+-- ---- what stays settled
 
 -- For every list as long as the number taken: entries settled for it before are settled for it with these
 -- appended.

@@ -78,6 +78,14 @@ impl Stop {
         matches!(self.mode, Mode::Replacing)
     }
 
+    /// Returns the words at which it stopped, until they are taken.
+    pub(crate) fn awaited(&self) -> Option<Raw>
+        ensures value { result ≡ self.now.next }
+        ensures kept { IsKept self.now.mode self.now.next }
+    {
+        self.next
+    }
+
     /// Stops at an illegal command.
     pub(crate) fn stop_at(&mut self, raw: Raw, ill: Ill)
         requires going { ¬ IsStopped self.old.mode }

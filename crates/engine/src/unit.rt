@@ -11,13 +11,13 @@ ghost use Rattle.caches.specs.Stored.{IsFillAnswer, IsListAnswer};
 ghost use Rattle.engine.specs.Settled.{IsSettled};
 ghost use Rattle.engine.specs.Stops.{IsStopped, MayComeNext, IsAcknowledgementAnswer, told, err_of, word_of};
 ghost use Rattle.engine.specs.Counting.{taken};
-ghost use Rattle.engine.specs.Units.{HasJudged, HasLost, StaysSettled, IsSettledUnit, IsLegal, IsApplied, took, new_unit, filled, with_entries};
+ghost use Rattle.engine.specs.Units.{HasJudged, HasJudgedWords, HasReplacedAwaited, HasLost, StaysSettled, IsSettledUnit, IsLegal, IsApplied, took, took_words, took_awaited, new_unit, filled, with_entries};
 
 use crate::counts::Counts;
 use crate::remedy::{AckFault, Remedy};
 use crate::stop::Stop;
-use crate::verdict::Verdict;
-use caches::{CacheFault, Caches, Entry, Tag, TagTest};
+use crate::verdict::{Judgement, Verdict};
+use caches::{CacheFault, Caches, Entry, Tag, TagTest, uncovered_entries_stay};
 use cmdcodec::{Command, Raw, decode, first_ill, legal_words_spell_one_command};
 use ring::Device;
 use std::marker::Model;
@@ -99,6 +99,13 @@ impl Unit {
         self.stop.registers()
     }
 
+    /// Returns the words at which it stopped, until they are taken: after a stop they come next.
+    pub fn awaited(&self) -> Option<Raw>
+        ensures { result ≡ self.now.stop.next }
+    {
+        self.stop.awaited()
+    }
+
     /// Applies a legal command; stops at an illegal one, or takes it without effect if told to replace it. A
     /// CMD_SYNC has no effect on entries. The unit must not be stopped, and after a stop `raw` must be the
     /// words at which it stopped.
@@ -127,6 +134,38 @@ impl Unit {
         }
     }
 
+    /// Does what `judge` does and requires the same, and doesn't say which command it was. Words are decoded only if
+    /// what they may cover has to be found.
+    pub fn judge_words(&mut self, raw: Raw) -> Judgement
+        requires running { ¬ IsStopped self.old.stop.mode }
+        requires next { MayComeNext raw self.old.stop }
+        requires few { taken self.old.counts < most_reserved }
+        ensures judged { HasJudgedWords raw self.old self.new result }
+        ensures settled { StaysSettled self.old self.new (took_words raw result) }
+    {
+        if let Some(removed) = self.apply_words(raw) {
+            return Judgement::Applied { removed };
+        }
+        match self.judge(raw) {
+            Verdict::Applied { removed, .. } => Judgement::Applied { removed },
+            Verdict::Stopped(ill) => Judgement::Stopped(ill),
+            Verdict::Replaced(ill) => Judgement::Replaced(ill),
+        }
+    }
+
+    /// Takes the words at which it stopped without effect, in place of judging them again: somebody wrote over them.
+    pub(crate) fn replace_awaited(&mut self, awaited: Raw)
+        requires running { ¬ IsStopped self.old.stop.mode }
+        requires next { self.old.stop.next ≡ Some awaited }
+        requires few { taken self.old.counts < most_reserved }
+        ensures replaced { HasReplacedAwaited awaited self.old self.new }
+        ensures settled { StaysSettled self.old self.new (took_awaited awaited) }
+    {
+        self.stop.awaited();
+        self.counts.count_replaced(awaited);
+        self.stop.go_on();
+    }
+
     /// Applies a legal command and returns how many entries it removed.
     #[inline]
     pub(crate) fn apply(&mut self, raw: Raw, command: &Command) -> u32
@@ -146,7 +185,7 @@ impl Unit {
     /// Applies a command if its words are legal, and returns how many entries it removed. It does nothing if
     /// they aren't.
     ///
-    /// Words are decoded only if an entry is held: that takes longer than all else here.
+    /// Words are decoded only if an entry is held and they aren't a CMD_SYNC: that takes longer than all else here.
     #[inline]
     pub(crate) fn apply_words(&mut self, raw: Raw) -> Option<u32>
         requires running { ¬ IsStopped self.old.stop.mode }
@@ -156,17 +195,20 @@ impl Unit {
         ensures illegal { result ≡ None → (ill : IllOf) × (first_ill raw ≡ Some ill) }
         ensures kept { result ≡ None → self.new ≡ self.old }
     {
-        if self.caches.len() > 0 {
-            let Ok(command) = decode(raw) else {
+        if self.caches.len() > 0 && !raw.is_sync() {
+            let decoded = decode(raw);
+            // By reference, so that the command isn't copied.
+            let Ok(command) = &decoded else {
                 return None;
             };
-            return Some(self.apply(raw, &command));
+            return Some(self.apply(raw, command));
         }
         if first_ill(raw).is_some() {
             return None;
         }
-        // For its clause `one`.
+        // For the clause `one`, and since nothing is covered.
         legal_words_spell_one_command();
+        uncovered_entries_stay();
         self.stop.is_replacing();
         self.counts.count_applied(raw, 0);
         self.stop.go_on();

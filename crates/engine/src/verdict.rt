@@ -11,3 +11,14 @@ pub enum Verdict {
     /// It is illegal and was to be replaced: it was taken without effect.
     Replaced(Ill),
 }
+
+/// What a unit did with the words of a command: a verdict that doesn't name the command, for whoever has the words.
+#[derive(Clone, Copy, Debug, PartialEq, Eq)]
+pub enum Judgement {
+    /// They are legal; the command was applied, and removed `removed` entries.
+    Applied { removed: u32 },
+    /// They are illegal, and consumption stopped there.
+    Stopped(Ill),
+    /// They are illegal and were to be replaced: they were taken without effect.
+    Replaced(Ill),
+}
