@@ -12,7 +12,7 @@ use Rattle.caches.specs.Limits.{most_entries}
 use Rattle.caches.specs.declared.tag.Tag.{Tag}
 use Rattle.caches.specs.declared.tag.Entry.{Entry}
 use Rattle.caches.specs.Stored.{Stored}
-use Rattle.caches.specs.Held.{Entries, without_covered, without_passing}
+use Rattle.caches.specs.Held.{Entries, held, without_covered, without_passing}
 use Rattle.engine.specs.declared.stop.Mode.TheVariants.{Running, Replacing}
 use Rattle.engine.specs.declared.verdict.Verdict.{Verdict}
 use Rattle.engine.specs.declared.verdict.Verdict.TheVariants.{Applied, Stopped, Replaced}
@@ -36,6 +36,10 @@ pub record IsSettledUnit (unit : UnitValue) (list : List Taken) : Type 0 where
 -- a unit that has taken nothing
 abbrev pub new_unit : Stored → UnitValue
 new_unit caches = record { caches = caches; stop = unstopped; counts = none_counted }
+
+-- caches of the same capacity that hold nothing
+abbrev pub emptied : Stored → Stored
+emptied caches = record caches { entries = held [] }
 
 abbrev pub with_entries : UnitValue → Entries → UnitValue
 with_entries u entries = record u { caches = record u.caches { entries = entries } }

@@ -198,6 +198,13 @@ impl Engine {
         let _ = &self.consumer;
     }
 
+    /// Returns its unit, for whoever only reads its entries, registers and counts.
+    pub fn unit(&self) -> &Unit
+        ensures { result.now ≡ self.now.unit }
+    {
+        &self.unit
+    }
+
     /// Whether consumption is stopped at an illegal command.
     pub fn stopped(&self) -> bool
         ensures { IsTrue result ↔ IsStopped self.now.unit.stop.mode }

@@ -27,7 +27,7 @@ pub use answer::{Registers, RunAnswer, StepAnswer};
 pub use counts::Counts;
 pub use engine::{Engine, step_with};
 pub use finished::Finished;
-pub use queue_unit::{JudgeFault, QueueUnit, StopRemedy};
+pub use queue_unit::{JudgeFault, QueueError, QueueUnit, StopRemedy};
 pub use remedy::{AckFault, Remedy};
 pub use unit::Unit;
 pub use verdict::{Judgement, Verdict};

@@ -1,7 +1,7 @@
 //! The stop at an illegal command.
 ghost use Rattle.std.specs.Prelude.{◌≡◌, ◌↔◌, IsTrue, OnOk, OnErr, Some};
 ghost use Rattle.cmdcodec.specs.Legality.{first_ill};
-ghost use Rattle.engine.specs.Stops.{unstopped, IsStopped, IsAcknowledgementAnswer, stopped_at, gone_on, told, mode_after, err_of, word_of, IsKept};
+ghost use Rattle.engine.specs.Stops.{unstopped, IsStopped, IsAcknowledgementAnswer, stopped_at, gone_on, told, mode_after, err_of, word_of, IsKept, IsActive};
 
 use crate::global_errors::{command_queue_bit, word_of};
 use crate::remedy::{AckFault, Remedy};
@@ -118,9 +118,26 @@ impl Stop {
         if command_queue_bit(gerrorn) != self.error {
             return Err(AckFault::OtherBit);
         }
+        self.go_on_with(remedy);
+        Ok(())
+    }
+
+    /// Acknowledges the error.
+    pub(crate) fn go_on_with(&mut self, remedy: Remedy)
+        requires stopped { IsStopped self.old.mode }
+        ensures { self.new ≡ told remedy self.old }
+    {
         self.acknowledged = self.error;
         self.mode = Mode::from(remedy);
-        Ok(())
+    }
+
+    /// CMDQ_ERR of SMMU_GERROR and of SMMU_GERRORN.
+    pub(crate) fn bits(&self) -> (bool, bool)
+        ensures error { result.0 ≡ self.now.error }
+        ensures acknowledged { result.1 ≡ self.now.acknowledged }
+        ensures active { IsActive self.now.mode self.now.error self.now.acknowledged }
+    {
+        (self.error, self.acknowledged)
     }
 
     /// SMMU_CMDQ_CONS.ERR, SMMU_GERROR and SMMU_GERRORN.

@@ -9,9 +9,9 @@ ghost use Rattle.ringcore.specs.world.World.{Taken};
 ghost use Rattle.caches.specs.Held.{held};
 ghost use Rattle.caches.specs.Stored.{IsFillAnswer, IsListAnswer};
 ghost use Rattle.engine.specs.Settled.{IsSettled};
-ghost use Rattle.engine.specs.Stops.{IsStopped, MayComeNext, IsAcknowledgementAnswer, told, err_of, word_of};
+ghost use Rattle.engine.specs.Stops.{IsStopped, MayComeNext, IsAcknowledgementAnswer, IsActive, told, err_of, word_of};
 ghost use Rattle.engine.specs.Counting.{taken};
-ghost use Rattle.engine.specs.Units.{HasJudged, HasJudgedWords, HasReplacedAwaited, HasLost, StaysSettled, IsSettledUnit, IsLegal, IsApplied, took, took_words, took_awaited, new_unit, filled, with_entries};
+ghost use Rattle.engine.specs.Units.{HasJudged, HasJudgedWords, HasReplacedAwaited, HasLost, StaysSettled, IsSettledUnit, IsLegal, IsApplied, took, took_words, took_awaited, new_unit, emptied, filled, with_entries};
 
 use crate::counts::Counts;
 use crate::remedy::{AckFault, Remedy};
@@ -74,6 +74,15 @@ impl Unit {
             counts: _,
         } = self;
         caches
+    }
+
+    /// Empties its caches, as a reset of the SMMU does, and starts its counts and its stop afresh. Takes no memory.
+    pub fn reset(&mut self)
+        ensures { self.new ≡ new_unit (emptied self.old.caches) }
+    {
+        self.caches.clear();
+        self.stop = Stop::new();
+        self.counts = Counts::none();
     }
 
     /// Whether consumption is stopped at an illegal command.
@@ -215,6 +224,23 @@ impl Unit {
         Some(0)
     }
 
+    /// CMDQ_ERR of SMMU_GERROR and of SMMU_GERRORN.
+    pub(crate) fn error_bits(&self) -> (bool, bool)
+        ensures error { result.0 ≡ self.now.stop.error }
+        ensures acknowledged { result.1 ≡ self.now.stop.acknowledged }
+        ensures active { IsActive self.now.stop.mode self.now.stop.error self.now.stop.acknowledged }
+    {
+        self.stop.bits()
+    }
+
+    /// Acknowledges the error with this remedy.
+    pub(crate) fn go_on_with(&mut self, remedy: Remedy)
+        requires stopped { IsStopped self.old.stop.mode }
+        ensures { self.new ≡ record self.old { stop = told remedy self.old.stop } }
+    {
+        self.stop.go_on_with(remedy)
+    }
+
     /// Software writes SMMU_GERRORN and chooses what happens to the command at which consumption stopped.
     /// Only CMDQ_ERR, bit 0, of the word matters.
     ///
@@ -276,6 +302,13 @@ impl Unit {
         ensures own { IfSome result (λ entry. entry.tag ≡ tag.now) }
     {
         self.caches.lookup(tag)
+    }
+
+    /// Returns the number of entries held.
+    pub fn len(&self) -> usize
+        ensures { result ≡ finite.len self.now.caches.entries }
+    {
+        self.caches.len()
     }
 
     /// Returns all entries held, in tag order.
