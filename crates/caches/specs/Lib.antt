@@ -1,5 +1,6 @@
 pub mod EntryMaps
 pub mod Faults
+pub mod Finding
 pub mod Blocks
 pub mod Covers
 pub mod Held

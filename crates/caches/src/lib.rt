@@ -19,11 +19,13 @@
 //! they are taken out together.
 #![tactic(auto)]
 
+mod address_space;
 mod caches;
 mod covering;
 mod entry_map;
 mod evicting;
 mod fault;
+mod finding;
 mod indexed_map;
 mod key;
 mod laws;
@@ -38,6 +40,7 @@ mod tag;
 mod tag_test;
 mod walk;
 
+pub use address_space::AddressSpace;
 pub use caches::{Caches, MOST_ENTRIES};
 pub use fault::CacheFault;
 pub use laws::{
