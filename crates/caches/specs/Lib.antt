@@ -10,6 +10,7 @@ pub mod Laws
 pub mod Limits
 pub mod OnePages
 pub mod OneStreams
+pub mod OwnerTests
 pub mod Puts
 pub mod Ranks
 pub mod Slots

@@ -149,6 +149,14 @@ impl Caches {
         (held - self.len()) as u32
     }
 
+    /// Removes all entries, in place. Takes no memory.
+    pub fn clear(&mut self)
+        ensures entries { self.new.entries ≡ held [] }
+        ensures capacity { self.new.capacity ≡ self.old.capacity }
+    {
+        self.held.clear();
+    }
+
     /// Puts `entry` in and returns the one held under its tag before, if any.
     ///
     /// Errors, in this order, each leaving the caches unchanged: C2 if the tag's block isn't well formed; C1

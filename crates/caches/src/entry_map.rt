@@ -160,6 +160,17 @@ impl EntryMap {
         }
     }
 
+    /// Removes all entries. Takes no memory.
+    pub(crate) fn clear(&mut self)
+        ensures { self.new ≡ finite.empty }
+    {
+        self.removed.clear();
+        self.map.clear();
+        self.len = 0;
+        self.spans = Spans::none();
+        self.substreams = false;
+    }
+
     /// Removes the entry of a rank, if there is one.
     pub(crate) fn remove(&mut self, rank: Rank)
         ensures { self.new ≡ finite.remove self.old (tag_of rank) }
