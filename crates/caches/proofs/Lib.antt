@@ -9,6 +9,7 @@ pub mod Indexed
 pub mod Kept
 pub mod KeyOrder
 pub mod LawLemmas
+pub mod Masks
 pub mod OnePages
 pub mod Pruned
 pub mod RangeLaw

@@ -20,6 +20,10 @@ holds run number = not (nat_lt number run.first) && nat_lt number run.end
 abbrev pub meets : PageRun → PageRun → Bool
 meets a b = nat_lt a.first b.end && nat_lt b.first a.end
 
+-- The mask has blocks of 2^span pages, as bit `span`.
+abbrev pub HasSpan : ℕ → ℕ → Type 0
+HasSpan spans span = (span ≤ 52) × (spans / 2 ^ span % 2 ≡ 1)
+
 -- at most 2^52 pages, starting at a multiple of their number
 pub record IsAligned (page span : ℕ) : Type 0 where
   pub at_most : span ≤ 52

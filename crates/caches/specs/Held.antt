@@ -14,6 +14,10 @@ use Rattle.caches.specs.TagOrder.{tag_cmp}
 abbrev pub Entries : Type 0
 Entries = FinMap tag_cmp Entry
 
+-- Each is held under its own tag.
+abbrev pub AreOwn : Entries → Type 0
+AreOwn entries = (tag : Tag) (entry : Entry) → finite.get entries tag ≡ Some entry → entry.tag ≡ tag
+
 -- A history is a list of fills, evictions and commands, newest first. A refused fill isn't in it.
 pub data Item : Type 0 where
   Fill : Entry → Item

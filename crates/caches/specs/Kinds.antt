@@ -1,7 +1,8 @@
--- The kinds of what is held.
+-- The kinds of what is held, and sets of them.
 use Rattle.std.specs.Prelude.{Bool, true, false}
 use Rattle.caches.specs.declared.tag.Tag.{Tag}
 use Rattle.caches.specs.declared.tag.Tag.TheVariants as tag
+use Rattle.caches.specs.declared.kinds.Kinds.{Kinds}
 use Rattle.caches.specs.declared.tag_test.Kind.{Kind}
 use Rattle.caches.specs.declared.tag_test.Kind.TheVariants.{Ste, Cd, S1, S2, El2, Atc}
 
@@ -13,3 +14,24 @@ is_of_kind S2 (tag.S2 vmid page span) = true
 is_of_kind El2 (tag.El2 scope page span) = true
 is_of_kind Atc (tag.Atc sid ssid page span) = true
 is_of_kind other tag = false
+
+abbrev pub kind_of : Tag → Kind
+kind_of (tag.Ste sid) = Ste
+kind_of (tag.Cd sid ssid) = Cd
+kind_of (tag.S1 vmid scope page span) = S1
+kind_of (tag.S2 vmid page span) = S2
+kind_of (tag.El2 scope page span) = El2
+kind_of (tag.Atc sid ssid page span) = Atc
+
+-- the kind is in the set
+abbrev pub has_kind : Kinds → Kind → Bool
+has_kind kinds Ste = kinds.ste
+has_kind kinds Cd = kinds.cd
+has_kind kinds S1 = kinds.s1
+has_kind kinds S2 = kinds.s2
+has_kind kinds El2 = kinds.el2
+has_kind kinds Atc = kinds.atc
+
+-- the tag's kind is in the set
+abbrev pub is_of_kinds : Kinds → Tag → Bool
+is_of_kinds kinds tag = has_kind kinds (kind_of tag)

@@ -1,5 +1,6 @@
 pub mod EntryMaps
 pub mod Faults
+pub mod Finding
 pub mod Blocks
 pub mod Covers
 pub mod Held
@@ -9,6 +10,7 @@ pub mod Laws
 pub mod Limits
 pub mod OnePages
 pub mod OneStreams
+pub mod OwnerTests
 pub mod Puts
 pub mod Ranks
 pub mod Slots

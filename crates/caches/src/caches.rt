@@ -1,18 +1,20 @@
 //! The caches: entries up to a capacity.
-ghost use Rattle.std.specs.Prelude.{◌≡◌, ◌+◌, ◌<◌, ◌≤◌, ◌↔◌, IfOk, IfSome, OnOk, OnErr, Err, None, [], ◌∷◌, ◌++◌};
+ghost use Rattle.std.specs.Prelude.{◌≡◌, ◌+◌, ◌<◌, ◌≤◌, ◌↔◌, IfOk, IfSome, OnOk, OnErr, Err, None, Some, [], ◌∷◌, ◌++◌};
 ghost use Rattle.std.specs.FinMap as finite;
 ghost use Rattle.caches.specs.Limits.{most_entries, IsCapacity};
 ghost use Rattle.caches.specs.declared.tag.Entry.{Entry};
 ghost use Rattle.caches.specs.Blocks.{IsBlock};
-ghost use Rattle.caches.specs.Held.{without_covered, without_passing, evictions, held, History, Fill, Evict, Take};
+ghost use Rattle.caches.specs.Finding.{IsFound};
+ghost use Rattle.caches.specs.Held.{without_covered, without_passing, evictions, held, AreOwn, History, Fill, Evict, Take};
 ghost use Rattle.caches.specs.Stored.{IsFilled, IsFillAnswer, IsListAnswer};
 
+use crate::address_space::AddressSpace;
 use crate::entry_map::EntryMap;
 use crate::fault::CacheFault;
 use crate::rank::Rank;
 use crate::tag::{Entry, Tag};
 use crate::tag_test::TagTest;
-use cmdcodec::Command;
+use cmdcodec::{Command, Page};
 use std::alloc::Global;
 use std::marker::Model;
 
@@ -69,6 +71,23 @@ impl Caches {
         ensures own { IfSome result (λ entry. entry.tag ≡ tag.now) }
     {
         self.held.get(tag)
+    }
+
+    /// Returns the entry that holds a page of an address space, at the greatest of these spans that has one: bit n of
+    /// `spans` stands for blocks of `2^n` pages, 0 to 52, and higher bits mean nothing. At each span the space's own entry
+    /// comes before the global one (this project's choice).
+    pub fn find(&self, space: &AddressSpace, page: Page, spans: u64) -> Option<Entry>
+        ensures found { IsFound self.now.entries space.now page spans result }
+        ensures own { IfSome result (λ entry. finite.get self.now.entries entry.tag ≡ Some entry) }
+    {
+        self.held.find(space, page, spans)
+    }
+
+    /// Each entry is held under its own tag. Does nothing: callers learn it.
+    pub fn are_own(&self)
+        ensures { AreOwn self.now.entries }
+    {
+        self.held.are_own();
     }
 
     /// Returns the number of entries held.
@@ -128,6 +147,14 @@ impl Caches {
         let held = self.len();
         self.held.remove_passing(test);
         (held - self.len()) as u32
+    }
+
+    /// Removes all entries, in place. Takes no memory.
+    pub fn clear(&mut self)
+        ensures entries { self.new.entries ≡ held [] }
+        ensures capacity { self.new.capacity ≡ self.old.capacity }
+    {
+        self.held.clear();
     }
 
     /// Puts `entry` in and returns the one held under its tag before, if any.

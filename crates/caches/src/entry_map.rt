@@ -3,19 +3,20 @@
 //! Taking an entry out of the ordered map is most of what a single command costs. So a command for one page or one
 //! stream, and an eviction, list the rank of what they remove, and it counts as removed from then on. A fill under this rank
 //! writes over what the map still has there. The ranks that are listed are taken out of the map together, before a 17th is.
-ghost use Rattle.std.specs.Prelude.{◌≡◌, ◌≤◌, ◌<◌, ◌&&◌, IfSome, not, cond, filter, [], None};
+ghost use Rattle.std.specs.Prelude.{◌≡◌, ◌≤◌, ◌<◌, ◌^◌, ◌&&◌, ℕ, IfSome, not, cond, filter, [], None};
 ghost use Rattle.std.specs.Ordering.{eq_by_cmp};
 ghost use Rattle.std.specs.List.Sorted.{IsPermutation, IsSortedByKey};
 ghost use Rattle.std.specs.FinMap as finite;
 ghost use Rattle.arrayvec.specs.ArrayVec.{array_vec_len};
 ghost use Rattle.caches.specs.declared.tag.Tag.{Tag};
 ghost use Rattle.caches.specs.declared.tag.Entry.{Entry};
-ghost use Rattle.caches.specs.Blocks.{IsBlock};
-ghost use Rattle.caches.specs.Held.{without_covered, without_passing};
+ghost use Rattle.caches.specs.Blocks.{IsBlock, HasSpan};
+ghost use Rattle.caches.specs.Held.{without_covered, without_passing, AreOwn};
 ghost use Rattle.caches.specs.Keys.{tag_of};
 ghost use Rattle.caches.specs.Limits.{most_entries, most_removed};
 ghost use Rattle.caches.specs.OnePages.{is_block_at, is_on};
 ghost use Rattle.caches.specs.OneStreams.{is_of, is_in};
+ghost use Rattle.caches.specs.Spanned.{HasNoneOf};
 ghost use Rattle.caches.specs.Stored.{IsFilled, IsListAnswer};
 ghost use Rattle.caches.specs.TagOrder.{tag_cmp, numbers};
 ghost use Rattle.caches.specs.Unlisted.{is_listed, unlisted, IsPartOf};
@@ -101,6 +102,22 @@ impl EntryMap {
         self.map.get(tag)
     }
 
+    /// Each entry is held under its own tag. Does nothing.
+    pub(crate) fn are_own(&self)
+        ensures { AreOwn self.now }
+    {
+        let _ = &self.map;
+    }
+
+    /// Returns those of a mask of spans, bit n for blocks of `2^n` pages, that a block was ever put in with.
+    pub(crate) fn spans_among(&self, spans: u64) -> u64
+        ensures few { result < 2 ^ 53 }
+        ensures asked { (n : ℕ) → HasSpan result n → HasSpan spans n }
+        ensures others { (n : ℕ) → HasSpan spans n → ¬ HasSpan result n → HasNoneOf self.now n }
+    {
+        self.spans.among(spans)
+    }
+
     /// Returns all entries in tag order; C3 if memory runs out.
     pub(crate) fn list(&self, alloc: Global) -> Result<Vec<Entry>, CacheFault>
         ensures { IsListAnswer self.now result }
@@ -141,6 +158,17 @@ impl EntryMap {
             }
             Err(fault) => Err(fault),
         }
+    }
+
+    /// Removes all entries. Takes no memory.
+    pub(crate) fn clear(&mut self)
+        ensures { self.new ≡ finite.empty }
+    {
+        self.removed.clear();
+        self.map.clear();
+        self.len = 0;
+        self.spans = Spans::none();
+        self.substreams = false;
     }
 
     /// Removes the entry of a rank, if there is one.

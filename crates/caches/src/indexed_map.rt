@@ -102,6 +102,14 @@ impl IndexedMap {
         self.ordered.get(&rank).copied()
     }
 
+    /// Removes all entries. Takes no memory.
+    pub(crate) fn clear(&mut self)
+        ensures { IsEmpty self.new.ordered }
+    {
+        self.ordered.clear();
+        self.slots.fill(Slot::Unnoted { all: 0 });
+    }
+
     /// Removes the entry of a rank, and returns it if there was one.
     pub(crate) fn remove(&mut self, rank: Rank) -> Option<Entry>
         ensures value { result ≡ tree.get ⟦<Rank as Ord>⟧.cmp self.old.ordered rank }

@@ -19,16 +19,20 @@
 //! they are taken out together.
 #![tactic(auto)]
 
+mod address_space;
 mod caches;
 mod covering;
 mod entry_map;
 mod evicting;
 mod fault;
+mod finding;
 mod indexed_map;
 mod key;
+mod kinds;
 mod laws;
 mod one_page;
 mod one_stream;
+mod owner_tests;
 mod ranges;
 mod rank;
 mod slot;
@@ -38,11 +42,14 @@ mod tag;
 mod tag_test;
 mod walk;
 
+pub use address_space::AddressSpace;
 pub use caches::{Caches, MOST_ENTRIES};
 pub use fault::CacheFault;
+pub use kinds::Kinds;
 pub use laws::{
     held_is_what_stands, held_speaks_of_each_tag_once, meeting_is_to_share_a_page,
     ranges_cover_their_pages, uncovered_entries_stay, whole_spaces_are_covered,
 };
+pub use owner_tests::{OfMachine, OfStream};
 pub use tag::{Entry, Scope, Tag};
 pub use tag_test::{Kind, TagTest};

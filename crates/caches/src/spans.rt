@@ -1,13 +1,11 @@
 //! The spans of the blocks in the caches.
-ghost use Rattle.std.specs.Prelude.{◌≡◌, ◌<◌, ◌≤◌, ℕ, slice_index_or, false};
+ghost use Rattle.std.specs.Prelude.{◌≡◌, ◌<◌, ◌≤◌, ◌==◌, ◌/◌, ◌%◌, ◌^◌, ℕ, bit_and};
 
-/// The spans of all blocks ever put in, which include those of the entries held.
+/// The spans of all blocks ever put in, which include those of the entries held: bit n for blocks of `2^n` pages.
 #[derive(Clone, Copy)]
 pub(crate) struct Spans {
-    used: [bool; 53],
-    /// Above all of them.
-    end: u8,
-    ghost few: { end ≤ 53 },
+    used: u64,
+    ghost few: { used < 2 ^ 53 },
 }
 
 impl Spans {
@@ -15,26 +13,31 @@ impl Spans {
 
     /// No spans, for caches that never had a block.
     pub(crate) fn none() -> Spans {
-        Spans {
-            used: [false; 53],
-            end: 0,
-        }
+        Spans { used: 0 }
     }
 
     /// Returns a number above all of them, at most 53.
     pub(crate) fn end(&self) -> u8
-        ensures value { result ≡ self.now.end }
+        ensures above { (n : ℕ) → IsSpanOf self.now n → n < result }
         ensures few { result ≤ 53 }
     {
-        self.end
+        (64 - self.used.leading_zeros()) as u8
     }
 
     /// Whether a block of this span was put in.
     pub(crate) fn has(&self, span: u8) -> bool
         requires { span < 53 }
-        ensures { result ≡ slice_index_or self.now.used span false }
+        ensures { result ≡ (self.now.used / 2 ^ span % 2 == 1) }
     {
-        self.used[span as usize]
+        (self.used >> span) % 2 == 1
+    }
+
+    /// Returns those of a mask of spans that are among them.
+    pub(crate) fn among(&self, spans: u64) -> u64
+        ensures value { result ≡ bit_and spans self.now.used }
+        ensures few { result < 2 ^ 53 }
+    {
+        spans & self.used
     }
 
     /// Adds the span of a block that is put in.
@@ -43,9 +46,6 @@ impl Spans {
         ensures added { IsSpanOf self.new span }
         ensures kept { (n : ℕ) → IsSpanOf self.old n → IsSpanOf self.new n }
     {
-        self.used[span as usize] = true;
-        if self.end <= span {
-            self.end = span + 1;
-        }
+        self.used |= 1 << span;
     }
 }
