@@ -1,6 +1,6 @@
 -- A unit that serves a queue in memory that its owner may write meanwhile: what a judgement and an acknowledgement do.
-use Rattle.std.specs.Prelude.{◌≡◌, ◌≢◌, ◌≤◌, ◌+◌, ◌↔◌, ◌⊎◌, ⊤, ℕ, Bool, true, false, not, cond, List, ◌++◌, Option, None, IsSome, Result, Err}
-use Rattle.std.specs.Option.{is_some, match_option}
+use Rattle.std.specs.Prelude.{◌≡◌, ◌≢◌, ◌≤◌, ◌+◌, ◌↔◌, ◌⊎◌, ⊤, ℕ, Bool, true, false, not, cond, List, ◌++◌, Option, None, Some, IsSome, Result, Err}
+use Rattle.std.specs.Option.{is_some}
 use Rattle.cmdcodec.specs.declared.raw.Raw.{Raw}
 use Rattle.ringcore.specs.Limits.{most_reserved}
 use Rattle.caches.specs.Stored.{Stored}
@@ -36,8 +36,12 @@ abbrev pub IsStoppedQueue : QueueUnit → Type 0
 IsStoppedQueue q = IsSome q.found ⊎ IsStopped q.unit.stop.mode
 
 -- SMMU_CMDQ_CONS.ERR
+abbrev pub err_with : Option QueueError → ℕ → ℕ
+err_with None err = err
+err_with (Some error) err = error_number error
+
 abbrev pub queue_err_of : QueueUnit → ℕ
-queue_err_of q = match_option q.found (err_of q.unit.stop.mode) error_number
+queue_err_of q = err_with q.found (err_of q.unit.stop.mode)
 
 -- the other way round, if so
 abbrev pub turned_if : Bool → Bool → Bool

@@ -1,4 +1,4 @@
-use Rattle.std.proofs.Common.{inl, inr, refl, rules, tests, sym, ap, subst, ◌∙◌}
+use Rattle.std.proofs.Common.{false, inl, inr, rules, tests, sym, ap, subst, ◌∙◌}
 use Rattle.engine.specs.declared.queue_unit.QueueUnit.{QueueUnit}
 use Rattle.engine.specs.Stops.{MayComeNext}
 use Rattle.engine.specs.Units.{UnitValue, HasJudgedWords, StaysSettled, took_words, took_awaited}
@@ -28,7 +28,7 @@ returns-clause-ok c =
                   settled_both old between new (took_awaited awaited) (took_words c.args.raw judgement) (one_more awaited old between w.replace_awaited.ensures.replaced)
                   w.replace_awaited.ensures.settled settled;
             });
-            decided = refl;
+            rest_is = ap (λ (q : QueueUnit). record q { unit = new; rereads = false }) w.self-is;
           }
       | in_default+else-taken-ge-MOST_RESERVED-2 w ↦
           let stands = ap (λ (q : QueueUnit). q.unit) w.self-is in
@@ -42,6 +42,6 @@ returns-clause-ok c =
               judged = subst (λ (u : UnitValue). HasJudgedWords c.args.raw u new judgement) stands c.judge_words.ensures.judged;
               settled = subst (λ (u : UnitValue). StaysSettled u new (took_words c.args.raw judgement)) stands c.judge_words.ensures.settled;
             });
-            decided = refl;
+            rest_is = ap (λ (q : QueueUnit). record q { unit = new; rereads = false }) w.self-is;
           }
     ]
