@@ -1,5 +1,5 @@
 -- A unit that serves a queue in memory that its owner may write meanwhile: what a judgement and an acknowledgement do.
-use Rattle.std.specs.Prelude.{◌≡◌, ◌≢◌, ◌≤◌, ◌+◌, ◌↔◌, ◌⊎◌, ⊤, ℕ, Bool, true, false, not, cond, List, ◌++◌, Option, None, Some, IsSome, Result, Err}
+use Rattle.std.specs.Prelude.{◌≡◌, ◌≢◌, ◌≤◌, ◌+◌, ◌↔◌, ◌⊎◌, ⊤, ℕ, Bool, true, false, not, cond, ◌++◌, Option, None, Some, IsSome, Result, Err}
 use Rattle.std.specs.Option.{is_some}
 use Rattle.cmdcodec.specs.declared.raw.Raw.{Raw}
 use Rattle.ringcore.specs.Limits.{most_reserved}

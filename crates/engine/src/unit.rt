@@ -6,7 +6,8 @@ ghost use Rattle.cmdcodec.specs.declared.ill.Ill.{Ill as IllOf};
 ghost use Rattle.cmdcodec.specs.Legality.{first_ill};
 ghost use Rattle.ringcore.specs.Limits.{most_reserved};
 ghost use Rattle.ringcore.specs.world.World.{Taken};
-ghost use Rattle.caches.specs.Held.{held};
+ghost use Rattle.caches.specs.Finding.{IsFound};
+ghost use Rattle.caches.specs.Held.{held, AreOwn};
 ghost use Rattle.caches.specs.Stored.{IsFillAnswer, IsListAnswer};
 ghost use Rattle.engine.specs.Settled.{IsSettled};
 ghost use Rattle.engine.specs.Stops.{IsStopped, MayComeNext, IsAcknowledgementAnswer, IsActive, told, err_of, word_of};
@@ -17,8 +18,8 @@ use crate::counts::Counts;
 use crate::remedy::{AckFault, Remedy};
 use crate::stop::Stop;
 use crate::verdict::{Judgement, Verdict};
-use caches::{CacheFault, Caches, Entry, Tag, TagTest, uncovered_entries_stay};
-use cmdcodec::{Command, Raw, decode, first_ill, legal_words_spell_one_command};
+use caches::{AddressSpace, CacheFault, Caches, Entry, Tag, TagTest, uncovered_entries_stay};
+use cmdcodec::{Command, Page, Raw, decode, first_ill, legal_words_spell_one_command};
 use ring::Device;
 use std::marker::Model;
 
@@ -302,6 +303,22 @@ impl Unit {
         ensures own { IfSome result (λ entry. entry.tag ≡ tag.now) }
     {
         self.caches.lookup(tag)
+    }
+
+    /// Returns the entry that holds a page of an address space, at the greatest span of the mask that has one, as
+    /// `Caches::find` does.
+    pub fn find(&self, space: &AddressSpace, page: Page, spans: u64) -> Option<Entry>
+        ensures found { IsFound self.now.caches.entries space.now page spans result }
+        ensures own { IfSome result (λ entry. finite.get self.now.caches.entries entry.tag ≡ Some entry) }
+    {
+        self.caches.find(space, page, spans)
+    }
+
+    /// A witness that each entry is held under its own tag. It does nothing.
+    pub fn are_own(&self)
+        ensures { AreOwn self.now.caches.entries }
+    {
+        self.caches.are_own();
     }
 
     /// Returns the number of entries held.

@@ -18,16 +18,19 @@ returns-clause-ok c =
           let judged = subst (λ (u : UnitValue). HasJudgedWords c.args.raw u new judgement) stands c.judge_words.ensures.judged in
           let settled = subst (λ (u : UnitValue). StaysSettled u new (took_words c.args.raw judgement)) stands c.judge_words.ensures.settled in
           record {
-            judged = inr (w.if-not-self.false, record {
-              others = λ comes. differs awaited c.args.raw w.ne.result w.ne.ensures w.if-ne.true (sym (comes awaited (sym c.awaited.ensures ∙ w.in-Some.is)));
-              awaited = awaited;
-              between = between;
-              replaced = w.replace_awaited.ensures.replaced;
-              judged = judged;
-              settled =
-                  settled_both old between new (took_awaited awaited) (took_words c.args.raw judgement) (one_more awaited old between w.replace_awaited.ensures.replaced)
-                  w.replace_awaited.ensures.settled settled;
-            });
+            judged = inr (
+              w.if-not-self.false,
+              record {
+                others = λ comes. differs awaited c.args.raw w.ne.result w.ne.ensures w.if-ne.true (sym (comes awaited (sym c.awaited.ensures ∙ w.in-Some.is)));
+                awaited = awaited;
+                between = between;
+                replaced = w.replace_awaited.ensures.replaced;
+                judged = judged;
+                settled =
+                    settled_both old between new (took_awaited awaited) (took_words c.args.raw judgement) (one_more awaited old between w.replace_awaited.ensures.replaced)
+                    w.replace_awaited.ensures.settled settled;
+              },
+            );
             rest_is = ap (λ (q : QueueUnit). record q { unit = new; rereads = false }) w.self-is;
           }
       | in_default+else-taken-ge-MOST_RESERVED-2 w ↦
