@@ -10,6 +10,8 @@ mod engine_caller;
 #[cfg(test)]
 mod first_hour;
 #[cfg(test)]
+mod queue_unit_tests;
+#[cfg(test)]
 mod row_tests;
 #[cfg(test)]
 mod thread_tests;
