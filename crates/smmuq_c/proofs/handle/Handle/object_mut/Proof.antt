@@ -1,5 +1,5 @@
 -- `object_mut` tests the pointer, and lends what it leads to. The handle follows it.
-use Rattle.std.proofs.Common.{◌≡◌, ℕ, List, [], ◌∷◌, refl, sym, ap, subst, lit<}
+use Rattle.std.proofs.Common.{◌≡◌, ℕ, List, [], ◌∷◌, refl, lit<}
 use seplogic.Ra.Ura.{Ura}
 use mir.Raw.{raw as bare}
 use mir.Syntax.{Body, cond, named}
@@ -7,9 +7,9 @@ use mir.Val.{Val, vptr, vcons, vnil}
 use base.Fraction.{full_share}
 use base.Logic.{SProp, ent, sep, id⊢}
 use base.Fml.{Fml, GName, ftrue, fsep, flft, fres}
-use prog.Wp.{Wp, WpFn, after_seq, at_return}
+use prog.Wp.{Wp, after_seq, at_return}
 use types.Logic.{Logic, sem}
-use types.Kit.{‵, raw, ◌⊛◌, some, later, at_ret, any_q, ◌$◌, ◌∵◌, !, qed, move, keep, drop, use0, use1, split, split3, join, group, pick, await, rewrite, fsplit, fsplit3, fjoin, fpack, suffices, frame, done}
+use types.Kit.{‵, raw, ◌⊛◌, some, later, at_ret, any_q, ◌$◌, ◌∵◌, !, qed, move, keep, use0, use1, split, split3, join, group, pick, await, rewrite, fsplit, fsplit3, fjoin, fpack, suffices, frame, done}
 use types.Part.{whole, sub, look_in, agg}
 use types.Match.{live}
 use types.Run.{stop, fld, load, lit, bin, addr, no_more, and_then, of_opd, first, blocks, branches, exec, returns, enter}
@@ -20,7 +20,7 @@ use denote.Follow.{follows, follows_by, Part, lends_Part}
 use denote.Memory.{lone, mem, cell_at, part_at, part_of}
 use denote.Param.{layout}
 use denote.RattleType.{RattleType}
-use denote.RawPtr.{Ptr, block_ptr, null_ptr, ptr_val, tests_null, Testable}
+use denote.RawPtr.{block_ptr, null_ptr, ptr_val, tests_null, Testable}
 use denote.Ref.{MutRef, MutBor, mut_vals, mut_Tells}
 use denote.Signature.{plain, mut_ref_to}
 use denote.Steps.{nothing, opens, closes}
