@@ -1,5 +1,5 @@
 -- A handle's parts own what a box of the object owns, and a handle owns that or nothing. Assumes `Logic`.
-use Rattle.std.proofs.Common.{◌≡◌, ℕ, List, [], ◌∷◌, ◌++◌, refl, subst}
+use Rattle.std.proofs.Common.{◌≡◌, ℕ, List, [], ◌∷◌, ◌++◌, refl, sym, ap, subst}
 use seplogic.Ra.Ura.{Ura}
 use mir.Syntax.{impl, tnil, dnil}
 use mir.Raw.{raw as bare}
@@ -8,13 +8,17 @@ use base.Fraction.{full_share}
 use base.Fml.{ftrue}
 use base.Logic.{ent, via, guard, guard_i, snd∗, never_e}
 use types.Logic.{Logic, sem}
-use types.Kit.{Item, Goal, Seq, ‵, given, ◌$◌, move, drop, fsplit, fpick, feq_l, use1, learn}
+use types.Kit.{Item, Goal, Seq, Step, step, ‵, given, ◌$◌, move, drop, rewrite, fsplit, fjoin, fpick, fpack, feq_l, feq_i, use1, learn}
 use contract.Monad.{fact_use}
 use denote.Memory.{lone}
 use denote.Param.{layout}
-use denote.RattleType.{RattleType}
+use denote.Builtin.{RawPtr}
+use denote.RattleType.{RattleType, Valss}
 use denote.RawPtr.{Ptr, block_ptr, null_ptr, ptr_val, lies_at, Testable}
 use denote.Signature.{Slot, plain}
+use denote.Steps.{nothing}
+use denote.Struct.Struct.{within}
+use denote.Struct.Owning.{shape, to}
 use Rattle.core.specs.declared.option.Option.{Option}
 use Rattle.core.specs.declared.option.Option.TheVariants.{None, Some}
 use Rattle.core.proofs.alloc.Calls.{handle_tells}
@@ -64,8 +68,8 @@ module _ {M : Type 1} {𝓤 : Ura M} {𝓛 : Logic 𝓤} {K : Type 0} {Γ : List
 module _ {M : Type 1} {𝓤 : Ura M} {𝓛 : Logic 𝓤} {K : Type 0} {Γ : List (Item 𝓤)} {G : Goal 𝓤 𝓛.H} where
   -- a handle by value is [the box's memory, if its pointer isn't null; the allocator]
   pub handle_out : K → (d : Handle.the_row.Denot) (vs : List Val)
-      → ((h : Val) → d.object ≡ None → vs ≡ both (ptr_val null_ptr) h ∷ [] → Good (layout Heap.the_row) h → Seq K 𝓛 (‵ (Heap.the_row.own_val d.alloc (h ∷ [])) ∷ Γ) G)
-      → ((b o : ℕ) (x : Object.the_row.Denot) (h : Val) → d.object ≡ Some x → Testable (block_ptr b o) → vs ≡ both (vptr b o) h ∷ [] → Good (layout Heap.the_row) h
+      → ((h : Val) → d.at ≡ null_ptr → d.object ≡ None → vs ≡ both (ptr_val null_ptr) h ∷ [] → Good (layout Heap.the_row) h → Seq K 𝓛 (‵ (Heap.the_row.own_val d.alloc (h ∷ [])) ∷ Γ) G)
+      → ((b o : ℕ) (x : Object.the_row.Denot) (h : Val) → d.at ≡ block_ptr b o → d.object ≡ Some x → Testable (block_ptr b o) → vs ≡ both (vptr b o) h ∷ [] → Good (layout Heap.the_row) h
       → Seq K 𝓛 (‵ (boxed d.alloc (block_ptr b o) x) ∷ ‵ (Heap.the_row.own_val d.alloc (h ∷ [])) ∷ Γ) G)
       → Seq K 𝓛 (‵ (Handle.the_row.own_val d vs) ∷ Γ) G
   handle_out t d vs none one =
@@ -73,5 +77,13 @@ module _ {M : Type 1} {𝓤 : Ura M} {𝓛 : Logic 𝓤} {K : Type 0} {Γ : List
       let at : vs ≡ vstruct (of_list (ptr_val d.at ∷ h ∷ [])) ∷ [] =
       subst (λ (ws : List Val). vs ≡ vstruct (of_list (ptr_val d.at ∷ (ws ++ []))) ∷ []) ea (subst (λ (ps : List Val). vs ≡ vstruct (of_list (ps ++ (vss.1.0 ++ []))) ∷ []) ep ev) in
       either_kept t d.alloc d.at d.object
-      (λ e m. none h m (subst (λ (p : Ptr). vs ≡ vstruct (of_list (ptr_val p ∷ h ∷ [])) ∷ []) e at) fits)
-      (λ b o x e m tst. one b o x h m tst (subst (λ (p : Ptr). vs ≡ vstruct (of_list (ptr_val p ∷ h ∷ [])) ∷ []) e at) fits)))))
+      (λ e m. none h e m (subst (λ (p : Ptr). vs ≡ vstruct (of_list (ptr_val p ∷ h ∷ [])) ∷ []) e at) fits)
+      (λ b o x e m tst. one b o x h e m tst (subst (λ (p : Ptr). vs ≡ vstruct (of_list (ptr_val p ∷ h ∷ [])) ∷ []) e at) fits)))))
+
+  -- the same backwards
+  pub handle_in : K → {h : Val} (d : Handle.the_row.Denot) (p : Ptr) (m : Option Object.the_row.Denot) → d.at ≡ p → d.object ≡ m
+      → Step K 𝓛 (‵ (Handle.the_row.own_val d (both (ptr_val p) h ∷ [])) ∷ Γ) G (‵ (kept d.alloc p m) ∷ ‵ (Heap.the_row.own_val d.alloc (h ∷ [])) ∷ Γ) G
+  handle_in t {h} d p m e f = step (λ s. let w : Val = both (ptr_val p) h in
+      rewrite t 0 (λ (n : Option Object.the_row.Denot). ‵ (kept d.alloc p n)) (sym f) refl $ rewrite t 0 (λ (r : Ptr). ‵ (kept d.alloc r d.object)) (sym e) refl $
+      nothing t $ move t (2 ∷ 0 ∷ []) $ fjoin t $ feq_i t (List Val) (ptr_val p ∷ []) (ptr_val d.at ∷ []) (ap (λ (r : Ptr). ptr_val r ∷ []) (sym e)) $ fjoin t $ feq_i t (List Val) (w ∷ []) (w ∷ []) refl $ fjoin t $
+      fpack t (Valss (RawPtr ∷ (Heap.the_field).row ∷ [])) (within (shape Handle.the_type) (to Handle.the_type d) (w ∷ [])) (ptr_val p ∷ [], (h ∷ [], tt)) $ fjoin t $ s)

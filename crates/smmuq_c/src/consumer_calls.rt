@@ -4,18 +4,16 @@ ghost use Rattle.smmuq_c.specs.Calls.{HasCalled, OfConsumer};
 ghost use Rattle.smmuq_c.specs.Taking.{HasTakenRun, HasCompletedFor};
 ghost use Rattle.smmuq_c.specs.Kept.{is_consumer, KeptOfOthers};
 
-use crate::handle::{Handle, put, take};
+use crate::handle::Handle;
 use crate::object::Object;
 use crate::status::Status;
 use cmdcodec::Raw;
-use std::alloc::Global;
 
 /// Writes the commands that are ready from the ring's head on, as many as the buffer has room for, up to 64, and their
 /// number. They stay in the ring until they are completed, and the next take finds them again. `SHORT_BUFFER` if there
 /// is no room; `RING_EMPTY`, `RING_DRAINED` or `RING_UNWRITTEN` if no command is ready.
 #[unsafe(no_mangle)]
 pub extern "C" fn smmuq_take_run(
-    alloc: Global,
     consumer: &mut Handle,
     buffer: &mut [Raw],
     count: &mut usize,
@@ -24,12 +22,10 @@ pub extern "C" fn smmuq_take_run(
     ensures buffer { KeptOfOthers is_consumer consumer.old.object buffer.old buffer.new }
     ensures count { KeptOfOthers is_consumer consumer.old.object count.old count.new }
 {
-    let Some(mut object) = take(alloc, consumer) else {
+    let Some(object) = consumer.object_mut() else {
         return Status::EmptyHandle.number();
     };
-    let status = take_run(object.as_mut(), buffer, count);
-    put(consumer, object);
-    status.number()
+    take_run(object, buffer, count).number()
 }
 
 fn take_run(object: &mut Object, buffer: &mut [Raw], count: &mut usize) -> Status
@@ -49,15 +45,13 @@ fn take_run(object: &mut Object, buffer: &mut [Raw], count: &mut usize) -> Statu
 /// single illegal one, which had none; 1 to 4 if one of several is illegal, `BAD_FIELD` if `count` is 0 or more than
 /// were told: then none is completed.
 #[unsafe(no_mangle)]
-pub extern "C" fn smmuq_complete(alloc: Global, consumer: &mut Handle, count: usize) -> u32
+pub extern "C" fn smmuq_complete(consumer: &mut Handle, count: usize) -> u32
     ensures { HasCalled (OfConsumer (HasCompletedFor count)) consumer.old.object consumer.new.object result }
 {
-    let Some(mut object) = take(alloc, consumer) else {
+    let Some(object) = consumer.object_mut() else {
         return Status::EmptyHandle.number();
     };
-    let status = complete(object.as_mut(), count);
-    put(consumer, object);
-    status.number()
+    complete(object, count).number()
 }
 
 fn complete(object: &mut Object, count: usize) -> Status

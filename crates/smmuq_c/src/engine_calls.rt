@@ -4,31 +4,23 @@ ghost use Rattle.smmuq_c.specs.Calls.{HasCalled, OfEngine};
 ghost use Rattle.smmuq_c.specs.Runs.{HasRunFor, HasToldRegisters};
 ghost use Rattle.smmuq_c.specs.Kept.{is_engine, IsKept, KeptOfOthers, KeptUnlessDone};
 
-use crate::handle::{Handle, put, take};
+use crate::handle::Handle;
 use crate::object::Object;
 use crate::status::Status;
 use crate::words::{RegisterWords, RunWords};
-use std::alloc::Global;
 
 /// Takes up to `most` commands, cut to 1 to 64, and applies them: 0 if some were applied, 1 to 4 if the engine stopped
 /// at one, `REPLACED` if one was taken without effect; `RING_EMPTY`, `RING_DRAINED`, `RING_UNWRITTEN`, `STILL_STOPPED`
 /// or `EXHAUSTED` if none was taken.
 #[unsafe(no_mangle)]
-pub extern "C" fn smmuq_run(
-    alloc: Global,
-    engine: &mut Handle,
-    most: u32,
-    answer: &mut RunWords,
-) -> u32
+pub extern "C" fn smmuq_run(engine: &mut Handle, most: u32, answer: &mut RunWords) -> u32
     ensures called { HasCalled (OfEngine (HasRunFor most answer.new)) engine.old.object engine.new.object result }
     ensures kept { KeptOfOthers is_engine engine.old.object answer.old answer.new }
 {
-    let Some(mut object) = take(alloc, engine) else {
+    let Some(object) = engine.object_mut() else {
         return Status::EmptyHandle.number();
     };
-    let status = run(object.as_mut(), most, answer);
-    put(engine, object);
-    status.number()
+    run(object, most, answer).number()
 }
 
 fn run(object: &mut Object, most: u32, answer: &mut RunWords) -> Status
@@ -44,20 +36,14 @@ fn run(object: &mut Object, most: u32, answer: &mut RunWords) -> Status
 
 /// Tells the queue's registers at this moment.
 #[unsafe(no_mangle)]
-pub extern "C" fn smmuq_registers(
-    alloc: Global,
-    engine: &mut Handle,
-    told: &mut RegisterWords,
-) -> u32
+pub extern "C" fn smmuq_registers(engine: &mut Handle, told: &mut RegisterWords) -> u32
     ensures called { HasCalled (OfEngine (HasToldRegisters told.new)) engine.old.object engine.new.object result }
     ensures kept { KeptUnlessDone result told.old told.new }
 {
-    let Some(mut object) = take(alloc, engine) else {
+    let Some(object) = engine.object_mut() else {
         return Status::EmptyHandle.number();
     };
-    let status = tell_registers(object.as_mut(), told);
-    put(engine, object);
-    status.number()
+    tell_registers(object, told).number()
 }
 
 fn tell_registers(object: &mut Object, told: &mut RegisterWords) -> Status

@@ -4,26 +4,23 @@ ghost use Rattle.smmuq_c.specs.Entries.{HasFilled, HasEvicted, HasLookedUp};
 ghost use Rattle.smmuq_c.specs.Tags.{IsTagOf};
 ghost use Rattle.smmuq_c.specs.Kept.{IsKept, KeptUnlessDone};
 
-use crate::handle::{Handle, put, take};
+use crate::handle::Handle;
 use crate::object::Object;
 use crate::status::Status;
 use crate::tags::{TagWords, tag_of};
 use crate::words::Held;
-use std::alloc::Global;
 
 /// Puts an entry, born now, into the caches of a unit or an engine. `BAD_FIELD` if the tag isn't one; C2, C1 or C3 as
 /// for `Caches::fill`.
 #[unsafe(no_mangle)]
-pub extern "C" fn smmuq_fill(alloc: Global, handle: &mut Handle, tag: &TagWords, value: u64) -> u32
+pub extern "C" fn smmuq_fill(handle: &mut Handle, tag: &TagWords, value: u64) -> u32
     ensures { HasCalled (OfSaid (IsTagOf tag.now) (λ t. HasFilled t value)) handle.old.object handle.new.object result }
 {
-    let Some(mut object) = take(alloc, handle) else {
+    let Some(object) = handle.object_mut() else {
         return Status::EmptyHandle.number();
     };
     let tag = TagWords::read(tag);
-    let status = fill(object.as_mut(), &tag, value);
-    put(handle, object);
-    status.number()
+    fill(object, &tag, value).number()
 }
 
 fn fill(object: &mut Object, tag: &TagWords, value: u64) -> Status
@@ -44,22 +41,15 @@ fn fill(object: &mut Object, tag: &TagWords, value: u64) -> Status
 
 /// Tells what a unit or an engine holds under a tag. `NOT_HELD` if it holds nothing, `BAD_FIELD` if the tag isn't one.
 #[unsafe(no_mangle)]
-pub extern "C" fn smmuq_lookup(
-    alloc: Global,
-    handle: &mut Handle,
-    tag: &TagWords,
-    held: &mut Held,
-) -> u32
+pub extern "C" fn smmuq_lookup(handle: &mut Handle, tag: &TagWords, held: &mut Held) -> u32
     ensures called { HasCalled (OfSaid (IsTagOf tag.now) (λ t. HasLookedUp t held.new)) handle.old.object handle.new.object result }
     ensures kept { KeptUnlessDone result held.old held.new }
 {
-    let Some(object) = take(alloc, handle) else {
+    let Some(object) = handle.object_mut() else {
         return Status::EmptyHandle.number();
     };
     let tag = TagWords::read(tag);
-    let status = lookup(object.as_ref(), &tag, held);
-    put(handle, object);
-    status.number()
+    lookup(object, &tag, held).number()
 }
 
 fn lookup(object: &Object, tag: &TagWords, held: &mut Held) -> Status
@@ -82,22 +72,15 @@ fn lookup(object: &Object, tag: &TagWords, held: &mut Held) -> Status
 /// Removes what a unit or an engine holds under a tag, and tells it. `NOT_HELD` if it holds nothing, `BAD_FIELD` if the
 /// tag isn't one.
 #[unsafe(no_mangle)]
-pub extern "C" fn smmuq_evict(
-    alloc: Global,
-    handle: &mut Handle,
-    tag: &TagWords,
-    held: &mut Held,
-) -> u32
+pub extern "C" fn smmuq_evict(handle: &mut Handle, tag: &TagWords, held: &mut Held) -> u32
     ensures called { HasCalled (OfSaid (IsTagOf tag.now) (λ t. HasEvicted t held.new)) handle.old.object handle.new.object result }
     ensures kept { KeptUnlessDone result held.old held.new }
 {
-    let Some(mut object) = take(alloc, handle) else {
+    let Some(object) = handle.object_mut() else {
         return Status::EmptyHandle.number();
     };
     let tag = TagWords::read(tag);
-    let status = evict(object.as_mut(), &tag, held);
-    put(handle, object);
-    status.number()
+    evict(object, &tag, held).number()
 }
 
 fn evict(object: &mut Object, tag: &TagWords, held: &mut Held) -> Status

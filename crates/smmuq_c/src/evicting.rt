@@ -4,12 +4,11 @@ ghost use Rattle.smmuq_c.specs.Calls.{HasCalled, OfSaid};
 ghost use Rattle.smmuq_c.specs.Evicting.{AreKindsOf, HasEvictedAll};
 ghost use Rattle.smmuq_c.specs.Kept.{IsKept, KeptUnlessDone};
 
-use crate::handle::{Handle, put, take};
+use crate::handle::Handle;
 use crate::object::Object;
 use crate::status::Status;
 use crate::tags::TagWords;
 use caches::{Tag, TagTest};
-use std::alloc::Global;
 
 /// Kinds of tags: bit `kind - 1` of the mask for each.
 #[derive(Clone, Copy)]
@@ -45,21 +44,14 @@ impl TagTest for Kinds {
 /// of `kinds` stands for each of the kinds 1 to 6: 0x3f evicts all entries, 0 none. `BAD_FIELD` if another bit is set:
 /// then nothing changed. Takes no memory for that.
 #[unsafe(no_mangle)]
-pub extern "C" fn smmuq_evict_all(
-    alloc: Global,
-    handle: &mut Handle,
-    kinds: u32,
-    count: &mut usize,
-) -> u32
+pub extern "C" fn smmuq_evict_all(handle: &mut Handle, kinds: u32, count: &mut usize) -> u32
     ensures called { HasCalled (OfSaid (AreKindsOf kinds) (λ k. HasEvictedAll k count.new)) handle.old.object handle.new.object result }
     ensures kept { KeptUnlessDone result count.old count.new }
 {
-    let Some(mut object) = take(alloc, handle) else {
+    let Some(object) = handle.object_mut() else {
         return Status::EmptyHandle.number();
     };
-    let status = evict_all(object.as_mut(), kinds, count);
-    put(handle, object);
-    status.number()
+    evict_all(object, kinds, count).number()
 }
 
 fn evict_all(object: &mut Object, kinds: u32, count: &mut usize) -> Status

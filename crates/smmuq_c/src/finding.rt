@@ -7,7 +7,7 @@ ghost use Rattle.smmuq_c.specs.Lists.{tag_words};
 ghost use Rattle.smmuq_c.specs.Finding.{IsOwnerOf, block_at, own_tag, shared_tag, NoneAt, IsHeldAt, IsFound, HasFound, entries_of, IsSubstreamOf};
 ghost use Rattle.smmuq_c.specs.Kept.{IsKept, KeptUnlessDone};
 
-use crate::handle::{Handle, put, take};
+use crate::handle::Handle;
 use crate::object::Object;
 use crate::status::Status;
 use crate::tags::TagWords;
@@ -215,7 +215,6 @@ struct Sought {
 /// or with `space` 0xffffffff what has none. `NOT_HELD` if none is held, `BAD_FIELD` if the words say no owner.
 #[unsafe(no_mangle)]
 pub extern "C" fn smmuq_find(
-    alloc: Global,
     handle: &mut Handle,
     kind: u32,
     owner: u32,
@@ -229,7 +228,7 @@ pub extern "C" fn smmuq_find(
     ensures tag { KeptUnlessDone result tag.old tag.new }
     ensures held { KeptUnlessDone result held.old held.new }
 {
-    let Some(object) = take(alloc, handle) else {
+    let Some(object) = handle.object_mut() else {
         return Status::EmptyHandle.number();
     };
     let sought = Sought {
@@ -239,9 +238,7 @@ pub extern "C" fn smmuq_find(
         address,
         spans,
     };
-    let status = find(object.as_ref(), sought, tag, held);
-    put(handle, object);
-    status.number()
+    find(object, sought, tag, held).number()
 }
 
 fn find(object: &Object, sought: Sought, tag: &mut TagWords, held: &mut Held) -> Status

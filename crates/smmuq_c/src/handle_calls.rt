@@ -3,7 +3,7 @@ ghost use Rattle.std.specs.Prelude.{◌≡◌};
 ghost use Rattle.smmuq_c.specs.Calls.{Answers};
 ghost use Rattle.smmuq_c.specs.Kinds.{kind_in, kind_of, is_reservation, HasFreed};
 
-use crate::handle::{Handle, put, take};
+use crate::handle::{Handle, clear};
 use crate::object::Object;
 use crate::status::Status;
 use std::alloc::Global;
@@ -14,14 +14,13 @@ use std::alloc::Global;
 pub extern "C" fn smmuq_free(alloc: Global, handle: &mut Handle) -> u32
     ensures { Answers (HasFreed handle.old.object handle.new.object) result }
 {
-    let Some(object) = take(alloc, handle) else {
+    let Some(object) = handle.object_mut() else {
         return Status::Done.number();
     };
-    if is_reservation(object.as_ref()) {
-        put(handle, object);
+    if is_reservation(object) {
         return Status::OpenReservation.number();
     }
-    drop(object);
+    clear(alloc, handle);
     Status::Done.number()
 }
 
@@ -33,16 +32,14 @@ fn is_reservation(object: &Object) -> bool
 
 /// Returns 0 for an empty handle, 1 for a unit, 2 for a sender, 3 for an engine, 4 for a consumer.
 #[unsafe(no_mangle)]
-pub extern "C" fn smmuq_kind(alloc: Global, handle: &mut Handle) -> u32
+pub extern "C" fn smmuq_kind(handle: &mut Handle) -> u32
     ensures kind { result ≡ kind_in handle.old.object }
     ensures same { handle.new.object ≡ handle.old.object }
 {
-    let Some(object) = take(alloc, handle) else {
+    let Some(object) = handle.object_mut() else {
         return 0;
     };
-    let kind = kind_of(object.as_ref());
-    put(handle, object);
-    kind
+    kind_of(object)
 }
 
 fn kind_of(object: &Object) -> u32

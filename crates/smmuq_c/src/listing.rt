@@ -6,7 +6,7 @@ ghost use Rattle.smmuq_c.specs.Calls.{HasCalled, OfAnyUnit};
 ghost use Rattle.smmuq_c.specs.Lists.{tag_words, listed, HasListed, with_scope, with_substream};
 ghost use Rattle.smmuq_c.specs.Kept.{CountKept, IsCountKept, IsKept, KeptUnlessDone};
 
-use crate::handle::{Handle, put, take};
+use crate::handle::Handle;
 use crate::object::Object;
 use crate::status::Status;
 use crate::tags::TagWords;
@@ -166,7 +166,6 @@ fn write_entries(entries: &[Entry], buffer: &mut [EntryWords])
 /// is too short, the number of entries is told all the same; C3 if memory ran out.
 #[unsafe(no_mangle)]
 pub extern "C" fn smmuq_entries(
-    alloc: Global,
     handle: &mut Handle,
     buffer: &mut [EntryWords],
     count: &mut usize,
@@ -175,12 +174,10 @@ pub extern "C" fn smmuq_entries(
     ensures buffer { KeptUnlessDone result buffer.old buffer.new }
     ensures count { CountKept result count.old count.new }
 {
-    let Some(object) = take(alloc, handle) else {
+    let Some(object) = handle.object_mut() else {
         return Status::EmptyHandle.number();
     };
-    let status = list(object.as_ref(), buffer, count);
-    put(handle, object);
-    status.number()
+    list(object, buffer, count).number()
 }
 
 fn list(object: &Object, buffer: &mut [EntryWords], count: &mut usize) -> Status

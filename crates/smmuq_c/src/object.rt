@@ -26,6 +26,13 @@ pub(crate) fn objects_may_cross_threads(object: &Object) {
     may_cross_threads(object);
 }
 
+fn may_be_read_at_once<T: Sync>(_value: &T) {}
+
+/// Shows that several threads may read a unit at the same time. It does nothing.
+pub(crate) fn units_may_be_read_at_once(unit: &HeldUnit) {
+    may_be_read_at_once(unit);
+}
+
 impl Object {
     /// Whether it is a unit, or an engine, which has one.
     pub(crate) fn has_unit(&self) -> bool

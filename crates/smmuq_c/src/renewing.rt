@@ -3,7 +3,7 @@ ghost use Rattle.std.specs.Prelude.{◌≡◌, ◌⊎◌};
 ghost use Rattle.smmuq_c.specs.Calls.{HasCalled, OfEngine};
 ghost use Rattle.smmuq_c.specs.Renewing.{HasRenewed};
 
-use crate::handle::{Handle, put, take};
+use crate::handle::Handle;
 use crate::object::Object;
 use crate::status::Status;
 use renewal::Sizes;
@@ -30,12 +30,10 @@ pub extern "C" fn smmuq_renew(
         max_batches,
         capacity,
     };
-    let Some(mut object) = take(alloc, engine) else {
+    let Some(object) = engine.object_mut() else {
         return Status::EmptyHandle.number();
     };
-    let status = renew(alloc, object.as_mut(), sizes, senders);
-    put(engine, object);
-    status.number()
+    renew(alloc, object, sizes, senders).number()
 }
 
 fn renew(alloc: Global, object: &mut Object, sizes: Sizes, senders: &mut [Handle]) -> Status

@@ -5,26 +5,23 @@ ghost use Rattle.smmuq_c.specs.Calls.{HasCalled};
 ghost use Rattle.smmuq_c.specs.Reserving.{HasReserved, HasPublished};
 ghost use Rattle.smmuq_c.specs.Kept.{KeptUnlessDone};
 
-use crate::handle::{Handle, put, take};
+use crate::handle::Handle;
 use crate::object::Object;
 use crate::status::Status;
 use cmdcodec::Raw;
 use core::mem::replace_with;
-use std::alloc::Global;
 
 /// Reserves the slots of a batch of 1 to 63 commands and its closing CMD_SYNC, in one try, and keeps the commands:
 /// nothing of it is written until it is published. B5, B1 or B2 if the commands are no batch; Q1 to Q5;
 /// `OPEN_RESERVATION` if the sender has one already.
 #[unsafe(no_mangle)]
-pub extern "C" fn smmuq_reserve(alloc: Global, sender: &mut Handle, commands: &[Raw]) -> u32
+pub extern "C" fn smmuq_reserve(sender: &mut Handle, commands: &[Raw]) -> u32
     ensures { HasCalled (HasReserved commands.now) sender.old.object sender.new.object result }
 {
-    let Some(mut object) = take(alloc, sender) else {
+    let Some(object) = sender.object_mut() else {
         return Status::EmptyHandle.number();
     };
-    let status = replace_with(object.as_mut(), commands, reserve);
-    put(sender, object);
-    status.number()
+    replace_with(object, commands, reserve).number()
 }
 
 fn reserve(object: Object, commands: &[Raw]) -> (Object, Status)
@@ -43,15 +40,14 @@ fn reserve(object: Object, commands: &[Raw]) -> (Object, Status)
 /// Writes and publishes what the sender reserved, and tells the number of its CMD_SYNC. `NO_RESERVATION` if nothing is
 /// reserved.
 #[unsafe(no_mangle)]
-pub extern "C" fn smmuq_publish(alloc: Global, sender: &mut Handle, number: &mut u32) -> u32
+pub extern "C" fn smmuq_publish(sender: &mut Handle, number: &mut u32) -> u32
     ensures called { HasCalled (HasPublished number.new) sender.old.object sender.new.object result }
     ensures kept { KeptUnlessDone result number.old number.new }
 {
-    let Some(mut object) = take(alloc, sender) else {
+    let Some(object) = sender.object_mut() else {
         return Status::EmptyHandle.number();
     };
-    let published = replace_with(object.as_mut(), (), publish);
-    put(sender, object);
+    let published = replace_with(object, (), publish);
     match published {
         Ok(told) => {
             *number = told;

@@ -3,19 +3,17 @@ ghost use Rattle.smmuq_c.specs.Calls.{HasCalled, OfSender};
 ghost use Rattle.smmuq_c.specs.Sends.{HasSent, HasSentBare, HasTold, HasToldLeft, HasClosed, HasLookedFor};
 ghost use Rattle.smmuq_c.specs.Kept.{IsKept, KeptUnlessDone};
 
-use crate::handle::{Handle, put, take};
+use crate::handle::Handle;
 use crate::object::Object;
 use crate::status::Status;
 use crate::words::ControlWords;
 use cmdcodec::Raw;
-use std::alloc::Global;
 
 /// Sends a batch of 1 to 63 commands with its closing CMD_SYNC, and tells the number of that. If the ring has too
 /// little room or another came first it tries again, up to `tries` times in all, 0 meaning 1. B5, B1 or B2 if the
 /// commands are no batch; Q1 to Q5 for the last try. Then nothing was reserved.
 #[unsafe(no_mangle)]
 pub extern "C" fn smmuq_send(
-    alloc: Global,
     sender: &mut Handle,
     commands: &[Raw],
     tries: u32,
@@ -24,12 +22,10 @@ pub extern "C" fn smmuq_send(
     ensures called { HasCalled (OfSender (HasSent commands.now tries number.new)) sender.old.object sender.new.object result }
     ensures kept { KeptUnlessDone result number.old number.new }
 {
-    let Some(mut object) = take(alloc, sender) else {
+    let Some(object) = sender.object_mut() else {
         return Status::EmptyHandle.number();
     };
-    let status = send(object.as_mut(), commands, tries, number);
-    put(sender, object);
-    status.number()
+    send(object, commands, tries, number).number()
 }
 
 fn send(object: &mut Object, commands: &[Raw], tries: u32, number: &mut u32) -> Status
@@ -45,20 +41,13 @@ fn send(object: &mut Object, commands: &[Raw], tries: u32, number: &mut u32) -> 
 
 /// The same without a CMD_SYNC.
 #[unsafe(no_mangle)]
-pub extern "C" fn smmuq_send_bare(
-    alloc: Global,
-    sender: &mut Handle,
-    commands: &[Raw],
-    tries: u32,
-) -> u32
+pub extern "C" fn smmuq_send_bare(sender: &mut Handle, commands: &[Raw], tries: u32) -> u32
     ensures { HasCalled (OfSender (HasSentBare commands.now tries)) sender.old.object sender.new.object result }
 {
-    let Some(mut object) = take(alloc, sender) else {
+    let Some(object) = sender.object_mut() else {
         return Status::EmptyHandle.number();
     };
-    let status = send_bare(object.as_mut(), commands, tries);
-    put(sender, object);
-    status.number()
+    send_bare(object, commands, tries).number()
 }
 
 fn send_bare(object: &mut Object, commands: &[Raw], tries: u32) -> Status
@@ -73,16 +62,14 @@ fn send_bare(object: &mut Object, commands: &[Raw], tries: u32) -> Status
 
 /// Tells the number of the sender's last CMD_SYNC that completed, or 0 if none did.
 #[unsafe(no_mangle)]
-pub extern "C" fn smmuq_done_up_to(alloc: Global, sender: &mut Handle, number: &mut u32) -> u32
+pub extern "C" fn smmuq_done_up_to(sender: &mut Handle, number: &mut u32) -> u32
     ensures called { HasCalled (OfSender (HasTold number.new)) sender.old.object sender.new.object result }
     ensures kept { KeptUnlessDone result number.old number.new }
 {
-    let Some(mut object) = take(alloc, sender) else {
+    let Some(object) = sender.object_mut() else {
         return Status::EmptyHandle.number();
     };
-    let status = done_up_to(object.as_mut(), number);
-    put(sender, object);
-    status.number()
+    done_up_to(object, number).number()
 }
 
 fn done_up_to(object: &mut Object, number: &mut u32) -> Status
@@ -98,16 +85,14 @@ fn done_up_to(object: &mut Object, number: &mut u32) -> Status
 
 /// Tells how many batches the sender may still reserve, with a CMD_SYNC or without. After the last, the answer is Q5.
 #[unsafe(no_mangle)]
-pub extern "C" fn smmuq_left(alloc: Global, sender: &mut Handle, batches: &mut u32) -> u32
+pub extern "C" fn smmuq_left(sender: &mut Handle, batches: &mut u32) -> u32
     ensures called { HasCalled (OfSender (HasToldLeft batches.new)) sender.old.object sender.new.object result }
     ensures kept { KeptUnlessDone result batches.old batches.new }
 {
-    let Some(mut object) = take(alloc, sender) else {
+    let Some(object) = sender.object_mut() else {
         return Status::EmptyHandle.number();
     };
-    let status = left(object.as_mut(), batches);
-    put(sender, object);
-    status.number()
+    left(object, batches).number()
 }
 
 fn left(object: &mut Object, batches: &mut u32) -> Status
@@ -123,15 +108,13 @@ fn left(object: &mut Object, batches: &mut u32) -> Status
 
 /// Closes the ring: nothing more is reserved, by any sender.
 #[unsafe(no_mangle)]
-pub extern "C" fn smmuq_close(alloc: Global, sender: &mut Handle) -> u32
+pub extern "C" fn smmuq_close(sender: &mut Handle) -> u32
     ensures { HasCalled (OfSender HasClosed) sender.old.object sender.new.object result }
 {
-    let Some(mut object) = take(alloc, sender) else {
+    let Some(object) = sender.object_mut() else {
         return Status::EmptyHandle.number();
     };
-    let status = close(object.as_mut());
-    put(sender, object);
-    status.number()
+    close(object).number()
 }
 
 fn close(object: &mut Object) -> Status
@@ -146,16 +129,14 @@ fn close(object: &mut Object) -> Status
 
 /// Tells SMMU_CMDQ_PROD and SMMU_CMDQ_CONS.RD at this moment, and whether the ring is closed.
 #[unsafe(no_mangle)]
-pub extern "C" fn smmuq_look(alloc: Global, sender: &mut Handle, told: &mut ControlWords) -> u32
+pub extern "C" fn smmuq_look(sender: &mut Handle, told: &mut ControlWords) -> u32
     ensures called { HasCalled (OfSender (HasLookedFor told.new)) sender.old.object sender.new.object result }
     ensures kept { KeptUnlessDone result told.old told.new }
 {
-    let Some(mut object) = take(alloc, sender) else {
+    let Some(object) = sender.object_mut() else {
         return Status::EmptyHandle.number();
     };
-    let status = look(object.as_mut(), told);
-    put(sender, object);
-    status.number()
+    look(object, told).number()
 }
 
 fn look(object: &mut Object, told: &mut ControlWords) -> Status

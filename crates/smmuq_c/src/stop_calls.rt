@@ -3,31 +3,23 @@ ghost use Rattle.smmuq_c.specs.Calls.{HasCalled, OfAnyUnit, OfStop, BySaid};
 ghost use Rattle.smmuq_c.specs.Registers.{IsRemedyOf, HasToldState};
 ghost use Rattle.smmuq_c.specs.Kept.{IsKept, KeptUnlessDone};
 
-use crate::handle::{Handle, put, take};
+use crate::handle::Handle;
 use crate::object::Object;
 use crate::status::Status;
 use crate::stop_remedy::StopRemedy;
 use crate::words::{Errors, Tallies};
-use std::alloc::Global;
 
 /// Writes SMMU_GERRORN, as software. `remedy` 0 has the illegal command come again, 1 has it replaced, 2 leaves that to
 /// the words that come next: the same ones come again, and others replace it. For an engine 2 is 0. G1 if no error is
 /// active, G2 if CMDQ_ERR of the word isn't that of SMMU_GERROR, `BAD_FIELD` if the remedy isn't one.
 #[unsafe(no_mangle)]
-pub extern "C" fn smmuq_acknowledge(
-    alloc: Global,
-    handle: &mut Handle,
-    gerrorn: u32,
-    remedy: u32,
-) -> u32
+pub extern "C" fn smmuq_acknowledge(handle: &mut Handle, gerrorn: u32, remedy: u32) -> u32
     ensures { HasCalled (BySaid (IsRemedyOf remedy) (OfStop gerrorn)) handle.old.object handle.new.object result }
 {
-    let Some(mut object) = take(alloc, handle) else {
+    let Some(object) = handle.object_mut() else {
         return Status::EmptyHandle.number();
     };
-    let status = acknowledge(object.as_mut(), gerrorn, remedy);
-    put(handle, object);
-    status.number()
+    acknowledge(object, gerrorn, remedy).number()
 }
 
 fn remedy_of(number: u32) -> Option<StopRemedy>
@@ -60,7 +52,6 @@ fn acknowledge(object: &mut Object, gerrorn: u32, remedy: u32) -> Status
 /// Tells the error registers and the counts of a unit or an engine.
 #[unsafe(no_mangle)]
 pub extern "C" fn smmuq_state(
-    alloc: Global,
     handle: &mut Handle,
     errors: &mut Errors,
     tallies: &mut Tallies,
@@ -69,12 +60,10 @@ pub extern "C" fn smmuq_state(
     ensures errors { KeptUnlessDone result errors.old errors.new }
     ensures tallies { KeptUnlessDone result tallies.old tallies.new }
 {
-    let Some(object) = take(alloc, handle) else {
+    let Some(object) = handle.object_mut() else {
         return Status::EmptyHandle.number();
     };
-    let status = tell_state(object.as_ref(), errors, tallies);
-    put(handle, object);
-    status.number()
+    tell_state(object, errors, tallies).number()
 }
 
 fn tell_state(object: &Object, errors: &mut Errors, tallies: &mut Tallies) -> Status
