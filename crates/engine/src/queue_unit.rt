@@ -28,8 +28,8 @@ pub enum StopRemedy {
 }
 
 impl StopRemedy {
-    /// How the unit stands until the next words come.
-    fn until_then(self) -> Remedy
+    /// Returns how a unit stands until the next words come. In a ring nobody writes over them, so there that is all.
+    pub fn until_then(self) -> Remedy
         ensures { result ≡ remedy_until_then self }
     {
         match self {
