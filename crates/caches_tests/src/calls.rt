@@ -59,12 +59,13 @@ fn evict(alloc: Global, caches: &mut Caches, text: &str) -> Option<String> {
     told(alloc, caches.evict(&tag))
 }
 
-fn find(alloc: Global, caches: &Caches, text: &str) -> Option<String> {
-    let Some(sought) = sought(text) else {
+/// Returns what is found by a text of an address space, a page and a mask of spans.
+pub fn found(caches: &Caches, text: &str) -> Option<Entry> {
+    let Some(asked) = sought(text) else {
         return None;
     };
-    let found = caches.find(&sought.space, sought.page, sought.spans);
-    told(alloc, found)
+    let page = asked.page;
+    caches.find(&asked.space, page, asked.spans)
 }
 
 /// Returns the answer to a call, which its first word names.
@@ -75,7 +76,7 @@ fn answer(alloc: Global, caches: &mut Caches, call: &str) -> Option<String> {
         "apply" => apply(alloc, caches, text),
         "lookup" => lookup(alloc, caches, text),
         "evict" => evict(alloc, caches, text),
-        "find" => find(alloc, caches, text),
+        "find" => told(alloc, found(caches, text)),
         "len" => caches.len().to_string(alloc).ok(),
         _ => None,
     }

@@ -1,7 +1,7 @@
 //! Look-ups by address. In a mask of spans 0x1 stands for single pages, 0x200 for blocks of 512 pages, and 0x40000 for
 //! blocks of 512 times 512.
-use crate::calls::{caches_of, expect_answers, expect_filled};
-use crate::notation::{entry, sought};
+use crate::calls::{caches_of, expect_answers, found};
+use crate::notation::entry;
 
 #[test]
 fn own_entries_come_before_global_ones(rt: HostRuntime) {
@@ -78,10 +78,8 @@ fn evicted_entries_are_not_found(rt: HostRuntime) {
 #[test]
 fn whole_entries_are_told(rt: HostRuntime) {
     let mut caches = caches_of(&rt, 8);
-    let all = entry("el2 g 0 52 7 3").expect(&rt, "an entry");
-    expect_filled(&rt, &mut caches, all);
-    let last = sought("el2 1 0xfffffffffffff 0x10000000000000").expect(&rt, "words");
-    let found = caches.find(&last.space, last.page, last.spans);
-    assert!(rt; found == Some(all));
+    expect_answers(&rt, &mut caches, "fill el2 g 0 52 7 3 = filled");
+    let last = found(&caches, "el2 1 0xfffffffffffff 0x10000000000000");
+    assert!(rt; last == entry("el2 g 0 52 7 3"));
     caches.are_own();
 }

@@ -133,16 +133,16 @@ fn next_space(words: &mut SplitWhitespace<'_>) -> Option<AddressSpace> {
 
 /// What is looked up by address.
 #[derive(Clone, Copy)]
-pub struct Sought {
+pub struct Asked {
     pub space: AddressSpace,
     pub page: Page,
     pub spans: u64,
 }
 
 /// Parses a text as what is looked up.
-pub fn sought(text: &str) -> Option<Sought> {
+pub fn sought(text: &str) -> Option<Asked> {
     let mut words = text.split_whitespace();
-    Some(Sought {
+    Some(Asked {
         space: next_space(&mut words)?,
         page: Page::new(next_number(&mut words)?)?,
         spans: next_number(&mut words)?,
