@@ -162,7 +162,8 @@ impl EntryMap {
 
     /// Removes all entries. Takes no memory.
     pub(crate) fn clear(&mut self)
-        ensures { self.new ≡ finite.empty }
+        ensures after { self.new ≡ finite.empty }
+        ensures len { finite.len self.new ≡ 0 }
     {
         self.removed.clear();
         self.map.clear();

@@ -1,5 +1,5 @@
 //! Texts of calls of caches, one a line, each with its answer after ` = `.
-use crate::notation::{command, entry, next_entry, tag};
+use crate::notation::{command, entry, next_entry, sought, tag};
 use caches::{Caches, Entry};
 use std::alloc::Global;
 use std::process::Abort;
@@ -59,6 +59,15 @@ fn evict(alloc: Global, caches: &mut Caches, text: &str) -> Option<String> {
     told(alloc, caches.evict(&tag))
 }
 
+/// Returns what is found by a text of an address space, a page and a mask of spans.
+pub fn found(caches: &Caches, text: &str) -> Option<Entry> {
+    let Some(asked) = sought(text) else {
+        return None;
+    };
+    let page = asked.page;
+    caches.find(&asked.space, page, asked.spans)
+}
+
 /// Returns the answer to a call, which its first word names.
 fn answer(alloc: Global, caches: &mut Caches, call: &str) -> Option<String> {
     let (name, text) = call.split_once(" ").unwrap_or((call, ""));
@@ -67,6 +76,7 @@ fn answer(alloc: Global, caches: &mut Caches, call: &str) -> Option<String> {
         "apply" => apply(alloc, caches, text),
         "lookup" => lookup(alloc, caches, text),
         "evict" => evict(alloc, caches, text),
+        "find" => told(alloc, found(caches, text)),
         "len" => caches.len().to_string(alloc).ok(),
         _ => None,
     }

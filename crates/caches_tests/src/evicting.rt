@@ -1,6 +1,8 @@
 //! Entries that are evicted together.
-use crate::calls::{caches_of, expect_answers};
-use caches::Kind;
+use crate::calls::{caches_of, expect_answers, lists};
+use caches::{Caches, Kind, Kinds, OfMachine, OfStream};
+use cmdcodec::{Sid, Vmid};
+use std::process::Abort;
 
 #[test]
 fn entries_of_a_kind_make_room(rt: HostRuntime) {
@@ -25,4 +27,76 @@ fn entries_of_a_kind_make_room(rt: HostRuntime) {
          lookup s2 1 0x10 0 = value=8 born=3\n\
          fill ste 8 9 4 = filled",
     );
+}
+
+/// Caches that hold an entry of each kind, and one more of each owner.
+fn caches_of_each_kind<R: AllocGlobal + Abort>(rt: &R) -> Caches {
+    let mut caches = caches_of(rt, 16);
+    expect_answers(
+        rt,
+        &mut caches,
+        "fill ste 5 7 3 = filled\n\
+         fill ste 6 7 3 = filled\n\
+         fill cd 5 1 7 3 = filled\n\
+         fill s1 1 2 8 0 7 3 = filled\n\
+         fill s1 1 g 8 0 7 3 = filled\n\
+         fill s1 5 2 8 0 7 3 = filled\n\
+         fill s2 1 8 0 7 3 = filled\n\
+         fill el2 2 8 0 7 3 = filled\n\
+         fill atc 1 1 8 0 7 3 = filled\n\
+         fill atc 5 - 8 0 7 3 = filled\n\
+         fill atc 5 1 8 0 7 3 = filled",
+    );
+    caches
+}
+
+#[test]
+fn sets_have_the_kinds_that_were_put_in(rt: HostRuntime) {
+    let kinds = Kinds::NONE.with(Kind::Cd).with(Kind::S2);
+    assert!(rt; kinds.has(Kind::Cd));
+    assert!(rt; kinds.has(Kind::S2));
+    assert!(rt; !kinds.has(Kind::Ste));
+    assert!(rt; !kinds.has(Kind::Atc));
+}
+
+#[test]
+fn entries_of_some_kinds_are_evicted(rt: HostRuntime) {
+    let mut caches = caches_of_each_kind(&rt);
+    assert_eq!(rt; caches.evict_all(&Kinds::NONE), 0);
+    let kinds = Kinds::NONE.with(Kind::Ste).with(Kind::S1).with(Kind::Atc);
+    assert_eq!(rt; caches.evict_all(&kinds), 8);
+    let left = "cd 5 1 7 3\ns2 1 8 0 7 3\nel2 2 8 0 7 3";
+    assert!(rt; lists(&caches, left));
+    assert_eq!(rt; caches.evict_all(&Kinds::ALL), 3);
+}
+
+#[test]
+fn what_is_held_of_a_stream_is_evicted(rt: HostRuntime) {
+    let mut caches = caches_of_each_kind(&rt);
+    let stream = OfStream(Sid::new(5).expect(&rt, "32 bits"));
+    assert_eq!(rt; caches.evict_all(&stream), 4);
+    let left = "ste 6 7 3\n\
+                s1 1 g 8 0 7 3\n\
+                s1 1 2 8 0 7 3\n\
+                s1 5 2 8 0 7 3\n\
+                s2 1 8 0 7 3\n\
+                el2 2 8 0 7 3\n\
+                atc 1 1 8 0 7 3";
+    assert!(rt; lists(&caches, left));
+}
+
+#[test]
+fn what_is_held_of_a_machine_is_evicted(rt: HostRuntime) {
+    let mut caches = caches_of_each_kind(&rt);
+    let machine = OfMachine(Vmid::new(1).expect(&rt, "16 bits"));
+    assert_eq!(rt; caches.evict_all(&machine), 3);
+    let left = "ste 5 7 3\n\
+                ste 6 7 3\n\
+                cd 5 1 7 3\n\
+                s1 5 2 8 0 7 3\n\
+                el2 2 8 0 7 3\n\
+                atc 1 1 8 0 7 3\n\
+                atc 5 - 8 0 7 3\n\
+                atc 5 1 8 0 7 3";
+    assert!(rt; lists(&caches, left));
 }

@@ -9,9 +9,13 @@ mod calls;
 #[cfg(test)]
 mod capacity;
 #[cfg(test)]
+mod clearing;
+#[cfg(test)]
 mod coverage;
 #[cfg(test)]
 mod evicting;
+#[cfg(test)]
+mod finding;
 #[cfg(test)]
 mod listing;
 #[cfg(test)]

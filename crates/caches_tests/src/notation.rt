@@ -3,7 +3,10 @@
 //! A tag is one of `ste SID`, `cd SID SSID`, `s1 VMID SCOPE PAGE SPAN`, `s2 VMID PAGE SPAN`,
 //! `el2 SCOPE PAGE SPAN` and `atc SID SSID PAGE SPAN`, where SCOPE is an ASID or `g` for all address spaces, and
 //! the SSID of an `atc` may be `-` for none. An entry is a tag, its value and its birth.
-use caches::{Entry, Scope, Tag};
+//!
+//! An address space is one of `s1 VMID ASID`, `s2 VMID`, `el2 ASID` and `atc SID SSID`. What is looked up is an address
+//! space, a page and a mask of spans.
+use caches::{AddressSpace, Entry, Scope, Tag};
 use cmdcodec::{Asid, Command, Page, Raw, Sid, Ssid, Vmid, decode, text};
 use std::alloc::Global;
 use std::str::SplitWhitespace;
@@ -104,6 +107,46 @@ fn next_tag(words: &mut SplitWhitespace<'_>) -> Option<Tag> {
         "atc" => next_atc(words),
         _ => None,
     }
+}
+
+fn next_space(words: &mut SplitWhitespace<'_>) -> Option<AddressSpace> {
+    match words.next()? {
+        "s1" => {
+            let vmid = next_vmid(words)?;
+            let asid = Asid::new(next_number(words)?)?;
+            Some(AddressSpace::S1 { vmid, asid })
+        }
+        "s2" => Some(AddressSpace::S2 {
+            vmid: next_vmid(words)?,
+        }),
+        "el2" => Some(AddressSpace::El2 {
+            asid: Asid::new(next_number(words)?)?,
+        }),
+        "atc" => {
+            let sid = next_sid(words)?;
+            let ssid = next_substream(words)?;
+            Some(AddressSpace::Atc { sid, ssid })
+        }
+        _ => None,
+    }
+}
+
+/// What is looked up by address.
+#[derive(Clone, Copy)]
+pub struct Asked {
+    pub space: AddressSpace,
+    pub page: Page,
+    pub spans: u64,
+}
+
+/// Parses a text as what is looked up.
+pub fn sought(text: &str) -> Option<Asked> {
+    let mut words = text.split_whitespace();
+    Some(Asked {
+        space: next_space(&mut words)?,
+        page: Page::new(next_number(&mut words)?)?,
+        spans: next_number(&mut words)?,
+    })
 }
 
 /// Parses a text as a tag.
