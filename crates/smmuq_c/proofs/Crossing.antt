@@ -8,14 +8,14 @@ use Rattle.caches.proofs.Crossing.{caches_send}
 use Rattle.ring.proofs.Crossing.{consumer_send, ring_sync}
 use Rattle.ring.specs.contracts.ring.Ring as Ring
 use Rattle.engine.proofs.Crossing.{engine_send}
-use Rattle.smmuq_c.specs.contracts.held_unit.HeldUnit as HeldUnit
+use Rattle.engine.specs.contracts.queue_unit.QueueUnit as QueueUnit
 use Rattle.smmuq_c.specs.contracts.seated_sender.SeatedSender as SeatedSender
 use Rattle.smmuq_c.specs.contracts.seated_reservation.SeatedReservation as SeatedReservation
 use Rattle.smmuq_c.specs.contracts.seated_engine.SeatedEngine as SeatedEngine
 use Rattle.smmuq_c.specs.contracts.seated_consumer.SeatedConsumer as SeatedConsumer
 use Rattle.smmuq_c.specs.contracts.object.Object as Object
 
-pub unit_send : IsSend HeldUnit.the_row
+pub unit_send : IsSend QueueUnit.the_row
 unit_send = search (sendable, crosses, caches_send) depth 60 fits 100000
 
 pub ring_send : IsSend Ring.the_row
@@ -34,4 +34,4 @@ pub taker_send : IsSend SeatedConsumer.the_row
 taker_send = search (sendable, crosses, send, sync, consumer_send, seat_send, ring_send, ring_sync) depth 60 fits 100000
 
 pub object_send : IsSend Object.the_row
-object_send = search (sendable, unit_send, sender_send, reservation_send, seated_send, taker_send) depth 20
+object_send = search (sendable, unit_send, sender_send, reservation_send, seated_send, taker_send) depth 60 fits 100000

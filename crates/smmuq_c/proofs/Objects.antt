@@ -4,21 +4,26 @@ use Rattle.ringcore.specs.world.Trails.{Trail}
 use Rattle.ring.specs.consumer.Completing.{taken_of}
 use Rattle.ring.specs.sender.Senders.{SenderValue}
 use Rattle.engine.specs.declared.remedy.Remedy.{Remedy}
+use Rattle.engine.specs.declared.queue_unit.QueueUnit.{QueueUnit}
+use Rattle.engine.specs.declared.queue_unit.StopRemedy.{StopRemedy}
+use Rattle.engine.specs.QueueUnits.{remedy_until_then}
 use Rattle.engine.specs.Settled.{IsSettled}
 use Rattle.engine.specs.Units.{UnitValue, StaysSettled}
 use Rattle.engine.specs.Engines.{EngineValue}
-use Rattle.smmuq_c.specs.HeldUnits.{HeldValue}
 use Rattle.smmuq_c.specs.HeldConsumers.{HeldConsumer}
 use Rattle.smmuq_c.specs.declared.status.Status.{Status}
 use Rattle.smmuq_c.specs.declared.status.Status.TheVariants.{WrongHandle, BadField}
-use Rattle.smmuq_c.specs.declared.stop_remedy.StopRemedy.{StopRemedy}
 use Rattle.smmuq_c.specs.declared.object.Object.{Object}
 use Rattle.smmuq_c.specs.declared.object.Object.TheVariants.{Unit as UnitOf, Sender as SenderOf, Reservation as ReservationOf, Engine as EngineOf, Consumer as ConsumerOf}
-use Rattle.smmuq_c.specs.Registers.{HasAcknowledged, HasAcknowledgedHeld, IsRemedyOf, remedy_for}
-use Rattle.smmuq_c.specs.Kept.{has_unit}
+use Rattle.smmuq_c.specs.Registers.{HasAcknowledged, HasAcknowledgedQueue, IsRemedyOf}
+use Rattle.smmuq_c.specs.Kept.{has_unit, unit_in, IsSettledObject}
+use Rattle.smmuq_c.proofs.Unchanged.{stays}
 use Rattle.smmuq_c.specs.Calls.{OfUnit, OfSender, OfEngine, OfConsumer, OfAnyUnit, OfStop, BySaid, OfSaid}
 
-pub of_unit : (does : HeldValue → HeldValue → Status → Type 0) {object : Object} {old new : HeldValue} {status : Status}
+same_unit : (a b : UnitValue) → Some a ≡ Some b → a ≡ b
+same_unit a b is = cc
+
+pub of_unit : (does : QueueUnit → QueueUnit → Status → Type 0) {object : Object} {old new : QueueUnit} {status : Status}
     → object ≡ UnitOf old → does old new status → OfUnit does object (UnitOf new) status
 of_unit does {object} {old} {new} {status} is done = subst (λ (o : Object). OfUnit does o (UnitOf new) status) (sym is) (new, refl, done)
 
@@ -34,7 +39,7 @@ pub of_consumer : (does : HeldConsumer → HeldConsumer → Status → Type 0) {
     → object ≡ ConsumerOf old → does old new status → OfConsumer does object (ConsumerOf new) status
 of_consumer does {object} {old} {new} {status} is done = subst (λ (o : Object). OfConsumer does o (ConsumerOf new) status) (sym is) (new, refl, done)
 
-pub any_unit : (does : UnitValue → UnitValue → Status → Type 0) {object : Object} {old new : HeldValue} {status : Status}
+pub any_unit : (does : UnitValue → UnitValue → Status → Type 0) {object : Object} {old new : QueueUnit} {status : Status}
     → object ≡ UnitOf old → new ≡ record old { unit = new.unit } → StaysSettled old.unit new.unit [] → does old.unit new.unit status
     → OfAnyUnit does object (UnitOf new) status
 any_unit does {object} {old} {new} {status} is same settled done =
@@ -49,7 +54,7 @@ any_engine does {object} {old} {new} {status} is same settled done =
 
 -- ---- by what its words say
 
-pub said_unit : {X : Type 0} (said : Option X → Type 0) (does : X → UnitValue → UnitValue → Status → Type 0) {object : Object} {old new : HeldValue} {status : Status} (x : X)
+pub said_unit : {X : Type 0} (said : Option X → Type 0) (does : X → UnitValue → UnitValue → Status → Type 0) {object : Object} {old new : QueueUnit} {status : Status} (x : X)
     → said (Some x) → object ≡ UnitOf old → new ≡ record old { unit = new.unit } → StaysSettled old.unit new.unit []
     → does x old.unit new.unit status → OfSaid said does object (UnitOf new) status
 said_unit said does {object} {old} {new} {status} x says is same settled done =
@@ -81,43 +86,58 @@ unsaid said does (ConsumerOf c) has none = absurd (true≢false (sym has))
 
 -- ---- a stop that is acknowledged
 
-pub stop_of_unit : {number gerrorn : ℕ} {object : Object} {old new : HeldValue} {status : Status} (remedy : StopRemedy)
-    → IsRemedyOf number (Some remedy) → object ≡ UnitOf old → StaysSettled old.unit new.unit [] → HasAcknowledgedHeld gerrorn remedy old new status
+pub stop_of_unit : {number gerrorn : ℕ} {object : Object} {old new : QueueUnit} {status : Status} (remedy : StopRemedy)
+    → IsRemedyOf number (Some remedy) → object ≡ UnitOf old → StaysSettled old.unit new.unit [] → HasAcknowledgedQueue gerrorn remedy old new status
     → BySaid (IsRemedyOf number) (OfStop gerrorn) object (UnitOf new) status
 stop_of_unit {number} {gerrorn} {object} {old} {new} {status} remedy says is settled done =
     subst (λ (o : Object). BySaid (IsRemedyOf number) (OfStop gerrorn) o (UnitOf new) status) (sym is) (Some remedy, says, (new, refl, settled, done))
 
 pub stop_of_engine : {number gerrorn : ℕ} {object : Object} {old new : EngineValue} {status : Status} (remedy : StopRemedy) {told : Remedy}
-    → IsRemedyOf number (Some remedy) → told ≡ remedy_for remedy → object ≡ EngineOf old → new ≡ record old { unit = new.unit }
+    → IsRemedyOf number (Some remedy) → told ≡ remedy_until_then remedy → object ≡ EngineOf old → new ≡ record old { unit = new.unit }
     → IsSettled new.unit.caches.entries (taken_of new.consumer.trail) → HasAcknowledged gerrorn told old.unit new.unit status
     → BySaid (IsRemedyOf number) (OfStop gerrorn) object (EngineOf new) status
 stop_of_engine {number} {gerrorn} {object} {old} {new} {status} remedy says which is same settled done =
     subst (λ (o : Object). BySaid (IsRemedyOf number) (OfStop gerrorn) o (EngineOf new) status) (sym is) (
       Some remedy,
       says,
-      any_engine (HasAcknowledged gerrorn (remedy_for remedy)) refl same settled (subst (λ (r : Remedy). HasAcknowledged gerrorn r old.unit new.unit status) which done),
+      any_engine (HasAcknowledged gerrorn (remedy_until_then remedy)) refl same settled (subst (λ (r : Remedy). HasAcknowledged gerrorn r old.unit new.unit status) which done),
     )
 
 -- ---- if nothing is changed
 
-pub read_unit : (does : UnitValue → UnitValue → Status → Type 0) {object : Object} {held : HeldValue} {status : Status}
-    → object ≡ UnitOf held → StaysSettled held.unit held.unit [] → does held.unit held.unit status → OfAnyUnit does object object status
-read_unit does {object} {held} {status} is settled done =
-    subst (λ (o : Object). OfAnyUnit does o o status) (sym is) (held.unit, refl, settled, done)
+pub read_unit : (does : UnitValue → UnitValue → Status → Type 0) (object : Object) (unit : UnitValue) {status : Status}
+    → unit_in object ≡ Some unit → IsSettledObject object → does unit unit status → OfAnyUnit does object object status
+read_unit does (UnitOf q) unit {status} is settled done = (q.unit, refl, stays q.unit, subst (λ (u : UnitValue). does u u status) (sym (same_unit q.unit unit is)) done)
+read_unit does (SenderOf s) unit is settled done = absurd (cc)
+read_unit does (ReservationOf r) unit is settled done = absurd (cc)
+read_unit does (EngineOf e) unit {status} is settled done = (e.unit, refl, settled, subst (λ (u : UnitValue). does u u status) (sym (same_unit e.unit unit is)) done)
+read_unit does (ConsumerOf c) unit is settled done = absurd (cc)
 
-pub read_engine : (does : UnitValue → UnitValue → Status → Type 0) {object : Object} {engine : EngineValue} {status : Status}
-    → object ≡ EngineOf engine → IsSettled engine.unit.caches.entries (taken_of engine.consumer.trail)
-    → does engine.unit engine.unit status → OfAnyUnit does object object status
-read_engine does {object} {engine} {status} is settled done =
-    subst (λ (o : Object). OfAnyUnit does o o status) (sym is) (engine.unit, refl, settled, done)
+-- one without a unit is of another kind
+pub read_of_another : (does : UnitValue → UnitValue → Status → Type 0) (object : Object) → has_unit object ≡ false → OfAnyUnit does object object WrongHandle
+read_of_another does (UnitOf q) none = absurd (true≢false none)
+read_of_another does (SenderOf s) none = (refl, refl)
+read_of_another does (ReservationOf r) none = (refl, refl)
+read_of_another does (EngineOf e) none = absurd (true≢false none)
+read_of_another does (ConsumerOf c) none = (refl, refl)
 
-pub said_read_unit : {X : Type 0} (said : Option X → Type 0) (does : X → UnitValue → UnitValue → Status → Type 0) {object : Object} {held : HeldValue} {status : Status} (x : X)
-    → said (Some x) → object ≡ UnitOf held → StaysSettled held.unit held.unit [] → does x held.unit held.unit status → OfSaid said does object object status
-said_read_unit said does {object} {held} {status} x says is settled done =
-    subst (λ (o : Object). OfSaid said does o o status) (sym is) (Some x, says, read_unit (does x) refl settled done)
+pub has_one : (object : Object) (unit : UnitValue) → unit_in object ≡ Some unit → has_unit object ≡ true
+has_one (UnitOf q) unit is = refl
+has_one (SenderOf s) unit is = absurd (cc)
+has_one (ReservationOf r) unit is = absurd (cc)
+has_one (EngineOf e) unit is = refl
+has_one (ConsumerOf c) unit is = absurd (cc)
 
-pub said_read_engine : {X : Type 0} (said : Option X → Type 0) (does : X → UnitValue → UnitValue → Status → Type 0) {object : Object} {engine : EngineValue} {status : Status} (x : X)
-    → said (Some x) → object ≡ EngineOf engine → IsSettled engine.unit.caches.entries (taken_of engine.consumer.trail)
-    → does x engine.unit engine.unit status → OfSaid said does object object status
-said_read_engine said does {object} {engine} {status} x says is settled done =
-    subst (λ (o : Object). OfSaid said does o o status) (sym is) (Some x, says, read_engine (does x) refl settled done)
+-- what is done to a unit or an engine by what words say
+pub said_any : {X : Type 0} (said : Option X → Type 0) (does : X → UnitValue → UnitValue → Status → Type 0) (object new : Object) (status : Status) (x : X)
+    → has_unit object ≡ true → said (Some x) → OfAnyUnit (does x) object new status → OfSaid said does object new status
+said_any said does (UnitOf q) new status x has says done = (Some x, says, done)
+said_any said does (SenderOf s) new status x has says done = absurd (true≢false (sym has))
+said_any said does (ReservationOf r) new status x has says done = absurd (true≢false (sym has))
+said_any said does (EngineOf e) new status x has says done = (Some x, says, done)
+said_any said does (ConsumerOf c) new status x has says done = absurd (true≢false (sym has))
+
+pub said_read : {X : Type 0} (said : Option X → Type 0) (does : X → UnitValue → UnitValue → Status → Type 0) (object : Object) (unit : UnitValue) (status : Status) (x : X)
+    → unit_in object ≡ Some unit → IsSettledObject object → said (Some x) → does x unit unit status → OfSaid said does object object status
+said_read said does object unit status x is settled says done =
+    said_any said does object object status x (has_one object unit is) says (read_unit (does x) object unit is settled done)

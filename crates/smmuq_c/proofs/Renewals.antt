@@ -6,6 +6,7 @@ use Rattle.ring.specs.Rings.{RingValue}
 use Rattle.ring.specs.NewRings.{IsNewRing}
 use Rattle.ring.specs.sender.Senders.{SenderValue}
 use Rattle.ring.specs.consumer.Completing.{taken_of}
+use Rattle.caches.specs.Held.{AreOwn}
 use Rattle.engine.specs.Settled.{IsSettled}
 use Rattle.engine.specs.Units.{UnitValue}
 use Rattle.engine.specs.Engines.{EngineValue}
@@ -16,7 +17,6 @@ use Rattle.smmuq_c.specs.declared.object.Object.{Object}
 use Rattle.smmuq_c.specs.declared.object.Object.TheVariants.{Sender as SenderOf, Engine as EngineOf}
 use Rattle.smmuq_c.specs.declared.handle.Handle.{Handle}
 use Rattle.smmuq_c.specs.MakingRings.{objects_in}
-use Rattle.smmuq_c.specs.Own.{AreOwn}
 use Rattle.smmuq_c.specs.Renewing.{IsRenewed}
 
 -- What is carried is what the engine held before its look.

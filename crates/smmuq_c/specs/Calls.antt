@@ -4,14 +4,17 @@ use Rattle.ring.specs.sender.Senders.{SenderValue}
 use Rattle.ring.specs.consumer.Completing.{taken_of}
 use Rattle.engine.specs.Settled.{IsSettled}
 use Rattle.engine.specs.Units.{UnitValue, StaysSettled}
-use Rattle.engine.specs.Engines.{EngineValue}
-use Rattle.smmuq_c.specs.HeldUnits.{HeldValue}
+use Rattle.engine.specs.declared.queue_unit.QueueUnit.{QueueUnit}
+use Rattle.engine.specs.declared.queue_unit.StopRemedy.{StopRemedy}
+use Rattle.engine.specs.QueueUnits.{remedy_until_then}
+use Rattle.engine.specs.Engines.{EngineValue, IsSettledEngine}
 use Rattle.smmuq_c.specs.HeldConsumers.{HeldConsumer}
-use Rattle.smmuq_c.specs.Registers.{HasAcknowledged, HasAcknowledgedHeld, remedy_for}
+use Rattle.smmuq_c.specs.Registers.{HasAcknowledged, HasAcknowledgedQueue, error_words, queue_error_words, count_words}
 use Rattle.smmuq_c.specs.Statuses.{number_of}
 use Rattle.smmuq_c.specs.declared.status.Status.{Status}
-use Rattle.smmuq_c.specs.declared.status.Status.TheVariants.{EmptyHandle, WrongHandle, BadField, OpenReservation}
-use Rattle.smmuq_c.specs.declared.stop_remedy.StopRemedy.{StopRemedy}
+use Rattle.smmuq_c.specs.declared.status.Status.TheVariants.{Done, EmptyHandle, WrongHandle, BadField, OpenReservation}
+use Rattle.smmuq_c.specs.declared.words.Errors.{Errors}
+use Rattle.smmuq_c.specs.declared.words.Tallies.{Tallies}
 use Rattle.smmuq_c.specs.declared.object.Object.{Object}
 use Rattle.smmuq_c.specs.declared.object.Object.TheVariants.{Unit as UnitOf, Sender as SenderOf, Reservation as ReservationOf, Engine as EngineOf, Consumer as ConsumerOf}
 
@@ -26,8 +29,8 @@ HasCalled does (Some old) new number = (after : Object) × (new ≡ Some after) 
 
 -- ---- an object of one kind is changed, and one of another kind refused
 
-abbrev pub OfUnit : (HeldValue → HeldValue → Status → Type 0) → Object → Object → Status → Type 0
-OfUnit does (UnitOf old) new status = (after : HeldValue) × (new ≡ UnitOf after) × does old after status
+abbrev pub OfUnit : (QueueUnit → QueueUnit → Status → Type 0) → Object → Object → Status → Type 0
+OfUnit does (UnitOf old) new status = (after : QueueUnit) × (new ≡ UnitOf after) × does old after status
 OfUnit does other new status = (new ≡ other) × (status ≡ WrongHandle)
 
 abbrev pub OfSender : (SenderValue → SenderValue → Status → Type 0) → Object → Object → Status → Type 0
@@ -54,8 +57,16 @@ OfAnyUnit does other new status = (new ≡ other) × (status ≡ WrongHandle)
 -- Its stop is acknowledged. Nothing rewrites what was published in an engine's ring, so there Reread is Retry.
 abbrev pub OfStop : ℕ → StopRemedy → Object → Object → Status → Type 0
 OfStop gerrorn remedy (UnitOf old) new status =
-    (after : HeldValue) × (new ≡ UnitOf after) × StaysSettled old.unit after.unit [] × HasAcknowledgedHeld gerrorn remedy old after status
-OfStop gerrorn remedy other new status = OfAnyUnit (HasAcknowledged gerrorn (remedy_for remedy)) other new status
+    (after : QueueUnit) × (new ≡ UnitOf after) × StaysSettled old.unit after.unit [] × HasAcknowledgedQueue gerrorn remedy old after status
+OfStop gerrorn remedy other new status = OfAnyUnit (HasAcknowledged gerrorn (remedy_until_then remedy)) other new status
+
+-- Its error registers and counts are told, and nothing changed.
+abbrev pub OfState : Errors → Tallies → Object → Object → Status → Type 0
+OfState errors tallies (UnitOf q) new status =
+    (new ≡ UnitOf q) × (errors ≡ queue_error_words q) × (tallies ≡ count_words q.unit.counts) × (status ≡ Done)
+OfState errors tallies (EngineOf e) new status =
+    (new ≡ EngineOf e) × IsSettledEngine e × (errors ≡ error_words e.unit.stop) × (tallies ≡ count_words e.unit.counts) × (status ≡ Done)
+OfState errors tallies other new status = (new ≡ other) × (status ≡ WrongHandle)
 
 -- It did this with what its words say; if they say nothing, it did nothing.
 abbrev pub DoesSaid : {X : Type 0} → (Option X → Type 0) → (X → Object → Object → Status → Type 0) → Object → Object → Status → Type 0

@@ -43,3 +43,9 @@ pub record HasLookedUp (tag : Tag) (told : Held) (old new : UnitValue) (status :
 pub record HasEvicted (tag : Tag) (told : Held) (old new : UnitValue) (status : Status) : Type 0 where
   pub tells : TellsEntry tag told old status
   pub new_is : new ≡ with_entries old (finite.remove old.caches.entries tag)
+
+-- It told how many entries are held, and changed nothing.
+pub record HasCounted (told : ℕ) (old new : UnitValue) (status : Status) : Type 0 where
+  pub told_is : told ≡ finite.len old.caches.entries
+  pub new_is : new ≡ old
+  pub status_is : status ≡ Done

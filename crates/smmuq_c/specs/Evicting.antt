@@ -1,6 +1,7 @@
--- Evicting all entries whose tags are of some kinds.
+-- Evicting all entries whose tags are of some kinds, of a stream, or of a virtual machine.
 use Rattle.std.specs.Prelude.{◌≡◌, ◌<◌, ◌-◌, ◌/◌, ◌%◌, ◌^◌, ◌==◌, ℕ, Bool, Option, None, Some}
 use Rattle.caches.specs.declared.tag.Tag.{Tag}
+use Rattle.caches.specs.declared.owner_tests.OfMachine.{OfMachine}
 use Rattle.engine.specs.Units.{UnitValue, HasLost}
 use Rattle.smmuq_c.specs.declared.evicting.Kinds.{Kinds}
 use Rattle.smmuq_c.specs.declared.status.Status.{Status}
@@ -16,7 +17,12 @@ AreKindsOf mask (Some kinds) = (mask < 2 ^ 6) × (kinds ≡ record { mask = mask
 abbrev pub has_kind : Kinds → Tag → Bool
 has_kind kinds tag = kinds.mask / 2 ^ ((tag_words tag).kind - 1) % 2 == 1
 
--- The entries of these kinds are gone, and their number is told.
-abbrev pub HasEvictedAll : Kinds → ℕ → UnitValue → UnitValue → Status → Type 0
-HasEvictedAll kinds told old new Done = HasLost (has_kind kinds) told old new
-HasEvictedAll kinds told old new other = ⊥
+-- The entries whose tags pass are gone, and their number is told.
+pub record HasEvictedAll (passes : Tag → Bool) (told : ℕ) (old new : UnitValue) (status : Status) : Type 0 where
+  pub lost : HasLost passes told old new
+  pub status_is : status ≡ Done
+
+-- The words say this virtual machine, or none.
+abbrev pub IsMachineOf : ℕ → Option OfMachine → Type 0
+IsMachineOf vmid None = ¬ (vmid < 2 ^ 16)
+IsMachineOf vmid (Some machine) = (vmid < 2 ^ 16) × (machine ≡ record { 0 = vmid })

@@ -1,5 +1,7 @@
 -- What a call leaves as it was, of what it tells through a pointer.
 use Rattle.std.specs.Prelude.{◌≡◌, ℕ, Bool, true, false, Option, None, Some}
+use Rattle.engine.specs.Units.{UnitValue}
+use Rattle.engine.specs.Engines.{IsSettledEngine}
 use Rattle.smmuq_c.specs.Statuses.{number_of}
 use Rattle.smmuq_c.specs.declared.object.Object.{Object}
 use Rattle.smmuq_c.specs.declared.object.Object.TheVariants.{Unit as UnitOf, Engine as EngineOf, Consumer as ConsumerOf}
@@ -46,3 +48,15 @@ is_consumer other = false
 abbrev pub KeptOfOthers : {X : Type 0} → (Object → Bool) → Option Object → X → X → Type 0
 KeptOfOthers is_own None old new = new ≡ old
 KeptOfOthers is_own (Some object) old new = is_own object ≡ false → new ≡ old
+
+-- ---- the unit of a unit or an engine
+
+abbrev pub unit_in : Object → Option UnitValue
+unit_in (UnitOf q) = Some q.unit
+unit_in (EngineOf e) = Some e.unit
+unit_in other = None
+
+-- An engine is always settled for what it took.
+abbrev pub IsSettledObject : Object → Type 0
+IsSettledObject (EngineOf e) = IsSettledEngine e
+IsSettledObject other = Unit {0}

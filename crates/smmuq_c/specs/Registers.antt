@@ -1,16 +1,17 @@
 -- What C gets of the error registers and the counts, and what an acknowledgement does.
-use Rattle.std.specs.Prelude.{◌≡◌, ℕ, ⊤, Bool, true, false, Option, Some, None, Result, Ok, Err, OnOk, OnErr}
+use Rattle.std.specs.Prelude.{◌≡◌, ℕ, ⊤, Bool, true, false, Option, Some, None, Result, Ok, Err, OnOk, OnErr, IfSome}
 use Rattle.engine.specs.declared.remedy.AckFault.{AckFault}
 use Rattle.engine.specs.declared.remedy.Remedy.{Remedy}
-use Rattle.engine.specs.declared.remedy.Remedy.TheVariants as engine
-use Rattle.engine.specs.Stops.{StopValue, IsAcknowledgementAnswer, told, err_of, word_of}
+use Rattle.engine.specs.declared.queue_unit.QueueUnit.{QueueUnit}
+use Rattle.engine.specs.declared.queue_unit.QueueError.{QueueError}
+use Rattle.engine.specs.declared.queue_unit.StopRemedy.{StopRemedy}
+use Rattle.engine.specs.declared.queue_unit.StopRemedy.TheVariants.{Retry, Replace, Reread}
+use Rattle.engine.specs.QueueUnits.{new_queue_unit, error_number, IsStoppedQueue, queue_err_of, error_bit, acknowledged_bit, IsQueueAcknowledgement, acknowledged_with}
+use Rattle.engine.specs.Stops.{StopValue, IsAcknowledgementAnswer, told, err_of, word_of, command_queue_bit}
 use Rattle.engine.specs.Counting.{CountsValue}
-use Rattle.engine.specs.Units.{UnitValue}
+use Rattle.engine.specs.Units.{UnitValue, emptied}
 use Rattle.smmuq_c.specs.declared.status.Status.{Status}
-use Rattle.smmuq_c.specs.declared.status.Status.TheVariants.{Done, Acknowledgement}
-use Rattle.smmuq_c.specs.declared.stop_remedy.StopRemedy.{StopRemedy}
-use Rattle.smmuq_c.specs.declared.stop_remedy.StopRemedy.TheVariants.{Retry, Replace, Reread}
-use Rattle.smmuq_c.specs.HeldUnits.{HeldValue}
+use Rattle.smmuq_c.specs.declared.status.Status.TheVariants.{Done, Acknowledgement, BadField, StillStopped}
 use Rattle.smmuq_c.specs.declared.words.Errors.{Errors}
 use Rattle.smmuq_c.specs.declared.words.Tallies.{Tallies}
 
@@ -20,12 +21,9 @@ error_words stop = record { err = err_of stop.mode; gerror = word_of stop.error;
 abbrev pub count_words : CountsValue → Tallies
 count_words counts = record { applied = counts.applied; replaced = counts.replaced; syncs = counts.syncs; removed = counts.removed }
 
--- It told both, and changed nothing.
-pub record HasToldState (errors : Errors) (tallies : Tallies) (old new : UnitValue) (status : Status) : Type 0 where
-  pub errors_are : errors ≡ error_words old.stop
-  pub tallies_are : tallies ≡ count_words old.counts
-  pub new_is : new ≡ old
-  pub status_is : status ≡ Done
+-- those of a unit, which also stops for errors that its model finds
+abbrev pub queue_error_words : QueueUnit → Errors
+queue_error_words q = record { err = queue_err_of q; gerror = word_of (error_bit q); gerrorn = word_of (acknowledged_bit q) }
 
 -- ---- acknowledging
 
@@ -34,20 +32,6 @@ abbrev pub remedy_number : StopRemedy → ℕ
 remedy_number Retry = 0
 remedy_number Replace = 1
 remedy_number Reread = 2
-
--- how the unit stands until the next words come
-abbrev pub remedy_for : StopRemedy → Remedy
-remedy_for Retry = engine.Retry
-remedy_for Replace = engine.Replace
-remedy_for Reread = engine.Retry
-
--- whether the next words decide
-abbrev pub rereads_by : StopRemedy → Bool
-rereads_by Reread = true
-rereads_by other = false
-
-abbrev pub acknowledged_with : StopRemedy → HeldValue → HeldValue
-acknowledged_with remedy h = record { unit = record h.unit { stop = told (remedy_for remedy) h.unit.stop }; rereads = rereads_by remedy }
 
 abbrev pub acknowledgement_status : Result ⊤ AckFault → Status
 acknowledgement_status (Ok done) = Done
@@ -61,10 +45,10 @@ pub record HasAcknowledged (gerrorn : ℕ) (remedy : Remedy) (old new : UnitValu
   pub err : OnErr answer (new ≡ old)
   pub status_is : status ≡ acknowledgement_status answer
 
--- The same for a unit that a handle holds.
-pub record HasAcknowledgedHeld (gerrorn : ℕ) (remedy : StopRemedy) (old new : HeldValue) (status : Status) : Type 0 where
+-- The same for a unit.
+pub record HasAcknowledgedQueue (gerrorn : ℕ) (remedy : StopRemedy) (old new : QueueUnit) (status : Status) : Type 0 where
   pub answer : Result ⊤ AckFault
-  pub answered : IsAcknowledgementAnswer old.unit.stop gerrorn answer
+  pub answered : IsQueueAcknowledgement old gerrorn answer
   pub ok : OnOk answer (new ≡ acknowledged_with remedy old)
   pub err : OnErr answer (new ≡ old)
   pub status_is : status ≡ acknowledgement_status answer
@@ -73,3 +57,36 @@ pub record HasAcknowledgedHeld (gerrorn : ℕ) (remedy : StopRemedy) (old new : 
 abbrev pub IsRemedyOf : ℕ → Option StopRemedy → Type 0
 IsRemedyOf number None = (remedy : StopRemedy) → ¬ (remedy_number remedy ≡ number)
 IsRemedyOf number (Some remedy) = remedy_number remedy ≡ number
+
+-- ---- errors that a model finds
+
+-- It is the error of this number, or there is none.
+abbrev pub IsErrorOf : ℕ → Option QueueError → Type 0
+IsErrorOf number None = (error : QueueError) → ¬ (error_number error ≡ number)
+IsErrorOf number (Some error) = error_number error ≡ number
+
+-- It stopped for the error of this number; or there is none, or it was stopped before, and nothing changed.
+abbrev pub HasStoppedFor : ℕ → QueueUnit → QueueUnit → Status → Type 0
+HasStoppedFor err old new Done = (error : QueueError) × IsErrorOf err (Some error) × (¬ IsStoppedQueue old) × (new ≡ record old { found = Some error })
+HasStoppedFor err old new BadField = IsErrorOf err None × (new ≡ old)
+HasStoppedFor err old new StillStopped = IsStoppedQueue old × (new ≡ old)
+HasStoppedFor err old new other = ⊥
+
+-- CMDQ_ERR of both registers is as in these words, and if they differ it stopped for this error. Nothing else changed.
+pub record IsRestored (error : QueueError) (gerror gerrorn : ℕ) (old new : QueueUnit) : Type 0 where
+  pub running : ¬ IsStoppedQueue old
+  pub gerror_is : error_bit new ≡ command_queue_bit gerror
+  pub gerrorn_is : acknowledged_bit new ≡ command_queue_bit gerrorn
+  pub found_is : IfSome new.found (λ found. found ≡ error)
+  pub rest_is : new ≡ record old { found = new.found; turned = new.turned }
+
+abbrev pub HasRestored : ℕ → ℕ → ℕ → QueueUnit → QueueUnit → Status → Type 0
+HasRestored err gerror gerrorn old new Done = (error : QueueError) × IsErrorOf err (Some error) × IsRestored error gerror gerrorn old new
+HasRestored err gerror gerrorn old new BadField = IsErrorOf err None × (new ≡ old)
+HasRestored err gerror gerrorn old new StillStopped = IsStoppedQueue old × (new ≡ old)
+HasRestored err gerror gerrorn old new other = ⊥
+
+-- It holds nothing, and is as a new one.
+pub record HasReset (old new : QueueUnit) (status : Status) : Type 0 where
+  pub new_is : new ≡ new_queue_unit (emptied old.unit.caches)
+  pub status_is : status ≡ Done

@@ -14,6 +14,7 @@ use Rattle.renewal.specs.declared.queue.Sizes.{Sizes}
 use Rattle.renewal.specs.Queues.{EngineHasLooked, AreAtOnePlace, SawWaiting}
 use Rattle.renewal.specs.Carried.{IsCarried}
 use Rattle.caches.specs.Limits.{IsCapacity}
+use Rattle.caches.specs.Held.{AreOwn}
 use Rattle.renewal.specs.Renewing.{IsUnmade}
 use Rattle.smmuq_c.specs.declared.status.Status.{Status}
 use Rattle.smmuq_c.specs.declared.status.Status.TheVariants.{Done, Cache, Ring, Waiting, NoMemory}
@@ -21,7 +22,6 @@ use Rattle.smmuq_c.specs.declared.object.Object.{Object}
 use Rattle.smmuq_c.specs.declared.object.Object.TheVariants.{Engine as EngineOf}
 use Rattle.smmuq_c.specs.declared.handle.Handle.{Handle}
 use Rattle.smmuq_c.specs.MakingRings.{IsRing, sender_count}
-use Rattle.smmuq_c.specs.Own.{AreOwn}
 
 abbrev pub renewal_status : RenewalFault → Status
 renewal_status fault.Waiting = Waiting

@@ -1,37 +1,36 @@
 //! Answers of the libraries below, as statuses.
 ghost use Rattle.std.specs.Prelude.{◌≡◌, IfSome};
-ghost use Rattle.smmuq_c.specs.Judging.{verdict_status, refusal_status};
+ghost use Rattle.smmuq_c.specs.Judging.{verdict_status, fault_status};
 ghost use Rattle.smmuq_c.specs.Entries.{fill_status, entry_status, entry_words};
 ghost use Rattle.smmuq_c.specs.Registers.{acknowledgement_status};
 ghost use Rattle.smmuq_c.specs.Runs.{run_status};
 ghost use Rattle.smmuq_c.specs.Renewing.{renewal_status};
 ghost use Rattle.smmuq_c.specs.Kept.{IsKept};
 
-use crate::held_unit::Refusal;
 use crate::status::Status;
 use crate::words::Held;
 use caches::{CacheFault, Entry};
-use engine::{AckFault, RunAnswer, Verdict};
+use engine::{AckFault, JudgeFault, Judgement, RunAnswer};
 use renewal::RenewalFault;
 
-pub(crate) fn verdict_status(verdict: &Verdict) -> Status
-    ensures { result ≡ verdict_status verdict.now }
+pub(crate) fn verdict_status(judgement: Judgement) -> Status
+    ensures { result ≡ verdict_status judgement }
 {
-    match *verdict {
-        Verdict::Applied { .. } => Status::Done,
-        Verdict::Stopped(ill) => Status::Illegal(ill),
-        Verdict::Replaced(_) => Status::Replaced,
+    match judgement {
+        Judgement::Applied { .. } => Status::Done,
+        Judgement::Stopped(ill) => Status::Illegal(ill),
+        Judgement::Replaced(_) => Status::Replaced,
     }
 }
 
-impl From<Refusal> for Status {
-    fn from(refusal: Refusal) -> Status
-        ensures { result ≡ refusal_status refusal }
+impl From<JudgeFault> for Status {
+    fn from(fault: JudgeFault) -> Status
+        ensures { result ≡ fault_status fault }
     {
-        match refusal {
-            Refusal::StillStopped => Status::StillStopped,
-            Refusal::OtherCommand => Status::OtherCommand,
-            Refusal::Exhausted => Status::Exhausted,
+        match fault {
+            JudgeFault::StillStopped => Status::StillStopped,
+            JudgeFault::OtherCommand => Status::OtherCommand,
+            JudgeFault::Exhausted => Status::Exhausted,
         }
     }
 }

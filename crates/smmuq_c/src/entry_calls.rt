@@ -1,9 +1,10 @@
 //! The exports of entries, of a unit or of an engine.
-ghost use Rattle.smmuq_c.specs.Calls.{HasCalled, OfSaid};
-ghost use Rattle.smmuq_c.specs.Entries.{HasFilled, HasEvicted, HasLookedUp};
+ghost use Rattle.smmuq_c.specs.Calls.{HasCalled, OfAnyUnit, OfSaid};
+ghost use Rattle.smmuq_c.specs.Entries.{HasFilled, HasEvicted, HasLookedUp, HasCounted};
 ghost use Rattle.smmuq_c.specs.Tags.{IsTagOf};
 ghost use Rattle.smmuq_c.specs.Kept.{IsKept, KeptUnlessDone};
 
+use crate::answers::{fill_status, tell_entry};
 use crate::handle::Handle;
 use crate::object::Object;
 use crate::status::Status;
@@ -33,7 +34,7 @@ fn fill(object: &mut Object, tag: &TagWords, value: u64) -> Status
         return Status::BadField;
     };
     match object {
-        Object::Unit(held) => held.fill(tag, value),
+        Object::Unit(queue) => fill_status(queue.unit.fill(tag, value)),
         Object::Engine(seated) => seated.fill(tag, value),
         Object::Sender(_) | Object::Reservation(_) | Object::Consumer(_) => Status::WrongHandle,
     }
@@ -56,17 +57,13 @@ fn lookup(object: &Object, tag: &TagWords, held: &mut Held) -> Status
     ensures called { OfSaid (IsTagOf tag.now) (λ t. HasLookedUp t held.new) object.now object.now result }
     ensures kept { IsKept result held.old held.new }
 {
-    if !object.has_unit() {
+    let Some(unit) = object.unit() else {
         return Status::WrongHandle;
-    }
+    };
     let Some(tag) = tag_of(tag) else {
         return Status::BadField;
     };
-    match object {
-        Object::Unit(unit) => unit.lookup(&tag, held),
-        Object::Engine(seated) => seated.lookup(&tag, held),
-        Object::Sender(_) | Object::Reservation(_) | Object::Consumer(_) => Status::WrongHandle,
-    }
+    tell_entry(unit.lookup(&tag), held)
 }
 
 /// Removes what a unit or an engine holds under a tag, and tells it. `NOT_HELD` if it holds nothing, `BAD_FIELD` if the
@@ -94,8 +91,31 @@ fn evict(object: &mut Object, tag: &TagWords, held: &mut Held) -> Status
         return Status::BadField;
     };
     match object {
-        Object::Unit(unit) => unit.evict(&tag, held),
+        Object::Unit(queue) => tell_entry(queue.unit.evict(&tag), held),
         Object::Engine(seated) => seated.evict(&tag, held),
         Object::Sender(_) | Object::Reservation(_) | Object::Consumer(_) => Status::WrongHandle,
     }
+}
+
+/// Tells how many entries a unit or an engine holds.
+#[unsafe(no_mangle)]
+pub extern "C" fn smmuq_count(handle: &mut Handle, count: &mut usize) -> u32
+    ensures called { HasCalled (OfAnyUnit (HasCounted count.new)) handle.old.object handle.new.object result }
+    ensures kept { KeptUnlessDone result count.old count.new }
+{
+    let Some(object) = handle.object_mut() else {
+        return Status::EmptyHandle.number();
+    };
+    tell_count(object, count).number()
+}
+
+fn tell_count(object: &Object, count: &mut usize) -> Status
+    ensures called { OfAnyUnit (HasCounted count.new) object.now object.now result }
+    ensures kept { IsKept result count.old count.new }
+{
+    let Some(unit) = object.unit() else {
+        return Status::WrongHandle;
+    };
+    *count = unit.len();
+    Status::Done
 }

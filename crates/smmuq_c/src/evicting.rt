@@ -1,14 +1,16 @@
-//! Evicting entries by their kinds, and the export that does it.
+//! Evicting entries by their kinds, their stream or their virtual machine, and the exports that do it.
 ghost use Rattle.std.specs.Prelude.{◌≡◌};
-ghost use Rattle.smmuq_c.specs.Calls.{HasCalled, OfSaid};
-ghost use Rattle.smmuq_c.specs.Evicting.{AreKindsOf, HasEvictedAll};
+ghost use Rattle.caches.specs.OwnerTests.{is_of_stream, is_of_machine};
+ghost use Rattle.smmuq_c.specs.Calls.{HasCalled, OfAnyUnit, OfSaid};
+ghost use Rattle.smmuq_c.specs.Evicting.{AreKindsOf, has_kind, IsMachineOf, HasEvictedAll};
 ghost use Rattle.smmuq_c.specs.Kept.{IsKept, KeptUnlessDone};
 
 use crate::handle::Handle;
 use crate::object::Object;
 use crate::status::Status;
 use crate::tags::TagWords;
-use caches::{Tag, TagTest};
+use caches::{OfMachine, OfStream, Tag, TagTest};
+use cmdcodec::{Sid, Vmid};
 
 /// Kinds of tags: bit `kind - 1` of the mask for each.
 #[derive(Clone, Copy)]
@@ -45,17 +47,17 @@ impl TagTest for Kinds {
 /// then nothing changed. Takes no memory for that.
 #[unsafe(no_mangle)]
 pub extern "C" fn smmuq_evict_all(handle: &mut Handle, kinds: u32, count: &mut usize) -> u32
-    ensures called { HasCalled (OfSaid (AreKindsOf kinds) (λ k. HasEvictedAll k count.new)) handle.old.object handle.new.object result }
+    ensures called { HasCalled (OfSaid (AreKindsOf kinds) (λ k. HasEvictedAll (has_kind k) count.new)) handle.old.object handle.new.object result }
     ensures kept { KeptUnlessDone result count.old count.new }
 {
     let Some(object) = handle.object_mut() else {
         return Status::EmptyHandle.number();
     };
-    evict_all(object, kinds, count).number()
+    evict_kinds(object, kinds, count).number()
 }
 
-fn evict_all(object: &mut Object, kinds: u32, count: &mut usize) -> Status
-    ensures called { OfSaid (AreKindsOf kinds) (λ k. HasEvictedAll k count.new) object.old object.new result }
+fn evict_kinds(object: &mut Object, kinds: u32, count: &mut usize) -> Status
+    ensures called { OfSaid (AreKindsOf kinds) (λ k. HasEvictedAll (has_kind k) count.new) object.old object.new result }
     ensures kept { IsKept result count.old count.new }
 {
     if !object.has_unit() {
@@ -64,9 +66,72 @@ fn evict_all(object: &mut Object, kinds: u32, count: &mut usize) -> Status
     let Some(kinds) = Kinds::of(kinds) else {
         return Status::BadField;
     };
+    evict_passing(object, &kinds, count)
+}
+
+/// Evicts all that a unit or an engine holds of a stream, and tells how many entries they were: its stream table entry,
+/// its context descriptors, and what its endpoint holds. Takes no memory for that.
+#[unsafe(no_mangle)]
+pub extern "C" fn smmuq_evict_stream(handle: &mut Handle, sid: u32, count: &mut usize) -> u32
+    ensures called { HasCalled (OfAnyUnit (HasEvictedAll (is_of_stream (record { 0 = sid })) count.new)) handle.old.object handle.new.object result }
+    ensures kept { KeptUnlessDone result count.old count.new }
+{
+    let Some(object) = handle.object_mut() else {
+        return Status::EmptyHandle.number();
+    };
+    let stream = OfStream(Sid::new(u64::from(sid)).unwrap());
+    evict_passing(object, &stream, count).number()
+}
+
+/// Evicts all translations of a virtual machine, of stage 1 and of stage 2, that a unit or an engine holds, and tells how
+/// many they were. `BAD_FIELD` if `vmid` has more than 16 bits. Takes no memory for that.
+#[unsafe(no_mangle)]
+pub extern "C" fn smmuq_evict_machine(handle: &mut Handle, vmid: u32, count: &mut usize) -> u32
+    ensures called { HasCalled (OfSaid (IsMachineOf vmid) (λ m. HasEvictedAll (is_of_machine m) count.new)) handle.old.object handle.new.object result }
+    ensures kept { KeptUnlessDone result count.old count.new }
+{
+    let Some(object) = handle.object_mut() else {
+        return Status::EmptyHandle.number();
+    };
+    evict_machine(object, vmid, count).number()
+}
+
+fn machine_of(vmid: u32) -> Option<OfMachine>
+    ensures { IsMachineOf vmid result }
+{
+    match Vmid::new(u64::from(vmid)) {
+        Some(vmid) => Some(OfMachine(vmid)),
+        None => None,
+    }
+}
+
+fn evict_machine(object: &mut Object, vmid: u32, count: &mut usize) -> Status
+    ensures called { OfSaid (IsMachineOf vmid) (λ m. HasEvictedAll (is_of_machine m) count.new) object.old object.new result }
+    ensures kept { IsKept result count.old count.new }
+{
+    if !object.has_unit() {
+        return Status::WrongHandle;
+    }
+    let Some(machine) = machine_of(vmid) else {
+        return Status::BadField;
+    };
+    evict_passing(object, &machine, count)
+}
+
+/// Evicts all entries of a unit or an engine whose tags pass a test, and tells how many they were.
+fn evict_passing<T: TagTest>(object: &mut Object, test: &T, count: &mut usize) -> Status
+    ensures called { OfAnyUnit (HasEvictedAll (T.passing test.now) count.new) object.old object.new result }
+    ensures kept { IsKept result count.old count.new }
+{
     match object {
-        Object::Unit(unit) => unit.evict_all(kinds, count),
-        Object::Engine(seated) => seated.evict_all(kinds, count),
+        Object::Unit(queue) => {
+            *count = queue.unit.evict_all(test) as usize;
+            Status::Done
+        }
+        Object::Engine(seated) => {
+            *count = seated.evict_all(test) as usize;
+            Status::Done
+        }
         Object::Sender(_) | Object::Reservation(_) | Object::Consumer(_) => Status::WrongHandle,
     }
 }

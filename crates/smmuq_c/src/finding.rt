@@ -1,10 +1,9 @@
 //! Look-up by address, and the export that does it.
-ghost use Rattle.std.specs.Prelude.{◌≡◌, ◌<◌, ◌≤◌, ◌/◌, ◌^◌, MatchOption, IfSome};
-ghost use Rattle.std.specs.FinMap as finite;
+ghost use Rattle.std.specs.Prelude.{◌≡◌, ◌/◌, IfSome};
 ghost use Rattle.smmuq_c.specs.Calls.{HasCalled, OfSaid};
 ghost use Rattle.smmuq_c.specs.Entries.{entry_status, entry_words};
 ghost use Rattle.smmuq_c.specs.Lists.{tag_words};
-ghost use Rattle.smmuq_c.specs.Finding.{IsOwnerOf, block_at, own_tag, shared_tag, NoneAt, IsHeldAt, IsFound, HasFound, entries_of, IsSubstreamOf};
+ghost use Rattle.smmuq_c.specs.Finding.{IsSpaceOf, IsSoughtBy, HasFound, IsSubstreamOf};
 ghost use Rattle.smmuq_c.specs.Kept.{IsKept, KeptUnlessDone};
 
 use crate::handle::Handle;
@@ -12,22 +11,8 @@ use crate::object::Object;
 use crate::status::Status;
 use crate::tags::TagWords;
 use crate::words::Held;
-use caches::{Entry, Scope, Tag};
+use caches::{AddressSpace, Entry};
 use cmdcodec::{Asid, Page, Sid, Ssid, Vmid};
-use std::alloc::Global;
-
-/// The owner whose translations are looked up.
-#[derive(Clone, Copy)]
-pub(crate) enum Owner {
-    /// Stage 1 of an address space of a virtual machine.
-    S1 { vmid: Vmid, asid: Asid },
-    /// Stage 2 of a virtual machine.
-    S2 { vmid: Vmid },
-    /// An address space of the hypervisor.
-    El2 { asid: Asid },
-    /// A substream of an endpoint, or its accesses without a substream: a space of its own.
-    Atc { sid: Sid, ssid: Option<Ssid> },
-}
 
 /// `space` of an endpoint's accesses without a substream.
 const NO_SUBSTREAM: u32 = 0xffff_ffff;
@@ -44,131 +29,52 @@ fn substream_of(space: u32) -> Option<Option<Ssid>>
     }
 }
 
-fn owner_of(kind: u32, owner: u32, space: u32) -> Option<Owner>
-    ensures { IsOwnerOf kind owner space result }
+fn space_of(kind: u32, owner: u32, space: u32) -> Option<AddressSpace>
+    ensures { IsSpaceOf kind owner space result }
 {
     match kind {
         3 => {
             let vmid = Vmid::new(u64::from(owner))?;
             let asid = Asid::new(u64::from(space))?;
-            Some(Owner::S1 { vmid, asid })
+            Some(AddressSpace::S1 { vmid, asid })
         }
         4 => {
             let vmid = Vmid::new(u64::from(owner))?;
-            Some(Owner::S2 { vmid })
+            Some(AddressSpace::S2 { vmid })
         }
         5 => {
             let asid = Asid::new(u64::from(space))?;
-            Some(Owner::El2 { asid })
+            Some(AddressSpace::El2 { asid })
         }
         6 => {
             let sid = Sid::new(u64::from(owner))?;
             let ssid = substream_of(space)?;
-            Some(Owner::Atc { sid, ssid })
+            Some(AddressSpace::Atc { sid, ssid })
         }
         _ => None,
     }
 }
 
-fn block_at(page: Page, span: u8) -> Page
-    requires { span ≤ 52 }
-    ensures { result ≡ block_at page span }
-{
-    let size = 1 << span;
-    Page::new(page.get() / size * size).unwrap()
+/// What is looked up: an address, the spans to try, and the address space, as three words.
+#[derive(Clone, Copy)]
+struct Sought {
+    kind: u32,
+    owner: u32,
+    space: u32,
+    address: u64,
+    spans: u64,
 }
 
-impl Owner {
-    fn own_tag(&self, page: Page, span: u8) -> Tag
-        requires { span ≤ 52 }
-        ensures { result ≡ own_tag self.now page span }
+impl Sought {
+    /// The address space, if the words say one and no span is asked for that there isn't.
+    fn space(&self) -> Option<AddressSpace>
+        ensures { IsSoughtBy self.now.kind self.now.owner self.now.space self.now.spans result }
     {
-        let page = block_at(page, span);
-        match *self {
-            Owner::S1 { vmid, asid } => Tag::S1 {
-                vmid,
-                scope: Scope::Of(asid),
-                page,
-                span,
-            },
-            Owner::S2 { vmid } => Tag::S2 { vmid, page, span },
-            Owner::El2 { asid } => Tag::El2 {
-                scope: Scope::Of(asid),
-                page,
-                span,
-            },
-            Owner::Atc { sid, ssid } => Tag::Atc {
-                sid,
-                ssid,
-                page,
-                span,
-            },
+        if self.spans >> 53 != 0 {
+            return None;
         }
+        space_of(self.kind, self.owner, self.space)
     }
-
-    fn shared_tag(&self, page: Page, span: u8) -> Tag
-        requires { span ≤ 52 }
-        ensures { result ≡ shared_tag self.now page span }
-    {
-        let page = block_at(page, span);
-        match *self {
-            Owner::S1 { vmid, .. } => Tag::S1 {
-                vmid,
-                scope: Scope::Global,
-                page,
-                span,
-            },
-            Owner::S2 { vmid } => Tag::S2 { vmid, page, span },
-            Owner::El2 { .. } => Tag::El2 {
-                scope: Scope::Global,
-                page,
-                span,
-            },
-            Owner::Atc { sid, ssid } => Tag::Atc {
-                sid,
-                ssid,
-                page,
-                span,
-            },
-        }
-    }
-}
-
-fn held_under(object: &Object, tag: &Tag) -> Option<Entry>
-    ensures { result ≡ finite.get (entries_of object.now) tag.now }
-{
-    match object {
-        Object::Unit(unit) => unit.entry(tag),
-        Object::Engine(seated) => seated.entry(tag),
-        Object::Sender(_) | Object::Reservation(_) | Object::Consumer(_) => None,
-    }
-}
-
-fn find_at(object: &Object, owner: &Owner, page: Page, span: u8) -> Option<Entry>
-    requires { span ≤ 52 }
-    ensures { MatchOption result (NoneAt (entries_of object.now) owner.now page span) (λ entry. IsHeldAt (entries_of object.now) owner.now page span entry) }
-{
-    let own = owner.own_tag(page, span);
-    if let Some(entry) = held_under(object, &own) {
-        return Some(entry);
-    }
-    let shared = owner.shared_tag(page, span);
-    held_under(object, &shared)
-}
-
-/// Returns the entry that holds a page, at the greatest of these spans that has one.
-fn find_entry(object: &Object, owner: &Owner, page: Page, spans: u64) -> Option<Entry>
-    ensures { IsFound (entries_of object.now) owner.now page spans result }
-{
-    for below in 0..53u8 {
-        let span = 52 - below;
-        if (spans >> span) % 2 == 1 {
-            if let Some(entry) = find_at(object, owner, page, span) {
-                return Some(entry);
-            }
-        }
-    }
-    None
 }
 
 fn tell_found(found: &Option<Entry>, tag: &mut TagWords, held: &mut Held) -> Status
@@ -181,10 +87,7 @@ fn tell_found(found: &Option<Entry>, tag: &mut TagWords, held: &mut Held) -> Sta
     match found {
         Some(entry) => {
             *tag = TagWords::of(&entry.tag);
-            *held = Held {
-                value: entry.value,
-                born: entry.born,
-            };
+            *held = Held::from(*entry);
             Status::Done
         }
         None => Status::NotHeld,
@@ -198,21 +101,12 @@ fn page_of(address: u64) -> Page
     Page::new(address / 4096).unwrap()
 }
 
-/// What is looked up: an address, the spans to try, and the owner, as three words.
-#[derive(Clone, Copy)]
-struct Sought {
-    kind: u32,
-    owner: u32,
-    space: u32,
-    address: u64,
-    spans: u64,
-}
-
 /// Tells the entry of a unit or an engine that holds an address, and its tag. `kind` is 3 to 6, as in a tag; `owner` is
 /// the VMID, or for kind 6 the stream, and is ignored for kind 5; `space` is the ASID, or for kind 6 the substream, and
 /// is ignored for kind 4. Each span whose bit is set in `spans`, 0 to 52, is tried, the greatest first, and at each the
 /// entry of that space before the global one. An endpoint has no global ones: just the substream asked for is looked up,
-/// or with `space` 0xffffffff what has none. `NOT_HELD` if none is held, `BAD_FIELD` if the words say no owner.
+/// or with `space` 0xffffffff what has none. `NOT_HELD` if none is held, `BAD_FIELD` if the words say no address space or
+/// another bit of `spans` is set.
 #[unsafe(no_mangle)]
 pub extern "C" fn smmuq_find(
     handle: &mut Handle,
@@ -224,7 +118,7 @@ pub extern "C" fn smmuq_find(
     tag: &mut TagWords,
     held: &mut Held,
 ) -> u32
-    ensures called { HasCalled (OfSaid (IsOwnerOf kind owner space) (HasFound (address / 4096) spans tag.new held.new)) handle.old.object handle.new.object result }
+    ensures called { HasCalled (OfSaid (IsSoughtBy kind owner space spans) (HasFound (address / 4096) spans tag.new held.new)) handle.old.object handle.new.object result }
     ensures tag { KeptUnlessDone result tag.old tag.new }
     ensures held { KeptUnlessDone result held.old held.new }
 {
@@ -242,28 +136,16 @@ pub extern "C" fn smmuq_find(
 }
 
 fn find(object: &Object, sought: Sought, tag: &mut TagWords, held: &mut Held) -> Status
-    ensures called { OfSaid (IsOwnerOf sought.kind sought.owner sought.space) (HasFound (sought.address / 4096) sought.spans tag.new held.new) object.now object.now result }
+    ensures called { OfSaid (IsSoughtBy sought.kind sought.owner sought.space sought.spans) (HasFound (sought.address / 4096) sought.spans tag.new held.new) object.now object.now result }
     ensures tag { IsKept result tag.old tag.new }
     ensures held { IsKept result held.old held.new }
 {
-    if !object.has_unit() {
+    let Some(unit) = object.unit() else {
         return Status::WrongHandle;
-    }
-    let Some(owner) = owner_of(sought.kind, sought.owner, sought.space) else {
+    };
+    let Some(space) = sought.space() else {
         return Status::BadField;
     };
-    let page = page_of(sought.address);
-    let found = find_entry(object, &owner, page, sought.spans);
-    let status = tell_found(&found, tag, held);
-    match object {
-        Object::Unit(unit) => {
-            unit.is_settled();
-            status
-        }
-        Object::Engine(seated) => {
-            seated.is_settled();
-            status
-        }
-        Object::Sender(_) | Object::Reservation(_) | Object::Consumer(_) => Status::WrongHandle,
-    }
+    let found = unit.find(&space, page_of(sought.address), sought.spans);
+    tell_found(&found, tag, held)
 }

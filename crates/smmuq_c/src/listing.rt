@@ -3,7 +3,7 @@ ghost use Rattle.std.specs.Prelude.{◌≡◌, ◌*◌, ◌<◌, ◌≤◌, ◌^
 ghost use Rattle.std.specs.FinMap as finite;
 ghost use Rattle.smmuq_c.specs.Batches.{IsGiven};
 ghost use Rattle.smmuq_c.specs.Calls.{HasCalled, OfAnyUnit};
-ghost use Rattle.smmuq_c.specs.Lists.{tag_words, listed, HasListed, with_scope, with_substream};
+ghost use Rattle.smmuq_c.specs.Lists.{tag_words, listed, IsListed, HasListed, with_scope, with_substream};
 ghost use Rattle.smmuq_c.specs.Kept.{CountKept, IsCountKept, IsKept, KeptUnlessDone};
 
 use crate::handle::Handle;
@@ -13,6 +13,7 @@ use crate::tags::TagWords;
 use crate::words::Held;
 use caches::{Entry, Scope, Tag};
 use cmdcodec::{Page, Ssid};
+use engine::Unit;
 use std::alloc::Global;
 
 /// An entry: its tag, and what is held under it.
@@ -138,11 +139,7 @@ impl EntryWords {
 }
 
 /// Writes entries to a buffer, and their number to `count`.
-pub(crate) fn give_entries(
-    entries: &[Entry],
-    buffer: &mut [EntryWords],
-    count: &mut usize,
-) -> Status
+fn give_entries(entries: &[Entry], buffer: &mut [EntryWords], count: &mut usize) -> Status
     ensures { IsGiven (map listed entries.now) buffer.old buffer.new count.new result }
 {
     *count = entries.len();
@@ -185,9 +182,19 @@ fn list(object: &Object, buffer: &mut [EntryWords], count: &mut usize) -> Status
     ensures buffer { IsKept result buffer.old buffer.new }
     ensures count { IsCountKept result count.old count.new }
 {
-    match object {
-        Object::Unit(unit) => unit.entries(buffer, count),
-        Object::Engine(seated) => seated.entries(buffer, count),
-        Object::Sender(_) | Object::Reservation(_) | Object::Consumer(_) => Status::WrongHandle,
+    let Some(unit) = object.unit() else {
+        return Status::WrongHandle;
+    };
+    list_of(unit, buffer, count)
+}
+
+fn list_of(unit: &Unit, buffer: &mut [EntryWords], count: &mut usize) -> Status
+    ensures listed { IsListed (finite.values unit.now.caches.entries) buffer.old buffer.new count.new result }
+    ensures buffer { IsKept result buffer.old buffer.new }
+    ensures count { IsCountKept result count.old count.new }
+{
+    match unit.entries() {
+        Ok(list) => give_entries(list.as_slice(), buffer, count),
+        Err(fault) => Status::Cache(fault),
     }
 }

@@ -1,17 +1,17 @@
 //! What a handle owns.
-ghost use Rattle.std.specs.Prelude.{◌≡◌};
-ghost use Rattle.smmuq_c.specs.Kept.{has_unit};
+ghost use Rattle.std.specs.Prelude.{◌≡◌, false, Some, MatchOption};
+ghost use Rattle.smmuq_c.specs.Kept.{has_unit, unit_in, IsSettledObject};
 
-use crate::held_unit::HeldUnit;
 use crate::seated_consumer::SeatedConsumer;
 use crate::seated_engine::SeatedEngine;
 use crate::seated_reservation::SeatedReservation;
 use crate::seated_sender::SeatedSender;
+use engine::{QueueUnit, Unit};
 
 /// The kinds of things that a handle may own.
 #[derive(Drop)]
 pub(crate) enum Object {
-    Unit(HeldUnit),
+    Unit(QueueUnit),
     Sender(SeatedSender),
     /// A sender that has an open reservation.
     Reservation(SeatedReservation),
@@ -26,18 +26,23 @@ pub(crate) fn objects_may_cross_threads(object: &Object) {
     may_cross_threads(object);
 }
 
-fn may_be_read_at_once<T: Sync>(_value: &T) {}
-
-/// Shows that several threads may read a unit at the same time. It does nothing.
-pub(crate) fn units_may_be_read_at_once(unit: &HeldUnit) {
-    may_be_read_at_once(unit);
-}
-
 impl Object {
     /// Whether it is a unit, or an engine, which has one.
     pub(crate) fn has_unit(&self) -> bool
         ensures { result ≡ has_unit self.now }
     {
         matches!(self, Object::Unit(_) | Object::Engine(_))
+    }
+
+    /// The unit of a unit or an engine, to read it.
+    pub(crate) fn unit(&self) -> Option<&Unit>
+        ensures unit { MatchOption result (has_unit self.now ≡ false) (λ unit. unit_in self.now ≡ Some unit.now) }
+        ensures settled { IsSettledObject self.now }
+    {
+        match self {
+            Object::Unit(queue) => Some(&queue.unit),
+            Object::Engine(seated) => Some(seated.unit()),
+            Object::Sender(_) | Object::Reservation(_) | Object::Consumer(_) => None,
+        }
     }
 }

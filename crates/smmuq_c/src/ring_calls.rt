@@ -9,12 +9,12 @@ ghost use Rattle.smmuq_c.specs.Calls.{Answers};
 ghost use Rattle.smmuq_c.specs.MakingRings.{HasMadeRing, HasMadeConsumerRing, AreNewSeats, IsNewEngine, IsNewConsumer, IsNoEngineRing, IsNoRing, objects_in, sender_count, boxed};
 
 use crate::handle::{Handle, put};
-use crate::held_unit::new_caches;
 use crate::object::Object;
 use crate::seated_consumer::{CallersDevice, SeatedConsumer};
 use crate::seated_engine::SeatedEngine;
 use crate::seated_sender::SeatedSender;
 use crate::status::Status;
+use crate::unit_calls::new_caches;
 use engine::{Engine, Unit};
 use ring::{Ring, Sender};
 use std::alloc::{AllocError, Global};

@@ -3,25 +3,21 @@ ghost use Rattle.std.specs.Prelude.{◌≡◌, ◌⊎◌};
 ghost use Rattle.std.specs.Arc.{arc_value};
 ghost use Rattle.ring.specs.consumer.Completing.{taken_of};
 ghost use Rattle.engine.specs.Settled.{IsSettled};
-ghost use Rattle.std.specs.FinMap as finite;
-ghost use Rattle.smmuq_c.specs.Lists.{IsListed};
-ghost use Rattle.smmuq_c.specs.Entries.{HasFilled, HasEvicted, TellsEntry};
-ghost use Rattle.smmuq_c.specs.Registers.{HasAcknowledged, error_words, count_words};
+ghost use Rattle.engine.specs.Engines.{IsSettledEngine};
+ghost use Rattle.engine.specs.Units.{HasLost};
+ghost use Rattle.smmuq_c.specs.Entries.{HasFilled, HasEvicted};
+ghost use Rattle.smmuq_c.specs.Registers.{HasAcknowledged};
 ghost use Rattle.smmuq_c.specs.Runs.{HasRunFor, HasToldRegisters};
-ghost use Rattle.smmuq_c.specs.Evicting.{HasEvictedAll};
-ghost use Rattle.smmuq_c.specs.Own.{AreOwn};
 ghost use Rattle.smmuq_c.specs.Renewing.{HasRenewed};
-ghost use Rattle.smmuq_c.specs.Kept.{IsCountKept, IsKept};
+ghost use Rattle.smmuq_c.specs.Kept.{IsKept};
 
 use crate::answers::{acknowledgement_status, fill_status, tell_entry};
-use crate::evicting::Kinds;
 use crate::handle::Handle;
-use crate::listing::{EntryWords, give_entries};
 use crate::ring_calls::{count_of, fill_senders, share};
 use crate::status::Status;
-use crate::words::{Errors, Held, RegisterWords, RunWords, Tallies};
-use caches::{Entry, Tag};
-use engine::{Engine, Remedy};
+use crate::words::{Held, RegisterWords, RunWords};
+use caches::{Tag, TagTest};
+use engine::{Engine, Remedy, Unit};
 use renewal::{Queue, Sizes, sees_waiting, successor};
 use ring::Ring;
 use std::alloc::Global;
@@ -41,7 +37,6 @@ impl Model for SeatedEngine {
     ghost use Rattle.std.specs.Arc.{arc_value};
     ghost use Rattle.caches.specs.Stored.{stored_code};
     ghost use Rattle.engine.specs.Engines.{EngineValue};
-    ghost use Rattle.smmuq_c.specs.Own.{AreOwn};
 
     ghost Value = { EngineValue };
 
@@ -49,13 +44,12 @@ impl Model for SeatedEngine {
 
     ghost view = { λ e. e.engine };
 
-    ghost invariant = { λ e. (e.engine.consumer.ring ≡ arc_value e.ring) × AreOwn e.engine.unit.caches.entries };
+    ghost invariant = { λ e. (e.engine.consumer.ring ≡ arc_value e.ring) };
 }
 
 impl SeatedEngine {
     pub(crate) fn new(ring: Arc<Ring>, engine: Engine) -> SeatedEngine
         requires ring { engine.consumer.ring ≡ arc_value ring }
-        requires own { AreOwn engine.unit.caches.entries }
         ensures { result ≡ engine }
     {
         SeatedEngine { ring, engine }
@@ -84,6 +78,7 @@ impl SeatedEngine {
         ensures senders { (result ≡ Status.Done) ⊎ (senders.new ≡ senders.old) }
     {
         self.engine.is_settled();
+        self.engine.unit().are_own();
         if sees_waiting(&mut self.engine, &self.ring) {
             return Status::Waiting;
         }
@@ -120,71 +115,22 @@ impl SeatedEngine {
         tell_entry(self.engine.evict(tag), told)
     }
 
-    /// Evicts the entries of these kinds, and tells how many they were.
-    pub(crate) fn evict_all(&mut self, kinds: Kinds, count: &mut usize) -> Status
-        ensures evicted { HasEvictedAll kinds count.new self.old.unit self.new.unit result }
-        ensures kept { IsKept result count.old count.new }
+    /// Evicts the entries whose tags pass, and returns how many they were.
+    pub(crate) fn evict_all<T: TagTest>(&mut self, test: &T) -> u32
+        ensures lost { HasLost (T.passing test.now) result self.old.unit self.new.unit }
         ensures consumer { self.new ≡ record self.old { unit = self.new.unit } }
         ensures settled { IsSettled self.new.unit.caches.entries (taken_of self.new.consumer.trail) }
     {
-        *count = self.engine.evict_all(&kinds) as usize;
-        Status::Done
+        self.engine.evict_all(test)
     }
 
-    pub(crate) fn lookup(&self, tag: &Tag, told: &mut Held) -> Status
-        ensures tells { TellsEntry tag.now told.new self.now.unit result }
-        ensures kept { IsKept result told.old told.new }
-        ensures settled { IsSettled self.now.unit.caches.entries (taken_of self.now.consumer.trail) }
+    /// Its unit, to read it.
+    pub(crate) fn unit(&self) -> &Unit
+        ensures unit { result.now ≡ self.now.unit }
+        ensures settled { IsSettledEngine self.now }
     {
         self.engine.is_settled();
-        tell_entry(self.engine.lookup(tag), told)
-    }
-
-    /// Shows that its entries are settled as they are. It does nothing.
-    pub(crate) fn is_settled(&self)
-        ensures { IsSettled self.now.unit.caches.entries (taken_of self.now.consumer.trail) }
-    {
-        self.engine.is_settled();
-    }
-
-    /// Returns the entry of this tag, if one is held.
-    pub(crate) fn entry(&self, tag: &Tag) -> Option<Entry>
-        ensures { result ≡ finite.get self.now.unit.caches.entries tag.now }
-    {
-        self.engine.lookup(tag)
-    }
-
-    /// Writes all entries to the buffer, and tells how many they are.
-    pub(crate) fn entries(&self, buffer: &mut [EntryWords], count: &mut usize) -> Status
-        ensures listed { IsListed (finite.values self.now.unit.caches.entries) buffer.old buffer.new count.new result }
-        ensures buffer { IsKept result buffer.old buffer.new }
-        ensures count { IsCountKept result count.old count.new }
-        ensures settled { IsSettled self.now.unit.caches.entries (taken_of self.now.consumer.trail) }
-    {
-        self.engine.is_settled();
-        match self.engine.entries() {
-            Ok(list) => give_entries(list.as_slice(), buffer, count),
-            Err(fault) => Status::Cache(fault),
-        }
-    }
-
-    pub(crate) fn errors(&self) -> Errors
-        ensures errors { result ≡ error_words self.now.unit.stop }
-        ensures settled { IsSettled self.now.unit.caches.entries (taken_of self.now.consumer.trail) }
-    {
-        self.engine.is_settled();
-        let (err, gerror, gerrorn) = self.engine.error();
-        Errors {
-            err,
-            gerror,
-            gerrorn,
-        }
-    }
-
-    pub(crate) fn tallies(&self) -> Tallies
-        ensures { result ≡ count_words self.now.unit.counts }
-    {
-        Tallies::from(self.engine.counts())
+        self.engine.unit()
     }
 
     pub(crate) fn acknowledge(&mut self, gerrorn: u32, remedy: Remedy) -> Status

@@ -1,13 +1,14 @@
 //! The exports of the error stop and the counts, of a unit or of an engine.
-ghost use Rattle.smmuq_c.specs.Calls.{HasCalled, OfAnyUnit, OfStop, BySaid};
-ghost use Rattle.smmuq_c.specs.Registers.{IsRemedyOf, HasToldState};
+ghost use Rattle.smmuq_c.specs.Calls.{HasCalled, OfState, OfStop, OfUnit, BySaid};
+ghost use Rattle.smmuq_c.specs.Registers.{IsRemedyOf, IsErrorOf, HasStoppedFor, HasRestored, HasReset};
 ghost use Rattle.smmuq_c.specs.Kept.{IsKept, KeptUnlessDone};
 
+use crate::answers::acknowledgement_status;
 use crate::handle::Handle;
 use crate::object::Object;
 use crate::status::Status;
-use crate::stop_remedy::StopRemedy;
 use crate::words::{Errors, Tallies};
+use engine::{QueueError, QueueUnit, StopRemedy};
 
 /// Writes SMMU_GERRORN, as software. `remedy` 0 has the illegal command come again, 1 has it replaced, 2 leaves that to
 /// the words that come next: the same ones come again, and others replace it. For an engine 2 is 0. G1 if no error is
@@ -43,8 +44,8 @@ fn acknowledge(object: &mut Object, gerrorn: u32, remedy: u32) -> Status
         return Status::BadField;
     };
     match object {
-        Object::Unit(unit) => unit.acknowledge(gerrorn, remedy),
-        Object::Engine(seated) => seated.acknowledge(gerrorn, remedy.remedy()),
+        Object::Unit(queue) => acknowledgement_status(queue.acknowledge(gerrorn, remedy)),
+        Object::Engine(seated) => seated.acknowledge(gerrorn, remedy.until_then()),
         Object::Sender(_) | Object::Reservation(_) | Object::Consumer(_) => Status::WrongHandle,
     }
 }
@@ -56,7 +57,7 @@ pub extern "C" fn smmuq_state(
     errors: &mut Errors,
     tallies: &mut Tallies,
 ) -> u32
-    ensures called { HasCalled (OfAnyUnit (HasToldState errors.new tallies.new)) handle.old.object handle.new.object result }
+    ensures called { HasCalled (OfState errors.new tallies.new) handle.old.object handle.new.object result }
     ensures errors { KeptUnlessDone result errors.old errors.new }
     ensures tallies { KeptUnlessDone result tallies.old tallies.new }
 {
@@ -67,21 +68,128 @@ pub extern "C" fn smmuq_state(
 }
 
 fn tell_state(object: &Object, errors: &mut Errors, tallies: &mut Tallies) -> Status
-    ensures called { OfAnyUnit (HasToldState errors.new tallies.new) object.now object.now result }
+    ensures called { OfState errors.new tallies.new object.now object.now result }
     ensures errors { IsKept result errors.old errors.new }
     ensures tallies { IsKept result tallies.old tallies.new }
 {
     match object {
-        Object::Unit(unit) => {
-            *errors = unit.errors();
-            *tallies = unit.tallies();
+        Object::Unit(queue) => {
+            *errors = Errors::of(queue.error());
+            *tallies = Tallies::from(queue.unit.counts());
             Status::Done
         }
         Object::Engine(seated) => {
-            *errors = seated.errors();
-            *tallies = seated.tallies();
+            *errors = Errors::of(seated.unit().error());
+            *tallies = Tallies::from(seated.unit().counts());
             Status::Done
         }
         Object::Sender(_) | Object::Reservation(_) | Object::Consumer(_) => Status::WrongHandle,
+    }
+}
+
+fn error_of(number: u32) -> Option<QueueError>
+    ensures { IsErrorOf number result }
+{
+    match number {
+        1 => Some(QueueError::Illegal),
+        2 => Some(QueueError::Abort),
+        3 => Some(QueueError::AtcInvSync),
+        _ => None,
+    }
+}
+
+/// Stops a unit for an error that its model found: 1 is CERROR_ILL, 2 CERROR_ABT, 3 CERROR_ATC_INV_SYNC, and another
+/// number `BAD_FIELD`. CMDQ_ERR of SMMU_GERROR toggles. `STILL_STOPPED` if it is stopped: then nothing changed.
+#[unsafe(no_mangle)]
+pub extern "C" fn smmuq_unit_stop(unit: &mut Handle, err: u32) -> u32
+    ensures { HasCalled (OfUnit (HasStoppedFor err)) unit.old.object unit.new.object result }
+{
+    let Some(object) = unit.object_mut() else {
+        return Status::EmptyHandle.number();
+    };
+    stop(object, err).number()
+}
+
+fn stop(object: &mut Object, err: u32) -> Status
+    ensures { OfUnit (HasStoppedFor err) object.old object.new result }
+{
+    match object {
+        Object::Unit(queue) => stop_for(queue, err),
+        Object::Sender(_) | Object::Reservation(_) | Object::Engine(_) | Object::Consumer(_) =>
+            Status::WrongHandle,
+    }
+}
+
+fn stop_for(queue: &mut QueueUnit, err: u32) -> Status
+    ensures { HasStoppedFor err queue.old queue.new result }
+{
+    let Some(error) = error_of(err) else {
+        return Status::BadField;
+    };
+    if queue.stopped() {
+        return Status::StillStopped;
+    }
+    queue.stop(error);
+    Status::Done
+}
+
+/// Sets CMDQ_ERR of both registers of a unit, as where its queue was served before. If they differ it is stopped for the
+/// error of this number, as by `smmuq_unit_stop`. `BAD_FIELD` if there is none, `STILL_STOPPED` if it is stopped: then
+/// nothing changed.
+#[unsafe(no_mangle)]
+pub extern "C" fn smmuq_unit_restore(unit: &mut Handle, err: u32, gerror: u32, gerrorn: u32) -> u32
+    ensures { HasCalled (OfUnit (HasRestored err gerror gerrorn)) unit.old.object unit.new.object result }
+{
+    let Some(object) = unit.object_mut() else {
+        return Status::EmptyHandle.number();
+    };
+    restore(object, err, gerror, gerrorn).number()
+}
+
+fn restore(object: &mut Object, err: u32, gerror: u32, gerrorn: u32) -> Status
+    ensures { OfUnit (HasRestored err gerror gerrorn) object.old object.new result }
+{
+    match object {
+        Object::Unit(queue) => restore_to(queue, err, gerror, gerrorn),
+        Object::Sender(_) | Object::Reservation(_) | Object::Engine(_) | Object::Consumer(_) =>
+            Status::WrongHandle,
+    }
+}
+
+fn restore_to(queue: &mut QueueUnit, err: u32, gerror: u32, gerrorn: u32) -> Status
+    ensures { HasRestored err gerror gerrorn queue.old queue.new result }
+{
+    let Some(error) = error_of(err) else {
+        return Status::BadField;
+    };
+    if queue.stopped() {
+        return Status::StillStopped;
+    }
+    queue.restore(gerror, gerrorn, error);
+    Status::Done
+}
+
+/// Empties a unit's caches where it is, and starts its counts, registers and stop afresh, as a reset of the SMMU does.
+/// Takes no memory.
+#[unsafe(no_mangle)]
+pub extern "C" fn smmuq_unit_reset(unit: &mut Handle) -> u32
+    ensures { HasCalled (OfUnit HasReset) unit.old.object unit.new.object result }
+{
+    let Some(object) = unit.object_mut() else {
+        return Status::EmptyHandle.number();
+    };
+    reset(object).number()
+}
+
+fn reset(object: &mut Object) -> Status
+    ensures { OfUnit HasReset object.old object.new result }
+{
+    match object {
+        Object::Unit(queue) => {
+            queue.reset();
+            Status::Done
+        }
+        Object::Sender(_) | Object::Reservation(_) | Object::Engine(_) | Object::Consumer(_) =>
+            Status::WrongHandle,
     }
 }

@@ -8,7 +8,7 @@ ghost use Rattle.smmuq_c.specs.Sends.{control_words};
 
 use crate::status::ill_number;
 use caches::Entry;
-use engine::{Counts, Registers, RunAnswer, Verdict};
+use engine::{Counts, Judgement, Registers, RunAnswer};
 use qindex::Control;
 
 /// What a command did: how many entries it removed, and the number of what is illegal in it, or 0.
@@ -23,12 +23,12 @@ impl VerdictWords {
     /// For a command that wasn't judged.
     pub(crate) const NONE: VerdictWords = VerdictWords { removed: 0, ill: 0 };
 
-    pub(crate) fn of(verdict: &Verdict) -> VerdictWords
-        ensures { result ≡ verdict_words verdict.now }
+    pub(crate) fn of(judgement: Judgement) -> VerdictWords
+        ensures { result ≡ verdict_words judgement }
     {
-        match *verdict {
-            Verdict::Applied { removed, .. } => VerdictWords { removed, ill: 0 },
-            Verdict::Stopped(ill) | Verdict::Replaced(ill) => VerdictWords {
+        match judgement {
+            Judgement::Applied { removed } => VerdictWords { removed, ill: 0 },
+            Judgement::Stopped(ill) | Judgement::Replaced(ill) => VerdictWords {
                 removed: 0,
                 ill: ill_number(ill),
             },
@@ -63,6 +63,20 @@ pub struct Errors {
     pub err: u32,
     pub gerror: u32,
     pub gerrorn: u32,
+}
+
+impl Errors {
+    /// Of CONS.ERR, GERROR and GERRORN.
+    pub(crate) fn of(registers: (u32, u32, u32)) -> Errors
+        ensures { result ≡ record { err = registers.0; gerror = registers.1; gerrorn = registers.2 } }
+    {
+        let (err, gerror, gerrorn) = registers;
+        Errors {
+            err,
+            gerror,
+            gerrorn,
+        }
+    }
 }
 
 /// The counts of the commands taken.

@@ -3,7 +3,6 @@ use Rattle.engine.specs.Engines.{EngineValue}
 use Rattle.engine.specs.Units.{new_unit}
 use Rattle.smmuq_c.specs.declared.object.Object.TheVariants.{Engine as EngineOf}
 use Rattle.smmuq_c.proofs.NewSenders.{own_senders, as_many, as_many_boxes}
-use Rattle.smmuq_c.proofs.Owning.{empty_own}
 use Rattle.smmuq_c.proofs.ring_calls.engine_seats.Goals as goal
 
 pub share-requires : goal.share-requires
@@ -25,6 +24,3 @@ returns-in-Ok-new-2-clause-made c = record {
 
 pub returns-in-Ok-new-2-clause-count : goal.returns-in-Ok-new-2-clause-count
 returns-in-Ok-new-2-clause-count c = as_many_boxes c.in-Ok-share.senders.items c.in-Ok-new.parts.1.items c.in-Ok-share.ensures.seats (as_many c.in-Ok-new.ensures.made)
-
-pub new-seated-requires-clause-own : goal.new-seated-requires-clause-own
-new-seated-requires-clause-own c = empty_own c.new-2.result.unit.caches.entries (ap (λ (e : EngineValue). e.unit.caches.entries) c.new-2.ensures ∙ c.in-Ok.ensures.ok.empty)
