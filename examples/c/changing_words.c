@@ -31,31 +31,35 @@ static void *change(void *nothing) {
 }
 
 int main(int argc, char **argv) {
-    smmuq_handle sender = SMMUQ_EMPTY, engine = SMMUQ_EMPTY;
+    smmuq_sender sender = SMMUQ_EMPTY;
+    smmuq_engine engine = SMMUQ_EMPTY;
     unsigned long calls = argc > 1 ? strtoul(argv[1], NULL, 10) : 1000000, i;
     smmuq_run_answer answer;
-    uint32_t number, status, sent = 0, done;
+    uint32_t number, sent = 0, done;
+    smmuq_status status;
     smmuq_held held;
     pthread_t thread;
     tag.kind = SMMUQ_S1;
+    tag.scope = SMMUQ_SCOPE_GLOBAL;
     if (smmuq_ring_new(4, 0xfffffffeu, 8, &sender, 1, &engine) != SMMUQ_OK)
         return 1;
     pthread_create(&thread, NULL, change, NULL);
     for (i = 0; i < calls; i++) {
-        status = smmuq_send(&sender, (const smmuq_words *)words, 1, 1, &number);
+        status = smmuq_send(&sender, (const smmuq_command *)words, 1, 1, &number);
         if (status == SMMUQ_OK)
             sent++;
-        else if (status != SMMUQ_B2)
+        else if (status != SMMUQ_SYNC_INSIDE)
             return 1;
         while ((status = smmuq_run(&engine, 64, &answer)) != SMMUQ_RING_EMPTY) {
-            if (status >= SMMUQ_ILL1 && status <= SMMUQ_ILL4 && smmuq_acknowledge(&engine, 1, SMMUQ_REPLACE) != SMMUQ_OK &&
-                smmuq_acknowledge(&engine, 0, SMMUQ_REPLACE) != SMMUQ_OK)
+            if (status >= SMMUQ_ILL_OPCODE && status <= SMMUQ_ILL_SPAN &&
+                smmuq_acknowledge(&engine.handle, 1, SMMUQ_REPLACE) != SMMUQ_OK &&
+                smmuq_acknowledge(&engine.handle, 0, SMMUQ_REPLACE) != SMMUQ_OK)
                 return 1;
         }
-        status = smmuq_fill(&engine, (const smmuq_tag *)&tag, i);
+        status = smmuq_fill(&engine.handle, (const smmuq_tag *)&tag, i);
         if (status != SMMUQ_OK && status != SMMUQ_BAD_FIELD)
             return 1;
-        status = smmuq_lookup(&engine, (const smmuq_tag *)&tag, &held);
+        status = smmuq_lookup(&engine.handle, (const smmuq_tag *)&tag, &held);
         if (status != SMMUQ_OK && status != SMMUQ_BAD_FIELD && status != SMMUQ_NOT_HELD)
             return 1;
     }
@@ -63,8 +67,8 @@ int main(int argc, char **argv) {
     pthread_join(thread, NULL);
     if (smmuq_done_up_to(&sender, &done) != SMMUQ_OK || done != sent)
         return 1;
-    smmuq_free(&sender);
-    smmuq_free(&engine);
+    smmuq_free(&sender.handle);
+    smmuq_free(&engine.handle);
     puts("changing_words: each that was sent is done");
     return 0;
 }

@@ -18,29 +18,29 @@ enum { MOST_ENTRIES = 8 }; /* few, so that the guest that is played fills them *
 
 /* What the model has of one SMMU. Indexes have the wrap bit above those of the slot. */
 struct model {
-    smmuq_handle unit;
-    smmuq_words *queue; /* the guest's memory: 2^log2 commands */
+    smmuq_unit unit;
+    smmuq_command *queue; /* the guest's memory: 2^log2 commands */
     uint32_t log2;
     uint32_t prod; /* SMMU_CMDQ_PROD */
     uint32_t cons; /* SMMU_CMDQ_CONS without ERR */
     uint32_t walks;
 };
 
-static void fail(const char *what, uint32_t status) {
-    fprintf(stderr, "%s: status 0x%02x\n", what, status);
+static void fail(const char *what, smmuq_status status) {
+    fprintf(stderr, "%s: %s\n", what, smmuq_status_name(status));
     exit(1);
 }
 
-static smmuq_words *slot(struct model *model, uint32_t index) {
+static smmuq_command *slot(struct model *model, uint32_t index) {
     return &model->queue[index & ((1u << model->log2) - 1)];
 }
 
 /* Takes what waits, up to an illegal command. Answers SMMUQ_OK, or why the queue is stopped. */
-static uint32_t serve(struct model *model) {
+static smmuq_status serve(struct model *model) {
     while (model->cons != model->prod) {
-        const smmuq_words command = *slot(model, model->cons);
+        const smmuq_command command = *slot(model, model->cons);
         smmuq_verdict verdict;
-        uint32_t status = smmuq_unit_judge(&model->unit, command.lo, command.hi, &verdict);
+        smmuq_status status = smmuq_unit_judge(&model->unit, command.lo, command.hi, &verdict);
         if (status != SMMUQ_OK && status != SMMUQ_REPLACED)
             return status;
         model->cons = (model->cons + 1) & ((2u << model->log2) - 1);
@@ -49,42 +49,42 @@ static uint32_t serve(struct model *model) {
 }
 
 /* The guest writes SMMU_CMDQ_PROD. */
-static uint32_t doorbell(struct model *model, uint32_t prod) {
+static smmuq_status doorbell(struct model *model, uint32_t prod) {
     model->prod = prod & ((2u << model->log2) - 1); /* the bits above the wrap bit don't count */
     return serve(model);
 }
 
-/* The guest acknowledges the error by SMMU_GERRORN. Linux has written a CMD_SYNC over the illegal command by then (it does so
- * after CERROR_ILL, the only error of this unit): what the slot holds now says whether the old one is judged again, or was given up. */
-static uint32_t write_gerrorn(struct model *model, uint32_t gerrorn) {
-    uint32_t status = smmuq_acknowledge(&model->unit, gerrorn, SMMUQ_REREAD);
+/* The guest acknowledges the error by SMMU_GERRORN. After CERROR_ILL Linux has written a CMD_SYNC over the illegal command
+ * by then: what the slot holds now says whether the old one is judged again, or was given up. */
+static smmuq_status write_gerrorn(struct model *model, uint32_t gerrorn) {
+    smmuq_status status = smmuq_acknowledge(&model->unit.handle, gerrorn, SMMUQ_REREAD);
     return status == SMMUQ_OK ? serve(model) : status;
 }
 
 /* The caches are full: all translations are thrown out, and what is used of them is walked for again. */
 static void make_room(struct model *model) {
-    const uint32_t translations = 1u << (SMMUQ_S1 - 1) | 1u << (SMMUQ_S2 - 1) | 1u << (SMMUQ_EL2 - 1) | 1u << (SMMUQ_ATC - 1);
+    const uint32_t translations = SMMUQ_ALL_KINDS & ~(SMMUQ_KIND(SMMUQ_STE) | SMMUQ_KIND(SMMUQ_CD));
     size_t count;
-    uint32_t status = smmuq_evict_all(&model->unit, translations, &count);
+    smmuq_status status = smmuq_evict_all(&model->unit.handle, translations, &count);
     if (status != SMMUQ_OK)
         fail("evict_all", status);
 }
 
 /* The value for a page of an address space: the one that is held, or that of a walk, which is held from then on. */
 static uint64_t translate(struct model *model, const uint64_t *page_table, uint64_t address) {
-    const smmuq_tag tag = {.kind = SMMUQ_S1, .vmid = 1, .has_asid = 1, .asid = 2, .address = address};
+    const smmuq_tag tag = {.kind = SMMUQ_S1, .vmid = 1, .scope = SMMUQ_SCOPE_ASID, .asid = 2, .address = address};
     smmuq_held held;
-    uint32_t status = smmuq_lookup(&model->unit, &tag, &held);
+    smmuq_status status = smmuq_lookup(&model->unit.handle, &tag, &held);
     if (status == SMMUQ_OK)
         return held.value;
     if (status != SMMUQ_NOT_HELD)
         fail("lookup", status);
     model->walks++;
     held.value = page_table[address >> 12];
-    status = smmuq_fill(&model->unit, &tag, held.value);
-    if (status == SMMUQ_C1) {
+    status = smmuq_fill(&model->unit.handle, &tag, held.value);
+    if (status == SMMUQ_CACHES_FULL) {
         make_room(model);
-        status = smmuq_fill(&model->unit, &tag, held.value);
+        status = smmuq_fill(&model->unit.handle, &tag, held.value);
     }
     if (status != SMMUQ_OK)
         fail("fill", status);
@@ -99,7 +99,7 @@ static void print_translation(struct model *model, const char *when, const uint6
 static void print_queue(struct model *model) {
     smmuq_errors errors;
     smmuq_tallies tallies;
-    uint32_t status = smmuq_state(&model->unit, &errors, &tallies);
+    smmuq_status status = smmuq_state(&model->unit.handle, &errors, &tallies);
     if (status != SMMUQ_OK)
         fail("state", status);
     printf("prod 0x%08" PRIx32 " cons 0x%08" PRIx32 " gerror %" PRIu32 " gerrorn %" PRIu32 " applied %" PRIu64 " replaced %" PRIu64
@@ -108,32 +108,33 @@ static void print_queue(struct model *model) {
            tallies.syncs);
 }
 
-static void print_command(const char *what, smmuq_words command) {
-    uint8_t text[TEXT_ROOM];
+static void print_command(const char *what, smmuq_command command) {
+    char text[TEXT_ROOM];
     size_t length;
-    uint32_t status = smmuq_text(command.lo, command.hi, text, sizeof text, &length);
+    smmuq_status status = smmuq_text(command.lo, command.hi, text, sizeof text, &length);
     if (status == SMMUQ_OK)
-        printf("%s %s\n", what, (const char *)text);
+        printf("%s %s\n", what, text);
     else
         printf("%s illegal: status 0x%02" PRIx32 "\n", what, status);
 }
 
 /* What the guest's driver puts into the queue, at PROD. */
 static uint32_t put(struct model *model, uint32_t prod, smmuq_fields fields) {
-    smmuq_words words;
-    uint32_t status = smmuq_encode(&fields, &words);
+    smmuq_command command;
+    smmuq_status status = smmuq_encode(&fields, &command);
     if (status != SMMUQ_OK)
         fail("encode", status);
-    *slot(model, prod) = words;
+    *slot(model, prod) = command;
     return (prod + 1) & ((2u << model->log2) - 1);
 }
 
 static void play_a_guest(struct model *model) {
     uint64_t page_table[16] = {0};
-    const smmuq_fields invalidate = {.opcode = 0x12, .vmid = 1, .asid = 2, .leaf = 1, .address = 0x3000};
-    const smmuq_fields sync = {.opcode = 0x46};
+    const smmuq_fields invalidate = {.opcode = SMMUQ_OPCODE_TLBI_NH_VA, .vmid = 1, .asid = 2, .leaf = 1, .address = 0x3000};
+    const smmuq_fields sync = {.opcode = SMMUQ_OPCODE_CMD_SYNC};
     uint64_t address;
     uint32_t prod = 0;
+    smmuq_status status;
 
     page_table[3] = 0x1000;
     print_translation(model, "used", page_table);
@@ -143,13 +144,13 @@ static void play_a_guest(struct model *model) {
     page_table[3] = 0x2000;
     print_translation(model, "mapped anew, not invalidated", page_table);
     prod = put(model, put(model, prod, invalidate), sync);
-    if (doorbell(model, prod) != SMMUQ_OK)
-        fail("doorbell", 0);
+    if ((status = doorbell(model, prod)) != SMMUQ_OK)
+        fail("doorbell", status);
     print_translation(model, "invalidated", page_table);
     print_queue(model);
 
     /* An opcode that nobody knows, and a CMD_SYNC behind it. */
-    *slot(model, prod) = (smmuq_words){0xff, 0};
+    *slot(model, prod) = (smmuq_command){0xff, 0};
     prod = put(model, (prod + 1) & ((2u << model->log2) - 1), sync);
     /* Whatever a guest writes above the wrap bit means nothing to the queue. */
     printf("stopped: status 0x%02" PRIx32 "\n", doorbell(model, prod | 1u << 31));
@@ -170,7 +171,7 @@ static void serve_image(struct model *model, const char *path, uint32_t prod, ui
     FILE *image = fopen(path, "rb");
     const size_t slots = (size_t)1 << model->log2;
     if (!image || fread(model->queue, sizeof *model->queue, slots, image) != slots)
-        fail("the image is shorter than the queue", 0);
+        fail("the image is shorter than the queue", SMMUQ_SHORT_BUFFER);
     fclose(image);
     model->cons = cons;
     print_command("first", *slot(model, cons));
@@ -180,7 +181,7 @@ static void serve_image(struct model *model, const char *path, uint32_t prod, ui
 
 int main(int argc, char **argv) {
     struct model model = {.unit = SMMUQ_EMPTY, .log2 = 4};
-    uint32_t status;
+    smmuq_status status;
     if (argc != 1 && argc != 5)
         return 2;
     if (argc == 5)
@@ -193,7 +194,7 @@ int main(int argc, char **argv) {
         serve_image(&model, argv[1], (uint32_t)strtoul(argv[3], NULL, 0), (uint32_t)strtoul(argv[4], NULL, 0));
     else
         play_a_guest(&model);
-    smmuq_free(&model.unit);
+    smmuq_free(&model.unit.handle);
     free(model.queue);
     return 0;
 }

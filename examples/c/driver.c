@@ -24,28 +24,29 @@ enum { MOST_SENDERS = 256, LOG2 = 6, PAGES = 4 };
 static struct {
     pthread_mutex_t lock; /* one call at a time on the engine's handle */
     pthread_cond_t error; /* SMMU_GERROR tells of an error */
-    smmuq_handle engine;
+    smmuq_engine engine;
     int stopped, drained;
     uint32_t acknowledged;
 } device = {.lock = PTHREAD_MUTEX_INITIALIZER, .error = PTHREAD_COND_INITIALIZER, .engine = SMMUQ_EMPTY};
 
 /* A driver's thread. The handle is its alone. */
 struct driver {
-    smmuq_handle sender;
+    smmuq_sender sender;
     pthread_t thread;
     uint32_t number, batches, failed;
 };
 
-static uint32_t send_one(struct driver *driver, const smmuq_words *commands, size_t count, uint32_t *number) {
-    uint32_t status;
-    while ((status = smmuq_send(&driver->sender, commands, count, 64, number)) == SMMUQ_Q2 || status == SMMUQ_Q3)
+static smmuq_status send_one(struct driver *driver, const smmuq_command *commands, size_t count, uint32_t *number) {
+    smmuq_status status;
+    while ((status = smmuq_send(&driver->sender, commands, count, 64, number)) == SMMUQ_RING_FULL || status == SMMUQ_CONTENDED)
         sched_yield();
     return status;
 }
 
 /* Waits until the CMD_SYNC of this number completed: what was reserved ahead of it was applied by then. */
-static uint32_t wait_for(struct driver *driver, uint32_t number) {
-    uint32_t done = 0, status;
+static smmuq_status wait_for(struct driver *driver, uint32_t number) {
+    uint32_t done = 0;
+    smmuq_status status;
     while ((status = smmuq_done_up_to(&driver->sender, &done)) == SMMUQ_OK && done < number)
         sched_yield();
     return status;
@@ -53,16 +54,16 @@ static uint32_t wait_for(struct driver *driver, uint32_t number) {
 
 static void *drive(void *argument) {
     struct driver *driver = argument;
-    const smmuq_words illegal = {0xff, 0};
+    const smmuq_command illegal = {0xff, 0};
     uint32_t number = 0, batch;
     size_t page;
     if (driver->number == 0 && send_one(driver, &illegal, 1, &number) != SMMUQ_OK)
         driver->failed = 1;
     for (batch = 1; batch <= driver->batches && !driver->failed; batch++) {
-        smmuq_words commands[PAGES];
+        smmuq_command commands[PAGES];
         for (page = 0; page < PAGES; page++) {
-            const smmuq_fields fields = {
-                .opcode = 0x12, .vmid = driver->number, .asid = 1, .leaf = 1, .address = (uint64_t)(batch + page) << 12};
+            const smmuq_fields fields = {.opcode = SMMUQ_OPCODE_TLBI_NH_VA, .vmid = driver->number, .asid = 1, .leaf = 1,
+                                         .address = (uint64_t)(batch + page) << 12};
             if (smmuq_encode(&fields, &commands[page]) != SMMUQ_OK)
                 driver->failed = 1;
         }
@@ -79,12 +80,12 @@ static void *drive(void *argument) {
 
 /* Takes commands until the ring was closed and is drained. */
 static void *take(void *argument) {
-    uint32_t status;
+    smmuq_status status;
     do {
         smmuq_run_answer answer;
         pthread_mutex_lock(&device.lock);
         status = smmuq_run(&device.engine, 64, &answer);
-        if (status >= SMMUQ_ILL1 && status <= SMMUQ_ILL4) {
+        if (status >= SMMUQ_ILL_OPCODE && status <= SMMUQ_ILL_SPAN) {
             device.stopped = 1;
             pthread_cond_signal(&device.error);
         }
@@ -105,8 +106,8 @@ static void *acknowledge(void *argument) {
     while (!device.drained) {
         smmuq_errors errors;
         smmuq_tallies tallies;
-        if (device.stopped && smmuq_state(&device.engine, &errors, &tallies) == SMMUQ_OK
-            && smmuq_acknowledge(&device.engine, errors.gerror, SMMUQ_REPLACE) == SMMUQ_OK) {
+        if (device.stopped && smmuq_state(&device.engine.handle, &errors, &tallies) == SMMUQ_OK
+            && smmuq_acknowledge(&device.engine.handle, errors.gerror, SMMUQ_REPLACE) == SMMUQ_OK) {
             device.stopped = 0;
             device.acknowledged++;
         }
@@ -128,7 +129,7 @@ static int check(struct driver *drivers, uint32_t senders, uint32_t batches) {
         if (drivers[sender].failed || smmuq_done_up_to(&drivers[sender].sender, &done) != SMMUQ_OK
             || done != batches + (sender == 0))
             return 0;
-    if (smmuq_state(&device.engine, &errors, &tallies) != SMMUQ_OK)
+    if (smmuq_state(&device.engine.handle, &errors, &tallies) != SMMUQ_OK)
         return 0;
     printf("%" PRIu32 " senders, %" PRIu32 " batches each: applied %" PRIu64 " syncs %" PRIu64 " replaced %" PRIu64
            " acknowledged %" PRIu32 "\n",
@@ -139,10 +140,11 @@ static int check(struct driver *drivers, uint32_t senders, uint32_t batches) {
 int main(int argc, char **argv) {
     const uint32_t senders = argc > 1 ? (uint32_t)strtoul(argv[1], NULL, 0) : 3;
     const uint32_t batches = argc > 2 ? (uint32_t)strtoul(argv[2], NULL, 0) : 1000;
-    static smmuq_handle handles[MOST_SENDERS];
+    static smmuq_sender handles[MOST_SENDERS];
     static struct driver drivers[MOST_SENDERS];
     pthread_t taker, acknowledger;
-    uint32_t sender, status;
+    uint32_t sender;
+    smmuq_status status;
     int right;
     if (senders < 1 || senders > MOST_SENDERS)
         return 2;
@@ -154,7 +156,7 @@ int main(int argc, char **argv) {
     for (sender = 0; sender < senders; sender++) {
         /* A handle is moved, never copied: the old place isn't used again. */
         drivers[sender] = (struct driver){.sender = handles[sender], .number = sender, .batches = batches};
-        handles[sender] = (smmuq_handle)SMMUQ_EMPTY;
+        handles[sender] = (smmuq_sender)SMMUQ_EMPTY;
         pthread_create(&drivers[sender].thread, NULL, drive, &drivers[sender]);
     }
     for (sender = 0; sender < senders; sender++)
@@ -164,7 +166,7 @@ int main(int argc, char **argv) {
     pthread_join(acknowledger, NULL);
     right = status == SMMUQ_OK && check(drivers, senders, batches);
     for (sender = 0; sender < senders; sender++)
-        smmuq_free(&drivers[sender].sender);
-    smmuq_free(&device.engine);
+        smmuq_free(&drivers[sender].sender.handle);
+    smmuq_free(&device.engine.handle);
     return right ? 0 : 1;
 }

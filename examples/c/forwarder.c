@@ -19,9 +19,9 @@
 
 enum { MOST_SENDERS = 256, RING_LOG2 = 6, LOG2 = 4, SLOTS = 1 << LOG2, PAGES = 4 };
 
-static void check(uint32_t status, const char *what) {
+static void check(smmuq_status status, const char *what) {
     if (status != SMMUQ_OK) {
-        fprintf(stderr, "%s: status 0x%02x\n", what, status);
+        fprintf(stderr, "%s: %s\n", what, smmuq_status_name(status));
         exit(1);
     }
 }
@@ -29,10 +29,10 @@ static void check(uint32_t status, const char *what) {
 /* ---- the hardware: its queue's memory, and its two registers, which count on and are cut to a slot where one is meant */
 
 static struct {
-    smmuq_words queue[SLOTS];
+    smmuq_command queue[SLOTS];
     uint32_t prod, cons, ended;
     uint32_t pages[MOST_SENDERS]; /* how many pages it has invalidated, by their VMID */
-    smmuq_handle unit;
+    smmuq_unit unit;
 } hardware = {.unit = SMMUQ_EMPTY};
 
 static uint32_t get(const uint32_t *word) {
@@ -43,8 +43,8 @@ static void set(uint32_t *word, uint32_t value) {
     __atomic_store_n(word, value, __ATOMIC_RELEASE);
 }
 
-static int is_sync(smmuq_words command) {
-    return (command.lo & 0xff) == 0x46;
+static int is_sync(smmuq_command command) {
+    return (command.lo & 0xff) == SMMUQ_OPCODE_CMD_SYNC;
 }
 
 static void *play_hardware(void *argument) {
@@ -52,7 +52,7 @@ static void *play_hardware(void *argument) {
     for (;;) {
         const uint32_t ended = get(&hardware.ended);
         if (cons != get(&hardware.prod)) {
-            const smmuq_words command = hardware.queue[cons % SLOTS];
+            const smmuq_command command = hardware.queue[cons % SLOTS];
             smmuq_verdict verdict;
             check(smmuq_unit_judge(&hardware.unit, command.lo, command.hi, &verdict), "judge");
             if (!is_sync(command)) {
@@ -71,19 +71,19 @@ static void *play_hardware(void *argument) {
 /* ---- the forwarder: the consumer of the ring */
 
 static struct {
-    smmuq_handle consumer;
+    smmuq_consumer consumer;
     uint32_t passed_on, completed, refused; /* counts of commands */
 } forwarder = {.consumer = SMMUQ_EMPTY};
 
 /* Copies the run into the hardware's queue, up to an illegal command. The first ones may be there already, since what isn't
  * completed is found again. */
-static void pass_on(const smmuq_words *run, size_t count) {
+static void pass_on(const smmuq_command *run, size_t count) {
     const size_t there = forwarder.passed_on - forwarder.completed;
-    const smmuq_words sync = {0x46, 0};
+    const smmuq_command sync = {SMMUQ_OPCODE_CMD_SYNC, 0};
     size_t place;
     for (place = 0; place < count; place++) {
-        smmuq_words *slot = &hardware.queue[(forwarder.completed + place) % SLOTS];
-        const smmuq_words command = is_sync(run[place]) ? sync : run[place];
+        smmuq_command *slot = &hardware.queue[(forwarder.completed + place) % SLOTS];
+        const smmuq_command command = is_sync(run[place]) ? sync : run[place];
         if (place < there) {
             if (slot->lo != command.lo || slot->hi != command.hi)
                 check(SMMUQ_OTHER_COMMAND, "find again");
@@ -97,7 +97,7 @@ static void pass_on(const smmuq_words *run, size_t count) {
 }
 
 /* Completes what the hardware has taken, or an illegal command that nothing is waited for ahead of. */
-static void complete(const smmuq_words *run) {
+static void complete(const smmuq_command *run) {
     const uint32_t taken = get(&hardware.cons) - forwarder.completed;
     if (taken > 0) {
         check(smmuq_complete(&forwarder.consumer, taken), "complete");
@@ -112,9 +112,9 @@ static void complete(const smmuq_words *run) {
 }
 
 static void *forward(void *argument) {
-    smmuq_words run[SLOTS];
+    smmuq_command run[SLOTS];
     size_t count;
-    uint32_t status;
+    smmuq_status status;
     /* No more are taken than the hardware's queue has slots. */
     while ((status = smmuq_take_run(&forwarder.consumer, run, SLOTS, &count)) != SMMUQ_RING_DRAINED) {
         if (status == SMMUQ_OK) {
@@ -133,14 +133,15 @@ static void *forward(void *argument) {
 /* ---- the drivers */
 
 struct driver {
-    smmuq_handle sender;
+    smmuq_sender sender;
     pthread_t thread;
     uint32_t number, batches, early;
 };
 
-static uint32_t send(struct driver *driver, const smmuq_words *commands, size_t count) {
-    uint32_t number, status;
-    while ((status = smmuq_send(&driver->sender, commands, count, 64, &number)) == SMMUQ_Q2 || status == SMMUQ_Q3)
+static uint32_t send(struct driver *driver, const smmuq_command *commands, size_t count) {
+    uint32_t number;
+    smmuq_status status;
+    while ((status = smmuq_send(&driver->sender, commands, count, 64, &number)) == SMMUQ_RING_FULL || status == SMMUQ_CONTENDED)
         sched_yield();
     check(status, "send");
     return number;
@@ -154,16 +155,16 @@ static void wait_for(struct driver *driver, uint32_t number) {
 
 static void *drive(void *argument) {
     struct driver *driver = argument;
-    const smmuq_words illegal = {0xff, 0};
+    const smmuq_command illegal = {0xff, 0};
     uint32_t batch, number = 0;
     size_t page;
     if (driver->number == 0)
         send(driver, &illegal, 1);
     for (batch = 1; batch <= driver->batches; batch++) {
-        smmuq_words commands[PAGES];
+        smmuq_command commands[PAGES];
         for (page = 0; page < PAGES; page++) {
-            const smmuq_fields fields = {
-                .opcode = 0x12, .vmid = driver->number, .asid = 1, .leaf = 1, .address = (uint64_t)(batch + page) << 12};
+            const smmuq_fields fields = {.opcode = SMMUQ_OPCODE_TLBI_NH_VA, .vmid = driver->number, .asid = 1, .leaf = 1,
+                                         .address = (uint64_t)(batch + page) << 12};
             check(smmuq_encode(&fields, &commands[page]), "encode");
         }
         number = send(driver, commands, PAGES);
@@ -185,7 +186,7 @@ static int print_totals(const struct driver *drivers, uint32_t senders, uint32_t
     uint32_t sender, early = 0;
     for (sender = 0; sender < senders; sender++)
         early += drivers[sender].early;
-    check(smmuq_state(&hardware.unit, &errors, &tallies), "state");
+    check(smmuq_state(&hardware.unit.handle, &errors, &tallies), "state");
     printf("%" PRIu32 " senders, %" PRIu32 " batches each: passed on %" PRIu32 " completed %" PRIu32 " without effect %" PRIu32
            " told too early %" PRIu32 "\n",
            senders, batches, forwarder.passed_on, forwarder.completed, forwarder.refused, early);
@@ -198,7 +199,7 @@ static int print_totals(const struct driver *drivers, uint32_t senders, uint32_t
 int main(int argc, char **argv) {
     const uint32_t senders = argc > 1 ? (uint32_t)strtoul(argv[1], NULL, 0) : 3;
     const uint32_t batches = argc > 2 ? (uint32_t)strtoul(argv[2], NULL, 0) : 1000;
-    static smmuq_handle handles[MOST_SENDERS];
+    static smmuq_sender handles[MOST_SENDERS];
     static struct driver drivers[MOST_SENDERS];
     pthread_t taker, player;
     uint32_t sender;
@@ -212,7 +213,7 @@ int main(int argc, char **argv) {
     for (sender = 0; sender < senders; sender++) {
         /* A handle is moved, never copied: the old place isn't used again. */
         drivers[sender] = (struct driver){.sender = handles[sender], .number = sender, .batches = batches};
-        handles[sender] = (smmuq_handle)SMMUQ_EMPTY;
+        handles[sender] = (smmuq_sender)SMMUQ_EMPTY;
         pthread_create(&drivers[sender].thread, NULL, drive, &drivers[sender]);
     }
     for (sender = 0; sender < senders; sender++)
@@ -222,8 +223,8 @@ int main(int argc, char **argv) {
     pthread_join(player, NULL);
     right = print_totals(drivers, senders, batches);
     for (sender = 0; sender < senders; sender++)
-        smmuq_free(&drivers[sender].sender);
-    smmuq_free(&forwarder.consumer);
-    smmuq_free(&hardware.unit);
+        smmuq_free(&drivers[sender].sender.handle);
+    smmuq_free(&forwarder.consumer.handle);
+    smmuq_free(&hardware.unit.handle);
     return right ? 0 : 1;
 }

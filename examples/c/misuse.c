@@ -17,88 +17,95 @@ static void want(const char *call, int line, uint32_t got, uint32_t wanted) {
 }
 #define WANT(call, status) want(#call, __LINE__, (call), (status))
 
-static const smmuq_words CFGI_STE = {0x0000000700000003u, 1}, CMD_SYNC = {0x46, 0}, UNKNOWN = {0xff, 0};
+static const smmuq_command CFGI_STE = {(uint64_t)7 << 32 | SMMUQ_OPCODE_CFGI_STE, 1};
+static const smmuq_command CMD_SYNC = {SMMUQ_OPCODE_CMD_SYNC, 0}, UNKNOWN = {0xff, 0};
 
 static void misuse_words(void) {
-    smmuq_fields fields = {.opcode = 0x12, .address = 1};
-    smmuq_words words, room[8];
-    uint8_t text[160];
+    smmuq_fields fields = {.opcode = SMMUQ_OPCODE_TLBI_NH_VA, .address = 1};
+    smmuq_command command, room[8];
+    char text[160];
     size_t length, count;
-    WANT(smmuq_check(0xff, 0), SMMUQ_ILL1);
-    WANT(smmuq_check(0x403, 0), SMMUQ_ILL2);
-    WANT(smmuq_check(0x3046, 0), SMMUQ_ILL3);
-    WANT(smmuq_check(0x40, 53), SMMUQ_ILL4);
-    WANT(smmuq_decode(0xff, 0, &fields), SMMUQ_ILL1);
-    fields = (smmuq_fields){.opcode = 0x12, .address = 1};
-    WANT(smmuq_encode(&fields, &words), SMMUQ_BAD_FIELD); /* no address of a page */
-    fields = (smmuq_fields){.opcode = 0x12, .vmid = 0x10000};
-    WANT(smmuq_encode(&fields, &words), SMMUQ_BAD_FIELD);
+    WANT(smmuq_check(0xff, 0), SMMUQ_ILL_OPCODE);
+    WANT(smmuq_check(0x403, 0), SMMUQ_ILL_SECURE_STREAM);
+    WANT(smmuq_check(0x3046, 0), SMMUQ_ILL_SIGNAL);
+    WANT(smmuq_check(0x40, 53), SMMUQ_ILL_SPAN);
+    WANT(smmuq_decode(0xff, 0, &fields), SMMUQ_ILL_OPCODE);
+    fields = (smmuq_fields){.opcode = SMMUQ_OPCODE_TLBI_NH_VA, .address = 1};
+    WANT(smmuq_encode(&fields, &command), SMMUQ_BAD_FIELD); /* no address of a page */
+    fields = (smmuq_fields){.opcode = SMMUQ_OPCODE_TLBI_NH_VA, .vmid = 0x10000};
+    WANT(smmuq_encode(&fields, &command), SMMUQ_BAD_FIELD);
     WANT(smmuq_text(CMD_SYNC.lo, CMD_SYNC.hi, text, 8, &length), SMMUQ_SHORT_BUFFER);
-    WANT(smmuq_text(UNKNOWN.lo, UNKNOWN.hi, text, sizeof text, &length), SMMUQ_ILL1);
-    WANT(smmuq_range(1, 2, 0, 0, room, 8, &count), SMMUQ_B3);
+    WANT(smmuq_text(UNKNOWN.lo, UNKNOWN.hi, text, sizeof text, &length), SMMUQ_ILL_OPCODE);
+    WANT(smmuq_range(1, 2, 0, 0, room, 8, &count), SMMUQ_NO_PAGES);
     WANT(smmuq_range(1, 2, 0x10000, 33, room, 1, &count), SMMUQ_SHORT_BUFFER);
     WANT(smmuq_detach(5, room, 2, &count), SMMUQ_SHORT_BUFFER);
-    WANT(smmuq_status_text(SMMUQ_Q2, text, 8, &length), SMMUQ_SHORT_BUFFER);
+    WANT(smmuq_status_text(SMMUQ_RING_FULL, text, 8, &length), SMMUQ_SHORT_BUFFER);
     WANT(smmuq_status_text(0x7f, text, sizeof text, &length), SMMUQ_BAD_FIELD);
-    WANT(smmuq_status_text(SMMUQ_Q2, text, sizeof text, &length), SMMUQ_OK);
-    WANT(strcmp((const char *)text, "Q2: too little room"), 0);
+    WANT(smmuq_status_text(SMMUQ_RING_FULL, text, sizeof text, &length), SMMUQ_OK);
+    WANT(strcmp(text, "Q2: too little room") != 0, 0);
+    WANT(strcmp(smmuq_status_name(SMMUQ_RING_FULL), "SMMUQ_RING_FULL") != 0, 0);
+    WANT(strcmp(smmuq_status_name((smmuq_status)0x7f), "unknown status") != 0, 0);
 }
 
 static void misuse_a_unit(void) {
-    smmuq_handle unit = SMMUQ_EMPTY;
-    smmuq_tag tag = {.kind = SMMUQ_S1, .vmid = 1, .has_asid = 1, .asid = 2, .address = 0x1000, .span = 4};
+    smmuq_unit unit = SMMUQ_EMPTY;
+    smmuq_tag tag = {.kind = SMMUQ_S1, .vmid = 1, .scope = SMMUQ_SCOPE_ASID, .asid = 2, .address = 0x1000, .span = 4};
     smmuq_verdict verdict;
     smmuq_held held;
     smmuq_entry entry;
     size_t count;
     uint32_t number;
     WANT(smmuq_unit_judge(&unit, 3, 0, &verdict), SMMUQ_EMPTY_HANDLE);
-    WANT(smmuq_unit_new(0, &unit), SMMUQ_C4);
+    WANT(smmuq_unit_new(0, &unit), SMMUQ_BAD_CAPACITY);
     WANT(smmuq_unit_new(1, &unit), SMMUQ_OK);
-    WANT(smmuq_send(&unit, &CFGI_STE, 1, 1, &number), SMMUQ_WRONG_HANDLE);
-    WANT(smmuq_close(&unit), SMMUQ_WRONG_HANDLE);
-    WANT(smmuq_fill(&unit, &tag, 1), SMMUQ_C2); /* 16 pages begin at none of their multiples */
+    WANT(smmuq_send((smmuq_sender *)&unit, &CFGI_STE, 1, 1, &number), SMMUQ_WRONG_HANDLE);
+    WANT(smmuq_close((smmuq_sender *)&unit), SMMUQ_WRONG_HANDLE);
+    WANT(smmuq_fill(&unit.handle, &tag, 1), SMMUQ_BAD_BLOCK); /* 16 pages begin at none of their multiples */
     tag.span = 99;
-    WANT(smmuq_fill(&unit, &tag, 1), SMMUQ_BAD_FIELD);
+    WANT(smmuq_fill(&unit.handle, &tag, 1), SMMUQ_BAD_FIELD);
     tag.span = 0;
-    WANT(smmuq_fill(&unit, &tag, 1), SMMUQ_OK);
+    tag.scope = SMMUQ_SCOPE_UNSAID; /* neither an address space nor global */
+    WANT(smmuq_fill(&unit.handle, &tag, 1), SMMUQ_BAD_FIELD);
+    tag.scope = SMMUQ_SCOPE_ASID;
+    WANT(smmuq_fill(&unit.handle, &tag, 1), SMMUQ_OK);
     tag.address = 0x2000;
-    WANT(smmuq_fill(&unit, &tag, 1), SMMUQ_C1);
-    WANT(smmuq_evict_all(&unit, 1u << SMMUQ_ATC, &count), SMMUQ_BAD_FIELD); /* bit 6 is that of no kind */
-    WANT(smmuq_entries(&unit, &entry, 0, &count), SMMUQ_SHORT_BUFFER);
+    WANT(smmuq_fill(&unit.handle, &tag, 1), SMMUQ_CACHES_FULL);
+    WANT(smmuq_evict_all(&unit.handle, SMMUQ_KIND(SMMUQ_ATC + 1), &count), SMMUQ_BAD_FIELD); /* bit 6 is that of no kind */
+    WANT(smmuq_entries(&unit.handle, &entry, 0, &count), SMMUQ_SHORT_BUFFER);
     WANT((uint32_t)count, 1);
-    WANT(smmuq_entries(&unit, &entry, 1, &count), SMMUQ_OK);
-    WANT(smmuq_find(&unit, SMMUQ_S1, 1, 2, 0x1234, 1, &tag, &held), SMMUQ_OK);
+    WANT(smmuq_entries(&unit.handle, &entry, 1, &count), SMMUQ_OK);
+    WANT(smmuq_find(&unit.handle, SMMUQ_S1, 1, 2, 0x1234, SMMUQ_SPAN(SMMUQ_SPAN_4K), &tag, &held), SMMUQ_OK);
     WANT((uint32_t)tag.address, 0x1000);
-    WANT(smmuq_find(&unit, SMMUQ_S1, 1, 3, 0x1234, 1, &tag, &held), SMMUQ_NOT_HELD);
-    WANT(smmuq_find(&unit, SMMUQ_STE, 1, 2, 0x1234, 1, &tag, &held), SMMUQ_BAD_FIELD);
+    WANT(smmuq_find(&unit.handle, SMMUQ_S1, 1, 3, 0x1234, SMMUQ_SPAN(SMMUQ_SPAN_4K), &tag, &held), SMMUQ_NOT_HELD);
+    WANT(smmuq_find(&unit.handle, SMMUQ_STE, 1, 2, 0x1234, SMMUQ_SPAN(SMMUQ_SPAN_4K), &tag, &held), SMMUQ_BAD_FIELD);
     tag.address = 0x2000;
-    WANT(smmuq_lookup(&unit, &tag, &held), SMMUQ_NOT_HELD);
-    WANT(smmuq_evict(&unit, &tag, &held), SMMUQ_NOT_HELD);
+    WANT(smmuq_lookup(&unit.handle, &tag, &held), SMMUQ_NOT_HELD);
+    WANT(smmuq_evict(&unit.handle, &tag, &held), SMMUQ_NOT_HELD);
     /* An error stop: the words at which it stopped come next, and nothing else. */
-    WANT(smmuq_acknowledge(&unit, 1, SMMUQ_RETRY), SMMUQ_G1);
-    WANT(smmuq_unit_judge(&unit, UNKNOWN.lo, UNKNOWN.hi, &verdict), SMMUQ_ILL1);
+    WANT(smmuq_acknowledge(&unit.handle, 1, SMMUQ_RETRY), SMMUQ_NO_ERROR);
+    WANT(smmuq_unit_judge(&unit, UNKNOWN.lo, UNKNOWN.hi, &verdict), SMMUQ_ILL_OPCODE);
     WANT(smmuq_unit_judge(&unit, CMD_SYNC.lo, CMD_SYNC.hi, &verdict), SMMUQ_STILL_STOPPED);
     /* Entries may go while it is stopped, too. */
-    WANT(smmuq_evict_all(&unit, 1u << (SMMUQ_S2 - 1), &count), SMMUQ_OK);
+    WANT(smmuq_evict_all(&unit.handle, SMMUQ_KIND(SMMUQ_S2), &count), SMMUQ_OK);
     WANT((uint32_t)count, 0);
-    WANT(smmuq_evict_all(&unit, 1u << (SMMUQ_S1 - 1), &count), SMMUQ_OK);
+    WANT(smmuq_evict_all(&unit.handle, SMMUQ_KIND(SMMUQ_S1), &count), SMMUQ_OK);
     WANT((uint32_t)count, 1);
-    WANT(smmuq_fill(&unit, &tag, 1), SMMUQ_OK);
-    WANT(smmuq_acknowledge(&unit, 0, SMMUQ_RETRY), SMMUQ_G2);
-    WANT(smmuq_acknowledge(&unit, 1, 7), SMMUQ_BAD_FIELD);
-    WANT(smmuq_acknowledge(&unit, 1, SMMUQ_REPLACE), SMMUQ_OK);
+    WANT(smmuq_fill(&unit.handle, &tag, 1), SMMUQ_OK);
+    WANT(smmuq_acknowledge(&unit.handle, 0, SMMUQ_RETRY), SMMUQ_OTHER_BIT);
+    WANT(smmuq_acknowledge(&unit.handle, 1, 7), SMMUQ_BAD_FIELD);
+    WANT(smmuq_acknowledge(&unit.handle, 1, SMMUQ_REPLACE), SMMUQ_OK);
     WANT(smmuq_unit_judge(&unit, CMD_SYNC.lo, CMD_SYNC.hi, &verdict), SMMUQ_OTHER_COMMAND);
     WANT(smmuq_unit_judge(&unit, UNKNOWN.lo, UNKNOWN.hi, &verdict), SMMUQ_REPLACED);
-    smmuq_free(&unit);
-    smmuq_free(&unit);
-    WANT(smmuq_lookup(&unit, &tag, &held), SMMUQ_EMPTY_HANDLE);
-    WANT(smmuq_evict_all(&unit, 0x3f, &count), SMMUQ_EMPTY_HANDLE);
+    smmuq_free(&unit.handle);
+    smmuq_free(&unit.handle);
+    WANT(smmuq_lookup(&unit.handle, &tag, &held), SMMUQ_EMPTY_HANDLE);
+    WANT(smmuq_evict_all(&unit.handle, SMMUQ_ALL_KINDS, &count), SMMUQ_EMPTY_HANDLE);
 }
 
 static void misuse_a_ring(void) {
-    smmuq_handle senders[2] = {SMMUQ_EMPTY, SMMUQ_EMPTY}, engine = SMMUQ_EMPTY;
-    smmuq_words words[64];
+    smmuq_sender senders[2] = {SMMUQ_EMPTY, SMMUQ_EMPTY};
+    smmuq_engine engine = SMMUQ_EMPTY;
+    smmuq_command words[64];
     smmuq_run_answer answer;
     smmuq_verdict verdict;
     smmuq_queue_control control;
@@ -107,30 +114,30 @@ static void misuse_a_ring(void) {
     size_t i, count;
     for (i = 0; i < 64; i++)
         words[i] = CFGI_STE;
-    WANT(smmuq_ring_new(0, 10, 16, senders, 2, &engine), SMMUQ_N1);
-    WANT(smmuq_ring_new(20, 10, 16, senders, 2, &engine), SMMUQ_N1);
-    WANT(smmuq_ring_new(4, 10, 16, senders, 0, &engine), SMMUQ_N2);
-    WANT(smmuq_ring_new(4, 0, 16, senders, 2, &engine), SMMUQ_N3);
-    WANT(smmuq_ring_new(4, 10, 0, senders, 2, &engine), SMMUQ_C4);
+    WANT(smmuq_ring_new(0, 10, 16, senders, 2, &engine), SMMUQ_BAD_SIZE);
+    WANT(smmuq_ring_new(20, 10, 16, senders, 2, &engine), SMMUQ_BAD_SIZE);
+    WANT(smmuq_ring_new(4, 10, 16, senders, 0, &engine), SMMUQ_BAD_SENDERS);
+    WANT(smmuq_ring_new(4, 0, 16, senders, 2, &engine), SMMUQ_BAD_BATCHES);
+    WANT(smmuq_ring_new(4, 10, 0, senders, 2, &engine), SMMUQ_BAD_CAPACITY);
     WANT(smmuq_renew(4, 10, 16, senders, 2, &engine), SMMUQ_EMPTY_HANDLE);
     WANT(smmuq_send(&senders[0], words, 1, 1, &number), SMMUQ_EMPTY_HANDLE);
     WANT(smmuq_ring_new(4, 10, 16, senders, 2, &engine), SMMUQ_OK);
-    WANT(smmuq_send(&engine, words, 1, 1, &number), SMMUQ_WRONG_HANDLE);
-    WANT(smmuq_run(&senders[0], 64, &answer), SMMUQ_WRONG_HANDLE);
-    WANT(smmuq_unit_judge(&engine, 3, 0, &verdict), SMMUQ_WRONG_HANDLE);
-    WANT(smmuq_look(&engine, &control), SMMUQ_WRONG_HANDLE);
-    WANT(smmuq_registers(&senders[0], &registers), SMMUQ_WRONG_HANDLE);
-    WANT(smmuq_evict_all(&senders[0], 0x3f, &count), SMMUQ_WRONG_HANDLE);
-    WANT(smmuq_send(&senders[0], words, 0, 1, &number), SMMUQ_B5);
-    WANT(smmuq_send(&senders[0], words, 64, 1, &number), SMMUQ_B1);
-    WANT(smmuq_send(&senders[0], &CMD_SYNC, 1, 1, &number), SMMUQ_B2);
-    WANT(smmuq_send(&senders[0], words, 16, 1, &number), SMMUQ_Q4);
+    WANT(smmuq_send((smmuq_sender *)&engine, words, 1, 1, &number), SMMUQ_WRONG_HANDLE);
+    WANT(smmuq_run((smmuq_engine *)&senders[0], 64, &answer), SMMUQ_WRONG_HANDLE);
+    WANT(smmuq_unit_judge((smmuq_unit *)&engine, 3, 0, &verdict), SMMUQ_WRONG_HANDLE);
+    WANT(smmuq_look((smmuq_sender *)&engine, &control), SMMUQ_WRONG_HANDLE);
+    WANT(smmuq_registers((smmuq_engine *)&senders[0], &registers), SMMUQ_WRONG_HANDLE);
+    WANT(smmuq_evict_all(&senders[0].handle, SMMUQ_ALL_KINDS, &count), SMMUQ_WRONG_HANDLE);
+    WANT(smmuq_send(&senders[0], words, 0, 1, &number), SMMUQ_BATCH_EMPTY);
+    WANT(smmuq_send(&senders[0], words, 64, 1, &number), SMMUQ_BATCH_FULL);
+    WANT(smmuq_send(&senders[0], &CMD_SYNC, 1, 1, &number), SMMUQ_SYNC_INSIDE);
+    WANT(smmuq_send(&senders[0], words, 16, 1, &number), SMMUQ_BATCH_TOO_LONG);
     WANT(smmuq_run(&engine, 64, &answer), SMMUQ_RING_EMPTY);
     WANT(smmuq_send(&senders[0], words, 15, 0, &number), SMMUQ_OK); /* no tries count as one */
-    WANT(smmuq_left(&engine, &number), SMMUQ_WRONG_HANDLE);
+    WANT(smmuq_left((smmuq_sender *)&engine, &number), SMMUQ_WRONG_HANDLE);
     WANT(smmuq_left(&senders[0], &number), SMMUQ_OK);
     WANT(number, 9);
-    WANT(smmuq_send(&senders[1], words, 1, 5, &number), SMMUQ_Q2);
+    WANT(smmuq_send(&senders[1], words, 1, 5, &number), SMMUQ_RING_FULL);
     WANT(smmuq_look(&senders[1], &control), SMMUQ_OK);
     WANT(control.prod, 16);
     WANT(smmuq_registers(&engine, &registers), SMMUQ_OK);
@@ -141,28 +148,28 @@ static void misuse_a_ring(void) {
     WANT(smmuq_done_up_to(&senders[0], &number), SMMUQ_OK);
     WANT(number, 1);
     WANT(smmuq_send_bare(&senders[1], words, 1, 1), SMMUQ_OK);
-    WANT(smmuq_renew(4, 10, 16, senders, 2, &engine), SMMUQ_Q6);
+    WANT(smmuq_renew(4, 10, 16, senders, 2, &engine), SMMUQ_COMMAND_WAITS);
     WANT(smmuq_run(&engine, 64, &answer), SMMUQ_OK);
-    WANT(smmuq_renew(4, 10, 16, senders, 2, &senders[0]), SMMUQ_WRONG_HANDLE);
-    WANT(smmuq_renew(20, 10, 16, senders, 2, &engine), SMMUQ_N1);
-    WANT(smmuq_renew(4, 10, 16, senders, 0, &engine), SMMUQ_N2);
-    WANT(smmuq_renew(4, 10, 0, senders, 2, &engine), SMMUQ_C4);
+    WANT(smmuq_renew(4, 10, 16, senders, 2, (smmuq_engine *)&senders[0]), SMMUQ_WRONG_HANDLE);
+    WANT(smmuq_renew(20, 10, 16, senders, 2, &engine), SMMUQ_BAD_SIZE);
+    WANT(smmuq_renew(4, 10, 16, senders, 0, &engine), SMMUQ_BAD_SENDERS);
+    WANT(smmuq_renew(4, 10, 0, senders, 2, &engine), SMMUQ_BAD_CAPACITY);
     WANT(smmuq_done_up_to(&senders[0], &number), SMMUQ_OK); /* nothing has changed */
     WANT(number, 1);
     WANT(smmuq_renew(4, 10, 16, senders, 2, &engine), SMMUQ_OK);
     WANT(smmuq_done_up_to(&senders[0], &number), SMMUQ_OK);
     WANT(number, 0);
     WANT(smmuq_publish(&senders[0], &number), SMMUQ_NO_RESERVATION);
-    WANT(smmuq_publish(&engine, &number), SMMUQ_WRONG_HANDLE);
-    WANT(smmuq_reserve(&engine, words, 1), SMMUQ_WRONG_HANDLE);
-    WANT(smmuq_reserve(&senders[0], words, 0), SMMUQ_B5);
-    WANT(smmuq_reserve(&senders[0], words, 16), SMMUQ_Q4);
+    WANT(smmuq_publish((smmuq_sender *)&engine, &number), SMMUQ_WRONG_HANDLE);
+    WANT(smmuq_reserve((smmuq_sender *)&engine, words, 1), SMMUQ_WRONG_HANDLE);
+    WANT(smmuq_reserve(&senders[0], words, 0), SMMUQ_BATCH_EMPTY);
+    WANT(smmuq_reserve(&senders[0], words, 16), SMMUQ_BATCH_TOO_LONG);
     WANT(smmuq_reserve(&senders[0], words, 1), SMMUQ_OK);
     WANT(smmuq_reserve(&senders[0], words, 1), SMMUQ_OPEN_RESERVATION);
     WANT(smmuq_send(&senders[0], words, 1, 1, &number), SMMUQ_OPEN_RESERVATION);
     WANT(smmuq_done_up_to(&senders[0], &number), SMMUQ_OPEN_RESERVATION);
-    WANT(smmuq_free(&senders[0]), SMMUQ_OPEN_RESERVATION);
-    WANT(smmuq_kind(&senders[0]), 2);
+    WANT(smmuq_free(&senders[0].handle), SMMUQ_OPEN_RESERVATION);
+    WANT(smmuq_kind(&senders[0].handle), 2);
     WANT(smmuq_send(&senders[1], words, 1, 1, &number), SMMUQ_OK); /* others go on, and are taken up to there */
     WANT(smmuq_run(&engine, 64, &answer), SMMUQ_RING_UNWRITTEN);
     WANT(smmuq_publish(&senders[0], &number), SMMUQ_OK);
@@ -170,21 +177,22 @@ static void misuse_a_ring(void) {
     WANT(smmuq_run(&engine, 64, &answer), SMMUQ_OK);
     WANT(answer.count, 4);
     WANT(smmuq_close(&senders[1]), SMMUQ_OK);
-    WANT(smmuq_send(&senders[0], words, 1, 1, &number), SMMUQ_Q1);
+    WANT(smmuq_send(&senders[0], words, 1, 1, &number), SMMUQ_RING_CLOSED);
     WANT(smmuq_run(&engine, 64, &answer), SMMUQ_RING_DRAINED);
     /* Handles are freed in any order: each has its share of the ring. */
-    smmuq_free(&engine);
+    smmuq_free(&engine.handle);
     WANT(smmuq_done_up_to(&senders[0], &number), SMMUQ_OK);
-    smmuq_free(&senders[0]);
+    smmuq_free(&senders[0].handle);
     WANT(smmuq_done_up_to(&senders[0], &number), SMMUQ_EMPTY_HANDLE);
     /* What a handle held is freed where it is made anew. */
-    WANT(smmuq_unit_new(16, &senders[1]), SMMUQ_OK);
-    smmuq_free(&senders[1]);
+    WANT(smmuq_unit_new(16, (smmuq_unit *)&senders[1]), SMMUQ_OK);
+    smmuq_free(&senders[1].handle);
 }
 
 static void misuse_a_consumer(void) {
-    smmuq_handle sender = SMMUQ_EMPTY, consumer = SMMUQ_EMPTY;
-    smmuq_words run[65] = {{0, 0}}, words[3] = {CFGI_STE, UNKNOWN, CFGI_STE};
+    smmuq_sender sender = SMMUQ_EMPTY;
+    smmuq_consumer consumer = SMMUQ_EMPTY;
+    smmuq_command run[65] = {{0, 0}}, words[3] = {CFGI_STE, UNKNOWN, CFGI_STE};
     smmuq_tag tag = {.kind = SMMUQ_STE, .sid = 7};
     smmuq_run_answer answer;
     smmuq_verdict verdict;
@@ -196,23 +204,23 @@ static void misuse_a_consumer(void) {
     size_t count;
     WANT(smmuq_take_run(&consumer, run, 64, &count), SMMUQ_EMPTY_HANDLE);
     WANT(smmuq_complete(&consumer, 1), SMMUQ_EMPTY_HANDLE);
-    WANT(smmuq_consumer_ring_new(20, 10, &sender, 1, &consumer), SMMUQ_N1);
-    WANT(smmuq_consumer_ring_new(4, 10, &sender, 0, &consumer), SMMUQ_N2);
-    WANT(smmuq_consumer_ring_new(4, 0, &sender, 1, &consumer), SMMUQ_N3);
-    WANT(smmuq_kind(&consumer), 0);
+    WANT(smmuq_consumer_ring_new(20, 10, &sender, 1, &consumer), SMMUQ_BAD_SIZE);
+    WANT(smmuq_consumer_ring_new(4, 10, &sender, 0, &consumer), SMMUQ_BAD_SENDERS);
+    WANT(smmuq_consumer_ring_new(4, 0, &sender, 1, &consumer), SMMUQ_BAD_BATCHES);
+    WANT(smmuq_kind(&consumer.handle), 0);
     WANT(smmuq_consumer_ring_new(4, 10, &sender, 1, &consumer), SMMUQ_OK);
-    WANT(smmuq_kind(&sender), 2);
-    WANT(smmuq_kind(&consumer), 4);
-    WANT(smmuq_run(&consumer, 64, &answer), SMMUQ_WRONG_HANDLE);
-    WANT(smmuq_registers(&consumer, &registers), SMMUQ_WRONG_HANDLE);
-    WANT(smmuq_state(&consumer, &errors, &tallies), SMMUQ_WRONG_HANDLE);
-    WANT(smmuq_fill(&consumer, &tag, 1), SMMUQ_WRONG_HANDLE);
-    WANT(smmuq_acknowledge(&consumer, 1, SMMUQ_RETRY), SMMUQ_WRONG_HANDLE);
-    WANT(smmuq_unit_judge(&consumer, 3, 0, &verdict), SMMUQ_WRONG_HANDLE);
-    WANT(smmuq_look(&consumer, &control), SMMUQ_WRONG_HANDLE);
-    WANT(smmuq_send(&consumer, words, 1, 1, &number), SMMUQ_WRONG_HANDLE);
-    WANT(smmuq_take_run(&sender, run, 64, &count), SMMUQ_WRONG_HANDLE);
-    WANT(smmuq_complete(&sender, 1), SMMUQ_WRONG_HANDLE);
+    WANT(smmuq_kind(&sender.handle), 2);
+    WANT(smmuq_kind(&consumer.handle), 4);
+    WANT(smmuq_run((smmuq_engine *)&consumer, 64, &answer), SMMUQ_WRONG_HANDLE);
+    WANT(smmuq_registers((smmuq_engine *)&consumer, &registers), SMMUQ_WRONG_HANDLE);
+    WANT(smmuq_state(&consumer.handle, &errors, &tallies), SMMUQ_WRONG_HANDLE);
+    WANT(smmuq_fill(&consumer.handle, &tag, 1), SMMUQ_WRONG_HANDLE);
+    WANT(smmuq_acknowledge(&consumer.handle, 1, SMMUQ_RETRY), SMMUQ_WRONG_HANDLE);
+    WANT(smmuq_unit_judge((smmuq_unit *)&consumer, 3, 0, &verdict), SMMUQ_WRONG_HANDLE);
+    WANT(smmuq_look((smmuq_sender *)&consumer, &control), SMMUQ_WRONG_HANDLE);
+    WANT(smmuq_send((smmuq_sender *)&consumer, words, 1, 1, &number), SMMUQ_WRONG_HANDLE);
+    WANT(smmuq_take_run((smmuq_consumer *)&sender, run, 64, &count), SMMUQ_WRONG_HANDLE);
+    WANT(smmuq_complete((smmuq_consumer *)&sender, 1), SMMUQ_WRONG_HANDLE);
     WANT(smmuq_take_run(&consumer, run, 64, &count), SMMUQ_RING_EMPTY);
     WANT((uint32_t)count, 0);
     WANT(smmuq_send(&sender, words, 3, 1, &number), SMMUQ_OK);
@@ -226,7 +234,7 @@ static void misuse_a_consumer(void) {
     WANT(run[0].lo != CFGI_STE.lo || run[1].lo != UNKNOWN.lo, 0);
     WANT(smmuq_complete(&consumer, 0), SMMUQ_BAD_FIELD);
     WANT(smmuq_complete(&consumer, 5), SMMUQ_BAD_FIELD);
-    WANT(smmuq_complete(&consumer, 4), SMMUQ_ILL1); /* the second is illegal: one ahead of it, and then it alone */
+    WANT(smmuq_complete(&consumer, 4), SMMUQ_ILL_OPCODE); /* the second is illegal: one ahead of it, and then it alone */
     WANT(smmuq_complete(&consumer, 1), SMMUQ_OK);
     WANT(smmuq_complete(&consumer, 1), SMMUQ_BAD_FIELD); /* the rest is taken again first */
     WANT(smmuq_take_run(&consumer, run, 64, &count), SMMUQ_OK);
@@ -243,27 +251,28 @@ static void misuse_a_consumer(void) {
     WANT(smmuq_take_run(&consumer, run, 64, &count), SMMUQ_OK);
     WANT(smmuq_complete(&consumer, count), SMMUQ_OK);
     WANT(smmuq_take_run(&consumer, run, 64, &count), SMMUQ_RING_DRAINED);
-    smmuq_free(&consumer);
+    smmuq_free(&consumer.handle);
     WANT(smmuq_complete(&consumer, 1), SMMUQ_EMPTY_HANDLE);
-    smmuq_free(&sender);
+    smmuq_free(&sender.handle);
 }
 
 /* What was told and not completed stays in the ring when the consumer is freed. */
 static void free_a_consumer_midway(void) {
-    smmuq_handle sender = SMMUQ_EMPTY, consumer = SMMUQ_EMPTY;
-    smmuq_words run[64];
+    smmuq_sender sender = SMMUQ_EMPTY;
+    smmuq_consumer consumer = SMMUQ_EMPTY;
+    smmuq_command run[64];
     smmuq_queue_control control;
     uint32_t number;
     size_t count;
     WANT(smmuq_consumer_ring_new(4, 10, &sender, 1, &consumer), SMMUQ_OK);
     WANT(smmuq_send(&sender, &CFGI_STE, 1, 1, &number), SMMUQ_OK);
     WANT(smmuq_take_run(&consumer, run, 64, &count), SMMUQ_OK);
-    smmuq_free(&consumer);
+    smmuq_free(&consumer.handle);
     WANT(smmuq_look(&sender, &control), SMMUQ_OK);
     WANT(control.prod - control.cons, 2);
     WANT(smmuq_done_up_to(&sender, &number), SMMUQ_OK);
     WANT(number, 0);
-    smmuq_free(&sender);
+    smmuq_free(&sender.handle);
 }
 
 static smmuq_guarded shared;
@@ -271,9 +280,8 @@ static smmuq_guarded shared;
 static void *send_on_shared(void *sent) {
     uint32_t number, i;
     for (i = 0; i < 20000; i++) {
-        smmuq_handle *handle = smmuq_enter(&shared);
-        if (handle) {
-            if (smmuq_send(handle, &CFGI_STE, 1, 1, &number) == SMMUQ_OK)
+        if (smmuq_enter(&shared)) {
+            if (smmuq_send(&shared.any.sender, &CFGI_STE, 1, 1, &number) == SMMUQ_OK)
                 ++*(uint32_t *)sent;
             smmuq_leave(&shared);
         }
@@ -283,29 +291,31 @@ static void *send_on_shared(void *sent) {
 
 /* A refused call leaves what it would have told as it was, and that the handle is of another kind comes first. */
 static void be_refused(void) {
-    smmuq_handle empty = SMMUQ_EMPTY, unit = SMMUQ_EMPTY, sender = SMMUQ_EMPTY, consumer = SMMUQ_EMPTY;
+    smmuq_unit unit = SMMUQ_EMPTY;
+    smmuq_sender empty = SMMUQ_EMPTY, sender = SMMUQ_EMPTY;
+    smmuq_consumer consumer = SMMUQ_EMPTY;
     smmuq_tag bad = {.kind = 7};
     smmuq_held held = {11, 12};
     smmuq_verdict verdict = {13, 14};
-    smmuq_words room[4] = {{15, 16}};
+    smmuq_command room[4] = {{15, 16}};
     uint32_t number = 17;
     size_t count = 18;
     WANT(smmuq_unit_new(4, &unit), SMMUQ_OK);
     WANT(smmuq_consumer_ring_new(4, 100, &sender, 1, &consumer), SMMUQ_OK);
     WANT(smmuq_done_up_to(&empty, &number), SMMUQ_EMPTY_HANDLE);
-    WANT(smmuq_send(&sender, &CMD_SYNC, 1, 1, &number), SMMUQ_B2);
+    WANT(smmuq_send(&sender, &CMD_SYNC, 1, 1, &number), SMMUQ_SYNC_INSIDE);
     WANT(smmuq_publish(&sender, &number), SMMUQ_NO_RESERVATION);
     WANT(smmuq_reserve(&sender, &CFGI_STE, 1), SMMUQ_OK);
     WANT(smmuq_done_up_to(&sender, &number), SMMUQ_OPEN_RESERVATION);
     WANT(number, 17);
-    WANT(smmuq_fill(&sender, &bad, 1), SMMUQ_WRONG_HANDLE);
-    WANT(smmuq_lookup(&sender, &bad, &held), SMMUQ_WRONG_HANDLE);
-    WANT(smmuq_evict(&unit, &bad, &held), SMMUQ_BAD_FIELD);
-    WANT(smmuq_find(&consumer, 9, 0, 0, 0, 1, &bad, &held), SMMUQ_WRONG_HANDLE);
-    WANT(smmuq_acknowledge(&consumer, 1, 9), SMMUQ_WRONG_HANDLE);
-    WANT(smmuq_evict_all(&sender, 0x40, &count), SMMUQ_WRONG_HANDLE);
-    WANT(smmuq_unit_judge(&sender, 3, 0, &verdict), SMMUQ_WRONG_HANDLE);
-    WANT(smmuq_take_run(&unit, room, 4, &count), SMMUQ_WRONG_HANDLE);
+    WANT(smmuq_fill(&sender.handle, &bad, 1), SMMUQ_WRONG_HANDLE);
+    WANT(smmuq_lookup(&sender.handle, &bad, &held), SMMUQ_WRONG_HANDLE);
+    WANT(smmuq_evict(&unit.handle, &bad, &held), SMMUQ_BAD_FIELD);
+    WANT(smmuq_find(&consumer.handle, 9, 0, 0, 0, 1, &bad, &held), SMMUQ_WRONG_HANDLE);
+    WANT(smmuq_acknowledge(&consumer.handle, 1, 9), SMMUQ_WRONG_HANDLE);
+    WANT(smmuq_evict_all(&sender.handle, SMMUQ_KIND(7), &count), SMMUQ_WRONG_HANDLE);
+    WANT(smmuq_unit_judge((smmuq_unit *)&sender, 3, 0, &verdict), SMMUQ_WRONG_HANDLE);
+    WANT(smmuq_take_run((smmuq_consumer *)&unit, room, 4, &count), SMMUQ_WRONG_HANDLE);
     WANT(held.value == 11 && held.born == 12 && verdict.removed == 13 && verdict.ill == 14, 1);
     WANT(room[0].lo == 15 && room[0].hi == 16 && count == 18, 1);
     WANT(smmuq_publish(&sender, &number), SMMUQ_OK);
@@ -313,56 +323,60 @@ static void be_refused(void) {
     WANT(smmuq_take_run(&consumer, room, 4, &count), SMMUQ_OK);
     WANT(smmuq_take_run(&consumer, room, 0, &count), SMMUQ_SHORT_BUFFER);
     WANT(smmuq_complete(&consumer, 1), SMMUQ_BAD_FIELD);
-    smmuq_free(&unit);
-    smmuq_free(&sender);
-    smmuq_free(&consumer);
+    smmuq_free(&unit.handle);
+    smmuq_free(&sender.handle);
+    smmuq_free(&consumer.handle);
 }
 
 /* With a substream and without one are two spaces of an endpoint. */
 static void find_in_an_endpoint(void) {
-    smmuq_handle unit = SMMUQ_EMPTY;
+    const uint64_t pages = SMMUQ_SPAN(SMMUQ_SPAN_4K);
+    smmuq_unit unit = SMMUQ_EMPTY;
     smmuq_tag tag = {.kind = SMMUQ_ATC, .sid = 5, .address = 0x1000}, found;
     smmuq_held held;
     WANT(smmuq_unit_new(4, &unit), SMMUQ_OK);
-    WANT(smmuq_fill(&unit, &tag, 21), SMMUQ_OK);
-    WANT(smmuq_find(&unit, SMMUQ_ATC, 5, 2, 0x1234, 1, &found, &held), SMMUQ_NOT_HELD);
-    WANT(smmuq_find(&unit, SMMUQ_ATC, 5, SMMUQ_NO_SUBSTREAM, 0x1234, 1, &found, &held), SMMUQ_OK);
-    WANT(held.value, 21);
+    WANT(smmuq_fill(&unit.handle, &tag, 21), SMMUQ_OK);
+    WANT(smmuq_find(&unit.handle, SMMUQ_ATC, 5, 2, 0x1234, pages, &found, &held), SMMUQ_NOT_HELD);
+    WANT(smmuq_find(&unit.handle, SMMUQ_ATC, 5, SMMUQ_NO_SUBSTREAM, 0x1234, pages, &found, &held), SMMUQ_OK);
+    WANT((uint32_t)held.value, 21);
     WANT(found.has_ssid, 0);
-    WANT(smmuq_find(&unit, SMMUQ_ATC, 5, 1u << 20, 0x1234, 1, &found, &held), SMMUQ_BAD_FIELD);
+    WANT(smmuq_find(&unit.handle, SMMUQ_ATC, 5, 1u << 20, 0x1234, pages, &found, &held), SMMUQ_BAD_FIELD);
     tag.has_ssid = 1;
     tag.ssid = 2;
-    WANT(smmuq_fill(&unit, &tag, 22), SMMUQ_OK);
-    WANT(smmuq_find(&unit, SMMUQ_ATC, 5, 2, 0x1234, 1, &found, &held), SMMUQ_OK);
-    WANT(held.value, 22);
-    smmuq_free(&unit);
+    WANT(smmuq_fill(&unit.handle, &tag, 22), SMMUQ_OK);
+    WANT(smmuq_find(&unit.handle, SMMUQ_ATC, 5, 2, 0x1234, pages, &found, &held), SMMUQ_OK);
+    WANT((uint32_t)held.value, 22);
+    smmuq_free(&unit.handle);
 }
 
 /* Closing ends a ring, and a closed one can be renewed: whoever was left out is answered Q1, and the new one is open. */
 static void renew_a_closed_ring(void) {
-    smmuq_handle senders[2] = {SMMUQ_EMPTY, SMMUQ_EMPTY}, engine = SMMUQ_EMPTY;
+    smmuq_sender senders[2] = {SMMUQ_EMPTY, SMMUQ_EMPTY};
+    smmuq_engine engine = SMMUQ_EMPTY;
     uint32_t number;
     WANT(smmuq_ring_new(4, 100, 8, senders, 2, &engine), SMMUQ_OK);
     WANT(smmuq_close(&senders[0]), SMMUQ_OK);
-    WANT(smmuq_send(&senders[1], &CFGI_STE, 1, 1, &number), SMMUQ_Q1);
+    WANT(smmuq_send(&senders[1], &CFGI_STE, 1, 1, &number), SMMUQ_RING_CLOSED);
     WANT(smmuq_renew(4, 100, 8, senders, 1, &engine), SMMUQ_OK);
     WANT(smmuq_send(&senders[0], &CFGI_STE, 1, 1, &number), SMMUQ_OK);
     WANT(number, 1);
-    WANT(smmuq_send(&senders[1], &CFGI_STE, 1, 1, &number), SMMUQ_Q1);
-    smmuq_free(&senders[0]);
-    smmuq_free(&senders[1]);
-    smmuq_free(&engine);
+    WANT(smmuq_send(&senders[1], &CFGI_STE, 1, 1, &number), SMMUQ_RING_CLOSED);
+    smmuq_free(&senders[0].handle);
+    smmuq_free(&senders[1].handle);
+    smmuq_free(&engine.handle);
 }
 
 /* Two threads on one sender: whoever comes second is refused, and all that was sent is taken. */
 static void share_a_guarded_handle(void) {
-    smmuq_handle sender = SMMUQ_EMPTY, engine = SMMUQ_EMPTY;
+    smmuq_sender sender = SMMUQ_EMPTY;
+    smmuq_engine engine = SMMUQ_EMPTY;
     smmuq_run_answer answer;
     pthread_t threads[2];
-    uint32_t sent[2] = {0, 0}, number, taken = 0, status;
+    uint32_t sent[2] = {0, 0}, number, taken = 0;
+    smmuq_status status;
     int i;
     WANT(smmuq_ring_new(16, 1000000, 16, &sender, 1, &engine), SMMUQ_OK);
-    shared.handle = sender;
+    shared.any.sender = sender;
     for (i = 0; i < 2; i++)
         pthread_create(&threads[i], NULL, send_on_shared, &sent[i]);
     for (i = 0; i < 2; i++)
@@ -371,10 +385,10 @@ static void share_a_guarded_handle(void) {
         taken += answer.count;
     WANT(status, SMMUQ_RING_EMPTY);
     WANT(taken, 2 * (sent[0] + sent[1]));
-    WANT(smmuq_done_up_to(&shared.handle, &number), SMMUQ_OK);
+    WANT(smmuq_done_up_to(&shared.any.sender, &number), SMMUQ_OK);
     WANT(number, sent[0] + sent[1]);
-    smmuq_free(&shared.handle);
-    smmuq_free(&engine);
+    smmuq_free(&shared.any.sender.handle);
+    smmuq_free(&engine.handle);
 }
 
 int main(void) {

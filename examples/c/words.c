@@ -26,9 +26,9 @@ static int read_word(const char *digits, uint64_t *word) {
 
 /* Whether a command's fields give words that decode to the same fields. */
 static int comes_back(const smmuq_fields *fields) {
-    smmuq_words words;
+    smmuq_command command;
     smmuq_fields again;
-    return smmuq_encode(fields, &words) == SMMUQ_OK && smmuq_decode(words.lo, words.hi, &again) == SMMUQ_OK
+    return smmuq_encode(fields, &command) == SMMUQ_OK && smmuq_decode(command.lo, command.hi, &again) == SMMUQ_OK
         && memcmp(fields, &again, sizeof again) == 0;
 }
 
@@ -36,22 +36,22 @@ int main(void) {
     char line[256];
     unsigned number = 0, faults = 0;
     while (fgets(line, sizeof line, stdin)) {
-        smmuq_words words;
+        smmuq_command command;
         smmuq_fields fields;
-        uint8_t text[TEXT_ROOM];
+        char text[TEXT_ROOM];
         size_t length;
-        uint32_t status;
+        smmuq_status status;
         number++;
-        if (strcspn(line, "\r\n") != DIGITS || !read_word(line, &words.lo) || !read_word(line + DIGITS / 2, &words.hi)) {
+        if (strcspn(line, "\r\n") != DIGITS || !read_word(line, &command.lo) || !read_word(line + DIGITS / 2, &command.hi)) {
             printf("line %u: bad line\n", number);
             faults++;
-        } else if ((status = smmuq_decode(words.lo, words.hi, &fields)) != SMMUQ_OK) {
+        } else if ((status = smmuq_decode(command.lo, command.hi, &fields)) != SMMUQ_OK) {
             printf("illegal: status 0x%02x\n", status);
-        } else if (!comes_back(&fields) || smmuq_text(words.lo, words.hi, text, sizeof text, &length) != SMMUQ_OK) {
+        } else if (!comes_back(&fields) || smmuq_text(command.lo, command.hi, text, sizeof text, &length) != SMMUQ_OK) {
             printf("line %u: another command comes back\n", number);
             faults++;
         } else {
-            puts((const char *)text);
+            puts(text);
         }
     }
     return faults ? 1 : 0;

@@ -10,8 +10,8 @@ import sys
 OK, TEXT_ROOM = 0, 160
 
 
-class Handle(ctypes.Structure):
-    _fields_ = [("at", ctypes.c_void_p)]
+class Unit(ctypes.Structure):
+    _fields_ = [("handle", ctypes.c_void_p)]
 
 
 class Verdict(ctypes.Structure):
@@ -20,7 +20,7 @@ class Verdict(ctypes.Structure):
 
 library = ctypes.CDLL(sys.argv[1])
 library.smmuq_text.argtypes = [ctypes.c_uint64, ctypes.c_uint64, ctypes.c_char_p, ctypes.c_size_t, ctypes.POINTER(ctypes.c_size_t)]
-library.smmuq_unit_judge.argtypes = [ctypes.POINTER(Handle), ctypes.c_uint64, ctypes.c_uint64, ctypes.POINTER(Verdict)]
+library.smmuq_unit_judge.argtypes = [ctypes.POINTER(Unit), ctypes.c_uint64, ctypes.c_uint64, ctypes.POINTER(Verdict)]
 
 
 def text(lo, hi):
@@ -29,7 +29,7 @@ def text(lo, hi):
     return buffer.value.decode() if status == OK else f"illegal: status 0x{status:02x}"
 
 
-unit, verdict = Handle(), Verdict()
+unit, verdict = Unit(), Verdict()
 if library.smmuq_unit_new(256, ctypes.byref(unit)) != OK:
     sys.exit("no unit")
 for line in sys.stdin:

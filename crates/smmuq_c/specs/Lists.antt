@@ -18,11 +18,11 @@ use Rattle.smmuq_c.specs.Entries.{entry_words}
 -- ---- the words of a tag, 0 for a field that it doesn't have
 
 abbrev pub no_tag : TagWords
-no_tag = record { kind = 0; sid = 0; has_ssid = 0; ssid = 0; vmid = 0; has_asid = 0; asid = 0; span = 0; address = 0 }
+no_tag = record { kind = 0; sid = 0; has_ssid = 0; ssid = 0; vmid = 0; scope = 0; asid = 0; span = 0; address = 0 }
 
 abbrev pub with_scope : Scope → TagWords → TagWords
-with_scope Global w = w
-with_scope (Of asid) w = record w { has_asid = 1; asid = asid }
+with_scope Global w = record w { scope = 2 }
+with_scope (Of asid) w = record w { scope = 1; asid = asid }
 
 abbrev pub with_substream : Option ℕ → TagWords → TagWords
 with_substream None w = w

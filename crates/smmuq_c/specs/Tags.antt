@@ -9,9 +9,10 @@ use Rattle.smmuq_c.specs.declared.tags.TagWords.{TagWords}
 abbrev pub SaysMachine : TagWords → ℕ → Type 0
 SaysMachine w vmid = (w.vmid ≡ vmid) × (vmid < 2 ^ 16)
 
+-- 0 says no scope
 abbrev pub SaysScope : TagWords → Scope → Type 0
-SaysScope w Global = w.has_asid ≡ 0
-SaysScope w (Of asid) = (w.has_asid ≡ 1) × (w.asid ≡ asid) × (asid < 2 ^ 16)
+SaysScope w Global = w.scope ≡ 2
+SaysScope w (Of asid) = (w.scope ≡ 1) × (w.asid ≡ asid) × (asid < 2 ^ 16)
 
 abbrev pub SaysSubstream : TagWords → Option ℕ → Type 0
 SaysSubstream w None = w.has_ssid ≡ 0

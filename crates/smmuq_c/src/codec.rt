@@ -15,9 +15,9 @@ use std::alloc::Global;
 /// The version of this interface.
 #[unsafe(no_mangle)]
 pub extern "C" fn smmuq_version() -> u32
-    ensures { result ≡ 1 }
+    ensures { result ≡ 2 }
 {
-    1
+    2
 }
 
 fn decode_status(decoded: Result<Command, Ill>) -> Status

@@ -31,7 +31,7 @@ impl TagWords {
         has_ssid: 0,
         ssid: 0,
         vmid: 0,
-        has_asid: 0,
+        scope: 0,
         asid: 0,
         span: 0,
         address: 0,
@@ -41,9 +41,9 @@ impl TagWords {
         ensures { result ≡ with_scope scope self }
     {
         match scope {
-            Scope::Global => self,
+            Scope::Global => TagWords { scope: 2, ..self },
             Scope::Of(asid) => TagWords {
-                has_asid: 1,
+                scope: 1,
                 asid: u32::from(asid.get()),
                 ..self
             },

@@ -4,10 +4,10 @@
 mod sys;
 
 use std::thread;
-use sys::{Handle, RunAnswer, Words};
+use sys::{Command, Handle, RunAnswer};
 
 const BATCHES: u32 = 100_000;
-const CFGI_STE: Words = Words {
+const CFGI_STE: Command = Command {
     lo: 0x7_0000_0003,
     hi: 1,
 };
@@ -23,27 +23,25 @@ fn asked(status: u32) -> Result<(), Refused> {
     }
 }
 
-/// A handle that is freed at its end.
-struct Owned(Handle);
+/// A sender's handle, which is freed at its end.
+struct Sender(sys::Sender);
 
 // SAFETY: what a handle owns has no state of a thread's own, so another thread may go on with it.
-unsafe impl Send for Owned {}
+unsafe impl Send for Sender {}
 
-impl Drop for Owned {
+impl Drop for Sender {
     fn drop(&mut self) {
-        let _ = unsafe { sys::smmuq_free(&mut self.0) };
+        let _ = unsafe { sys::smmuq_free(&mut self.0.handle) };
     }
 }
 
-struct Sender(Owned);
-
 impl Sender {
     /// Sends a batch, and answers the number of its CMD_SYNC.
-    fn send(&mut self, commands: &[Words]) -> Result<u32, Refused> {
+    fn send(&mut self, commands: &[Command]) -> Result<u32, Refused> {
         let mut number = 0;
-        let handle = &mut self.0.0;
+        let sender = &mut self.0;
         asked(unsafe {
-            sys::smmuq_send(handle, commands.as_ptr(), commands.len(), 64, &mut number)
+            sys::smmuq_send(sender, commands.as_ptr(), commands.len(), 64, &mut number)
         })?;
         Ok(number)
     }
@@ -51,22 +49,32 @@ impl Sender {
     /// The number of the last CMD_SYNC that completed, 0 where none did.
     fn done_up_to(&mut self) -> Result<u32, Refused> {
         let mut number = 0;
-        asked(unsafe { sys::smmuq_done_up_to(&mut self.0.0, &mut number) })?;
+        asked(unsafe { sys::smmuq_done_up_to(&mut self.0, &mut number) })?;
         Ok(number)
     }
 
     fn close(&mut self) -> Result<(), Refused> {
-        asked(unsafe { sys::smmuq_close(&mut self.0.0) })
+        asked(unsafe { sys::smmuq_close(&mut self.0) })
     }
 }
 
-struct Engine(Owned);
+/// The engine's handle, which is freed at its end.
+struct Engine(sys::Engine);
+
+// SAFETY: as for a sender.
+unsafe impl Send for Engine {}
+
+impl Drop for Engine {
+    fn drop(&mut self) {
+        let _ = unsafe { sys::smmuq_free(&mut self.0.handle) };
+    }
+}
 
 impl Engine {
     /// Takes what there is, and answers how many commands; nothing where the ring is closed and drained.
     fn run(&mut self) -> Result<Option<u32>, Refused> {
         let mut answer = RunAnswer::default();
-        match unsafe { sys::smmuq_run(&mut self.0.0, 64, &mut answer) } {
+        match unsafe { sys::smmuq_run(&mut self.0, 64, &mut answer) } {
             sys::OK => Ok(Some(answer.count)),
             sys::RING_EMPTY | sys::RING_UNWRITTEN => Ok(Some(0)),
             sys::RING_DRAINED => Ok(None),
@@ -76,12 +84,21 @@ impl Engine {
 }
 
 fn make() -> Result<([Sender; 2], Engine), Refused> {
-    let mut handles = [Handle::EMPTY, Handle::EMPTY];
-    let mut engine = Owned(Handle::EMPTY);
+    let mut senders = [Handle::EMPTY, Handle::EMPTY].map(|handle| sys::Sender { handle });
+    let mut engine = sys::Engine {
+        handle: Handle::EMPTY,
+    };
     asked(unsafe {
-        sys::smmuq_ring_new(10, BATCHES, 64, handles.as_mut_ptr(), handles.len(), &mut engine.0)
+        sys::smmuq_ring_new(
+            10,
+            BATCHES,
+            64,
+            senders.as_mut_ptr(),
+            senders.len(),
+            &mut engine,
+        )
     })?;
-    Ok((handles.map(|handle| Sender(Owned(handle))), Engine(engine)))
+    Ok((senders.map(Sender), Engine(engine)))
 }
 
 /// Sends all batches, waits for the last, and gives the sender back.
@@ -89,7 +106,7 @@ fn send_all(mut sender: Sender) -> Result<Sender, Refused> {
     for wanted in 1..=BATCHES {
         let number = loop {
             match sender.send(&[CFGI_STE]) {
-                Err(Refused(sys::Q2 | sys::Q3)) => thread::yield_now(),
+                Err(Refused(sys::RING_FULL | sys::CONTENDED)) => thread::yield_now(),
                 answer => break answer?,
             }
         };

@@ -14,10 +14,22 @@ impl Handle {
     };
 }
 
-/// `smmuq_words`: a command.
+/// `smmuq_sender`.
+#[repr(transparent)]
+pub struct Sender {
+    pub handle: Handle,
+}
+
+/// `smmuq_engine`.
+#[repr(transparent)]
+pub struct Engine {
+    pub handle: Handle,
+}
+
+/// `smmuq_command`.
 #[repr(C)]
 #[derive(Clone, Copy)]
-pub struct Words {
+pub struct Command {
     pub lo: u64,
     pub hi: u64,
 }
@@ -33,9 +45,9 @@ pub struct RunAnswer {
 
 pub const OK: u32 = 0;
 /// The ring has too little room.
-pub const Q2: u32 = 0x32;
+pub const RING_FULL: u32 = 0x32;
 /// Another changed the ring first.
-pub const Q3: u32 = 0x33;
+pub const CONTENDED: u32 = 0x33;
 pub const RING_EMPTY: u32 = 0x73;
 pub const RING_DRAINED: u32 = 0x74;
 pub const RING_UNWRITTEN: u32 = 0x75;
@@ -46,18 +58,18 @@ unsafe extern "C" {
         log2: u32,
         max_batches: u32,
         capacity: u32,
-        senders: *mut Handle,
+        senders: *mut Sender,
         count: usize,
-        engine: *mut Handle,
+        engine: *mut Engine,
     ) -> u32;
     pub fn smmuq_send(
-        sender: *mut Handle,
-        commands: *const Words,
+        sender: *mut Sender,
+        commands: *const Command,
         count: usize,
         tries: u32,
         number: *mut u32,
     ) -> u32;
-    pub fn smmuq_done_up_to(sender: *mut Handle, number: *mut u32) -> u32;
-    pub fn smmuq_close(sender: *mut Handle) -> u32;
-    pub fn smmuq_run(engine: *mut Handle, most: u32, answer: *mut RunAnswer) -> u32;
+    pub fn smmuq_done_up_to(sender: *mut Sender, number: *mut u32) -> u32;
+    pub fn smmuq_close(sender: *mut Sender) -> u32;
+    pub fn smmuq_run(engine: *mut Engine, most: u32, answer: *mut RunAnswer) -> u32;
 }
