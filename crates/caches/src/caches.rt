@@ -149,7 +149,7 @@ impl Caches {
         (held - self.len()) as u32
     }
 
-    /// Removes all entries, in place. Takes no memory.
+    /// Removes all entries, in place, as a device's reset does (this project's choice). Takes no memory.
     pub fn clear(&mut self)
         ensures entries { self.new.entries ≡ held [] }
         ensures capacity { self.new.capacity ≡ self.old.capacity }

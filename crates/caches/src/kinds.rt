@@ -5,7 +5,7 @@ ghost use Rattle.caches.specs.Kinds.{has_kind, kind_of};
 use crate::tag::Tag;
 use crate::tag_test::{Kind, TagTest};
 
-/// A set of kinds, which is a test of tags: the tags of its kinds pass.
+/// A set of kinds, which is a test of tags: the tags of its kinds pass (this project's choice).
 #[derive(Clone, Copy, Debug, PartialEq, Eq)]
 pub struct Kinds {
     ste: bool,
@@ -40,7 +40,7 @@ impl Kinds {
     /// Returns the set with this kind too.
     pub fn with(self, kind: Kind) -> Kinds
         ensures added { has_kind result kind ≡ true }
-        ensures others { (other : Kind) → other ≢ kind → has_kind result other ≡ has_kind self other }
+        ensures others { (k : Kind) → k ≢ kind → has_kind result k ≡ has_kind self k }
     {
         match kind {
             Kind::Ste => Kinds { ste: true, ..self },

@@ -14,6 +14,9 @@
 //! An index beside the map answers most look-ups in one step: it has a slot for each group of ranks, which counts their
 //! entries and notes the newest. For the others the map is searched.
 //!
+//! A look-up by address makes one or two such look-ups at each span that is asked for and was ever filled, the greatest
+//! first.
+//!
 //! A command for one page, or for the configuration of one stream, looks by the index under each key that it may
 //! cover. What it finds it only lists as removed, and so does an eviction; up to 16 such entries stay in the map until
 //! they are taken out together.

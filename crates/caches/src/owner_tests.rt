@@ -3,13 +3,13 @@ use crate::tag::Tag;
 use crate::tag_test::TagTest;
 use cmdcodec::{Sid, Vmid};
 
-/// What is held of a stream, as a test of tags: its stream table entry, its context descriptors, and the translations
-/// that its endpoint holds.
+/// What is held of a stream, as a test of tags (this project's choice): its stream table entry, its context descriptors,
+/// and the translations that its endpoint holds.
 #[derive(Clone, Copy, Debug, PartialEq, Eq)]
 pub struct OfStream(pub Sid);
 
-/// What is held of a virtual machine, as a test of tags: its stage 1 translations, the global ones too, and its stage 2
-/// translations.
+/// What is held of a virtual machine, as a test of tags (this project's choice): its stage 1 translations, the global
+/// ones too, and its stage 2 translations.
 #[derive(Clone, Copy, Debug, PartialEq, Eq)]
 pub struct OfMachine(pub Vmid);
 
