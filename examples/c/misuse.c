@@ -349,6 +349,75 @@ static void find_in_an_endpoint(void) {
     smmuq_free(&unit.handle);
 }
 
+/* A unit stops for an error that the model found, and goes on where another left off. */
+static void stop_a_unit(void) {
+    smmuq_unit unit = SMMUQ_EMPTY;
+    smmuq_sender sender = SMMUQ_EMPTY;
+    smmuq_verdict verdict;
+    smmuq_errors errors;
+    smmuq_tallies tallies;
+    WANT(smmuq_unit_stop(&unit, SMMUQ_CERROR_ABT), SMMUQ_EMPTY_HANDLE);
+    WANT(smmuq_unit_restore(&unit, 1, 0, 0), SMMUQ_EMPTY_HANDLE);
+    WANT(smmuq_unit_reset(&unit), SMMUQ_EMPTY_HANDLE);
+    WANT(smmuq_unit_new(4, &unit), SMMUQ_OK);
+    WANT(smmuq_unit_stop(&unit, 0), SMMUQ_BAD_FIELD);
+    WANT(smmuq_unit_stop(&unit, 4), SMMUQ_BAD_FIELD);
+    WANT(smmuq_unit_stop(&unit, SMMUQ_CERROR_ABT), SMMUQ_OK);
+    WANT(smmuq_state(&unit.handle, &errors, &tallies), SMMUQ_OK);
+    WANT(errors.err == 2 && errors.gerror == 1 && errors.gerrorn == 0, 1);
+    WANT(smmuq_unit_stop(&unit, SMMUQ_CERROR_ABT), SMMUQ_STILL_STOPPED);
+    WANT(smmuq_unit_restore(&unit, 1, 0, 0), SMMUQ_STILL_STOPPED);
+    WANT(smmuq_unit_judge(&unit, CMD_SYNC.lo, CMD_SYNC.hi, &verdict), SMMUQ_STILL_STOPPED);
+    WANT(smmuq_acknowledge(&unit.handle, 0, SMMUQ_RETRY), SMMUQ_OTHER_BIT);
+    WANT(smmuq_acknowledge(&unit.handle, 1, SMMUQ_REPLACE), SMMUQ_OK);
+    WANT(smmuq_unit_judge(&unit, CMD_SYNC.lo, CMD_SYNC.hi, &verdict), SMMUQ_OK); /* the remedy meant nothing */
+    WANT(smmuq_unit_reset(&unit), SMMUQ_OK);
+    WANT(smmuq_unit_restore(&unit, 0, 1, 0), SMMUQ_BAD_FIELD);
+    WANT(smmuq_unit_restore(&unit, SMMUQ_CERROR_ILL, 1, 1), SMMUQ_OK); /* they agree: it runs */
+    WANT(smmuq_unit_judge(&unit, CMD_SYNC.lo, CMD_SYNC.hi, &verdict), SMMUQ_OK);
+    WANT(smmuq_unit_restore(&unit, SMMUQ_CERROR_ATC_INV_SYNC, 0, 1), SMMUQ_OK);
+    WANT(smmuq_state(&unit.handle, &errors, &tallies), SMMUQ_OK);
+    WANT(errors.err == 3 && errors.gerror == 0 && errors.gerrorn == 1 && tallies.syncs == 1, 1);
+    WANT(smmuq_acknowledge(&unit.handle, 0, SMMUQ_RETRY), SMMUQ_OK);
+    WANT(smmuq_unit_stop((smmuq_unit *)&sender, SMMUQ_CERROR_ABT), SMMUQ_EMPTY_HANDLE);
+    smmuq_free(&unit.handle);
+}
+
+/* What is held of a stream and of a virtual machine goes, and nothing else does. */
+static void evict_by_owner(void) {
+    smmuq_unit unit = SMMUQ_EMPTY;
+    smmuq_tag tag = {.kind = SMMUQ_STE, .sid = 5, .vmid = 1, .scope = SMMUQ_SCOPE_GLOBAL};
+    smmuq_held held;
+    smmuq_errors errors;
+    smmuq_tallies tallies;
+    size_t count;
+    uint32_t kind;
+    WANT(smmuq_count(&unit.handle, &count), SMMUQ_EMPTY_HANDLE);
+    WANT(smmuq_unit_new(8, &unit), SMMUQ_OK);
+    for (kind = SMMUQ_STE; kind <= SMMUQ_ATC; kind++) {
+        tag.kind = kind;
+        WANT(smmuq_fill(&unit.handle, &tag, kind), SMMUQ_OK);
+    }
+    WANT(smmuq_evict_machine(&unit.handle, 0x10000, &count), SMMUQ_BAD_FIELD);
+    WANT(smmuq_evict_stream(&unit.handle, 6, &count), SMMUQ_OK);
+    WANT((uint32_t)count, 0);
+    WANT(smmuq_evict_stream(&unit.handle, 5, &count), SMMUQ_OK);
+    WANT((uint32_t)count, 3);
+    WANT(smmuq_evict_machine(&unit.handle, 1, &count), SMMUQ_OK);
+    WANT((uint32_t)count, 2);
+    WANT(smmuq_count(&unit.handle, &count), SMMUQ_OK);
+    WANT((uint32_t)count, 1); /* the hypervisor's */
+    WANT(smmuq_find(&unit.handle, SMMUQ_EL2, 0, 2, 0, SMMUQ_SPAN(53), &tag, &held), SMMUQ_BAD_FIELD);
+    WANT(smmuq_find(&unit.handle, SMMUQ_EL2, 0, 2, 0, SMMUQ_SPAN(SMMUQ_SPAN_4K), &tag, &held), SMMUQ_OK);
+    WANT(tag.scope, SMMUQ_SCOPE_GLOBAL);
+    WANT(smmuq_unit_reset(&unit), SMMUQ_OK);
+    WANT(smmuq_count(&unit.handle, &count), SMMUQ_OK);
+    WANT((uint32_t)count, 0);
+    WANT(smmuq_state(&unit.handle, &errors, &tallies), SMMUQ_OK);
+    WANT(tallies.applied == 0 && tallies.removed == 0, 1);
+    smmuq_free(&unit.handle);
+}
+
 /* Closing ends a ring, and a closed one can be renewed: whoever was left out is answered Q1, and the new one is open. */
 static void renew_a_closed_ring(void) {
     smmuq_sender senders[2] = {SMMUQ_EMPTY, SMMUQ_EMPTY};
@@ -399,6 +468,8 @@ int main(void) {
     free_a_consumer_midway();
     be_refused();
     find_in_an_endpoint();
+    stop_a_unit();
+    evict_by_owner();
     renew_a_closed_ring();
     share_a_guarded_handle();
     puts("misuse: all told");

@@ -12,7 +12,7 @@
 
 enum { ROUNDS = 15, MOST_WORDS = 1 << 12, PASSES = 100, ASKS = 200000 };
 
-static smmuq_words words[MOST_WORDS];
+static smmuq_command words[MOST_WORDS];
 static size_t count;
 
 static double now(void) {
@@ -44,7 +44,7 @@ static void read_words(void) {
 }
 
 /* Nanoseconds a command of a pass over all words, the best of all rounds. */
-static double each(uint32_t (*decode)(uint64_t, uint64_t, smmuq_fields *)) {
+static double each(smmuq_status (*decode)(uint64_t, uint64_t, smmuq_fields *)) {
     double best = 1e18;
     uint32_t faults = 0;
     int round, pass;
@@ -86,15 +86,15 @@ static void compare(void) {
 
 /* A unit with entries of one virtual machine judges an invalidation of another's page. */
 static double judge_nothing(void) {
-    smmuq_handle unit = SMMUQ_EMPTY;
+    smmuq_unit unit = SMMUQ_EMPTY;
     smmuq_verdict verdict;
     double best = 1e18;
     uint64_t page;
     int round, i;
     want(smmuq_unit_new(4096, &unit));
     for (page = 0; page < 4096; page++) {
-        const smmuq_tag tag = {.kind = SMMUQ_S1, .vmid = (uint32_t)page % 16, .has_asid = 1, .asid = 1, .address = page << 12};
-        want(smmuq_fill(&unit, &tag, page));
+        const smmuq_tag tag = {.kind = SMMUQ_S1, .vmid = (uint32_t)page % 16, .scope = SMMUQ_SCOPE_ASID, .asid = 1, .address = page << 12};
+        want(smmuq_fill(&unit.handle, &tag, page));
     }
     for (round = 0; round < ROUNDS; round++) {
         const double start = now();
@@ -103,7 +103,7 @@ static double judge_nothing(void) {
         const double took = now() - start;
         best = took < best ? took : best;
     }
-    smmuq_free(&unit);
+    smmuq_free(&unit.handle);
     return best / ASKS;
 }
 
@@ -111,13 +111,14 @@ static double judge_nothing(void) {
 static void send(size_t length) {
     const size_t batches = 500000 / (length + 1);
     double best = 1e18, best_ask = 1e18;
-    smmuq_words batch[63];
+    smmuq_command batch[63];
     size_t i;
     int round;
     for (i = 0; i < 63; i++)
-        batch[i] = (smmuq_words){0x0000000700000003u, 1};
+        batch[i] = (smmuq_command){0x0000000700000003u, 1};
     for (round = 0; round < ROUNDS; round++) {
-        smmuq_handle sender = SMMUQ_EMPTY, engine = SMMUQ_EMPTY;
+        smmuq_sender sender = SMMUQ_EMPTY;
+        smmuq_engine engine = SMMUQ_EMPTY;
         uint32_t number = 0;
         double start, sent, asked;
         want(smmuq_ring_new(19, 4000000, 16, &sender, 1, &engine));
@@ -130,8 +131,8 @@ static void send(size_t length) {
         asked = now();
         best = sent - start < best ? sent - start : best;
         best_ask = asked - sent < best_ask ? asked - sent : best_ask;
-        smmuq_free(&sender);
-        smmuq_free(&engine);
+        smmuq_free(&sender.handle);
+        smmuq_free(&engine.handle);
     }
     printf("smmuq_send of %zu %.1f\n", length, best / (double)batches);
     if (length == 63)

@@ -23,19 +23,19 @@ static inline void decode_address(uint64_t lo, uint64_t hi, smmuq_fields *fields
 }
 
 /* The status of the words, and of a legal command its fields. */
-static inline uint32_t decode_by_hand(uint64_t lo, uint64_t hi, smmuq_fields *fields) {
+static inline smmuq_status decode_by_hand(uint64_t lo, uint64_t hi, smmuq_fields *fields) {
     memset(fields, 0, sizeof *fields);
     fields->opcode = (uint32_t)bits(lo, 7, 0);
     switch (fields->opcode) {
     case 0x01: case 0x02:
         if (bits(lo, 10, 10))
-            return SMMUQ_ILL2;
+            return SMMUQ_ILL_SECURE_STREAM;
         break;
     case 0x41: case 0x44: case 0x45:
         break;
     case 0x03: case 0x04: case 0x05: case 0x06:
         if (bits(lo, 10, 10))
-            return SMMUQ_ILL2;
+            return SMMUQ_ILL_SECURE_STREAM;
         fields->sid = (uint32_t)bits(lo, 63, 32);
         fields->ssid = fields->opcode == 0x05 ? (uint32_t)bits(lo, 31, 12) : 0;
         fields->leaf = fields->opcode == 0x03 || fields->opcode == 0x05 ? (uint32_t)bits(hi, 0, 0) : 0;
@@ -69,9 +69,9 @@ static inline uint32_t decode_by_hand(uint64_t lo, uint64_t hi, smmuq_fields *fi
         break;
     case 0x40:
         if (bits(lo, 10, 10))
-            return SMMUQ_ILL2;
+            return SMMUQ_ILL_SECURE_STREAM;
         if (bits(hi, 5, 0) > 52)
-            return SMMUQ_ILL4;
+            return SMMUQ_ILL_SPAN;
         fields->sid = (uint32_t)bits(lo, 63, 32);
         fields->ssid = (uint32_t)bits(lo, 31, 12);
         fields->ssv = (uint32_t)bits(lo, 11, 11);
@@ -81,7 +81,7 @@ static inline uint32_t decode_by_hand(uint64_t lo, uint64_t hi, smmuq_fields *fi
         break;
     case 0x46:
         if (bits(lo, 13, 12) == 3)
-            return SMMUQ_ILL3;
+            return SMMUQ_ILL_SIGNAL;
         fields->cs = (uint32_t)bits(lo, 13, 12);
         fields->msh = (uint32_t)bits(lo, 23, 22);
         fields->attr = (uint32_t)bits(lo, 27, 24);
@@ -89,7 +89,7 @@ static inline uint32_t decode_by_hand(uint64_t lo, uint64_t hi, smmuq_fields *fi
         fields->address = hi & 0xffffffffffffcull;
         break;
     default:
-        return SMMUQ_ILL1;
+        return SMMUQ_ILL_OPCODE;
     }
     return SMMUQ_OK;
 }

@@ -35,26 +35,28 @@ static void fail(const char *why, const char *call) {
 // A unit that is stopped and holds an entry, one that holds none, a ring of two senders with its engine, one of a sender
 // with its consumer, one in which nothing waits and whose engine holds an entry, and handles that hold nothing.
 struct handles {
-    smmuq_handle unit, unused, senders[2], engine, forwarded, consumer, idle_sender, idle_engine, empty[3];
+    smmuq_unit unit, unused, empty_unit;
+    smmuq_sender senders[2], forwarded, idle_sender, empty_senders[2];
+    smmuq_engine engine, idle_engine, empty_engine;
+    smmuq_consumer consumer, empty_consumer;
 };
 
-#define HANDLES 12
+#define HANDLES 14
 
-static const smmuq_tag FILLED = {.kind = SMMUQ_S1, .vmid = 1, .has_asid = 1, .asid = 2, .address = 0x1000};
-static const smmuq_tag OTHER = {.kind = SMMUQ_S1, .vmid = 1, .has_asid = 1, .asid = 2, .address = 0x2000};
-static const smmuq_words TLBI_NSNH_ALL = {0x30, 0}, UNKNOWN = {0xff, 0};
+static const smmuq_tag FILLED = {.kind = SMMUQ_S1, .vmid = 1, .scope = SMMUQ_SCOPE_ASID, .asid = 2, .address = 0x1000};
+static const smmuq_tag OTHER = {.kind = SMMUQ_S1, .vmid = 1, .scope = SMMUQ_SCOPE_ASID, .asid = 2, .address = 0x2000};
+static const smmuq_command TLBI_NSNH_ALL = {SMMUQ_OPCODE_TLBI_NSNH_ALL, 0}, UNKNOWN = {0xff, 0};
 
 static struct handles made(void) {
-    struct handles handles = {
-        SMMUQ_EMPTY, SMMUQ_EMPTY, {SMMUQ_EMPTY, SMMUQ_EMPTY}, SMMUQ_EMPTY, SMMUQ_EMPTY, SMMUQ_EMPTY, SMMUQ_EMPTY, SMMUQ_EMPTY,
-        {SMMUQ_EMPTY, SMMUQ_EMPTY, SMMUQ_EMPTY}};
+    struct handles handles;
+    memset(&handles, 0, sizeof handles); // all bytes 0 are empty handles
     smmuq_verdict verdict;
     uint32_t number;
-    if (smmuq_unit_new(4, &handles.unused) || smmuq_unit_new(4, &handles.unit) || smmuq_fill(&handles.unit, &FILLED, 7) ||
-        smmuq_unit_judge(&handles.unit, UNKNOWN.lo, UNKNOWN.hi, &verdict) != SMMUQ_ILL1 ||
+    if (smmuq_unit_new(4, &handles.unused) || smmuq_unit_new(4, &handles.unit) || smmuq_fill(&handles.unit.handle, &FILLED, 7) ||
+        smmuq_unit_judge(&handles.unit, UNKNOWN.lo, UNKNOWN.hi, &verdict) != SMMUQ_ILL_OPCODE ||
         smmuq_ring_new(7, 9, 4, handles.senders, 2, &handles.engine) ||
         smmuq_ring_new(4, 9, 4, &handles.idle_sender, 1, &handles.idle_engine) ||
-        smmuq_fill(&handles.idle_engine, &FILLED, 7) ||
+        smmuq_fill(&handles.idle_engine.handle, &FILLED, 7) ||
         smmuq_send(&handles.senders[0], &TLBI_NSNH_ALL, 1, 1, &number) ||
         smmuq_consumer_ring_new(7, 9, &handles.forwarded, 1, &handles.consumer) ||
         smmuq_send(&handles.forwarded, &TLBI_NSNH_ALL, 1, 1, &number))
@@ -63,9 +65,12 @@ static struct handles made(void) {
 }
 
 static smmuq_handle *nth(struct handles *handles, size_t n) {
-    smmuq_handle *all[HANDLES] = {&handles->unit,        &handles->unused,     &handles->senders[0],  &handles->senders[1],
-                                  &handles->engine,      &handles->forwarded,  &handles->consumer,    &handles->idle_sender,
-                                  &handles->idle_engine, &handles->empty[0],   &handles->empty[1],    &handles->empty[2]};
+    smmuq_handle *all[HANDLES] = {
+        &handles->unit.handle,           &handles->unused.handle,           &handles->senders[0].handle,
+        &handles->senders[1].handle,     &handles->engine.handle,           &handles->forwarded.handle,
+        &handles->consumer.handle,       &handles->idle_sender.handle,      &handles->idle_engine.handle,
+        &handles->empty_unit.handle,     &handles->empty_senders[0].handle, &handles->empty_senders[1].handle,
+        &handles->empty_engine.handle,   &handles->empty_consumer.handle};
     return all[n];
 }
 
@@ -81,14 +86,14 @@ static size_t describe(smmuq_handle *handle, char *text, size_t room) {
     smmuq_queue_registers registers = {0};
     smmuq_queue_control control = {0};
     smmuq_entry entries[8];
-    smmuq_words run[8] = {{0}};
+    smmuq_command run[8] = {{0}};
     size_t count = 0, ready = 0;
     uint32_t number = 0;
     smmuq_held held[2] = {{0}};
     uint32_t state = smmuq_state(handle, &errors, &tallies), listed = smmuq_entries(handle, entries, 8, &count);
     uint32_t first = smmuq_lookup(handle, &FILLED, &held[0]), second = smmuq_lookup(handle, &OTHER, &held[1]);
-    uint32_t engine = smmuq_registers(handle, &registers), looked = smmuq_look(handle, &control);
-    uint32_t told = smmuq_done_up_to(handle, &number), taken = smmuq_take_run(handle, run, 8, &ready);
+    uint32_t engine = smmuq_registers((smmuq_engine *)handle, &registers), looked = smmuq_look((smmuq_sender *)handle, &control);
+    uint32_t told = smmuq_done_up_to((smmuq_sender *)handle, &number), taken = smmuq_take_run((smmuq_consumer *)handle, run, 8, &ready);
     return (size_t)snprintf(text, room, "kind %u; %u %u %u %u %llu %llu; %u %zu; %u %llu %u %llu; %u %x %x; %u %x %x %u; %u %u; %u %zu %llx\n",
                             smmuq_kind(handle), state, errors.err, errors.gerror, errors.gerrorn,
                             (unsigned long long)tallies.applied, (unsigned long long)tallies.replaced, listed, count, first,
@@ -105,9 +110,9 @@ static void describe_all(struct handles *handles, char *text, size_t room) {
 
 // The calls.
 
-static uint32_t unit_new(struct handles *handles) { return smmuq_unit_new(4, &handles->empty[0]); }
+static uint32_t unit_new(struct handles *handles) { return smmuq_unit_new(4, &handles->empty_unit); }
 static uint32_t unit_reset(struct handles *handles) { return smmuq_unit_new(4, &handles->unit); }
-static uint32_t ring_new(struct handles *handles) { return smmuq_ring_new(5, 9, 4, handles->empty, 2, &handles->empty[2]); }
+static uint32_t ring_new(struct handles *handles) { return smmuq_ring_new(5, 9, 4, handles->empty_senders, 2, &handles->empty_engine); }
 static uint32_t ring_again(struct handles *handles) {
     return smmuq_ring_new(5, 9, 4, handles->senders, 2, &handles->engine);
 }
@@ -118,44 +123,44 @@ static uint32_t renew_too_early(struct handles *handles) {
     return smmuq_renew(5, 9, 4, handles->senders, 2, &handles->engine);
 }
 static uint32_t consumer_ring_new(struct handles *handles) {
-    return smmuq_consumer_ring_new(5, 9, handles->empty, 2, &handles->empty[2]);
+    return smmuq_consumer_ring_new(5, 9, handles->empty_senders, 2, &handles->empty_consumer);
 }
 static uint32_t consumer_ring_again(struct handles *handles) {
     return smmuq_consumer_ring_new(5, 9, &handles->forwarded, 1, &handles->consumer);
 }
-static uint32_t fill_unit(struct handles *handles) { return smmuq_fill(&handles->unused, &OTHER, 9); }
-static uint32_t fill_engine(struct handles *handles) { return smmuq_fill(&handles->engine, &OTHER, 9); }
-static uint32_t fill_in_place(struct handles *handles) { return smmuq_fill(&handles->unit, &FILLED, 9); }
+static uint32_t fill_unit(struct handles *handles) { return smmuq_fill(&handles->unused.handle, &OTHER, 9); }
+static uint32_t fill_engine(struct handles *handles) { return smmuq_fill(&handles->engine.handle, &OTHER, 9); }
+static uint32_t fill_in_place(struct handles *handles) { return smmuq_fill(&handles->unit.handle, &FILLED, 9); }
 
 static uint32_t entries(struct handles *handles) {
     smmuq_entry buffer[8];
     size_t count;
-    return smmuq_entries(&handles->unit, buffer, 8, &count);
+    return smmuq_entries(&handles->unit.handle, buffer, 8, &count);
 }
 
 static uint32_t text(struct handles *handles) {
-    uint8_t room[160];
+    char room[160];
     size_t length;
     (void)handles;
     return smmuq_text(TLBI_NSNH_ALL.lo, TLBI_NSNH_ALL.hi, room, sizeof room, &length);
 }
 
 static uint32_t status_text(struct handles *handles) {
-    uint8_t room[80];
+    char room[80];
     size_t length;
     (void)handles;
-    return smmuq_status_text(SMMUQ_Q2, room, sizeof room, &length);
+    return smmuq_status_text(SMMUQ_RING_FULL, room, sizeof room, &length);
 }
 
 // The rest of the codec, which has no handle.
 static uint32_t codec(struct handles *handles) {
     smmuq_fields fields;
-    smmuq_words words, room[63];
+    smmuq_command command, room[63];
     size_t count;
     (void)handles;
     uint32_t status = smmuq_check(TLBI_NSNH_ALL.lo, TLBI_NSNH_ALL.hi);
     status |= smmuq_decode(TLBI_NSNH_ALL.lo, TLBI_NSNH_ALL.hi, &fields);
-    status |= smmuq_encode(&fields, &words);
+    status |= smmuq_encode(&fields, &command);
     status |= smmuq_range(1, 2, 0x1000, 33, room, 63, &count);
     status |= smmuq_detach(5, room, 63, &count);
     return status;
@@ -163,7 +168,7 @@ static uint32_t codec(struct handles *handles) {
 
 static uint32_t lookup(struct handles *handles) {
     smmuq_held held;
-    return smmuq_lookup(&handles->unit, &FILLED, &held);
+    return smmuq_lookup(&handles->unit.handle, &FILLED, &held);
 }
 
 // All that tells of a unit, a sender or an engine without a change.
@@ -172,13 +177,13 @@ static uint32_t tell(struct handles *handles) {
     smmuq_tallies tallies;
     smmuq_queue_registers registers;
     smmuq_queue_control control;
-    uint32_t number, status = smmuq_state(&handles->unit, &errors, &tallies);
-    status |= smmuq_state(&handles->engine, &errors, &tallies);
+    uint32_t number, status = smmuq_state(&handles->unit.handle, &errors, &tallies);
+    status |= smmuq_state(&handles->engine.handle, &errors, &tallies);
     status |= smmuq_registers(&handles->engine, &registers);
     status |= smmuq_look(&handles->senders[0], &control);
     status |= smmuq_done_up_to(&handles->senders[0], &number);
     status |= smmuq_left(&handles->senders[0], &number);
-    return status | (smmuq_kind(&handles->unit) != 1) | (smmuq_version() != SMMUQ_VERSION);
+    return status | (smmuq_kind(&handles->unit.handle) != 1) | (smmuq_version() != SMMUQ_VERSION);
 }
 
 static uint32_t close_and_free(struct handles *handles) {
@@ -191,27 +196,27 @@ static uint32_t close_and_free(struct handles *handles) {
 static uint32_t find(struct handles *handles) {
     smmuq_tag tag;
     smmuq_held held;
-    return smmuq_find(&handles->unit, SMMUQ_S1, 1, 2, 0x1234, 1, &tag, &held);
+    return smmuq_find(&handles->unit.handle, SMMUQ_S1, 1, 2, 0x1234, SMMUQ_SPAN(SMMUQ_SPAN_4K), &tag, &held);
 }
 
 static uint32_t evict(struct handles *handles) {
     smmuq_held held;
-    return smmuq_evict(&handles->unit, &FILLED, &held);
+    return smmuq_evict(&handles->unit.handle, &FILLED, &held);
 }
 
 static uint32_t evict_all(struct handles *handles) {
     size_t count;
-    return smmuq_evict_all(&handles->unit, 0x3f, &count);
+    return smmuq_evict_all(&handles->unit.handle, SMMUQ_ALL_KINDS, &count);
 }
 
 static uint32_t acknowledge_and_judge(struct handles *handles) {
     smmuq_verdict verdict;
-    uint32_t status = smmuq_acknowledge(&handles->unit, 1, SMMUQ_REPLACE);
+    uint32_t status = smmuq_acknowledge(&handles->unit.handle, 1, SMMUQ_REPLACE);
     return status ? status : smmuq_unit_judge(&handles->unit, UNKNOWN.lo, UNKNOWN.hi, &verdict);
 }
 
 static uint32_t send_of_63(struct handles *handles) {
-    smmuq_words batch[63];
+    smmuq_command batch[63];
     uint32_t number;
     for (size_t n = 0; n < 63; n++)
         batch[n] = TLBI_NSNH_ALL;
@@ -238,7 +243,7 @@ static uint32_t run(struct handles *handles) {
 }
 
 static uint32_t take_and_complete(struct handles *handles) {
-    smmuq_words words[8];
+    smmuq_command words[8];
     size_t count;
     uint32_t status = smmuq_take_run(&handles->consumer, words, 8, &count);
     return status ? status : smmuq_complete(&handles->consumer, count);
@@ -252,17 +257,17 @@ static const struct {
 } CALLS[] = {
     {"smmuq_unit_new", unit_new, SMMUQ_OK, {SMMUQ_NO_MEMORY}},
     {"smmuq_unit_new over a unit", unit_reset, SMMUQ_OK, {SMMUQ_NO_MEMORY}},
-    {"smmuq_ring_new", ring_new, SMMUQ_OK, {SMMUQ_N4, SMMUQ_NO_MEMORY}},
-    {"smmuq_ring_new over a ring", ring_again, SMMUQ_OK, {SMMUQ_N4, SMMUQ_NO_MEMORY}},
-    {"smmuq_consumer_ring_new", consumer_ring_new, SMMUQ_OK, {SMMUQ_N4, SMMUQ_NO_MEMORY}},
-    {"smmuq_consumer_ring_new over a ring", consumer_ring_again, SMMUQ_OK, {SMMUQ_N4, SMMUQ_NO_MEMORY}},
-    {"smmuq_renew", renew, SMMUQ_OK, {SMMUQ_N4, SMMUQ_C3, SMMUQ_NO_MEMORY}},
-    {"smmuq_renew where a command waits", renew_too_early, SMMUQ_Q6, {0}},
-    {"smmuq_fill of a unit", fill_unit, SMMUQ_OK, {SMMUQ_C3}},
-    {"smmuq_fill of an engine", fill_engine, SMMUQ_OK, {SMMUQ_C3}},
+    {"smmuq_ring_new", ring_new, SMMUQ_OK, {SMMUQ_RING_NO_MEMORY, SMMUQ_NO_MEMORY}},
+    {"smmuq_ring_new over a ring", ring_again, SMMUQ_OK, {SMMUQ_RING_NO_MEMORY, SMMUQ_NO_MEMORY}},
+    {"smmuq_consumer_ring_new", consumer_ring_new, SMMUQ_OK, {SMMUQ_RING_NO_MEMORY, SMMUQ_NO_MEMORY}},
+    {"smmuq_consumer_ring_new over a ring", consumer_ring_again, SMMUQ_OK, {SMMUQ_RING_NO_MEMORY, SMMUQ_NO_MEMORY}},
+    {"smmuq_renew", renew, SMMUQ_OK, {SMMUQ_RING_NO_MEMORY, SMMUQ_CACHES_NO_MEMORY, SMMUQ_NO_MEMORY}},
+    {"smmuq_renew where a command waits", renew_too_early, SMMUQ_COMMAND_WAITS, {0}},
+    {"smmuq_fill of a unit", fill_unit, SMMUQ_OK, {SMMUQ_CACHES_NO_MEMORY}},
+    {"smmuq_fill of an engine", fill_engine, SMMUQ_OK, {SMMUQ_CACHES_NO_MEMORY}},
     {"smmuq_fill in place", fill_in_place, SMMUQ_OK, {0}},
-    {"smmuq_entries", entries, SMMUQ_OK, {SMMUQ_C3}},
-    {"smmuq_evict_all", evict_all, SMMUQ_OK, {SMMUQ_C3}},
+    {"smmuq_entries", entries, SMMUQ_OK, {SMMUQ_CACHES_NO_MEMORY}},
+    {"smmuq_evict_all", evict_all, SMMUQ_OK, {SMMUQ_CACHES_NO_MEMORY}},
     {"smmuq_text", text, SMMUQ_OK, {SMMUQ_NO_MEMORY}},
     {"smmuq_status_text", status_text, SMMUQ_OK, {0}},
     {"the rest of the codec", codec, SMMUQ_OK, {0}},

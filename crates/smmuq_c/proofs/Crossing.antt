@@ -34,4 +34,4 @@ pub taker_send : IsSend SeatedConsumer.the_row
 taker_send = search (sendable, crosses, send, sync, consumer_send, seat_send, ring_send, ring_sync) depth 60 fits 100000
 
 pub object_send : IsSend Object.the_row
-object_send = search (sendable, unit_send, sender_send, reservation_send, seated_send, taker_send) depth 60 fits 100000
+object_send = search (sendable, crosses, caches_send, unit_send, sender_send, reservation_send, seated_send, taker_send) depth 60 fits 100000

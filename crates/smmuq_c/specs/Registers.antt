@@ -1,5 +1,5 @@
 -- What C gets of the error registers and the counts, and what an acknowledgement does.
-use Rattle.std.specs.Prelude.{◌≡◌, ℕ, ⊤, Bool, true, false, Option, Some, None, Result, Ok, Err, OnOk, OnErr, IfSome}
+use Rattle.std.specs.Prelude.{◌≡◌, ℕ, ⊤, Option, Some, None, Result, Ok, Err, OnOk, OnErr, IfSome}
 use Rattle.engine.specs.declared.remedy.AckFault.{AckFault}
 use Rattle.engine.specs.declared.remedy.Remedy.{Remedy}
 use Rattle.engine.specs.declared.queue_unit.QueueUnit.{QueueUnit}

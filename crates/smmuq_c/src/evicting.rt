@@ -79,8 +79,20 @@ pub extern "C" fn smmuq_evict_stream(handle: &mut Handle, sid: u32, count: &mut 
     let Some(object) = handle.object_mut() else {
         return Status::EmptyHandle.number();
     };
-    let stream = OfStream(Sid::new(u64::from(sid)).unwrap());
-    evict_passing(object, &stream, count).number()
+    evict_stream(object, sid, count).number()
+}
+
+fn stream_of(sid: u32) -> OfStream
+    ensures { result ≡ record { 0 = sid } }
+{
+    OfStream(Sid::new(u64::from(sid)).unwrap())
+}
+
+fn evict_stream(object: &mut Object, sid: u32, count: &mut usize) -> Status
+    ensures called { OfAnyUnit (HasEvictedAll (is_of_stream (record { 0 = sid })) count.new) object.old object.new result }
+    ensures kept { IsKept result count.old count.new }
+{
+    evict_passing(object, &stream_of(sid), count)
 }
 
 /// Evicts all translations of a virtual machine, of stage 1 and of stage 2, that a unit or an engine holds, and tells how

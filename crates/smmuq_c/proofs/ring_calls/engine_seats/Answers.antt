@@ -1,5 +1,4 @@
 use Rattle.std.proofs.Common.{refl, ap, ◌∙◌}
-use Rattle.engine.specs.Engines.{EngineValue}
 use Rattle.engine.specs.Units.{new_unit}
 use Rattle.smmuq_c.specs.declared.object.Object.TheVariants.{Engine as EngineOf}
 use Rattle.smmuq_c.proofs.NewSenders.{own_senders, as_many, as_many_boxes}

@@ -21,4 +21,4 @@ returns-clause-renewed c =
     c.is_settled.ensures.settled own c.in-Ok.ensures.unused c.in-Ok.ensures.entries (search rules) c.fill_senders.ensures.objects c.in-Ok-share.ensures.seats))
 
 pub new-requires : goal.new-requires
-new-requires c = c.in-Ok.ensures.whole.ring ∙ sym c.in-Ok-share.ensures.ring
+new-requires c = record { ring = c.in-Ok.ensures.whole.ring ∙ sym c.in-Ok-share.ensures.ring }
