@@ -1,5 +1,5 @@
 -- Look-up by address: which entry of an address space holds a page.
-use Rattle.std.specs.Prelude.{◌≡◌, ◌<◌, ◌*◌, ◌/◌, ◌^◌, ◌⊎◌, ℕ, Option, None, Some}
+use Rattle.std.specs.Prelude.{◌≡◌, ◌<◌, ◌*◌, ◌/◌, ◌^◌, ◌⊎◌, ℕ, Option, None, Some, IfSome}
 use Rattle.std.specs.FinMap as finite
 use Rattle.caches.specs.declared.address_space.AddressSpace.{AddressSpace}
 use Rattle.caches.specs.declared.address_space.AddressSpace.TheVariants.{S1, S2, El2, Atc}
@@ -54,6 +54,10 @@ pub record IsGreatest (entries : Entries) (space : AddressSpace) (page spans : �
 abbrev pub IsFound : Entries → AddressSpace → ℕ → ℕ → Option Entry → Type 0
 IsFound entries space page spans None = (s : ℕ) → HasSpan spans s → NoneAt entries space page s
 IsFound entries space page spans (Some entry) = IsGreatest entries space page spans entry
+
+-- what is found is held under its own tag
+abbrev pub IsHeldIn : Entries → Option Entry → Type 0
+IsHeldIn entries found = IfSome found (λ entry. finite.get entries entry.tag ≡ Some entry)
 
 -- ---- in between
 

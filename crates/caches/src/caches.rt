@@ -4,7 +4,7 @@ ghost use Rattle.std.specs.FinMap as finite;
 ghost use Rattle.caches.specs.Limits.{most_entries, IsCapacity};
 ghost use Rattle.caches.specs.declared.tag.Entry.{Entry};
 ghost use Rattle.caches.specs.Blocks.{IsBlock};
-ghost use Rattle.caches.specs.Finding.{IsFound};
+ghost use Rattle.caches.specs.Finding.{IsFound, IsHeldIn};
 ghost use Rattle.caches.specs.Held.{without_covered, without_passing, evictions, held, AreOwn, History, Fill, Evict, Take};
 ghost use Rattle.caches.specs.Stored.{IsFilled, IsFillAnswer, IsListAnswer};
 
@@ -78,7 +78,7 @@ impl Caches {
     /// comes before the global one (this project's choice).
     pub fn find(&self, space: &AddressSpace, page: Page, spans: u64) -> Option<Entry>
         ensures found { IsFound self.now.entries space.now page spans result }
-        ensures own { IfSome result (λ entry. finite.get self.now.entries entry.tag ≡ Some entry) }
+        ensures own { IsHeldIn self.now.entries result }
     {
         self.held.find(space, page, spans)
     }

@@ -1,7 +1,6 @@
 //! Look-up by address.
-ghost use Rattle.std.specs.Prelude.{◌≡◌, ◌≤◌, Some, IfSome};
-ghost use Rattle.std.specs.FinMap as finite;
-ghost use Rattle.caches.specs.Finding.{IsFound, IsFoundAt};
+ghost use Rattle.std.specs.Prelude.{◌≡◌, ◌≤◌};
+ghost use Rattle.caches.specs.Finding.{IsFound, IsFoundAt, IsHeldIn};
 
 use crate::address_space::AddressSpace;
 use crate::entry_map::EntryMap;
@@ -13,7 +12,7 @@ impl EntryMap {
     /// block was ever put in with.
     pub(crate) fn find(&self, space: &AddressSpace, page: Page, spans: u64) -> Option<Entry>
         ensures found { IsFound self.now space.now page spans result }
-        ensures own { IfSome result (λ entry. finite.get self.now entry.tag ≡ Some entry) }
+        ensures own { IsHeldIn self.now result }
     {
         let mut left = self.spans_among(spans);
         while left > 0 {
@@ -30,7 +29,7 @@ impl EntryMap {
     fn find_at(&self, space: &AddressSpace, page: Page, span: u8) -> Option<Entry>
         requires { span ≤ 52 }
         ensures found { IsFoundAt self.now space.now page span result }
-        ensures own { IfSome result (λ entry. finite.get self.now entry.tag ≡ Some entry) }
+        ensures own { IsHeldIn self.now result }
     {
         let own = space.own_tag(page, span);
         if let Some(entry) = self.get(&own) {

@@ -55,6 +55,10 @@ error_bit q = turned_if (is_some q.found) (turned_if q.turned q.unit.stop.error)
 abbrev pub acknowledged_bit : QueueUnit → Bool
 acknowledged_bit q = turned_if q.turned q.unit.stop.acknowledged
 
+-- nothing but these changed
+abbrev pub OnlyRegistersChanged : QueueUnit → QueueUnit → Type 0
+OnlyRegistersChanged old new = new ≡ record old { found = new.found; turned = new.turned }
+
 -- ---- acknowledging
 
 -- G1 exactly if it isn't stopped; G2 exactly if it is and CMDQ_ERR of the word isn't that of SMMU_GERROR.

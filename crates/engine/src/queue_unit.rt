@@ -3,7 +3,7 @@ ghost use Rattle.std.specs.Prelude.{◌≡◌, ◌↔◌, [], Some, IfOk, IfSome
 ghost use Rattle.caches.specs.Held.{held};
 ghost use Rattle.engine.specs.Stops.{command_queue_bit, word_of};
 ghost use Rattle.engine.specs.Units.{StaysSettled, emptied};
-ghost use Rattle.engine.specs.QueueUnits.{remedy_until_then, error_number, new_queue_unit, IsStoppedQueue, error_bit, acknowledged_bit, queue_err_of};
+ghost use Rattle.engine.specs.QueueUnits.{remedy_until_then, error_number, new_queue_unit, IsStoppedQueue, OnlyRegistersChanged, error_bit, acknowledged_bit, queue_err_of};
 ghost use Rattle.engine.specs.QueueUnits.{acknowledged_with, IsQueueAcknowledgement, HasJudgedNext, IsJudgeRefusal};
 
 use crate::global_errors::{command_queue_bit, word_of};
@@ -123,7 +123,7 @@ impl QueueUnit {
         ensures gerror { error_bit self.new ≡ command_queue_bit gerror }
         ensures gerrorn { acknowledged_bit self.new ≡ command_queue_bit gerrorn }
         ensures found { IfSome self.new.found (λ found. found ≡ error) }
-        ensures kept { self.new ≡ record self.old { found = self.new.found; turned = self.new.turned } }
+        ensures kept { OnlyRegistersChanged self.old self.new }
     {
         let (_, acknowledged) = self.unit.error_bits();
         let wanted = command_queue_bit(gerrorn);

@@ -6,7 +6,7 @@ ghost use Rattle.cmdcodec.specs.declared.ill.Ill.{Ill as IllOf};
 ghost use Rattle.cmdcodec.specs.Legality.{first_ill};
 ghost use Rattle.ringcore.specs.Limits.{most_reserved};
 ghost use Rattle.ringcore.specs.world.World.{Taken};
-ghost use Rattle.caches.specs.Finding.{IsFound};
+ghost use Rattle.caches.specs.Finding.{IsFound, IsHeldIn};
 ghost use Rattle.caches.specs.Held.{held, AreOwn};
 ghost use Rattle.caches.specs.Stored.{IsFillAnswer, IsListAnswer};
 ghost use Rattle.engine.specs.Settled.{IsSettled};
@@ -309,7 +309,7 @@ impl Unit {
     /// `Caches::find` does.
     pub fn find(&self, space: &AddressSpace, page: Page, spans: u64) -> Option<Entry>
         ensures found { IsFound self.now.caches.entries space.now page spans result }
-        ensures own { IfSome result (λ entry. finite.get self.now.caches.entries entry.tag ≡ Some entry) }
+        ensures own { IsHeldIn self.now.caches.entries result }
     {
         self.caches.find(space, page, spans)
     }

@@ -4,8 +4,11 @@ use Rattle.caches.specs.declared.tag.Tag.{Tag}
 use Rattle.caches.specs.declared.owner_tests.OfMachine.{OfMachine}
 use Rattle.engine.specs.Units.{UnitValue, HasLost}
 use Rattle.smmuq_c.specs.declared.evicting.Kinds.{Kinds}
+use Rattle.caches.specs.OwnerTests.{is_of_stream, is_of_machine}
+use Rattle.smmuq_c.specs.declared.object.Object.{Object}
 use Rattle.smmuq_c.specs.declared.status.Status.{Status}
 use Rattle.smmuq_c.specs.declared.status.Status.TheVariants.{Done}
+use Rattle.smmuq_c.specs.Calls.{OfAnyUnit, OfSaid}
 use Rattle.smmuq_c.specs.Lists.{tag_words}
 
 -- The mask has no bit but those of the six kinds, and says these; or it has another.
@@ -26,3 +29,14 @@ pub record HasEvictedAll (passes : Tag → Bool) (told : ℕ) (old new : UnitVal
 abbrev pub IsMachineOf : ℕ → Option OfMachine → Type 0
 IsMachineOf vmid None = ¬ (vmid < 2 ^ 16)
 IsMachineOf vmid (Some machine) = (vmid < 2 ^ 16) × (machine ≡ record { 0 = vmid })
+
+-- ---- what each call does to a unit or an engine
+
+abbrev pub EvictsKinds : ℕ → ℕ → Object → Object → Status → Type 0
+EvictsKinds kinds told = OfSaid (AreKindsOf kinds) (λ k. HasEvictedAll (has_kind k) told)
+
+abbrev pub EvictsStream : ℕ → ℕ → Object → Object → Status → Type 0
+EvictsStream sid told = OfAnyUnit (HasEvictedAll (is_of_stream (record { 0 = sid })) told)
+
+abbrev pub EvictsMachine : ℕ → ℕ → Object → Object → Status → Type 0
+EvictsMachine vmid told = OfSaid (IsMachineOf vmid) (λ m. HasEvictedAll (is_of_machine m) told)

@@ -1,13 +1,15 @@
 -- Look-up by address: the words that say an address space, and what is told.
-use Rattle.std.specs.Prelude.{◌≡◌, ◌<◌, ◌^◌, ◌⊎◌, ℕ, Option, None, Some, IfSome}
+use Rattle.std.specs.Prelude.{◌≡◌, ◌<◌, ◌/◌, ◌^◌, ◌⊎◌, ℕ, Option, None, Some, IfSome}
 use Rattle.caches.specs.declared.address_space.AddressSpace.{AddressSpace}
 use Rattle.caches.specs.declared.address_space.AddressSpace.TheVariants.{S1, S2, El2, Atc}
 use Rattle.caches.specs.declared.tag.Entry.{Entry}
 use Rattle.caches.specs.Finding.{IsFound}
 use Rattle.engine.specs.Units.{UnitValue}
+use Rattle.smmuq_c.specs.declared.object.Object.{Object}
 use Rattle.smmuq_c.specs.declared.status.Status.{Status}
 use Rattle.smmuq_c.specs.declared.tags.TagWords.{TagWords}
 use Rattle.smmuq_c.specs.declared.words.Held.{Held}
+use Rattle.smmuq_c.specs.Calls.{OfSaid}
 use Rattle.smmuq_c.specs.Entries.{entry_status, entry_words}
 use Rattle.smmuq_c.specs.Lists.{tag_words}
 
@@ -47,3 +49,7 @@ pub record HasFound (page spans : ℕ) (told_tag : TagWords) (told : Held) (spac
   pub tag_is : IfSome answer (λ entry. told_tag ≡ tag_words entry.tag)
   pub held_is : IfSome answer (λ entry. told ≡ entry_words entry)
   pub new_is : new ≡ old
+
+-- what the call does to a unit or an engine
+abbrev pub Finds : ℕ → ℕ → ℕ → ℕ → ℕ → TagWords → Held → Object → Object → Status → Type 0
+Finds kind owner space address spans tag held = OfSaid (IsSoughtBy kind owner space spans) (HasFound (address / 4096) spans tag held)

@@ -6,7 +6,7 @@ use Rattle.engine.specs.declared.queue_unit.QueueUnit.{QueueUnit}
 use Rattle.engine.specs.declared.queue_unit.QueueError.{QueueError}
 use Rattle.engine.specs.declared.queue_unit.StopRemedy.{StopRemedy}
 use Rattle.engine.specs.declared.queue_unit.StopRemedy.TheVariants.{Retry, Replace, Reread}
-use Rattle.engine.specs.QueueUnits.{new_queue_unit, error_number, IsStoppedQueue, queue_err_of, error_bit, acknowledged_bit, IsQueueAcknowledgement, acknowledged_with}
+use Rattle.engine.specs.QueueUnits.{new_queue_unit, error_number, IsStoppedQueue, OnlyRegistersChanged, queue_err_of, error_bit, acknowledged_bit, IsQueueAcknowledgement, acknowledged_with}
 use Rattle.engine.specs.Stops.{StopValue, IsAcknowledgementAnswer, told, err_of, word_of, command_queue_bit}
 use Rattle.engine.specs.Counting.{CountsValue}
 use Rattle.engine.specs.Units.{UnitValue, emptied}
@@ -78,7 +78,7 @@ pub record IsRestored (error : QueueError) (gerror gerrorn : ℕ) (old new : Que
   pub gerror_is : error_bit new ≡ command_queue_bit gerror
   pub gerrorn_is : acknowledged_bit new ≡ command_queue_bit gerrorn
   pub found_is : IfSome new.found (λ found. found ≡ error)
-  pub rest_is : new ≡ record old { found = new.found; turned = new.turned }
+  pub rest_is : OnlyRegistersChanged old new
 
 abbrev pub HasRestored : ℕ → ℕ → ℕ → QueueUnit → QueueUnit → Status → Type 0
 HasRestored err gerror gerrorn old new Done = (error : QueueError) × IsErrorOf err (Some error) × IsRestored error gerror gerrorn old new

@@ -1,8 +1,7 @@
 //! Evicting entries by their kinds, their stream or their virtual machine, and the exports that do it.
 ghost use Rattle.std.specs.Prelude.{◌≡◌};
-ghost use Rattle.caches.specs.OwnerTests.{is_of_stream, is_of_machine};
-ghost use Rattle.smmuq_c.specs.Calls.{HasCalled, OfAnyUnit, OfSaid};
-ghost use Rattle.smmuq_c.specs.Evicting.{AreKindsOf, has_kind, IsMachineOf, HasEvictedAll};
+ghost use Rattle.smmuq_c.specs.Calls.{HasCalled, OfAnyUnit};
+ghost use Rattle.smmuq_c.specs.Evicting.{AreKindsOf, IsMachineOf, HasEvictedAll, EvictsKinds, EvictsStream, EvictsMachine};
 ghost use Rattle.smmuq_c.specs.Kept.{IsKept, KeptUnlessDone};
 
 use crate::handle::Handle;
@@ -47,7 +46,7 @@ impl TagTest for Kinds {
 /// then nothing changed. Takes no memory for that.
 #[unsafe(no_mangle)]
 pub extern "C" fn smmuq_evict_all(handle: &mut Handle, kinds: u32, count: &mut usize) -> u32
-    ensures called { HasCalled (OfSaid (AreKindsOf kinds) (λ k. HasEvictedAll (has_kind k) count.new)) handle.old.object handle.new.object result }
+    ensures called { HasCalled (EvictsKinds kinds count.new) handle.old.object handle.new.object result }
     ensures kept { KeptUnlessDone result count.old count.new }
 {
     let Some(object) = handle.object_mut() else {
@@ -57,7 +56,7 @@ pub extern "C" fn smmuq_evict_all(handle: &mut Handle, kinds: u32, count: &mut u
 }
 
 fn evict_kinds(object: &mut Object, kinds: u32, count: &mut usize) -> Status
-    ensures called { OfSaid (AreKindsOf kinds) (λ k. HasEvictedAll (has_kind k) count.new) object.old object.new result }
+    ensures called { EvictsKinds kinds count.new object.old object.new result }
     ensures kept { IsKept result count.old count.new }
 {
     if !object.has_unit() {
@@ -73,7 +72,7 @@ fn evict_kinds(object: &mut Object, kinds: u32, count: &mut usize) -> Status
 /// its context descriptors, and what its endpoint holds. Takes no memory for that.
 #[unsafe(no_mangle)]
 pub extern "C" fn smmuq_evict_stream(handle: &mut Handle, sid: u32, count: &mut usize) -> u32
-    ensures called { HasCalled (OfAnyUnit (HasEvictedAll (is_of_stream (record { 0 = sid })) count.new)) handle.old.object handle.new.object result }
+    ensures called { HasCalled (EvictsStream sid count.new) handle.old.object handle.new.object result }
     ensures kept { KeptUnlessDone result count.old count.new }
 {
     let Some(object) = handle.object_mut() else {
@@ -89,7 +88,7 @@ fn stream_of(sid: u32) -> OfStream
 }
 
 fn evict_stream(object: &mut Object, sid: u32, count: &mut usize) -> Status
-    ensures called { OfAnyUnit (HasEvictedAll (is_of_stream (record { 0 = sid })) count.new) object.old object.new result }
+    ensures called { EvictsStream sid count.new object.old object.new result }
     ensures kept { IsKept result count.old count.new }
 {
     evict_passing(object, &stream_of(sid), count)
@@ -99,7 +98,7 @@ fn evict_stream(object: &mut Object, sid: u32, count: &mut usize) -> Status
 /// many they were. `BAD_FIELD` if `vmid` has more than 16 bits. Takes no memory for that.
 #[unsafe(no_mangle)]
 pub extern "C" fn smmuq_evict_machine(handle: &mut Handle, vmid: u32, count: &mut usize) -> u32
-    ensures called { HasCalled (OfSaid (IsMachineOf vmid) (λ m. HasEvictedAll (is_of_machine m) count.new)) handle.old.object handle.new.object result }
+    ensures called { HasCalled (EvictsMachine vmid count.new) handle.old.object handle.new.object result }
     ensures kept { KeptUnlessDone result count.old count.new }
 {
     let Some(object) = handle.object_mut() else {
@@ -118,7 +117,7 @@ fn machine_of(vmid: u32) -> Option<OfMachine>
 }
 
 fn evict_machine(object: &mut Object, vmid: u32, count: &mut usize) -> Status
-    ensures called { OfSaid (IsMachineOf vmid) (λ m. HasEvictedAll (is_of_machine m) count.new) object.old object.new result }
+    ensures called { EvictsMachine vmid count.new object.old object.new result }
     ensures kept { IsKept result count.old count.new }
 {
     if !object.has_unit() {

@@ -1,9 +1,9 @@
 //! Look-up by address, and the export that does it.
 ghost use Rattle.std.specs.Prelude.{◌≡◌, ◌/◌, IfSome};
-ghost use Rattle.smmuq_c.specs.Calls.{HasCalled, OfSaid};
+ghost use Rattle.smmuq_c.specs.Calls.{HasCalled};
 ghost use Rattle.smmuq_c.specs.Entries.{entry_status, entry_words};
 ghost use Rattle.smmuq_c.specs.Lists.{tag_words};
-ghost use Rattle.smmuq_c.specs.Finding.{IsSpaceOf, IsSoughtBy, HasFound, IsSubstreamOf};
+ghost use Rattle.smmuq_c.specs.Finding.{IsSpaceOf, IsSoughtBy, Finds, IsSubstreamOf};
 ghost use Rattle.smmuq_c.specs.Kept.{IsKept, KeptUnlessDone};
 
 use crate::handle::Handle;
@@ -118,7 +118,7 @@ pub extern "C" fn smmuq_find(
     tag: &mut TagWords,
     held: &mut Held,
 ) -> u32
-    ensures called { HasCalled (OfSaid (IsSoughtBy kind owner space spans) (HasFound (address / 4096) spans tag.new held.new)) handle.old.object handle.new.object result }
+    ensures called { HasCalled (Finds kind owner space address spans tag.new held.new) handle.old.object handle.new.object result }
     ensures tag { KeptUnlessDone result tag.old tag.new }
     ensures held { KeptUnlessDone result held.old held.new }
 {
@@ -136,7 +136,7 @@ pub extern "C" fn smmuq_find(
 }
 
 fn find(object: &Object, sought: Sought, tag: &mut TagWords, held: &mut Held) -> Status
-    ensures called { OfSaid (IsSoughtBy sought.kind sought.owner sought.space sought.spans) (HasFound (sought.address / 4096) sought.spans tag.new held.new) object.now object.now result }
+    ensures called { Finds sought.kind sought.owner sought.space sought.address sought.spans tag.new held.new object.now object.now result }
     ensures tag { IsKept result tag.old tag.new }
     ensures held { IsKept result held.old held.new }
 {
