@@ -5,6 +5,9 @@
  *
  *     driver [SENDERS [BATCHES]]
  *
+ * Nobody spins. A driver sleeps while the ring is full or its CMD_SYNC isn't done, the SMMU while there is nothing to take,
+ * and whoever acknowledges until there is an error.
+ *
  * What a driver owes in an error stop is done right here. Who waits for a completion keeps nobody from running who has to
  * acknowledge: it holds no lock and no interrupt is off. And a wait that was given up is no completion: the memory is
  * given to nobody else until the number was told.
@@ -14,7 +17,7 @@
 
 #include <inttypes.h>
 #include <pthread.h>
-#include <sched.h>
+#include <semaphore.h>
 #include <stdio.h>
 #include <stdlib.h>
 
@@ -24,10 +27,22 @@ enum { MOST_SENDERS = 256, LOG2 = 6, PAGES = 4 };
 static struct {
     pthread_mutex_t lock; /* one call at a time on the engine's handle */
     pthread_cond_t error; /* SMMU_GERROR tells of an error */
+    sem_t bell;           /* rung after a send, an acknowledgement and the close; once too often does no harm */
     smmuq_engine engine;
     int stopped, drained;
     uint32_t acknowledged;
 } device = {.lock = PTHREAD_MUTEX_INITIALIZER, .error = PTHREAD_COND_INITIALIZER, .engine = SMMUQ_EMPTY};
+
+/* The drivers that wait for room or for a completion. All are woken whenever commands were taken, since nothing says whose
+ * CMD_SYNC completed.
+ *
+ * No wake-up is lost, by the lock's order alone. The SMMU's thread takes this lock when smmuq_run has returned. A driver that
+ * had the lock before sleeps by then, and is woken. One that has it afterwards asks the library afterwards, and is told. The
+ * two locks are never held together. */
+static struct {
+    pthread_mutex_t lock;
+    pthread_cond_t taken;
+} waiting = {.lock = PTHREAD_MUTEX_INITIALIZER, .taken = PTHREAD_COND_INITIALIZER};
 
 /* A driver's thread. The handle is its alone. */
 struct driver {
@@ -36,10 +51,20 @@ struct driver {
     uint32_t number, batches, failed;
 };
 
+/* Sends, and sleeps while the ring is full. At SMMUQ_CONTENDED somebody else came first, so there is nothing to wait for. */
 static smmuq_status send_one(struct driver *driver, const smmuq_command *commands, size_t count, uint32_t *number) {
     smmuq_status status;
-    while ((status = smmuq_send(&driver->sender, commands, count, 64, number)) == SMMUQ_RING_FULL || status == SMMUQ_CONTENDED)
-        sched_yield();
+    do {
+        status = smmuq_send(&driver->sender, commands, count, 4, number);
+        if (status == SMMUQ_RING_FULL) {
+            pthread_mutex_lock(&waiting.lock);
+            while ((status = smmuq_send(&driver->sender, commands, count, 4, number)) == SMMUQ_RING_FULL)
+                pthread_cond_wait(&waiting.taken, &waiting.lock);
+            pthread_mutex_unlock(&waiting.lock);
+        }
+    } while (status == SMMUQ_CONTENDED);
+    if (status == SMMUQ_OK)
+        sem_post(&device.bell);
     return status;
 }
 
@@ -47,8 +72,10 @@ static smmuq_status send_one(struct driver *driver, const smmuq_command *command
 static smmuq_status wait_for(struct driver *driver, uint32_t number) {
     uint32_t done = 0;
     smmuq_status status;
+    pthread_mutex_lock(&waiting.lock);
     while ((status = smmuq_done_up_to(&driver->sender, &done)) == SMMUQ_OK && done < number)
-        sched_yield();
+        pthread_cond_wait(&waiting.taken, &waiting.lock);
+    pthread_mutex_unlock(&waiting.lock);
     return status;
 }
 
@@ -90,8 +117,13 @@ static void *take(void *argument) {
             pthread_cond_signal(&device.error);
         }
         pthread_mutex_unlock(&device.lock);
-        if (status != SMMUQ_OK)
-            sched_yield();
+        if (status == SMMUQ_OK || status == SMMUQ_REPLACED) {
+            pthread_mutex_lock(&waiting.lock);
+            pthread_cond_broadcast(&waiting.taken);
+            pthread_mutex_unlock(&waiting.lock);
+        } else if (status != SMMUQ_RING_DRAINED) {
+            sem_wait(&device.bell); /* it is empty, stopped, or a sender has yet to hand over what it reserved */
+        }
     } while (status != SMMUQ_RING_DRAINED);
     pthread_mutex_lock(&device.lock);
     device.drained = 1;
@@ -110,6 +142,7 @@ static void *acknowledge(void *argument) {
             && smmuq_acknowledge(&device.engine.handle, errors.gerror, SMMUQ_REPLACE) == SMMUQ_OK) {
             device.stopped = 0;
             device.acknowledged++;
+            sem_post(&device.bell);
         }
         if (!device.stopped && !device.drained)
             pthread_cond_wait(&device.error, &device.lock);
@@ -149,7 +182,7 @@ int main(int argc, char **argv) {
     if (senders < 1 || senders > MOST_SENDERS)
         return 2;
     status = smmuq_ring_new(LOG2, batches + 1, 1024, handles, senders, &device.engine);
-    if (status != SMMUQ_OK)
+    if (status != SMMUQ_OK || sem_init(&device.bell, 0, 0) != 0)
         return 1;
     pthread_create(&taker, NULL, take, NULL);
     pthread_create(&acknowledger, NULL, acknowledge, NULL);
@@ -162,11 +195,13 @@ int main(int argc, char **argv) {
     for (sender = 0; sender < senders; sender++)
         pthread_join(drivers[sender].thread, NULL);
     status = smmuq_close(&drivers[0].sender);
+    sem_post(&device.bell);
     pthread_join(taker, NULL);
     pthread_join(acknowledger, NULL);
     right = status == SMMUQ_OK && check(drivers, senders, batches);
     for (sender = 0; sender < senders; sender++)
         smmuq_free(&drivers[sender].sender.handle);
     smmuq_free(&device.engine.handle);
+    sem_destroy(&device.bell);
     return right ? 0 : 1;
 }
