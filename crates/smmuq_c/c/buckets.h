@@ -1,8 +1,8 @@
 /* SPDX-License-Identifier: MIT OR Apache-2.0 */
 /* Two translation tables as emulators have them, and a device model's judge of commands over each, to compare a unit's times
  * with. One is that of crates/unit_bench/c/table.c, whose invalidation by address walks everything. The other has 256 buckets
- * of nodes, each in memory of its own, and removes an entry by its key where the command says page and level; where it
- * doesn't, or nothing has that key, it walks everything too. */
+ * of nodes, each in memory of its own, and removes entries by their keys: by that of the level which the command says, and
+ * where it says none, or nothing has that key, by one for each span that was ever held. */
 #define main time_table_cold
 #include "../../unit_bench/c/table.c"
 #undef main
@@ -19,7 +19,7 @@ struct link {
 
 static struct buckets {
     struct link *first[BUCKETS];
-    unsigned count;
+    uint64_t spans;
 } *buckets;
 
 /* Where the pointer to this key's node is, or the null pointer at the end of its bucket. */
@@ -39,41 +39,28 @@ static NOINLINE void fill_buckets(const struct key *key, uint64_t value) {
     if (*at == NULL) {
         *at = memory(sizeof **at);
         (*at)->key = *key;
-        buckets->count++;
+        buckets->spans |= UINT64_C(1) << key->span;
     }
     (*at)->value = value;
 }
 
-static void remove_link(struct link **at) {
-    struct link *gone = *at;
+/* Removes the entry of a block that has the page, if there is one: how many. */
+static unsigned remove_block(uint16_t vmid, uint16_t asid, uint64_t page, unsigned span) {
+    const struct key key = {.page = page >> span << span, .asid = asid, .vmid = vmid, .span = (uint8_t)span};
+    struct link **at = place_of(&key), *gone = *at;
+    if (gone == NULL)
+        return 0;
     *at = gone->next;
     free(gone);
-    buckets->count--;
-}
-
-/* Removes each entry of this address space whose block has the page: how many. */
-static unsigned walk_buckets(uint16_t vmid, uint16_t asid, uint64_t page) {
-    const unsigned before = buckets->count;
-    for (unsigned bucket = 0; bucket < BUCKETS; bucket++) {
-        struct link **at = &buckets->first[bucket];
-        while (*at != NULL) {
-            const struct key *key = &(*at)->key;
-            if (key->vmid == vmid && key->asid == asid && page >> key->span == key->page >> key->span)
-                remove_link(at);
-            else
-                at = &(*at)->next;
-        }
-    }
-    return before - buckets->count;
+    return 1;
 }
 
 static unsigned remove_from_buckets(uint16_t vmid, uint16_t asid, uint64_t page, unsigned level) {
-    const struct key key = {.page = page, .asid = asid, .vmid = vmid, .span = (uint8_t)(9 * (3 - level))};
-    struct link **at = place_of(&key);
-    if (level == 0 || *at == NULL)
-        return walk_buckets(vmid, asid, page);
-    remove_link(at);
-    return 1;
+    unsigned removed = level == 0 ? 0 : remove_block(vmid, asid, page, 9 * (3 - level));
+    if (removed == 0)
+        for (uint64_t spans = buckets->spans; spans != 0; spans &= spans - 1)
+            removed += remove_block(vmid, asid, page, (unsigned)__builtin_ctzll(spans));
+    return removed;
 }
 
 static unsigned remove_from_table(uint16_t vmid, uint16_t asid, uint64_t page, unsigned level) {

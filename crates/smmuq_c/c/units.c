@@ -13,7 +13,7 @@
 enum { TIMES = 40, PART = 50, PARTS = 100, MANY = 4096, STREAMS = 125 };
 
 /* What the calls are about, in an order that strides over the entries: units and tables hold the same. */
-static smmuq_command commands[ENTRIES];
+static smmuq_command commands[ENTRIES], ranges[ENTRIES];
 static smmuq_tag tags[ENTRIES];
 static struct key keys[ENTRIES];
 static smmuq_tag sizes[ENTRIES];
@@ -45,11 +45,18 @@ TIMED(sync_unit, TIMES, ENTRIES, SUM(smmuq_unit_judge(&unit, sync_command.lo, sy
 TIMED(sync_table, TIMES, ENTRIES, failed += judge_over_table(&model, sync_command.lo, sync_command.hi))
 TIMED(sync_buckets, TIMES, ENTRIES, failed += judge_over_buckets(&model, sync_command.lo, sync_command.hi))
 
-TIMED(both_unit, TIMES, ENTRIES, SUM(smmuq_unit_judge(&unit, commands[i].lo, commands[i].hi, &verdict));
+TIMED(page_unit, TIMES, ENTRIES, SUM(smmuq_unit_judge(&unit, commands[i].lo, commands[i].hi, &verdict));
       removed += verdict.removed; SUM(smmuq_fill(&unit.handle, &tags[i], i)))
-TIMED(both_table, TIMES, ENTRIES, failed += judge_over_table(&model, commands[i].lo, commands[i].hi);
+TIMED(page_table, TIMES, ENTRIES, failed += judge_over_table(&model, commands[i].lo, commands[i].hi);
       removed += model.removed; fill_table(&keys[i], i))
-TIMED(both_buckets, TIMES, ENTRIES, failed += judge_over_buckets(&model, commands[i].lo, commands[i].hi);
+TIMED(page_buckets, TIMES, ENTRIES, failed += judge_over_buckets(&model, commands[i].lo, commands[i].hi);
+      removed += model.removed; fill_buckets(&keys[i], i))
+
+TIMED(range_unit, TIMES, ENTRIES, SUM(smmuq_unit_judge(&unit, ranges[i].lo, ranges[i].hi, &verdict));
+      removed += verdict.removed; SUM(smmuq_fill(&unit.handle, &tags[i], i)))
+TIMED(range_table, TIMES, ENTRIES, failed += judge_over_table(&model, ranges[i].lo, ranges[i].hi);
+      removed += model.removed; fill_table(&keys[i], i))
+TIMED(range_buckets, TIMES, ENTRIES, failed += judge_over_buckets(&model, ranges[i].lo, ranges[i].hi);
       removed += model.removed; fill_buckets(&keys[i], i))
 
 TIMED(fill_unit, 1, PART, SUM(smmuq_fill(&unit.handle, &tags[part + i], part + i)))
@@ -85,10 +92,11 @@ static NOINLINE smmuq_status find_by_look_ups(uint32_t vmid, uint32_t asid, uint
     return status;
 }
 
-TIMED(find_loop, TIMES, ENTRIES, SUM(find_by_look_ups(sizes[i].vmid, sizes[i].asid, last_page(&sizes[i]))); found += held.value)
+TIMED(find_loop, TIMES, ENTRIES, SUM(find_by_look_ups(sizes[i].vmid, sizes[i].asid, last_page(&sizes[i])));
+      found += held.value)
 
-TIMED(configuration_unit, 2 * TIMES, STREAMS, SUM(smmuq_lookup(&configured.handle, &streams[2 * i], &held)); found += held.value;
-      SUM(smmuq_lookup(&configured.handle, &streams[2 * i + 1], &held)); found += held.value)
+TIMED(configuration_unit, 2 * TIMES, STREAMS, SUM(smmuq_lookup(&configured.handle, &streams[2 * i], &held));
+      found += held.value; SUM(smmuq_lookup(&configured.handle, &streams[2 * i + 1], &held)); found += held.value)
 TIMED(configuration_table, 2 * TIMES, STREAMS, found += look_up_in_table(&stream_keys[2 * i])->value;
       found += look_up_in_table(&stream_keys[2 * i + 1])->value)
 TIMED(configuration_buckets, 2 * TIMES, STREAMS, found += look_up_in_buckets(&stream_keys[2 * i])->value;
@@ -155,11 +163,18 @@ static smmuq_tag tag_of(const struct key *key, uint32_t span) {
                        .address = key->page << 12};
 }
 
-/* TLBI_NH_VA of one page by a range of one, as Linux sends it, with the level of its entry: TG 4K, TTL, Leaf. */
+/* TLBI_NH_VA of one page. */
 static smmuq_command command_of(const struct key *key) {
-    const uint64_t level = key->span == 0 ? 3 : 2;
     return (smmuq_command){SMMUQ_OPCODE_TLBI_NH_VA | (uint64_t)key->vmid << 32 | (uint64_t)key->asid << 48,
-                           key->page << 12 | 1u << 10 | level << 8 | 1};
+                           key->page << 12 | 1};
+}
+
+/* The same as a range of one, with the level of its entry, as Linux sends it to an SMMU that has ranges: TG 4K, TTL. */
+static smmuq_command range_of(const struct key *key) {
+    const uint64_t level = key->span == 0 ? 3 : 2;
+    smmuq_command command = command_of(key);
+    command.hi |= 1u << 10 | level << 8;
+    return command;
 }
 
 static void make_translations(void) {
@@ -172,6 +187,7 @@ static void make_translations(void) {
     for (unsigned i = 0; i < ENTRIES; i++) {
         keys[i] = key_at(i * STRIDE % ENTRIES);
         commands[i] = command_of(&keys[i]);
+        ranges[i] = range_of(&keys[i]);
         tags[i] = tag_of(&keys[i], keys[i].span);
         sizes[i] = tag_of(&keys[i], spans[i % 3]);
         fill_table(&keys[i], i);
@@ -181,7 +197,7 @@ static void make_translations(void) {
     }
 }
 
-/* A stream table entry and a context descriptor of each stream; in the tables the kinds are in the place of the span. */
+/* A stream table entry and a context descriptor of each stream; in the tables the kinds are in the place of the ASID. */
 static void make_configurations(void) {
     configurations.table = memory(sizeof *table);
     configurations.buckets = memory(sizeof *buckets);
@@ -191,7 +207,7 @@ static void make_configurations(void) {
         const uint32_t sid = i / 2 * STRIDE % STREAMS * 8;
         const uint32_t kind = i % 2 == 0 ? SMMUQ_STE : SMMUQ_CD;
         streams[i] = (smmuq_tag){.kind = kind, .sid = sid};
-        stream_keys[i] = (struct key){.page = sid, .span = (uint8_t)(100 + kind)};
+        stream_keys[i] = (struct key){.page = sid, .asid = (uint16_t)kind};
         fill_table(&stream_keys[i], i);
         fill_buckets(&stream_keys[i], i);
         SUM(smmuq_fill(&configured.handle, &streams[i], i));
@@ -208,9 +224,12 @@ static const struct job {
     {"sync", "unit", 1, TIMES * ENTRIES, use_translations, timed_sync_unit},
     {"sync", "table", 1, TIMES * ENTRIES, use_translations, timed_sync_table},
     {"sync", "buckets", 1, TIMES * ENTRIES, use_translations, timed_sync_buckets},
-    {"both", "unit", 1, TIMES * ENTRIES, use_translations, timed_both_unit},
-    {"both", "table", 1, TIMES * ENTRIES, use_translations, timed_both_table},
-    {"both", "buckets", 1, TIMES * ENTRIES, use_translations, timed_both_buckets},
+    {"page", "unit", 1, TIMES * ENTRIES, use_translations, timed_page_unit},
+    {"page", "table", 1, TIMES * ENTRIES, use_translations, timed_page_table},
+    {"page", "buckets", 1, TIMES * ENTRIES, use_translations, timed_page_buckets},
+    {"range", "unit", 1, TIMES * ENTRIES, use_translations, timed_range_unit},
+    {"range", "table", 1, TIMES * ENTRIES, use_translations, timed_range_table},
+    {"range", "buckets", 1, TIMES * ENTRIES, use_translations, timed_range_buckets},
     {"fill", "unit", PARTS, PART, empty_unit, timed_fill_unit},
     {"fill", "table", PARTS, PART, empty_table, timed_fill_table},
     {"fill", "buckets", PARTS, PART, empty_buckets, timed_fill_buckets},
@@ -251,10 +270,10 @@ int main(int count, char **words) {
     for (unsigned round = 0; round < rounds; round++)
         for (size_t i = 0; i < sizeof jobs / sizeof *jobs; i++)
             run(&jobs[i]);
-    /* Nothing was refused; each invalidation of a page removed one entry; and all look-ups found what was filled in: of each of
-     * `values` three look-ups, two finds, and three times two in configurations. */
+    /* Nothing was refused, each invalidation of a page removed one entry, and all look-ups found what was filled in: three
+     * look-ups, two finds and three times two look-ups of configurations. */
     expect(failed == 0);
-    expect(removed == (uint64_t)rounds * (3 * TIMES * ENTRIES + 2 * MANY));
+    expect(removed == (uint64_t)rounds * (6 * TIMES * ENTRIES + 2 * MANY));
     expect(found == rounds * 11 * values);
     return 0;
 }
