@@ -23,7 +23,7 @@ static struct key stream_keys[2 * STREAMS];
 static smmuq_unit unit, sized, configured, large;
 static smmuq_verdict verdict;
 static struct model model;
-/* The first entry of the part that is filled again, and sums: statuses that weren't OK, entries removed, values found. */
+/* The first entry of the part, and sums: statuses that weren't OK, entries removed, values found. */
 static unsigned part;
 static uint64_t failed, removed, found;
 
@@ -59,9 +59,21 @@ TIMED(range_table, TIMES, ENTRIES, failed += judge_over_table(&model, ranges[i].
 TIMED(range_buckets, TIMES, ENTRIES, failed += judge_over_buckets(&model, ranges[i].lo, ranges[i].hi);
       removed += model.removed; fill_buckets(&keys[i], i))
 
-TIMED(fill_unit, 1, PART, SUM(smmuq_fill(&unit.handle, &tags[part + i], part + i)))
-TIMED(fill_table, 1, PART, fill_table(&keys[part + i], part + i))
-TIMED(fill_buckets, 1, PART, fill_buckets(&keys[part + i], part + i))
+/* A part of the entries is removed, one after another, and then filled again: each may be timed by itself. */
+#define OF_PART(name, call) \
+    static NOINLINE void name(void) { \
+        for (unsigned i = part; i < part + PART; i++) { \
+            call; \
+        } \
+    }
+#define TIMED_OR_NOT(name, call) OF_PART(name, call) OF_PART(timed_##name, call)
+
+TIMED_OR_NOT(remove_unit, SUM(smmuq_unit_judge(&unit, commands[i].lo, commands[i].hi, &verdict)); removed += verdict.removed)
+TIMED_OR_NOT(remove_table, failed += judge_over_table(&model, commands[i].lo, commands[i].hi); removed += model.removed)
+TIMED_OR_NOT(remove_buckets, failed += judge_over_buckets(&model, commands[i].lo, commands[i].hi); removed += model.removed)
+TIMED_OR_NOT(refill_unit, SUM(smmuq_fill(&unit.handle, &tags[i], i)))
+TIMED_OR_NOT(refill_table, fill_table(&keys[i], i))
+TIMED_OR_NOT(refill_buckets, fill_buckets(&keys[i], i))
 
 static smmuq_held held;
 static smmuq_tag tag;
@@ -107,7 +119,7 @@ static size_t evicted;
 TIMED(evict_unit, 1, 1, SUM(smmuq_evict_all(&large.handle, SMMUQ_ALL_KINDS, &evicted)); removed += evicted)
 TIMED(evict_command, 1, 1, SUM(smmuq_unit_judge(&large, SMMUQ_OPCODE_TLBI_NSNH_ALL, 0, &verdict)); removed += verdict.removed)
 
-/* ---- what comes before a timing, outside it */
+/* ---- what comes before and behind a timing, outside it */
 
 /* The tables of translations, and those of streams: the functions of both take what is in use. */
 static struct {
@@ -130,23 +142,7 @@ static void next_part(void) {
     use_translations();
 }
 
-static void empty_unit(void) {
-    next_part();
-    for (unsigned i = part; i < part + PART; i++)
-        SUM(smmuq_unit_judge(&unit, commands[i].lo, commands[i].hi, &verdict));
-}
-
-static void empty_table(void) {
-    next_part();
-    for (unsigned i = part; i < part + PART; i++)
-        failed += judge_over_table(&model, commands[i].lo, commands[i].hi);
-}
-
-static void empty_buckets(void) {
-    next_part();
-    for (unsigned i = part; i < part + PART; i++)
-        failed += judge_over_buckets(&model, commands[i].lo, commands[i].hi);
-}
+static void nothing(void) {}
 
 static void fill_large(void) {
     for (unsigned i = 0; i < MANY; i++) {
@@ -219,30 +215,33 @@ static void make_configurations(void) {
 static const struct job {
     const char *what, *whose;
     unsigned parts, calls;
-    void (*before)(void), (*timed)(void);
+    void (*before)(void), (*timed)(void), (*behind)(void);
 } jobs[] = {
-    {"sync", "unit", 1, TIMES * ENTRIES, use_translations, timed_sync_unit},
-    {"sync", "table", 1, TIMES * ENTRIES, use_translations, timed_sync_table},
-    {"sync", "buckets", 1, TIMES * ENTRIES, use_translations, timed_sync_buckets},
-    {"page", "unit", 1, TIMES * ENTRIES, use_translations, timed_page_unit},
-    {"page", "table", 1, TIMES * ENTRIES, use_translations, timed_page_table},
-    {"page", "buckets", 1, TIMES * ENTRIES, use_translations, timed_page_buckets},
-    {"range", "unit", 1, TIMES * ENTRIES, use_translations, timed_range_unit},
-    {"range", "table", 1, TIMES * ENTRIES, use_translations, timed_range_table},
-    {"range", "buckets", 1, TIMES * ENTRIES, use_translations, timed_range_buckets},
-    {"fill", "unit", PARTS, PART, empty_unit, timed_fill_unit},
-    {"fill", "table", PARTS, PART, empty_table, timed_fill_table},
-    {"fill", "buckets", PARTS, PART, empty_buckets, timed_fill_buckets},
-    {"look-up", "unit", 1, TIMES * ENTRIES, use_translations, timed_lookup_unit},
-    {"look-up", "table", 1, TIMES * ENTRIES, use_translations, timed_lookup_table},
-    {"look-up", "buckets", 1, TIMES * ENTRIES, use_translations, timed_lookup_buckets},
-    {"find", "unit", 1, TIMES * ENTRIES, use_translations, timed_find_unit},
-    {"find", "loop", 1, TIMES * ENTRIES, use_translations, timed_find_loop},
-    {"configuration", "unit", 1, 2 * TIMES * STREAMS, use_configurations, timed_configuration_unit},
-    {"configuration", "table", 1, 2 * TIMES * STREAMS, use_configurations, timed_configuration_table},
-    {"configuration", "buckets", 1, 2 * TIMES * STREAMS, use_configurations, timed_configuration_buckets},
-    {"evict-all", "unit", 1, 1, fill_large, timed_evict_unit},
-    {"evict-all", "command", 1, 1, fill_large, timed_evict_command},
+    {"sync", "unit", 1, TIMES * ENTRIES, use_translations, timed_sync_unit, nothing},
+    {"sync", "table", 1, TIMES * ENTRIES, use_translations, timed_sync_table, nothing},
+    {"sync", "buckets", 1, TIMES * ENTRIES, use_translations, timed_sync_buckets, nothing},
+    {"page", "unit", 1, TIMES * ENTRIES, use_translations, timed_page_unit, nothing},
+    {"page", "table", 1, TIMES * ENTRIES, use_translations, timed_page_table, nothing},
+    {"page", "buckets", 1, TIMES * ENTRIES, use_translations, timed_page_buckets, nothing},
+    {"range", "unit", 1, TIMES * ENTRIES, use_translations, timed_range_unit, nothing},
+    {"range", "table", 1, TIMES * ENTRIES, use_translations, timed_range_table, nothing},
+    {"range", "buckets", 1, TIMES * ENTRIES, use_translations, timed_range_buckets, nothing},
+    {"remove", "unit", PARTS, PART, next_part, timed_remove_unit, refill_unit},
+    {"remove", "table", PARTS, PART, next_part, timed_remove_table, refill_table},
+    {"remove", "buckets", PARTS, PART, next_part, timed_remove_buckets, refill_buckets},
+    {"refill", "unit", PARTS, PART, remove_unit, timed_refill_unit, next_part},
+    {"refill", "table", PARTS, PART, remove_table, timed_refill_table, next_part},
+    {"refill", "buckets", PARTS, PART, remove_buckets, timed_refill_buckets, next_part},
+    {"look-up", "unit", 1, TIMES * ENTRIES, use_translations, timed_lookup_unit, nothing},
+    {"look-up", "table", 1, TIMES * ENTRIES, use_translations, timed_lookup_table, nothing},
+    {"look-up", "buckets", 1, TIMES * ENTRIES, use_translations, timed_lookup_buckets, nothing},
+    {"find", "unit", 1, TIMES * ENTRIES, use_translations, timed_find_unit, nothing},
+    {"find", "loop", 1, TIMES * ENTRIES, use_translations, timed_find_loop, nothing},
+    {"configuration", "unit", 1, 2 * TIMES * STREAMS, use_configurations, timed_configuration_unit, nothing},
+    {"configuration", "table", 1, 2 * TIMES * STREAMS, use_configurations, timed_configuration_table, nothing},
+    {"configuration", "buckets", 1, 2 * TIMES * STREAMS, use_configurations, timed_configuration_buckets, nothing},
+    {"evict-all", "unit", 1, 1, fill_large, timed_evict_unit, nothing},
+    {"evict-all", "command", 1, 1, fill_large, timed_evict_command, nothing},
 };
 
 static NOINLINE void round_done(void) {
@@ -256,6 +255,7 @@ static void run(const struct job *job) {
         const uint64_t start = nanoseconds();
         job->timed();
         took += nanoseconds() - start;
+        job->behind();
     }
     printf("%s %s %u %llu\n", job->what, job->whose, job->parts * job->calls, (unsigned long long)took);
     round_done();
@@ -273,7 +273,7 @@ int main(int count, char **words) {
     /* Nothing was refused, each invalidation of a page removed one entry, and all look-ups found what was filled in: three
      * look-ups, two finds and three times two look-ups of configurations. */
     expect(failed == 0);
-    expect(removed == (uint64_t)rounds * (6 * TIMES * ENTRIES + 2 * MANY));
+    expect(removed == (uint64_t)rounds * (6 * TIMES * ENTRIES + 6 * PARTS * PART + 2 * MANY));
     expect(found == rounds * 11 * values);
     return 0;
 }
