@@ -8,8 +8,6 @@
 #include "buckets.h"
 #include "smmuq.h"
 
-#include <string.h>
-
 enum { TIMES = 40, PART = 50, PARTS = 100, MANY = 4096, STREAMS = 125 };
 
 /* What the calls are about, in an order that strides over the entries: units and tables hold the same. */
