@@ -25,6 +25,20 @@ fn stop_and_acknowledge(rt: &impl Abort, queue: &mut QueueUnit, remedy: StopReme
     assert_eq!(rt; queue.acknowledge(1, remedy), Ok(()));
 }
 
+/// Stops a unit that isn't stopped for an error that was found.
+fn stop_for(rt: &impl Abort, queue: &mut QueueUnit, error: QueueError) {
+    let stopped = queue.stopped();
+    assert!(rt; !stopped);
+    queue.stop(error);
+}
+
+/// Restores the registers of a unit that isn't stopped.
+fn restore(rt: &impl Abort, queue: &mut QueueUnit, words: (u32, u32), error: QueueError) {
+    let stopped = queue.stopped();
+    assert!(rt; !stopped);
+    queue.restore(words.0, words.1, error);
+}
+
 #[test]
 fn words_are_judged_without_their_command(rt: HostRuntime) {
     let mut queue = holding_stream_5(&rt, rt.alloc());
@@ -76,7 +90,7 @@ fn the_same_words_are_judged_again_behind_a_reread(rt: HostRuntime) {
 #[test]
 fn an_error_that_was_found_stops_until_it_is_acknowledged(rt: HostRuntime) {
     let mut queue = holding_stream_5(&rt, rt.alloc());
-    queue.stop(QueueError::Abort);
+    stop_for(&rt, &mut queue, QueueError::Abort);
     assert_eq!(rt; (queue.stopped(), queue.error()), (true, (2, 1, 0)));
     assert_eq!(rt; queue.judge(SYNC), Err(JudgeFault::StillStopped));
     assert_eq!(rt;
@@ -94,9 +108,9 @@ fn an_error_that_was_found_stops_until_it_is_acknowledged(rt: HostRuntime) {
 #[test]
 fn registers_are_restored(rt: HostRuntime) {
     let mut queue = holding_stream_5(&rt, rt.alloc());
-    queue.restore(1, 1, QueueError::Illegal);
+    restore(&rt, &mut queue, (1, 1), QueueError::Illegal);
     assert_eq!(rt; (queue.stopped(), queue.error()), (false, (0, 1, 1)));
-    queue.restore(1, 0, QueueError::AtcInvSync);
+    restore(&rt, &mut queue, (1, 0), QueueError::AtcInvSync);
     assert_eq!(rt; (queue.stopped(), queue.error()), (true, (3, 1, 0)));
 }
 
@@ -104,7 +118,7 @@ fn registers_are_restored(rt: HostRuntime) {
 fn a_reset_empties_it_in_place(rt: HostRuntime) {
     let mut queue = holding_stream_5(&rt, rt.alloc());
     stop_and_acknowledge(&rt, &mut queue, StopRemedy::Reread);
-    queue.stop(QueueError::Abort);
+    stop_for(&rt, &mut queue, QueueError::Abort);
     queue.reset();
     assert_eq!(rt; (queue.stopped(), queue.error()), (false, (0, 0, 0)));
     assert_eq!(rt; (queue.unit.len(), queue.unit.counts().taken()), (0, 0));
