@@ -3,6 +3,7 @@ pub mod Aligned
 pub mod Back
 pub mod Crossing
 pub mod EntryMaps
+pub mod EntryTests
 pub mod Evictions
 pub mod InOrder
 pub mod Indexed

@@ -1,9 +1,10 @@
 -- Which entries are held after a history.
-use Rattle.std.specs.Prelude.{◌≡◌, Bool, false, not, List, [], ◌∷◌, ◌++◌, Some, filter, map}
+use Rattle.std.specs.Prelude.{◌≡◌, ℕ, nat_lt, Bool, false, not, List, [], ◌∷◌, ◌++◌, Some, filter, map}
 use Rattle.std.specs.Ordering.{eq_by_cmp}
 use Rattle.std.specs.FinMap as finite
 use Rattle.std.specs.FinMap.{FinMap}
 use Rattle.std.specs.List.{All}
+use Rattle.std.specs.Option.{option_map_or}
 use Rattle.cmdcodec.specs.declared.command.Command.{Command}
 use Rattle.caches.specs.declared.tag.Tag.{Tag}
 use Rattle.caches.specs.declared.tag.Entry.{Entry}
@@ -35,6 +36,22 @@ without_passing passes entries = finite.retain_keys entries (λ tag. not (passes
 abbrev pub without_covered : Command → Entries → Entries
 without_covered command entries = without_passing (covers command) entries
 
+-- an entry that passes a test is held under the tag
+abbrev pub holds_passing : (Entry → Bool) → Entries → Tag → Bool
+holds_passing passes entries tag = option_map_or passes (finite.get entries tag) false
+
+-- the entries that don't pass a test
+abbrev pub without_evicted : (Entry → Bool) → Entries → Entries
+without_evicted passes entries = without_passing (holds_passing passes entries) entries
+
+-- the entry was filled before this many commands were taken
+abbrev pub is_older : ℕ → Entry → Bool
+is_older born entry = nat_lt entry.born born
+
+-- the entries that weren't filled before this many commands were taken
+abbrev pub without_older : ℕ → Entries → Entries
+without_older born entries = without_evicted (is_older born) entries
+
 -- what is held after a history
 abbrev pub held : History → Entries
 held [] = finite.empty
@@ -51,6 +68,10 @@ ends (Take command) tag = covers command tag
 -- evictions of all that these entries hold under tags that pass a test
 abbrev pub evictions : (Tag → Bool) → Entries → History
 evictions passes entries = map Evict (filter passes (finite.keys entries))
+
+-- evictions of all that these entries hold which was filled before this many commands were taken
+abbrev pub older_evictions : ℕ → Entries → History
+older_evictions born entries = evictions (holds_passing (is_older born) entries) entries
 
 -- The history has a fill of this entry that no later item ends.
 pub record IsStanding (history : History) (entry : Entry) : Type 0 where

@@ -1,16 +1,15 @@
 -- What removal by ranges uses: the next key that passes a test, and what a sweep removes.
-use Rattle.std.specs.Prelude.{◌≡◌, ◌⊎◌, cond, Bool, true, not, ◌&&◌, IsSome, Option, Some, None}
+use Rattle.std.specs.Prelude.{◌≡◌, ◌⊎◌, cond, Bool, true, false, not, ◌&&◌, IsSome, Option, Some, None}
 use Rattle.std.specs.declared.cmp.Ordering.{Ordering}
 use Rattle.std.specs.declared.ops.Bound.{Bound}
 use Rattle.std.specs.declared.ops.Bound.TheVariants.{Unbounded}
-use Rattle.std.specs.Option.{MatchOption}
+use Rattle.std.specs.Option.{MatchOption, option_map_or}
 use Rattle.std.specs.BTreeMap.{BTreeMap}
 use Rattle.std.specs.BTreeMap as tree
 use Rattle.std.specs.BTreeMap.Range.{IsLeBy, range_contains, is_from_start}
 use Rattle.caches.specs.declared.tag.Entry.{Entry}
-use Rattle.caches.specs.declared.tag.Tag.{Tag}
 use Rattle.caches.specs.declared.key.Key.{Key}
-use Rattle.caches.specs.Keys.{tag_of, passes_key, IsKept}
+use Rattle.caches.specs.Keys.{tag_of, IsKept}
 
 -- Each entry of the map is under the key of its tag, whose block is well formed.
 abbrev pub IsKeeping : (Key → Key → Ordering) → BTreeMap Key Entry → Type 0
@@ -46,12 +45,16 @@ IsPruned {K} cmp p m n = (q : K) → (tree.get cmp n q ≡ tree.get cmp m q) ⊎
 abbrev pub IsWithout : {K X : Type 0} → (K → K → Ordering) → (K → Bool) → BTreeMap K X → BTreeMap K X → Type 0
 IsWithout {K} cmp p m n = (q : K) → tree.get cmp n q ≡ cond (p q) None (tree.get cmp m q)
 
--- ---- by a test of tags
+-- ---- by a test of entries
 
--- the least key from a bound on whose tag passes, or none
-abbrev pub IsNextPassing : (Key → Key → Ordering) → (Tag → Bool) → BTreeMap Key Entry → Bound Key → Option Key → Type 0
-IsNextPassing cmp passes m from found = IsNext cmp (passes_key passes) m from Unbounded found
+-- The map has an entry under the key, which passes.
+abbrev pub has_passing : (Key → Key → Ordering) → (Entry → Bool) → BTreeMap Key Entry → Key → Bool
+has_passing cmp passes m key = option_map_or passes (tree.get cmp m key) false
 
--- n is m without the keys whose tags pass.
-abbrev pub IsRidOf : (Key → Key → Ordering) → (Tag → Bool) → BTreeMap Key Entry → BTreeMap Key Entry → Type 0
-IsRidOf cmp passes m n = IsWithout cmp (passes_key passes) m n
+-- the least key from a bound on whose entry passes, or none
+abbrev pub IsNextPassing : (Key → Key → Ordering) → (Entry → Bool) → BTreeMap Key Entry → Bound Key → Option Key → Type 0
+IsNextPassing cmp passes m from found = IsNext cmp (has_passing cmp passes m) m from Unbounded found
+
+-- n is m without the entries that pass.
+abbrev pub IsRidOf : (Key → Key → Ordering) → (Entry → Bool) → BTreeMap Key Entry → BTreeMap Key Entry → Type 0
+IsRidOf cmp passes m n = IsWithout cmp (has_passing cmp passes m) m n

@@ -5,11 +5,12 @@ ghost use Rattle.caches.specs.Limits.{most_entries, IsCapacity};
 ghost use Rattle.caches.specs.declared.tag.Entry.{Entry};
 ghost use Rattle.caches.specs.Blocks.{IsBlock};
 ghost use Rattle.caches.specs.Finding.{IsFound, IsHeldIn};
-ghost use Rattle.caches.specs.Held.{without_covered, without_passing, evictions, held, AreOwn, History, Fill, Evict, Take};
+ghost use Rattle.caches.specs.Held.{without_covered, without_older, without_passing, evictions, older_evictions, held, AreOwn, History, Fill, Evict, Take};
 ghost use Rattle.caches.specs.Stored.{IsFilled, IsFillAnswer, IsListAnswer};
 
 use crate::address_space::AddressSpace;
 use crate::entry_map::EntryMap;
+use crate::entry_test::Older;
 use crate::fault::CacheFault;
 use crate::rank::Rank;
 use crate::tag::{Entry, Tag};
@@ -145,8 +146,24 @@ impl Caches {
             → self.new.entries ≡ held (evictions (T.passing test.now) self.old.entries ++ h) }
     {
         let held = self.len();
+        self.held.are_own();
         self.held.remove_passing(test);
         (held - self.len()) as u32
+    }
+
+    /// Removes all entries that were filled before `born` commands were taken, those whose `born` is less, and returns
+    /// how many there were. Takes no memory; one walk along all entries (this project's choice).
+    pub fn evict_older(&mut self, born: u64) -> u32
+        ensures after { self.new.entries ≡ without_older born self.old.entries }
+        ensures capacity { self.new.capacity ≡ self.old.capacity }
+        ensures removed { result + finite.len self.new.entries ≡ finite.len self.old.entries }
+        ensures few { result ≤ most_entries }
+        ensures held { (h : History) → self.old.entries ≡ held h
+            → self.new.entries ≡ held (older_evictions born self.old.entries ++ h) }
+    {
+        let all = self.len();
+        self.held.remove_passing(&Older(born));
+        (all - self.len()) as u32
     }
 
     /// Removes all entries, in place, as a device's reset does (this project's choice). Takes no memory.

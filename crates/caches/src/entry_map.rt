@@ -11,7 +11,7 @@ ghost use Rattle.arrayvec.specs.ArrayVec.{array_vec_len};
 ghost use Rattle.caches.specs.declared.tag.Tag.{Tag};
 ghost use Rattle.caches.specs.declared.tag.Entry.{Entry};
 ghost use Rattle.caches.specs.Blocks.{IsBlock, HasSpan};
-ghost use Rattle.caches.specs.Held.{without_covered, without_passing, AreOwn};
+ghost use Rattle.caches.specs.Held.{without_covered, without_evicted, AreOwn};
 ghost use Rattle.caches.specs.Keys.{tag_of};
 ghost use Rattle.caches.specs.Limits.{most_entries, most_removed};
 ghost use Rattle.caches.specs.OnePages.{is_block_at, is_on};
@@ -21,6 +21,7 @@ ghost use Rattle.caches.specs.Stored.{IsFilled, IsListAnswer};
 ghost use Rattle.caches.specs.TagOrder.{tag_cmp, numbers};
 ghost use Rattle.caches.specs.Unlisted.{is_listed, unlisted, IsPartOf};
 
+use crate::entry_test::EntryTest;
 use crate::evicting::remove_passing;
 use crate::fault::CacheFault;
 use crate::indexed_map::IndexedMap;
@@ -31,7 +32,6 @@ use crate::ranges::remove_all_covered;
 use crate::rank::Rank;
 use crate::spans::Spans;
 use crate::tag::{Entry, Tag};
-use crate::tag_test::TagTest;
 use arrayvec::ArrayVec;
 use cmdcodec::Command;
 use std::alloc::Global;
@@ -223,9 +223,9 @@ impl EntryMap {
         }
     }
 
-    /// Removes the entries whose tags pass a test. Takes no memory.
-    pub(crate) fn remove_passing<T: TagTest>(&mut self, test: &T)
-        ensures { self.new ≡ without_passing (T.passing test.now) self.old }
+    /// Removes the entries that pass a test. Takes no memory.
+    pub(crate) fn remove_passing<T: EntryTest>(&mut self, test: &T)
+        ensures { self.new ≡ without_evicted (T.evicted test.now) self.old }
     {
         remove_passing(&mut self.map, test);
         self.len = recount(&self.map, &mut self.removed);

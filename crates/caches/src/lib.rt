@@ -26,6 +26,7 @@ mod address_space;
 mod caches;
 mod covering;
 mod entry_map;
+mod entry_test;
 mod evicting;
 mod fault;
 mod finding;
