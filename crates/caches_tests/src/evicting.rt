@@ -29,6 +29,25 @@ fn entries_of_a_kind_make_room(rt: HostRuntime) {
     );
 }
 
+#[test]
+fn what_is_older_is_evicted(rt: HostRuntime) {
+    let mut caches = caches_of(&rt, 8);
+    expect_answers(
+        &rt,
+        &mut caches,
+        "fill ste 5 7 2 = filled\n\
+         fill cd 5 1 7 3 = filled\n\
+         fill s1 1 2 8 0 7 4 = filled\n\
+         fill s2 1 8 0 7 1 = filled\n\
+         evict s2 1 8 0 = value=7 born=1",
+    );
+    // The entry that is already evicted doesn't count, and what was born at the bound stays.
+    assert_eq!(rt; caches.evict_older(2), 0);
+    assert_eq!(rt; caches.evict_older(3), 1);
+    assert!(rt; lists(&caches, "cd 5 1 7 3\ns1 1 2 8 0 7 4"));
+    assert_eq!(rt; caches.evict_older(5), 2);
+}
+
 /// Caches that hold an entry of each kind, and one more of each owner.
 fn caches_of_each_kind<R: AllocGlobal + Abort>(rt: &R) -> Caches {
     let mut caches = caches_of(rt, 16);
