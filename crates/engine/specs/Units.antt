@@ -12,7 +12,7 @@ use Rattle.caches.specs.Limits.{most_entries}
 use Rattle.caches.specs.declared.tag.Tag.{Tag}
 use Rattle.caches.specs.declared.tag.Entry.{Entry}
 use Rattle.caches.specs.Stored.{Stored}
-use Rattle.caches.specs.Held.{Entries, held, without_covered, without_passing}
+use Rattle.caches.specs.Held.{Entries, held, without_covered, without_older, without_passing}
 use Rattle.engine.specs.declared.stop.Mode.TheVariants.{Running, Replacing}
 use Rattle.engine.specs.declared.verdict.Verdict.{Verdict}
 use Rattle.engine.specs.declared.verdict.Verdict.TheVariants.{Applied, Stopped, Replaced}
@@ -51,6 +51,11 @@ filled tag value u = finite.insert u.caches.entries tag (record { tag = tag; val
 -- The entries whose tags pass, `count` of them, are gone, and nothing else changed.
 pub record HasLost (passes : Tag → Bool) (count : ℕ) (old new : UnitValue) : Type 0 where
   pub new_is : new ≡ with_entries old (without_passing passes old.caches.entries)
+  pub count_is : count + finite.len new.caches.entries ≡ finite.len old.caches.entries
+
+-- The entries that were filled before this many commands were taken, `count` of them, are gone, and nothing else changed.
+pub record HasLostOlder (born count : ℕ) (old new : UnitValue) : Type 0 where
+  pub new_is : new ≡ with_entries old (without_older born old.caches.entries)
   pub count_is : count + finite.len new.caches.entries ≡ finite.len old.caches.entries
 
 -- ---- what a command does

@@ -14,7 +14,7 @@ ghost use Rattle.ring.specs.consumer.Completing.{taken_of};
 ghost use Rattle.engine.specs.Settled.{IsSettled};
 ghost use Rattle.engine.specs.Stops.{IsStopped, IsAcknowledgementAnswer, told, err_of, word_of};
 ghost use Rattle.engine.specs.Counting.{taken, AreCountsOf};
-ghost use Rattle.engine.specs.Units.{HasLost, new_unit, filled, with_entries, OnlyRemoves};
+ghost use Rattle.engine.specs.Units.{HasLost, HasLostOlder, new_unit, filled, with_entries, OnlyRemoves};
 ghost use Rattle.engine.specs.Engines.{HasStepped, HasRun, HasLooked, IsSettledEngine, control_after};
 ghost use Rattle.engine.specs.Ends.{WasToldAllTruly, IsEngineEnd};
 
@@ -273,6 +273,16 @@ impl Engine {
         ensures settled { IsSettledEngine self.new }
     {
         self.unit.evict_all(test)
+    }
+
+    /// Removes all entries that were filled before `born` commands were taken, those whose `born` is less, and returns
+    /// how many there were. Takes no memory.
+    pub fn evict_older(&mut self, born: u64) -> u32
+        ensures lost { HasLostOlder born result self.old.unit self.new.unit }
+        ensures new { self.new ≡ record self.old { unit = self.new.unit } }
+        ensures settled { IsSettledEngine self.new }
+    {
+        self.unit.evict_older(born)
     }
 
     /// Returns the entry held under `tag`, if any.

@@ -12,7 +12,7 @@ ghost use Rattle.caches.specs.Stored.{IsFillAnswer, IsListAnswer};
 ghost use Rattle.engine.specs.Settled.{IsSettled};
 ghost use Rattle.engine.specs.Stops.{IsStopped, MayComeNext, IsAcknowledgementAnswer, IsActive, told, err_of, word_of};
 ghost use Rattle.engine.specs.Counting.{taken};
-ghost use Rattle.engine.specs.Units.{HasJudged, HasJudgedWords, HasReplacedAwaited, HasLost, StaysSettled, IsSettledUnit, IsLegal, IsApplied, took, took_words, took_awaited, new_unit, emptied, filled, with_entries};
+ghost use Rattle.engine.specs.Units.{HasJudged, HasJudgedWords, HasReplacedAwaited, HasLost, HasLostOlder, StaysSettled, IsSettledUnit, IsLegal, IsApplied, took, took_words, took_awaited, new_unit, emptied, filled, with_entries};
 
 use crate::counts::Counts;
 use crate::remedy::{AckFault, Remedy};
@@ -295,6 +295,15 @@ impl Unit {
         ensures settled { StaysSettled self.old self.new [] }
     {
         self.caches.evict_all(test)
+    }
+
+    /// Removes all entries that were filled before `born` commands were taken, those whose `born` is less, and returns
+    /// how many there were. Takes no memory.
+    pub fn evict_older(&mut self, born: u64) -> u32
+        ensures lost { HasLostOlder born result self.old self.new }
+        ensures settled { StaysSettled self.old self.new [] }
+    {
+        self.caches.evict_older(born)
     }
 
     /// Returns the entry held under `tag`, if any.
