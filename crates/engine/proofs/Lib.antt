@@ -4,6 +4,8 @@ pub mod Counted
 pub mod Stepping
 pub mod Unstopped
 pub mod Running
+pub mod Telling
+pub mod Cells
 pub mod Syncs
 pub mod Rewritten
 pub mod Ending

@@ -4,4 +4,5 @@ pub mod Counting
 pub mod Units
 pub mod QueueUnits
 pub mod Engines
+pub mod Completions
 pub mod Ends

@@ -16,12 +16,14 @@ ghost use Rattle.engine.specs.Stops.{IsStopped, IsAcknowledgementAnswer, told, e
 ghost use Rattle.engine.specs.Counting.{taken, AreCountsOf};
 ghost use Rattle.engine.specs.Units.{HasLost, HasLostOlder, new_unit, filled, with_entries, OnlyRemoves};
 ghost use Rattle.engine.specs.Engines.{HasStepped, HasRun, HasLooked, IsSettledEngine, control_after};
+ghost use Rattle.engine.specs.Completions.{HasTold};
 ghost use Rattle.engine.specs.Ends.{WasToldAllTruly, IsEngineEnd};
 
 mod run_stepping;
 mod stepping;
 
 use crate::answer::{Registers, RunAnswer, StepAnswer};
+use crate::completion::Completion;
 use crate::counts::Counts;
 use crate::finished::Finished;
 use crate::remedy::{AckFault, Remedy};
@@ -103,9 +105,43 @@ impl Engine {
         ensures ring { self.new.consumer.ring ≡ self.old.consumer.ring }
     {
         let consumer = self.consumer.take().unwrap();
-        let (consumer, answer) = step_run_with(consumer, &mut self.unit, ring, most);
+        let (consumer, answer, _) = step_run_with(consumer, &mut self.unit, ring, most, &mut []);
         self.consumer = Some(consumer);
         answer
+    }
+
+    /// Does what `step_run` does, and tells whose CMD_SYNCs it completed: it writes them to the beginning of
+    /// `completions`, in the order of their reservation, and returns how many they are. The rest of
+    /// `completions` is as before. Where no command was applied it tells of none.
+    pub fn step_run_telling(
+        &mut self,
+        ring: &Ring,
+        most: u32,
+        completions: &mut [Completion],
+    ) -> (RunAnswer, usize)
+        requires ring { self.old.consumer.ring ≡ ring.now }
+        requires some { 1 ≤ most }
+        requires most { most ≤ 64 }
+        requires room { most ≤ length completions.old }
+        ensures stepped { HasRun most self.old self.new result.0 }
+        ensures told { HasTold most self.old self.new result completions.old completions.new }
+        ensures history { Grew ConsumerOf self.old.consumer.trail self.new.consumer.trail self.old.consumer.history self.new.consumer.history }
+        ensures still { (result.0 ≡ RunAnswer.StillStopped) ↔ IsStopped self.old.unit.stop.mode }
+        ensures exhausted { (result.0 ≡ RunAnswer.Exhausted) ↔ (¬ IsStopped self.old.unit.stop.mode × (taken self.old.unit.counts ≡ most_reserved)) }
+        ensures settled { IsSettledEngine self.new }
+        ensures removes { OnlyRemoves self.old.unit self.new.unit }
+        ensures ring { self.new.consumer.ring ≡ self.old.consumer.ring }
+    {
+        let consumer = self.consumer.take().unwrap();
+        let (consumer, answer, many) = step_run_with(
+            consumer,
+            &mut self.unit,
+            ring,
+            most,
+            completions,
+        );
+        self.consumer = Some(consumer);
+        (answer, many)
     }
 
     /// Returns the queue's registers at this moment.

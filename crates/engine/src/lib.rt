@@ -13,6 +13,7 @@
 #![tactic(auto)]
 
 mod answer;
+mod completion;
 mod counts;
 mod engine;
 mod finished;
@@ -24,6 +25,7 @@ mod unit;
 mod verdict;
 
 pub use answer::{Registers, RunAnswer, StepAnswer};
+pub use completion::{Completion, completion_of};
 pub use counts::Counts;
 pub use engine::{Engine, step_with};
 pub use finished::Finished;

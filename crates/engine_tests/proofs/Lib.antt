@@ -1,2 +1,3 @@
 pub mod Truly
 pub mod WorkedOldEntries
+pub mod WorkedQueueUnits

@@ -6,6 +6,8 @@ mod calls;
 #[cfg(test)]
 mod commands;
 #[cfg(test)]
+mod completion_tests;
+#[cfg(test)]
 mod engine_caller;
 #[cfg(test)]
 mod first_hour;

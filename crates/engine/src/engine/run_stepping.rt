@@ -11,25 +11,30 @@ ghost use Rattle.engine.specs.Stops.{IsStopped, MayComeNext};
 ghost use Rattle.engine.specs.Counting.{taken};
 ghost use Rattle.engine.specs.Units.{AreApplied, OnlyRemoves};
 ghost use Rattle.engine.specs.Engines.{AreTogether, HasRun};
+ghost use Rattle.engine.specs.Completions.{AreTold, HasTold};
 
 use crate::answer::RunAnswer;
+use crate::completion::{Completion, completion_of};
 use crate::unit::Unit;
 use crate::verdict::Verdict;
 use ring::{Consumer, Outcome, PendingRun, Ring, TakenRun, growth_adds_up};
 use ringcore::MOST_RESERVED;
 
-/// Takes at most `most` commands, 1 to 64, with a unit and its consumer.
+/// Takes at most `most` commands, 1 to 64, with a unit and its consumer. If there is room for `most`, it tells what
+/// they complete and returns how much that is.
 pub(crate) fn step_run_with(
     consumer: Consumer<Unit>,
     unit: &mut Unit,
     ring: &Ring,
     most: u32,
-) -> (Consumer<Unit>, RunAnswer)
+    completions: &mut [Completion],
+) -> (Consumer<Unit>, RunAnswer, usize)
     requires ring { consumer.ring ≡ ring.now }
     requires together { AreTogether consumer unit.old }
     requires some { 1 ≤ most }
     requires most { most ≤ 64 }
     ensures stepped { HasRun most (record { consumer = consumer; unit = unit.old }) (record { consumer = result.0; unit = unit.new }) result.1 }
+    ensures told { most ≤ length completions.old → HasTold most (record { consumer = consumer; unit = unit.old }) (record { consumer = result.0; unit = unit.new }) (result.1, result.2) completions.old completions.new }
     ensures history { Grew ConsumerOf consumer.trail result.0.trail consumer.history result.0.history }
     ensures still { (result.1 ≡ RunAnswer.StillStopped) ↔ IsStopped unit.old.stop.mode }
     ensures exhausted { (result.1 ≡ RunAnswer.Exhausted) ↔ (¬ IsStopped unit.old.stop.mode × (taken unit.old.counts ≡ most_reserved)) }
@@ -38,29 +43,31 @@ pub(crate) fn step_run_with(
     ensures ring { result.0.ring ≡ consumer.ring }
 {
     if unit.stopped() {
-        return (consumer, RunAnswer::StillStopped);
+        return (consumer, RunAnswer::StillStopped, 0);
     }
     if unit.counts().taken() == MOST_RESERVED {
-        return (consumer, RunAnswer::Exhausted);
+        return (consumer, RunAnswer::Exhausted, 0);
     }
     growth_adds_up();
     match consumer.take_run(ring, most) {
-        TakenRun::Empty(consumer) => (consumer, RunAnswer::Empty),
-        TakenRun::Drained(consumer) => (consumer, RunAnswer::Drained),
-        TakenRun::Unwritten(consumer) => (consumer, RunAnswer::Unwritten),
+        TakenRun::Empty(consumer) => (consumer, RunAnswer::Empty, 0),
+        TakenRun::Drained(consumer) => (consumer, RunAnswer::Drained, 0),
+        TakenRun::Unwritten(consumer) => (consumer, RunAnswer::Unwritten, 0),
         TakenRun::Ready(run) => {
             let (count, removed) = apply_legal(&run, unit);
             if count > 0 {
+                let many = tell_completions(&run, count, completions);
                 let consumer = run.complete_run(ring, count, Outcome::Applied, unit);
-                return (consumer, RunAnswer::Applied { count, removed });
+                return (consumer, RunAnswer::Applied { count, removed }, many);
             }
             match unit.judge(run.get(0).unwrap()) {
                 Verdict::Applied { .. } => unreachable!(),
                 Verdict::Replaced(ill) => (
                     run.complete_run(ring, 1, Outcome::Replaced, unit),
                     RunAnswer::Replaced(ill),
+                    0,
                 ),
-                Verdict::Stopped(ill) => (run.put_back(), RunAnswer::Stopped(ill)),
+                Verdict::Stopped(ill) => (run.put_back(), RunAnswer::Stopped(ill), 0),
             }
         }
     }
@@ -84,4 +91,25 @@ fn apply_legal(run: &PendingRun<Unit>, unit: &mut Unit) -> (u32, u32)
         removed += more;
     }
     (run.len(), removed)
+}
+
+/// Writes what the first `count` commands of a run complete to the beginning of `completions`, if there is room for
+/// that many commands, and returns how many it wrote.
+fn tell_completions(run: &PendingRun<Unit>, count: u32, completions: &mut [Completion]) -> usize
+    requires { count ≤ length run.now.raws }
+    ensures { count ≤ length completions.old → AreTold (take count run.now.raws) completions.old completions.new result }
+{
+    let mut many = 0;
+    if completions.is_empty() {
+        return many;
+    }
+    for place in 0..count {
+        if let Some(completion) = completion_of(run.get(place).unwrap())
+            && many < completions.len()
+        {
+            completions[many] = completion;
+            many += 1;
+        }
+    }
+    many
 }

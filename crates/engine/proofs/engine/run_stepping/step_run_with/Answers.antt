@@ -55,6 +55,20 @@ returns-then-count-gt0-clause-history c = c.growth_adds_up.ensures.sum _ _ _ _ _
 pub returns-then-count-gt0-clause-removes : goal.returns-then-count-gt0-clause-removes
 returns-then-count-gt0-clause-removes c = run_removes _ _ _ _ c.apply_legal-count.ensures.applied
 
+pub returns-then-count-gt0-clause-told : goal.returns-then-count-gt0-clause-told
+returns-then-count-gt0-clause-told c room = (
+  record {
+    pending = c.in-Ready.run';
+    read = c.in-Ready.ensures.taken;
+    some = (let some = c.if-count-gt0.true in omega (arith, some));
+    within = c.apply_legal-count.ensures.within;
+    applied = c.apply_legal-count.ensures.applied;
+    longest = c.apply_legal-count.ensures.longest;
+    completed_are = record { consumer_is = c.complete_run-consumer.ensures.consumer; grew = c.complete_run-consumer.ensures.history };
+  },
+  c.tell_completions-many.ensures (let within = c.apply_legal-count.ensures.within in let few = c.in-Ready.ensures.taken.few in omega (arith, within, few, room)),
+)
+
 -- ---- the first is illegal
 
 pub judge-requires-clause-next : goal.judge-requires-clause-next
