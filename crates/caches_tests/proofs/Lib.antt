@@ -1,1 +1,2 @@
+pub mod WorkedEvictions
 pub mod WorkedFinding

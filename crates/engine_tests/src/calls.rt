@@ -114,6 +114,10 @@ fn call(alloc: Global, ring: &Ring, engine: &mut Engine, name: &str, text: &str)
         "fill" => fill(alloc, engine, text),
         "evict" => evict(alloc, engine, text),
         "evict_all" => engine.evict_all(&Kind::Ste).to_string(alloc).ok(),
+        "evict_older" => {
+            let born = text.parse().ok()?;
+            engine.evict_older(born).to_string(alloc).ok()
+        }
         _ => state(alloc, engine, name, text),
     }
 }

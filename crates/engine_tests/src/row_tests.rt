@@ -170,3 +170,23 @@ entries = 0
 counts = taken 4 applied 3 replaced 1 syncs 1 removed 2",
     );
 }
+
+#[test]
+fn entries_of_before_some_commands(rt: HostRuntime) {
+    row(
+        &rt,
+        4,
+        "fill 6 100 = none
+send X X = number 1
+step = applied CFGI_STE sid=5 leaf=1 removed=0
+fill 7 101 = none
+run = applied 2 removed=0
+fill 8 102 = none
+evict_older 0 = 0
+evict_older 1 = 1
+lookup 6 = none
+lookup 7 = value=101 born=1
+evict_older 4 = 2
+entries = 0",
+    );
+}

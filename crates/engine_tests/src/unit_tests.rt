@@ -55,6 +55,21 @@ fn expect_entries(rt: &impl Abort, unit: &Unit, wanted: &[Entry]) {
 }
 
 #[test]
+fn old_entries_of_a_unit_are_evicted(rt: HostRuntime) {
+    let sid = Sid::new(6).expect(&rt, "a stream");
+    let ssid = Ssid::new(3).expect(&rt, "a substream");
+    let (stream, context) = (Tag::Ste { sid }, Tag::Cd { sid, ssid });
+    let mut unit = Unit::new(Caches::new(rt.alloc(), 2).expect(&rt, "room for two"));
+    assert!(rt; unit.fill(context, 8).is_ok());
+    let applied = unit.judge(LEGAL);
+    assert!(rt; matches!(applied, Verdict::Applied { removed: 0, .. }));
+    assert!(rt; unit.fill(stream, 7).is_ok());
+    // What was born at the bound stays.
+    assert_eq!(rt; (unit.evict_older(0), unit.evict_older(1)), (0, 1));
+    expect_entries(&rt, &unit, &[entry(&stream, 7, 1)]);
+}
+
+#[test]
 fn entries_of_an_empty_unit_and_while_stopped(rt: HostRuntime) {
     let sid = Sid::new(5).expect(&rt, "a stream");
     let ssid = Ssid::new(3).expect(&rt, "a substream");
