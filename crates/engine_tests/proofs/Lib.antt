@@ -1,3 +1,4 @@
 pub mod Truly
 pub mod WorkedOldEntries
 pub mod WorkedQueueUnits
+pub mod WorkedCompletions
