@@ -33,16 +33,16 @@ static struct {
     uint32_t acknowledged;
 } device = {.lock = PTHREAD_MUTEX_INITIALIZER, .error = PTHREAD_COND_INITIALIZER, .engine = SMMUQ_EMPTY};
 
-/* The drivers that wait for room or for a completion. All are woken whenever commands were taken, since nothing says whose
- * CMD_SYNC completed.
+/* The drivers that wait, for room all together, for a completion each by itself: smmuq_run_completions tells whose CMD_SYNC
+ * completed.
  *
- * No wake-up is lost, by the lock's order alone. The SMMU's thread takes this lock when smmuq_run has returned. A driver that
+ * No wake-up is lost, by the lock's order alone. The SMMU's thread takes this lock when its run has returned. A driver that
  * had the lock before sleeps by then, and is woken. One that has it afterwards asks the library afterwards, and is told. The
  * two locks are never held together. */
 static struct {
     pthread_mutex_t lock;
-    pthread_cond_t taken;
-} waiting = {.lock = PTHREAD_MUTEX_INITIALIZER, .taken = PTHREAD_COND_INITIALIZER};
+    pthread_cond_t room, done[MOST_SENDERS];
+} waiting = {.lock = PTHREAD_MUTEX_INITIALIZER, .room = PTHREAD_COND_INITIALIZER};
 
 /* A driver's thread. The handle is its alone. */
 struct driver {
@@ -59,7 +59,7 @@ static smmuq_status send_one(struct driver *driver, const smmuq_command *command
         if (status == SMMUQ_RING_FULL) {
             pthread_mutex_lock(&waiting.lock);
             while ((status = smmuq_send(&driver->sender, commands, count, 4, number)) == SMMUQ_RING_FULL)
-                pthread_cond_wait(&waiting.taken, &waiting.lock);
+                pthread_cond_wait(&waiting.room, &waiting.lock);
             pthread_mutex_unlock(&waiting.lock);
         }
     } while (status == SMMUQ_CONTENDED);
@@ -74,7 +74,7 @@ static smmuq_status wait_for(struct driver *driver, uint32_t number) {
     smmuq_status status;
     pthread_mutex_lock(&waiting.lock);
     while ((status = smmuq_done_up_to(&driver->sender, &done)) == SMMUQ_OK && done < number)
-        pthread_cond_wait(&waiting.taken, &waiting.lock);
+        pthread_cond_wait(&waiting.done[driver->number], &waiting.lock);
     pthread_mutex_unlock(&waiting.lock);
     return status;
 }
@@ -105,25 +105,34 @@ static void *drive(void *argument) {
     return NULL;
 }
 
+/* Wakes whose CMD_SYNC completed, and all that wait for room. */
+static void wake(const smmuq_completion *completed, size_t count) {
+    size_t i;
+    pthread_mutex_lock(&waiting.lock);
+    for (i = 0; i < count; i++)
+        pthread_cond_signal(&waiting.done[completed[i].sender]);
+    pthread_cond_broadcast(&waiting.room);
+    pthread_mutex_unlock(&waiting.lock);
+}
+
 /* Takes commands until the ring was closed and is drained. */
 static void *take(void *argument) {
+    smmuq_completion completed[64];
     smmuq_status status;
     do {
         smmuq_run_answer answer;
+        size_t count = 0;
         pthread_mutex_lock(&device.lock);
-        status = smmuq_run(&device.engine, 64, &answer);
+        status = smmuq_run_completions(&device.engine, 64, &answer, completed, 64, &count);
         if (status >= SMMUQ_ILL_OPCODE && status <= SMMUQ_ILL_SPAN) {
             device.stopped = 1;
             pthread_cond_signal(&device.error);
         }
         pthread_mutex_unlock(&device.lock);
-        if (status == SMMUQ_OK || status == SMMUQ_REPLACED) {
-            pthread_mutex_lock(&waiting.lock);
-            pthread_cond_broadcast(&waiting.taken);
-            pthread_mutex_unlock(&waiting.lock);
-        } else if (status != SMMUQ_RING_DRAINED) {
+        if (status == SMMUQ_OK || status == SMMUQ_REPLACED)
+            wake(completed, count);
+        else if (status != SMMUQ_RING_DRAINED)
             sem_wait(&device.bell); /* it is empty, stopped, or a sender has yet to hand over what it reserved */
-        }
     } while (status != SMMUQ_RING_DRAINED);
     pthread_mutex_lock(&device.lock);
     device.drained = 1;
@@ -184,6 +193,8 @@ int main(int argc, char **argv) {
     status = smmuq_ring_new(LOG2, batches + 1, 1024, handles, senders, &device.engine);
     if (status != SMMUQ_OK || sem_init(&device.bell, 0, 0) != 0)
         return 1;
+    for (sender = 0; sender < senders; sender++)
+        pthread_cond_init(&waiting.done[sender], NULL);
     pthread_create(&taker, NULL, take, NULL);
     pthread_create(&acknowledger, NULL, acknowledge, NULL);
     for (sender = 0; sender < senders; sender++) {
@@ -199,8 +210,10 @@ int main(int argc, char **argv) {
     pthread_join(taker, NULL);
     pthread_join(acknowledger, NULL);
     right = status == SMMUQ_OK && check(drivers, senders, batches);
-    for (sender = 0; sender < senders; sender++)
+    for (sender = 0; sender < senders; sender++) {
         smmuq_free(&drivers[sender].sender.handle);
+        pthread_cond_destroy(&waiting.done[sender]);
+    }
     smmuq_free(&device.engine.handle);
     sem_destroy(&device.bell);
     return right ? 0 : 1;

@@ -107,6 +107,7 @@ static void misuse_a_ring(void) {
     smmuq_engine engine = SMMUQ_EMPTY;
     smmuq_command words[64];
     smmuq_run_answer answer;
+    smmuq_completion completed[4];
     smmuq_verdict verdict;
     smmuq_queue_control control;
     smmuq_queue_registers registers;
@@ -161,11 +162,11 @@ static void misuse_a_ring(void) {
     WANT(number, 0);
     WANT(smmuq_publish(&senders[0], &number), SMMUQ_NO_RESERVATION);
     WANT(smmuq_publish((smmuq_sender *)&engine, &number), SMMUQ_WRONG_HANDLE);
-    WANT(smmuq_reserve((smmuq_sender *)&engine, words, 1), SMMUQ_WRONG_HANDLE);
-    WANT(smmuq_reserve(&senders[0], words, 0), SMMUQ_BATCH_EMPTY);
-    WANT(smmuq_reserve(&senders[0], words, 16), SMMUQ_BATCH_TOO_LONG);
-    WANT(smmuq_reserve(&senders[0], words, 1), SMMUQ_OK);
-    WANT(smmuq_reserve(&senders[0], words, 1), SMMUQ_OPEN_RESERVATION);
+    WANT(smmuq_reserve((smmuq_sender *)&engine, words, 1, 1), SMMUQ_WRONG_HANDLE);
+    WANT(smmuq_reserve(&senders[0], words, 0, 1), SMMUQ_BATCH_EMPTY);
+    WANT(smmuq_reserve(&senders[0], words, 16, 1), SMMUQ_BATCH_TOO_LONG);
+    WANT(smmuq_reserve(&senders[0], words, 1, 1), SMMUQ_OK);
+    WANT(smmuq_reserve(&senders[0], words, 1, 1), SMMUQ_OPEN_RESERVATION);
     WANT(smmuq_send(&senders[0], words, 1, 1, &number), SMMUQ_OPEN_RESERVATION);
     WANT(smmuq_done_up_to(&senders[0], &number), SMMUQ_OPEN_RESERVATION);
     WANT(smmuq_free(&senders[0].handle), SMMUQ_OPEN_RESERVATION);
@@ -174,8 +175,14 @@ static void misuse_a_ring(void) {
     WANT(smmuq_run(&engine, 64, &answer), SMMUQ_RING_UNWRITTEN);
     WANT(smmuq_publish(&senders[0], &number), SMMUQ_OK);
     WANT(number, 1);
-    WANT(smmuq_run(&engine, 64, &answer), SMMUQ_OK);
+    WANT(smmuq_run_completions(&engine, 64, &answer, completed, 0, &count), SMMUQ_SHORT_BUFFER);
+    WANT(smmuq_run_completions((smmuq_engine *)&senders[0], 64, &answer, completed, 4, &count), SMMUQ_WRONG_HANDLE);
+    WANT(smmuq_run_completions(&engine, 64, &answer, completed, 4, &count), SMMUQ_OK);
     WANT(answer.count, 4);
+    WANT((uint32_t)count, 2);
+    WANT((uint32_t)completed[0].sender, 0);
+    WANT((uint32_t)completed[1].sender, 1);
+    WANT((uint32_t)completed[1].number, 1);
     WANT(smmuq_close(&senders[1]), SMMUQ_OK);
     WANT(smmuq_send(&senders[0], words, 1, 1, &number), SMMUQ_RING_CLOSED);
     WANT(smmuq_run(&engine, 64, &answer), SMMUQ_RING_DRAINED);
@@ -305,7 +312,7 @@ static void be_refused(void) {
     WANT(smmuq_done_up_to(&empty, &number), SMMUQ_EMPTY_HANDLE);
     WANT(smmuq_send(&sender, &CMD_SYNC, 1, 1, &number), SMMUQ_SYNC_INSIDE);
     WANT(smmuq_publish(&sender, &number), SMMUQ_NO_RESERVATION);
-    WANT(smmuq_reserve(&sender, &CFGI_STE, 1), SMMUQ_OK);
+    WANT(smmuq_reserve(&sender, &CFGI_STE, 1, 1), SMMUQ_OK);
     WANT(smmuq_done_up_to(&sender, &number), SMMUQ_OPEN_RESERVATION);
     WANT(number, 17);
     WANT(smmuq_fill(&sender.handle, &bad, 1), SMMUQ_WRONG_HANDLE);
@@ -388,6 +395,7 @@ static void evict_by_owner(void) {
     smmuq_unit unit = SMMUQ_EMPTY;
     smmuq_tag tag = {.kind = SMMUQ_STE, .sid = 5, .vmid = 1, .scope = SMMUQ_SCOPE_GLOBAL};
     smmuq_held held;
+    smmuq_verdict verdict;
     smmuq_errors errors;
     smmuq_tallies tallies;
     size_t count;
@@ -405,11 +413,19 @@ static void evict_by_owner(void) {
     WANT((uint32_t)count, 3);
     WANT(smmuq_evict_machine(&unit.handle, 1, &count), SMMUQ_OK);
     WANT((uint32_t)count, 2);
+    WANT(smmuq_evict_older(&unit.handle, 0, &count), SMMUQ_OK); /* born 0, which isn't older */
+    WANT((uint32_t)count, 0);
     WANT(smmuq_count(&unit.handle, &count), SMMUQ_OK);
     WANT((uint32_t)count, 1); /* the hypervisor's */
     WANT(smmuq_find(&unit.handle, SMMUQ_EL2, 0, 2, 0, SMMUQ_SPAN(53), &tag, &held), SMMUQ_BAD_FIELD);
     WANT(smmuq_find(&unit.handle, SMMUQ_EL2, 0, 2, 0, SMMUQ_SPAN(SMMUQ_SPAN_4K), &tag, &held), SMMUQ_OK);
     WANT(tag.scope, SMMUQ_SCOPE_GLOBAL);
+    WANT(smmuq_unit_judge(&unit, 3, 0, &verdict), SMMUQ_OK);
+    tag = (smmuq_tag){.kind = SMMUQ_STE, .sid = 9};
+    WANT(smmuq_fill(&unit.handle, &tag, 9), SMMUQ_OK); /* born 1 */
+    WANT(smmuq_evict_older(&unit.handle, 1, &count), SMMUQ_OK);
+    WANT((uint32_t)count, 1);
+    WANT(smmuq_lookup(&unit.handle, &tag, &held), SMMUQ_OK);
     WANT(smmuq_unit_reset(&unit), SMMUQ_OK);
     WANT(smmuq_count(&unit.handle, &count), SMMUQ_OK);
     WANT((uint32_t)count, 0);

@@ -1,12 +1,14 @@
 /* SPDX-License-Identifier: MIT OR Apache-2.0 */
-/* Drivers send more batches than a ring has: who has none left continues in a new one, for all. Here that is after 100
- * batches, so that it happens often; a ring made for 2^32 - 1 lasts 71 minutes at a million batches a second.
+/* Drivers send more batches than a ring has. Who has none left closes the ring. Once it is drained, the engine's thread
+ * continues in a new one, and each sender goes over to it when it next sends: nobody else stops, and no lock is held for a
+ * send. Here that is after 100 batches, so that it happens often; a ring made for 2^32 - 1 lasts 71 minutes at a million
+ * batches a second.
  *
  *     renewing [SENDERS [BATCHES]]
  *
- * Three things are the driver's. The handles of all senders stand in one array, as smmuq_renew takes them. No call on one of
- * them runs meanwhile: each is made with the gate shared, and the renewal has the gate alone. And numbers start again at 1,
- * so who waits keeps the number of the ring, too: what was sent in an older one is done.
+ * smmuq_renew fills handles that nobody uses yet with the new ring's senders. The old handles stay on the closed ring, where
+ * a send is refused with SMMUQ_RING_CLOSED, and smmuq_done_up_to tells that all was done. Numbers start again at 1: a number
+ * is one of the ring in which it was sent, and once the sender has gone over to a newer one, it is done.
  */
 #define _POSIX_C_SOURCE 200809L
 #include "smmuq.h"
@@ -19,32 +21,29 @@
 
 enum { MOST_SENDERS = 256, LOG2 = 6, IN_A_RING = 100, CAPACITY = 1024, PAGES = 4 };
 
-/* The locks in their order: the gate, then the engine's. Who sleeps holds neither. */
+/* The engine's thread alone uses the engine's handle. */
 static struct {
-    pthread_rwlock_t gate; /* shared for a call on a sender, exclusive for the renewal */
-    pthread_mutex_t lock;  /* one call at a time on the engine's handle */
-    sem_t bell;            /* rung after a send and the close */
-    smmuq_sender senders[MOST_SENDERS];
+    sem_t bell; /* rung after a send and a close */
     smmuq_engine engine;
-    uint32_t count, ring;    /* how many senders, and how many rings there were before this one */
-    uint64_t applied, syncs; /* in those */
-} queue = {.gate = PTHREAD_RWLOCK_INITIALIZER, .lock = PTHREAD_MUTEX_INITIALIZER, .engine = SMMUQ_EMPTY};
+    uint32_t senders;
+    uint64_t applied, syncs; /* in the rings before this one */
+} device = {.engine = SMMUQ_EMPTY};
 
-/* Whoever waits reads the turn, asks, and sleeps while the turn is the same. It changes when commands were taken. */
+/* Whoever waits reads the turn, asks, and sleeps while the turn is the same. It changes when commands were taken and when a
+ * ring was made. */
 static struct {
     pthread_mutex_t lock;
     pthread_cond_t changed;
-    uint32_t turn;
+    uint32_t turn, ring;             /* how many rings there were before this one */
+    smmuq_sender next[MOST_SENDERS]; /* its senders, until they are fetched */
+    int finished;
 } waiting = {.lock = PTHREAD_MUTEX_INITIALIZER, .changed = PTHREAD_COND_INITIALIZER};
 
-/* What a send leaves for the wait. */
-struct ticket {
-    uint32_t ring, number;
-};
-
+/* A driver's thread. The handle is its alone. */
 struct driver {
+    smmuq_sender sender;
     pthread_t thread;
-    uint32_t number, batches;
+    uint32_t number, batches, ring;
 };
 
 static void check(smmuq_status status, const char *what) {
@@ -76,103 +75,118 @@ static void wake_all(void) {
     pthread_mutex_unlock(&waiting.lock);
 }
 
-/* Takes what is left in the ring of this number and continues in a new one, unless somebody has done that. No command here
- * is illegal. If one may be, smmuq_renew answers SMMUQ_COMMAND_WAITS at the stop: give both locks back until it was
- * acknowledged, and try again. */
-static void renew(uint32_t ring) {
-    pthread_rwlock_wrlock(&queue.gate);
-    pthread_mutex_lock(&queue.lock);
-    if (queue.ring == ring) {
-        smmuq_run_answer answer;
-        smmuq_errors errors;
-        smmuq_tallies tallies;
-        while (smmuq_run(&queue.engine, 64, &answer) == SMMUQ_OK)
-            ;
-        check(smmuq_state(&queue.engine.handle, &errors, &tallies), "state");
-        check(smmuq_renew(LOG2, IN_A_RING, CAPACITY, queue.senders, queue.count, &queue.engine), "renew");
-        queue.ring++;
-        queue.applied += tallies.applied;
-        queue.syncs += tallies.syncs;
-    }
-    pthread_mutex_unlock(&queue.lock);
-    pthread_rwlock_unlock(&queue.gate);
-    wake_all();
+/* Waits for a newer ring and fetches the handle there. If more than one was made meanwhile, it is the newest one's. */
+static void go_over(struct driver *driver) {
+    pthread_mutex_lock(&waiting.lock);
+    while (waiting.ring == driver->ring)
+        pthread_cond_wait(&waiting.changed, &waiting.lock);
+    smmuq_free(&driver->sender.handle);
+    driver->sender = waiting.next[driver->number];
+    waiting.next[driver->number] = (smmuq_sender)SMMUQ_EMPTY;
+    driver->ring = waiting.ring;
+    pthread_mutex_unlock(&waiting.lock);
 }
 
-/* Sends, and sleeps while the ring is full. */
-static struct ticket send_one(uint32_t sender, const smmuq_command *commands, size_t count) {
+/* Sends, and returns the number of the CMD_SYNC. Sleeps while the ring is full. */
+static uint32_t send_one(struct driver *driver, const smmuq_command *commands, size_t count) {
     for (;;) {
         const uint32_t seen = turn();
-        struct ticket ticket;
-        smmuq_status status;
-        pthread_rwlock_rdlock(&queue.gate);
-        ticket.ring = queue.ring;
-        status = smmuq_send(&queue.senders[sender], commands, count, 4, &ticket.number);
-        pthread_rwlock_unlock(&queue.gate);
-        if (status == SMMUQ_OK) {
-            sem_post(&queue.bell);
-            return ticket;
+        uint32_t number;
+        const smmuq_status status = smmuq_send(&driver->sender, commands, count, 4, &number);
+        switch (status) {
+        case SMMUQ_OK:
+            sem_post(&device.bell);
+            return number;
+        case SMMUQ_SENDER_EXHAUSTED:
+            check(smmuq_close(&driver->sender), "close");
+            sem_post(&device.bell);
+            go_over(driver);
+            break;
+        case SMMUQ_RING_CLOSED: go_over(driver); break;
+        case SMMUQ_RING_FULL: sleep_since(seen); break;
+        case SMMUQ_CONTENDED: break;
+        default: check(status, "send");
         }
-        if (status == SMMUQ_SENDER_EXHAUSTED)
-            renew(ticket.ring);
-        else if (status == SMMUQ_RING_FULL)
-            sleep_since(seen);
-        else if (status != SMMUQ_CONTENDED)
-            check(status, "send");
     }
 }
 
-/* Waits until the CMD_SYNC completed. A ring is renewed only when all that was sent in it was taken. */
-static void wait_for(uint32_t sender, struct ticket ticket) {
+/* Waits until the CMD_SYNC of the last send completed, which may be after the ring was renewed: the handle is still of the
+ * ring in which it was sent. */
+static void wait_for(struct driver *driver, uint32_t number) {
     for (;;) {
         const uint32_t seen = turn();
-        uint32_t done = 0, older;
-        pthread_rwlock_rdlock(&queue.gate);
-        older = ticket.ring != queue.ring;
-        if (!older)
-            check(smmuq_done_up_to(&queue.senders[sender], &done), "done_up_to");
-        pthread_rwlock_unlock(&queue.gate);
-        if (older || done >= ticket.number)
+        uint32_t done;
+        check(smmuq_done_up_to(&driver->sender, &done), "done_up_to");
+        if (done >= number)
             return;
         sleep_since(seen);
     }
 }
 
 static void *drive(void *argument) {
-    const struct driver *driver = argument;
+    struct driver *driver = argument;
     uint32_t batch;
     size_t page;
     for (batch = 1; batch <= driver->batches; batch++) {
         smmuq_command commands[PAGES];
-        struct ticket ticket;
+        uint32_t number;
         for (page = 0; page < PAGES; page++) {
             const smmuq_fields fields = {.opcode = SMMUQ_OPCODE_TLBI_NH_VA, .vmid = driver->number, .asid = 1, .leaf = 1,
                                          .address = (uint64_t)(batch + page) << 12};
             check(smmuq_encode(&fields, &commands[page]), "encode");
         }
-        ticket = send_one(driver->number, commands, PAGES);
+        number = send_one(driver, commands, PAGES);
         if (batch % 16 == 0 || batch == driver->batches)
-            wait_for(driver->number, ticket);
+            wait_for(driver, number);
     }
     return argument;
 }
 
-/* Takes commands until the ring was closed and is drained. */
+/* Counts what the drained ring had, and makes the next one, unless that was the last. */
+static int renew(void) {
+    smmuq_errors errors;
+    smmuq_tallies tallies;
+    int finished;
+    check(smmuq_state(&device.engine.handle, &errors, &tallies), "state");
+    device.applied += tallies.applied;
+    device.syncs += tallies.syncs;
+    pthread_mutex_lock(&waiting.lock);
+    finished = waiting.finished;
+    if (!finished) {
+        check(smmuq_renew(LOG2, IN_A_RING, CAPACITY, waiting.next, device.senders, &device.engine), "renew");
+        waiting.ring++;
+        waiting.turn++;
+        pthread_cond_broadcast(&waiting.changed);
+    }
+    pthread_mutex_unlock(&waiting.lock);
+    return !finished;
+}
+
+/* Takes commands until all have sent what they had. */
 static void *take(void *argument) {
-    smmuq_status status;
-    do {
+    for (;;) {
         smmuq_run_answer answer;
-        pthread_mutex_lock(&queue.lock);
-        status = smmuq_run(&queue.engine, 64, &answer);
-        pthread_mutex_unlock(&queue.lock);
+        const smmuq_status status = smmuq_run(&device.engine, 64, &answer);
         if (status == SMMUQ_OK)
             wake_all();
         else if (status == SMMUQ_RING_EMPTY || status == SMMUQ_RING_UNWRITTEN)
-            sem_wait(&queue.bell);
+            sem_wait(&device.bell);
         else if (status != SMMUQ_RING_DRAINED)
             check(status, "run");
-    } while (status != SMMUQ_RING_DRAINED);
-    return argument;
+        else if (!renew())
+            return argument;
+    }
+}
+
+/* Closes the newest ring by the handle of its first sender, who may not have fetched it. */
+static void finish(struct driver *first) {
+    smmuq_sender *newest;
+    pthread_mutex_lock(&waiting.lock);
+    waiting.finished = 1;
+    newest = first->ring == waiting.ring ? &first->sender : &waiting.next[first->number];
+    check(smmuq_close(newest), "close");
+    pthread_mutex_unlock(&waiting.lock);
+    sem_post(&device.bell);
 }
 
 int main(int argc, char **argv) {
@@ -180,35 +194,33 @@ int main(int argc, char **argv) {
     const uint32_t batches = argc > 2 ? (uint32_t)strtoul(argv[2], NULL, 0) : 1000;
     static struct driver drivers[MOST_SENDERS];
     pthread_t taker;
-    smmuq_errors errors;
-    smmuq_tallies tallies;
     uint32_t sender;
     if (senders < 1 || senders > MOST_SENDERS || batches < 1)
         return 2;
-    queue.count = senders;
-    check(smmuq_ring_new(LOG2, IN_A_RING, CAPACITY, queue.senders, senders, &queue.engine), "ring");
-    if (sem_init(&queue.bell, 0, 0) != 0)
+    device.senders = senders;
+    check(smmuq_ring_new(LOG2, IN_A_RING, CAPACITY, waiting.next, senders, &device.engine), "ring");
+    if (sem_init(&device.bell, 0, 0) != 0)
         return 1;
-    pthread_create(&taker, NULL, take, NULL);
     for (sender = 0; sender < senders; sender++) {
-        drivers[sender] = (struct driver){.number = sender, .batches = batches};
-        pthread_create(&drivers[sender].thread, NULL, drive, &drivers[sender]);
+        drivers[sender] = (struct driver){.sender = waiting.next[sender], .number = sender, .batches = batches};
+        waiting.next[sender] = (smmuq_sender)SMMUQ_EMPTY;
     }
+    pthread_create(&taker, NULL, take, NULL);
+    for (sender = 0; sender < senders; sender++)
+        pthread_create(&drivers[sender].thread, NULL, drive, &drivers[sender]);
     for (sender = 0; sender < senders; sender++)
         pthread_join(drivers[sender].thread, NULL);
-    check(smmuq_close(&queue.senders[0]), "close");
-    sem_post(&queue.bell);
+    finish(&drivers[0]);
     pthread_join(taker, NULL);
-    check(smmuq_state(&queue.engine.handle, &errors, &tallies), "state");
-    queue.applied += tallies.applied;
-    queue.syncs += tallies.syncs;
     printf("%" PRIu32 " senders, %" PRIu32 " batches each, at most %d in a ring: applied %" PRIu64 " syncs %" PRIu64 "\n",
-           senders, batches, IN_A_RING, queue.applied, queue.syncs);
-    for (sender = 0; sender < senders; sender++)
-        smmuq_free(&queue.senders[sender].handle);
-    smmuq_free(&queue.engine.handle);
-    sem_destroy(&queue.bell);
+           senders, batches, IN_A_RING, device.applied, device.syncs);
+    for (sender = 0; sender < senders; sender++) {
+        smmuq_free(&drivers[sender].sender.handle);
+        smmuq_free(&waiting.next[sender].handle);
+    }
+    smmuq_free(&device.engine.handle);
+    sem_destroy(&device.bell);
     /* Each sender has 100 batches in a ring. */
-    return queue.ring >= (batches - 1) / IN_A_RING && queue.syncs == (uint64_t)senders * batches
-            && queue.applied == queue.syncs * (PAGES + 1) ? 0 : 1;
+    return waiting.ring >= (batches - 1) / IN_A_RING && device.syncs == (uint64_t)senders * batches
+            && device.applied == device.syncs * (PAGES + 1) ? 0 : 1;
 }

@@ -233,7 +233,7 @@ static uint32_t send_bare(struct handles *handles) {
 }
 
 static uint32_t reserve_and_publish(struct handles *handles) {
-    uint32_t number, status = smmuq_reserve(&handles->senders[1], &TLBI_NSNH_ALL, 1);
+    uint32_t number, status = smmuq_reserve(&handles->senders[1], &TLBI_NSNH_ALL, 1, 1);
     return status | smmuq_publish(&handles->senders[1], &number);
 }
 

@@ -4,16 +4,15 @@ use Rattle.cmdcodec.specs.declared.raw.Raw.{Raw}
 use Rattle.batch.specs.declared.fault.BatchFault.{BatchFault}
 use Rattle.batch.specs.Refusals.{unless, list_refusal}
 use Rattle.ringcore.specs.declared.world.event.Who.TheVariants.{Sender as SenderOf}
-use Rattle.ring.specs.table.Histories.{Grew}
+use Rattle.ring.specs.table.Histories.{Grew, GrowthAddsUp}
 use Rattle.ring.specs.sender.Senders.{SenderValue, ReceiptValue}
-use Rattle.ring.specs.sender.Sending.{IsSent, IsSentBare}
+use Rattle.ring.specs.sender.Sending.{IsReservedWithin, IsSent, IsSentBare, IsGivenUp}
 use Rattle.ring.specs.declared.sender.cause.Cause.{Cause}
 use Rattle.ring.specs.sender.Reservations.{ReservationValue}
-use Rattle.ring.specs.sender.Reserving.{IsReserved, IsRefused}
 use Rattle.smmuq_c.specs.declared.status.Status.TheVariants.{Done, Refused}
 use Rattle.smmuq_c.specs.Seats.{sender_in}
 use Rattle.smmuq_c.specs.Sends.{HasSent, HasSentBare, HasGrown, tries_of}
-use Rattle.smmuq_c.specs.Reserving.{IsOpened, IsUnreserved}
+use Rattle.smmuq_c.specs.Reserving.{IsReservationOf, IsOpened, IsUnreserved}
 
 pub unrefused : (refusal : Option BatchFault) (batch commands : List Raw) → Ok batch ≡ unless refusal commands → refusal ≡ None
 unrefused None batch commands e = cc
@@ -30,6 +29,27 @@ lent is view = sym (ap sender_in is) ∙ view
 pub grown : {sender own new : SenderValue} → sender ≡ own → Grew (SenderOf sender.number) sender.trail new.trail sender.history new.history
     → new.ring ≡ sender.ring → new.number ≡ sender.number → HasGrown own new
 grown {new = new} same history ring number = subst (λ (s : SenderValue). HasGrown s new) same (record { history = history; ring_is = ring; number_is = number })
+
+-- and then to a sender or a reservation of the same
+pub grown_more : {first second third : SenderValue} → GrowthAddsUp → HasGrown first second
+    → Grew (SenderOf second.number) second.trail third.trail second.history third.history → third.ring ≡ second.ring → third.number ≡ second.number
+    → HasGrown first third
+grown_more {first} {second} {third} sum one history ring number = record {
+  history = sum (SenderOf first.number) first.trail second.trail third.trail first.history second.history third.history one.history
+      (subst (λ (n : ℕ). Grew (SenderOf n) second.trail third.trail second.history third.history) one.number_is history);
+  ring_is = ring ∙ one.ring_is;
+  number_is = number ∙ one.number_is;
+}
+
+pub reserved_of : {first second : SenderValue} {reservation : ReservationValue} → GrowthAddsUp → HasGrown first second
+    → Grew (SenderOf second.number) second.trail reservation.trail second.history reservation.history → reservation.ring ≡ second.ring
+    → reservation.sender ≡ second.number → IsReservationOf first reservation
+reserved_of {first} {second} {reservation} sum one history ring number = record {
+  history = sum (SenderOf first.number) first.trail second.trail reservation.trail first.history second.history reservation.history one.history
+      (subst (λ (n : ℕ). Grew (SenderOf n) second.trail reservation.trail second.history reservation.history) one.number_is history);
+  ring_is = ring ∙ one.ring_is;
+  sender_is = number ∙ one.number_is;
+}
 
 pub sent : (commands : List Raw) (tries : ℕ) {batch : List Raw} {most told : ℕ} {sender own new : SenderValue} {receipt : ReceiptValue}
     → Ok batch ≡ unless (list_refusal commands) commands → most ≡ tries_of tries → sender ≡ own → IsSent batch most sender new receipt → told ≡ receipt.number
@@ -59,26 +79,24 @@ sent_bare commands tries {batch} {most} {sender} {own} {new} made most_is same i
 
 -- ---- a reservation that is kept
 
-pub opened : (commands : List Raw) {batch : List Raw} {sender own : SenderValue} {reservation new : ReservationValue}
-    → Ok batch ≡ unless (list_refusal commands) commands → sender ≡ own → new ≡ reservation → IsReserved batch true sender reservation
-    → Grew (SenderOf sender.number) sender.trail reservation.trail sender.history reservation.history → reservation.ring ≡ sender.ring
-    → reservation.sender ≡ sender.number → IsOpened commands own new
-opened commands {batch} {sender} {own} {reservation} {new} made same new_is reserved history ring number =
-    subst (λ (r : ReservationValue). IsOpened commands own r) (sym new_is) (subst (λ (s : SenderValue). IsOpened commands s reservation) same (record {
+pub opened : (commands : List Raw) (tries : ℕ) {batch : List Raw} {most : ℕ} {sender own : SenderValue} {reservation new : ReservationValue}
+    → Ok batch ≡ unless (list_refusal commands) commands → most ≡ tries_of tries → sender ≡ own → new ≡ reservation
+    → IsReservedWithin batch true most sender reservation → IsReservationOf sender reservation → IsOpened commands tries own new
+opened commands tries {batch} {most} {sender} {own} {reservation} {new} made most_is same new_is reserved own_is =
+    subst (λ (r : ReservationValue). IsOpened commands tries own r) (sym new_is) (subst (λ (s : SenderValue). IsOpened commands tries s reservation) same (record {
       batch = unrefused (list_refusal commands) batch commands made;
-      reserved = subst (λ (b : List Raw). IsReserved b true sender reservation) (is_batch (list_refusal commands) batch commands made) reserved;
-      history = history;
-      ring_is = ring;
-      sender_is = number;
+      reserved = subst (λ (b : List Raw). IsReservedWithin b true (tries_of tries) sender reservation) (is_batch (list_refusal commands) batch commands made)
+          (subst (λ (m : ℕ). IsReservedWithin batch true m sender reservation) most_is reserved);
+      own = own_is;
     }))
 
-pub unreserved : (commands : List Raw) (cause : Cause) {batch : List Raw} {sender own back new : SenderValue}
-    → Ok batch ≡ unless (list_refusal commands) commands → sender ≡ own → new ≡ back → IsRefused batch true sender cause back → HasGrown own back
-    → IsUnreserved commands own new (Refused cause)
-unreserved commands cause {batch} {sender} {own} {back} {new} made same new_is refused grew =
-    subst (λ (s : SenderValue). IsUnreserved commands own s (Refused cause)) (sym new_is) (
+pub unreserved : (commands : List Raw) (tries : ℕ) (cause : Cause) {batch : List Raw} {most : ℕ} {sender own back new : SenderValue}
+    → Ok batch ≡ unless (list_refusal commands) commands → most ≡ tries_of tries → sender ≡ own → new ≡ back
+    → IsGivenUp batch true most sender cause back → HasGrown sender back → IsUnreserved commands tries own new (Refused cause)
+unreserved commands tries cause {batch} {most} {sender} {own} {back} {new} made most_is same new_is refused grew =
+    subst (λ (s : SenderValue). IsUnreserved commands tries own s (Refused cause)) (sym new_is) (
       unrefused (list_refusal commands) batch commands made,
-      subst (λ (b : List Raw). IsRefused b true own cause back) (is_batch (list_refusal commands) batch commands made)
-          (subst (λ (s : SenderValue). IsRefused batch true s cause back) same refused),
-      grew,
+      subst (λ (b : List Raw). IsGivenUp b true (tries_of tries) own cause back) (is_batch (list_refusal commands) batch commands made)
+          (subst (λ (m : ℕ). IsGivenUp batch true m own cause back) most_is (subst (λ (s : SenderValue). IsGivenUp batch true most s cause back) same refused)),
+      subst (λ (s : SenderValue). HasGrown s back) same grew,
     )

@@ -1,5 +1,5 @@
 -- What a call does to the object that a handle holds.
-use Rattle.std.specs.Prelude.{◌≡◌, ℕ, [], Option, None, Some, MatchOption}
+use Rattle.std.specs.Prelude.{◌≡◌, ℕ, List, [], Option, None, Some, MatchOption}
 use Rattle.ring.specs.sender.Senders.{SenderValue}
 use Rattle.ring.specs.consumer.Completing.{taken_of}
 use Rattle.engine.specs.Settled.{IsSettled}
@@ -10,7 +10,11 @@ use Rattle.engine.specs.QueueUnits.{remedy_until_then}
 use Rattle.engine.specs.Engines.{EngineValue, IsSettledEngine}
 use Rattle.smmuq_c.specs.HeldConsumers.{HeldConsumer}
 use Rattle.smmuq_c.specs.Registers.{HasAcknowledged, HasAcknowledgedQueue, error_words, queue_error_words, count_words}
+use Rattle.smmuq_c.specs.Runs.{HasRunCompletions}
+use Rattle.smmuq_c.specs.declared.words.RunWords.{RunWords}
+use Rattle.engine.specs.declared.completion.Completion.{Completion}
 use Rattle.smmuq_c.specs.Statuses.{number_of}
+use Rattle.smmuq_c.specs.declared.handle.Handle.{Handle}
 use Rattle.smmuq_c.specs.declared.status.Status.{Status}
 use Rattle.smmuq_c.specs.declared.status.Status.TheVariants.{Done, EmptyHandle, WrongHandle, BadField, OpenReservation}
 use Rattle.smmuq_c.specs.declared.words.Errors.{Errors}
@@ -22,10 +26,14 @@ use Rattle.smmuq_c.specs.declared.object.Object.TheVariants.{Unit as UnitOf, Sen
 abbrev pub Answers : (Status → Type 0) → ℕ → Type 0
 Answers told number = (status : Status) × (number ≡ number_of status) × told status
 
--- The call did this to the object that the handle holds, and answered its status; or the handle is empty, and stays so.
-abbrev pub HasCalled : (Object → Object → Status → Type 0) → Option Object → Option Object → ℕ → Type 0
-HasCalled does None new number = (new ≡ None) × (number ≡ number_of EmptyHandle)
-HasCalled does (Some old) new number = (after : Object) × (new ≡ Some after) × Answers (does old after) number
+-- The call did this to the object, and answered its status; or there is none, before and after.
+abbrev pub HasCalledOn : (Object → Object → Status → Type 0) → Option Object → Option Object → ℕ → Type 0
+HasCalledOn does None new number = (new ≡ None) × (number ≡ number_of EmptyHandle)
+HasCalledOn does (Some old) new number = (after : Object) × (new ≡ Some after) × Answers (does old after) number
+
+-- The same of what a handle holds.
+abbrev pub HasCalled : (Object → Object → Status → Type 0) → Handle → Handle → ℕ → Type 0
+HasCalled does old new number = HasCalledOn does old.object new.object number
 
 -- ---- an object of one kind is changed, and one of another kind refused
 
@@ -41,6 +49,9 @@ OfSender does other new status = (new ≡ other) × (status ≡ WrongHandle)
 abbrev pub OfEngine : (EngineValue → EngineValue → Status → Type 0) → Object → Object → Status → Type 0
 OfEngine does (EngineOf old) new status = (after : EngineValue) × (new ≡ EngineOf after) × does old after status
 OfEngine does other new status = (new ≡ other) × (status ≡ WrongHandle)
+
+abbrev pub RunsTelling : ℕ → RunWords → List Completion → List Completion → ℕ → Object → Object → Status → Type 0
+RunsTelling most told before after count = OfEngine (HasRunCompletions most told before after count)
 
 abbrev pub OfConsumer : (HeldConsumer → HeldConsumer → Status → Type 0) → Object → Object → Status → Type 0
 OfConsumer does (ConsumerOf old) new status = (after : HeldConsumer) × (new ≡ ConsumerOf after) × does old after status

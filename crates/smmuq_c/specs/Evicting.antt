@@ -2,7 +2,7 @@
 use Rattle.std.specs.Prelude.{◌≡◌, ◌<◌, ◌-◌, ◌/◌, ◌%◌, ◌^◌, ◌==◌, ℕ, Bool, Option, None, Some}
 use Rattle.caches.specs.declared.tag.Tag.{Tag}
 use Rattle.caches.specs.declared.owner_tests.OfMachine.{OfMachine}
-use Rattle.engine.specs.Units.{UnitValue, HasLost}
+use Rattle.engine.specs.Units.{UnitValue, HasLost, HasLostOlder}
 use Rattle.smmuq_c.specs.declared.evicting.Kinds.{Kinds}
 use Rattle.caches.specs.OwnerTests.{is_of_stream, is_of_machine}
 use Rattle.smmuq_c.specs.declared.object.Object.{Object}
@@ -25,6 +25,11 @@ pub record HasEvictedAll (passes : Tag → Bool) (told : ℕ) (old new : UnitVal
   pub lost : HasLost passes told old new
   pub status_is : status ≡ Done
 
+-- The entries that were filled before this many commands were taken are gone, and their number is told.
+pub record HasEvictedOlder (born told : ℕ) (old new : UnitValue) (status : Status) : Type 0 where
+  pub lost : HasLostOlder born told old new
+  pub status_is : status ≡ Done
+
 -- The words say this virtual machine, or none.
 abbrev pub IsMachineOf : ℕ → Option OfMachine → Type 0
 IsMachineOf vmid None = ¬ (vmid < 2 ^ 16)
@@ -40,3 +45,6 @@ EvictsStream sid told = OfAnyUnit (HasEvictedAll (is_of_stream (record { 0 = sid
 
 abbrev pub EvictsMachine : ℕ → ℕ → Object → Object → Status → Type 0
 EvictsMachine vmid told = OfSaid (IsMachineOf vmid) (λ m. HasEvictedAll (is_of_machine m) told)
+
+abbrev pub EvictsOlder : ℕ → ℕ → Object → Object → Status → Type 0
+EvictsOlder born told = OfAnyUnit (HasEvictedOlder born told)

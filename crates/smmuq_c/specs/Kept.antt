@@ -1,5 +1,6 @@
 -- What a call leaves as it was, of what it tells through a pointer.
-use Rattle.std.specs.Prelude.{◌≡◌, ℕ, Bool, true, false, Option, None, Some}
+use Rattle.std.specs.Prelude.{◌≡◌, ℕ, Bool, true, false, List, length, Option, None, Some}
+use Rattle.engine.specs.declared.completion.Completion.{Completion}
 use Rattle.engine.specs.Units.{UnitValue}
 use Rattle.engine.specs.Engines.{IsSettledEngine}
 use Rattle.smmuq_c.specs.Statuses.{number_of}
@@ -48,6 +49,10 @@ is_consumer other = false
 abbrev pub KeptOfOthers : {X : Type 0} → (Object → Bool) → Option Object → X → X → Type 0
 KeptOfOthers is_own None old new = new ≡ old
 KeptOfOthers is_own (Some object) old new = is_own object ≡ false → new ≡ old
+
+-- It is told only by an engine, and only if there is room to tell of a command.
+abbrev pub KeptUnlessRun : {X : Type 0} → Option Object → List Completion → X → X → Type 0
+KeptUnlessRun object buffer old new = KeptOfOthers is_engine object old new × (length buffer ≡ 0 → new ≡ old)
 
 -- ---- the unit of a unit or an engine
 

@@ -1,11 +1,13 @@
 -- What a run of the engine does to it, and what C gets of it.
-use Rattle.std.specs.Prelude.{◌≡◌, ◌↔◌, ℕ, max, min}
+use Rattle.std.specs.Prelude.{◌≡◌, ◌≤◌, ◌↔◌, ◌⊎◌, ℕ, max, min, List, length}
 use Rattle.ringcore.specs.Limits.{most_reserved}
 use Rattle.ringcore.specs.declared.world.event.Who.TheVariants.{Consumer}
 use Rattle.ring.specs.table.Histories.{Grew}
 use Rattle.ring.specs.consumer.Completing.{taken_of}
 use Rattle.engine.specs.declared.answer.RunAnswer.{RunAnswer}
 use Rattle.engine.specs.declared.answer.RunAnswer.TheVariants.{Empty, Drained, Unwritten, Applied, Stopped, Replaced, StillStopped, Exhausted}
+use Rattle.engine.specs.declared.completion.Completion.{Completion}
+use Rattle.engine.specs.Completions.{HasTold}
 use Rattle.engine.specs.Settled.{IsSettled}
 use Rattle.engine.specs.Stops.{IsStopped}
 use Rattle.engine.specs.Counting.{taken}
@@ -15,7 +17,7 @@ use Rattle.engine.specs.Engines.{EngineValue, HasRun, HasLooked}
 use Rattle.smmuq_c.specs.Statuses.{ill_number}
 use Rattle.smmuq_c.specs.declared.status.Status.{Status}
 use Rattle.smmuq_c.specs.declared.status.Status.TheVariants as status
-use Rattle.smmuq_c.specs.declared.status.Status.TheVariants.{Done}
+use Rattle.smmuq_c.specs.declared.status.Status.TheVariants.{Done, ShortBuffer}
 use Rattle.smmuq_c.specs.declared.words.RunWords.{RunWords}
 use Rattle.smmuq_c.specs.declared.words.RegisterWords.{RegisterWords}
 
@@ -55,6 +57,24 @@ pub record HasRunFor (most : ℕ) (told : RunWords) (old new : EngineValue) (sta
   pub ring_is : new.consumer.ring ≡ old.consumer.ring
   pub status_is : status ≡ run_status answer
   pub told_is : told ≡ run_words answer
+
+-- ---- with what it completed
+
+-- It ran. What the commands that it applied complete stands first in the buffer, and how much that is is told.
+pub record HasRunTelling (most : ℕ) (told : RunWords) (before after : List Completion) (count : ℕ) (old new : EngineValue) (status : Status) : Type 0 where
+  pub room : 1 ≤ length before
+  pub ran : HasRunFor (min most (length before)) told old new status
+  pub completions : HasTold (run_length (min most (length before))) old new (ran.answer, count) before after
+
+-- There is no room to tell of a command: nothing was done.
+pub record HadNoRoomToTell (before : List Completion) (old new : EngineValue) (status : Status) : Type 0 where
+  pub none : length before ≡ 0
+  pub new_is : new ≡ old
+  pub status_is : status ≡ ShortBuffer
+
+abbrev pub HasRunCompletions : ℕ → RunWords → List Completion → List Completion → ℕ → EngineValue → EngineValue → Status → Type 0
+HasRunCompletions most told before after count old new status =
+    HadNoRoomToTell before old new status ⊎ HasRunTelling most told before after count old new status
 
 -- ---- registers
 

@@ -18,7 +18,7 @@ pub extern "C" fn smmuq_take_run(
     buffer: &mut [Raw],
     count: &mut usize,
 ) -> u32
-    ensures called { HasCalled (OfConsumer (HasTakenRun buffer.old buffer.new count.new)) consumer.old.object consumer.new.object result }
+    ensures called { HasCalled (OfConsumer (HasTakenRun buffer.old buffer.new count.new)) consumer.old consumer.new result }
     ensures buffer { KeptOfOthers is_consumer consumer.old.object buffer.old buffer.new }
     ensures count { KeptOfOthers is_consumer consumer.old.object count.old count.new }
 {
@@ -46,7 +46,7 @@ fn take_run(object: &mut Object, buffer: &mut [Raw], count: &mut usize) -> Statu
 /// were told: then none is completed.
 #[unsafe(no_mangle)]
 pub extern "C" fn smmuq_complete(consumer: &mut Handle, count: usize) -> u32
-    ensures { HasCalled (OfConsumer (HasCompletedFor count)) consumer.old.object consumer.new.object result }
+    ensures { HasCalled (OfConsumer (HasCompletedFor count)) consumer.old consumer.new result }
 {
     let Some(object) = consumer.object_mut() else {
         return Status::EmptyHandle.number();

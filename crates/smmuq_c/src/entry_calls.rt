@@ -15,7 +15,7 @@ use crate::words::Held;
 /// for `Caches::fill`.
 #[unsafe(no_mangle)]
 pub extern "C" fn smmuq_fill(handle: &mut Handle, tag: &TagWords, value: u64) -> u32
-    ensures { HasCalled (OfSaid (IsTagOf tag.now) (λ t. HasFilled t value)) handle.old.object handle.new.object result }
+    ensures { HasCalled (OfSaid (IsTagOf tag.now) (λ t. HasFilled t value)) handle.old handle.new result }
 {
     let Some(object) = handle.object_mut() else {
         return Status::EmptyHandle.number();
@@ -43,7 +43,7 @@ fn fill(object: &mut Object, tag: &TagWords, value: u64) -> Status
 /// Tells what a unit or an engine holds under a tag. `NOT_HELD` if it holds nothing, `BAD_FIELD` if the tag isn't one.
 #[unsafe(no_mangle)]
 pub extern "C" fn smmuq_lookup(handle: &mut Handle, tag: &TagWords, held: &mut Held) -> u32
-    ensures called { HasCalled (OfSaid (IsTagOf tag.now) (λ t. HasLookedUp t held.new)) handle.old.object handle.new.object result }
+    ensures called { HasCalled (OfSaid (IsTagOf tag.now) (λ t. HasLookedUp t held.new)) handle.old handle.new result }
     ensures kept { KeptUnlessDone result held.old held.new }
 {
     let Some(object) = handle.object_mut() else {
@@ -70,7 +70,7 @@ fn lookup(object: &Object, tag: &TagWords, held: &mut Held) -> Status
 /// tag isn't one.
 #[unsafe(no_mangle)]
 pub extern "C" fn smmuq_evict(handle: &mut Handle, tag: &TagWords, held: &mut Held) -> u32
-    ensures called { HasCalled (OfSaid (IsTagOf tag.now) (λ t. HasEvicted t held.new)) handle.old.object handle.new.object result }
+    ensures called { HasCalled (OfSaid (IsTagOf tag.now) (λ t. HasEvicted t held.new)) handle.old handle.new result }
     ensures kept { KeptUnlessDone result held.old held.new }
 {
     let Some(object) = handle.object_mut() else {
@@ -100,7 +100,7 @@ fn evict(object: &mut Object, tag: &TagWords, held: &mut Held) -> Status
 /// Tells how many entries a unit or an engine holds.
 #[unsafe(no_mangle)]
 pub extern "C" fn smmuq_count(handle: &mut Handle, count: &mut usize) -> u32
-    ensures called { HasCalled (OfAnyUnit (HasCounted count.new)) handle.old.object handle.new.object result }
+    ensures called { HasCalled (OfAnyUnit (HasCounted count.new)) handle.old handle.new result }
     ensures kept { KeptUnlessDone result count.old count.new }
 {
     let Some(object) = handle.object_mut() else {

@@ -1,7 +1,7 @@
-//! Evicting entries by their kinds, their stream or their virtual machine, and the exports that do it.
+//! Evicting entries by their kinds, their stream, their virtual machine or their age, and the exports that do it.
 ghost use Rattle.std.specs.Prelude.{◌≡◌};
 ghost use Rattle.smmuq_c.specs.Calls.{HasCalled, OfAnyUnit};
-ghost use Rattle.smmuq_c.specs.Evicting.{AreKindsOf, IsMachineOf, HasEvictedAll, EvictsKinds, EvictsStream, EvictsMachine};
+ghost use Rattle.smmuq_c.specs.Evicting.{AreKindsOf, IsMachineOf, HasEvictedAll, EvictsKinds, EvictsStream, EvictsMachine, EvictsOlder};
 ghost use Rattle.smmuq_c.specs.Kept.{IsKept, KeptUnlessDone};
 
 use crate::handle::Handle;
@@ -46,7 +46,7 @@ impl TagTest for Kinds {
 /// then nothing changed. Takes no memory for that.
 #[unsafe(no_mangle)]
 pub extern "C" fn smmuq_evict_all(handle: &mut Handle, kinds: u32, count: &mut usize) -> u32
-    ensures called { HasCalled (EvictsKinds kinds count.new) handle.old.object handle.new.object result }
+    ensures called { HasCalled (EvictsKinds kinds count.new) handle.old handle.new result }
     ensures kept { KeptUnlessDone result count.old count.new }
 {
     let Some(object) = handle.object_mut() else {
@@ -72,7 +72,7 @@ fn evict_kinds(object: &mut Object, kinds: u32, count: &mut usize) -> Status
 /// its context descriptors, and what its endpoint holds. Takes no memory for that.
 #[unsafe(no_mangle)]
 pub extern "C" fn smmuq_evict_stream(handle: &mut Handle, sid: u32, count: &mut usize) -> u32
-    ensures called { HasCalled (EvictsStream sid count.new) handle.old.object handle.new.object result }
+    ensures called { HasCalled (EvictsStream sid count.new) handle.old handle.new result }
     ensures kept { KeptUnlessDone result count.old count.new }
 {
     let Some(object) = handle.object_mut() else {
@@ -98,7 +98,7 @@ fn evict_stream(object: &mut Object, sid: u32, count: &mut usize) -> Status
 /// many they were. `BAD_FIELD` if `vmid` has more than 16 bits. Takes no memory for that.
 #[unsafe(no_mangle)]
 pub extern "C" fn smmuq_evict_machine(handle: &mut Handle, vmid: u32, count: &mut usize) -> u32
-    ensures called { HasCalled (EvictsMachine vmid count.new) handle.old.object handle.new.object result }
+    ensures called { HasCalled (EvictsMachine vmid count.new) handle.old handle.new result }
     ensures kept { KeptUnlessDone result count.old count.new }
 {
     let Some(object) = handle.object_mut() else {
@@ -127,6 +127,36 @@ fn evict_machine(object: &mut Object, vmid: u32, count: &mut usize) -> Status
         return Status::BadField;
     };
     evict_passing(object, &machine, count)
+}
+
+/// Evicts all entries of a unit or an engine that were filled before `born` commands were taken, and tells how many they
+/// were. Takes no memory for that.
+#[unsafe(no_mangle)]
+pub extern "C" fn smmuq_evict_older(handle: &mut Handle, born: u64, count: &mut usize) -> u32
+    ensures called { HasCalled (EvictsOlder born count.new) handle.old handle.new result }
+    ensures kept { KeptUnlessDone result count.old count.new }
+{
+    let Some(object) = handle.object_mut() else {
+        return Status::EmptyHandle.number();
+    };
+    evict_older(object, born, count).number()
+}
+
+fn evict_older(object: &mut Object, born: u64, count: &mut usize) -> Status
+    ensures called { EvictsOlder born count.new object.old object.new result }
+    ensures kept { IsKept result count.old count.new }
+{
+    match object {
+        Object::Unit(queue) => {
+            *count = queue.unit.evict_older(born) as usize;
+            Status::Done
+        }
+        Object::Engine(seated) => {
+            *count = seated.evict_older(born) as usize;
+            Status::Done
+        }
+        Object::Sender(_) | Object::Reservation(_) | Object::Consumer(_) => Status::WrongHandle,
+    }
 }
 
 /// Evicts all entries of a unit or an engine whose tags pass a test, and tells how many they were.

@@ -118,7 +118,7 @@ pub extern "C" fn smmuq_find(
     tag: &mut TagWords,
     held: &mut Held,
 ) -> u32
-    ensures called { HasCalled (Finds kind owner space address spans tag.new held.new) handle.old.object handle.new.object result }
+    ensures called { HasCalled (Finds kind owner space address spans tag.new held.new) handle.old handle.new result }
     ensures tag { KeptUnlessDone result tag.old tag.new }
     ensures held { KeptUnlessDone result held.old held.new }
 {

@@ -167,7 +167,7 @@ pub extern "C" fn smmuq_entries(
     buffer: &mut [EntryWords],
     count: &mut usize,
 ) -> u32
-    ensures called { HasCalled (OfAnyUnit (HasListed buffer.old buffer.new count.new)) handle.old.object handle.new.object result }
+    ensures called { HasCalled (OfAnyUnit (HasListed buffer.old buffer.new count.new)) handle.old handle.new result }
     ensures buffer { KeptUnlessDone result buffer.old buffer.new }
     ensures count { CountKept result count.old count.new }
 {

@@ -22,7 +22,7 @@ pub extern "C" fn smmuq_renew(
     senders: &mut [Handle],
     engine: &mut Handle,
 ) -> u32
-    ensures renewed { HasCalled (OfEngine (HasRenewed (record { log2 = log2; max_batches = max_batches; capacity = capacity }) senders.old senders.new)) engine.old.object engine.new.object result }
+    ensures renewed { HasCalled (OfEngine (HasRenewed (record { log2 = log2; max_batches = max_batches; capacity = capacity }) senders.old senders.new)) engine.old engine.new result }
     ensures senders { (result ≡ 0) ⊎ (senders.new ≡ senders.old) }
 {
     let sizes = Sizes {

@@ -11,24 +11,25 @@ use crate::status::Status;
 use cmdcodec::Raw;
 use core::mem::replace_with;
 
-/// Reserves the slots of a batch of 1 to 63 commands and its closing CMD_SYNC, in one try, and keeps the commands:
-/// nothing of it is written until it is published. B5, B1 or B2 if the commands are no batch; Q1 to Q5;
-/// `OPEN_RESERVATION` if the sender has one already.
+/// Reserves the slots of a batch of 1 to 63 commands and its closing CMD_SYNC, and keeps the commands: nothing of it is
+/// written until it is published. Tries and refusals are those of `smmuq_send`; `OPEN_RESERVATION` if the sender has one
+/// already.
 #[unsafe(no_mangle)]
-pub extern "C" fn smmuq_reserve(sender: &mut Handle, commands: &[Raw]) -> u32
-    ensures { HasCalled (HasReserved commands.now) sender.old.object sender.new.object result }
+pub extern "C" fn smmuq_reserve(sender: &mut Handle, commands: &[Raw], tries: u32) -> u32
+    ensures { HasCalled (HasReserved commands.now tries) sender.old sender.new result }
 {
     let Some(object) = sender.object_mut() else {
         return Status::EmptyHandle.number();
     };
-    replace_with(object, commands, reserve).number()
+    replace_with(object, (commands, tries), reserve).number()
 }
 
-fn reserve(object: Object, commands: &[Raw]) -> (Object, Status)
-    ensures { HasReserved commands.now object result.0 result.1 }
+fn reserve(object: Object, asked: (&[Raw], u32)) -> (Object, Status)
+    ensures { HasReserved asked.entry.0.now asked.entry.1 object result.0 result.1 }
 {
+    let (commands, tries) = asked;
     match object {
-        Object::Sender(sender) => match sender.reserve(commands) {
+        Object::Sender(sender) => match sender.reserve(commands, tries) {
             Ok(reservation) => (Object::Reservation(reservation), Status::Done),
             Err((sender, status)) => (Object::Sender(sender), status),
         },
@@ -41,7 +42,7 @@ fn reserve(object: Object, commands: &[Raw]) -> (Object, Status)
 /// reserved.
 #[unsafe(no_mangle)]
 pub extern "C" fn smmuq_publish(sender: &mut Handle, number: &mut u32) -> u32
-    ensures called { HasCalled (HasPublished number.new) sender.old.object sender.new.object result }
+    ensures called { HasCalled (HasPublished number.new) sender.old sender.new result }
     ensures kept { KeptUnlessDone result number.old number.new }
 {
     let Some(object) = sender.object_mut() else {

@@ -1,13 +1,11 @@
 //! An engine with its share of its own ring.
-ghost use Rattle.std.specs.Prelude.{◌≡◌, ◌⊎◌};
+ghost use Rattle.std.specs.Prelude.{◌≡◌, ◌⊎◌, length};
 ghost use Rattle.std.specs.Arc.{arc_value};
-ghost use Rattle.ring.specs.consumer.Completing.{taken_of};
-ghost use Rattle.engine.specs.Settled.{IsSettled};
 ghost use Rattle.engine.specs.Engines.{IsSettledEngine};
-ghost use Rattle.engine.specs.Units.{HasLost};
+ghost use Rattle.engine.specs.Units.{HasLost, HasLostOlder};
 ghost use Rattle.smmuq_c.specs.Entries.{HasFilled, HasEvicted};
 ghost use Rattle.smmuq_c.specs.Registers.{HasAcknowledged};
-ghost use Rattle.smmuq_c.specs.Runs.{HasRunFor, HasToldRegisters};
+ghost use Rattle.smmuq_c.specs.Runs.{HasRunFor, HasRunCompletions, HasToldRegisters};
 ghost use Rattle.smmuq_c.specs.Renewing.{HasRenewed};
 ghost use Rattle.smmuq_c.specs.Kept.{IsKept};
 
@@ -17,7 +15,7 @@ use crate::ring_calls::{count_of, fill_senders, share};
 use crate::status::Status;
 use crate::words::{Held, RegisterWords, RunWords};
 use caches::{Tag, TagTest};
-use engine::{Engine, Remedy, Unit};
+use engine::{Completion, Engine, Remedy, Unit};
 use renewal::{Queue, Sizes, sees_waiting, successor};
 use ring::Ring;
 use std::alloc::Global;
@@ -64,6 +62,29 @@ impl SeatedEngine {
         Status::from(answer)
     }
 
+    /// The same for at most as many commands as there is room for completions, which it tells.
+    pub(crate) fn run_completions(
+        &mut self,
+        most: u32,
+        told: &mut RunWords,
+        completions: &mut [Completion],
+        count: &mut usize,
+    ) -> Status
+        ensures ran { HasRunCompletions most told.new completions.old completions.new count.new self.old self.new result }
+        ensures told { length completions.old ≡ 0 → told.new ≡ told.old }
+        ensures completions { length completions.old ≡ 0 → completions.new ≡ completions.old }
+        ensures count { length completions.old ≡ 0 → count.new ≡ count.old }
+    {
+        if completions.is_empty() {
+            return Status::ShortBuffer;
+        }
+        let most = (most as usize).min(completions.len()).max(1).min(64) as u32;
+        let (answer, many) = self.engine.step_run_telling(&self.ring, most, completions);
+        *told = RunWords::from(answer);
+        *count = many;
+        Status::from(answer)
+    }
+
     pub(crate) fn registers(&mut self, told: &mut RegisterWords) -> Status
         ensures told { HasToldRegisters told.new self.old self.new result }
         ensures done { result ≡ Status.Done }
@@ -101,7 +122,7 @@ impl SeatedEngine {
     pub(crate) fn fill(&mut self, tag: Tag, value: u64) -> Status
         ensures filled { HasFilled tag value self.old.unit self.new.unit result }
         ensures consumer { self.new ≡ record self.old { unit = self.new.unit } }
-        ensures settled { IsSettled self.new.unit.caches.entries (taken_of self.new.consumer.trail) }
+        ensures settled { IsSettledEngine self.new }
     {
         fill_status(self.engine.fill(tag, value))
     }
@@ -110,7 +131,7 @@ impl SeatedEngine {
         ensures evicted { HasEvicted tag.now told.new self.old.unit self.new.unit result }
         ensures kept { IsKept result told.old told.new }
         ensures consumer { self.new ≡ record self.old { unit = self.new.unit } }
-        ensures settled { IsSettled self.new.unit.caches.entries (taken_of self.new.consumer.trail) }
+        ensures settled { IsSettledEngine self.new }
     {
         tell_entry(self.engine.evict(tag), told)
     }
@@ -119,9 +140,18 @@ impl SeatedEngine {
     pub(crate) fn evict_all<T: TagTest>(&mut self, test: &T) -> u32
         ensures lost { HasLost (T.passing test.now) result self.old.unit self.new.unit }
         ensures consumer { self.new ≡ record self.old { unit = self.new.unit } }
-        ensures settled { IsSettled self.new.unit.caches.entries (taken_of self.new.consumer.trail) }
+        ensures settled { IsSettledEngine self.new }
     {
         self.engine.evict_all(test)
+    }
+
+    /// Evicts the entries that were filled before `born` commands were taken, and returns how many they were.
+    pub(crate) fn evict_older(&mut self, born: u64) -> u32
+        ensures lost { HasLostOlder born result self.old.unit self.new.unit }
+        ensures consumer { self.new ≡ record self.old { unit = self.new.unit } }
+        ensures settled { IsSettledEngine self.new }
+    {
+        self.engine.evict_older(born)
     }
 
     /// Its unit, to read it.
@@ -136,7 +166,7 @@ impl SeatedEngine {
     pub(crate) fn acknowledge(&mut self, gerrorn: u32, remedy: Remedy) -> Status
         ensures acknowledged { HasAcknowledged gerrorn remedy self.old.unit self.new.unit result }
         ensures consumer { self.new ≡ record self.old { unit = self.new.unit } }
-        ensures settled { IsSettled self.new.unit.caches.entries (taken_of self.new.consumer.trail) }
+        ensures settled { IsSettledEngine self.new }
     {
         acknowledgement_status(self.engine.acknowledge(gerrorn, remedy))
     }

@@ -19,7 +19,7 @@ pub extern "C" fn smmuq_send(
     tries: u32,
     number: &mut u32,
 ) -> u32
-    ensures called { HasCalled (OfSender (HasSent commands.now tries number.new)) sender.old.object sender.new.object result }
+    ensures called { HasCalled (OfSender (HasSent commands.now tries number.new)) sender.old sender.new result }
     ensures kept { KeptUnlessDone result number.old number.new }
 {
     let Some(object) = sender.object_mut() else {
@@ -42,7 +42,7 @@ fn send(object: &mut Object, commands: &[Raw], tries: u32, number: &mut u32) -> 
 /// The same without a CMD_SYNC.
 #[unsafe(no_mangle)]
 pub extern "C" fn smmuq_send_bare(sender: &mut Handle, commands: &[Raw], tries: u32) -> u32
-    ensures { HasCalled (OfSender (HasSentBare commands.now tries)) sender.old.object sender.new.object result }
+    ensures { HasCalled (OfSender (HasSentBare commands.now tries)) sender.old sender.new result }
 {
     let Some(object) = sender.object_mut() else {
         return Status::EmptyHandle.number();
@@ -63,7 +63,7 @@ fn send_bare(object: &mut Object, commands: &[Raw], tries: u32) -> Status
 /// Tells the number of the sender's last CMD_SYNC that completed, or 0 if none did.
 #[unsafe(no_mangle)]
 pub extern "C" fn smmuq_done_up_to(sender: &mut Handle, number: &mut u32) -> u32
-    ensures called { HasCalled (OfSender (HasTold number.new)) sender.old.object sender.new.object result }
+    ensures called { HasCalled (OfSender (HasTold number.new)) sender.old sender.new result }
     ensures kept { KeptUnlessDone result number.old number.new }
 {
     let Some(object) = sender.object_mut() else {
@@ -86,7 +86,7 @@ fn done_up_to(object: &mut Object, number: &mut u32) -> Status
 /// Tells how many batches the sender may still reserve, with a CMD_SYNC or without. After the last, the answer is Q5.
 #[unsafe(no_mangle)]
 pub extern "C" fn smmuq_left(sender: &mut Handle, batches: &mut u32) -> u32
-    ensures called { HasCalled (OfSender (HasToldLeft batches.new)) sender.old.object sender.new.object result }
+    ensures called { HasCalled (OfSender (HasToldLeft batches.new)) sender.old sender.new result }
     ensures kept { KeptUnlessDone result batches.old batches.new }
 {
     let Some(object) = sender.object_mut() else {
@@ -109,7 +109,7 @@ fn left(object: &mut Object, batches: &mut u32) -> Status
 /// Closes the ring: nothing more is reserved, by any sender.
 #[unsafe(no_mangle)]
 pub extern "C" fn smmuq_close(sender: &mut Handle) -> u32
-    ensures { HasCalled (OfSender HasClosed) sender.old.object sender.new.object result }
+    ensures { HasCalled (OfSender HasClosed) sender.old sender.new result }
 {
     let Some(object) = sender.object_mut() else {
         return Status::EmptyHandle.number();
@@ -130,7 +130,7 @@ fn close(object: &mut Object) -> Status
 /// Tells SMMU_CMDQ_PROD and SMMU_CMDQ_CONS.RD at this moment, and whether the ring is closed.
 #[unsafe(no_mangle)]
 pub extern "C" fn smmuq_look(sender: &mut Handle, told: &mut ControlWords) -> u32
-    ensures called { HasCalled (OfSender (HasLookedFor told.new)) sender.old.object sender.new.object result }
+    ensures called { HasCalled (OfSender (HasLookedFor told.new)) sender.old sender.new result }
     ensures kept { KeptUnlessDone result told.old told.new }
 {
     let Some(object) = sender.object_mut() else {

@@ -15,7 +15,7 @@ use engine::{QueueError, QueueUnit, StopRemedy};
 /// active, G2 if CMDQ_ERR of the word isn't that of SMMU_GERROR, `BAD_FIELD` if the remedy isn't one.
 #[unsafe(no_mangle)]
 pub extern "C" fn smmuq_acknowledge(handle: &mut Handle, gerrorn: u32, remedy: u32) -> u32
-    ensures { HasCalled (BySaid (IsRemedyOf remedy) (OfStop gerrorn)) handle.old.object handle.new.object result }
+    ensures { HasCalled (BySaid (IsRemedyOf remedy) (OfStop gerrorn)) handle.old handle.new result }
 {
     let Some(object) = handle.object_mut() else {
         return Status::EmptyHandle.number();
@@ -57,7 +57,7 @@ pub extern "C" fn smmuq_state(
     errors: &mut Errors,
     tallies: &mut Tallies,
 ) -> u32
-    ensures called { HasCalled (OfState errors.new tallies.new) handle.old.object handle.new.object result }
+    ensures called { HasCalled (OfState errors.new tallies.new) handle.old handle.new result }
     ensures errors { KeptUnlessDone result errors.old errors.new }
     ensures tallies { KeptUnlessDone result tallies.old tallies.new }
 {
@@ -102,7 +102,7 @@ fn error_of(number: u32) -> Option<QueueError>
 /// number `BAD_FIELD`. CMDQ_ERR of SMMU_GERROR toggles. `STILL_STOPPED` if it is stopped: then nothing changed.
 #[unsafe(no_mangle)]
 pub extern "C" fn smmuq_unit_stop(unit: &mut Handle, err: u32) -> u32
-    ensures { HasCalled (OfUnit (HasStoppedFor err)) unit.old.object unit.new.object result }
+    ensures { HasCalled (OfUnit (HasStoppedFor err)) unit.old unit.new result }
 {
     let Some(object) = unit.object_mut() else {
         return Status::EmptyHandle.number();
@@ -138,7 +138,7 @@ fn stop_for(queue: &mut QueueUnit, err: u32) -> Status
 /// nothing changed.
 #[unsafe(no_mangle)]
 pub extern "C" fn smmuq_unit_restore(unit: &mut Handle, err: u32, gerror: u32, gerrorn: u32) -> u32
-    ensures { HasCalled (OfUnit (HasRestored err gerror gerrorn)) unit.old.object unit.new.object result }
+    ensures { HasCalled (OfUnit (HasRestored err gerror gerrorn)) unit.old unit.new result }
 {
     let Some(object) = unit.object_mut() else {
         return Status::EmptyHandle.number();
@@ -173,7 +173,7 @@ fn restore_to(queue: &mut QueueUnit, err: u32, gerror: u32, gerrorn: u32) -> Sta
 /// Takes no memory.
 #[unsafe(no_mangle)]
 pub extern "C" fn smmuq_unit_reset(unit: &mut Handle) -> u32
-    ensures { HasCalled (OfUnit HasReset) unit.old.object unit.new.object result }
+    ensures { HasCalled (OfUnit HasReset) unit.old unit.new result }
 {
     let Some(object) = unit.object_mut() else {
         return Status::EmptyHandle.number();
