@@ -1,5 +1,4 @@
-use Rattle.std.proofs.Common.{rules, ℕ, true, sym, subst, add-one, ◌∙◌, arith}
-use Rattle.ringcore.specs.declared.world.event.Who.TheVariants.{Sender as SenderOf}
+use Rattle.std.proofs.Common.{rules, ℕ, true, sym, subst, add-one, arith}
 use Rattle.ring.specs.sender.Sending.{HasTried}
 use Rattle.smmuq_c.proofs.Sending.{grown_more}
 use Rattle.smmuq_c.proofs.seated_sender.reserve_within.Goals as goal

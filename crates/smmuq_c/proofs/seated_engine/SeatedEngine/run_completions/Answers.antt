@@ -1,4 +1,4 @@
-use Rattle.std.proofs.Common.{inr, rules, ◌≡◌, ◌∙◌, ◌≤◌, ℕ, length, ap, subst, arith}
+use Rattle.std.proofs.Common.{inr, rules, ◌≡◌, ◌∙◌, ◌≤◌, ℕ, length, ap, subst}
 use Rattle.std.specs.Prelude.{max, min}
 use Rattle.engine.specs.Engines.{EngineValue, HasRun}
 use Rattle.engine.specs.Completions.{HasTold}

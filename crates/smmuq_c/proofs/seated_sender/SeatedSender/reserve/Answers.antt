@@ -1,4 +1,4 @@
-use Rattle.std.proofs.Common.{◌≡◌, ◌∙◌}
+use Rattle.std.proofs.Common.{◌≡◌}
 use Rattle.smmuq_c.proofs.Sending.{lent, opened, unreserved}
 use Rattle.smmuq_c.proofs.seated_sender.SeatedSender.reserve.Goals as goal
 
