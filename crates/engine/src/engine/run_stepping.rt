@@ -22,6 +22,9 @@ use ringcore::MOST_RESERVED;
 
 /// Takes at most `most` commands, 1 to 64, with a unit and its consumer. If there is room for `most`, it tells what
 /// they complete and returns how much that is.
+///
+/// Inlined into both calls of the engine, so that neither pays for the other in time and stack.
+#[inline(always)]
 pub(crate) fn step_run_with(
     consumer: Consumer<Unit>,
     unit: &mut Unit,
