@@ -1,5 +1,5 @@
 -- What a call does to the object that a handle holds.
-use Rattle.std.specs.Prelude.{◌≡◌, ℕ, List, [], Option, None, Some, MatchOption}
+use Rattle.std.specs.Prelude.{◌≡◌, ℕ, [], Option, None, Some, MatchOption}
 use Rattle.ring.specs.sender.Senders.{SenderValue}
 use Rattle.ring.specs.consumer.Completing.{taken_of}
 use Rattle.engine.specs.Settled.{IsSettled}
@@ -10,9 +10,6 @@ use Rattle.engine.specs.QueueUnits.{remedy_until_then}
 use Rattle.engine.specs.Engines.{EngineValue, IsSettledEngine}
 use Rattle.smmuq_c.specs.HeldConsumers.{HeldConsumer}
 use Rattle.smmuq_c.specs.Registers.{HasAcknowledged, HasAcknowledgedQueue, error_words, queue_error_words, count_words}
-use Rattle.smmuq_c.specs.Runs.{HasRunCompletions}
-use Rattle.smmuq_c.specs.declared.words.RunWords.{RunWords}
-use Rattle.engine.specs.declared.completion.Completion.{Completion}
 use Rattle.smmuq_c.specs.Statuses.{number_of}
 use Rattle.smmuq_c.specs.declared.handle.Handle.{Handle}
 use Rattle.smmuq_c.specs.declared.status.Status.{Status}
@@ -49,9 +46,6 @@ OfSender does other new status = (new ≡ other) × (status ≡ WrongHandle)
 abbrev pub OfEngine : (EngineValue → EngineValue → Status → Type 0) → Object → Object → Status → Type 0
 OfEngine does (EngineOf old) new status = (after : EngineValue) × (new ≡ EngineOf after) × does old after status
 OfEngine does other new status = (new ≡ other) × (status ≡ WrongHandle)
-
-abbrev pub RunsTelling : ℕ → RunWords → List Completion → List Completion → ℕ → Object → Object → Status → Type 0
-RunsTelling most told before after count = OfEngine (HasRunCompletions most told before after count)
 
 abbrev pub OfConsumer : (HeldConsumer → HeldConsumer → Status → Type 0) → Object → Object → Status → Type 0
 OfConsumer does (ConsumerOf old) new status = (after : HeldConsumer) × (new ≡ ConsumerOf after) × does old after status

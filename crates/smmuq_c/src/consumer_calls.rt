@@ -1,7 +1,8 @@
 //! The exports of a consumer of the caller's own.
 ghost use Rattle.std.specs.Prelude.{◌≡◌, false};
 ghost use Rattle.smmuq_c.specs.Calls.{HasCalled, OfConsumer};
-ghost use Rattle.smmuq_c.specs.Taking.{HasTakenRun, HasCompletedFor};
+ghost use Rattle.smmuq_c.specs.Exports.{TakesRun};
+ghost use Rattle.smmuq_c.specs.Taking.{HasCompletedFor};
 ghost use Rattle.smmuq_c.specs.Kept.{is_consumer, KeptOfOthers};
 
 use crate::handle::Handle;
@@ -18,7 +19,7 @@ pub extern "C" fn smmuq_take_run(
     buffer: &mut [Raw],
     count: &mut usize,
 ) -> u32
-    ensures called { HasCalled (OfConsumer (HasTakenRun buffer.old buffer.new count.new)) consumer.old consumer.new result }
+    ensures called { HasCalled (TakesRun buffer.old buffer.new count.new) consumer.old consumer.new result }
     ensures buffer { KeptOfOthers is_consumer consumer.old.object buffer.old buffer.new }
     ensures count { KeptOfOthers is_consumer consumer.old.object count.old count.new }
 {
@@ -29,7 +30,7 @@ pub extern "C" fn smmuq_take_run(
 }
 
 fn take_run(object: &mut Object, buffer: &mut [Raw], count: &mut usize) -> Status
-    ensures called { OfConsumer (HasTakenRun buffer.old buffer.new count.new) object.old object.new result }
+    ensures called { TakesRun buffer.old buffer.new count.new object.old object.new result }
     ensures buffer { is_consumer object.old ≡ false → buffer.new ≡ buffer.old }
     ensures count { is_consumer object.old ≡ false → count.new ≡ count.old }
 {

@@ -1,6 +1,7 @@
 //! The exports of an engine.
 ghost use Rattle.std.specs.Prelude.{◌≡◌, false, Some};
-ghost use Rattle.smmuq_c.specs.Calls.{HasCalled, OfEngine, RunsTelling};
+ghost use Rattle.smmuq_c.specs.Calls.{HasCalled, OfEngine};
+ghost use Rattle.smmuq_c.specs.Exports.{RunsTelling};
 ghost use Rattle.smmuq_c.specs.Runs.{HasRunFor, HasToldRegisters};
 ghost use Rattle.smmuq_c.specs.Kept.{is_engine, IsKept, KeptOfOthers, KeptUnlessDone, KeptUnlessRun};
 
@@ -45,7 +46,8 @@ pub extern "C" fn smmuq_run_completions(
     buffer: &mut [Completion],
     count: &mut usize,
 ) -> u32
-    ensures called { HasCalled (RunsTelling most answer.new buffer.old buffer.new count.new) engine.old engine.new result }
+    ensures called { HasCalled (RunsTelling most answer.new buffer.old buffer.new count.new)
+        engine.old engine.new result }
     ensures answer { KeptUnlessRun engine.old.object buffer.old answer.old answer.new }
     ensures buffer { KeptUnlessRun engine.old.object buffer.old buffer.old buffer.new }
     ensures count { KeptUnlessRun engine.old.object buffer.old count.old count.new }
@@ -63,7 +65,8 @@ fn run_completions(
     buffer: &mut [Completion],
     count: &mut usize,
 ) -> Status
-    ensures called { RunsTelling most answer.new buffer.old buffer.new count.new object.old object.new result }
+    ensures called { RunsTelling most answer.new buffer.old buffer.new count.new
+        object.old object.new result }
     ensures answer { KeptUnlessRun (Some object.old) buffer.old answer.old answer.new }
     ensures buffer { KeptUnlessRun (Some object.old) buffer.old buffer.old buffer.new }
     ensures count { KeptUnlessRun (Some object.old) buffer.old count.old count.new }

@@ -1,7 +1,7 @@
 //! The exports of entries, of a unit or of an engine.
-ghost use Rattle.smmuq_c.specs.Calls.{HasCalled, OfAnyUnit, OfSaid};
-ghost use Rattle.smmuq_c.specs.Entries.{HasFilled, HasEvicted, HasLookedUp, HasCounted};
-ghost use Rattle.smmuq_c.specs.Tags.{IsTagOf};
+ghost use Rattle.smmuq_c.specs.Calls.{HasCalled, OfAnyUnit};
+ghost use Rattle.smmuq_c.specs.Entries.{HasCounted};
+ghost use Rattle.smmuq_c.specs.Exports.{Fills, LooksUp, Evicts};
 ghost use Rattle.smmuq_c.specs.Kept.{IsKept, KeptUnlessDone};
 
 use crate::answers::{fill_status, tell_entry};
@@ -15,7 +15,7 @@ use crate::words::Held;
 /// for `Caches::fill`.
 #[unsafe(no_mangle)]
 pub extern "C" fn smmuq_fill(handle: &mut Handle, tag: &TagWords, value: u64) -> u32
-    ensures { HasCalled (OfSaid (IsTagOf tag.now) (λ t. HasFilled t value)) handle.old handle.new result }
+    ensures { HasCalled (Fills tag.now value) handle.old handle.new result }
 {
     let Some(object) = handle.object_mut() else {
         return Status::EmptyHandle.number();
@@ -25,7 +25,7 @@ pub extern "C" fn smmuq_fill(handle: &mut Handle, tag: &TagWords, value: u64) ->
 }
 
 fn fill(object: &mut Object, tag: &TagWords, value: u64) -> Status
-    ensures { OfSaid (IsTagOf tag.now) (λ t. HasFilled t value) object.old object.new result }
+    ensures { Fills tag.now value object.old object.new result }
 {
     if !object.has_unit() {
         return Status::WrongHandle;
@@ -43,7 +43,7 @@ fn fill(object: &mut Object, tag: &TagWords, value: u64) -> Status
 /// Tells what a unit or an engine holds under a tag. `NOT_HELD` if it holds nothing, `BAD_FIELD` if the tag isn't one.
 #[unsafe(no_mangle)]
 pub extern "C" fn smmuq_lookup(handle: &mut Handle, tag: &TagWords, held: &mut Held) -> u32
-    ensures called { HasCalled (OfSaid (IsTagOf tag.now) (λ t. HasLookedUp t held.new)) handle.old handle.new result }
+    ensures called { HasCalled (LooksUp tag.now held.new) handle.old handle.new result }
     ensures kept { KeptUnlessDone result held.old held.new }
 {
     let Some(object) = handle.object_mut() else {
@@ -54,7 +54,7 @@ pub extern "C" fn smmuq_lookup(handle: &mut Handle, tag: &TagWords, held: &mut H
 }
 
 fn lookup(object: &Object, tag: &TagWords, held: &mut Held) -> Status
-    ensures called { OfSaid (IsTagOf tag.now) (λ t. HasLookedUp t held.new) object.now object.now result }
+    ensures called { LooksUp tag.now held.new object.now object.now result }
     ensures kept { IsKept result held.old held.new }
 {
     let Some(unit) = object.unit() else {
@@ -70,7 +70,7 @@ fn lookup(object: &Object, tag: &TagWords, held: &mut Held) -> Status
 /// tag isn't one.
 #[unsafe(no_mangle)]
 pub extern "C" fn smmuq_evict(handle: &mut Handle, tag: &TagWords, held: &mut Held) -> u32
-    ensures called { HasCalled (OfSaid (IsTagOf tag.now) (λ t. HasEvicted t held.new)) handle.old handle.new result }
+    ensures called { HasCalled (Evicts tag.now held.new) handle.old handle.new result }
     ensures kept { KeptUnlessDone result held.old held.new }
 {
     let Some(object) = handle.object_mut() else {
@@ -81,7 +81,7 @@ pub extern "C" fn smmuq_evict(handle: &mut Handle, tag: &TagWords, held: &mut He
 }
 
 fn evict(object: &mut Object, tag: &TagWords, held: &mut Held) -> Status
-    ensures called { OfSaid (IsTagOf tag.now) (λ t. HasEvicted t held.new) object.old object.new result }
+    ensures called { Evicts tag.now held.new object.old object.new result }
     ensures kept { IsKept result held.old held.new }
 {
     if !object.has_unit() {

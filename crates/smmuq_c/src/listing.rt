@@ -2,8 +2,9 @@
 ghost use Rattle.std.specs.Prelude.{◌≡◌, ◌*◌, ◌<◌, ◌≤◌, ◌^◌, ◌++◌, length, drop, map};
 ghost use Rattle.std.specs.FinMap as finite;
 ghost use Rattle.smmuq_c.specs.Batches.{IsGiven};
-ghost use Rattle.smmuq_c.specs.Calls.{HasCalled, OfAnyUnit};
-ghost use Rattle.smmuq_c.specs.Lists.{tag_words, listed, IsListed, HasListed, with_scope, with_substream};
+ghost use Rattle.smmuq_c.specs.Calls.{HasCalled};
+ghost use Rattle.smmuq_c.specs.Exports.{Lists};
+ghost use Rattle.smmuq_c.specs.Lists.{tag_words, listed, IsListed, with_scope, with_substream};
 ghost use Rattle.smmuq_c.specs.Kept.{CountKept, IsCountKept, IsKept, KeptUnlessDone};
 
 use crate::handle::Handle;
@@ -167,7 +168,7 @@ pub extern "C" fn smmuq_entries(
     buffer: &mut [EntryWords],
     count: &mut usize,
 ) -> u32
-    ensures called { HasCalled (OfAnyUnit (HasListed buffer.old buffer.new count.new)) handle.old handle.new result }
+    ensures called { HasCalled (Lists buffer.old buffer.new count.new) handle.old handle.new result }
     ensures buffer { KeptUnlessDone result buffer.old buffer.new }
     ensures count { CountKept result count.old count.new }
 {
@@ -178,7 +179,7 @@ pub extern "C" fn smmuq_entries(
 }
 
 fn list(object: &Object, buffer: &mut [EntryWords], count: &mut usize) -> Status
-    ensures called { OfAnyUnit (HasListed buffer.old buffer.new count.new) object.now object.now result }
+    ensures called { Lists buffer.old buffer.new count.new object.now object.now result }
     ensures buffer { IsKept result buffer.old buffer.new }
     ensures count { IsCountKept result count.old count.new }
 {

@@ -70,7 +70,8 @@ impl SeatedEngine {
         completions: &mut [Completion],
         count: &mut usize,
     ) -> Status
-        ensures ran { HasRunCompletions most told.new completions.old completions.new count.new self.old self.new result }
+        ensures ran { HasRunCompletions most told.new completions.old completions.new count.new
+            self.old self.new result }
         ensures told { length completions.old ≡ 0 → told.new ≡ told.old }
         ensures completions { length completions.old ≡ 0 → completions.new ≡ completions.old }
         ensures count { length completions.old ≡ 0 → count.new ≡ count.old }

@@ -1,6 +1,7 @@
 //! The exports of a sender.
 ghost use Rattle.smmuq_c.specs.Calls.{HasCalled, OfSender};
-ghost use Rattle.smmuq_c.specs.Sends.{HasSent, HasSentBare, HasTold, HasToldLeft, HasClosed, HasLookedFor};
+ghost use Rattle.smmuq_c.specs.Exports.{Sends};
+ghost use Rattle.smmuq_c.specs.Sends.{HasSentBare, HasTold, HasToldLeft, HasClosed, HasLookedFor};
 ghost use Rattle.smmuq_c.specs.Kept.{IsKept, KeptUnlessDone};
 
 use crate::handle::Handle;
@@ -19,7 +20,7 @@ pub extern "C" fn smmuq_send(
     tries: u32,
     number: &mut u32,
 ) -> u32
-    ensures called { HasCalled (OfSender (HasSent commands.now tries number.new)) sender.old sender.new result }
+    ensures called { HasCalled (Sends commands.now tries number.new) sender.old sender.new result }
     ensures kept { KeptUnlessDone result number.old number.new }
 {
     let Some(object) = sender.object_mut() else {
@@ -29,7 +30,7 @@ pub extern "C" fn smmuq_send(
 }
 
 fn send(object: &mut Object, commands: &[Raw], tries: u32, number: &mut u32) -> Status
-    ensures called { OfSender (HasSent commands.now tries number.new) object.old object.new result }
+    ensures called { Sends commands.now tries number.new object.old object.new result }
     ensures kept { IsKept result number.old number.new }
 {
     match object {

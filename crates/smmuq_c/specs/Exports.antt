@@ -1,0 +1,47 @@
+-- What calls on a handle do, a word each.
+use Rattle.std.specs.Prelude.{ℕ, List}
+use Rattle.cmdcodec.specs.declared.raw.Raw.{Raw}
+use Rattle.engine.specs.declared.completion.Completion.{Completion}
+use Rattle.smmuq_c.specs.declared.listing.EntryWords.{EntryWords}
+use Rattle.smmuq_c.specs.declared.object.Object.{Object}
+use Rattle.smmuq_c.specs.declared.status.Status.{Status}
+use Rattle.smmuq_c.specs.declared.tags.TagWords.{TagWords}
+use Rattle.smmuq_c.specs.declared.words.Held.{Held}
+use Rattle.smmuq_c.specs.declared.words.RunWords.{RunWords}
+use Rattle.smmuq_c.specs.declared.words.VerdictWords.{VerdictWords}
+use Rattle.smmuq_c.specs.Calls.{OfUnit, OfSender, OfEngine, OfConsumer, OfAnyUnit, OfSaid}
+use Rattle.smmuq_c.specs.Entries.{HasFilled, HasLookedUp, HasEvicted}
+use Rattle.smmuq_c.specs.Judging.{HasJudgedFor}
+use Rattle.smmuq_c.specs.Lists.{HasListed}
+use Rattle.smmuq_c.specs.Runs.{HasRunCompletions}
+use Rattle.smmuq_c.specs.Sends.{HasSent}
+use Rattle.smmuq_c.specs.Tags.{IsTagOf}
+use Rattle.smmuq_c.specs.Taking.{HasTakenRun}
+
+-- ---- a unit or an engine, by the tag that the words say
+
+abbrev pub Fills : TagWords → ℕ → Object → Object → Status → Type 0
+Fills tag value = OfSaid (IsTagOf tag) (λ t. HasFilled t value)
+
+abbrev pub LooksUp : TagWords → Held → Object → Object → Status → Type 0
+LooksUp tag held = OfSaid (IsTagOf tag) (λ t. HasLookedUp t held)
+
+abbrev pub Evicts : TagWords → Held → Object → Object → Status → Type 0
+Evicts tag held = OfSaid (IsTagOf tag) (λ t. HasEvicted t held)
+
+abbrev pub Lists : List EntryWords → List EntryWords → ℕ → Object → Object → Status → Type 0
+Lists before after count = OfAnyUnit (HasListed before after count)
+
+-- ---- objects of one kind
+
+abbrev pub Judges : ℕ → ℕ → VerdictWords → Object → Object → Status → Type 0
+Judges lo hi verdict = OfUnit (HasJudgedFor (record { lo = lo; hi = hi }) verdict)
+
+abbrev pub Sends : List Raw → ℕ → ℕ → Object → Object → Status → Type 0
+Sends commands tries number = OfSender (HasSent commands tries number)
+
+abbrev pub RunsTelling : ℕ → RunWords → List Completion → List Completion → ℕ → Object → Object → Status → Type 0
+RunsTelling most told before after count = OfEngine (HasRunCompletions most told before after count)
+
+abbrev pub TakesRun : List Raw → List Raw → ℕ → Object → Object → Status → Type 0
+TakesRun before after count = OfConsumer (HasTakenRun before after count)
