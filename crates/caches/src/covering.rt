@@ -186,7 +186,7 @@ fn covers_atc(command: &Command, sid: Sid, ssid: Option<Ssid>, page: Page, span:
 ///
 /// Inlined into both walks, since each asks it of every entry that it meets.
 #[inline(always)]
-pub(crate) fn covers(command: &Command, tag: &Tag) -> bool
+pub fn covers(command: &Command, tag: &Tag) -> bool
     requires { IsBlock tag.now }
     ensures { result ≡ covers command.now tag.now }
 {

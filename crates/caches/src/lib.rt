@@ -48,6 +48,7 @@ mod walk;
 
 pub use address_space::AddressSpace;
 pub use caches::{Caches, MOST_ENTRIES};
+pub use covering::covers;
 pub use fault::CacheFault;
 pub use kinds::Kinds;
 pub use laws::{

@@ -142,7 +142,7 @@ impl Tag {
 
     /// Whether its block, if any, is well formed: at most `2^52` pages, starting at a multiple of its length,
     /// and for stage 2 within the first `2^40` intermediate physical pages.
-    pub(crate) fn is_block(&self) -> bool
+    pub fn is_block(&self) -> bool
         ensures { IsTrue result ↔ IsBlock self.now }
     {
         match *self {

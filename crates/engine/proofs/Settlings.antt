@@ -5,6 +5,7 @@ use Rattle.std.specs.Ordering.{eq_by_cmp}
 use Rattle.std.specs.FinMap as finite
 use Rattle.std.specs.FinMap.{get-empty, get-insert, get-remove, get-retain_keys}
 use Rattle.std.proofs.lemmas.Option.{slice_get_within}
+use Rattle.std.proofs.lemmas.Map.Views.{tells_apart}
 use Rattle.cmdcodec.specs.declared.raw.Raw.{Raw}
 use Rattle.cmdcodec.specs.declared.command.Command.{Command}
 use Rattle.cmdcodec.specs.Spelling.{Spells}
@@ -58,6 +59,15 @@ settled_fill entries taken entry born s u e is =
     ⊎_elim
     (λ (own : (eq_by_cmp tag_cmp u entry.tag ≡ true) × (Some entry ≡ Some e)).
     subst (λ (x : Entry). IsSettledEntry taken u x) (same_entry entry e own.1) (settled_new taken u entry born))
+    (λ (old : finite.get entries u ≡ Some e). s u e old)
+    (at_changed (eq_by_cmp tag_cmp u entry.tag) (Some entry) (finite.get entries u) e (sym (get-insert tag_cmp_total entries entry.tag entry u) ∙ is))
+
+pub settled_born : (entries : Entries) (taken : List Taken) (entry : Entry) → IsSettledEntry taken entry.tag entry → IsSettled entries taken
+    → IsSettled (finite.insert entries entry.tag entry) taken
+settled_born entries taken entry own_is s u e is =
+    ⊎_elim
+    (λ (own : (eq_by_cmp tag_cmp u entry.tag ≡ true) × (Some entry ≡ Some e)).
+    subst (λ (p : Tag × Entry). IsSettledEntry taken p.0 p.1) (λ k. (sym (tells_apart tag_cmp_exact u entry.tag own.0) k, same_entry entry e own.1 k)) own_is)
     (λ (old : finite.get entries u ≡ Some e). s u e old)
     (at_changed (eq_by_cmp tag_cmp u entry.tag) (Some entry) (finite.get entries u) e (sym (get-insert tag_cmp_total entries entry.tag entry u) ∙ is))
 

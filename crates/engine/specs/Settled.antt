@@ -25,3 +25,7 @@ pub record IsSettledEntry (taken : List Taken) (tag : Tag) (entry : Entry) : Typ
 
 abbrev pub IsSettled : Entries → List Taken → Type 0
 IsSettled entries taken = (tag : Tag) (entry : Entry) → finite.get entries tag ≡ Some entry → IsSettledEntry taken tag entry
+
+-- An entry was put in: for each list of commands taken for which it is settled, the entries stay settled.
+abbrev pub StaysSettledWith : Entry → Entries → Entries → Type 0
+StaysSettledWith entry old new = (taken : List Taken) → IsSettledEntry taken entry.tag entry → IsSettled old taken → IsSettled new taken

@@ -44,9 +44,13 @@ emptied caches = record caches { entries = held [] }
 abbrev pub with_entries : UnitValue → Entries → UnitValue
 with_entries u entries = record u { caches = record u.caches { entries = entries } }
 
+-- the entries with this one under its tag
+abbrev pub with_entry : Entry → UnitValue → Entries
+with_entry entry u = finite.insert u.caches.entries entry.tag entry
+
 -- the entries with a new one that is born now
 abbrev pub filled : Tag → ℕ → UnitValue → Entries
-filled tag value u = finite.insert u.caches.entries tag (record { tag = tag; value = value; born = taken u.counts })
+filled tag value u = with_entry (record { tag = tag; value = value; born = taken u.counts }) u
 
 -- The entries whose tags pass, `count` of them, are gone, and nothing else changed.
 pub record HasLost (passes : Tag → Bool) (count : ℕ) (old new : UnitValue) : Type 0 where

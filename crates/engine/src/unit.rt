@@ -9,10 +9,10 @@ ghost use Rattle.ringcore.specs.world.World.{Taken};
 ghost use Rattle.caches.specs.Finding.{IsFound, IsHeldIn};
 ghost use Rattle.caches.specs.Held.{held, AreOwn};
 ghost use Rattle.caches.specs.Stored.{IsFillAnswer, IsListAnswer};
-ghost use Rattle.engine.specs.Settled.{IsSettled};
+ghost use Rattle.engine.specs.Settled.{IsSettled, StaysSettledWith};
 ghost use Rattle.engine.specs.Stops.{IsStopped, MayComeNext, IsAcknowledgementAnswer, IsActive, told, err_of, word_of};
 ghost use Rattle.engine.specs.Counting.{taken};
-ghost use Rattle.engine.specs.Units.{HasJudged, HasJudgedWords, HasReplacedAwaited, HasLost, HasLostOlder, StaysSettled, IsSettledUnit, IsLegal, IsApplied, took, took_words, took_awaited, new_unit, emptied, filled, with_entries};
+ghost use Rattle.engine.specs.Units.{HasJudged, HasJudgedWords, HasReplacedAwaited, HasLost, HasLostOlder, StaysSettled, IsSettledUnit, IsLegal, IsApplied, took, took_words, took_awaited, new_unit, emptied, filled, with_entry, with_entries};
 
 use crate::counts::Counts;
 use crate::remedy::{AckFault, Remedy};
@@ -278,6 +278,20 @@ impl Unit {
     {
         let born = self.counts.taken();
         self.caches.fill(Entry { tag, value, born })
+    }
+
+    /// Puts in an entry that says itself after how many commands it was born, and returns the one held under its tag
+    /// before, if any. The entries stay settled for each list of commands taken for which this one is; that is for the
+    /// caller to show.
+    ///
+    /// Errors: those of `fill`.
+    pub fn fill_born(&mut self, entry: Entry) -> Result<Option<Entry>, CacheFault>
+        ensures answer { IsFillAnswer self.old.caches entry.tag result }
+        ensures ok { OnOk result (self.new ≡ with_entries self.old (with_entry entry self.old)) }
+        ensures err { OnErr result (self.new ≡ self.old) }
+        ensures settled { StaysSettledWith entry self.old.caches.entries self.new.caches.entries }
+    {
+        self.caches.fill(entry)
     }
 
     /// Removes and returns the entry held under `tag`, if any.
