@@ -1,5 +1,5 @@
 -- The kinds of what is held, and sets of them.
-use Rattle.std.specs.Prelude.{Bool, true, false}
+use Rattle.std.specs.Prelude.{◌≡◌, ◌<◌, ◌/◌, ◌%◌, ◌^◌, ◌==◌, ℕ, Bool, true, false, Option, None, Some}
 use Rattle.caches.specs.declared.tag.Tag.{Tag}
 use Rattle.caches.specs.declared.tag.Tag.TheVariants as tag
 use Rattle.caches.specs.declared.kinds.Kinds.{Kinds}
@@ -35,3 +35,22 @@ has_kind kinds Atc = kinds.atc
 -- the tag's kind is in the set
 abbrev pub is_of_kinds : Kinds → Tag → Bool
 is_of_kinds kinds tag = has_kind kinds (kind_of tag)
+
+-- ---- sets of kinds as bits
+
+-- the bit of a kind: its place in the list of all kinds, from 0
+abbrev pub bit_of : Kind → ℕ
+bit_of Ste = 0
+bit_of Cd = 1
+bit_of S1 = 2
+bit_of S2 = 3
+bit_of El2 = 4
+bit_of Atc = 5
+
+abbrev pub has_bit : ℕ → ℕ → Bool
+has_bit bits n = bits / 2 ^ n % 2 == 1
+
+-- The set has the kinds whose bits are set, and no other bit is.
+abbrev pub AreKindsOf : ℕ → Option Kinds → Type 0
+AreKindsOf bits None = ¬ (bits < 2 ^ 6)
+AreKindsOf bits (Some kinds) = (bits < 2 ^ 6) × ((kind : Kind) → has_kind kinds kind ≡ has_bit bits (bit_of kind))

@@ -67,6 +67,7 @@ impl Caches {
     }
 
     /// Returns the entry held under `tag`, if any.
+    #[inline(always)]
     pub fn lookup(&self, tag: &Tag) -> Option<Entry>
         ensures value { result ≡ finite.get self.now.entries tag.now }
         ensures own { IfSome result (λ entry. entry.tag ≡ tag.now) }

@@ -92,6 +92,7 @@ impl EntryMap {
     }
 
     /// Returns the entry under a tag, if there is one.
+    #[inline(always)]
     pub(crate) fn get(&self, tag: &Tag) -> Option<Entry>
         ensures value { result ≡ finite.get self.now tag.now }
         ensures own { IfSome result (λ entry. entry.tag ≡ tag.now) }

@@ -63,6 +63,9 @@ impl IndexedMap {
     }
 
     /// Returns the entry under a tag, if there is one.
+    ///
+    /// Inlined up to whoever looks up, as are the calls above it: who reads only the value needs no copy of the tag.
+    #[inline(always)]
     pub(crate) fn get(&self, tag: &Tag) -> Option<Entry>
         ensures { result ≡ tree.get ⟦<Rank as Ord>⟧.cmp self.now.ordered (key_of tag.now) }
     {

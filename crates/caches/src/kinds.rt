@@ -1,6 +1,6 @@
 //! Sets of kinds, by which entries are evicted together.
 ghost use Rattle.std.specs.Prelude.{◌≡◌, ◌≢◌, true, false};
-ghost use Rattle.caches.specs.Kinds.{has_kind, kind_of};
+ghost use Rattle.caches.specs.Kinds.{has_kind, kind_of, AreKindsOf};
 
 use crate::tag::Tag;
 use crate::tag_test::{Kind, TagTest};
@@ -36,6 +36,24 @@ impl Kinds {
         el2: true,
         atc: true,
     };
+
+    /// Returns the set that these bits say: bit 0 for `Kind::Ste`, and so on to bit 5 for `Kind::Atc`, or `None` if a
+    /// higher bit is set.
+    pub fn from_bits(bits: u32) -> Option<Kinds>
+        ensures { AreKindsOf bits result }
+    {
+        if bits >= 1 << 6 {
+            return None;
+        }
+        Some(Kinds {
+            ste: bits % 2 == 1,
+            cd: (bits >> 1) % 2 == 1,
+            s1: (bits >> 2) % 2 == 1,
+            s2: (bits >> 3) % 2 == 1,
+            el2: (bits >> 4) % 2 == 1,
+            atc: (bits >> 5) % 2 == 1,
+        })
+    }
 
     /// Returns the set with this kind too.
     pub fn with(self, kind: Kind) -> Kinds

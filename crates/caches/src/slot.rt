@@ -29,6 +29,7 @@ pub(crate) enum Slot {
 
 impl Noted {
     /// Returns the entry if it is that of this rank, which is the tag's.
+    #[inline(always)]
     pub(crate) fn entry_at(&self, rank: Rank, tag: Tag) -> Option<Entry>
         requires { tag ≡ tag_of rank }
         ensures { result ≡ cond (eq_by_cmp ⟦<Rank as Ord>⟧.cmp self.now.rank rank) (Some (entry_of self.now)) None }

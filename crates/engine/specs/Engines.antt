@@ -43,7 +43,18 @@ pub record AreTogether (consumer : ConsumerValue UnitValue) (unit : UnitValue) :
 abbrev pub IsSettledEngine : EngineValue → Type 0
 IsSettledEngine engine = IsSettled engine.unit.caches.entries (taken_of engine.consumer.trail)
 
+-- The run that its consumer knows grew by the steps that its trail did.
+abbrev pub HasGrown : EngineValue → EngineValue → Type 0
+HasGrown old new = Grew Consumer old.consumer.trail new.consumer.trail old.consumer.history new.consumer.history
+
+-- It isn't stopped, and has taken as many commands as a ring ever has.
+abbrev pub IsExhausted : UnitValue → Type 0
+IsExhausted unit = ¬ IsStopped unit.stop.mode × (taken unit.counts ≡ most_reserved)
+
 -- ---- an engine lends its consumer to each step and then has it back
+
+abbrev pub engine_of : ConsumerValue UnitValue → UnitValue → EngineValue
+engine_of consumer unit = record { consumer = consumer; unit = unit }
 
 abbrev pub nobody : ConsumerValue UnitValue
 nobody = record {

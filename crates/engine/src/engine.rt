@@ -2,20 +2,19 @@
 ghost use Rattle.std.specs.Prelude.{◌≡◌, ◌≤◌, ◌↔◌, [], length, IfSome, IsTrue, OnOk, OnErr};
 ghost use Rattle.std.specs.FinMap as finite;
 ghost use Rattle.qindex.specs.ControlWord.{IsControl};
-ghost use Rattle.ringcore.specs.Limits.{most_reserved};
 ghost use Rattle.ringcore.specs.declared.world.event.Who.TheVariants.{Consumer as ConsumerOf, Sender as SenderOf};
 ghost use Rattle.ringcore.specs.world.World.{world};
 ghost use Rattle.caches.specs.Held.{held};
 ghost use Rattle.caches.specs.Stored.{IsFillAnswer, IsListAnswer};
 ghost use Rattle.ring.specs.table.Rule.{WentOn};
-ghost use Rattle.ring.specs.table.Histories.{IsHistory, Grew};
+ghost use Rattle.ring.specs.table.Histories.{IsHistory};
 ghost use Rattle.ring.specs.Finishing.{AreAll};
 ghost use Rattle.ring.specs.consumer.Completing.{taken_of};
 ghost use Rattle.engine.specs.Settled.{IsSettled};
 ghost use Rattle.engine.specs.Stops.{IsStopped, IsAcknowledgementAnswer, told, err_of, word_of};
 ghost use Rattle.engine.specs.Counting.{taken, AreCountsOf};
 ghost use Rattle.engine.specs.Units.{HasLost, HasLostOlder, new_unit, filled, with_entries, OnlyRemoves};
-ghost use Rattle.engine.specs.Engines.{HasStepped, HasRun, HasLooked, IsSettledEngine, control_after};
+ghost use Rattle.engine.specs.Engines.{HasGrown, HasStepped, HasRun, HasLooked, IsExhausted, IsSettledEngine, control_after};
 ghost use Rattle.engine.specs.Completions.{HasTold};
 ghost use Rattle.engine.specs.Ends.{WasToldAllTruly, IsEngineEnd};
 
@@ -77,9 +76,9 @@ impl Engine {
     pub fn step(&mut self, ring: &Ring) -> StepAnswer
         requires { self.old.consumer.ring ≡ ring.now }
         ensures stepped { HasStepped self.old self.new result }
-        ensures history { Grew ConsumerOf self.old.consumer.trail self.new.consumer.trail self.old.consumer.history self.new.consumer.history }
+        ensures history { HasGrown self.old self.new }
         ensures still { (result ≡ StepAnswer.StillStopped) ↔ IsStopped self.old.unit.stop.mode }
-        ensures exhausted { (result ≡ StepAnswer.Exhausted) ↔ (¬ IsStopped self.old.unit.stop.mode × (taken self.old.unit.counts ≡ most_reserved)) }
+        ensures exhausted { (result ≡ StepAnswer.Exhausted) ↔ IsExhausted self.old.unit }
         ensures settled { IsSettledEngine self.new }
         ensures removes { OnlyRemoves self.old.unit self.new.unit }
         ensures ring { self.new.consumer.ring ≡ self.old.consumer.ring }
@@ -97,9 +96,9 @@ impl Engine {
         requires some { 1 ≤ most }
         requires most { most ≤ 64 }
         ensures stepped { HasRun most self.old self.new result }
-        ensures history { Grew ConsumerOf self.old.consumer.trail self.new.consumer.trail self.old.consumer.history self.new.consumer.history }
+        ensures history { HasGrown self.old self.new }
         ensures still { (result ≡ RunAnswer.StillStopped) ↔ IsStopped self.old.unit.stop.mode }
-        ensures exhausted { (result ≡ RunAnswer.Exhausted) ↔ (¬ IsStopped self.old.unit.stop.mode × (taken self.old.unit.counts ≡ most_reserved)) }
+        ensures exhausted { (result ≡ RunAnswer.Exhausted) ↔ IsExhausted self.old.unit }
         ensures settled { IsSettledEngine self.new }
         ensures removes { OnlyRemoves self.old.unit self.new.unit }
         ensures ring { self.new.consumer.ring ≡ self.old.consumer.ring }
@@ -125,9 +124,9 @@ impl Engine {
         requires room { most ≤ length completions.old }
         ensures stepped { HasRun most self.old self.new result.0 }
         ensures told { HasTold most self.old self.new result completions.old completions.new }
-        ensures history { Grew ConsumerOf self.old.consumer.trail self.new.consumer.trail self.old.consumer.history self.new.consumer.history }
+        ensures history { HasGrown self.old self.new }
         ensures still { (result.0 ≡ RunAnswer.StillStopped) ↔ IsStopped self.old.unit.stop.mode }
-        ensures exhausted { (result.0 ≡ RunAnswer.Exhausted) ↔ (¬ IsStopped self.old.unit.stop.mode × (taken self.old.unit.counts ≡ most_reserved)) }
+        ensures exhausted { (result.0 ≡ RunAnswer.Exhausted) ↔ IsExhausted self.old.unit }
         ensures settled { IsSettledEngine self.new }
         ensures removes { OnlyRemoves self.old.unit self.new.unit }
         ensures ring { self.new.consumer.ring ≡ self.old.consumer.ring }

@@ -321,6 +321,7 @@ impl Unit {
     }
 
     /// Returns the entry held under `tag`, if any.
+    #[inline(always)]
     pub fn lookup(&self, tag: &Tag) -> Option<Entry>
         ensures value { result ≡ finite.get self.now.caches.entries tag.now }
         ensures own { IfSome result (λ entry. entry.tag ≡ tag.now) }

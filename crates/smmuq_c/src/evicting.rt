@@ -1,45 +1,14 @@
 //! Evicting entries by their kinds, their stream, their virtual machine or their age, and the exports that do it.
 ghost use Rattle.std.specs.Prelude.{◌≡◌};
 ghost use Rattle.smmuq_c.specs.Calls.{HasCalled, OfAnyUnit};
-ghost use Rattle.smmuq_c.specs.Evicting.{AreKindsOf, IsMachineOf, HasEvictedAll, EvictsKinds, EvictsStream, EvictsMachine, EvictsOlder};
+ghost use Rattle.smmuq_c.specs.Evicting.{IsMachineOf, HasEvictedAll, EvictsKinds, EvictsStream, EvictsMachine, EvictsOlder};
 ghost use Rattle.smmuq_c.specs.Kept.{IsKept, KeptUnlessDone};
 
 use crate::handle::Handle;
 use crate::object::Object;
 use crate::status::Status;
-use crate::tags::TagWords;
-use caches::{OfMachine, OfStream, Tag, TagTest};
+use caches::{Kinds, OfMachine, OfStream, TagTest};
 use cmdcodec::{Sid, Vmid};
-
-/// Kinds of tags: bit `kind - 1` of the mask for each.
-#[derive(Clone, Copy)]
-pub(crate) struct Kinds {
-    mask: u32,
-}
-
-impl Kinds {
-    /// Returns the kinds of a mask, or None if it has another bit.
-    fn of(mask: u32) -> Option<Kinds>
-        ensures { AreKindsOf mask result }
-    {
-        if mask < 1 << 6 {
-            Some(Kinds { mask })
-        } else {
-            None
-        }
-    }
-}
-
-impl TagTest for Kinds {
-    ghost use Rattle.smmuq_c.specs.Evicting.{has_kind};
-
-    ghost passing = { has_kind };
-
-    fn passes(&self, tag: &Tag) -> bool {
-        let kind = TagWords::of(tag).kind;
-        (self.mask >> (kind - 1)) % 2 == 1
-    }
-}
 
 /// Evicts all entries of a unit or an engine whose tags are of some kinds, and tells how many they were. Bit `kind - 1`
 /// of `kinds` stands for each of the kinds 1 to 6: 0x3f evicts all entries, 0 none. `BAD_FIELD` if another bit is set:
@@ -62,7 +31,7 @@ fn evict_kinds(object: &mut Object, kinds: u32, count: &mut usize) -> Status
     if !object.has_unit() {
         return Status::WrongHandle;
     }
-    let Some(kinds) = Kinds::of(kinds) else {
+    let Some(kinds) = Kinds::from_bits(kinds) else {
         return Status::BadField;
     };
     evict_passing(object, &kinds, count)

@@ -3,14 +3,11 @@ ghost use Rattle.std.specs.Prelude.{◌≡◌, ◌≤◌, ◌↔◌, length, tak
 ghost use Rattle.cmdcodec.specs.declared.raw.Raw.{Raw as RawOf};
 ghost use Rattle.cmdcodec.specs.declared.ill.Ill.{Ill as IllOf};
 ghost use Rattle.cmdcodec.specs.Legality.{first_ill};
-ghost use Rattle.ringcore.specs.Limits.{most_reserved};
-ghost use Rattle.ringcore.specs.declared.world.event.Who.TheVariants.{Consumer as ConsumerOf};
-ghost use Rattle.ring.specs.table.Histories.{Grew};
 ghost use Rattle.ring.specs.consumer.Completing.{taken_of};
 ghost use Rattle.engine.specs.Stops.{IsStopped, MayComeNext};
 ghost use Rattle.engine.specs.Counting.{taken};
 ghost use Rattle.engine.specs.Units.{AreApplied, OnlyRemoves};
-ghost use Rattle.engine.specs.Engines.{AreTogether, HasRun};
+ghost use Rattle.engine.specs.Engines.{AreTogether, HasGrown, HasRun, IsExhausted, engine_of};
 ghost use Rattle.engine.specs.Completions.{AreTold, HasTold};
 
 use crate::answer::RunAnswer;
@@ -36,11 +33,13 @@ pub(crate) fn step_run_with(
     requires together { AreTogether consumer unit.old }
     requires some { 1 ≤ most }
     requires most { most ≤ 64 }
-    ensures stepped { HasRun most (record { consumer = consumer; unit = unit.old }) (record { consumer = result.0; unit = unit.new }) result.1 }
-    ensures told { most ≤ length completions.old → HasTold most (record { consumer = consumer; unit = unit.old }) (record { consumer = result.0; unit = unit.new }) (result.1, result.2) completions.old completions.new }
-    ensures history { Grew ConsumerOf consumer.trail result.0.trail consumer.history result.0.history }
+    ensures stepped { HasRun most (engine_of consumer unit.old) (engine_of result.0 unit.new) result.1 }
+    ensures told { most ≤ length completions.old
+        → HasTold most (engine_of consumer unit.old) (engine_of result.0 unit.new)
+            (result.1, result.2) completions.old completions.new }
+    ensures history { HasGrown (engine_of consumer unit.old) (engine_of result.0 unit.new) }
     ensures still { (result.1 ≡ RunAnswer.StillStopped) ↔ IsStopped unit.old.stop.mode }
-    ensures exhausted { (result.1 ≡ RunAnswer.Exhausted) ↔ (¬ IsStopped unit.old.stop.mode × (taken unit.old.counts ≡ most_reserved)) }
+    ensures exhausted { (result.1 ≡ RunAnswer.Exhausted) ↔ IsExhausted unit.old }
     ensures together { AreTogether result.0 unit.new }
     ensures removes { OnlyRemoves unit.old unit.new }
     ensures ring { result.0.ring ≡ consumer.ring }
@@ -100,7 +99,8 @@ fn apply_legal(run: &PendingRun<Unit>, unit: &mut Unit) -> (u32, u32)
 /// that many commands, and returns how many it wrote.
 fn tell_completions(run: &PendingRun<Unit>, count: u32, completions: &mut [Completion]) -> usize
     requires { count ≤ length run.now.raws }
-    ensures { count ≤ length completions.old → AreTold (take count run.now.raws) completions.old completions.new result }
+    ensures { count ≤ length completions.old
+        → AreTold (take count run.now.raws) completions.old completions.new result }
 {
     let mut many = 0;
     if completions.is_empty() {

@@ -1,12 +1,8 @@
 //! A step of one command.
 ghost use Rattle.std.specs.Prelude.{◌≡◌, ◌↔◌};
-ghost use Rattle.ringcore.specs.Limits.{most_reserved};
-ghost use Rattle.ringcore.specs.declared.world.event.Who.TheVariants.{Consumer as ConsumerOf};
-ghost use Rattle.ring.specs.table.Histories.{Grew};
 ghost use Rattle.engine.specs.Stops.{IsStopped};
-ghost use Rattle.engine.specs.Counting.{taken};
 ghost use Rattle.engine.specs.Units.{OnlyRemoves};
-ghost use Rattle.engine.specs.Engines.{AreTogether, HasStepped};
+ghost use Rattle.engine.specs.Engines.{AreTogether, HasGrown, HasStepped, IsExhausted, engine_of};
 
 use crate::answer::StepAnswer;
 use crate::unit::Unit;
@@ -22,10 +18,10 @@ pub fn step_with(
 ) -> (Consumer<Unit>, StepAnswer)
     requires ring { consumer.ring ≡ ring.now }
     requires together { AreTogether consumer unit.old }
-    ensures stepped { HasStepped (record { consumer = consumer; unit = unit.old }) (record { consumer = result.0; unit = unit.new }) result.1 }
-    ensures history { Grew ConsumerOf consumer.trail result.0.trail consumer.history result.0.history }
+    ensures stepped { HasStepped (engine_of consumer unit.old) (engine_of result.0 unit.new) result.1 }
+    ensures history { HasGrown (engine_of consumer unit.old) (engine_of result.0 unit.new) }
     ensures still { (result.1 ≡ StepAnswer.StillStopped) ↔ IsStopped unit.old.stop.mode }
-    ensures exhausted { (result.1 ≡ StepAnswer.Exhausted) ↔ (¬ IsStopped unit.old.stop.mode × (taken unit.old.counts ≡ most_reserved)) }
+    ensures exhausted { (result.1 ≡ StepAnswer.Exhausted) ↔ IsExhausted unit.old }
     ensures together { AreTogether result.0 unit.new }
     ensures removes { OnlyRemoves unit.old unit.new }
     ensures ring { result.0.ring ≡ consumer.ring }
