@@ -1,2 +1,3 @@
 pub mod Acknowledging
 pub mod Reads
+pub mod Outcomes

@@ -13,8 +13,10 @@ mod commands;
 mod consumer_port;
 mod lent;
 mod pending;
+mod pending_consumer;
 mod pending_run;
 mod taken;
+mod uncompleted;
 
 use crate::device::Device;
 use crate::ring::Ring;
@@ -25,11 +27,13 @@ pub use commands::Commands;
 pub use consumer_port::ConsumerPort;
 pub use lent::Lent;
 pub use pending::Pending;
+pub use pending_consumer::PendingConsumer;
 pub use pending_run::PendingRun;
 use qindex::Control;
 use ringcore::world_law;
 use std::marker::Model;
-pub use taken::{Taken, TakenRun};
+pub use taken::{Found, Taken, TakenRun};
+pub use uncompleted::Uncompleted;
 
 /// Takes a ring's commands, in the order of their reservation, for a device of type `D`.
 #[derive(Drop)]
