@@ -1,12 +1,13 @@
 //! The consumer, who takes commands.
 ghost use Rattle.std.specs.Prelude.{◌≡◌, ◌∷◌, ◌≤◌, length, []};
-ghost use Rattle.ring.specs.Runs.{Raw as RawOf, Look, Consumer as ConsumerOf, Sender as SenderOf, taken_by, found_ready, world, control as control_of};
+ghost use Rattle.ring.specs.Runs.{Raw as RawOf, Look, Consumer as ConsumerOf, Sender as SenderOf, raws_by, taken_by, found_ready, world, control as control_of};
 ghost use Rattle.qindex.specs.Positions.{size};
 ghost use Rattle.qindex.specs.ControlWord.{IsControl};
 ghost use Rattle.ringcore.specs.Limits.{most_reserved};
 ghost use Rattle.ring.specs.table.{StandsInARun, WentOn, IsHistory, GrewBy, SitsFor};
 ghost use Rattle.ring.specs.Finishing.{WasToldAll};
 ghost use Rattle.ring.specs.consumer.Pendings.{HasSeen, HasReadRun, reads_from};
+ghost use Rattle.ring.specs.consumer.Completing.{AreClosingSyncs};
 ghost use Rattle.ring.specs.consumer.Taking.{HasTaken, HasTakenRun, IsReadyWith, BeginsWith, IsOfRing, RunIsOfRing};
 
 mod commands;
@@ -60,6 +61,13 @@ impl<D: Device> Consumer<D> {
         ensures history { IsHistory self.now.ring.made_with ConsumerOf self.now.trail self.now.history }
     {
         self.port.port.trail_stands_in_a_run();
+    }
+
+    /// A witness that each CMD_SYNC that it took is the closing CMD_SYNC of a sender. It does nothing.
+    pub fn syncs_are_closing(&self)
+        ensures { AreClosingSyncs (raws_by self.now.trail) }
+    {
+        self.port.syncs_are_closing();
     }
 
     pub(crate) fn into_seat(self) -> Seat<(), Participants>
