@@ -1,2 +1,4 @@
 pub mod Acknowledging
 pub mod Reads
+pub mod Outcomes
+pub mod ClosingSyncs

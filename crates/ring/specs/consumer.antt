@@ -4,8 +4,10 @@ pub mod Consumers
 pub mod Pendings
 pub mod Taking
 pub mod Completing
+pub mod PendingConsumers
 pub use Lending.*
 pub use Consumers.*
 pub use Pendings.*
 pub use Taking.*
 pub use Completing.*
+pub use PendingConsumers.*

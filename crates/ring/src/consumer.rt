@@ -1,20 +1,23 @@
 //! The consumer, who takes commands.
 ghost use Rattle.std.specs.Prelude.{◌≡◌, ◌∷◌, ◌≤◌, length, []};
-ghost use Rattle.ring.specs.Runs.{Raw as RawOf, Look, Consumer as ConsumerOf, Sender as SenderOf, taken_by, found_ready, world, control as control_of};
+ghost use Rattle.ring.specs.Runs.{Raw as RawOf, Look, Consumer as ConsumerOf, Sender as SenderOf, raws_by, taken_by, found_ready, world, control as control_of};
 ghost use Rattle.qindex.specs.Positions.{size};
 ghost use Rattle.qindex.specs.ControlWord.{IsControl};
 ghost use Rattle.ringcore.specs.Limits.{most_reserved};
 ghost use Rattle.ring.specs.table.{StandsInARun, WentOn, IsHistory, GrewBy, SitsFor};
 ghost use Rattle.ring.specs.Finishing.{WasToldAll};
 ghost use Rattle.ring.specs.consumer.Pendings.{HasSeen, HasReadRun, reads_from};
+ghost use Rattle.ring.specs.consumer.Completing.{AreClosingSyncs};
 ghost use Rattle.ring.specs.consumer.Taking.{HasTaken, HasTakenRun, IsReadyWith, BeginsWith, IsOfRing, RunIsOfRing};
 
 mod commands;
 mod consumer_port;
 mod lent;
 mod pending;
+mod pending_consumer;
 mod pending_run;
 mod taken;
+mod uncompleted;
 
 use crate::device::Device;
 use crate::ring::Ring;
@@ -25,11 +28,13 @@ pub use commands::Commands;
 pub use consumer_port::ConsumerPort;
 pub use lent::Lent;
 pub use pending::Pending;
+pub use pending_consumer::PendingConsumer;
 pub use pending_run::PendingRun;
 use qindex::Control;
 use ringcore::world_law;
 use std::marker::Model;
-pub use taken::{Taken, TakenRun};
+pub use taken::{Found, Taken, TakenRun};
+pub use uncompleted::Uncompleted;
 
 /// Takes a ring's commands, in the order of their reservation, for a device of type `D`.
 #[derive(Drop)]
@@ -56,6 +61,13 @@ impl<D: Device> Consumer<D> {
         ensures history { IsHistory self.now.ring.made_with ConsumerOf self.now.trail self.now.history }
     {
         self.port.port.trail_stands_in_a_run();
+    }
+
+    /// A witness that each CMD_SYNC that it took is the closing CMD_SYNC of a sender. It does nothing.
+    pub fn syncs_are_closing(&self)
+        ensures { AreClosingSyncs (raws_by self.now.trail) }
+    {
+        self.port.syncs_are_closing();
     }
 
     pub(crate) fn into_seat(self) -> Seat<(), Participants>

@@ -28,7 +28,9 @@ mod sender;
 mod summary;
 mod table;
 
-pub use consumer::{Consumer, Pending, PendingRun, Taken, TakenRun};
+pub use consumer::{
+    Consumer, Found, Pending, PendingConsumer, PendingRun, Taken, TakenRun, Uncompleted,
+};
 pub use device::Device;
 pub use keeper::{IdleConsumer, IdleReservation, IdleSender, Keeper};
 pub use ring::Ring;

@@ -6,6 +6,7 @@ ghost use Rattle.qindex.specs.Positions.{size};
 ghost use Rattle.ring.specs.Runs.{Look, Close, Ask, Sender as SenderOf, looked, batches_made, length_with, world, control as control_of};
 ghost use Rattle.ring.specs.table.{StandsInARun, IsHistory, GrewBy, Grew, AreApplied, SitsFor};
 ghost use Rattle.ring.specs.sender.Senders.{HasAsked};
+ghost use Rattle.ring.specs.sender.Sending.{IsReservedWithin, IsGivenUp};
 ghost use Rattle.ring.specs.sender.Reserving.{HasRoom, IsReserved, IsRefused, IsWon, IsLost, Fits, HasBatchLeft};
 
 mod batch_kind;
@@ -194,6 +195,40 @@ impl Sender {
             return Err(Cause::Full.refused(sender));
         }
         sender.exchange::<K>(ring, batch, many, seen)
+    }
+
+    /// Reserves as `reserve_as` does. If the ring has too little room or another changed it first, it tries
+    /// again, with at most `tries` tries in all, 1 or more.
+    ///
+    /// Errors: those of `reserve`, from the last try.
+    pub fn reserve_within<'b, K: BatchKind>(
+        self,
+        ring: &Ring,
+        batch: BorrowedBatch<'b>,
+        tries: u32,
+    ) -> Result<OpenReservation<'b, K>, Refused>
+        requires ring { self.ring ≡ ring.now }
+        requires tries { 1 ≤ tries }
+        ensures reserved { IfOk result (λ r. IsReservedWithin batch.entry K.closes tries self r) }
+        ensures refused { IfErr result (λ e. IsGivenUp batch.entry K.closes tries self e.cause e.sender) }
+        ensures history { MatchResult result (λ r. Grew (SenderOf self.number) self.trail r.trail self.history r.history) (λ e. Grew (SenderOf self.number) self.trail e.sender.trail self.history e.sender.history) }
+        ensures ring { MatchResult result (λ r. r.ring ≡ self.ring) (λ e. e.sender.ring ≡ self.ring) }
+        ensures id { MatchResult result (λ r. r.sender ≡ self.number) (λ e. e.sender.number ≡ self.number) }
+    {
+        let mut sender = self;
+        // One call of `reserve_as`, so that it is inlined and no reservation moves through memory.
+        for tried in 0..tries {
+            match sender.reserve_as::<K>(ring, batch.reborrow()) {
+                Ok(reservation) => return Ok(reservation),
+                Err(refused) => {
+                    if tried + 1 == tries || !refused.cause.may_pass() {
+                        return Err(refused);
+                    }
+                    sender = refused.sender;
+                }
+            }
+        }
+        unreachable!()
     }
 
     /// The exchange, after a look that found the room.

@@ -1,5 +1,5 @@
 -- The events that a completion added, and what is taken after it.
-use Rattle.std.specs.Prelude.{◌≡◌, ◌<◌, ℕ, ◌-◌, ◌/◌, ◌^◌, cond, List, [], ◌∷◌, map, take, Some, slice_get}
+use Rattle.std.specs.Prelude.{◌≡◌, ◌<◌, ℕ, ◌-◌, ◌/◌, ◌^◌, true, cond, List, [], ◌∷◌, map, take, Some, slice_get}
 use Rattle.ring.specs.Runs.{Raw, Outcome, Advance, Acknowledge, Trail, raws_by, acknowledged_by, syncs_taken, Taken, taken_as, outcome_of}
 use Rattle.cmdcodec.specs.Opcodes.{is_sync}
 use Rattle.cmdcodec.specs.ClosingSync.{cell_address}
@@ -42,6 +42,10 @@ pub record IsClosingSync (raw : Raw) : Type 0 where
   pub sender : ℕ
   pub few : sender < most_senders
   pub address : raw.hi ≡ cell_address sender
+
+-- Each CMD_SYNC among them is.
+abbrev pub AreClosingSyncs : List Raw → Type 0
+AreClosingSyncs raws = (i : ℕ) (raw : Raw) → slice_get raws i ≡ Some raw → is_sync raw ≡ true → IsClosingSync raw
 
 abbrev pub without_newest : Trail → Trail
 without_newest [] = []

@@ -3,11 +3,11 @@ ghost use Rattle.std.specs.Prelude.{◌≡◌, ◌∷◌, ◌≤◌, ◌<◌, �
 ghost use Rattle.qindex.specs.Positions.{size};
 ghost use Rattle.qindex.specs.ControlWord.{IsControl};
 ghost use Rattle.ringcore.specs.Limits.{most_reserved};
-ghost use Rattle.ring.specs.Runs.{Look, Test, Read, Consumer, same, taken_by, found_ready, MayAdvance, world, head, control as control_of};
+ghost use Rattle.ring.specs.Runs.{Look, Test, Read, Consumer, same, raws_by, taken_by, found_ready, MayAdvance, world, head, control as control_of};
 ghost use Rattle.ring.specs.table.{StandsInARun, WentOn, IsHistory, GrewBy, Grew, EndsTellAll, SitsFor};
 ghost use Rattle.ring.specs.consumer.Pendings.{HasReadRun, reads_from};
 ghost use Rattle.ring.specs.consumer.Consumers.{KnowsItsSteps};
-ghost use Rattle.ring.specs.consumer.Completing.{completed_trail};
+ghost use Rattle.ring.specs.consumer.Completing.{completed_trail, AreClosingSyncs};
 
 use crate::consumer::commands::Commands;
 use crate::ring::Ring;
@@ -15,7 +15,7 @@ use crate::table::{Participants, Port};
 use atomic_table::Seat;
 use cmdcodec::Raw;
 use qindex::{Control, Index, indexes_tell_the_queue};
-use ringcore::{Half, world_law};
+use ringcore::{Half, counts_law, world_law};
 use std::marker::{Brand, Model};
 
 /// The consumer's port, which has acknowledged each CMD_SYNC that it took.
@@ -43,6 +43,14 @@ impl ConsumerPort {
     pub(crate) fn knows_its_steps(&self)
         ensures { KnowsItsSteps self.now.ring.made_with self.now.trail }
     {
+        self.port.knows_its_steps();
+    }
+
+    /// A witness that each CMD_SYNC that it took is the closing one of a sender. It does nothing.
+    pub(crate) fn syncs_are_closing(&self)
+        ensures { AreClosingSyncs (raws_by self.now.trail) }
+    {
+        counts_law();
         self.port.knows_its_steps();
     }
 

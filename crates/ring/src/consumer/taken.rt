@@ -25,3 +25,16 @@ pub enum TakenRun<D: Device> {
     /// A run of commands. It must be completed or put back.
     Ready(PendingRun<D>),
 }
+
+/// What a take of a `PendingConsumer` found from the head on.
+#[derive(Clone, Copy, Debug, PartialEq, Eq)]
+pub enum Found {
+    /// Nothing is reserved.
+    Empty,
+    /// Nothing is reserved and the ring is closed, so nothing will be.
+    Drained,
+    /// The command at the head is reserved, but its sender hasn't handed it over.
+    Unwritten,
+    /// A run of commands, which is pending.
+    Ready,
+}

@@ -2,10 +2,10 @@
 ghost use Rattle.std.specs.Prelude.{◌≡◌, ◌≤◌, true, false, IfOk, IfErr, MatchResult};
 ghost use Rattle.ring.specs.Runs.{Sender as SenderOf, IsSettled};
 ghost use Rattle.ring.specs.table.{Grew};
-ghost use Rattle.ring.specs.sender.Sending.{IsReservedWithin, IsSent, IsSentBare, IsGivenUp};
+ghost use Rattle.ring.specs.sender.Sending.{IsSent, IsSentBare, IsGivenUp};
 
 use crate::ring::Ring;
-use crate::sender::{Bare, BatchKind, Closing, OpenReservation, Receipt, Refused, Sender};
+use crate::sender::{Bare, Closing, Receipt, Refused, Sender};
 use batch::{Batch, BorrowedBatch};
 
 impl Sender {
@@ -44,7 +44,7 @@ impl Sender {
         ensures ring { MatchResult result (λ r. r.0.ring ≡ self.ring) (λ e. e.sender.ring ≡ self.ring) }
         ensures id { MatchResult result (λ r. r.0.number ≡ self.number) (λ e. e.sender.number ≡ self.number) }
     {
-        match self.try_to_open::<Closing>(ring, batch, tries) {
+        match self.reserve_within::<Closing>(ring, batch, tries) {
             Ok(reservation) => Ok(reservation.publish(ring)),
             Err(refused) => Err(refused),
         }
@@ -80,40 +80,9 @@ impl Sender {
         ensures ring { MatchResult result (λ t. t.ring ≡ self.ring) (λ e. e.sender.ring ≡ self.ring) }
         ensures id { MatchResult result (λ t. t.number ≡ self.number) (λ e. e.sender.number ≡ self.number) }
     {
-        match self.try_to_open::<Bare>(ring, batch, tries) {
+        match self.reserve_within::<Bare>(ring, batch, tries) {
             Ok(reservation) => Ok(reservation.publish(ring)),
             Err(refused) => Err(refused),
         }
-    }
-
-    /// Tries to reserve up to `tries` times, until it succeeds or the cause won't pass.
-    fn try_to_open<'b, K: BatchKind>(
-        self,
-        ring: &Ring,
-        batch: BorrowedBatch<'b>,
-        tries: u32,
-    ) -> Result<OpenReservation<'b, K>, Refused>
-        requires ring { self.ring ≡ ring.now }
-        requires tries { 1 ≤ tries }
-        ensures reserved { IfOk result (λ r. IsReservedWithin batch.entry K.closes tries self r) }
-        ensures refused { IfErr result (λ e. IsGivenUp batch.entry K.closes tries self e.cause e.sender) }
-        ensures history { MatchResult result (λ r. Grew (SenderOf self.number) self.trail r.trail self.history r.history) (λ e. Grew (SenderOf self.number) self.trail e.sender.trail self.history e.sender.history) }
-        ensures ring { MatchResult result (λ r. r.ring ≡ self.ring) (λ e. e.sender.ring ≡ self.ring) }
-        ensures id { MatchResult result (λ r. r.sender ≡ self.number) (λ e. e.sender.number ≡ self.number) }
-    {
-        let mut sender = self;
-        // The only call of `reserve_as` here, so that it is inlined and no reservation moves through memory.
-        for tried in 0..tries {
-            match sender.reserve_as::<K>(ring, batch.reborrow()) {
-                Ok(reservation) => return Ok(reservation),
-                Err(refused) => {
-                    if tried + 1 == tries || !refused.cause.may_pass() {
-                        return Err(refused);
-                    }
-                    sender = refused.sender;
-                }
-            }
-        }
-        unreachable!()
     }
 }

@@ -2,7 +2,7 @@ use Rattle.std.proofs.Common.{◌≡◌, ◌<◌}
 use Rattle.ring.specs.Runs.{Sender}
 use Rattle.ring.specs.table.{Grew}
 use Rattle.ring.specs.sender.{HasTried}
-use Rattle.ring.proofs.sender.Sender.try_to_open.Given as goal
+use Rattle.ring.proofs.sender.Sender.reserve_within.Given as goal
 
 abbrev pub invariant-loop-tried : goal.invariant-loop-tried
 invariant-loop-tried g l = record {

@@ -2,7 +2,7 @@ use Rattle.std.proofs.Common.{rules, ℕ, List, sym, subst, add-one, ◌∙◌, 
 use Rattle.ring.specs.Runs.{Raw}
 use Rattle.ring.specs.sender.{IsRefused, HasTried}
 use Rattle.ring.proofs.TableLemmas.Grown.{grew_then}
-use Rattle.ring.proofs.sender.Sender.try_to_open.Goals as goal
+use Rattle.ring.proofs.sender.Sender.reserve_within.Goals as goal
 
 pub returns-in-Ok-clause-history : goal.returns-in-Ok-clause-history
 returns-in-Ok-clause-history g c = grew_then _ _ _ _ _ _ _ _ c.loop-tried.invariant.number c.loop-tried.invariant.history c.in-Ok.ensures.history
