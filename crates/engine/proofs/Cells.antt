@@ -5,7 +5,7 @@ use Rattle.std.specs.Prelude.{◌≢◌, ◌==◌, if◌then◌else◌}
 use Rattle.cmdcodec.specs.declared.raw.Raw.{Raw}
 use Rattle.cmdcodec.specs.Opcodes.{is_sync}
 use Rattle.cmdcodec.specs.ClosingSync.{cell_address}
-use Rattle.ring.specs.consumer.Completing.{sync_sender, sync_number}
+use Rattle.ring.specs.consumer.Completing.{sync_sender, sync_number, IsClosingSync}
 use Rattle.engine.specs.declared.completion.Completion.{Completion}
 use Rattle.engine.specs.Completions.{is_to_a_cell, completion_of}
 
@@ -43,3 +43,9 @@ of_cell raw sender number sync at number_is =
   where
     owner : sender ≡ sync_sender raw
     owner = omega (arith, at)
+
+pub to_a_cell : (raw : Raw) → is_sync raw ≡ true → IsClosingSync raw → is_to_a_cell raw ≡ true
+to_a_cell raw sync closing =
+    let at = closing.address in
+    let owner : closing.sender ≡ sync_sender raw = omega (arith, at) in
+    ap₂ (λ (b c : Bool). b && c) sync (eq-eqb raw.hi (cell_address (sync_sender raw)) (at ∙ ap cell_address owner))

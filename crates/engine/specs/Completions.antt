@@ -1,5 +1,5 @@
 -- What commands complete, and what a run of the engine tells of it.
-use Rattle.std.specs.Prelude.{◌≡◌, ℕ, ◌==◌, ◌&&◌, if◌then◌else◌, Bool, List, [], ◌++◌, length, take, drop, Option, Some, None}
+use Rattle.std.specs.Prelude.{◌≡◌, ℕ, ◌==◌, ◌&&◌, if◌then◌else◌, Bool, true, List, [], ◌++◌, length, take, drop, slice_get, Option, Some, None}
 use Rattle.std.specs.List.{filter_map}
 use Rattle.cmdcodec.specs.declared.raw.Raw.{Raw}
 use Rattle.cmdcodec.specs.Opcodes.{is_sync}
@@ -13,6 +13,11 @@ use Rattle.engine.specs.Engines.{EngineValue, HasAppliedRun}
 -- Whether it is a CMD_SYNC to a sender's completion cell.
 abbrev pub is_to_a_cell : Raw → Bool
 is_to_a_cell raw = is_sync raw && raw.hi == cell_address (sync_sender raw)
+
+-- Each CMD_SYNC among these commands is to a completion cell, and so completes something.
+abbrev pub AreToCells : List Raw → Type 0
+AreToCells raws =
+    (place : ℕ) (raw : Raw) → slice_get raws place ≡ Some raw → is_sync raw ≡ true → is_to_a_cell raw ≡ true
 
 -- what a command completes: of a CMD_SYNC to a completion cell the sender and the number that is written there
 unfoldable pub completion_of : Raw → Option Completion

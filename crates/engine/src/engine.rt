@@ -6,6 +6,7 @@ ghost use Rattle.ringcore.specs.declared.world.event.Who.TheVariants.{Consumer a
 ghost use Rattle.ringcore.specs.world.World.{world};
 ghost use Rattle.caches.specs.Held.{held};
 ghost use Rattle.caches.specs.Stored.{IsFillAnswer, IsListAnswer};
+ghost use Rattle.ring.specs.Runs.{raws_by};
 ghost use Rattle.ring.specs.table.Rule.{WentOn};
 ghost use Rattle.ring.specs.table.Histories.{IsHistory};
 ghost use Rattle.ring.specs.Finishing.{AreAll};
@@ -15,7 +16,7 @@ ghost use Rattle.engine.specs.Stops.{IsStopped, IsAcknowledgementAnswer, told, e
 ghost use Rattle.engine.specs.Counting.{taken, AreCountsOf};
 ghost use Rattle.engine.specs.Units.{HasLost, HasLostOlder, new_unit, filled, with_entries, OnlyRemoves};
 ghost use Rattle.engine.specs.Engines.{HasGrown, HasStepped, HasRun, HasLooked, IsExhausted, IsSettledEngine, control_after};
-ghost use Rattle.engine.specs.Completions.{HasTold};
+ghost use Rattle.engine.specs.Completions.{HasTold, AreToCells};
 ghost use Rattle.engine.specs.Ends.{WasToldAllTruly, IsEngineEnd};
 
 mod run_stepping;
@@ -124,6 +125,8 @@ impl Engine {
         requires room { most ≤ length completions.old }
         ensures stepped { HasRun most self.old self.new result.0 }
         ensures told { HasTold most self.old self.new result completions.old completions.new }
+        // So none that was completed is left out.
+        ensures cells { AreToCells (raws_by self.new.consumer.trail) }
         ensures history { HasGrown self.old self.new }
         ensures still { (result.0 ≡ RunAnswer.StillStopped) ↔ IsStopped self.old.unit.stop.mode }
         ensures exhausted { (result.0 ≡ RunAnswer.Exhausted) ↔ IsExhausted self.old.unit }
@@ -139,6 +142,7 @@ impl Engine {
             most,
             completions,
         );
+        consumer.syncs_are_closing();
         self.consumer = Some(consumer);
         (answer, many)
     }
