@@ -1,19 +1,16 @@
 -- What a run of the engine does to it, and what C gets of it.
 use Rattle.std.specs.Prelude.{◌≡◌, ◌≤◌, ◌↔◌, ◌⊎◌, ℕ, max, min, List, length}
-use Rattle.ringcore.specs.Limits.{most_reserved}
-use Rattle.ringcore.specs.declared.world.event.Who.TheVariants.{Consumer}
-use Rattle.ring.specs.table.Histories.{Grew}
+use Rattle.ring.specs.Runs.{raws_by}
 use Rattle.ring.specs.consumer.Completing.{taken_of}
 use Rattle.engine.specs.declared.answer.RunAnswer.{RunAnswer}
 use Rattle.engine.specs.declared.answer.RunAnswer.TheVariants.{Empty, Drained, Unwritten, Applied, Stopped, Replaced, StillStopped, Exhausted}
 use Rattle.engine.specs.declared.completion.Completion.{Completion}
-use Rattle.engine.specs.Completions.{HasTold}
+use Rattle.engine.specs.Completions.{HasTold, AreToCells}
 use Rattle.engine.specs.Settled.{IsSettled}
 use Rattle.engine.specs.Stops.{IsStopped}
-use Rattle.engine.specs.Counting.{taken}
 use Rattle.engine.specs.Units.{OnlyRemoves}
 use Rattle.engine.specs.declared.answer.Registers.{Registers}
-use Rattle.engine.specs.Engines.{EngineValue, HasRun, HasLooked}
+use Rattle.engine.specs.Engines.{EngineValue, HasGrown, HasRun, HasLooked, IsExhausted}
 use Rattle.smmuq_c.specs.Statuses.{ill_number}
 use Rattle.smmuq_c.specs.declared.status.Status.{Status}
 use Rattle.smmuq_c.specs.declared.status.Status.TheVariants as status
@@ -49,22 +46,24 @@ run_words other = no_run
 pub record HasRunFor (most : ℕ) (told : RunWords) (old new : EngineValue) (status : Status) : Type 0 where
   pub answer : RunAnswer
   pub ran : HasRun (run_length most) old new answer
-  pub history : Grew Consumer old.consumer.trail new.consumer.trail old.consumer.history new.consumer.history
+  pub history : HasGrown old new
   pub settled : IsSettled new.unit.caches.entries (taken_of new.consumer.trail)
   pub removes : OnlyRemoves old.unit new.unit
   pub still : (answer ≡ StillStopped) ↔ IsStopped old.unit.stop.mode
-  pub exhausted : (answer ≡ Exhausted) ↔ (¬ IsStopped old.unit.stop.mode × (taken old.unit.counts ≡ most_reserved))
+  pub exhausted : (answer ≡ Exhausted) ↔ IsExhausted old.unit
   pub ring_is : new.consumer.ring ≡ old.consumer.ring
   pub status_is : status ≡ run_status answer
   pub told_is : told ≡ run_words answer
 
 -- ---- with what it completed
 
--- It ran. What the commands that it applied complete stands first in the buffer, and how much that is is told.
+-- It ran. What the commands that it applied complete stands first in the buffer, and how much that is is told. Each
+-- CMD_SYNC that it ever took is to a completion cell, so that none of them is left out.
 pub record HasRunTelling (most : ℕ) (told : RunWords) (before after : List Completion) (count : ℕ) (old new : EngineValue) (status : Status) : Type 0 where
   pub room : 1 ≤ length before
   pub ran : HasRunFor (min most (length before)) told old new status
   pub completions : HasTold (run_length (min most (length before))) old new (ran.answer, count) before after
+  pub cells : AreToCells (raws_by new.consumer.trail)
 
 -- There is no room to tell of a command: nothing was done.
 pub record HadNoRoomToTell (before : List Completion) (old new : EngineValue) (status : Status) : Type 0 where

@@ -32,4 +32,5 @@ returns-clause-ran c =
         told_is = c.from.ensures;
       };
       completions = subst (λ (m : ℕ). HasTold m old new answer before after) most e.told;
+      cells = e.cells;
     }))
