@@ -197,8 +197,8 @@ impl Sender {
         sender.exchange::<K>(ring, batch, many, seen)
     }
 
-    /// Reserves as `reserve_as` does. If the ring has too little room or another changed it first, it tries
-    /// again, with at most `tries` tries in all, 1 or more.
+    /// Reserves as `reserve_as` does. If the ring has too little room or another changed it first,
+    /// it tries again, with at most `tries` tries in all, 1 or more.
     ///
     /// Errors: those of `reserve`, from the last try.
     pub fn reserve_within<'b, K: BatchKind>(

@@ -45,7 +45,8 @@ pub record IsClosingSync (raw : Raw) : Type 0 where
 
 -- Each CMD_SYNC among them is.
 abbrev pub AreClosingSyncs : List Raw → Type 0
-AreClosingSyncs raws = (i : ℕ) (raw : Raw) → slice_get raws i ≡ Some raw → is_sync raw ≡ true → IsClosingSync raw
+AreClosingSyncs raws =
+    (i : ℕ) (raw : Raw) → slice_get raws i ≡ Some raw → is_sync raw ≡ true → IsClosingSync raw
 
 abbrev pub without_newest : Trail → Trail
 without_newest [] = []

@@ -1,9 +1,9 @@
 //! A consumer with the run that it read last.
-ghost use Rattle.std.specs.Prelude.{◌≡◌, ◌≤◌, length, take, slice_get, MatchOption};
-ghost use Rattle.ring.specs.Runs.{Raw as RawOf, Outcome as OutcomeOf, Applied};
-ghost use Rattle.ring.specs.consumer.Pendings.{HasSeen};
-ghost use Rattle.ring.specs.consumer.Completing.{HasOutcome};
-ghost use Rattle.ring.specs.consumer.PendingConsumers.{with_none, held_as, HasFoundRun, IsFirst, taken_with, HasCompletedFor, IsFirstIllegal};
+ghost use Rattle.std.specs.Prelude.{◌≡◌, ◌≤◌, length, slice_get};
+ghost use Rattle.ring.specs.consumer.PendingConsumers.{with_none, held_as};
+ghost use Rattle.ring.specs.consumer.PendingConsumers.{FirstIsSeen, BeginsAgain, BeginsWithSeen};
+ghost use Rattle.ring.specs.consumer.PendingConsumers.{HasFoundRun, IsSettledOnceTaken};
+ghost use Rattle.ring.specs.consumer.PendingConsumers.{IsFirstFault, HasCompletedFor};
 
 use crate::consumer::{Consumer, Found, PendingRun, TakenRun, Uncompleted};
 use crate::device::Device;
@@ -43,7 +43,7 @@ impl<D: Device> PendingConsumer<D> {
     /// Returns the consumer; what is pending stays in the ring.
     pub fn into_consumer(self) -> Consumer<D>
         ensures consumer { result ≡ self.consumer }
-        ensures seen { (raw : RawOf) → IsFirst raw self.raws → HasSeen result.trail raw }
+        ensures seen { FirstIsSeen self.raws result.trail }
     {
         let PendingConsumer { held } = self;
         held.unwrap().into_consumer()
@@ -52,7 +52,7 @@ impl<D: Device> PendingConsumer<D> {
     /// Leaves what is pending in the ring: the next take finds it again.
     pub fn put_back(&mut self)
         ensures consumer { self.new ≡ with_none self.old.consumer }
-        ensures seen { (raw : RawOf) → IsFirst raw self.old.raws → HasSeen self.new.consumer.trail raw }
+        ensures seen { FirstIsSeen self.old.raws self.new.consumer.trail }
     {
         let held = self.held.take().unwrap();
         self.held = Some(Held::Idle(held.into_consumer()));
@@ -79,15 +79,15 @@ impl<D: Device> PendingConsumer<D> {
         }
     }
 
-    /// Looks, tests from the head on, and reads what is ready, whatever was pending: 1 to `most` commands
-    /// whose flags are in one word, which are pending then. `most` is 1 to 64.
+    /// Looks, tests from the head on, and reads what is ready, whatever was pending: 1 to `most`
+    /// commands whose flags are in one word, which are pending then. `most` is 1 to 64.
     pub fn take_run(&mut self, ring: &Ring, most: u32) -> Found
         requires ring { self.old.consumer.ring ≡ ring.now }
         requires some { 1 ≤ most }
         requires most { most ≤ 64 }
         ensures found { HasFoundRun most self.old self.new result }
-        ensures again { (raw : RawOf) → IsFirst raw self.old.raws → IsFirst raw self.new.raws }
-        ensures seen { (raw : RawOf) → HasSeen self.old.consumer.trail raw → IsFirst raw self.new.raws }
+        ensures again { BeginsAgain self.old.raws self.new.raws }
+        ensures seen { BeginsWithSeen self.old.consumer.trail self.new.raws }
         ensures ring { self.new.consumer.ring ≡ self.old.consumer.ring }
     {
         let held = self.held.take().unwrap();
@@ -96,15 +96,15 @@ impl<D: Device> PendingConsumer<D> {
         found
     }
 
-    /// Takes the first `count` pending commands, and then acknowledges each CMD_SYNC among them. Legal ones
-    /// are completed as applied, a single illegal one as replaced. None is pending then. `device` must be
-    /// settled for all that was taken and these.
+    /// Takes the first `count` pending commands, and then acknowledges each CMD_SYNC among them.
+    /// Legal ones are completed as applied, a single illegal one as replaced. None is pending
+    /// then. `device` must be settled for all that was taken and these.
     ///
-    /// Errors: `Count` if `count` is 0 or more than are pending, `Illegal` if one of several is illegal. Then
-    /// nothing changes.
+    /// Errors: `Count` if `count` is 0 or more than are pending, `Illegal` if one of several is
+    /// illegal. Then nothing changes.
     pub fn complete(&mut self, ring: &Ring, count: u32, device: &D) -> Result<Outcome, Uncompleted>
         requires ring { self.old.consumer.ring ≡ ring.now }
-        requires settled { (outcome : OutcomeOf) → HasOutcome outcome (take count self.old.raws) → D.settled device.now (taken_with count outcome self.old) }
+        requires settled { IsSettledOnceTaken (D.settled device.now) count self.old }
         ensures completed { HasCompletedFor count device.now self.old self.new result }
         ensures ring { self.new.consumer.ring ≡ self.old.consumer.ring }
     {
@@ -125,7 +125,7 @@ enum Held<D: Device> {
 impl<D: Device> Held<D> {
     fn into_consumer(self) -> Consumer<D>
         ensures consumer { result ≡ (held_as self).consumer }
-        ensures seen { (raw : RawOf) → IsFirst raw (held_as self).raws → HasSeen result.trail raw }
+        ensures seen { FirstIsSeen (held_as self).raws result.trail }
     {
         match self {
             Held::Idle(consumer) => consumer,
@@ -138,8 +138,8 @@ impl<D: Device> Held<D> {
         requires some { 1 ≤ most }
         requires most { most ≤ 64 }
         ensures found { HasFoundRun most (held_as self) (held_as result.0) result.1 }
-        ensures again { (raw : RawOf) → IsFirst raw (held_as self).raws → IsFirst raw (held_as result.0).raws }
-        ensures seen { (raw : RawOf) → HasSeen (held_as self).consumer.trail raw → IsFirst raw (held_as result.0).raws }
+        ensures again { BeginsAgain (held_as self).raws (held_as result.0).raws }
+        ensures seen { BeginsWithSeen (held_as self).consumer.trail (held_as result.0).raws }
         ensures ring { (held_as result.0).consumer.ring ≡ ring.now }
     {
         match self.into_consumer().take_run(ring, most) {
@@ -157,8 +157,8 @@ impl<D: Device> Held<D> {
         device: &D,
     ) -> (Held<D>, Result<Outcome, Uncompleted>)
         requires ring { (held_as self).consumer.ring ≡ ring.now }
-        requires settled { (outcome : OutcomeOf) → HasOutcome outcome (take count (held_as self).raws) → D.settled device.now (taken_with count outcome (held_as self)) }
-        ensures completed { HasCompletedFor count device.now (held_as self) (held_as result.0) result.1 }
+        requires settled { IsSettledOnceTaken (D.settled device.now) count (held_as self) }
+        ensures done { HasCompletedFor count device.now (held_as self) (held_as result.0) result.1 }
         ensures ring { (held_as result.0).consumer.ring ≡ ring.now }
     {
         match self {
@@ -177,7 +177,7 @@ impl<D: Device> Drop for Held<D> {
 /// Returns the fault of the first illegal command among the first `count` of a run, if any.
 fn first_illegal<D: Device>(run: &PendingRun<D>, count: u32) -> Option<Ill>
     requires within { count ≤ length run.now.raws }
-    ensures { MatchOption result (HasOutcome Applied (take count run.now.raws)) (λ ill. IsFirstIllegal count run.now.raws ill) }
+    ensures { IsFirstFault count run.now.raws result }
 {
     for place in 0..count {
         let raw = run.get(place).unwrap();
@@ -188,7 +188,8 @@ fn first_illegal<D: Device>(run: &PendingRun<D>, count: u32) -> Option<Ill>
     None
 }
 
-/// Completes the first `count` commands of a run: legal ones as applied, a single illegal one as replaced.
+/// Completes the first `count` commands of a run: legal ones as applied, a single illegal one as
+/// replaced.
 fn complete_first<D: Device>(
     run: PendingRun<D>,
     ring: &Ring,
@@ -196,7 +197,7 @@ fn complete_first<D: Device>(
     device: &D,
 ) -> (Held<D>, Result<Outcome, Uncompleted>)
     requires ring { run.consumer.ring ≡ ring.now }
-    requires settled { (outcome : OutcomeOf) → HasOutcome outcome (take count run.raws) → D.settled device.now (taken_with count outcome run) }
+    requires settled { IsSettledOnceTaken (D.settled device.now) count run }
     ensures completed { HasCompletedFor count device.now run (held_as result.0) result.1 }
     ensures ring { (held_as result.0).consumer.ring ≡ ring.now }
 {

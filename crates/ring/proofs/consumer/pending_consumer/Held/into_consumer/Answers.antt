@@ -1,4 +1,4 @@
-use Rattle.std.proofs.Common.{◌≡◌, sym, ap, ◌∙◌}
+use Rattle.std.proofs.Common.{sym, ap, ◌∙◌}
 use Rattle.ring.specs.declared.consumer.pending_consumer.Held.{Held}
 use Rattle.ring.specs.consumer.PendingConsumers.{held_as}
 use Rattle.ring.proofs.consumer.pending_consumer.Held.into_consumer.Goals as goal
