@@ -5,7 +5,7 @@ use Rattle.atomic_table.proofs.shared.Seat.TheSendSync.{the_send as seat_send}
 use Rattle.atomic_table.proofs.shared.Shared.TheSendSync.{the_send as shared_send, the_sync as shared_sync}
 use Rattle.atomic_table.proofs.send_lease.SendLease.TheSendSync.{the_send as lease_send, the_sync as lease_sync}
 use Rattle.caches.proofs.Crossing.{caches_send}
-use Rattle.ring.proofs.Crossing.{consumer_send, ring_sync}
+use Rattle.ring.proofs.Crossing.{pending_send, ring_sync}
 use Rattle.ring.specs.contracts.ring.Ring as Ring
 use Rattle.engine.proofs.Crossing.{engine_send}
 use Rattle.engine.specs.contracts.queue_unit.QueueUnit as QueueUnit
@@ -31,7 +31,7 @@ pub seated_send : IsSend SeatedEngine.the_row
 seated_send = search (sendable, crosses, send, sync, engine_send, ring_send, ring_sync) depth 60 fits 100000
 
 pub taker_send : IsSend SeatedConsumer.the_row
-taker_send = search (sendable, crosses, send, sync, consumer_send, seat_send, ring_send, ring_sync) depth 60 fits 100000
+taker_send = search (sendable, crosses, send, sync, pending_send, ring_send, ring_sync) depth 60 fits 100000
 
 pub object_send : IsSend Object.the_row
 object_send = search (sendable, crosses, caches_send, unit_send, sender_send, reservation_send, seated_send, taker_send) depth 60 fits 100000

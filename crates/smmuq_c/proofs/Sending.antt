@@ -4,7 +4,7 @@ use Rattle.cmdcodec.specs.declared.raw.Raw.{Raw}
 use Rattle.batch.specs.declared.fault.BatchFault.{BatchFault}
 use Rattle.batch.specs.Refusals.{unless, list_refusal}
 use Rattle.ringcore.specs.declared.world.event.Who.TheVariants.{Sender as SenderOf}
-use Rattle.ring.specs.table.Histories.{Grew, GrowthAddsUp}
+use Rattle.ring.specs.table.Histories.{Grew}
 use Rattle.ring.specs.sender.Senders.{SenderValue, ReceiptValue}
 use Rattle.ring.specs.sender.Sending.{IsReservedWithin, IsSent, IsSentBare, IsGivenUp}
 use Rattle.ring.specs.declared.sender.cause.Cause.{Cause}
@@ -29,27 +29,6 @@ lent is view = sym (ap sender_in is) ∙ view
 pub grown : {sender own new : SenderValue} → sender ≡ own → Grew (SenderOf sender.number) sender.trail new.trail sender.history new.history
     → new.ring ≡ sender.ring → new.number ≡ sender.number → HasGrown own new
 grown {new = new} same history ring number = subst (λ (s : SenderValue). HasGrown s new) same (record { history = history; ring_is = ring; number_is = number })
-
--- and then to a sender or a reservation of the same
-pub grown_more : {first second third : SenderValue} → GrowthAddsUp → HasGrown first second
-    → Grew (SenderOf second.number) second.trail third.trail second.history third.history → third.ring ≡ second.ring → third.number ≡ second.number
-    → HasGrown first third
-grown_more {first} {second} {third} sum one history ring number = record {
-  history = sum (SenderOf first.number) first.trail second.trail third.trail first.history second.history third.history one.history
-      (subst (λ (n : ℕ). Grew (SenderOf n) second.trail third.trail second.history third.history) one.number_is history);
-  ring_is = ring ∙ one.ring_is;
-  number_is = number ∙ one.number_is;
-}
-
-pub reserved_of : {first second : SenderValue} {reservation : ReservationValue} → GrowthAddsUp → HasGrown first second
-    → Grew (SenderOf second.number) second.trail reservation.trail second.history reservation.history → reservation.ring ≡ second.ring
-    → reservation.sender ≡ second.number → IsReservationOf first reservation
-reserved_of {first} {second} {reservation} sum one history ring number = record {
-  history = sum (SenderOf first.number) first.trail second.trail reservation.trail first.history second.history reservation.history one.history
-      (subst (λ (n : ℕ). Grew (SenderOf n) second.trail reservation.trail second.history reservation.history) one.number_is history);
-  ring_is = ring ∙ one.ring_is;
-  sender_is = number ∙ one.number_is;
-}
 
 pub sent : (commands : List Raw) (tries : ℕ) {batch : List Raw} {most told : ℕ} {sender own new : SenderValue} {receipt : ReceiptValue}
     → Ok batch ≡ unless (list_refusal commands) commands → most ≡ tries_of tries → sender ≡ own → IsSent batch most sender new receipt → told ≡ receipt.number

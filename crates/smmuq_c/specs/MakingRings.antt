@@ -15,7 +15,7 @@ use Rattle.smmuq_c.specs.declared.object.Object.{Object}
 use Rattle.smmuq_c.specs.declared.object.Object.TheVariants.{Sender as SenderOf, Engine as EngineOf, Consumer as ConsumerOf}
 use Rattle.smmuq_c.specs.declared.seated_consumer.CallersDevice.{CallersDevice}
 use Rattle.smmuq_c.specs.declared.handle.Handle.{Handle}
-use Rattle.smmuq_c.specs.HeldConsumers.{with_none}
+use Rattle.ring.specs.consumer.PendingConsumers.{with_none}
 use Rattle.smmuq_c.specs.Making.{IsNewUnit}
 
 -- ---- what takes a new ring's commands

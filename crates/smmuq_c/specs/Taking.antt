@@ -1,29 +1,26 @@
 -- What the calls of a consumer of the caller's own do to it, and what C gets of them.
-use Rattle.std.specs.Prelude.{◌≡◌, ◌<◌, ◌≤◌, ◌++◌, ◌⊎◌, ℕ, min, true, false, List, [], ◌∷◌, length, take, map, Some, None, slice_get}
+use Rattle.std.specs.Prelude.{◌≡◌, ◌<◌, ◌≤◌, ◌⊎◌, ℕ, min, List, ◌∷◌, length}
 use Rattle.cmdcodec.specs.declared.raw.Raw.{Raw}
-use Rattle.cmdcodec.specs.declared.ill.Ill.{Ill}
-use Rattle.cmdcodec.specs.Legality.{first_ill}
 use Rattle.ringcore.specs.declared.world.event.Outcome.{Outcome}
 use Rattle.ringcore.specs.declared.world.event.Outcome.TheVariants.{Applied, Replaced}
-use Rattle.ringcore.specs.declared.world.event.Who.TheVariants.{Consumer}
-use Rattle.ring.specs.table.Histories.{Grew}
-use Rattle.ring.specs.consumer.Taking.{TookNone, TookUnwritten, TookRun}
-use Rattle.ring.specs.consumer.Completing.{completed, unknowing, taken_of, with_outcome, HasOutcome}
+use Rattle.ring.specs.declared.consumer.taken.Found.TheVariants.{Empty, Drained, Unwritten, Ready}
+use Rattle.ring.specs.consumer.PendingConsumers.{with_none, HasCompleted, IsFirstIllegal, IsBadCount}
+use Rattle.ring.specs.consumer.PendingConsumers as consumers
 use Rattle.smmuq_c.specs.declared.seated_consumer.CallersDevice.{CallersDevice}
 use Rattle.smmuq_c.specs.declared.status.Status.{Status}
 use Rattle.smmuq_c.specs.declared.status.Status.TheVariants as status
 use Rattle.smmuq_c.specs.declared.status.Status.TheVariants.{Done, Illegal, BadField, ShortBuffer, RingEmpty, RingDrained, RingUnwritten}
 use Rattle.smmuq_c.specs.Batches.{IsGiven}
-use Rattle.smmuq_c.specs.HeldConsumers.{HeldConsumer, with_none}
+use Rattle.smmuq_c.specs.HeldConsumers.{HeldConsumer}
 
 -- ---- taking a run
 
 -- What a look at the ring's head found, by the status: commands, which are pending then, or why there are none.
 abbrev pub HasFoundRun : ℕ → HeldConsumer → HeldConsumer → Status → Type 0
-HasFoundRun most old new Done = TookRun most old.consumer new
-HasFoundRun most old new RingEmpty = TookNone false old.consumer new.consumer × (new.raws ≡ [])
-HasFoundRun most old new RingDrained = TookNone true old.consumer new.consumer × (new.raws ≡ [])
-HasFoundRun most old new RingUnwritten = TookUnwritten most old.consumer new.consumer × (new.raws ≡ [])
+HasFoundRun most old new Done = consumers.HasFoundRun most old new Ready
+HasFoundRun most old new RingEmpty = consumers.HasFoundRun most old new Empty
+HasFoundRun most old new RingDrained = consumers.HasFoundRun most old new Drained
+HasFoundRun most old new RingUnwritten = consumers.HasFoundRun most old new Unwritten
 HasFoundRun most old new other = ⊥
 
 -- as many as there is room for, cut to 64
@@ -52,36 +49,16 @@ HasTakenRun old_buffer new_buffer told old new status =
 
 -- ---- completing
 
--- The first `count` pending commands were taken, all with this outcome, and then each CMD_SYNC among them was
--- acknowledged. None is pending then.
-pub record HasCompleted (count : ℕ) (outcome : Outcome) (old new : HeldConsumer) : Type 0 where
-  pub device : CallersDevice
-  pub some : 1 ≤ count
-  pub within : count ≤ length old.raws
-  pub outcome_is : HasOutcome outcome (take count old.raws)
-  pub consumer_is : record new.consumer { history = [] } ≡ completed count device (unknowing old)
-  pub grew : Grew Consumer old.consumer.trail new.consumer.trail old.consumer.history new.consumer.history
-  pub taken_are : taken_of new.consumer.trail ≡ taken_of old.consumer.trail ++ map (with_outcome outcome) (take count old.raws)
-  pub none_pending : new.raws ≡ []
-
--- the first `count` commands are legal
-abbrev pub AreLegal : ℕ → List Raw → Type 0
-AreLegal count raws = (i : ℕ) (raw : Raw) → i < count → slice_get raws i ≡ Some raw → first_ill raw ≡ None
-
--- This is illegal in one of the first `count` commands, and those before that one are legal.
-pub record IsFirstIllegal (count : ℕ) (raws : List Raw) (ill : Ill) : Type 0 where
-  pub place : ℕ
-  pub raw : Raw
-  pub early : place < count
-  pub at : slice_get raws place ≡ Some raw
-  pub ill_is : first_ill raw ≡ Some ill
-  pub legal : AreLegal place raws
+-- The first `count` pending commands were completed with this outcome, whatever the caller's device is.
+abbrev pub AreCompleted : ℕ → Outcome → HeldConsumer → HeldConsumer → Type 0
+AreCompleted count outcome old new = (device : CallersDevice) × HasCompleted count outcome device old new
 
 -- `count` commands were completed: legal ones, or one illegal one, without effect. An illegal one among several is
 -- refused, as is a count of 0 or above that of the pending commands.
 abbrev pub HasCompletedFor : ℕ → HeldConsumer → HeldConsumer → Status → Type 0
-HasCompletedFor count old new Done = HasCompleted count Applied old new
-HasCompletedFor count old new status.Replaced = (count ≡ 1) × HasCompleted count Replaced old new
-HasCompletedFor count old new (Illegal ill) = (1 < count) × (count ≤ length old.raws) × IsFirstIllegal count old.raws ill × (new ≡ old)
-HasCompletedFor count old new BadField = ((count ≡ 0) ⊎ (length old.raws < count)) × (new ≡ old)
+HasCompletedFor count old new Done = AreCompleted count Applied old new
+HasCompletedFor count old new status.Replaced = (count ≡ 1) × AreCompleted count Replaced old new
+HasCompletedFor count old new (Illegal ill) =
+    (1 < count) × (count ≤ length old.raws) × IsFirstIllegal count old.raws ill × (new ≡ old)
+HasCompletedFor count old new BadField = IsBadCount count old.raws × (new ≡ old)
 HasCompletedFor count old new other = ⊥

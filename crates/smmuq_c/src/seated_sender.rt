@@ -1,9 +1,8 @@
 //! A sender with its share of its own ring.
-ghost use Rattle.std.specs.Prelude.{◌≡◌, ◌≤◌, true, IfOk, IfErr};
+ghost use Rattle.std.specs.Prelude.{◌≡◌, IfOk, IfErr};
 ghost use Rattle.std.specs.Arc.{arc_value};
-ghost use Rattle.ring.specs.sender.Sending.{may_pass, IsReservedWithin, IsGivenUp};
-ghost use Rattle.smmuq_c.specs.Reserving.{IsReservationOf, IsOpened, IsUnreserved};
-ghost use Rattle.smmuq_c.specs.Sends.{HasGrown, HasSent, HasSentBare, HasTold, HasToldLeft, HasClosed, HasLookedFor};
+ghost use Rattle.smmuq_c.specs.Reserving.{IsOpened, IsUnreserved};
+ghost use Rattle.smmuq_c.specs.Sends.{HasSent, HasSentBare, HasTold, HasToldLeft, HasClosed, HasLookedFor};
 ghost use Rattle.smmuq_c.specs.Kept.{IsKept};
 
 use crate::seated_reservation::SeatedReservation;
@@ -11,7 +10,7 @@ use crate::status::Status;
 use crate::words::ControlWords;
 use batch::{Batch, BatchBuffer};
 use cmdcodec::Raw;
-use ring::{Cause, Closing, Receipt, Refused, Ring, Sender, UnboundReservation, growth_adds_up};
+use ring::{Closing, Refused, Ring, Sender};
 use std::marker::Model;
 use std::sync::Arc;
 
@@ -60,8 +59,12 @@ impl SeatedSender {
             Err(fault) => return Err((self, Status::Batch(fault))),
         };
         let SeatedSender { ring, sender } = self;
-        match reserve_within(sender.unwrap(), &ring, &batch, tries.max(1)) {
-            Ok(reservation) => Ok(SeatedReservation::new(ring, batch, reservation)),
+        let sender = sender.unwrap();
+        match sender.reserve_within::<Closing>(&ring, batch.as_borrowed(), tries.max(1)) {
+            Ok(reservation) => {
+                let reservation = reservation.unbind();
+                Ok(SeatedReservation::new(ring, batch, reservation))
+            }
             Err(Refused { sender, cause }) => {
                 Err((SeatedSender::new(ring, sender), Status::Refused(cause)))
             }
@@ -160,45 +163,5 @@ impl SeatedSender {
         };
         *told = ControlWords::of(&sender.look(ring));
         Status::Done
-    }
-}
-
-/// Tries to reserve a batch up to `tries` times, until it succeeds or the cause won't pass.
-fn reserve_within(
-    sender: Sender,
-    ring: &Ring,
-    batch: &Batch,
-    tries: u32,
-) -> Result<UnboundReservation<Closing>, Refused>
-    requires ring { sender.ring ≡ ring.now }
-    requires tries { 1 ≤ tries }
-    ensures reserved { IfOk result (λ r. IsReservedWithin batch.now true tries sender r) }
-    ensures own { IfOk result (λ r. IsReservationOf sender r) }
-    ensures refused { IfErr result (λ e. IsGivenUp batch.now true tries sender e.cause e.sender) }
-    ensures grown { IfErr result (λ e. HasGrown sender e.sender) }
-{
-    growth_adds_up();
-    let mut sender = sender;
-    for tried in 0..tries {
-        match sender.reserve(ring, batch) {
-            Ok(reservation) => return Ok(reservation.unbind()),
-            Err(refused) => {
-                if tried + 1 == tries || !may_pass(refused.cause) {
-                    return Err(refused);
-                }
-                sender = refused.sender;
-            }
-        }
-    }
-    unreachable!()
-}
-
-/// Whether another try may succeed.
-fn may_pass(cause: Cause) -> bool
-    ensures { result ≡ may_pass cause }
-{
-    match cause {
-        Cause::Full | Cause::Contended => true,
-        Cause::TooLong | Cause::Exhausted | Cause::Closed => false,
     }
 }

@@ -3,6 +3,6 @@ use Rattle.smmuq_c.proofs.seated_consumer.tell.Given as goal
 
 abbrev pub invariant-loop-place : goal.invariant-loop-place
 invariant-loop-place l = record {
-  written : take l.place l.buffer ≡ take l.place l.run.raws;
+  written : take l.place l.buffer ≡ take l.place l.pending.raws;
   behind : drop l.place l.buffer ≡ drop l.place l.initial.buffer;
 }
