@@ -1,11 +1,13 @@
-//! Worked rows of the consumer, by calls: laps, a stalled sender, a close, and a command that is put back.
+//! Worked rows of the consumer, by calls: laps, a stalled sender, a close, a command that is put back, and a run that
+//! is completed in a later call.
 ghost use Rattle.std.specs.Prelude.{◌≡◌};
 
-use crate::batches::batch_of;
+use crate::batches::{CFGI_STE, batch_of};
 use crate::calls::{Seats, expect_answers, play, ring_of_one, ring_of_two};
+use crate::device::NoEntries;
 use crate::reserving::{reserve, send_at_once};
 use crate::steps::finish;
-use ring::Ring;
+use ring::{Found, Outcome, PendingConsumer, Ring, Uncompleted};
 use std::alloc::AllocError;
 use std::process::Abort;
 
@@ -99,4 +101,18 @@ fn a_command_that_is_put_back_comes_again(rt: HostRuntime) {
          consumer take = 0x700000003 0x1\n\
          consumer taken = 1",
     );
+}
+
+#[test]
+fn a_run_that_is_completed_in_a_later_call(rt: HostRuntime) {
+    let (ring, Seats { sender, consumer }) = ring_of_one(&rt, 3, 4);
+    let (_sender, _receipt) = send_at_once(&rt, &ring, sender, &batch_of(&rt, 1));
+    let mut pending = PendingConsumer::new(consumer);
+    assert_eq!(rt; pending.take_run(&ring, 64), Found::Ready);
+    assert_eq!(rt; (pending.len(), pending.get(0)), (2, Some(CFGI_STE)));
+    let completed = pending.complete(&ring, 3, &NoEntries);
+    assert_eq!(rt; completed, Err(Uncompleted::Count));
+    let completed = pending.complete(&ring, 2, &NoEntries);
+    assert_eq!(rt; completed, Ok(Outcome::Applied));
+    assert_eq!(rt; pending.into_consumer().taken(), 2);
 }

@@ -7,7 +7,7 @@ use crate::device::NoEntries;
 use crate::reserving::{expect_receipt, expect_refused, expect_slots, reserve, reserve_bare};
 use crate::sender_calls::send;
 use batch::{Batch, BorrowedBatch};
-use ring::{Cause, Ring, RingFault, Sender};
+use ring::{Cause, Closing, Ring, RingFault, Sender};
 use std::alloc::{AllocError, Global};
 use std::fmt::Display;
 use std::process::Abort;
@@ -284,4 +284,16 @@ fn every_allocation_of_a_ring(rt: HostRuntime) {
     let outcome = outcome(&rt, rt.alloc());
     assert_ne!(rt; outcome, "wrong");
     println!(rt; "every_allocation_of_a_ring: {outcome}").expect(&rt, "the line is printed");
+}
+
+#[test]
+fn a_reservation_within_two_tries(rt: HostRuntime) {
+    let (ring, seats) = ring_of_one(&rt, 3, 4);
+    let batch = batch_of(&rt, 1);
+    let sender = seats.sender;
+    let Ok(reservation) = sender.reserve_within::<Closing>(&ring, batch.as_borrowed(), 2) else {
+        panic!(rt; "the batch is refused");
+    };
+    let (_sender, receipt) = reservation.publish(&ring);
+    expect_receipt(&rt, &receipt, 0, 1);
 }

@@ -49,7 +49,7 @@ HasTakenRun old_buffer new_buffer told old new status =
 
 -- ---- completing
 
--- The first `count` pending commands were completed with this outcome, whatever the caller's device is.
+-- The first `count` pending commands were completed with this outcome, for the caller's device.
 abbrev pub AreCompleted : ℕ → Outcome → HeldConsumer → HeldConsumer → Type 0
 AreCompleted count outcome old new = (device : CallersDevice) × HasCompleted count outcome device old new
 
