@@ -13,8 +13,7 @@ use Rattle.caches.specs.Covers.{covers}
 use Rattle.engine.specs.Settled.{HasCovered, IsSettled, IsSettledEntry}
 use Rattle.caches.specs.Blocks.{IsBlock}
 use Rattle.caches.specs.declared.tag.Entry.{Entry}
-use Rattle.std.proofs.lemmas.List.{length-map}
-use Rattle.transactions.specs.Outstanding.{AreOutstanding}
+use Rattle.transactions.specs.FreeSlots.{HasBlocks}
 use Rattle.transactions.specs.Tracking.{TrackedValue, IsTracked}
 use Rattle.transactions.specs.Transactions.{TransactionValue, with_outstanding, IsEnded}
 use Rattle.std.proofs.lemmas.List.Sums.{sum_by-cons}
@@ -256,15 +255,12 @@ new_on_time list tag entry number settled late = settled.uncovered late.place la
 
 -- ---- tags
 
-pub table_covered : (command : Command) (slots : Slots) → AreOutstanding slots → AreOutstanding (map (cover command) slots)
-table_covered command slots is = record {
-  few = let same = length-map slots (cover command) in let few = is.few in omega (arith, same, few);
-  blocks = λ slot o at. let there = get_map (cover command) slots slot (Some o) at in by_slot slot o there.0 there.1 there.2;
-}
+pub blocks_covered : (command : Command) (slots : Slots) → HasBlocks slots → HasBlocks (map (cover command) slots)
+blocks_covered command slots blocks slot o at = let there = get_map (cover command) slots slot (Some o) at in by_slot slot o there.0 there.1 there.2
   where
     by_slot : (slot : ℕ) (o : OutstandingTransaction) (x : Option OutstandingTransaction) → slice_get slots slot ≡ Some x → cover command x ≡ Some o → IsBlock o.tag
     by_slot slot o None at same = absurd (cc)
-    by_slot slot o (Some was) at same = subst (λ (b : OutstandingTransaction). IsBlock b.tag) (inner (record was { covered = was.covered || covers command was.tag }) o same) (is.blocks slot was at)
+    by_slot slot o (Some was) at same = subst (λ (b : OutstandingTransaction). IsBlock b.tag) (inner (record was { covered = was.covered || covers command was.tag }) o same) (blocks slot was at)
       where
         inner : (a b : OutstandingTransaction) → Some a ≡ Some b → a ≡ b
         inner a b is = cc

@@ -3,6 +3,7 @@ pub mod Places
 pub mod Kept
 pub mod Sinces
 pub mod Lists
+pub mod FreeSlots
 pub mod Covering
 pub mod Answering
 pub mod Judged

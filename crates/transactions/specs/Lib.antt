@@ -2,6 +2,7 @@ pub mod Coverage
 pub mod RecentInvalidations
 pub mod Since
 pub mod Outstanding
+pub mod FreeSlots
 pub mod Tracking
 pub mod Completed
 pub mod Walks

@@ -1,5 +1,5 @@
 -- Transactions that are outstanding, each in a slot.
-use Rattle.std.specs.Prelude.{◌≡◌, ◌≤◌, ◌<◌, ◌^◌, ℕ, Bool, true, false, ◌||◌, List, length}
+use Rattle.std.specs.Prelude.{◌≡◌, ◌≤◌, ◌<◌, ℕ, Bool, true, false, ◌||◌, List, length}
 use Rattle.std.specs.Prelude.{Option, Some, None, map, slice_get}
 use Rattle.cmdcodec.specs.declared.command.Command.{Command}
 use Rattle.cmdcodec.specs.Opcodes.{is_sync}
@@ -27,6 +27,11 @@ covered_by (Applied command removed) slots = map (cover command) slots
 covered_by (Stopped ill) slots = slots
 covered_by (Replaced ill) slots = slots
 
+-- One is outstanding in the slot.
+abbrev pub is_outstanding : Option OutstandingTransaction → Bool
+is_outstanding None = false
+is_outstanding (Some o) = true
+
 -- One is outstanding in the slot, and covered.
 abbrev pub is_covered : Option OutstandingTransaction → Bool
 is_covered None = false
@@ -47,12 +52,6 @@ IsEmptyAt slots slot = (o : OutstandingTransaction) → ¬ (slice_get slots slot
 -- No slot is free.
 abbrev pub HasNoRoom : Slots → Type 0
 HasNoRoom slots = (slot : ℕ) → ¬ (slice_get slots slot ≡ Some None)
-
--- There are fewer than 2^16 slots, and each tag is a block.
-pub record AreOutstanding (slots : Slots) : Type 0 where
-  pub few : length slots < 2 ^ 16
-  pub blocks : (slot : ℕ) (o : OutstandingTransaction)
-      → slice_get slots slot ≡ Some (Some o) → IsBlock o.tag
 
 -- ---- outstanding transactions and the commands taken
 

@@ -34,6 +34,16 @@ pub record AreTracked (consumer : TrackedConsumer) (tracked : TrackedValue) : Ty
   pub tracked_is : IsTracked tracked (taken_of consumer.trail)
   pub seen : (raw : Raw) → tracked.unit.stop.next ≡ Some raw → HasSeen consumer.trail raw
 
+-- What was together stays so: the unit was called, and the consumer wasn't.
+abbrev pub StaysTogether : TrackedValue → TrackedValue → Type 0
+StaysTogether old new =
+    (consumer : TrackedConsumer) → AreTracked consumer old → AreTracked consumer new
+
+-- Any consumer that has taken nothing is together with it.
+abbrev pub IsTogetherFromNothing : TrackedValue → Type 0
+IsTogetherFromNothing tracked =
+    (consumer : TrackedConsumer) → taken_of consumer.trail ≡ [] → AreTracked consumer tracked
+
 -- This command was read at the head.
 pub record IsAtHead (consumer : TrackedConsumer) (p : TrackedPending) (raw : Raw) : Type 0 where
   pub read : TookRun 1 consumer p

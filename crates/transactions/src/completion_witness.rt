@@ -3,7 +3,8 @@ ghost use Rattle.std.specs.Prelude.{◌≡◌, []};
 ghost use Rattle.ringcore.specs.declared.world.event.Who.TheVariants.{Consumer as ConsumerOf};
 ghost use Rattle.ring.specs.table.Rule.{WentOn};
 ghost use Rattle.transactions.specs.Together.{AreTracked};
-ghost use Rattle.transactions.specs.Told.{WasToldAllFully, HasConsumerSteps, HasSenderSteps, SenderWentOn};
+ghost use Rattle.transactions.specs.Told.{WasToldAllFully, HasConsumerSteps};
+ghost use Rattle.transactions.specs.Told.{HasSenderSteps, SenderWentOn};
 
 use crate::tracked::TrackedUnit;
 use ring::{Consumer, Ring, Sender};

@@ -1,11 +1,12 @@
 //! The transactions that are outstanding.
 ghost use Rattle.std.specs.Prelude.{◌≡◌, ◌<◌, ◌≤◌, ◌^◌, List, length, map, replicate, count_by};
-ghost use Rattle.std.specs.Prelude.{slice_get, slice_set, Some, None, IfOk, IsTrue, ◌↔◌};
+ghost use Rattle.std.specs.Prelude.{slice_get, slice_set, Some, None, IfOk, IsTrue, ◌↔◌, false};
 ghost use Rattle.std.specs.Option.{MatchOption};
 ghost use Rattle.caches.specs.Blocks.{IsBlock};
-ghost use Rattle.transactions.specs.Outstanding.{covered_by, cover, is_covered};
-ghost use Rattle.transactions.specs.Outstanding.{HasNoRoom, IsBlockOf, AreOutstanding, IsAt};
-ghost use Rattle.transactions.specs.Outstanding.{IsEmptyAt};
+ghost use Rattle.transactions.specs.Between.{IsInsertAnswer};
+ghost use Rattle.transactions.specs.FreeSlots.{AreOwnPlaces, HasBlocks};
+ghost use Rattle.transactions.specs.Outstanding.{covered_by, cover, is_covered, IsBlockOf};
+ghost use Rattle.transactions.specs.Outstanding.{IsAt, IsEmptyAt};
 
 use crate::coverage::is_invalidation;
 use caches::{Tag, covers};
@@ -24,20 +25,28 @@ pub struct OutstandingTransaction {
     pub covered: bool,
 }
 
-/// Room for transactions, made at the beginning.
+/// Room for transactions, made at the beginning. To begin and to end one take as long however many
+/// there are.
 #[derive(Drop)]
 pub struct OutstandingTransactions {
     slots: Vec<Option<OutstandingTransaction>>,
+    /// From `count` on the slots that are free; what is ahead means nothing.
+    free: Vec<usize>,
+    /// How many are outstanding.
+    count: usize,
+    /// How many of those are covered.
+    covered: u32,
 }
 
 impl Model for OutstandingTransactions {
-    ghost use Rattle.transactions.specs.Outstanding.{Slots, AreOutstanding};
+    ghost use Rattle.transactions.specs.Outstanding.{Slots};
+    ghost use Rattle.transactions.specs.FreeSlots.{AreOutstanding};
 
     ghost Value = { Slots };
 
     ghost view = { λ t. t.slots.items };
 
-    ghost invariant = { λ t. AreOutstanding t.slots.items };
+    ghost invariant = { λ t. AreOutstanding t.slots.items t.free.items t.count t.covered };
 }
 
 impl OutstandingTransactions {
@@ -47,7 +56,13 @@ impl OutstandingTransactions {
     {
         let mut slots = Vec::new(alloc);
         slots.resize(usize::from(room), None)?;
-        Ok(OutstandingTransactions { slots })
+        let free = slot_numbers(alloc, usize::from(room))?;
+        Ok(OutstandingTransactions {
+            slots,
+            free,
+            count: 0,
+            covered: 0,
+        })
     }
 
     /// A command was judged so: if it was applied, those are covered from now on whose tag it
@@ -56,8 +71,9 @@ impl OutstandingTransactions {
         ensures { self.new ≡ covered_by verdict.now self.old }
     {
         match verdict {
-            Verdict::Applied { command, .. } if is_invalidation(command) => {
+            Verdict::Applied { command, .. } if self.count > 0 && is_invalidation(command) => {
                 cover_all(command, &mut self.slots);
+                self.covered = count_covered(&self.slots);
             }
             _ => {}
         }
@@ -67,15 +83,7 @@ impl OutstandingTransactions {
     pub(crate) fn covered(&self) -> u32
         ensures { result ≡ count_by is_covered self.now }
     {
-        count_covered(&self.slots)
-    }
-
-    /// The first slot that is free.
-    pub(crate) fn free(&self) -> Option<usize>
-        ensures { MatchOption result (HasNoRoom self.now)
-            (λ slot. slice_get self.now slot ≡ Some None) }
-    {
-        first_free(&self.slots)
+        self.covered
     }
 
     /// The transaction that is outstanding in a slot.
@@ -89,22 +97,46 @@ impl OutstandingTransactions {
         }
     }
 
-    /// Puts a transaction into a slot.
-    pub(crate) fn put(&mut self, slot: usize, outstanding: OutstandingTransaction)
-        requires within { slot < length self.old }
-        requires block { IsBlock outstanding.tag }
-        ensures { self.new ≡ slice_set self.old slot (Some outstanding) }
+    /// Puts one that isn't covered into a free slot, and returns that.
+    pub(crate) fn insert(&mut self, transaction: OutstandingTransaction) -> Option<usize>
+        requires block { IsBlock transaction.tag }
+        requires uncovered { transaction.covered ≡ false }
+        ensures { IsInsertAnswer self.old transaction self.new result }
     {
-        self.slots[slot] = Some(outstanding);
+        if self.count >= self.free.len() {
+            return None;
+        }
+        let slot = self.free[self.count];
+        self.slots[slot] = Some(transaction);
+        self.count += 1;
+        Some(slot)
     }
 
-    /// Frees a slot.
-    pub(crate) fn clear(&mut self, slot: usize)
-        requires within { slot < length self.old }
+    /// Frees the slot of one that is outstanding.
+    pub(crate) fn remove(&mut self, slot: usize, transaction: OutstandingTransaction)
+        requires outstanding { IsAt self.old slot transaction }
         ensures { self.new ≡ slice_set self.old slot None }
     {
         self.slots[slot] = None;
+        self.count -= 1;
+        self.free[self.count] = slot;
+        if transaction.covered {
+            self.covered -= 1;
+        }
     }
+}
+
+/// The numbers of so many slots.
+fn slot_numbers(alloc: Global, room: usize) -> Result<Vec<usize>, AllocError>
+    ensures many { IfOk result (λ numbers. length numbers.items ≡ room) }
+    ensures numbers { IfOk result (λ numbers. AreOwnPlaces room numbers.items) }
+{
+    let mut numbers = Vec::new(alloc);
+    numbers.resize(room, 0)?;
+    for slot in 0..numbers.len() {
+        numbers[slot] = slot;
+    }
+    Ok(numbers)
 }
 
 fn count_covered(slots: &[Option<OutstandingTransaction>]) -> u32
@@ -120,20 +152,8 @@ fn count_covered(slots: &[Option<OutstandingTransaction>]) -> u32
     count
 }
 
-fn first_free(slots: &[Option<OutstandingTransaction>]) -> Option<usize>
-    ensures { MatchOption result (HasNoRoom slots.now)
-        (λ slot. slice_get slots.now slot ≡ Some None) }
-{
-    for index in 0..slots.len() {
-        if slots[index].is_none() {
-            return Some(index);
-        }
-    }
-    None
-}
-
 fn cover_all(command: &Command, slots: &mut Vec<Option<OutstandingTransaction>>)
-    requires { AreOutstanding slots.old.items }
+    requires { HasBlocks slots.old.items }
     ensures { slots.new.items ≡ map (cover command.now) slots.old.items }
 {
     for slot in slots.iter_mut() {

@@ -14,14 +14,14 @@ ghost use Rattle.caches.specs.declared.fault.CacheFault.{CacheFault as CacheFaul
 ghost use Rattle.engine.specs.Stops.{IsStopped, MayComeNext, IsAcknowledgementAnswer};
 ghost use Rattle.engine.specs.Counting.{taken};
 ghost use Rattle.engine.specs.Units.{HasJudged, took};
-ghost use Rattle.transactions.specs.Between.{HasToWait, TakesTracked, IsRefusal};
+ghost use Rattle.transactions.specs.Between.{HasToWait, TakesTracked, IsRefusal, IsBegunIfRoom};
 ghost use Rattle.transactions.specs.Outstanding.{covered_by};
 ghost use Rattle.transactions.specs.Completed.{IsCompletedAt, IsComplete};
 ghost use Rattle.transactions.specs.TrackedVerdicts.{IsTrackedVerdict, WaitsExactly, took_by};
 ghost use Rattle.transactions.specs.Tracking.{IsTracked, StaysTracked, new_tracked};
 ghost use Rattle.transactions.specs.Tracking.{with_filled, with_evicted, with_acknowledged};
+ghost use Rattle.transactions.specs.Together.{StaysTogether, IsTogetherFromNothing};
 ghost use Rattle.transactions.specs.Transactions.{IsBeginAnswer, IsBeginWalkedAnswer, IsEndAnswer};
-ghost use Rattle.transactions.specs.Transactions.{with_outstanding};
 ghost use Rattle.transactions.specs.Walks.{AnswersWalk, with_walked};
 
 use crate::outstanding::{OutstandingTransaction, OutstandingTransactions};
@@ -90,6 +90,7 @@ impl TrackedUnit {
         requires empty { caches.entries ≡ held [] }
         ensures unit { IfOk result (λ t. t ≡ new_tracked caches room) }
         ensures tracked { IfOk result (λ t. IsTracked t []) }
+        ensures together { IfOk result (λ t. IsTogetherFromNothing t) }
     {
         let recent = RecentInvalidations::new(alloc)?;
         let outstanding = OutstandingTransactions::new(alloc, room)?;
@@ -177,6 +178,7 @@ impl TrackedUnit {
         ensures ok { OnOk result (self.new ≡ with_walked walk tag value self.old) }
         ensures err { OnErr result (self.new ≡ self.old) }
         ensures tracked { StaysTracked self.old self.new [] }
+        ensures together { StaysTogether self.old self.new }
     {
         if let Some(fault) = self.refusal(walk, &tag) {
             return Err(fault);
@@ -215,6 +217,7 @@ impl TrackedUnit {
     pub fn begin(&mut self, tag: &Tag) -> Result<(Entry, Transaction), BeginFault>
         ensures begun { IsBeginAnswer self.old tag.now self.new result }
         ensures tracked { StaysTracked self.old self.new [] }
+        ensures together { StaysTogether self.old self.new }
     {
         if !tag.is_block() {
             return Err(BeginFault::NotHeld);
@@ -222,10 +225,10 @@ impl TrackedUnit {
         let Some(entry) = self.unit.lookup(tag) else {
             return Err(BeginFault::NotHeld);
         };
-        let Some(slot) = self.outstanding.free() else {
-            return Err(BeginFault::Full);
-        };
-        Ok((entry, self.begin_in(slot, *tag, entry.born)))
+        match self.begin_with(*tag, entry.born) {
+            Some(transaction) => Ok((entry, transaction)),
+            None => Err(BeginFault::Full),
+        }
     }
 
     /// A transaction begins with what a walk read, whether that is held or not: as with an entry
@@ -237,6 +240,7 @@ impl TrackedUnit {
     pub fn begin_walked(&mut self, walk: Walk, tag: &Tag) -> Result<Transaction, BeginFault>
         ensures begun { IsBeginWalkedAnswer self.old walk tag.now self.new result }
         ensures tracked { StaysTracked self.old self.new [] }
+        ensures together { StaysTogether self.old self.new }
     {
         if !tag.is_block() {
             let fault = WalkFault::Refused(CacheFault::BadBlock);
@@ -245,19 +249,16 @@ impl TrackedUnit {
         if let Some(fault) = self.refusal(walk, tag) {
             return Err(BeginFault::Walked(fault));
         }
-        let Some(slot) = self.outstanding.free() else {
-            return Err(BeginFault::Full);
-        };
-        Ok(self.begin_in(slot, *tag, walk.began))
+        match self.begin_with(*tag, walk.began) {
+            Some(transaction) => Ok(transaction),
+            None => Err(BeginFault::Full),
+        }
     }
 
-    /// A transaction begins in a slot that is free.
-    fn begin_in(&mut self, slot: usize, tag: Tag, born: u64) -> Transaction
-        requires free { slice_get self.old.outstanding slot ≡ Some None }
+    /// A transaction begins with an entry of this tag, if a slot is free.
+    fn begin_with(&mut self, tag: Tag, born: u64) -> Option<Transaction>
         requires block { IsBlock tag }
-        ensures slot { result.slot ≡ slot }
-        ensures number { result.number ≡ self.old.next_number }
-        ensures new { self.new ≡ with_outstanding self.old slot tag born }
+        ensures { IsBegunIfRoom self.old tag born self.new result }
     {
         let number = self.next_number;
         let transaction = OutstandingTransaction {
@@ -266,9 +267,9 @@ impl TrackedUnit {
             born,
             covered: false,
         };
-        self.outstanding.put(slot, transaction);
+        let slot = self.outstanding.insert(transaction)?;
         self.next_number = number_after(number);
-        Transaction { slot, number }
+        Some(Transaction { slot, number })
     }
 
     /// A transaction is over.
@@ -277,11 +278,12 @@ impl TrackedUnit {
     pub fn end(&mut self, transaction: Transaction) -> Result<(), Transaction>
         ensures ended { IsEndAnswer self.old transaction self.new result }
         ensures tracked { StaysTracked self.old self.new [] }
+        ensures together { StaysTogether self.old self.new }
     {
         match self.outstanding.get(transaction.slot) {
             Some(outstanding) if outstanding.number == transaction.number => {
                 let Transaction { slot, number: _ } = transaction;
-                self.outstanding.clear(slot);
+                self.outstanding.remove(slot, outstanding);
                 Ok(())
             }
             _ => Err(transaction),
@@ -294,6 +296,7 @@ impl TrackedUnit {
         ensures ok { OnOk result (self.new ≡ with_filled tag value self.old) }
         ensures err { OnErr result (self.new ≡ self.old) }
         ensures tracked { StaysTracked self.old self.new [] }
+        ensures together { StaysTogether self.old self.new }
     {
         self.unit.fill(tag, value)
     }
@@ -304,6 +307,7 @@ impl TrackedUnit {
         ensures was { result ≡ finite.get self.old.unit.caches.entries tag.now }
         ensures new { self.new ≡ with_evicted tag.now self.old }
         ensures tracked { StaysTracked self.old self.new [] }
+        ensures together { StaysTogether self.old self.new }
     {
         self.unit.evict(tag)
     }
@@ -315,6 +319,7 @@ impl TrackedUnit {
         ensures ok { OnOk result (self.new ≡ with_acknowledged remedy self.old) }
         ensures err { OnErr result (self.new ≡ self.old) }
         ensures tracked { StaysTracked self.old self.new [] }
+        ensures together { StaysTogether self.old self.new }
     {
         self.unit.acknowledge(gerrorn, remedy)
     }

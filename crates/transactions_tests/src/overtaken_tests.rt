@@ -2,9 +2,10 @@
 use caches::{Caches, Entry, Scope, Tag};
 use cmdcodec::{Page, Raw, Sid, Vmid};
 use engine::Verdict;
+use ringcore::MOST_RESERVED;
 use std::alloc::Global;
 use std::process::Abort;
-use transactions::{BeginFault, TrackedVerdict, Transaction, TrackedUnit, WalkFault};
+use transactions::{BeginFault, TrackedUnit, TrackedVerdict, Transaction, WalkFault};
 
 /// CMD_CFGI_STE of stream 5 with Leaf 1.
 const STE: Raw = Raw {
@@ -48,6 +49,14 @@ fn global(rt: &impl Abort) -> Tag {
     }
 }
 
+/// Judges words if a unit may.
+fn judged(rt: &impl Abort, unit: &mut TrackedUnit, raw: Raw) -> TrackedVerdict {
+    assert!(rt; !unit.unit().stopped());
+    assert!(rt; unit.unit().awaited().is_none());
+    assert!(rt; unit.unit().counts().taken() < MOST_RESERVED);
+    unit.judge(raw)
+}
+
 fn is_applied(verdict: &TrackedVerdict) -> bool {
     matches!(verdict, TrackedVerdict::Judged(Verdict::Applied { .. }))
 }
@@ -77,7 +86,7 @@ fn refusal(rt: &impl Abort, unit: &mut TrackedUnit, tag: &Tag) -> BeginFault {
 fn a_walk_that_a_command_overtakes(rt: HostRuntime) {
     let mut unit = tracked(&rt, rt.alloc(), 1);
     let walk = unit.begin_walk();
-    assert!(rt; is_applied(&unit.judge(STE)));
+    assert!(rt; is_applied(&judged(&rt, &mut unit, STE)));
     let (five, six) = (stream(&rt, 5), stream(&rt, 6));
     assert_eq!(rt; unit.fill_walked(walk, five, 70), Err(WalkFault::Overtaken));
     assert_eq!(rt; unit.fill_walked(walk, six, 71), Ok(None));
@@ -93,13 +102,13 @@ fn a_walk_that_is_too_old(rt: HostRuntime) {
     let mut unit = tracked(&rt, rt.alloc(), 1);
     let walk = unit.begin_walk();
     for _ in 0..64 {
-        assert!(rt; is_applied(&unit.judge(STE)));
-        assert!(rt; is_applied(&unit.judge(PREFETCH)));
-        assert!(rt; is_applied(&unit.judge(SYNC)));
+        assert!(rt; is_applied(&judged(&rt, &mut unit, STE)));
+        assert!(rt; is_applied(&judged(&rt, &mut unit, PREFETCH)));
+        assert!(rt; is_applied(&judged(&rt, &mut unit, SYNC)));
     }
     let six = stream(&rt, 6);
     assert_eq!(rt; unit.fill_walked(walk, six, 71), Ok(None));
-    assert!(rt; is_applied(&unit.judge(STE)));
+    assert!(rt; is_applied(&judged(&rt, &mut unit, STE)));
     assert_eq!(rt; unit.fill_walked(walk, six, 72), Err(WalkFault::TooOld));
     let other = tracked(&rt, rt.alloc(), 1);
     let early = other.begin_walk();
@@ -117,11 +126,14 @@ fn a_sync_that_waits(rt: HostRuntime) {
     assert_eq!(rt; unit.fill_walked(walk, tag, 70), Ok(None));
     let first = begin(&rt, &mut unit, &tag);
     let second = begin(&rt, &mut unit, &tag);
-    assert!(rt; is_applied(&unit.judge(SYNC)));
-    assert!(rt; is_applied(&unit.judge(ALL)));
+    assert!(rt; is_applied(&judged(&rt, &mut unit, SYNC)));
+    assert!(rt; is_applied(&judged(&rt, &mut unit, ALL)));
     assert_eq!(rt; refusal(&rt, &mut unit, &tag), BeginFault::NotHeld);
     let transactions = 2;
-    assert_eq!(rt; unit.judge(SYNC), TrackedVerdict::Waiting { transactions });
+    assert_eq!(rt;
+        judged(&rt, &mut unit, SYNC),
+        TrackedVerdict::Waiting { transactions }
+    );
     let walk = unit.begin_walk();
     let third = match unit.begin_walked(walk, &tag) {
         Ok(transaction) => transaction,
@@ -131,14 +143,20 @@ fn a_sync_that_waits(rt: HostRuntime) {
         Ok(_transaction) => panic!(rt; "there is room for three"),
         Err(fault) => assert_eq!(rt; fault, BeginFault::Full),
     }
-    assert_eq!(rt; unit.judge(SYNC), TrackedVerdict::Waiting { transactions });
+    assert_eq!(rt;
+        judged(&rt, &mut unit, SYNC),
+        TrackedVerdict::Waiting { transactions }
+    );
     end(&rt, &mut unit, first);
     let transactions = 1;
-    assert_eq!(rt; unit.judge(SYNC), TrackedVerdict::Waiting { transactions });
+    assert_eq!(rt;
+        judged(&rt, &mut unit, SYNC),
+        TrackedVerdict::Waiting { transactions }
+    );
     // Another command is taken meanwhile, if it comes in place of the CMD_SYNC.
-    assert!(rt; is_applied(&unit.judge(PREFETCH)));
+    assert!(rt; is_applied(&judged(&rt, &mut unit, PREFETCH)));
     end(&rt, &mut unit, second);
-    assert!(rt; is_applied(&unit.judge(SYNC)));
+    assert!(rt; is_applied(&judged(&rt, &mut unit, SYNC)));
     end(&rt, &mut unit, third);
     assert_eq!(rt; unit.unit().counts().syncs(), 2);
 }
@@ -154,7 +172,7 @@ fn a_token_of_another_unit(rt: HostRuntime) {
         Err(token) => token,
     };
     end(&rt, &mut one, token);
-    assert!(rt; is_applied(&one.judge(STE)));
-    let stopped = one.judge(ILLEGAL_SYNC);
+    assert!(rt; is_applied(&judged(&rt, &mut one, STE)));
+    let stopped = judged(&rt, &mut one, ILLEGAL_SYNC);
     assert!(rt; matches!(stopped, TrackedVerdict::Judged(Verdict::Stopped(_))));
 }
