@@ -10,7 +10,8 @@ pub record IsListedFrom (free : List ℕ) (from slot : ℕ) : Type 0 where
   pub behind : from ≤ place
   pub at : slice_get free place ≡ Some slot
 
--- From this place on the list has each free slot once, and no other slot. What is ahead means nothing.
+-- From this place on the list has each free slot once, and no other slot. What is ahead means
+-- nothing.
 pub record AreFree (slots : Slots) (free : List ℕ) (from : ℕ) : Type 0 where
   pub room : length free ≡ length slots
   pub are : (place slot : ℕ) → from ≤ place
@@ -28,8 +29,8 @@ abbrev pub HasBlocks : Slots → Type 0
 HasBlocks slots =
     (slot : ℕ) (o : OutstandingTransaction) → slice_get slots slot ≡ Some (Some o) → IsBlock o.tag
 
--- There are fewer than 2^16 slots, each tag is a block, so many are outstanding and so many of those
--- covered, and the list has as many places ahead of the free slots as are outstanding.
+-- There are fewer than 2^16 slots, each tag is a block, so many are outstanding and so many of
+-- those covered, and the list has as many places ahead of the free slots as are outstanding.
 pub record AreOutstanding (slots : Slots) (free : List ℕ) (count covered : ℕ) : Type 0 where
   pub few : length slots < 2 ^ 16
   pub blocks : HasBlocks slots
