@@ -71,7 +71,7 @@ fn begin(rt: &impl Abort, unit: &mut TrackedUnit, tag: &Tag) -> Transaction {
 fn end(rt: &impl Abort, unit: &mut TrackedUnit, transaction: Transaction) {
     match unit.end(transaction) {
         Ok(()) => {}
-        Err(_back) => panic!(rt; "it isn't open here"),
+        Err(_back) => panic!(rt; "it isn't outstanding here"),
     }
 }
 
@@ -106,16 +106,22 @@ fn a_walk_that_is_too_old(rt: HostRuntime) {
         assert!(rt; is_applied(&judged(&rt, &mut unit, PREFETCH)));
         assert!(rt; is_applied(&judged(&rt, &mut unit, SYNC)));
     }
-    let six = stream(&rt, 6);
+    let (six, seven) = (stream(&rt, 6), stream(&rt, 7));
     assert_eq!(rt; unit.fill_walked(walk, six, 71), Ok(None));
     assert!(rt; is_applied(&judged(&rt, &mut unit, STE)));
-    assert_eq!(rt; unit.fill_walked(walk, six, 72), Err(WalkFault::TooOld));
-    let other = tracked(&rt, rt.alloc(), 1);
-    let early = other.begin_walk();
-    assert_eq!(rt; unit.fill_walked(early, six, 73), Err(WalkFault::TooOld));
-    let mut other = other;
+    assert_eq!(rt; unit.fill_walked(walk, seven, 72), Err(WalkFault::TooOld));
+}
+
+#[test]
+fn a_walk_of_another_unit(rt: HostRuntime) {
+    let mut unit = tracked(&rt, rt.alloc(), 1);
+    let mut other = tracked(&rt, rt.alloc(), 1);
+    assert!(rt; is_applied(&judged(&rt, &mut unit, STE)));
+    let (six, seven) = (stream(&rt, 6), stream(&rt, 7));
     let late = unit.begin_walk();
     assert_eq!(rt; other.fill_walked(late, six, 74), Err(WalkFault::OtherUnit));
+    let early = other.begin_walk();
+    assert_eq!(rt; unit.fill_walked(early, seven, 73), Ok(None));
 }
 
 #[test]
@@ -168,7 +174,7 @@ fn a_token_of_another_unit(rt: HostRuntime) {
     assert!(rt; one.fill(tag, 70).is_ok());
     let token = begin(&rt, &mut one, &tag);
     let token = match other.end(token) {
-        Ok(()) => panic!(rt; "nothing is open there"),
+        Ok(()) => panic!(rt; "nothing is outstanding there"),
         Err(token) => token,
     };
     end(&rt, &mut one, token);
