@@ -1,5 +1,5 @@
 -- What a tracked unit does with a command.
-use Rattle.std.specs.Prelude.{◌≡◌, ◌<◌, ◌↔◌, ℕ, true, List, [], ◌++◌, None, count_by}
+use Rattle.std.specs.Prelude.{◌≡◌, ◌<◌, ◌↔◌, ℕ, true, List, [], None, count_by}
 use Rattle.cmdcodec.specs.declared.raw.Raw.{Raw}
 use Rattle.cmdcodec.specs.Opcodes.{is_sync}
 use Rattle.cmdcodec.specs.Legality.{first_ill}
@@ -8,7 +8,7 @@ use Rattle.engine.specs.Units.{HasJudged, took}
 use Rattle.engine.specs.declared.verdict.Verdict.{Verdict}
 use Rattle.transactions.specs.declared.tracked_verdict.TrackedVerdict.{TrackedVerdict}
 use Rattle.transactions.specs.declared.tracked_verdict.TrackedVerdict.TheVariants.{Judged, Waiting}
-use Rattle.transactions.specs.Outstanding.{Slots, covered_by, is_covered, HasCoveredOutstanding}
+use Rattle.transactions.specs.Outstanding.{covered_by, is_covered, HasCoveredOutstanding}
 use Rattle.transactions.specs.Tracking.{TrackedValue, IsTracked}
 
 -- the commands that it takes

@@ -1,5 +1,5 @@
 -- The tracked unit as contracts see it, and what it knows of the commands taken.
-use Rattle.std.specs.Prelude.{◌≡◌, ◌≤◌, ◌+◌, ◌%◌, ℕ, List, [], ◌++◌, length, None, replicate}
+use Rattle.std.specs.Prelude.{◌≡◌, ◌+◌, ◌%◌, ℕ, List, [], ◌++◌, length, None, replicate}
 use Rattle.ringcore.specs.world.World.{Taken}
 use Rattle.engine.specs.Settled.{IsSettled}
 use Rattle.engine.specs.Counting.{taken}

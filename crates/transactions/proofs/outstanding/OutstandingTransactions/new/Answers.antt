@@ -1,4 +1,4 @@
-use Rattle.std.proofs.Common.{◌≡◌, ◌<◌, ◌^◌, ◌-◌, ℕ, zero, suc, List, [], ◌++◌, None, Option, length, take, refl, sym, subst, ap, ◌∙◌, arith}
+use Rattle.std.proofs.Common.{◌≡◌, ◌-◌, ℕ, zero, suc, [], ◌++◌, None, Option, length, take, refl, sym, subst, ap, ◌∙◌, arith}
 use Rattle.std.specs.Prelude.{replicate}
 use Rattle.transactions.specs.declared.outstanding.OutstandingTransaction.{OutstandingTransaction}
 use Rattle.transactions.specs.Outstanding.{Slots}
