@@ -1,0 +1,327 @@
+-- Transactions and one more command.
+use Rattle.std.proofs.Common.{◌≡◌, ◌≤◌, ◌<◌, ◌+◌, ℕ, zero, suc, Bool, true, false, cond, ◌||◌, List, [], ◌∷◌, ◌++◌, length, length-append, append-nil, map, Option, Some, None, refl, sym, ap, subst, ◌∙◌, arith, ⊎_elim, inl, inr, ◌⊎◌}
+use Rattle.std.specs.Prelude.{slice_get, slice_set, count_by}
+use Rattle.std.proofs.lemmas.Option.{slice_get_within}
+use Rattle.cmdcodec.specs.declared.raw.Raw.{Raw}
+use Rattle.cmdcodec.specs.declared.command.Command.{Command}
+use Rattle.cmdcodec.specs.Opcodes.{is_sync}
+use Rattle.cmdcodec.specs.Spelling.{Spells}
+use Rattle.ringcore.specs.declared.world.event.Outcome.TheVariants.{Applied, Replaced}
+use Rattle.ringcore.specs.world.World.{Taken}
+use Rattle.caches.specs.declared.tag.Tag.{Tag}
+use Rattle.caches.specs.Covers.{covers}
+use Rattle.engine.specs.Settled.{HasCovered, IsSettled, IsSettledEntry}
+use Rattle.caches.specs.Blocks.{IsBlock}
+use Rattle.caches.specs.declared.tag.Entry.{Entry}
+use Rattle.transactions.specs.FreeSlots.{HasBlocks}
+use Rattle.transactions.specs.Tracking.{TrackedValue, IsTracked}
+use Rattle.transactions.specs.Transactions.{TransactionValue, with_outstanding, IsEnded}
+use Rattle.std.proofs.lemmas.List.Sums.{sum_by-cons}
+use Rattle.engine.specs.Counting.{taken}
+use Rattle.engine.specs.Units.{UnitValue, StaysSettled}
+use Rattle.transactions.specs.declared.outstanding.OutstandingTransaction.{OutstandingTransaction}
+use Rattle.transactions.specs.Coverage.{is_invalidation}
+use Rattle.transactions.specs.Since.{HasCoveredSince}
+use Rattle.transactions.specs.Outstanding.{Slots, cover, is_covered, IsOverdue, NoneIsOverdue, TellsCovered, TellCovered, HasCoveredOutstanding}
+use Rattle.transactions.proofs.Lists.{get_more, get_end, get_last, get_set, get_map, counted, counts_one}
+use Rattle.transactions.proofs.Spelled.{covers_may}
+
+-- ---- what has covered a tag
+
+module _ (list : List Taken) (t : Taken) (began : ℕ) (tag : Tag) where
+  pub since_more : HasCoveredSince list began tag → HasCoveredSince (list ++ t ∷ []) began tag
+  since_more h = record { place = h.place; taken = h.taken; at = get_more list t h.taken h.place h.at; since = h.since; covered = h.covered }
+
+  pub since_now : began ≤ length list → HasCovered t tag → HasCoveredSince (list ++ t ∷ []) began tag
+  since_now within c = record { place = length list; taken = t; at = get_end list t; since = within; covered = c }
+
+  pub since_last : HasCoveredSince (list ++ t ∷ []) began tag → HasCoveredSince list began tag ⊎ HasCovered t tag
+  since_last h =
+      ⊎_elim
+      (λ (old : slice_get list h.place ≡ Some h.taken). inl (record { place = h.place; taken = h.taken; at = old; since = h.since; covered = h.covered }))
+      (λ (new : (h.place ≡ length list) × (t ≡ h.taken)). inr (subst (λ (u : Taken). HasCovered u tag) (sym new.1) h.covered))
+      (get_last list t h.taken h.place h.at)
+
+-- ---- what makes a transaction late
+
+record IsSyncNow (t : Taken) : Type 0 where
+  applied : t.outcome ≡ Applied
+  sync : is_sync t.raw ≡ true
+
+overdue_last : (list : List Taken) (t : Taken) (o : OutstandingTransaction) → IsOverdue (list ++ t ∷ []) o → IsOverdue list o ⊎ (IsSyncNow t × HasCoveredSince list o.born o.tag)
+overdue_last list t o l =
+    ⊎_elim
+    (λ (old : slice_get list l.later ≡ Some l.sync).
+    let low = slice_get_within list l.later l.sync old in
+    inl (record { place = l.place; taken = l.taken; at = in_list (before l.place l.later (length list) l.after low); since = l.since; covered = l.covered; later = l.later; sync = l.sync; at_later = old; after = l.after; applied = l.applied; is_sync = l.is_sync }))
+    (λ (new : (l.later ≡ length list) × (t ≡ l.sync)).
+    inr (
+      record { applied = ap (λ (u : Taken). u.outcome) new.1 ∙ l.applied; sync = ap (λ (u : Taken). is_sync u.raw) new.1 ∙ l.is_sync },
+      record { place = l.place; taken = l.taken; at = in_list (at_end l.place l.later (length list) l.after new.0); since = l.since; covered = l.covered },
+    ))
+    (get_last list t l.sync l.later l.at_later)
+  where
+    before : (a b c : ℕ) → a < b → b < c → a < c
+    before a b c p q = omega (arith, p, q)
+
+    at_end : (a b c : ℕ) → a < b → b ≡ c → a < c
+    at_end a b c p q = omega (arith, p, q)
+
+    in_list : l.place < length list → slice_get list l.place ≡ Some l.taken
+    in_list low =
+        ⊎_elim
+        (λ (old : slice_get list l.place ≡ Some l.taken). old)
+        (λ (new : (l.place ≡ length list) × (t ≡ l.taken)). let same = new.0 in absurd (omega (arith, low, same)))
+        (get_last list t l.taken l.place l.at)
+
+-- ---- tests
+
+or_true : (a b : Bool) → a || b ≡ true → (a ≡ true) ⊎ (b ≡ true)
+or_true true b is = inl refl
+or_true false b is = inr is
+
+or_false : (a b : Bool) → a || b ≡ false → (a ≡ false) × (b ≡ false)
+or_false true b is = absurd (cc)
+or_false false b is = (refl, is)
+
+or_none : (a b : Bool) → b ≡ false → a || b ≡ a
+or_none true b is = refl
+or_none false b is = is
+
+either : (b : Bool) → (b ≡ true) ⊎ (b ≡ false)
+either true = inl refl
+either false = inr refl
+
+-- ---- a command that was applied
+
+module _ (list : List Taken) (raw : Raw) (command : Command) (spelled : Spells raw command) (alone : (other : Command) → Spells raw other → other ≡ command) where
+  abbrev now : Taken
+  now = record { raw = raw; outcome = Applied }
+
+  covers_now : (tag : Tag) → covers command tag ≡ true → HasCovered now tag
+  covers_now tag so = record { applied = refl; command = command; spelled = spelled; covered = so }
+
+  is_covering : (tag : Tag) → HasCovered now tag → covers command tag ≡ true
+  is_covering tag c = ap (λ (x : Command). covers x tag) (sym (alone c.command c.spelled)) ∙ c.covered
+
+  covered_one : (o : OutstandingTransaction) → TellsCovered list o → TellsCovered (list ++ now ∷ []) (record o { covered = o.covered || covers command o.tag })
+  covered_one o m = record {
+    born = let b = m.born in let longer = length-append list (now ∷ []) in omega (arith, b, longer);
+    covered = λ so.
+        ⊎_elim
+        (λ (old : o.covered ≡ true). since_more list now o.born o.tag (m.covered old))
+        (λ (new : covers command o.tag ≡ true). since_now list now o.born o.tag m.born (covers_now o.tag new))
+        (or_true o.covered (covers command o.tag) so);
+    uncovered = λ nay h.
+        let neither = or_false o.covered (covers command o.tag) nay in
+        ⊎_elim
+        (λ (old : HasCoveredSince list o.born o.tag). m.uncovered neither.0 old)
+        (λ (new : HasCovered now o.tag). let so = is_covering o.tag new in let not_so = neither.1 in absurd (cc))
+        (since_last list now o.born o.tag h);
+  }
+
+  record WasCovered (slots : Slots) (slot : ℕ) (o : OutstandingTransaction) : Type 0 where
+    was : OutstandingTransaction
+    at : slice_get slots slot ≡ Some (Some was)
+    o_is : record was { covered = was.covered || covers command was.tag } ≡ o
+
+  was_covered : (slots : Slots) (slot : ℕ) (o : OutstandingTransaction) → slice_get (map (cover command) slots) slot ≡ Some (Some o) → WasCovered slots slot o
+  was_covered slots slot o at = let there = get_map (cover command) slots slot (Some o) at in by_slot there.0 there.1 there.2
+    where
+      by_slot : (x : Option OutstandingTransaction) → slice_get slots slot ≡ Some x → cover command x ≡ Some o → WasCovered slots slot o
+      by_slot None there is = absurd (cc)
+      by_slot (Some was) there is = record { was = was; at = there; o_is = same (record was { covered = was.covered || covers command was.tag }) o is }
+        where
+          same : (a b : OutstandingTransaction) → Some a ≡ Some b → a ≡ b
+          same a b is = cc
+
+  pub are_covered : (slots : Slots) → TellCovered slots list → TellCovered (map (cover command) slots) (list ++ now ∷ [])
+  are_covered slots covered slot o at =
+      let w = was_covered slots slot o at in subst (TellsCovered (list ++ now ∷ [])) w.o_is (covered_one w.was (covered slot w.was w.at))
+
+  pub none_overdue : (slots : Slots) → TellCovered slots list → NoneIsOverdue slots list → (is_sync raw ≡ true → ¬ HasCoveredOutstanding slots list)
+      → NoneIsOverdue (map (cover command) slots) (list ++ now ∷ [])
+  none_overdue slots covered on_time waited slot o at late =
+      let w = was_covered slots slot o at in
+      let l : IsOverdue (list ++ now ∷ []) w.was = as_before w.was (subst (IsOverdue (list ++ now ∷ [])) (sym w.o_is) late) in
+      ⊎_elim
+      (λ (old : IsOverdue list w.was). on_time slot w.was w.at old)
+      (λ (new : IsSyncNow now × HasCoveredSince list w.was.born w.was.tag). waited new.0.sync (record { slot = slot; outstanding = w.was; at = w.at; covered = new.1 }))
+      (overdue_last list now w.was l)
+    where
+      as_before : (was : OutstandingTransaction) → IsOverdue (list ++ now ∷ []) (record was { covered = was.covered || covers command was.tag }) → IsOverdue (list ++ now ∷ []) was
+      as_before was l = record { place = l.place; taken = l.taken; at = l.at; since = l.since; covered = l.covered; later = l.later; sync = l.sync; at_later = l.at_later; after = l.after; applied = l.applied; is_sync = l.is_sync }
+
+-- A command that can't cover anything marks nothing.
+pub covers_no_slot : (command : Command) (slots : Slots) → is_invalidation command ≡ false → slots ≡ map (cover command) slots
+covers_no_slot command [] none = refl
+covers_no_slot command (None ∷ slots) none = ap (λ (l : Slots). None ∷ l) (covers_no_slot command slots none)
+covers_no_slot command (Some o ∷ slots) none =
+    λ k. Some (record o { covered = sym (or_none o.covered (covers command o.tag) (covers_none (either (covers command o.tag)))) k }) ∷ covers_no_slot command slots none k
+  where
+    covers_none : (covers command o.tag ≡ true) ⊎ (covers command o.tag ≡ false) → covers command o.tag ≡ false
+    covers_none (inl so) = let may = covers_may command o.tag so in absurd (cc)
+    covers_none (inr nay) = nay
+
+-- ---- a command that was replaced
+
+module _ (list : List Taken) (raw : Raw) where
+  abbrev instead : Taken
+  instead = record { raw = raw; outcome = Replaced }
+
+  no_cover : (tag : Tag) → ¬ HasCovered instead tag
+  no_cover tag c = let nay : Replaced ≡ Applied = c.applied in absurd (cc)
+
+  pub replaced_covered : (slots : Slots) → TellCovered slots list → TellCovered slots (list ++ instead ∷ [])
+  replaced_covered slots covered slot o at =
+      let m = covered slot o at in
+      record {
+        born = let b = m.born in let longer = length-append list (instead ∷ []) in omega (arith, b, longer);
+        covered = λ so. since_more list instead o.born o.tag (m.covered so);
+        uncovered = λ nay h.
+            ⊎_elim
+            (λ (old : HasCoveredSince list o.born o.tag). m.uncovered nay old)
+            (λ (new : HasCovered instead o.tag). no_cover o.tag new)
+            (since_last list instead o.born o.tag h);
+      }
+
+  pub replaced_overdue : (slots : Slots) → NoneIsOverdue slots list → NoneIsOverdue slots (list ++ instead ∷ [])
+  replaced_overdue slots on_time slot o at late =
+      ⊎_elim
+      (λ (old : IsOverdue list o). on_time slot o at old)
+      (λ (new : IsSyncNow instead × HasCoveredSince list o.born o.tag). let nay : Replaced ≡ Applied = new.0.applied in absurd (cc))
+      (overdue_last list instead o late)
+
+-- ---- how many are covered
+
+pub waits_for : (slots : Slots) (list : List Taken) → TellCovered slots list → 0 < count_by is_covered slots → HasCoveredOutstanding slots list
+waits_for slots list covered some = let one = counts_one is_covered slots some in by_slot one.0 one.1 one.2 one.3
+  where
+    by_slot : (slot : ℕ) (x : Option OutstandingTransaction) → slice_get slots slot ≡ Some x → is_covered x ≡ true → HasCoveredOutstanding slots list
+    by_slot slot None at so = absurd (cc)
+    by_slot slot (Some o) at so = record { slot = slot; outstanding = o; at = at; covered = (covered slot o at).covered so }
+
+pub has_to_wait : (slots : Slots) (list : List Taken) → TellCovered slots list → HasCoveredOutstanding slots list → 0 < count_by is_covered slots
+has_to_wait slots list covered h =
+    counted is_covered slots h.slot (Some h.outstanding) h.at (so (either h.outstanding.covered))
+  where
+    so : (h.outstanding.covered ≡ true) ⊎ (h.outstanding.covered ≡ false) → h.outstanding.covered ≡ true
+    so (inl is) = is
+    so (inr nay) = absurd ((covered h.slot h.outstanding h.at).uncovered nay h.covered)
+
+-- ---- one begins or ends
+
+pub begun_covered : (slots : Slots) (list : List Taken) (slot : ℕ) (o : OutstandingTransaction) → TellCovered slots list → TellsCovered list o → TellCovered (slice_set slots slot (Some o)) list
+begun_covered slots list slot o covered own at outstanding there =
+    ⊎_elim
+    (λ (old : slice_get slots at ≡ Some (Some outstanding)). covered at outstanding old)
+    (λ (new : Some o ≡ Some outstanding). subst (TellsCovered list) (inner o outstanding new) own)
+    (get_set slots slot (Some o) at (Some outstanding) there)
+  where
+    inner : (a b : OutstandingTransaction) → Some a ≡ Some b → a ≡ b
+    inner a b is = cc
+
+pub began_on_time : (slots : Slots) (list : List Taken) (slot : ℕ) (o : OutstandingTransaction) → NoneIsOverdue slots list → ¬ IsOverdue list o → NoneIsOverdue (slice_set slots slot (Some o)) list
+began_on_time slots list slot o on_time own at outstanding there late =
+    ⊎_elim
+    (λ (old : slice_get slots at ≡ Some (Some outstanding)). on_time at outstanding old late)
+    (λ (new : Some o ≡ Some outstanding). own (subst (IsOverdue list) (sym (inner o outstanding new)) late))
+    (get_set slots slot (Some o) at (Some outstanding) there)
+  where
+    inner : (a b : OutstandingTransaction) → Some a ≡ Some b → a ≡ b
+    inner a b is = cc
+
+pub ended_at : (slots : Slots) (slot at : ℕ) (outstanding : OutstandingTransaction) → slice_get (slice_set slots slot None) at ≡ Some (Some outstanding) → slice_get slots at ≡ Some (Some outstanding)
+ended_at slots slot at outstanding there =
+    ⊎_elim
+    (λ (old : slice_get slots at ≡ Some (Some outstanding)). old)
+    (λ (new : None ≡ Some outstanding). absurd (cc))
+    (get_set slots slot None at (Some outstanding) there)
+
+-- What a walk read is settled.
+pub walked_settled : (list : List Taken) (tag : Tag) (value began : ℕ) → (began ≤ length list) × ¬ HasCoveredSince list began tag → IsSettledEntry list tag (record { tag = tag; value = value; born = began })
+walked_settled list tag value began good = record { born = good.0; uncovered = λ place t at since covered. good.1 (record { place = place; taken = t; at = at; since = since; covered = covered }) }
+
+-- The entry that it begins with is settled.
+pub new_covered : (list : List Taken) (tag : Tag) (entry : Entry) (number : ℕ) → IsSettledEntry list tag entry → TellsCovered list (record { number = number; tag = tag; born = entry.born; covered = false })
+new_covered list tag entry number settled = record {
+  born = settled.born;
+  covered = λ is. absurd (cc);
+  uncovered = λ is h. settled.uncovered h.place h.taken h.at h.since h.covered;
+}
+
+pub new_on_time : (list : List Taken) (tag : Tag) (entry : Entry) (number : ℕ) → IsSettledEntry list tag entry → ¬ IsOverdue list (record { number = number; tag = tag; born = entry.born; covered = false })
+new_on_time list tag entry number settled late = settled.uncovered late.place late.taken late.at late.since late.covered
+
+-- ---- tags
+
+pub blocks_covered : (command : Command) (slots : Slots) → HasBlocks slots → HasBlocks (map (cover command) slots)
+blocks_covered command slots blocks slot o at = let there = get_map (cover command) slots slot (Some o) at in by_slot slot o there.0 there.1 there.2
+  where
+    by_slot : (slot : ℕ) (o : OutstandingTransaction) (x : Option OutstandingTransaction) → slice_get slots slot ≡ Some x → cover command x ≡ Some o → IsBlock o.tag
+    by_slot slot o None at same = absurd (cc)
+    by_slot slot o (Some was) at same = subst (λ (b : OutstandingTransaction). IsBlock b.tag) (inner (record was { covered = was.covered || covers command was.tag }) o same) (blocks slot was at)
+      where
+        inner : (a b : OutstandingTransaction) → Some a ≡ Some b → a ≡ b
+        inner a b is = cc
+
+-- ---- the whole unit
+
+pub began_tracked : (old new : TrackedValue) (list : List Taken) (slot : ℕ) (tag : Tag) (entry : Entry) → IsTracked old list → IsSettledEntry list tag entry
+    → new ≡ with_outstanding old slot tag entry.born → IsTracked new (list ++ [])
+began_tracked old new list slot tag entry is own changed =
+    subst (λ (t : TrackedValue). IsTracked t (list ++ [])) (sym changed) (subst (IsTracked (with_outstanding old slot tag entry.born)) (sym (append-nil list)) (record {
+      many = is.many;
+      settled = is.settled;
+      recorded = is.recorded;
+      covered = begun_covered old.outstanding list slot _ is.covered (new_covered list tag entry old.next_number own);
+      on_time = began_on_time old.outstanding list slot _ is.on_time (new_on_time list tag entry old.next_number own);
+    }))
+
+pub unit_tracked : (old : TrackedValue) (unit : UnitValue) (list : List Taken) → IsTracked old list → taken unit.counts ≡ taken old.unit.counts → StaysSettled old.unit unit []
+    → IsTracked (record old { unit = unit }) (list ++ [])
+unit_tracked old unit list is same settles = subst (IsTracked (record old { unit = unit })) (sym (append-nil list)) (record {
+  many = same ∙ is.many;
+  settled = subst (IsSettled unit.caches.entries) (append-nil list) (settles list (sym is.many) is.settled);
+  recorded = is.recorded;
+  covered = is.covered;
+  on_time = is.on_time;
+})
+
+abbrev is_one : Option OutstandingTransaction → ℕ
+is_one slot = cond (is_covered slot) 1 0
+
+pub one_less : (slots : Slots) (slot : ℕ) (outstanding : OutstandingTransaction) → slice_get slots slot ≡ Some (Some outstanding) → count_by is_covered (slice_set slots slot None) + cond outstanding.covered 1 0 ≡ count_by is_covered slots
+one_less [] slot outstanding at = absurd (cc)
+one_less (x ∷ slots) zero outstanding at =
+    let was = sum_by-cons is_one x slots in
+    let is = sum_by-cons is_one None slots in
+    let same : is_one x ≡ is_one (Some outstanding) = ap is_one (inner x (Some outstanding) at) in
+    omega (arith, was, is, same)
+  where
+    inner : (a b : Option OutstandingTransaction) → Some a ≡ Some b → a ≡ b
+    inner a b is = cc
+one_less (x ∷ slots) (suc slot) outstanding at =
+    let was = sum_by-cons is_one x slots in
+    let is = sum_by-cons is_one x (slice_set slots slot None) in
+    let rest = one_less slots slot outstanding at in
+    omega (arith, was, is, rest)
+
+pub ended_tracked : (old : TrackedValue) (list : List Taken) (slot : ℕ) (slots : Slots) → IsTracked old list → slots ≡ slice_set old.outstanding slot None
+    → IsTracked (record old { outstanding = slots }) (list ++ [])
+ended_tracked old list slot slots is changed =
+    subst (IsTracked (record old { outstanding = slots })) (sym (append-nil list)) (record {
+      many = is.many;
+      settled = is.settled;
+      recorded = is.recorded;
+      covered = subst (λ (s : Slots). TellCovered s list) (sym changed) (λ at outstanding there. is.covered at outstanding (ended_at old.outstanding slot at outstanding there));
+      on_time = subst (λ (s : Slots). NoneIsOverdue s list) (sym changed) (λ at outstanding there. is.on_time at outstanding (ended_at old.outstanding slot at outstanding there));
+    })
+
+pub ended_one : (old new : TrackedValue) (transaction : TransactionValue) (outstanding : OutstandingTransaction) → slice_get old.outstanding transaction.slot ≡ Some (Some outstanding) → outstanding.number ≡ transaction.number
+    → new ≡ record old { outstanding = slice_set old.outstanding transaction.slot None } → IsEnded old transaction new
+ended_one old new transaction outstanding at number is = record {
+  was = record { outstanding = outstanding; at = at; number = number };
+  new_is = is;
+  fewer = ap (λ (t : TrackedValue). count_by is_covered t.outstanding + cond outstanding.covered 1 0) is ∙ one_less old.outstanding transaction.slot outstanding at;
+}

@@ -1,0 +1,65 @@
+-- A unit stays tracked by a verdict.
+use Rattle.std.proofs.Common.{◌≡◌, ◌+◌, ℕ, Bool, true, false, cond, List, [], ◌∷◌, ◌++◌, length, length-append, None, sym, ap, subst, ◌∙◌, arith, append-nil}
+use Rattle.circular_buffer.specs.Buffer.{keep_last}
+use Rattle.cmdcodec.specs.declared.raw.Raw.{Raw}
+use Rattle.ringcore.specs.declared.world.event.Outcome.TheVariants.{Applied as AsApplied, Replaced as AsReplaced}
+use Rattle.ringcore.specs.world.World.{Taken}
+use Rattle.engine.specs.declared.verdict.Verdict.{Verdict}
+use Rattle.engine.specs.declared.verdict.Verdict.TheVariants.{Applied, Stopped, Replaced}
+use Rattle.engine.specs.Counting.{taken}
+use Rattle.engine.specs.Units.{UnitValue, HasJudged, took}
+use Rattle.transactions.specs.declared.recent_invalidations.Invalidation.{Invalidation}
+use Rattle.transactions.specs.Coverage.{is_invalidation}
+use Rattle.transactions.specs.Since.{last_invalidations, recent_after}
+use Rattle.cmdcodec.specs.Opcodes.{is_sync}
+use Rattle.cmdcodec.specs.Legality.{first_ill}
+use Rattle.transactions.specs.Outstanding.{Slots, covered_by, TellCovered, NoneIsOverdue, HasCoveredOutstanding}
+use Rattle.transactions.proofs.Covering.{are_covered, none_overdue, replaced_covered, replaced_overdue}
+use Rattle.transactions.proofs.Sinces.{last_more}
+use Rattle.transactions.proofs.Spelled.{applied_kind}
+
+one_more : (a b n m : ℕ) → a ≡ b + 1 → b ≡ n → m ≡ n + 1 → a ≡ m
+one_more a b n m x y z = omega (arith, x, y, z)
+
+count_applied : (a b : ℕ) → a + 1 + b ≡ a + b + 1
+count_applied a b = omega arith
+
+count_replaced : (a b : ℕ) → a + (b + 1) ≡ a + b + 1
+count_replaced a b = omega arith
+
+-- How many were taken, and what is kept.
+pub many_now : (raw : Raw) (old new : UnitValue) (v : Verdict) → HasJudged raw old new v → (list : List Taken) → taken old.counts ≡ length list → taken new.counts ≡ length (list ++ took raw v)
+many_now raw old new (Applied command removed) is list many =
+    one_more (taken new.counts) (taken old.counts) (length list) (length (list ++ took raw (Applied command removed)))
+    (ap taken is.counts ∙ count_applied old.counts.applied old.counts.replaced) many (length-append list (took raw (Applied command removed)))
+many_now raw old new (Stopped ill) is list many =
+    ap (λ (u : UnitValue). taken u.counts) is.new_is ∙ many ∙ ap (λ (l : List Taken). length l) (sym (append-nil list))
+many_now raw old new (Replaced ill) is list many =
+    one_more (taken new.counts) (taken old.counts) (length list) (length (list ++ took raw (Replaced ill)))
+    (ap (λ (u : UnitValue). taken u.counts) is.new_is ∙ count_replaced old.counts.applied old.counts.replaced) many (length-append list (took raw (Replaced ill)))
+
+pub recorded_now : (raw : Raw) (old new : UnitValue) (v : Verdict) → HasJudged raw old new v → (list : List Taken) → taken old.counts ≡ length list
+    → (kept : List Invalidation) → kept ≡ last_invalidations list → recent_after (taken old.counts) raw v kept ≡ last_invalidations (list ++ took raw v)
+recorded_now raw old new (Applied command removed) is list many kept same =
+    by_kind (is_invalidation command)
+    ∙ sym (ap (λ b. cond b (keep_last 65 (last_invalidations list ++ record { place = length list; raw = raw } ∷ [])) (last_invalidations list)) (applied_kind raw command is.legal.spelled))
+    ∙ sym (last_more list (record { raw = raw; outcome = AsApplied }))
+  where
+    by_kind : (b : Bool) → cond b (keep_last 65 (kept ++ record { place = taken old.counts; raw = raw } ∷ [])) kept
+        ≡ cond b (keep_last 65 (last_invalidations list ++ record { place = length list; raw = raw } ∷ [])) (last_invalidations list)
+    by_kind true = λ k. keep_last 65 (same k ++ record { place = many k; raw = raw } ∷ [])
+    by_kind false = same
+recorded_now raw old new (Stopped ill) is list many kept same = same ∙ ap last_invalidations (sym (append-nil list))
+recorded_now raw old new (Replaced ill) is list many kept same = same ∙ sym (last_more list (record { raw = raw; outcome = AsReplaced }))
+
+pub covered_now : (raw : Raw) (old new : UnitValue) (v : Verdict) → HasJudged raw old new v → (list : List Taken) (slots : Slots) → TellCovered slots list → TellCovered (covered_by v slots) (list ++ took raw v)
+covered_now raw old new (Applied command removed) is list slots covered = are_covered list raw command is.legal.spelled is.legal.alone slots covered
+covered_now raw old new (Stopped ill) is list slots covered = subst (TellCovered slots) (sym (append-nil list)) covered
+covered_now raw old new (Replaced ill) is list slots covered = replaced_covered list raw slots covered
+
+pub on_time_now : (raw : Raw) (old new : UnitValue) (v : Verdict) → HasJudged raw old new v → (list : List Taken) (slots : Slots) → TellCovered slots list → NoneIsOverdue slots list
+    → (is_sync raw ≡ true → first_ill raw ≡ None → ¬ HasCoveredOutstanding slots list) → NoneIsOverdue (covered_by v slots) (list ++ took raw v)
+on_time_now raw old new (Applied command removed) is list slots covered on_time waited =
+    none_overdue list raw command is.legal.spelled is.legal.alone slots covered on_time (λ sync. waited sync is.legal.legal)
+on_time_now raw old new (Stopped ill) is list slots covered on_time waited = subst (NoneIsOverdue slots) (sym (append-nil list)) on_time
+on_time_now raw old new (Replaced ill) is list slots covered on_time waited = replaced_overdue list raw slots on_time

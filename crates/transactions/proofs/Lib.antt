@@ -1,0 +1,11 @@
+pub mod Spelled
+pub mod Places
+pub mod Kept
+pub mod Sinces
+pub mod Lists
+pub mod FreeSlots
+pub mod Covering
+pub mod Answering
+pub mod Judged
+pub mod Together
+pub mod Ahead

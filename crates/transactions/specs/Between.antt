@@ -1,0 +1,61 @@
+-- Between the crate's private functions: no clause of a public one names these.
+use Rattle.std.specs.Prelude.{◌≡◌, ◌≤◌, ◌<◌, ℕ, true, List, ◌++◌, Option, None, Some, count_by, ◌⊎◌}
+use Rattle.std.specs.Prelude.{slice_get, slice_set}
+use Rattle.cmdcodec.specs.declared.raw.Raw.{Raw}
+use Rattle.cmdcodec.specs.Opcodes.{is_sync}
+use Rattle.cmdcodec.specs.Legality.{first_ill}
+use Rattle.ringcore.specs.world.World.{Taken}
+use Rattle.caches.specs.declared.tag.Tag.{Tag}
+use Rattle.caches.specs.Blocks.{IsBlock}
+use Rattle.engine.specs.Counting.{taken}
+use Rattle.transactions.specs.declared.walk.WalkFault.{WalkFault}
+use Rattle.transactions.specs.declared.walk.WalkFault.TheVariants.{Overtaken, TooOld}
+use Rattle.transactions.specs.declared.walk.WalkFault.TheVariants.{OtherUnit, Refused}
+use Rattle.transactions.specs.RecentInvalidations.{IsBeforeOldest, HasCovering}
+use Rattle.transactions.specs.declared.outstanding.OutstandingTransaction.{OutstandingTransaction}
+use Rattle.transactions.specs.Outstanding.{Slots, is_covered, HasNoRoom}
+use Rattle.transactions.specs.Outstanding.{HasCoveredOutstanding}
+use Rattle.transactions.specs.Transactions.{TransactionValue, IsBegun}
+use Rattle.transactions.specs.Tracking.{TrackedValue, IsTracked}
+
+-- A slot was free and has this transaction now, or none was free.
+abbrev pub IsInsertAnswer : Slots → OutstandingTransaction → Slots → Option ℕ → Type 0
+IsInsertAnswer old o new None = (new ≡ old) × HasNoRoom old
+IsInsertAnswer old o new (Some slot) =
+    (slice_get old slot ≡ Some None) × (new ≡ slice_set old slot (Some o))
+
+-- A transaction began with an entry of this tag that was born then, or no slot was free.
+abbrev pub IsBegunIfRoom :
+    TrackedValue → Tag → ℕ → TrackedValue → Option TransactionValue → Type 0
+IsBegunIfRoom old tag born new None = (new ≡ old) × HasNoRoom old.outstanding
+IsBegunIfRoom old tag born new (Some token) = IsBegun old tag born new token
+
+-- The same and these are taken now, if the command needn't wait.
+abbrev pub TakesTracked : Raw → TrackedValue → TrackedValue → List Taken → Type 0
+TakesTracked raw old new more =
+    (list : List Taken) → IsTracked old list
+    → (is_sync raw ≡ true → first_ill raw ≡ None → ¬ HasCoveredOutstanding old.outstanding list)
+    → IsTracked new (list ++ more)
+
+-- How many transactions a command has to wait for, if it has to: for those that are covered, if it
+-- is a legal CMD_SYNC.
+abbrev pub HasToWait : Raw → Slots → Option ℕ → Type 0
+HasToWait raw slots None =
+    is_sync raw ≡ true → first_ill raw ≡ None → count_by is_covered slots ≡ 0
+HasToWait raw slots (Some transactions) =
+    (is_sync raw ≡ true) × (first_ill raw ≡ None)
+    × (transactions ≡ count_by is_covered slots) × (0 < transactions)
+
+-- Why a walk is refused before the caches are asked, by what is kept.
+abbrev pub IsRefusal : TrackedValue → ℕ → Tag → Option WalkFault → Type 0
+IsRefusal t began tag None =
+    ¬ IsBlock tag ⊎
+    (IsBlock tag × (began ≤ taken t.unit.counts) × ¬ IsBeforeOldest t.recent began
+    × ¬ HasCovering t.recent began tag)
+IsRefusal t began tag (Some Overtaken) =
+    IsBlock tag × (began ≤ taken t.unit.counts) × ¬ IsBeforeOldest t.recent began
+    × HasCovering t.recent began tag
+IsRefusal t began tag (Some TooOld) =
+    IsBlock tag × (began ≤ taken t.unit.counts) × IsBeforeOldest t.recent began
+IsRefusal t began tag (Some OtherUnit) = IsBlock tag × (taken t.unit.counts < began)
+IsRefusal t began tag (Some (Refused fault)) = ⊥

@@ -1,0 +1,13 @@
+pub mod Coverage
+pub mod RecentInvalidations
+pub mod Since
+pub mod Outstanding
+pub mod FreeSlots
+pub mod Tracking
+pub mod Completed
+pub mod Walks
+pub mod Transactions
+pub mod TrackedVerdicts
+pub mod Together
+pub mod Told
+pub mod Between

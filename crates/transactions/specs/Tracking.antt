@@ -1,0 +1,65 @@
+-- The tracked unit as contracts see it, and what it knows of the commands taken.
+use Rattle.std.specs.Prelude.{◌≡◌, ◌+◌, ◌%◌, ℕ, List, [], ◌++◌, length, None, replicate}
+use Rattle.ringcore.specs.world.World.{Taken}
+use Rattle.engine.specs.Settled.{IsSettled}
+use Rattle.engine.specs.Counting.{taken}
+use Rattle.caches.specs.Stored.{Stored}
+use Rattle.engine.specs.Units.{UnitValue, new_unit, filled, with_entries}
+use Rattle.engine.specs.Stops.{told}
+use Rattle.engine.specs.declared.remedy.Remedy.{Remedy}
+use Rattle.caches.specs.declared.tag.Tag.{Tag}
+use Rattle.std.specs.FinMap as finite
+use Rattle.transactions.specs.declared.recent_invalidations.Invalidation.{Invalidation}
+use Rattle.transactions.specs.Since.{last_invalidations}
+use Rattle.transactions.specs.Outstanding.{Slots, TellCovered, NoneIsOverdue}
+
+-- the unit, the last invalidations, the outstanding transactions, and the number of the next
+pub record TrackedValue : Type 0 where
+  pub unit : UnitValue
+  pub recent : List Invalidation
+  pub outstanding : Slots
+  pub next_number : ℕ
+
+-- The unit has taken exactly these: it counts as many, its entries are settled for them, it keeps
+-- their last invalidations, it knows which outstanding transactions they cover, and none of those
+-- is older than a CMD_SYNC behind what covers it.
+pub record IsTracked (tracked : TrackedValue) (list : List Taken) : Type 0 where
+  pub many : taken tracked.unit.counts ≡ length list
+  pub settled : IsSettled tracked.unit.caches.entries list
+  pub recorded : tracked.recent ≡ last_invalidations list
+  pub covered : TellCovered tracked.outstanding list
+  pub on_time : NoneIsOverdue tracked.outstanding list
+
+-- Whatever was taken before, the same and these are taken now.
+abbrev pub StaysTracked : TrackedValue → TrackedValue → List Taken → Type 0
+StaysTracked old new more = (list : List Taken) → IsTracked old list → IsTracked new (list ++ more)
+
+-- a unit that has taken nothing, with these caches and room for so many transactions
+abbrev pub new_tracked : Stored → ℕ → TrackedValue
+new_tracked caches room = record {
+  unit = new_unit caches;
+  recent = [];
+  outstanding = replicate room None;
+  next_number = 1;
+}
+
+abbrev pub with_unit : UnitValue → TrackedValue → TrackedValue
+with_unit unit t = record t { unit = unit }
+
+-- the same once an entry was filled that is born now
+abbrev pub with_filled : Tag → ℕ → TrackedValue → TrackedValue
+with_filled tag value t = with_unit (with_entries t.unit (filled tag value t.unit)) t
+
+-- the same without the entry of a tag
+abbrev pub with_evicted : Tag → TrackedValue → TrackedValue
+with_evicted tag t =
+    with_unit (with_entries t.unit (finite.remove t.unit.caches.entries tag)) t
+
+-- the same once software acknowledged an error with a remedy
+abbrev pub with_acknowledged : Remedy → TrackedValue → TrackedValue
+with_acknowledged remedy t =
+    with_unit (record t.unit { stop = told remedy t.unit.stop }) t
+
+-- numbers of transactions are 1 to 2^48 - 1, and then begin again
+abbrev pub number_after : ℕ → ℕ
+number_after number = number % 281474976710655 + 1

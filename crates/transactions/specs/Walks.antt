@@ -1,0 +1,38 @@
+-- What becomes of what a walk read.
+use Rattle.std.specs.Prelude.{◌≡◌, ◌≤◌, ◌<◌, ◌↔◌, ℕ, List, length, Option, Result, Err, OnOk}
+use Rattle.ringcore.specs.world.World.{Taken}
+use Rattle.caches.specs.declared.tag.Tag.{Tag}
+use Rattle.caches.specs.declared.tag.Entry.{Entry}
+use Rattle.caches.specs.Blocks.{IsBlock}
+use Rattle.engine.specs.Units.{with_entries, with_entry}
+use Rattle.transactions.specs.declared.walk.WalkFault.{WalkFault}
+use Rattle.transactions.specs.declared.walk.WalkFault.TheVariants.{Overtaken, TooOld, OtherUnit}
+use Rattle.transactions.specs.Since.{HasCoveredSince, IsTooOld}
+use Rattle.transactions.specs.Tracking.{TrackedValue, IsTracked, with_unit}
+
+abbrev pub WalkAnswer : Type 0
+WalkAnswer = Result (Option Entry) WalkFault
+
+-- The walk's own faults, by the list of what was taken. Accepted: nothing taken since it began
+-- covers the tag. Overtaken: something does. Too old: more than 64 invalidations were taken since.
+pub record IsWalkAnswer (list : List Taken) (began : ℕ) (tag : Tag) (a : WalkAnswer) : Type 0 where
+  pub accepted : OnOk a ((began ≤ length list) × ¬ HasCoveredSince list began tag)
+  pub overtaken : (a ≡ Err Overtaken)
+      ↔ (IsBlock tag × (began ≤ length list) × ¬ IsTooOld list began
+      × HasCoveredSince list began tag)
+  pub too_old : (a ≡ Err TooOld) ↔ (IsBlock tag × (began ≤ length list) × IsTooOld list began)
+  pub other : (a ≡ Err OtherUnit) ↔ (IsBlock tag × (length list < began))
+
+-- For every list that was taken.
+abbrev pub AnswersWalk : TrackedValue → ℕ → Tag → WalkAnswer → Type 0
+AnswersWalk old began tag answer =
+    (list : List Taken) → IsTracked old list → IsWalkAnswer list began tag answer
+
+-- the entry that a walk read
+abbrev pub walked : ℕ → Tag → ℕ → Entry
+walked began tag value = record { tag = tag; value = value; born = began }
+
+-- the tracked unit once that was filled
+abbrev pub with_walked : ℕ → Tag → ℕ → TrackedValue → TrackedValue
+with_walked began tag value t =
+    with_unit (with_entries t.unit (with_entry (walked began tag value) t.unit)) t

@@ -1,0 +1,25 @@
+//! What a device model serves beside its command queue: translation table walks, and transactions
+//! that were translated with an entry.
+//!
+//! 1. A walk begins, reads the tables, and what it read is filled. It is refused if a command that
+//!    covers it was taken meanwhile.
+//! 2. A transaction begins with an entry that is held, and ends. A CMD_SYNC isn't taken while one
+//!    is outstanding whose entry a command before that CMD_SYNC covers.
+#![tactic(auto)]
+
+mod completion_witness;
+mod coverage;
+mod outstanding;
+mod recent_invalidations;
+mod tracked;
+mod tracked_step;
+mod tracked_verdict;
+mod transaction;
+mod walk;
+
+pub use completion_witness::told;
+pub use tracked::TrackedUnit;
+pub use tracked_step::{TrackedStep, step_with};
+pub use tracked_verdict::TrackedVerdict;
+pub use transaction::{BeginFault, Transaction};
+pub use walk::{Walk, WalkFault};

@@ -1,0 +1,333 @@
+//! A unit with the walks and transactions that are under way beside its commands.
+ghost use Rattle.std.specs.Prelude.{◌≡◌, ◌<◌, ◌+◌, ℕ, ◌++◌, ◌∷◌, [], List, true, Some, None};
+ghost use Rattle.std.specs.Prelude.{slice_get, IfOk, OnOk, OnErr, IfSome, Err, map};
+ghost use Rattle.std.specs.FinMap as finite;
+ghost use Rattle.cmdcodec.specs.declared.command.Command.{Command as CommandOf};
+ghost use Rattle.cmdcodec.specs.Opcodes.{is_sync};
+ghost use Rattle.cmdcodec.specs.Legality.{first_ill};
+ghost use Rattle.ringcore.specs.Limits.{most_reserved};
+ghost use Rattle.ringcore.specs.world.World.{Taken};
+ghost use Rattle.caches.specs.Blocks.{IsBlock};
+ghost use Rattle.caches.specs.Held.{held};
+ghost use Rattle.caches.specs.Stored.{IsFillAnswer};
+ghost use Rattle.caches.specs.declared.fault.CacheFault.{CacheFault as CacheFaultOf};
+ghost use Rattle.engine.specs.Stops.{IsStopped, MayComeNext, IsAcknowledgementAnswer};
+ghost use Rattle.engine.specs.Counting.{taken};
+ghost use Rattle.engine.specs.Units.{HasJudged, took};
+ghost use Rattle.transactions.specs.Between.{HasToWait, TakesTracked, IsRefusal, IsBegunIfRoom};
+ghost use Rattle.transactions.specs.Outstanding.{covered_by};
+ghost use Rattle.transactions.specs.Completed.{IsCompletedAt, IsComplete};
+ghost use Rattle.transactions.specs.TrackedVerdicts.{IsTrackedVerdict, WaitsExactly, took_by};
+ghost use Rattle.transactions.specs.Tracking.{IsTracked, StaysTracked, new_tracked};
+ghost use Rattle.transactions.specs.Tracking.{with_filled, with_evicted, with_acknowledged};
+ghost use Rattle.transactions.specs.Together.{StaysTogether, IsTogetherFromNothing};
+ghost use Rattle.transactions.specs.Transactions.{IsBeginAnswer, IsBeginWalkedAnswer, IsEndAnswer};
+ghost use Rattle.transactions.specs.Walks.{AnswersWalk, with_walked};
+
+use crate::outstanding::{OutstandingTransaction, OutstandingTransactions};
+use crate::recent_invalidations::RecentInvalidations;
+use crate::tracked_verdict::TrackedVerdict;
+use crate::transaction::{BeginFault, Transaction, number_after};
+use crate::walk::{Walk, WalkFault};
+use caches::{CacheFault, Caches, Entry, Tag};
+use cmdcodec::{Raw, first_ill};
+use engine::{AckFault, Remedy, Unit, Verdict};
+use ring::Device;
+use std::alloc::{AllocError, Global};
+use std::marker::Model;
+
+/// A unit that knows of walks and of transactions. What a walk read is filled only if nothing taken
+/// meanwhile covers it, and a CMD_SYNC is taken only if no transaction is outstanding that began
+/// with an entry which a command before it covers.
+#[derive(Drop)]
+pub struct TrackedUnit {
+    unit: Unit,
+    recent: RecentInvalidations,
+    outstanding: OutstandingTransactions,
+    next_number: u64,
+}
+
+impl Model for TrackedUnit {
+    ghost use Rattle.std.specs.Coded.{codes};
+    ghost use Rattle.caches.specs.Stored.{stored_code};
+    ghost use Rattle.transactions.specs.Tracking.{TrackedValue};
+
+    ghost Value = { TrackedValue };
+
+    ghost coded = { Prim.hlevel (codes, stored_code) };
+
+    ghost view = { λ t. record {
+      unit = t.unit;
+      recent = t.recent;
+      outstanding = t.outstanding;
+      next_number = t.next_number;
+    } };
+}
+
+/// A tracked unit is settled for a list of taken commands if it is tracked for it: so a ring's
+/// consumer that is lent one completes a CMD_SYNC only while no transaction is outstanding that it
+/// had to wait for.
+impl Device for TrackedUnit {
+    ghost use Rattle.transactions.specs.Tracking.{IsTracked};
+
+    ghost settled = { λ t taken. IsTracked t taken };
+}
+
+impl TrackedUnit {
+    /// A witness: whatever CMD_SYNC was taken, no entry is held, and no transaction is outstanding
+    /// that began with an entry, which is older than a command before that CMD_SYNC and covered by
+    /// it. It does nothing.
+    pub fn is_complete(&self)
+        ensures { (list : List Taken) (end : ℕ) → IsTracked self.now list
+            → IsCompletedAt list end → IsComplete self.now list end }
+    {
+        let _ = &self.unit;
+    }
+
+    /// Creates a unit that has taken nothing, with these empty caches, and room for 0 to 65,535
+    /// transactions.
+    pub fn new(alloc: Global, caches: Caches, room: u16) -> Result<TrackedUnit, AllocError>
+        requires empty { caches.entries ≡ held [] }
+        ensures unit { IfOk result (λ t. t ≡ new_tracked caches room) }
+        ensures tracked { IfOk result (λ t. IsTracked t []) }
+        ensures together { IfOk result (λ t. IsTogetherFromNothing t) }
+    {
+        let recent = RecentInvalidations::new(alloc)?;
+        let outstanding = OutstandingTransactions::new(alloc, room)?;
+        let unit = Unit::new(caches);
+        Ok(TrackedUnit {
+            unit,
+            recent,
+            outstanding,
+            next_number: 1,
+        })
+    }
+
+    /// Applies a legal command; stops at an illegal one, or takes it without effect if told to
+    /// replace it. A legal CMD_SYNC isn't taken while a transaction is outstanding that began with
+    /// an entry which a command before it covers. The unit must not be stopped, and after a stop
+    /// `raw` must be the words at which it stopped.
+    pub fn judge(&mut self, raw: Raw) -> TrackedVerdict
+        requires running { ¬ IsStopped self.old.unit.stop.mode }
+        requires next { MayComeNext raw self.old.unit.stop }
+        requires few { taken self.old.unit.counts < most_reserved }
+        ensures judged { IsTrackedVerdict raw self.old self.new result }
+        ensures waits { WaitsExactly raw self.old result }
+        ensures tracked { StaysTracked self.old self.new (took_by raw result) }
+    {
+        if let Some(transactions) = self.has_to_wait(raw) {
+            return TrackedVerdict::Waiting { transactions };
+        }
+        TrackedVerdict::Judged(self.take(raw))
+    }
+
+    /// How many transactions a command has to wait for, if it has to.
+    fn has_to_wait(&self, raw: Raw) -> Option<u32>
+        ensures { HasToWait raw self.now.outstanding result }
+    {
+        if !raw.is_sync() || first_ill(raw).is_some() {
+            return None;
+        }
+        let transactions = self.outstanding.covered();
+        if transactions == 0 {
+            return None;
+        }
+        Some(transactions)
+    }
+
+    /// Judges a command that needn't wait.
+    fn take(&mut self, raw: Raw) -> Verdict
+        requires running { ¬ IsStopped self.old.unit.stop.mode }
+        requires next { MayComeNext raw self.old.unit.stop }
+        requires few { taken self.old.unit.counts < most_reserved }
+        ensures judged { HasJudged raw self.old.unit self.new.unit result }
+        ensures covered { self.new.outstanding ≡ covered_by result self.old.outstanding }
+        ensures next { self.new.next_number ≡ self.old.next_number }
+        ensures tracked { TakesTracked raw self.old self.new (took raw result) }
+    {
+        let place = self.unit.counts().taken();
+        let verdict = self.unit.judge(raw);
+        self.recent.note(place, raw, &verdict);
+        self.outstanding.cover(&verdict);
+        verdict
+    }
+
+    /// A translation table walk begins now.
+    pub fn begin_walk(&self) -> Walk
+        ensures { result ≡ taken self.now.unit.counts }
+    {
+        let began = self.unit.counts().taken();
+        Walk { began }
+    }
+
+    /// Fills what a walk read, as an entry that was born when the walk began, and returns the one
+    /// held under its tag before, if any.
+    ///
+    /// Errors, in this order, each changing nothing: OtherUnit, TooOld and Overtaken, if the tag's
+    /// block is well formed; then those of `Unit::fill`.
+    pub fn fill_walked(
+        &mut self,
+        walk: Walk,
+        tag: Tag,
+        value: u64,
+    ) -> Result<Option<Entry>, WalkFault>
+        ensures answer { AnswersWalk self.old walk tag result }
+        ensures was { IfOk result (λ was. was ≡ finite.get self.old.unit.caches.entries tag) }
+        ensures refused { (fault : CacheFaultOf) → result ≡ Err (WalkFault.Refused fault)
+            → IsFillAnswer self.old.unit.caches tag (Err fault) }
+        ensures ok { OnOk result (self.new ≡ with_walked walk tag value self.old) }
+        ensures err { OnErr result (self.new ≡ self.old) }
+        ensures tracked { StaysTracked self.old self.new [] }
+        ensures together { StaysTogether self.old self.new }
+    {
+        if let Some(fault) = self.refusal(walk, &tag) {
+            return Err(fault);
+        }
+        let born = walk.began;
+        match self.unit.fill_born(Entry { tag, value, born }) {
+            Ok(was) => Ok(was),
+            Err(fault) => Err(WalkFault::Refused(fault)),
+        }
+    }
+
+    /// Why what the walk read can't be used, if the caches needn't be asked for that.
+    fn refusal(&self, walk: Walk, tag: &Tag) -> Option<WalkFault>
+        ensures { IsRefusal self.now walk tag.now result }
+    {
+        if !tag.is_block() {
+            return None;
+        }
+        if walk.began > self.unit.counts().taken() {
+            return Some(WalkFault::OtherUnit);
+        }
+        if self.recent.is_before_oldest(walk.began) {
+            return Some(WalkFault::TooOld);
+        }
+        if self.recent.has_covering(walk.began, tag) {
+            return Some(WalkFault::Overtaken);
+        }
+        None
+    }
+
+    /// A transaction begins with the entry that is held under a tag. Its token is to be given to
+    /// `end` when it is over.
+    ///
+    /// Errors, in this order, each changing nothing: NotHeld if nothing is held under the tag or
+    /// its block isn't well formed; Full if as many are outstanding as there is room for.
+    pub fn begin(&mut self, tag: &Tag) -> Result<(Entry, Transaction), BeginFault>
+        ensures begun { IsBeginAnswer self.old tag.now self.new result }
+        ensures tracked { StaysTracked self.old self.new [] }
+        ensures together { StaysTogether self.old self.new }
+    {
+        if !tag.is_block() {
+            return Err(BeginFault::NotHeld);
+        }
+        let Some(entry) = self.unit.lookup(tag) else {
+            return Err(BeginFault::NotHeld);
+        };
+        match self.begin_with(*tag, entry.born) {
+            Some(transaction) => Ok((entry, transaction)),
+            None => Err(BeginFault::Full),
+        }
+    }
+
+    /// A transaction begins with what a walk read, whether that is held or not: as with an entry
+    /// that was born when the walk began.
+    ///
+    /// Errors, in this order, each changing nothing: Walked with the fault that `fill_walked`
+    /// answers by the tag's block and by what was taken; Full if as many are outstanding as there
+    /// is room for.
+    pub fn begin_walked(&mut self, walk: Walk, tag: &Tag) -> Result<Transaction, BeginFault>
+        ensures begun { IsBeginWalkedAnswer self.old walk tag.now self.new result }
+        ensures tracked { StaysTracked self.old self.new [] }
+        ensures together { StaysTogether self.old self.new }
+    {
+        if !tag.is_block() {
+            let fault = WalkFault::Refused(CacheFault::BadBlock);
+            return Err(BeginFault::Walked(fault));
+        }
+        if let Some(fault) = self.refusal(walk, tag) {
+            return Err(BeginFault::Walked(fault));
+        }
+        match self.begin_with(*tag, walk.began) {
+            Some(transaction) => Ok(transaction),
+            None => Err(BeginFault::Full),
+        }
+    }
+
+    /// A transaction begins with an entry of this tag, if a slot is free.
+    fn begin_with(&mut self, tag: Tag, born: u64) -> Option<Transaction>
+        requires block { IsBlock tag }
+        ensures { IsBegunIfRoom self.old tag born self.new result }
+    {
+        let number = self.next_number;
+        let transaction = OutstandingTransaction {
+            number,
+            tag,
+            born,
+            covered: false,
+        };
+        let slot = self.outstanding.insert(transaction)?;
+        self.next_number = number_after(number);
+        Some(Transaction { slot, number })
+    }
+
+    /// A transaction is over.
+    ///
+    /// Errors, changing nothing: the token, if it isn't of a transaction that is outstanding here.
+    pub fn end(&mut self, transaction: Transaction) -> Result<(), Transaction>
+        ensures ended { IsEndAnswer self.old transaction self.new result }
+        ensures tracked { StaysTracked self.old self.new [] }
+        ensures together { StaysTogether self.old self.new }
+    {
+        match self.outstanding.get(transaction.slot) {
+            Some(outstanding) if outstanding.number == transaction.number => {
+                let Transaction { slot, number: _ } = transaction;
+                self.outstanding.remove(slot, outstanding);
+                Ok(())
+            }
+            _ => Err(transaction),
+        }
+    }
+
+    /// Fills an entry that is read and born now, as `Unit::fill` does.
+    pub fn fill(&mut self, tag: Tag, value: u64) -> Result<Option<Entry>, CacheFault>
+        ensures answer { IsFillAnswer self.old.unit.caches tag result }
+        ensures ok { OnOk result (self.new ≡ with_filled tag value self.old) }
+        ensures err { OnErr result (self.new ≡ self.old) }
+        ensures tracked { StaysTracked self.old self.new [] }
+        ensures together { StaysTogether self.old self.new }
+    {
+        self.unit.fill(tag, value)
+    }
+
+    /// Removes and returns the entry held under `tag`, if any. Transactions that began with it stay
+    /// outstanding.
+    pub fn evict(&mut self, tag: &Tag) -> Option<Entry>
+        ensures was { result ≡ finite.get self.old.unit.caches.entries tag.now }
+        ensures new { self.new ≡ with_evicted tag.now self.old }
+        ensures tracked { StaysTracked self.old self.new [] }
+        ensures together { StaysTogether self.old self.new }
+    {
+        self.unit.evict(tag)
+    }
+
+    /// Software writes SMMU_GERRORN and chooses what happens to the command, as
+    /// `Unit::acknowledge`.
+    pub fn acknowledge(&mut self, gerrorn: u32, remedy: Remedy) -> Result<(), AckFault>
+        ensures answer { IsAcknowledgementAnswer self.old.unit.stop gerrorn result }
+        ensures ok { OnOk result (self.new ≡ with_acknowledged remedy self.old) }
+        ensures err { OnErr result (self.new ≡ self.old) }
+        ensures tracked { StaysTracked self.old self.new [] }
+        ensures together { StaysTogether self.old self.new }
+    {
+        self.unit.acknowledge(gerrorn, remedy)
+    }
+
+    /// Returns the unit, for whoever only reads its entries, registers and counts.
+    pub fn unit(&self) -> &Unit
+        ensures { result.now ≡ self.now.unit }
+    {
+        &self.unit
+    }
+}

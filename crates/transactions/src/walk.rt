@@ -1,0 +1,39 @@
+//! Translation table walks.
+use caches::CacheFault;
+use std::marker::Model;
+use thiserror::Error;
+
+/// A translation table walk that began, and how many commands had been taken then. It reads the
+/// tables later.
+#[derive(Clone, Copy, Debug, PartialEq, Eq)]
+pub struct Walk {
+    pub(crate) began: u64,
+}
+
+impl Model for Walk {
+    ghost use Rattle.std.specs.Prelude.{ℕ};
+
+    ghost Value = { ℕ };
+
+    ghost view = { λ w. w.began };
+
+    ghost inverse = { λ began. record { began = began } };
+}
+
+/// Why what a walk read isn't used. Nothing changes. Walk again, unless the caches refuse it.
+#[derive(Clone, Copy, Debug, PartialEq, Eq, Error)]
+pub enum WalkFault {
+    /// A command that covers the tag was taken since the walk began.
+    #[error("overtaken: a command that covers the tag was taken since the walk began")]
+    Overtaken,
+    /// More than 64 invalidations were taken since the walk began, and what the first of them
+    /// covered is forgotten. That 64 are kept is this project's choice.
+    #[error("too old: more than 64 invalidations were taken since the walk began")]
+    TooOld,
+    /// It began after more commands than this unit took, so on another unit.
+    #[error("the walk began on another unit")]
+    OtherUnit,
+    /// The caches refuse it.
+    #[error("the caches refuse it")]
+    Refused(CacheFault),
+}
