@@ -3,7 +3,9 @@ use Rattle.std.specs.Prelude.{◌≡◌, ◌+◌, ◌*◌, ◌^◌, [], ◌∷�
 use Rattle.qindex.specs.declared.control.Control.{Control}
 use Rattle.ringcore.specs.declared.world.event.Who.TheVariants.{Consumer}
 use Rattle.ringcore.specs.declared.world.event.Event.TheVariants.{Look}
+use Rattle.ringcore.specs.world.Trails.{Run}
 use Rattle.ring.specs.NewRings.{made_with}
+use Rattle.ring.specs.table.Rule.{WentOn}
 use Rattle.ring.specs.table.Histories.{GrewBy}
 use Rattle.ring.specs.consumer.Taking.{with_trail}
 use Rattle.engine.specs.declared.answer.Registers.{Registers}
@@ -45,6 +47,12 @@ consumer_in (Some consumer) = consumer
 abbrev pub IsTrackedEngine : Option TrackedConsumer → TrackedValue → Type 0
 IsTrackedEngine None tracked = ⊥
 IsTrackedEngine (Some consumer) tracked = AreTracked consumer tracked
+
+-- ---- the run that the consumer knows
+
+-- It continues the run that the consumer knew before.
+abbrev pub ConsumerWentOn : TrackedConsumer → Run → Type 0
+ConsumerWentOn consumer run = WentOn Consumer consumer.history run
 
 -- ---- registers
 

@@ -1,10 +1,8 @@
 //! The tracked engine: a tracked unit with the consumer of a ring.
 ghost use Rattle.std.specs.Prelude.{◌≡◌, ◌↔◌, [], IfOk, IfSome, IsTrue, OnOk, OnErr, Err};
 ghost use Rattle.std.specs.FinMap as finite;
-ghost use Rattle.ringcore.specs.declared.world.event.Who.TheVariants.{Consumer as ConsumerOf};
 ghost use Rattle.caches.specs.Stored.{IsFillAnswer};
 ghost use Rattle.caches.specs.declared.fault.CacheFault.{CacheFault as CacheFaultOf};
-ghost use Rattle.ring.specs.table.Rule.{WentOn};
 ghost use Rattle.ring.specs.Finishing.{AreAll};
 ghost use Rattle.engine.specs.Stops.{IsStopped, IsAcknowledgementAnswer};
 ghost use Rattle.engine.specs.Counting.{taken};
@@ -14,7 +12,7 @@ ghost use Rattle.transactions.specs.Walks.{AnswersWalk, with_walked};
 ghost use Rattle.transactions.specs.Together.{AreTracked, HasStepped, HasGrown};
 ghost use Rattle.transactions.specs.Told.{WasToldAllFully, HasConsumerSteps, HasSenderSteps};
 ghost use Rattle.transactions.specs.Told.{SenderWentOn};
-ghost use Rattle.tracked_engine.specs.TrackedEngines.{HasLooked};
+ghost use Rattle.tracked_engine.specs.TrackedEngines.{ConsumerWentOn, HasLooked};
 ghost use Rattle.tracked_engine.specs.TrackedEnds.{IsTrackedEnd};
 
 use crate::finished::TrackedFinished;
@@ -116,7 +114,7 @@ impl TrackedEngine {
         ensures one { sender.new.history ≡ self.new.consumer.history }
         ensures of_consumer { HasConsumerSteps self.old.consumer self.new.consumer.history }
         ensures of_sender { HasSenderSteps sender.old self.new.consumer.history }
-        ensures known_to_consumer { WentOn ConsumerOf self.old.consumer.history self.new.consumer.history }
+        ensures known_to_consumer { ConsumerWentOn self.old.consumer self.new.consumer.history }
         ensures known_to_sender { SenderWentOn sender.old self.new.consumer.history }
     {
         let mut consumer = self.consumer.take().unwrap();
