@@ -12,7 +12,8 @@ use Rattle.engine.specs.declared.answer.Registers.{Registers}
 use Rattle.engine.specs.Engines.{control_after}
 use Rattle.engine.specs.Stops.{StopValue, err_of, word_of}
 use Rattle.transactions.specs.Tracking.{TrackedValue}
-use Rattle.transactions.specs.Together.{TrackedConsumer, AreTracked}
+use Rattle.transactions.specs.declared.tracked_step.TrackedStep.{TrackedStep}
+use Rattle.transactions.specs.Together.{TrackedConsumer, AreTracked, HasStepped}
 
 -- the engine: its consumer and its tracked unit
 pub record TrackedEngineValue : Type 0 where
@@ -48,7 +49,17 @@ abbrev pub IsTrackedEngine : Option TrackedConsumer → TrackedValue → Type 0
 IsTrackedEngine None tracked = ⊥
 IsTrackedEngine (Some consumer) tracked = AreTracked consumer tracked
 
+-- ---- a step
+
+-- A step of both did this.
+abbrev pub IsEngineStep : TrackedStep → TrackedEngineValue → TrackedEngineValue → Type 0
+IsEngineStep step old new = HasStepped step old.consumer old.tracked new.consumer new.tracked
+
 -- ---- the run that the consumer knows
+
+-- The consumer took no step, and may know another run now.
+abbrev pub DifferInHistoryAlone : TrackedConsumer → TrackedConsumer → Type 0
+DifferInHistoryAlone old new = record new { history = [] } ≡ record old { history = [] }
 
 -- It continues the run that the consumer knew before.
 abbrev pub ConsumerWentOn : TrackedConsumer → Run → Type 0

@@ -9,9 +9,10 @@ ghost use Rattle.engine.specs.Counting.{taken};
 ghost use Rattle.transactions.specs.Tracking.{with_filled, with_evicted, with_acknowledged};
 ghost use Rattle.transactions.specs.Transactions.{IsBeginAnswer, IsBeginWalkedAnswer, IsEndAnswer};
 ghost use Rattle.transactions.specs.Walks.{AnswersWalk, with_walked};
-ghost use Rattle.transactions.specs.Together.{AreTracked, HasStepped, HasGrown};
+ghost use Rattle.transactions.specs.Together.{AreTracked, HasGrown};
 ghost use Rattle.transactions.specs.Told.{WasToldAllFully, HasConsumerSteps, HasSenderSteps};
 ghost use Rattle.transactions.specs.Told.{SenderWentOn};
+ghost use Rattle.tracked_engine.specs.TrackedEngines.{IsEngineStep, DifferInHistoryAlone};
 ghost use Rattle.tracked_engine.specs.TrackedEngines.{ConsumerWentOn, HasLooked};
 ghost use Rattle.tracked_engine.specs.TrackedEnds.{IsTrackedEnd};
 
@@ -66,8 +67,7 @@ impl TrackedEngine {
     /// ring.
     pub fn step(&mut self, ring: &Ring) -> TrackedStep
         requires { self.old.consumer.ring ≡ ring.now }
-        ensures stepped { HasStepped result self.old.consumer self.old.tracked
-            self.new.consumer self.new.tracked }
+        ensures stepped { IsEngineStep result self.old self.new }
         ensures history { HasGrown self.old.consumer self.new.consumer }
         ensures tracked { AreTracked self.new.consumer self.new.tracked }
         ensures ring { self.new.consumer.ring ≡ self.old.consumer.ring }
@@ -108,8 +108,7 @@ impl TrackedEngine {
         ensures told { WasToldAllFully self.new.consumer.history self.new.tracked sender.old }
         ensures tracked { AreTracked self.new.consumer self.new.tracked }
         ensures unit { self.new.tracked ≡ self.old.tracked }
-        ensures consumer { record self.new.consumer { history = [] }
-            ≡ record self.old.consumer { history = [] } }
+        ensures consumer { DifferInHistoryAlone self.old.consumer self.new.consumer }
         ensures sender { record sender.new { history = [] } ≡ record sender.old { history = [] } }
         ensures one { sender.new.history ≡ self.new.consumer.history }
         ensures of_consumer { HasConsumerSteps self.old.consumer self.new.consumer.history }
@@ -251,8 +250,7 @@ impl TrackedEngine {
         value: u64,
     ) -> Result<Option<Entry>, WalkFault>
         ensures answer { AnswersWalk self.old.tracked walk tag result }
-        ensures was { IfOk result (λ was.
-            was ≡ finite.get self.old.tracked.unit.caches.entries tag) }
+        ensures was { IfOk result (λ w. w ≡ finite.get self.old.tracked.unit.caches.entries tag) }
         ensures refused { (fault : CacheFaultOf) → result ≡ Err (WalkFault.Refused fault)
             → IsFillAnswer self.old.tracked.unit.caches tag (Err fault) }
         ensures ok { OnOk result (self.new.tracked ≡ with_walked walk tag value self.old.tracked) }
