@@ -1,0 +1,8 @@
+use Rattle.tracked_engine.specs.TrackedEngines.{IsTrackedEngine}
+use Rattle.tracked_engine.proofs.Keeping.{engine_tracked, still_together, next_after_walked}
+use Rattle.tracked_engine.proofs.tracked_engine.TrackedEngine.begin_walked.Goals as goal
+
+pub returns-clause-tracked : goal.returns-clause-tracked
+returns-clause-tracked c =
+    let together : IsTrackedEngine c.self.inside.consumer c.begin_walked.new.self = still_together _ _ _ c.self.invariant (next_after_walked _ _ _ _ _ c.begin_walked.ensures.begun) c.begin_walked.ensures.tracked in
+    engine_tracked _ _ together

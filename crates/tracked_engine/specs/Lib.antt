@@ -1,0 +1,2 @@
+pub mod TrackedEngines
+pub mod TrackedEnds

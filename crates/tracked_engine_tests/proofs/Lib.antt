@@ -1,0 +1,2 @@
+pub mod WorkedOutstanding
+pub mod WorkedEnds
