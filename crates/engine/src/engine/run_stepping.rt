@@ -36,7 +36,7 @@ pub(crate) fn step_run_with(
     ensures stepped { HasRun most (engine_of consumer unit.old) (engine_of result.0 unit.new) result.1 }
     ensures told { most ≤ length completions.old
         → HasTold most (engine_of consumer unit.old) (engine_of result.0 unit.new)
-            (result.1, result.2) completions.old completions.new }
+        (result.1, result.2) completions.old completions.new }
     ensures history { HasGrown (engine_of consumer unit.old) (engine_of result.0 unit.new) }
     ensures still { (result.1 ≡ RunAnswer.StillStopped) ↔ IsStopped unit.old.stop.mode }
     ensures exhausted { (result.1 ≡ RunAnswer.Exhausted) ↔ IsExhausted unit.old }
