@@ -2,5 +2,6 @@ pub mod Legal
 pub mod WorkedRefusals
 pub mod WorkedTellings
 pub mod WorkedEnds
+pub mod WorkedRuns
 pub mod Kept
 pub mod Crossing
