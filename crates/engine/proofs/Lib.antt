@@ -8,5 +8,6 @@ pub mod Telling
 pub mod Cells
 pub mod Syncs
 pub mod Rewritten
+pub mod Advanced
 pub mod Ending
 pub mod Crossing

@@ -25,6 +25,10 @@ reads_keep : (offset : ℕ) (raws : List Raw) (t : Trail) → taken_of (reads_fr
 reads_keep offset [] t = λ _. taken_of t
 reads_keep offset (raw ∷ raws) t = reads_keep (suc offset) raws _
 
+-- What was taken before a run was read is what was taken after that, whatever the device.
+pub taken_before_reads : {D : Type 0} (most : ℕ) (d : ConsumerValue D) (p : PendingValue D) → TookRun most d p → taken_of p.consumer.trail ≡ taken_of d.trail
+taken_before_reads {D = D} most d p took = ap (λ (x : ConsumerValue D). taken_of x.trail) took.trail_is ∙ reads_keep 0 p.raws _
+
 -- That the two are together depends on the consumer's trail, not on its history.
 knowing : (e : ConsumerValue UnitValue) (unit : UnitValue) → AreTogether (record e { history = [] }) unit → AreTogether e unit
 knowing e unit t = record { many = t.many; counted = t.counted; settled = t.settled; seen = λ raw is half. t.seen raw is half }
@@ -49,7 +53,7 @@ module _ (d : ConsumerValue UnitValue) (unit : UnitValue) (t : AreTogether d uni
   module _ (most : ℕ) (p : PendingValue UnitValue) (took : TookRun most d p) where
     -- What was taken before the reads is what was taken after them.
     pub taken_before : taken_of p.consumer.trail ≡ taken_of d.trail
-    taken_before = ap (λ (x : ConsumerValue UnitValue). taken_of x.trail) took.trail_is ∙ reads_keep 0 p.raws _
+    taken_before = taken_before_reads most d p took
 
     pub taken_settled : (new : UnitValue) (more : List Taken) → StaysSettled unit new more → IsSettled new.caches.entries (taken_of p.consumer.trail ++ more)
     taken_settled new more keeps =

@@ -53,8 +53,8 @@ IsExhausted unit = ¬ IsStopped unit.stop.mode × (taken unit.counts ≡ most_re
 
 -- ---- an engine lends its consumer to each step and then has it back
 
-abbrev pub engine_of : ConsumerValue UnitValue → UnitValue → EngineValue
-engine_of consumer unit = record { consumer = consumer; unit = unit }
+abbrev pub engine : ConsumerValue UnitValue → UnitValue → EngineValue
+engine consumer unit = record { consumer = consumer; unit = unit }
 
 abbrev pub nobody : ConsumerValue UnitValue
 nobody = record {
@@ -74,14 +74,14 @@ IsEngine (Some consumer) unit = AreTogether consumer unit
 
 -- ---- what a step of at most `most` commands took from the ring
 
--- The first `count` of what was pending were completed, and the run that the consumer knows grew by exactly the steps of
--- that.
-pub record HasCompleted (count : ℕ) (unit : UnitValue) (p : PendingValue UnitValue) (new : ConsumerValue UnitValue) : Type 0 where
-  pub consumer_is : record new { history = [] } ≡ completed count unit (unknowing p)
+-- The first `count` of what was pending were completed while this device was lent, and the run that the consumer knows
+-- grew by exactly the steps of that.
+pub record HasCompleted {D : Type 0} (count : ℕ) (device : D) (p : PendingValue D) (new : ConsumerValue D) : Type 0 where
+  pub consumer_is : record new { history = [] } ≡ completed count device (unknowing p)
   pub grew : Grew Consumer p.consumer.trail new.trail p.consumer.history new.history
 
 -- This command was read at the head, perhaps with more after it.
-pub record IsFirst (most : ℕ) (consumer : ConsumerValue UnitValue) (p : PendingValue UnitValue) (raw : Raw) : Type 0 where
+pub record IsFirst {D : Type 0} (most : ℕ) (consumer : ConsumerValue D) (p : PendingValue D) (raw : Raw) : Type 0 where
   pub read : TookRun most consumer p
   pub rest : List Raw
   pub raws_are : p.raws ≡ raw ∷ rest
@@ -110,16 +110,26 @@ HasStepped old new Exhausted = (most_reserved ≤ taken old.unit.counts) × (new
 
 -- ---- a run of commands
 
--- The first `count` of the commands read are legal and were applied and completed; the one after them, if
--- any, is illegal.
-pub record HasAppliedRun (most count removed : ℕ) (old new : EngineValue) : Type 0 where
-  pub pending : PendingValue UnitValue
-  pub read : TookRun most old.consumer pending
+-- The first `count` of the commands read were applied, and completed together while this device was lent; the one after
+-- them, if any, ends the run.
+pub record HasCompletedRun {D : Type 0} (most count : ℕ) (AreDone : List Raw → Type 0) (EndsIt : Raw → Type 0)
+    (from : ConsumerValue D) (device : D) (to : ConsumerValue D) : Type 0 where
+  pub pending : PendingValue D
+  pub read : TookRun most from pending
   pub some : 1 ≤ count
   pub within : count ≤ length pending.raws
-  pub applied : AreApplied (take count pending.raws) removed old.unit new.unit
-  pub longest : (raw : Raw) → slice_get pending.raws count ≡ Some raw → (ill : Ill) × (first_ill raw ≡ Some ill)
-  pub completed_are : HasCompleted count new.unit pending new.consumer
+  pub applied : AreDone (take count pending.raws)
+  pub longest : (raw : Raw) → slice_get pending.raws count ≡ Some raw → EndsIt raw
+  pub completed_are : HasCompleted count device pending to
+
+abbrev pub IsIllegal : Raw → Type 0
+IsIllegal raw = (ill : Ill) × (first_ill raw ≡ Some ill)
+
+-- The first `count` of the commands read are legal and were applied and completed; the one after them, if
+-- any, is illegal.
+abbrev pub HasAppliedRun : ℕ → ℕ → ℕ → EngineValue → EngineValue → Type 0
+HasAppliedRun most count removed old new =
+    HasCompletedRun most count (λ raws. AreApplied raws removed old.unit new.unit) IsIllegal old.consumer new.unit new.consumer
 
 -- What a step of at most `most` commands did, by its answer.
 abbrev pub HasRun : ℕ → EngineValue → EngineValue → RunAnswer → Type 0

@@ -214,7 +214,6 @@ impl Engine {
         ensures counts { result.counts ≡ self.unit.counts }
         ensures caches { result.caches ≡ self.unit.caches }
     {
-        laws::consumer_trail();
         self.is_settled();
         let counts = self.counts();
         let (consumer, caches) = self.into_parts();

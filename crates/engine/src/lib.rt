@@ -25,7 +25,7 @@ mod unit;
 mod verdict;
 
 pub use answer::{Registers, RunAnswer, StepAnswer};
-pub use completion::{Completion, completion_of};
+pub use completion::{Completion, completion_of, tell_completions};
 pub use counts::Counts;
 pub use engine::{Engine, step_with};
 pub use finished::Finished;

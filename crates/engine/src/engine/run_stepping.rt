@@ -1,17 +1,15 @@
 //! A step of a run of commands.
 ghost use Rattle.std.specs.Prelude.{◌≡◌, ◌≤◌, ◌↔◌, length, take, slice_get, Some};
 ghost use Rattle.cmdcodec.specs.declared.raw.Raw.{Raw as RawOf};
-ghost use Rattle.cmdcodec.specs.declared.ill.Ill.{Ill as IllOf};
-ghost use Rattle.cmdcodec.specs.Legality.{first_ill};
 ghost use Rattle.ring.specs.consumer.Completing.{taken_of};
 ghost use Rattle.engine.specs.Stops.{IsStopped, MayComeNext};
 ghost use Rattle.engine.specs.Counting.{taken};
 ghost use Rattle.engine.specs.Units.{AreApplied, OnlyRemoves};
-ghost use Rattle.engine.specs.Engines.{AreTogether, HasGrown, HasRun, IsExhausted, engine_of};
-ghost use Rattle.engine.specs.Completions.{AreTold, HasTold};
+ghost use Rattle.engine.specs.Engines.{AreTogether, HasGrown, HasRun, IsExhausted, IsIllegal, engine};
+ghost use Rattle.engine.specs.Completions.{HasTold};
 
 use crate::answer::RunAnswer;
-use crate::completion::{Completion, completion_of};
+use crate::completion::{Completion, tell_completions};
 use crate::unit::Unit;
 use crate::verdict::Verdict;
 use ring::{Consumer, Outcome, PendingRun, Ring, TakenRun, growth_adds_up};
@@ -33,11 +31,11 @@ pub(crate) fn step_run_with(
     requires together { AreTogether consumer unit.old }
     requires some { 1 ≤ most }
     requires most { most ≤ 64 }
-    ensures stepped { HasRun most (engine_of consumer unit.old) (engine_of result.0 unit.new) result.1 }
+    ensures stepped { HasRun most (engine consumer unit.old) (engine result.0 unit.new) result.1 }
     ensures told { most ≤ length completions.old
-        → HasTold most (engine_of consumer unit.old) (engine_of result.0 unit.new)
+        → HasTold most (engine consumer unit.old) (engine result.0 unit.new)
         (result.1, result.2) completions.old completions.new }
-    ensures history { HasGrown (engine_of consumer unit.old) (engine_of result.0 unit.new) }
+    ensures history { HasGrown (engine consumer unit.old) (engine result.0 unit.new) }
     ensures still { (result.1 ≡ RunAnswer.StillStopped) ↔ IsStopped unit.old.stop.mode }
     ensures exhausted { (result.1 ≡ RunAnswer.Exhausted) ↔ IsExhausted unit.old }
     ensures together { AreTogether result.0 unit.new }
@@ -79,11 +77,12 @@ pub(crate) fn step_run_with(
 /// entries they removed.
 fn apply_legal(run: &PendingRun<Unit>, unit: &mut Unit) -> (u32, u32)
     requires running { ¬ IsStopped unit.old.stop.mode }
-    requires next { (raw : RawOf) → slice_get run.now.raws 0 ≡ Some raw → MayComeNext raw unit.old.stop }
+    requires next { (raw : RawOf) → slice_get run.now.raws 0 ≡ Some raw
+        → MayComeNext raw unit.old.stop }
     requires counted { taken unit.old.counts ≡ length (taken_of run.now.consumer.trail) }
     ensures within { result.0 ≤ length run.now.raws }
     ensures applied { AreApplied (take result.0 run.now.raws) result.1 unit.old unit.new }
-    ensures longest { (raw : RawOf) → slice_get run.now.raws result.0 ≡ Some raw → (ill : IllOf) × (first_ill raw ≡ Some ill) }
+    ensures longest { (raw : RawOf) → slice_get run.now.raws result.0 ≡ Some raw → IsIllegal raw }
 {
     let mut removed = 0;
     for count in 0..run.len() {
@@ -93,26 +92,4 @@ fn apply_legal(run: &PendingRun<Unit>, unit: &mut Unit) -> (u32, u32)
         removed += more;
     }
     (run.len(), removed)
-}
-
-/// Writes what the first `count` commands of a run complete to the beginning of `completions`, if there is room for
-/// that many commands, and returns how many it wrote.
-fn tell_completions(run: &PendingRun<Unit>, count: u32, completions: &mut [Completion]) -> usize
-    requires { count ≤ length run.now.raws }
-    ensures { count ≤ length completions.old
-        → AreTold (take count run.now.raws) completions.old completions.new result }
-{
-    let mut many = 0;
-    if completions.is_empty() {
-        return many;
-    }
-    for place in 0..count {
-        if let Some(completion) = completion_of(run.get(place).unwrap())
-            && many < completions.len()
-        {
-            completions[many] = completion;
-            many += 1;
-        }
-    }
-    many
 }

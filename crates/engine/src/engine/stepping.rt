@@ -2,7 +2,7 @@
 ghost use Rattle.std.specs.Prelude.{◌≡◌, ◌↔◌};
 ghost use Rattle.engine.specs.Stops.{IsStopped};
 ghost use Rattle.engine.specs.Units.{OnlyRemoves};
-ghost use Rattle.engine.specs.Engines.{AreTogether, HasGrown, HasStepped, IsExhausted, engine_of};
+ghost use Rattle.engine.specs.Engines.{AreTogether, HasGrown, HasStepped, IsExhausted, engine};
 
 use crate::answer::StepAnswer;
 use crate::unit::Unit;
@@ -18,8 +18,8 @@ pub fn step_with(
 ) -> (Consumer<Unit>, StepAnswer)
     requires ring { consumer.ring ≡ ring.now }
     requires together { AreTogether consumer unit.old }
-    ensures stepped { HasStepped (engine_of consumer unit.old) (engine_of result.0 unit.new) result.1 }
-    ensures history { HasGrown (engine_of consumer unit.old) (engine_of result.0 unit.new) }
+    ensures stepped { HasStepped (engine consumer unit.old) (engine result.0 unit.new) result.1 }
+    ensures history { HasGrown (engine consumer unit.old) (engine result.0 unit.new) }
     ensures still { (result.1 ≡ StepAnswer.StillStopped) ↔ IsStopped unit.old.stop.mode }
     ensures exhausted { (result.1 ≡ StepAnswer.Exhausted) ↔ IsExhausted unit.old }
     ensures together { AreTogether result.0 unit.new }

@@ -11,7 +11,7 @@ use Rattle.engine.proofs.engine.Engine.finish.Goals as goal
 
 pub returns-clause-end : goal.returns-clause-end
 returns-clause-end c =
-    ends _ _ c.args.self c.finish.result _ _ c.consumer_trail.ensures.advanced c.consumer_trail.ensures.taken
+    ends _ _ c.args.self c.finish.result _ _
     (subst (λ (d : ConsumerValue UnitValue). IsEnd c.args.ring c.args.senders.items d c.finish.result) c.into_parts-consumer.ensures.consumer c.finish.ensures)
     (subst (λ (s : Stored). IsSettled s.entries (taken_of c.args.self.consumer.trail)) (sym c.into_parts-consumer.ensures.caches) c.is_settled.ensures.settled)
     (ap taken c.counts-counts.ensures ∙ c.is_settled.ensures.many)

@@ -11,9 +11,9 @@ invariant_of-self c =
 pub returns-clause-told : goal.returns-clause-told
 returns-clause-told c =
     let together = engine_has _ _ c.self.inside.unit (sym c.take.ensures.value ∙ c.unwrap-consumer.ensures) c.self.invariant in
-    told_all_truly c.consumer_trail.ensures.advanced c.consumer_trail.ensures.taken _ _ _ _ c.meet-control.ensures.of_consumer together.settled _ _ c.meet-control.ensures.told
+    told_all_truly c.consumer_trail.ensures.taken _ _ _ _ c.meet-control.ensures.of_consumer together.settled _ _ c.meet-control.ensures.told
 
 pub returns-clause-settled : goal.returns-clause-settled
 returns-clause-settled c =
     let together = engine_has _ _ c.self.inside.unit (sym c.take.ensures.value ∙ c.unwrap-consumer.ensures) c.self.invariant in
-    settled_in_run c.consumer_trail.ensures.advanced c.consumer_trail.ensures.taken _ _ _ _ c.meet-control.ensures.of_consumer together.settled
+    settled_in_run c.consumer_trail.ensures.taken _ _ _ _ c.meet-control.ensures.of_consumer together.settled

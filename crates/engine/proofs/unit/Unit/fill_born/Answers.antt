@@ -1,11 +1,10 @@
-use Rattle.std.proofs.Common.{◌≡◌, List, sym, subst, ap, ◌∙◌, Result, Ok, Err, Option}
+use Rattle.std.proofs.Common.{◌≡◌, sym, subst, Result, Ok, Err, Option}
 use Rattle.std.specs.FinMap as finite
 use Rattle.std.specs.Result.{OnOk, OnErr}
 use Rattle.caches.specs.Held.{Entries}
 use Rattle.caches.specs.declared.tag.Entry.{Entry}
 use Rattle.caches.specs.declared.fault.CacheFault.{CacheFault}
-use Rattle.ringcore.specs.world.World.{Taken}
-use Rattle.engine.specs.Settled.{IsSettled, IsSettledEntry, StaysSettledWith}
+use Rattle.engine.specs.Settled.{IsSettled, StaysSettledWith}
 use Rattle.engine.specs.Units.{UnitValue}
 use Rattle.engine.proofs.Settlings.{settled_born}
 use Rattle.engine.proofs.unit.Unit.fill_born.Goals as goal

@@ -4,11 +4,11 @@ use Rattle.cmdcodec.specs.declared.raw.Raw.{Raw}
 use Rattle.engine.specs.declared.completion.Completion.{Completion}
 use Rattle.engine.specs.Completions.{completion_of, AreTold}
 use Rattle.engine.proofs.Telling.{told_without, told_with}
-use Rattle.engine.proofs.engine.run_stepping.tell_completions.Goals as goal
-use Rattle.engine.proofs.engine.run_stepping.tell_completions.Goals.{in-Some+then-many-completions, in_default, in_default-via-in-None-1, in_default-via-in-Some+else-many-completions}
+use Rattle.engine.proofs.completion.tell_completions.Goals as goal
+use Rattle.engine.proofs.completion.tell_completions.Goals.{in-Some+then-many-completions, in_default, in_default-via-in-None-1, in_default-via-in-Some+else-many-completions}
 
 pub loop-place-preserved : goal.loop-place-preserved
-loop-place-preserved c =
+loop-place-preserved g c =
     let raws : List Raw = c.args.run.now.raws in
     let before : List Completion = c.args.completions.now in
     let i = c.loop-place.invariant in
