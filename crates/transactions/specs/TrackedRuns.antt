@@ -19,8 +19,8 @@ use Rattle.transactions.specs.Tracking.{TrackedValue}
 use Rattle.transactions.specs.TrackedVerdicts.{HasJudgedTracked, HasToWait}
 use Rattle.transactions.specs.Together.{IsStep, HasTaken, HasLeft}
 
--- These were applied in turn, and removed `removed` entries in total. Each was judged as it came: so
--- each legal CMD_SYNC among them had no transaction to wait for.
+-- These were applied in turn, and removed `removed` entries in total. Each was judged as it came,
+-- so each legal CMD_SYNC among them had no transaction to wait for.
 abbrev pub AreAppliedTracked : List Raw → ℕ → TrackedValue → TrackedValue → Type 0
 AreAppliedTracked [] removed old new = (removed ≡ 0) × (new ≡ old)
 AreAppliedTracked (raw ∷ raws) removed old new =

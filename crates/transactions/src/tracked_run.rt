@@ -99,7 +99,8 @@ fn apply_ready(run: &PendingRun<TrackedUnit>, tracked: &mut TrackedUnit) -> (u32
         → MayComeNext raw tracked.old.unit.stop }
     requires counted { taken tracked.old.unit.counts ≡ length (taken_of run.now.consumer.trail) }
     ensures within { result.0 ≤ length run.now.raws }
-    ensures applied { AreAppliedTracked (take result.0 run.now.raws) result.1 tracked.old tracked.new }
+    ensures applied { AreAppliedTracked (take result.0 run.now.raws) result.1
+        tracked.old tracked.new }
     ensures longest { (raw : RawOf) → slice_get run.now.raws result.0 ≡ Some raw
         → EndsRun tracked.new raw }
     ensures tracked { StaysTracked tracked.old tracked.new
