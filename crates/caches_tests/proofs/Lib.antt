@@ -1,2 +1,3 @@
 pub mod WorkedEvictions
 pub mod WorkedFinding
+pub mod WorkedKinds

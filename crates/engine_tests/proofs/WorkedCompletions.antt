@@ -1,5 +1,6 @@
 -- What single commands complete, and what a run tells of them.
-use Rattle.std.proofs.Common.{◌≡◌, ℕ, List, [], ◌∷◌, length, take, drop, None, refl, subst}
+use Rattle.std.proofs.Common.{◌≡◌, ℕ, List, [], ◌∷◌, length, take, drop, None, refl, sym, subst}
+use Rattle.std.proofs.lemmas.Bool.{true≢false}
 use Rattle.cmdcodec.specs.declared.raw.Raw.{Raw}
 use Rattle.cmdcodec.specs.declared.ill.Ill.{Ill}
 use Rattle.cmdcodec.specs.Words.{encoding}
@@ -7,7 +8,7 @@ use Rattle.ringcore.specs.world.World.{sync_raw}
 use Rattle.engine.specs.declared.completion.Completion.{Completion}
 use Rattle.engine.specs.declared.answer.RunAnswer.TheVariants.{Applied, Stopped}
 use Rattle.engine.specs.Engines.{EngineValue}
-use Rattle.engine.specs.Completions.{completion_of, completions_of, AreTold, HasTold}
+use Rattle.engine.specs.Completions.{completion_of, completions_of, AreToCells, AreTold, HasTold}
 use Rattle.ringcore_tests.proofs.WorkedCases.{x, y}
 
 abbrev completion_by : ℕ → ℕ → Completion
@@ -25,6 +26,13 @@ sync_elsewhere = record { lo = 0x46; hi = 0x3ffffffc }
 pub sync_elsewhere_completes_nothing : completion_of sync_elsewhere ≡ None
 unfolding completion_of
 sync_elsewhere_completes_nothing = refl
+
+-- It isn't among commands of which each CMD_SYNC is to a completion cell, wherever it stands.
+pub sync_elsewhere_is_to_no_cell : ¬ AreToCells (sync_elsewhere ∷ [])
+sync_elsewhere_is_to_no_cell are = true≢false (sym (are 0 sync_elsewhere refl refl))
+
+pub each_sync_is_to_a_cell : ¬ AreToCells (x ∷ sync_elsewhere ∷ [])
+each_sync_is_to_a_cell are = true≢false (sym (are 1 sync_elsewhere refl refl))
 
 -- Where nothing is told, the list is as it was.
 pub told_of_nothing_changes_nothing : (old new : List Completion) (many : ℕ) → AreTold [] old new many → many ≡ 0 → new ≡ old

@@ -1,5 +1,6 @@
 -- Entries that are too old: for each the definitions of what was told, and of what is settled, are false.
 use Rattle.std.proofs.Common.{◌≡◌, ℕ, zero, suc, ◌<◌, ◌≤◌, Bool, true, false, ◌||◌, List, [], ◌∷◌, ◌++◌, Some, None, refl, sym, ap, ap₂, subst, ◌∙◌, leb-true, ltb-true, arith}
+use Rattle.std.proofs.lemmas.Option.{slice_get_within}
 use Rattle.std.specs.Prelude.{slice_get}
 use Rattle.std.specs.FinMap as finite
 use Rattle.cmdcodec.specs.declared.raw.Raw.{Raw}
@@ -22,7 +23,7 @@ use Rattle.caches.specs.Held.{Entries}
 use Rattle.ring.specs.Rings.{RingValue}
 use Rattle.ring.specs.sender.Senders.{SenderValue}
 use Rattle.ring.specs.Finishing.{SummaryValue}
-use Rattle.engine.specs.Settled.{IsSettled}
+use Rattle.engine.specs.Settled.{IsSettled, IsSettledEntry, StaysSettledWith}
 use Rattle.engine.specs.Counting.{CountsValue, how_many, taken}
 use Rattle.engine.specs.Engines.{EngineValue, HasAppliedRun}
 use Rattle.engine.specs.Ends.{NoneIsOlder, reserved_ahead, WasToldTruly, WasToldAllTruly, IsEngineEnd}
@@ -64,6 +65,16 @@ stale_is_not_settled entries held settled =
 -- Nobody fills an entry after more commands than were taken.
 pub unborn_is_not_settled : (entries : Entries) → Holds entries 5 2 → ¬ IsSettled entries (taken_as x ∷ [])
 unborn_is_not_settled entries held settled = let born : 2 ≤ 1 = (settled (Ste 5) (entry_of 5 2) held).born in absurd (omega (arith, born))
+
+-- Behind the fill of an entry of another stream, which was born after that command, none is held that was filled before it.
+pub fill_of_an_old_entry_leaves_none_stale : (old new : Entries) → StaysSettledWith (entry_of 6 1) old new → IsSettled old (taken_as x ∷ []) → ¬ Holds new 5 0
+fill_of_an_old_entry_leaves_none_stale old new stays settled held = stale_is_not_settled new held (stays (taken_as x ∷ []) own settled)
+  where
+    own : IsSettledEntry (taken_as x ∷ []) (Ste 6) (entry_of 6 1)
+    own = record {
+      born = leb-true 1 1 refl;
+      uncovered = λ place t at from. let inside = slice_get_within (taken_as x ∷ []) place t at in absurd (omega (arith, inside, from));
+    }
 
 -- ---- what is older than the first commands of a ring
 

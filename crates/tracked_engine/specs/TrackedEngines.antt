@@ -1,5 +1,5 @@
 -- A tracked unit with its consumer in one value.
-use Rattle.std.specs.Prelude.{◌≡◌, ◌+◌, ◌*◌, ◌^◌, [], ◌∷◌, Option, None, Some}
+use Rattle.std.specs.Prelude.{◌≡◌, ◌+◌, ◌*◌, ◌^◌, ℕ, List, [], ◌∷◌, Option, None, Some}
 use Rattle.qindex.specs.declared.control.Control.{Control}
 use Rattle.ringcore.specs.declared.world.event.Who.TheVariants.{Consumer}
 use Rattle.ringcore.specs.declared.world.event.Event.TheVariants.{Look}
@@ -9,11 +9,14 @@ use Rattle.ring.specs.table.Rule.{WentOn}
 use Rattle.ring.specs.table.Histories.{GrewBy}
 use Rattle.ring.specs.consumer.Taking.{with_trail}
 use Rattle.engine.specs.declared.answer.Registers.{Registers}
-use Rattle.engine.specs.Engines.{control_after}
-use Rattle.engine.specs.Stops.{StopValue, err_of, word_of}
+use Rattle.engine.specs.declared.completion.Completion.{Completion}
+use Rattle.engine.specs.Engines.{IsExhausted, control_after}
+use Rattle.engine.specs.Stops.{StopValue, IsStopped, err_of, word_of}
 use Rattle.transactions.specs.Tracking.{TrackedValue}
 use Rattle.transactions.specs.declared.tracked_step.TrackedStep.{TrackedStep}
+use Rattle.transactions.specs.declared.tracked_run.TrackedRun.{TrackedRun}
 use Rattle.transactions.specs.Together.{TrackedConsumer, AreTracked, HasStepped}
+use Rattle.transactions.specs.TrackedRuns.{HasRun, HasTold}
 
 -- the engine: its consumer and its tracked unit
 pub record TrackedEngineValue : Type 0 where
@@ -54,6 +57,22 @@ IsTrackedEngine (Some consumer) tracked = AreTracked consumer tracked
 -- A step of both did this.
 abbrev pub IsEngineStep : TrackedStep → TrackedEngineValue → TrackedEngineValue → Type 0
 IsEngineStep step old new = HasStepped step old.consumer old.tracked new.consumer new.tracked
+
+-- A run of both of at most `most` commands did this.
+abbrev pub IsEngineRun : ℕ → TrackedRun → TrackedEngineValue → TrackedEngineValue → Type 0
+IsEngineRun most run old new = HasRun most run old.consumer old.tracked new.consumer new.tracked
+
+-- It told this, by its answer and by how many completions it told.
+abbrev pub IsToldByRun : ℕ → TrackedRun × ℕ → List Completion → List Completion
+    → TrackedEngineValue → TrackedEngineValue → Type 0
+IsToldByRun most told before after old new =
+    HasTold most told before after old.consumer old.tracked new.consumer new.tracked
+
+abbrev pub IsStoppedEngine : TrackedEngineValue → Type 0
+IsStoppedEngine engine = IsStopped engine.tracked.unit.stop.mode
+
+abbrev pub IsExhaustedEngine : TrackedEngineValue → Type 0
+IsExhaustedEngine engine = IsExhausted engine.tracked.unit
 
 -- ---- the run that the consumer knows
 

@@ -1,9 +1,12 @@
 //! The tracked engine: a tracked unit with the consumer of a ring.
-ghost use Rattle.std.specs.Prelude.{◌≡◌, ◌↔◌, [], IfOk, IfSome, IsTrue, OnOk, OnErr, Err};
+ghost use Rattle.std.specs.Prelude.{◌≡◌, ◌≤◌, ◌↔◌, [], length};
+ghost use Rattle.std.specs.Prelude.{IfOk, IfSome, IsTrue, OnOk, OnErr, Err};
 ghost use Rattle.std.specs.FinMap as finite;
 ghost use Rattle.caches.specs.Stored.{IsFillAnswer};
 ghost use Rattle.caches.specs.declared.fault.CacheFault.{CacheFault as CacheFaultOf};
+ghost use Rattle.ring.specs.Runs.{raws_by};
 ghost use Rattle.ring.specs.Finishing.{AreAll};
+ghost use Rattle.engine.specs.Completions.{AreToCells};
 ghost use Rattle.engine.specs.Stops.{IsStopped, IsAcknowledgementAnswer};
 ghost use Rattle.engine.specs.Counting.{taken};
 ghost use Rattle.transactions.specs.Tracking.{with_filled, with_evicted, with_acknowledged};
@@ -12,17 +15,20 @@ ghost use Rattle.transactions.specs.Walks.{AnswersWalk, with_walked};
 ghost use Rattle.transactions.specs.Together.{AreTracked, HasGrown};
 ghost use Rattle.transactions.specs.Told.{WasToldAllFully, HasConsumerSteps, HasSenderSteps};
 ghost use Rattle.transactions.specs.Told.{SenderWentOn};
-ghost use Rattle.tracked_engine.specs.TrackedEngines.{IsEngineStep, DifferInHistoryAlone};
+ghost use Rattle.tracked_engine.specs.TrackedEngines.{IsEngineStep, IsEngineRun, IsToldByRun};
+ghost use Rattle.tracked_engine.specs.TrackedEngines.{IsStoppedEngine, IsExhaustedEngine};
+ghost use Rattle.tracked_engine.specs.TrackedEngines.{DifferInHistoryAlone};
 ghost use Rattle.tracked_engine.specs.TrackedEngines.{ConsumerWentOn, HasLooked};
 ghost use Rattle.tracked_engine.specs.TrackedEnds.{IsTrackedEnd};
 
 use crate::finished::TrackedFinished;
 use caches::{CacheFault, Entry, Tag};
-use engine::{AckFault, Counts, Registers, Remedy, Unit};
+use engine::{AckFault, Completion, Counts, Registers, Remedy, RunAnswer, StepAnswer, Unit};
 use ring::{Consumer, Ring, Sender};
 use std::marker::Model;
 use transactions::{
-    BeginFault, TrackedStep, TrackedUnit, Transaction, Walk, WalkFault, step_with, told,
+    BeginFault, TrackedRun, TrackedStep, TrackedUnit, Transaction, Walk, WalkFault, step_run_with,
+    step_with, told,
 };
 
 /// Serves a command queue as an engine does, with a unit that knows of walks and of transactions.
@@ -69,6 +75,10 @@ impl TrackedEngine {
         requires { self.old.consumer.ring ≡ ring.now }
         ensures stepped { IsEngineStep result self.old self.new }
         ensures history { HasGrown self.old.consumer self.new.consumer }
+        ensures still { (result ≡ TrackedStep.Stepped StepAnswer.StillStopped)
+            ↔ IsStoppedEngine self.old }
+        ensures exhausted { (result ≡ TrackedStep.Stepped StepAnswer.Exhausted)
+            ↔ IsExhaustedEngine self.old }
         ensures tracked { AreTracked self.new.consumer self.new.tracked }
         ensures ring { self.new.consumer.ring ≡ self.old.consumer.ring }
     {
@@ -76,6 +86,66 @@ impl TrackedEngine {
         let (consumer, step) = step_with(consumer, &mut self.tracked, ring);
         self.consumer = Some(consumer);
         step
+    }
+
+    /// Takes up to `most` commands, 1 to 64: of those ready from the head on it applies all before
+    /// the first that is illegal or a CMD_SYNC that has to wait for transactions, and completes
+    /// them together. If that one comes first, it does with it as `step` does.
+    pub fn step_run(&mut self, ring: &Ring, most: u32) -> TrackedRun
+        requires ring { self.old.consumer.ring ≡ ring.now }
+        requires some { 1 ≤ most }
+        requires most { most ≤ 64 }
+        ensures stepped { IsEngineRun most result self.old self.new }
+        ensures history { HasGrown self.old.consumer self.new.consumer }
+        ensures still { (result ≡ TrackedRun.Ran RunAnswer.StillStopped)
+            ↔ IsStoppedEngine self.old }
+        ensures exhausted { (result ≡ TrackedRun.Ran RunAnswer.Exhausted)
+            ↔ IsExhaustedEngine self.old }
+        ensures tracked { AreTracked self.new.consumer self.new.tracked }
+        ensures ring { self.new.consumer.ring ≡ self.old.consumer.ring }
+    {
+        let consumer = self.consumer.take().unwrap();
+        let (consumer, run, _) = step_run_with(consumer, &mut self.tracked, ring, most, &mut []);
+        self.consumer = Some(consumer);
+        run
+    }
+
+    /// Does what `step_run` does, and tells whose CMD_SYNCs it completed: it writes them to the
+    /// beginning of `completions`, in the order of their reservation, and returns how many they
+    /// are. The rest of `completions` is as before. Where no command was applied it tells of none.
+    pub fn step_run_telling(
+        &mut self,
+        ring: &Ring,
+        most: u32,
+        completions: &mut [Completion],
+    ) -> (TrackedRun, usize)
+        requires ring { self.old.consumer.ring ≡ ring.now }
+        requires some { 1 ≤ most }
+        requires most { most ≤ 64 }
+        requires room { most ≤ length completions.old }
+        ensures stepped { IsEngineRun most result.0 self.old self.new }
+        ensures told { IsToldByRun most result completions.old completions.new self.old self.new }
+        // So none that was completed is left out.
+        ensures cells { AreToCells (raws_by self.new.consumer.trail) }
+        ensures history { HasGrown self.old.consumer self.new.consumer }
+        ensures still { (result.0 ≡ TrackedRun.Ran RunAnswer.StillStopped)
+            ↔ IsStoppedEngine self.old }
+        ensures exhausted { (result.0 ≡ TrackedRun.Ran RunAnswer.Exhausted)
+            ↔ IsExhaustedEngine self.old }
+        ensures tracked { AreTracked self.new.consumer self.new.tracked }
+        ensures ring { self.new.consumer.ring ≡ self.old.consumer.ring }
+    {
+        let consumer = self.consumer.take().unwrap();
+        let (consumer, run, many) = step_run_with(
+            consumer,
+            &mut self.tracked,
+            ring,
+            most,
+            completions,
+        );
+        consumer.syncs_are_closing();
+        self.consumer = Some(consumer);
+        (run, many)
     }
 
     /// Returns the queue's registers at this moment.

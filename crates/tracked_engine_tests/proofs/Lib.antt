@@ -1,2 +1,3 @@
 pub mod WorkedOutstanding
 pub mod WorkedEnds
+pub mod WorkedRuns

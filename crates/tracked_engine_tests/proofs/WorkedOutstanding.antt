@@ -37,7 +37,7 @@ unfolding opcode_named
 legal_six = refl
 
 -- a transaction that began with the entry of a stream that was born then
-abbrev used : ℕ → ℕ → OutstandingTransaction
+abbrev pub used : ℕ → ℕ → OutstandingTransaction
 used sid born = record { number = 1; tag = Ste sid; born = born; covered = true }
 
 -- ---- what is older than the first commands of a ring

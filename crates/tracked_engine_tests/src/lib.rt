@@ -3,6 +3,10 @@
 #![tactic(auto)]
 
 #[cfg(test)]
+mod calls;
+#[cfg(test)]
+mod run_tests;
+#[cfg(test)]
 mod stop_tests;
 #[cfg(test)]
 mod waiting_tests;

@@ -1,25 +1,14 @@
 //! A driver whose CMD_SYNC waits for a transaction, and a walk that its command overtakes.
 ghost use Rattle.std.specs.Prelude.{◌≡◌, []};
 
+use crate::calls::{STE, begin, end, stream};
 use batch::Batch;
-use caches::{Caches, Tag};
-use cmdcodec::{Raw, Sid};
+use caches::Caches;
 use engine::StepAnswer;
 use ring::{Receipt, Ring, RingFault, Sender};
 use std::process::Abort;
 use tracked_engine::{TrackedEngine, TrackedFinished};
-use transactions::{BeginFault, TrackedStep, TrackedUnit, Transaction, WalkFault};
-
-/// CMD_CFGI_STE of stream 5 with Leaf 1.
-const STE: Raw = Raw {
-    lo: 0x0000_0005_0000_0003,
-    hi: 1,
-};
-
-fn stream(rt: &impl Abort, number: u64) -> Tag {
-    let sid = Sid::new(number).expect(rt, "a stream");
-    Tag::Ste { sid }
-}
+use transactions::{BeginFault, TrackedStep, TrackedUnit, WalkFault};
 
 fn send(rt: &impl Abort, ring: &Ring, sender: Sender) -> (Sender, Receipt)
     requires { sender.ring ≡ ring.now }
@@ -31,24 +20,6 @@ fn send(rt: &impl Abort, ring: &Ring, sender: Sender) -> (Sender, Receipt)
     match sender.send(ring, &batch, 1) {
         Ok(sent) => sent,
         Err(_) => panic!(rt; "the batch is refused"),
-    }
-}
-
-fn begin(rt: &impl Abort, engine: &mut TrackedEngine, tag: &Tag) -> Transaction
-    ensures { engine.new.consumer ≡ engine.old.consumer }
-{
-    match engine.begin(tag) {
-        Ok((_, transaction)) => transaction,
-        Err(_) => panic!(rt; "it doesn't begin"),
-    }
-}
-
-fn end(rt: &impl Abort, engine: &mut TrackedEngine, transaction: Transaction)
-    ensures { engine.new.consumer ≡ engine.old.consumer }
-{
-    match engine.end(transaction) {
-        Ok(()) => {}
-        Err(_back) => panic!(rt; "it isn't outstanding here"),
     }
 }
 

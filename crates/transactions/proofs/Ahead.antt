@@ -1,52 +1,27 @@
 -- What was reserved before a closing sync that a sender was told of.
-use Rattle.std.proofs.Common.{◌≡◌, ◌≤◌, ◌<◌, ℕ, zero, suc, true, List, [], ◌∷◌, ◌++◌, length, map, Some, None, refl, sym, ap, subst, ◌∙◌, arith, append_assoc, append-nil}
+use Rattle.std.proofs.Common.{◌≡◌, ◌≤◌, ◌<◌, ℕ, true, List, length, map, Some, sym, ap, subst, ◌∙◌, arith}
 use Rattle.std.specs.Prelude.{slice_get, ◌==◌}
 use Rattle.std.proofs.lemmas.Option.{slice_get_within}
-use Rattle.std.proofs.lemmas.List.{map-append}
 use Rattle.cmdcodec.specs.declared.raw.Raw.{Raw}
 use Rattle.cmdcodec.specs.Opcodes.{is_sync, opcode_of}
 use Rattle.cmdcodec.specs.Words.{encoding}
-use Rattle.cmdcodec.specs.Legality.{first_ill}
-use Rattle.ringcore.specs.declared.world.event.Event.TheVariants.{Advance, Ask}
 use Rattle.ringcore.specs.declared.world.event.Outcome.TheVariants.{Applied}
-use Rattle.ringcore.specs.declared.world.event.Who.TheVariants.{Consumer, Sender}
+use Rattle.ringcore.specs.declared.world.event.Who.TheVariants.{Consumer}
 use Rattle.ringcore.specs.world.Trails.{Run, Trail}
-use Rattle.ringcore.specs.world.World.{Taken, taken_as, outcome_of, sync_raw, world}
+use Rattle.ringcore.specs.world.World.{Taken, taken_as, sync_raw, world}
 use Rattle.ringcore.specs.world.Allowed.{Ring}
 use Rattle.ringcore.specs.world.Delivery.{advanced, Begins}
 use Rattle.ringcore.specs.world.Laws.{EveryRun, IsApplied}
-use Rattle.ringcore.specs.world.ConsumerLaws.{TellsWhatIsAdvanced, TellsTheOutcomes}
-use Rattle.ring.specs.Finishing.{WasToldAll}
+use Rattle.ringcore.specs.world.ConsumerLaws.{TellsTheOutcomes}
+use Rattle.ring.specs.Finishing.{WasTold, WasToldAll}
 use Rattle.ring.specs.sender.Senders.{SenderValue}
 use Rattle.ring.specs.table.Histories.{IsHistory}
 use Rattle.ring.specs.consumer.Completing.{taken_of}
 use Rattle.engine.specs.Ends.{reserved_ahead, WasToldTruly}
-use Rattle.engine.proofs.Ending.{told_all_truly}
+use Rattle.engine.proofs.Advanced.{begun_at, taken_at, legal_is_applied, world_taken}
+use Rattle.engine.proofs.Ending.{begins_now, taken_is, told_truly}
 use Rattle.transactions.specs.Tracking.{TrackedValue, IsTracked}
-use Rattle.transactions.specs.Told.{NoOutstandingIsOlder, WasToldAllFully}
-use Rattle.transactions.proofs.Places.{get_left}
-
--- What was taken earlier is a beginning of what is taken now.
-begins_later : (later earlier : Run) → Begins (advanced earlier) (advanced (later ++ earlier))
-begins_later [] earlier = ([], sym (append-nil (advanced earlier)))
-begins_later ((who, Advance raws) ∷ later) earlier =
-    let so_far = begins_later later earlier in
-    (so_far.0 ++ raws, ap (λ (l : List Raw). l ++ raws) so_far.1 ∙ append_assoc (advanced earlier) so_far.0 raws)
-begins_later ((who, e) ∷ later) earlier = begins_later later earlier
-
-get_begun : (xs ys : List Raw) → Begins xs ys → (i : ℕ) (x : Raw) → slice_get xs i ≡ Some x → slice_get ys i ≡ Some x
-get_begun xs ys begins i x at = ap (λ (l : List Raw). slice_get l i) begins.1 ∙ get_left xs begins.0 i (slice_get_within xs i x at) ∙ at
-
-get_taken : (xs : List Raw) (i : ℕ) (x : Raw) → slice_get xs i ≡ Some x → slice_get (map taken_as xs) i ≡ Some (taken_as x)
-get_taken [] i x at = absurd (cc)
-get_taken (y ∷ xs) zero x at = ap (λ (r : Raw). Some (taken_as r)) (inner y x at)
-  where
-    inner : (a b : Raw) → Some a ≡ Some b → a ≡ b
-    inner a b is = cc
-get_taken (y ∷ xs) (suc i) x at = get_taken xs i x at
-
-is_applied : (r : Raw) → first_ill r ≡ None → outcome_of r ≡ Applied
-is_applied r none = search
+use Rattle.transactions.specs.Told.{NoOutstandingIsOlder, WasToldFully, WasToldAllFully}
 
 -- A closing sync is a CMD_SYNC.
 sync_is_sync : (s number : ℕ) → is_sync (sync_raw s number) ≡ true
@@ -61,15 +36,15 @@ none_outstanding t list all is list_is earlier s number applied up_to_now outcom
     sooner place outstanding.born (λ from. is.on_time slot outstanding there_is (record {
       place = place;
       taken = taken_as raw;
-      at = in_list place raw (get_begun first (advanced earlier) applied.completed.all_ahead place raw at);
+      at = in_list place raw (begun_at first (advanced earlier) applied.completed.all_ahead place raw at);
       since = from;
-      covered = record { applied = is_applied raw legal; command = command; spelled = spelled; covered = covered };
+      covered = record { applied = legal_is_applied raw legal; command = command; spelled = spelled; covered = covered };
       later = length first;
       sync = taken_as (sync_raw s number);
       at_later = in_list (length first) (sync_raw s number) applied.completed.sync;
       after = slice_get_within first place raw at;
       applied = ap (λ (u : Taken). u.outcome) (inner (taken_as (sync_raw s number)) (record { raw = sync_raw s number; outcome = Applied })
-          (sym (get_taken (advanced earlier) (length first) (sync_raw s number) applied.completed.sync) ∙ sym (ap (λ (l : List Taken). slice_get l (length first)) outcomes) ∙ applied.applied));
+          (sym (taken_at (advanced earlier) (length first) (sync_raw s number) applied.completed.sync) ∙ sym (ap (λ (l : List Taken). slice_get l (length first)) outcomes) ∙ applied.applied));
       is_sync = sync_is_sync s number;
     }))
   where
@@ -83,29 +58,21 @@ none_outstanding t list all is list_is earlier s number applied up_to_now outcom
     inner a b is = cc
 
     in_list : (i : ℕ) (x : Raw) → slice_get (advanced earlier) i ≡ Some x → slice_get list i ≡ Some (taken_as x)
-    in_list i x there = ap (λ (l : List Taken). slice_get l i) list_is ∙ get_taken all i x (get_begun (advanced earlier) all up_to_now i x there)
+    in_list i x there = ap (λ (l : List Taken). slice_get l i) list_is ∙ taken_at all i x (begun_at (advanced earlier) all up_to_now i x there)
 
--- What is taken in a run is what it advanced past.
-world_taken : (r : Run) → (world r).taken ≡ map taken_as (advanced r)
-world_taken [] = refl
-world_taken ((Consumer, Advance raws) ∷ r) = ap (λ (l : List Taken). l ++ map taken_as raws) (world_taken r) ∙ sym (map-append taken_as (advanced r) raws)
-world_taken ((Sender s, Advance raws) ∷ r) = ap (λ (l : List Taken). l ++ map taken_as raws) (world_taken r) ∙ sym (map-append taken_as (advanced r) raws)
-world_taken ((who, e) ∷ r) = world_taken r
+-- Whatever was told in a run that has taken what the unit is tracked for was true.
+pub told_number_fully : (run : Run) (t : TrackedValue) → IsTracked t (world run).taken → (s told : ℕ) (older : Trail) → WasTold run s told older → WasToldFully run t s told older
+told_number_fully run t tracked s told older was =
+    let truly : WasToldTruly run t.unit.caches.entries s told older = told_truly run t.unit.caches.entries tracked.settled s told older was in
+    let at = truly.was_told in
+    record {
+      truly = truly;
+      none_outstanding = λ number some most.
+          none_outstanding t (world run).taken (advanced run) tracked (world_taken run) at.earlier s number (at.applied number some most) (begins_now run s told older at) (world_taken at.earlier);
+    }
 
-module _ (advances : EveryRun TellsWhatIsAdvanced) (outcomes : EveryRun TellsTheOutcomes) (ring : Ring) (run : Run) (trail : Trail) (t : TrackedValue)
-    (is : IsHistory ring Consumer trail run) (tracked : IsTracked t (taken_of trail)) where
-  list_is : taken_of trail ≡ map taken_as (advanced run)
-  list_is = sym (outcomes ring run is.stands.after.run_is ∙ ap taken_of is.stands.trail_is) ∙ world_taken run
-
-  pub told_fully : (sender : SenderValue) → WasToldAll run sender.number sender.trail → WasToldAllFully run t sender
-  told_fully sender was newer older told at =
-      let s = sender.number in
-      let mine = sender.trail in
-      let truly : WasToldTruly run t.unit.caches.entries s told older = told_all_truly advances outcomes ring run trail t.unit.caches.entries is tracked.settled s mine was newer older told at in
-      record {
-        truly = truly;
-        none_outstanding = λ number some most.
-            none_outstanding t (taken_of trail) (advanced run) tracked list_is truly.was_told.earlier s number (truly.was_told.applied number some most)
-            (subst (λ (r : Run). Begins (advanced truly.was_told.earlier) (advanced r)) (sym truly.was_told.run_is) (begins_later truly.was_told.later ((Sender s, Ask told) ∷ truly.was_told.earlier)))
-            (world_taken truly.was_told.earlier);
-      }
+-- While the ring runs: a run that has the consumer's steps.
+pub told_fully : EveryRun TellsTheOutcomes → (ring : Ring) (run : Run) (trail : Trail) (t : TrackedValue) → IsHistory ring Consumer trail run → IsTracked t (taken_of trail)
+    → (sender : SenderValue) → WasToldAll run sender.number sender.trail → WasToldAllFully run t sender
+told_fully outcomes ring run trail t is tracked sender was newer older told at =
+    told_number_fully run t (subst (IsTracked t) (sym (taken_is outcomes ring run trail is)) tracked) sender.number told older (was newer older told at)

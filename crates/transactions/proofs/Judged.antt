@@ -1,5 +1,5 @@
 -- A unit stays tracked by a verdict.
-use Rattle.std.proofs.Common.{◌≡◌, ◌+◌, ℕ, Bool, true, false, cond, List, [], ◌∷◌, ◌++◌, length, length-append, None, sym, ap, subst, ◌∙◌, arith, append-nil}
+use Rattle.std.proofs.Common.{◌≡◌, ◌+◌, ◌<◌, ℕ, Bool, true, false, cond, List, [], ◌∷◌, ◌++◌, length, length-append, None, sym, ap, subst, ◌∙◌, arith, append-nil}
 use Rattle.circular_buffer.specs.Buffer.{keep_last}
 use Rattle.cmdcodec.specs.declared.raw.Raw.{Raw}
 use Rattle.ringcore.specs.declared.world.event.Outcome.TheVariants.{Applied as AsApplied, Replaced as AsReplaced}
@@ -14,7 +14,9 @@ use Rattle.transactions.specs.Since.{last_invalidations, recent_after}
 use Rattle.cmdcodec.specs.Opcodes.{is_sync}
 use Rattle.cmdcodec.specs.Legality.{first_ill}
 use Rattle.transactions.specs.Outstanding.{Slots, covered_by, TellCovered, NoneIsOverdue, HasCoveredOutstanding}
-use Rattle.transactions.proofs.Covering.{are_covered, none_overdue, replaced_covered, replaced_overdue}
+use Rattle.transactions.specs.Tracking.{TrackedValue, StaysTracked}
+use Rattle.transactions.specs.Between.{IsWaitAnswer, TakesTracked}
+use Rattle.transactions.proofs.Covering.{are_covered, none_overdue, replaced_covered, replaced_overdue, has_to_wait}
 use Rattle.transactions.proofs.Sinces.{last_more}
 use Rattle.transactions.proofs.Spelled.{applied_kind}
 
@@ -63,3 +65,11 @@ on_time_now raw old new (Applied command removed) is list slots covered on_time 
     none_overdue list raw command is.legal.spelled is.legal.alone slots covered on_time (λ sync. waited sync is.legal.legal)
 on_time_now raw old new (Stopped ill) is list slots covered on_time waited = subst (NoneIsOverdue slots) (sym (append-nil list)) on_time
 on_time_now raw old new (Replaced ill) is list slots covered on_time waited = replaced_overdue list raw slots on_time
+
+-- What is asked of a command that is taken holds of one that needn't wait.
+pub needs_no_wait : (raw : Raw) (old new : TrackedValue) (more : List Taken) → IsWaitAnswer raw old.outstanding None → TakesTracked raw old new more → StaysTracked old new more
+needs_no_wait raw old new more free takes list is =
+    takes list is (λ sync legal covered. none_count _ (free sync legal) (has_to_wait old.outstanding list is.covered covered))
+  where
+    none_count : (n : ℕ) → n ≡ 0 → 0 < n → ⊥
+    none_count n is some = omega (arith, is, some)

@@ -9,3 +9,5 @@ pub mod Answering
 pub mod Judged
 pub mod Together
 pub mod Ahead
+pub mod Unstopped
+pub mod TrackedRuns

@@ -1,12 +1,17 @@
 -- Between the crate's private functions: no clause of a public one names these.
-use Rattle.std.specs.Prelude.{◌≡◌, ◌≤◌, ◌<◌, ℕ, true, List, ◌++◌, Option, None, Some, count_by, ◌⊎◌}
+use Rattle.std.specs.Prelude.{◌≡◌, ◌≤◌, ◌<◌, ℕ, true, List, [], ◌∷◌, ◌++◌}
+use Rattle.std.specs.Prelude.{Option, None, Some, count_by, ◌⊎◌}
 use Rattle.std.specs.Prelude.{slice_get, slice_set}
 use Rattle.cmdcodec.specs.declared.raw.Raw.{Raw}
 use Rattle.cmdcodec.specs.Opcodes.{is_sync}
 use Rattle.cmdcodec.specs.Legality.{first_ill}
+use Rattle.cmdcodec.specs.declared.command.Command.{Command}
+use Rattle.ringcore.specs.declared.world.event.Outcome.TheVariants.{Applied as AsApplied}
 use Rattle.ringcore.specs.world.World.{Taken}
+use Rattle.ring.specs.consumer.Completing.{with_outcome}
 use Rattle.caches.specs.declared.tag.Tag.{Tag}
 use Rattle.caches.specs.Blocks.{IsBlock}
+use Rattle.engine.specs.declared.verdict.Verdict.TheVariants.{Applied}
 use Rattle.engine.specs.Counting.{taken}
 use Rattle.transactions.specs.declared.walk.WalkFault.{WalkFault}
 use Rattle.transactions.specs.declared.walk.WalkFault.TheVariants.{Overtaken, TooOld}
@@ -16,7 +21,9 @@ use Rattle.transactions.specs.declared.outstanding.OutstandingTransaction.{Outst
 use Rattle.transactions.specs.Outstanding.{Slots, is_covered, HasNoRoom}
 use Rattle.transactions.specs.Outstanding.{HasCoveredOutstanding}
 use Rattle.transactions.specs.Transactions.{TransactionValue, IsBegun}
-use Rattle.transactions.specs.Tracking.{TrackedValue, IsTracked}
+use Rattle.transactions.specs.Tracking.{TrackedValue, IsTracked, StaysTracked}
+use Rattle.transactions.specs.TrackedVerdicts.{HasJudgedTracked}
+use Rattle.transactions.specs.TrackedRuns.{EndsRun}
 
 -- A slot was free and has this transaction now, or none was free.
 abbrev pub IsInsertAnswer : Slots → OutstandingTransaction → Slots → Option ℕ → Type 0
@@ -37,12 +44,20 @@ TakesTracked raw old new more =
     → (is_sync raw ≡ true → first_ill raw ≡ None → ¬ HasCoveredOutstanding old.outstanding list)
     → IsTracked new (list ++ more)
 
+-- A legal command that needn't wait was applied, and the same and this one are taken now; or it
+-- ends a run, and nothing changed.
+abbrev pub IsApplyAnswer : Raw → TrackedValue → TrackedValue → Option ℕ → Type 0
+IsApplyAnswer raw old new None = (new ≡ old) × EndsRun old raw
+IsApplyAnswer raw old new (Some removed) =
+    ((command : Command) × HasJudgedTracked raw old new (Applied command removed))
+    × StaysTracked old new (with_outcome AsApplied raw ∷ [])
+
 -- How many transactions a command has to wait for, if it has to: for those that are covered, if it
 -- is a legal CMD_SYNC.
-abbrev pub HasToWait : Raw → Slots → Option ℕ → Type 0
-HasToWait raw slots None =
+abbrev pub IsWaitAnswer : Raw → Slots → Option ℕ → Type 0
+IsWaitAnswer raw slots None =
     is_sync raw ≡ true → first_ill raw ≡ None → count_by is_covered slots ≡ 0
-HasToWait raw slots (Some transactions) =
+IsWaitAnswer raw slots (Some transactions) =
     (is_sync raw ≡ true) × (first_ill raw ≡ None)
     × (transactions ≡ count_by is_covered slots) × (0 < transactions)
 

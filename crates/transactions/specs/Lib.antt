@@ -9,5 +9,6 @@ pub mod Walks
 pub mod Transactions
 pub mod TrackedVerdicts
 pub mod Together
+pub mod TrackedRuns
 pub mod Told
 pub mod Between

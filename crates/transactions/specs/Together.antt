@@ -1,22 +1,23 @@
 -- A tracked unit with the consumer of a ring.
-use Rattle.std.specs.Prelude.{◌≡◌, ◌≤◌, true, false, List, [], ◌∷◌, Some}
+use Rattle.std.specs.Prelude.{◌≡◌, ◌≤◌, ℕ, true, false, [], Some}
 use Rattle.cmdcodec.specs.declared.raw.Raw.{Raw}
 use Rattle.ringcore.specs.declared.world.event.Who.TheVariants.{Consumer}
 use Rattle.ring.specs.table.Histories.{Grew}
 use Rattle.ring.specs.consumer.Consumers.{ConsumerValue}
 use Rattle.ringcore.specs.Limits.{most_reserved}
 use Rattle.ring.specs.consumer.Pendings.{PendingValue, HasSeen}
-use Rattle.ring.specs.consumer.Taking.{TookNone, TookUnwritten, TookRun}
-use Rattle.ring.specs.consumer.Completing.{taken_of, completed, unknowing}
+use Rattle.ring.specs.consumer.Taking.{TookNone, TookUnwritten}
+use Rattle.ring.specs.consumer.Completing.{taken_of}
 use Rattle.engine.specs.declared.answer.StepAnswer.{StepAnswer}
 use Rattle.engine.specs.declared.answer.StepAnswer.TheVariants as answer
 use Rattle.engine.specs.declared.verdict.Verdict.{Verdict}
 use Rattle.engine.specs.declared.verdict.Verdict.TheVariants.{Applied, Stopped, Replaced}
+use Rattle.engine.specs.Engines.{IsFirst, HasCompleted}
 use Rattle.engine.specs.Stops.{IsStopped}
 use Rattle.engine.specs.Counting.{taken}
 use Rattle.transactions.specs.declared.tracked_verdict.TrackedVerdict.{TrackedVerdict}
 use Rattle.transactions.specs.declared.tracked_verdict.TrackedVerdict.TheVariants as verdict
-use Rattle.transactions.specs.TrackedVerdicts.{IsTrackedVerdict}
+use Rattle.transactions.specs.TrackedVerdicts.{HasJudgedTracked, IsTrackedVerdict}
 use Rattle.transactions.specs.declared.tracked_step.TrackedStep.{TrackedStep}
 use Rattle.transactions.specs.declared.tracked_step.TrackedStep.TheVariants.{Stepped, Waiting}
 use Rattle.transactions.specs.Tracking.{TrackedValue, IsTracked}
@@ -44,13 +45,7 @@ abbrev pub IsTogetherFromNothing : TrackedValue → Type 0
 IsTogetherFromNothing tracked =
     (consumer : TrackedConsumer) → taken_of consumer.trail ≡ [] → AreTracked consumer tracked
 
--- This command was read at the head.
-pub record IsAtHead (consumer : TrackedConsumer) (p : TrackedPending) (raw : Raw) : Type 0 where
-  pub read : TookRun 1 consumer p
-  pub rest : List Raw
-  pub raws_are : p.raws ≡ raw ∷ rest
-
--- ---- a step, from this consumer and unit to those
+-- ---- a step of at most `most` commands, from this consumer and unit to those
 
 -- The run that the consumer knows grew by exactly its steps.
 abbrev pub HasGrown : TrackedConsumer → TrackedConsumer → Type 0
@@ -59,17 +54,16 @@ HasGrown from to = Grew Consumer from.trail to.trail from.history to.history
 abbrev pub IsStep : Type 1
 IsStep = TrackedConsumer → TrackedValue → TrackedConsumer → TrackedValue → Type 0
 
--- It was judged so, and taken while the new unit was lent.
-abbrev pub HasTaken : Verdict → IsStep
-HasTaken applied from old to new =
-    (p : TrackedPending) × (raw : Raw) × IsAtHead from p raw
-    × IsTrackedVerdict raw old new (verdict.Judged applied)
-    × (record to { history = [] } ≡ completed 1 new (unknowing p))
+-- The first command was judged so, and completed while the new unit was lent.
+abbrev pub HasTaken : ℕ → Verdict → IsStep
+HasTaken most applied from old to new =
+    (p : TrackedPending) × (raw : Raw) × IsFirst most from p raw
+    × HasJudgedTracked raw old new applied × HasCompleted 1 new p to
 
--- It was judged so, and is still in the ring.
-abbrev pub HasLeft : TrackedVerdict → IsStep
-HasLeft judged from old to new =
-    (p : TrackedPending) × (raw : Raw) × IsAtHead from p raw
+-- The first command was judged so, and is still in the ring.
+abbrev pub HasLeft : ℕ → TrackedVerdict → IsStep
+HasLeft most judged from old to new =
+    (p : TrackedPending) × (raw : Raw) × IsFirst most from p raw
     × IsTrackedVerdict raw old new judged × (to ≡ p.consumer)
 
 -- What a step of the unit's own did, by its answer.
@@ -78,10 +72,10 @@ HasSteppedUnit answer.Empty from old to new = TookNone false from to × (new ≡
 HasSteppedUnit answer.Drained from old to new = TookNone true from to × (new ≡ old)
 HasSteppedUnit answer.Unwritten from old to new = TookUnwritten 1 from to × (new ≡ old)
 HasSteppedUnit (answer.Applied command removed) from old to new =
-    HasTaken (Applied command removed) from old to new
-HasSteppedUnit (answer.Replaced ill) from old to new = HasTaken (Replaced ill) from old to new
+    HasTaken 1 (Applied command removed) from old to new
+HasSteppedUnit (answer.Replaced ill) from old to new = HasTaken 1 (Replaced ill) from old to new
 HasSteppedUnit (answer.Stopped ill) from old to new =
-    HasLeft (verdict.Judged (Stopped ill)) from old to new
+    HasLeft 1 (verdict.Judged (Stopped ill)) from old to new
 HasSteppedUnit answer.StillStopped from old to new =
     IsStopped old.unit.stop.mode × (new ≡ old) × (to ≡ from)
 HasSteppedUnit answer.Exhausted from old to new =
@@ -91,4 +85,4 @@ HasSteppedUnit answer.Exhausted from old to new =
 abbrev pub HasStepped : TrackedStep → IsStep
 HasStepped (Stepped answer) from old to new = HasSteppedUnit answer from old to new
 HasStepped (Waiting transactions) from old to new =
-    HasLeft (verdict.Waiting transactions) from old to new
+    HasLeft 1 (verdict.Waiting transactions) from old to new

@@ -19,18 +19,28 @@ took_by raw (Waiting transactions) = []
 abbrev pub IsLegalSync : Raw → Type 0
 IsLegalSync raw = (is_sync raw ≡ true) × (first_ill raw ≡ None)
 
--- The unit judged it, and the outstanding transactions that it covers are covered.
-abbrev pub HasJudgedTracked : Raw → TrackedValue → TrackedValue → Verdict → Type 0
-HasJudgedTracked raw old new verdict =
-    HasJudged raw old.unit new.unit verdict
-    × (new.outstanding ≡ covered_by verdict old.outstanding)
-    × (new.next_number ≡ old.next_number)
+-- how many outstanding transactions a CMD_SYNC that comes now has to wait for: those that are
+-- covered
+abbrev pub waited_for : TrackedValue → ℕ
+waited_for tracked = count_by is_covered tracked.outstanding
 
--- It is a legal CMD_SYNC, so many outstanding transactions are covered, and nothing changed.
+-- The unit judged it, and the outstanding transactions that it covers are covered. If it is a legal
+-- CMD_SYNC, it had none to wait for.
+pub record HasJudgedTracked (raw : Raw) (old new : TrackedValue) (verdict : Verdict)
+    : Type 0 where
+  pub judged : HasJudged raw old.unit new.unit verdict
+  pub covered : new.outstanding ≡ covered_by verdict old.outstanding
+  pub next_number : new.next_number ≡ old.next_number
+  pub none_waited_for : IsLegalSync raw → waited_for old ≡ 0
+
+-- It is a legal CMD_SYNC that has to wait.
+abbrev pub HasToWait : TrackedValue → Raw → Type 0
+HasToWait tracked raw = IsLegalSync raw × (0 < waited_for tracked)
+
+-- It has to wait for so many outstanding transactions, and nothing changed.
 abbrev pub HasToWaitFor : Raw → TrackedValue → TrackedValue → ℕ → Type 0
 HasToWaitFor raw old new transactions =
-    (new ≡ old) × (transactions ≡ count_by is_covered old.outstanding) × (0 < transactions)
-    × IsLegalSync raw
+    (new ≡ old) × (transactions ≡ waited_for old) × HasToWait old raw
 
 abbrev pub IsTrackedVerdict : Raw → TrackedValue → TrackedValue → TrackedVerdict → Type 0
 IsTrackedVerdict raw old new (Judged verdict) = HasJudgedTracked raw old new verdict

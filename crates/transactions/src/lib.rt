@@ -12,6 +12,7 @@ mod coverage;
 mod outstanding;
 mod recent_invalidations;
 mod tracked;
+mod tracked_run;
 mod tracked_step;
 mod tracked_verdict;
 mod transaction;
@@ -19,6 +20,7 @@ mod walk;
 
 pub use completion_witness::told;
 pub use tracked::TrackedUnit;
+pub use tracked_run::{TrackedRun, step_run_with};
 pub use tracked_step::{TrackedStep, step_with};
 pub use tracked_verdict::TrackedVerdict;
 pub use transaction::{BeginFault, Transaction};

@@ -14,7 +14,8 @@ ghost use Rattle.caches.specs.declared.fault.CacheFault.{CacheFault as CacheFaul
 ghost use Rattle.engine.specs.Stops.{IsStopped, MayComeNext, IsAcknowledgementAnswer};
 ghost use Rattle.engine.specs.Counting.{taken};
 ghost use Rattle.engine.specs.Units.{HasJudged, took};
-ghost use Rattle.transactions.specs.Between.{HasToWait, TakesTracked, IsRefusal, IsBegunIfRoom};
+ghost use Rattle.transactions.specs.Between.{IsWaitAnswer, TakesTracked, IsApplyAnswer};
+ghost use Rattle.transactions.specs.Between.{IsRefusal, IsBegunIfRoom};
 ghost use Rattle.transactions.specs.Outstanding.{covered_by};
 ghost use Rattle.transactions.specs.Completed.{IsCompletedAt, IsComplete};
 ghost use Rattle.transactions.specs.TrackedVerdicts.{IsTrackedVerdict, WaitsExactly, took_by};
@@ -123,7 +124,7 @@ impl TrackedUnit {
 
     /// How many transactions a command has to wait for, if it has to.
     fn has_to_wait(&self, raw: Raw) -> Option<u32>
-        ensures { HasToWait raw self.now.outstanding result }
+        ensures { IsWaitAnswer raw self.now.outstanding result }
     {
         if !raw.is_sync() || first_ill(raw).is_some() {
             return None;
@@ -150,6 +151,26 @@ impl TrackedUnit {
         self.recent.note(place, raw, &verdict);
         self.outstanding.cover(&verdict);
         verdict
+    }
+
+    /// Applies a command that is legal and needn't wait, and returns how many entries it removed.
+    /// With another it does nothing.
+    pub(crate) fn apply(&mut self, raw: Raw) -> Option<u32>
+        requires running { ¬ IsStopped self.old.unit.stop.mode }
+        requires next { MayComeNext raw self.old.unit.stop }
+        requires few { taken self.old.unit.counts < most_reserved }
+        ensures { IsApplyAnswer raw self.old self.new result }
+    {
+        if first_ill(raw).is_some() {
+            return None;
+        }
+        if self.has_to_wait(raw).is_some() {
+            return None;
+        }
+        match self.take(raw) {
+            Verdict::Applied { removed, .. } => Some(removed),
+            Verdict::Stopped(_) | Verdict::Replaced(_) => unreachable!(),
+        }
     }
 
     /// A translation table walk begins now.

@@ -1,5 +1,7 @@
 //! A step of a tracked unit with the consumer of a ring.
-ghost use Rattle.std.specs.Prelude.{◌≡◌};
+ghost use Rattle.std.specs.Prelude.{◌≡◌, ◌↔◌};
+ghost use Rattle.engine.specs.Stops.{IsStopped};
+ghost use Rattle.engine.specs.Engines.{IsExhausted};
 ghost use Rattle.transactions.specs.Together.{AreTracked, HasStepped, HasGrown};
 
 use crate::tracked::TrackedUnit;
@@ -34,6 +36,10 @@ pub fn step_with(
     ensures history { HasGrown consumer result.0 }
     ensures ring { result.0.ring ≡ consumer.ring }
     ensures stepped { HasStepped result.1 consumer tracked.old result.0 tracked.new }
+    ensures still { (result.1 ≡ TrackedStep.Stepped StepAnswer.StillStopped)
+        ↔ IsStopped tracked.old.unit.stop.mode }
+    ensures exhausted { (result.1 ≡ TrackedStep.Stepped StepAnswer.Exhausted)
+        ↔ IsExhausted tracked.old.unit }
 {
     if tracked.unit().stopped() {
         return (consumer, TrackedStep::Stepped(StepAnswer::StillStopped));

@@ -1,5 +1,6 @@
-use Rattle.std.proofs.Common.{◌≡◌, ◌<◌, ℕ, arith}
+use Rattle.std.proofs.Common.{◌≡◌, ◌<◌, ℕ, refl, arith}
 use Rattle.transactions.proofs.Covering.{waits_for, has_to_wait}
+use Rattle.transactions.proofs.Judged.{needs_no_wait}
 use Rattle.transactions.proofs.tracked.TrackedUnit.judge.Goals as goal
 
 some_count : (n m : ℕ) → n ≡ m → 0 < n → 0 < m
@@ -18,5 +19,16 @@ returns-clause-waits c list is =
     (λ never. absurd never, λ all. none_count _ (c.in_default.ensures all.0.0 all.0.1) (has_to_wait c.args.self.now.outstanding list is.covered all.1))
 
 pub returns-clause-tracked : goal.returns-clause-tracked
-returns-clause-tracked c list is =
-    c.take.ensures.tracked list is (λ sync legal open_one. none_count _ (c.in_default.ensures sync legal) (has_to_wait c.args.self.now.outstanding list is.covered open_one))
+returns-clause-tracked c = needs_no_wait c.args.raw c.args.self.now c.take.new.self _ c.in_default.ensures c.take.ensures.tracked
+
+pub returns-in-Some-clause-judged : goal.returns-in-Some-clause-judged
+returns-in-Some-clause-judged c =
+    let must = c.in-Some.ensures in (refl, must.2, ((must.0, must.1), some_count _ _ must.2 must.3))
+
+pub returns-clause-judged : goal.returns-clause-judged
+returns-clause-judged c = record {
+  judged = c.take.ensures.judged;
+  covered = c.take.ensures.covered;
+  next_number = c.take.ensures.next;
+  none_waited_for = λ sync. c.in_default.ensures sync.0 sync.1;
+}
