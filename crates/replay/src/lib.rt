@@ -11,4 +11,6 @@ mod serving;
 mod telling;
 
 pub use laws::memory_is_told_of;
+pub use parsing::{next_tag, one_remedy};
 pub use serving::{replay, replay_to_last_line, serve};
+pub use telling::say_step;

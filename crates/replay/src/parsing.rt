@@ -17,6 +17,8 @@ use ring_line::parse_ring;
 use send_lines::{parse_commands, parse_detach, parse_inval};
 use sender_lines::{parse_close, parse_done, parse_look, parse_publish};
 use std::alloc::{AllocError, Global};
+pub use tags::next_tag;
+pub use unit_lines::one_remedy;
 use unit_lines::{parse_ack, parse_dump, parse_step};
 
 #[tactic(auto, unfolding(crate::specs::requests::Whole::unit_line))]

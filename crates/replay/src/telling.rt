@@ -12,4 +12,5 @@ pub(crate) use refusals::{
 };
 pub(crate) use send_lines::{say_opened, say_sent};
 pub(crate) use sender_lines::{say_closed, say_control, say_done, say_published};
-pub(crate) use unit_lines::{say_acknowledged, say_dump, say_step};
+pub use unit_lines::say_step;
+pub(crate) use unit_lines::{say_acknowledged, say_dump};

@@ -112,9 +112,9 @@ fn next_atc(text: &[u8]) -> Option<(Tag, &[u8])>
     Some((tag, rest))
 }
 
-/// Parses a tag, and returns it with the rest of the text.
+/// Parses a tag, and returns it with the rest of the text. Returns None if the text doesn't begin with one.
 #[tactic(auto, unfolding(crate::specs::requests::Tags::tag_of))]
-pub(super) fn next_tag(text: &[u8]) -> Option<(Tag, &[u8])>
+pub fn next_tag(text: &[u8]) -> Option<(Tag, &[u8])>
     ensures { option_map (λ found. (found.0, words_of found.1.now)) result ≡ tag_of (words_of text.now) }
 {
     let Some((kind, rest)) = next_word(text) else {

@@ -33,8 +33,9 @@ pub(super) fn parse_step(text: &[u8]) -> Option<Request>
     }
 }
 
+/// Parses a text that is `retry` or `replace` and nothing more. Returns None for any other.
 #[tactic(auto, unfolding(crate::specs::requests::UnitLines::remedy_of))]
-fn one_remedy(text: &[u8]) -> Option<Remedy>
+pub fn one_remedy(text: &[u8]) -> Option<Remedy>
     ensures { result ≡ remedy_of (words_of text.now) }
 {
     let (word, rest) = next_word(text)?;

@@ -30,8 +30,8 @@ fn say_applied(command: &Command, removed: u32, reply: &mut String) -> Result<()
     }
 }
 
-/// Appends what a step did.
-pub(crate) fn say_step(answer: &StepAnswer, reply: &mut String) -> Result<(), AllocError>
+/// Appends what a step did, as a line.
+pub fn say_step(answer: &StepAnswer, reply: &mut String) -> Result<(), AllocError>
     ensures { OnOk result (string_bytes reply.new ≡ string_bytes reply.old ++ step_text answer.now) }
 {
     match answer {
