@@ -218,39 +218,6 @@ order, each once, decimal or 0x and hexadecimal. Those of a range, tg, num and
 scale, are given all or none. What is no command is 'bad command', with exit
 status 1.";
 
-pub(crate) const TRACE: &str = "\
-Reads the log of a device model from standard input, and writes what is right for
-each line to standard output, as soon as it was read.
-
-Example:
-    smmuq trace < examples/trace.log
-
-Lines, and what is right:
-    walk N              walk N begins: 'walking'
-    fill N TAG VALUE    what walk N read is filled: 'filled', 'overtaken' if a
-                        command that covers it was taken since, or 'too old' if
-                        more than 64 invalidations were
-    use N TAG           access N begins with what is held: 'used value=V', or
-                        'not held'
-    end N               access N is over: 'ended'
-    command HEX         the queue takes a command: 'applied' and the command,
-                        'stopped', 'still stopped', or 'waiting K', if it is a
-                        CMD_SYNC that has to wait for K accesses: it isn't
-                        taken, and comes again
-    did WHAT            what the model did with the line before: 'right'. WHAT
-                        is filled, overtaken, used value=V, missed, completed
-                        or waited
-    # ...               a comment
-
-Where the model did something else, 'line N: wrong: .. is right' ends the run with
-exit status 1. So do these faults of the log, as 'line N: NAME':
-    bad line            it is none of these lines
-    long line           it has more than 4096 bytes
-    no walk             walk N isn't among the last 1024 that began
-    access open         access N isn't over
-    no access           access N hasn't begun, or is over
-    too many accesses   1024 aren't over";
-
 pub(crate) const IMAGE: &str = "\
 Reads the memory of a queue from standard input, 16 bytes a slot in the order of
 the slots. Writes five lines to standard output, size, prod, cons, err and
