@@ -23,9 +23,6 @@ const HEX: &str = "HEX";
 /// The subcommand that says which words lines of text mean.
 const ENCODE: &str = "encode";
 
-/// The subcommand that judges a device model's log.
-const TRACE: &str = "trace";
-
 /// What the words of a command line ask for.
 #[derive(Clone, Copy)]
 pub enum Subcommand<'a> {
@@ -43,8 +40,6 @@ pub enum Subcommand<'a> {
     Image(ImageArguments<'a>),
     /// Say which words each line of text means as a command.
     Encode,
-    /// Judge the log of a device model.
-    Trace,
 }
 
 fn replay<'a>(alloc: Global) -> Command<'a>
@@ -94,15 +89,6 @@ fn encode<'a>(alloc: Global) -> Command<'a>
         .after_help(help::ENCODE)
 }
 
-fn trace<'a>(alloc: Global) -> Command<'a>
-    ensures { app_of result ≡ spec.trace }
-{
-    Command::new(alloc, TRACE)
-        .about("Judges the log of a device model, line by line")
-        .override_usage("smmuq trace < LOG")
-        .after_help(help::TRACE)
-}
-
 fn command_line<'a>(alloc: Global) -> Result<Command<'a>, AllocError>
     ensures { IfOk result (λ command. app_of command ≡ spec.smmuq) }
 {
@@ -118,8 +104,7 @@ fn command_line<'a>(alloc: Global) -> Result<Command<'a>, AllocError>
         .subcommand(stress(alloc)?)?
         .subcommand(words(alloc)?)?
         .subcommand(image(alloc)?)?
-        .subcommand(encode(alloc))?
-        .subcommand(trace(alloc))
+        .subcommand(encode(alloc))
 }
 
 fn subcommand_in<'a>(matches: &ArgMatches<'a>) -> Subcommand<'a>
@@ -139,9 +124,6 @@ fn subcommand_in<'a>(matches: &ArgMatches<'a>) -> Subcommand<'a>
     }
     if matches.subcommand_matches(ENCODE).is_some() {
         return Subcommand::Encode;
-    }
-    if matches.subcommand_matches(TRACE).is_some() {
-        return Subcommand::Trace;
     }
     let Some(decode) = matches.subcommand_matches(DECODE) else {
         return Subcommand::Replay;
