@@ -113,7 +113,7 @@ by_verdict (Replaced ill) slots accesses are = are
 
 pub judged : (raw : Raw) (old new : TrackedValue) (verdict : TrackedVerdict) (accesses : List OpenAccess) → IsTrackedVerdict raw old new verdict
     → AreIn old.outstanding accesses → AreIn new.outstanding accesses
-judged raw old new (Judged verdict) accesses did are = subst (λ (x : Slots). AreIn x accesses) (sym did.1) (by_verdict verdict old.outstanding accesses are)
+judged raw old new (Judged verdict) accesses did are = subst (λ (x : Slots). AreIn x accesses) (sym did.covered) (by_verdict verdict old.outstanding accesses are)
 judged raw old new (Waiting transactions) accesses did are = subst (λ (x : TrackedValue). AreIn x.outstanding accesses) (sym did.0) are
 
 -- ---- as the code has it
