@@ -1,5 +1,4 @@
 pub mod Tries
-pub mod GoingOn
 pub mod InOrder
 pub mod TwoRuns
 pub mod ReservesNone
