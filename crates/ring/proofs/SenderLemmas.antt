@@ -1,4 +1,5 @@
 pub mod Tries
+pub mod GoingOn
 pub mod InOrder
 pub mod TwoRuns
 pub mod ReservesNone

@@ -3,6 +3,7 @@ pub mod Senders
 pub mod Reservations
 pub mod Reserving
 pub mod Publishing
+pub mod GoingOn
 pub mod Sending
 pub use Rattle.ring.specs.declared.sender.tally.Tally.{Tally}
 pub use Rattle.ring.specs.declared.sender.cause.Cause.{Cause}
@@ -12,4 +13,5 @@ pub use Senders.*
 pub use Reservations.*
 pub use Reserving.*
 pub use Publishing.*
+pub use GoingOn.*
 pub use Sending.*

@@ -6,7 +6,8 @@ ghost use Rattle.qindex.specs.Positions.{size};
 ghost use Rattle.ring.specs.Runs.{Look, Close, Ask, Sender as SenderOf, looked, batches_made, length_with, world, control as control_of};
 ghost use Rattle.ring.specs.table.{StandsInARun, IsHistory, GrewBy, Grew, AreApplied, SitsFor};
 ghost use Rattle.ring.specs.sender.Senders.{HasAsked};
-ghost use Rattle.ring.specs.sender.Sending.{IsReservedWithin, IsGivenUp};
+ghost use Rattle.ring.specs.sender.GoingOn.{WentOn, HasOpened};
+ghost use Rattle.ring.specs.sender.Sending.{IsReservedWithin, IsGivenUpWith};
 ghost use Rattle.ring.specs.sender.Reserving.{HasRoom, IsReserved, IsRefused, IsWon, IsLost, Fits, HasBatchLeft};
 
 mod batch_kind;
@@ -140,9 +141,8 @@ impl Sender {
         requires { self.ring ≡ ring.now }
         ensures reserved { IfOk result (λ r. IsReserved batch.now true self r) }
         ensures refused { IfErr result (λ e. IsRefused batch.now true self e.cause e.sender) }
-        ensures history { MatchResult result (λ r. Grew (SenderOf self.number) self.trail r.trail self.history r.history) (λ e. Grew (SenderOf self.number) self.trail e.sender.trail self.history e.sender.history) }
-        ensures ring { MatchResult result (λ r. r.ring ≡ self.ring) (λ e. e.sender.ring ≡ self.ring) }
-        ensures id { MatchResult result (λ r. r.sender ≡ self.number) (λ e. e.sender.number ≡ self.number) }
+        ensures opened { IfOk result (λ r. HasOpened self r) }
+        ensures given_back { IfErr result (λ e. WentOn self e.sender) }
     {
         self.reserve_as::<Closing>(ring, batch.as_borrowed())
     }
@@ -156,9 +156,8 @@ impl Sender {
         requires { self.ring ≡ ring.now }
         ensures reserved { IfOk result (λ r. IsReserved batch.now false self r) }
         ensures refused { IfErr result (λ e. IsRefused batch.now false self e.cause e.sender) }
-        ensures history { MatchResult result (λ r. Grew (SenderOf self.number) self.trail r.trail self.history r.history) (λ e. Grew (SenderOf self.number) self.trail e.sender.trail self.history e.sender.history) }
-        ensures ring { MatchResult result (λ r. r.ring ≡ self.ring) (λ e. e.sender.ring ≡ self.ring) }
-        ensures id { MatchResult result (λ r. r.sender ≡ self.number) (λ e. e.sender.number ≡ self.number) }
+        ensures opened { IfOk result (λ r. HasOpened self r) }
+        ensures given_back { IfErr result (λ e. WentOn self e.sender) }
     {
         self.reserve_as::<Bare>(ring, batch.as_borrowed())
     }
@@ -173,9 +172,8 @@ impl Sender {
         requires { self.ring ≡ ring.now }
         ensures reserved { IfOk result (λ r. IsReserved batch.entry K.closes self r) }
         ensures refused { IfErr result (λ e. IsRefused batch.entry K.closes self e.cause e.sender) }
-        ensures history { MatchResult result (λ r. Grew (SenderOf self.number) self.trail r.trail self.history r.history) (λ e. Grew (SenderOf self.number) self.trail e.sender.trail self.history e.sender.history) }
-        ensures ring { MatchResult result (λ r. r.ring ≡ self.ring) (λ e. e.sender.ring ≡ self.ring) }
-        ensures id { MatchResult result (λ r. r.sender ≡ self.number) (λ e. e.sender.number ≡ self.number) }
+        ensures opened { IfOk result (λ r. HasOpened self r) }
+        ensures given_back { IfErr result (λ e. WentOn self e.sender) }
     {
         let mut sender = self;
         let many = batch_length::<K>(&batch);
@@ -210,10 +208,9 @@ impl Sender {
         requires ring { self.ring ≡ ring.now }
         requires tries { 1 ≤ tries }
         ensures reserved { IfOk result (λ r. IsReservedWithin batch.entry K.closes tries self r) }
-        ensures refused { IfErr result (λ e. IsGivenUp batch.entry K.closes tries self e.cause e.sender) }
-        ensures history { MatchResult result (λ r. Grew (SenderOf self.number) self.trail r.trail self.history r.history) (λ e. Grew (SenderOf self.number) self.trail e.sender.trail self.history e.sender.history) }
-        ensures ring { MatchResult result (λ r. r.ring ≡ self.ring) (λ e. e.sender.ring ≡ self.ring) }
-        ensures id { MatchResult result (λ r. r.sender ≡ self.number) (λ e. e.sender.number ≡ self.number) }
+        ensures refused { IfErr result (λ e. IsGivenUpWith batch.entry K.closes tries self e) }
+        ensures opened { IfOk result (λ r. HasOpened self r) }
+        ensures given_back { IfErr result (λ e. WentOn self e.sender) }
     {
         let mut sender = self;
         // One call of `reserve_as`, so that it is inlined and no reservation moves through memory.

@@ -1,12 +1,12 @@
 -- What a sender knows before it tries, and once it has won.
 use Rattle.std.proofs.Common.{rules, ◌≡◌, ℕ, ◌+◌, ◌<◌, ◌≤◌, Bool, true, false, List, [], ◌∷◌, Some, Result, Ok, Err, sym, ap, subst, ◌∙◌, arith}
-use Rattle.std.specs.Prelude.{nat_lt, IfOk, IfErr, MatchResult}
+use Rattle.std.specs.Prelude.{nat_lt, IfOk, IfErr}
 use Rattle.std.proofs.lemmas.Bool.Decides.{nat_tests}
 use Rattle.ring.specs.Runs.{Raw, Control, Sender, Event, Look, Trail, Run, IsSettled, looked, batches_made, numbers_given, prod_of, commands, world, control, MayTry, length_with}
 use Rattle.cmdcodec.specs.Bodies.{IsBody}
 use Rattle.qindex.specs.Positions.{size}
 use Rattle.qindex.specs.Indexes.{distance}
-use Rattle.ring.specs.sender.{Tally, SenderValue, IsTallied, one_more, Refused, Contended, IsOpen, ReservationValue, ring_size, HasRoom, HasBatchLeft, HasNoRoom, TellsRoom, HasLookedAt, IsWon, IsLost}
+use Rattle.ring.specs.sender.{Tally, SenderValue, IsTallied, one_more, Refused, Contended, IsOpen, ReservationValue, ring_size, HasRoom, HasBatchLeft, HasNoRoom, TellsRoom, HasLookedAt, IsWon, IsLost, WentOn, HasOpened}
 use Rattle.ring.specs.table.{PortValue, has_won, GrewBy, Grew}
 use Rattle.ring.proofs.TableLemmas.Grown.{grew_step, grew_then, sender_step}
 use Rattle.ring.proofs.SenderLemmas.InOrder.{knowing}
@@ -45,19 +45,33 @@ module _ (port : PortValue) (tally : Tally) (body : List Raw) (seen : Control) (
 -- ---- what a try adds to the run that the sender knows
 
 module _ (body : List Raw) (closes : Bool) (seen : Control) (s t : SenderValue) (looked : HasLookedAt seen s t) where
-  pub looked_grew : Grew (Sender s.number) s.trail t.trail s.history t.history
-  looked_grew = sender_step s t (Look seen) looked.trail_is looked.grew
-
   same_number : t.number ≡ s.number
   same_number = ap (λ (u : SenderValue). u.number) looked.trail_is
 
-  further : (e : Event) (trail : Trail) (run : Run) → trail ≡ e ∷ t.trail → GrewBy (Sender t.number) e t.history run → Grew (Sender s.number) s.trail trail s.history run
-  further e trail run is grew = grew_then _ _ _ _ _ _ _ _ same_number looked_grew (grew_step (Sender t.number) e t.trail trail t.history run is grew)
+  same_ring : t.ring ≡ s.ring
+  same_ring = ap (λ (u : SenderValue). u.ring) looked.trail_is
 
-  pub exchanged_grew : (result : Result ReservationValue Refused) → IfOk result (λ r. IsWon body closes seen t r) → IfErr result (λ e. (e.cause ≡ Contended) × IsLost body closes seen t e.sender)
-      → MatchResult result (λ r. Grew (Sender s.number) s.trail r.trail s.history r.history) (λ e. Grew (Sender s.number) s.trail e.sender.trail s.history e.sender.history)
-  exchanged_grew (Ok r) won lost = further _ r.trail r.history (ap (λ (x : ReservationValue). x.trail) won.trail_is) won.grew
-  exchanged_grew (Err e) won lost = further _ e.sender.trail e.sender.history (ap (λ (x : SenderValue). x.trail) lost.1.trail_is) lost.1.grew
+  pub looked_on : WentOn s t
+  looked_on = record { grew = sender_step s t (Look seen) looked.trail_is looked.grew; ring_is = same_ring; number_is = same_number }
+
+  further : (e : Event) (trail : Trail) (run : Run) → trail ≡ e ∷ t.trail → GrewBy (Sender t.number) e t.history run → Grew (Sender s.number) s.trail trail s.history run
+  further e trail run is grew = grew_then _ _ _ _ _ _ _ _ same_number looked_on.grew (grew_step (Sender t.number) e t.trail trail t.history run is grew)
+
+  pub exchanged_opened : (result : Result ReservationValue Refused) → IfOk result (λ r. IsWon body closes seen t r) → IfOk result (λ r. HasOpened s r)
+  exchanged_opened (Ok r) won = record {
+    grew = further _ r.trail r.history (ap (λ (x : ReservationValue). x.trail) won.trail_is) won.grew;
+    ring_is = ap (λ (x : ReservationValue). x.ring) won.trail_is ∙ same_ring;
+    number_is = ap (λ (x : ReservationValue). x.sender) won.trail_is ∙ same_number;
+  }
+  exchanged_opened (Err e) won = tt
+
+  pub exchanged_back : (result : Result ReservationValue Refused) → IfErr result (λ e. (e.cause ≡ Contended) × IsLost body closes seen t e.sender) → IfErr result (λ e. WentOn s e.sender)
+  exchanged_back (Ok r) lost = tt
+  exchanged_back (Err e) lost = record {
+    grew = further _ e.sender.trail e.sender.history (ap (λ (x : SenderValue). x.trail) lost.1.trail_is) lost.1.grew;
+    ring_is = ap (λ (x : SenderValue). x.ring) lost.1.trail_is ∙ same_ring;
+    number_is = ap (λ (x : SenderValue). x.number) lost.1.trail_is ∙ same_number;
+  }
 
   -- a look at too little room
   pub full_then : TellsRoom t.ring.made_with.geometry (world t.history) → ring_size s < distance seen.prod seen.cons + length_with closes body → HasNoRoom (ring_size s) (length_with closes body) (world t.history)

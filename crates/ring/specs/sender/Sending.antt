@@ -3,6 +3,7 @@ use Rattle.std.specs.Prelude.{◌≡◌, ℕ, zero, suc, ◌+◌, ◌<◌, Bool,
 use Rattle.ring.specs.Runs.{Raw, Sender}
 use Rattle.ring.specs.table.Histories.{Grew}
 use Rattle.ring.specs.declared.sender.cause.Cause.{Cause}
+use Rattle.ring.specs.declared.sender.cause.Refused.{Refused}
 use Rattle.ring.specs.declared.sender.cause.Cause.TheVariants.{TooLong, Exhausted, Closed, Full, Contended}
 use Rattle.ring.specs.sender.Senders.{SenderValue, ReceiptValue}
 use Rattle.ring.specs.sender.Reservations.{ReservationValue, IsReceiptOf}
@@ -54,3 +55,8 @@ pub record IsGivenUp (body : List Raw) (closes : Bool) (tries : ℕ) (s : Sender
   pub tried : HasTried body closes refusals s before
   pub refused : IsRefused body closes before cause t
   pub enough : may_pass cause ≡ true → refusals + 1 ≡ tries
+
+-- the same, by the refusal
+abbrev pub IsGivenUpWith : List Raw → Bool → ℕ → SenderValue → Refused → Type 0
+IsGivenUpWith body closes tries s refused =
+    IsGivenUp body closes tries s refused.cause refused.sender

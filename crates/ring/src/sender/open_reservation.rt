@@ -1,9 +1,9 @@
 //! Slots that a sender has reserved, to be written and handed over.
 ghost use Rattle.std.specs.Prelude.{◌≡◌, ◌+◌, ◌-◌, ◌<◌, ◌≤◌, Some, slice_get, []};
 ghost use Rattle.qindex.specs.Positions.{size};
-ghost use Rattle.ring.specs.Runs.{Sender as SenderOf, reserved_length, IsSettled};
+ghost use Rattle.ring.specs.Runs.{reserved_length, IsSettled};
 ghost use Rattle.ringcore.specs.memory.StepLaws.{reserved_commands};
-ghost use Rattle.ring.specs.table.{Grew};
+ghost use Rattle.ring.specs.sender.GoingOn.{ReservationGrew, GrewHandingOver};
 ghost use Rattle.ring.specs.sender.Reservations.{IsWrittenUpTo, IsFlippedUpTo, IsReceiptOf};
 ghost use Rattle.ring.specs.sender.Publishing.{wrote_one, flipped_one, flipped_left, published, sender_of, ReservesNone};
 
@@ -57,7 +57,7 @@ impl<'b, K: BatchKind> OpenReservation<'b, K> {
         requires ring { self.old.ring ≡ ring.now }
         requires left { self.old.written < reserved_length self.old.trail }
         ensures new { record self.new { history = [] } ≡ wrote_one (record self.old { history = [] }) }
-        ensures history { Grew (SenderOf self.old.sender) self.old.trail self.new.trail self.old.history self.new.history }
+        ensures history { ReservationGrew self.old self.new }
     {
         let raw = self.next_command();
         let slot = self.start.forward(self.written);
@@ -84,7 +84,7 @@ impl<'b, K: BatchKind> OpenReservation<'b, K> {
         requires ring { self.old.ring ≡ ring.now }
         requires left { self.old.flipped < self.old.written }
         ensures new { record self.new { history = [] } ≡ flipped_one (record self.old { history = [] }) }
-        ensures history { Grew (SenderOf self.old.sender) self.old.trail self.new.trail self.old.history self.new.history }
+        ensures history { ReservationGrew self.old self.new }
     {
         let slot = self.start.forward(self.flipped);
         self.port
@@ -96,7 +96,7 @@ impl<'b, K: BatchKind> OpenReservation<'b, K> {
     fn flip_left(&mut self, ring: &Ring)
         requires { self.old.ring ≡ ring.now }
         ensures new { record self.new { history = [] } ≡ flipped_left (record self.old { history = [] }) }
-        ensures history { Grew (SenderOf self.old.sender) self.old.trail self.new.trail self.old.history self.new.history }
+        ensures history { ReservationGrew self.old self.new }
     {
         if self.flipped < self.written {
             let slot = self.start.forward(self.flipped);
@@ -113,7 +113,7 @@ impl<'b, K: BatchKind> OpenReservation<'b, K> {
         requires { self.ring ≡ ring.now }
         ensures sender { record result { history = [] } ≡ sender_of (published (record self.entry { history = [] })) }
         ensures settled { IsSettled result.trail }
-        ensures history { Grew (SenderOf self.entry.sender) self.entry.trail result.trail self.entry.history result.history }
+        ensures history { GrewHandingOver self.entry result }
         ensures ring { result.ring ≡ self.entry.ring }
         ensures id { result.number ≡ self.entry.sender }
         ensures batches { ReservesNone self.entry.trail result.trail }
@@ -184,7 +184,7 @@ impl<'b> OpenReservation<'b, Closing> {
         requires { self.ring ≡ ring.now }
         ensures sender { record result.0 { history = [] } ≡ sender_of (published (record self.entry { history = [] })) }
         ensures settled { IsSettled result.0.trail }
-        ensures history { Grew (SenderOf self.entry.sender) self.entry.trail result.0.trail self.entry.history result.0.history }
+        ensures history { GrewHandingOver self.entry result.0 }
         ensures ring { result.0.ring ≡ self.entry.ring }
         ensures id { result.0.number ≡ self.entry.sender }
         ensures batches { ReservesNone self.entry.trail result.0.trail }
@@ -204,7 +204,7 @@ impl<'b> OpenReservation<'b, Bare> {
         requires { self.ring ≡ ring.now }
         ensures sender { record result { history = [] } ≡ sender_of (published (record self.entry { history = [] })) }
         ensures settled { IsSettled result.trail }
-        ensures history { Grew (SenderOf self.entry.sender) self.entry.trail result.trail self.entry.history result.history }
+        ensures history { GrewHandingOver self.entry result }
         ensures ring { result.ring ≡ self.entry.ring }
         ensures id { result.number ≡ self.entry.sender }
         ensures batches { ReservesNone self.entry.trail result.trail }

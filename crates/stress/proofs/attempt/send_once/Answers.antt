@@ -11,7 +11,7 @@ returns-in-Ok-clause-tried c =
     let receipt = c.publish-sender.ensures.receipt in
     subst (λ (closes : Bool). HasTried c.args.batch.now closes c.args.sender c.publish-sender.result.0 (Sent c.publish-sender.result.1)) (sym c.if-closes.true) (
       reserved_one c.args.batch.now true c.args.sender c.in-Ok.reservation reserved c.publish-sender.result.0 c.publish-sender.ensures.batches,
-      receipt.sender_is ∙ c.in-Ok.ensures.id,
+      receipt.sender_is ∙ c.in-Ok.ensures.opened.number_is,
       sym (ap reserved_number (won c.args.batch.now true c.args.sender c.in-Ok.reservation reserved)) ∙ receipt.number_is,
     )
 

@@ -1,21 +1,20 @@
 use Rattle.std.proofs.Common.{rules, sym, subst}
-use Rattle.ring.specs.Runs.{Sender, world}
-use Rattle.ring.specs.sender.{Cause, SenderValue, HasLookedAt, IsFull, IsRefused, TellsRoom}
-use Rattle.ring.specs.table.{Grew}
-use Rattle.ring.proofs.SenderLemmas.Tries.{looked_grew, exchanged_grew, full_then}
+use Rattle.ring.specs.Runs.{world}
+use Rattle.ring.specs.sender.{Cause, SenderValue, HasLookedAt, IsFull, IsRefused, TellsRoom, WentOn}
+use Rattle.ring.proofs.SenderLemmas.Tries.{looked_on, exchanged_opened, exchanged_back, full_then}
 use Rattle.ring.proofs.sender.Sender.reserve_as.Goals as goal
 
-pub returns-then-seen-clause-history : goal.returns-then-seen-clause-history
-returns-then-seen-clause-history g c =
+pub returns-then-seen-clause-given_back : goal.returns-then-seen-clause-given_back
+returns-then-seen-clause-given_back g c =
     let looked : HasLookedAt c.look-seen.result c.args.self c.look-seen.new.self = search rules in
-    subst (λ (t : SenderValue). Grew (Sender c.args.self.number) c.args.self.trail t.trail c.args.self.history t.history) (sym c.refused-then-seen.ensures.sender)
-    (looked_grew c.args.batch g.K.BatchKind.closes _ _ _ looked)
+    subst (λ (t : SenderValue). WentOn c.args.self t) (sym c.refused-then-seen.ensures.sender)
+    (looked_on c.args.batch g.K.BatchKind.closes _ _ _ looked)
 
-pub returns-then-distance-many-clause-history : goal.returns-then-distance-many-clause-history
-returns-then-distance-many-clause-history g c =
+pub returns-then-distance-many-clause-given_back : goal.returns-then-distance-many-clause-given_back
+returns-then-distance-many-clause-given_back g c =
     let looked : HasLookedAt c.look-seen.result c.args.self c.look-seen.new.self = search rules in
-    subst (λ (t : SenderValue). Grew (Sender c.args.self.number) c.args.self.trail t.trail c.args.self.history t.history) (sym c.refused-then-distance-many.ensures.sender)
-    (looked_grew c.args.batch g.K.BatchKind.closes _ _ _ looked)
+    subst (λ (t : SenderValue). WentOn c.args.self t) (sym c.refused-then-distance-many.ensures.sender)
+    (looked_on c.args.batch g.K.BatchKind.closes _ _ _ looked)
 
 pub returns-then-distance-many-clause-refused : goal.returns-then-distance-many-clause-refused
 returns-then-distance-many-clause-refused g c =
@@ -32,7 +31,12 @@ returns-then-distance-many-clause-refused g c =
     subst (λ (q : Cause × SenderValue). IsRefused c.args.batch g.K.BatchKind.closes c.args.self q.0 q.1)
     (λ k. (sym c.refused-then-distance-many.ensures.cause k, sym c.refused-then-distance-many.ensures.sender k)) full
 
-pub returns-clause-history : goal.returns-clause-history
-returns-clause-history g c =
+pub returns-clause-opened : goal.returns-clause-opened
+returns-clause-opened g c =
     let looked : HasLookedAt c.look-seen.result c.args.self c.look-seen.new.self = search rules in
-    exchanged_grew c.args.batch g.K.BatchKind.closes _ _ _ looked c.exchange.result c.exchange.ensures.won (search rules)
+    exchanged_opened c.args.batch g.K.BatchKind.closes _ _ _ looked c.exchange.result c.exchange.ensures.won
+
+pub returns-clause-given_back : goal.returns-clause-given_back
+returns-clause-given_back g c =
+    let looked : HasLookedAt c.look-seen.result c.args.self c.look-seen.new.self = search rules in
+    exchanged_back c.args.batch g.K.BatchKind.closes _ _ _ looked c.exchange.result (search rules)

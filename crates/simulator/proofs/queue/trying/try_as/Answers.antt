@@ -6,7 +6,7 @@ use Rattle.simulator.proofs.queue.trying.try_as.Given.{Over}
 use Rattle.simulator.proofs.queue.trying.try_as.Goals as goal
 
 its_own : (g : Over) (c : goal.After-run_stands g) → c.in-Ok.reservation.sender ≡ c.args.idle.sender
-its_own g c = c.in-Ok.ensures.id ∙ ap (λ (u : SenderValue). u.number) c.lend_sender-sender.ensures.sender
+its_own g c = c.in-Ok.ensures.opened.number_is ∙ ap (λ (u : SenderValue). u.number) c.lend_sender-sender.ensures.sender
 
 known : (g : Over) (c : goal.After-run_stands g) → IsCall c.args.idle.sender c.in-Ok.reservation.trail c.args.keeper.now c.take_reservation-idle.new.self
 known g c = is_call c.args.idle.sender c.in-Ok.reservation.sender c.in-Ok.reservation.trail c.args.keeper.now c.lend_sender-sender.new.self c.take_reservation-idle.new.self
@@ -22,7 +22,7 @@ pub returns-in-Ok-clause-back : goal.returns-in-Ok-clause-back
 returns-in-Ok-clause-back g c = (known g c).back
 
 still_its_own : (g : Over) (c : goal.After-run_stands-in-Err g) → c.in-Err.refused.sender.number ≡ c.args.idle.sender
-still_its_own g c = c.in-Err.ensures.id ∙ ap (λ (u : SenderValue). u.number) c.lend_sender-sender.ensures.sender
+still_its_own g c = c.in-Err.ensures.given_back.number_is ∙ ap (λ (u : SenderValue). u.number) c.lend_sender-sender.ensures.sender
 
 known_refused : (g : Over) (c : goal.After-run_stands-in-Err g) → IsCall c.args.idle.sender c.in-Err.refused.sender.trail c.args.keeper.now c.take_sender-idle.new.self
 known_refused g c = is_call c.args.idle.sender c.in-Err.refused.sender.number c.in-Err.refused.sender.trail c.args.keeper.now c.lend_sender-sender.new.self c.take_sender-idle.new.self

@@ -6,4 +6,4 @@ pub returns-in-Ok-send_borrowed_bare : goal.returns-in-Ok-send_borrowed_bare
 returns-in-Ok-send_borrowed_bare c =
     let same : c.unwrap-sender.result ≡ c.args.self.now = lent (sym c.take.ensures.value ∙ c.unwrap-sender.ensures) c.self.view_is in
     let e = c.in-Ok-send_borrowed_bare.ensures in
-    sent_bare c.args.commands.now c.args.tries c.in-Ok.ensures c.max.ensures same e.sent (grown same e.history e.ring e.id)
+    sent_bare c.args.commands.now c.args.tries c.in-Ok.ensures c.max.ensures same e.sent (grown same e.went_on.grew e.went_on.ring_is e.went_on.number_is)
