@@ -115,7 +115,7 @@ IsExhausted raw q =
     ¬ IsStoppedQueue q × ((MayComeNext raw q.unit.stop × (most_reserved ≤ taken q.unit.counts)) ⊎ (IsWrittenOver raw q × (most_reserved ≤ taken q.unit.counts + 1)))
 
 -- When words aren't judged.
-pub record IsJudgeRefusal (raw : Raw) (q : QueueUnit) (answer : Result Judgement JudgeFault) : Type 0 where
+pub record IsJudgeRefusal {A : Type 0} (raw : Raw) (q : QueueUnit) (answer : Result A JudgeFault) : Type 0 where
   pub stopped : (answer ≡ Err StillStopped) ↔ IsStoppedQueue q
   pub other : (answer ≡ Err OtherCommand) ↔ (¬ IsStoppedQueue q × (q.rereads ≡ false) × ¬ MayComeNext raw q.unit.stop)
   pub exhausted : (answer ≡ Err Exhausted) ↔ IsExhausted raw q
