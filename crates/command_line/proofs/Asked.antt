@@ -17,7 +17,7 @@ use Rattle.command_line.proofs.Walks.{In}
 use Rattle.command_line.specs.CommandLine as spec
 use Rattle.command_line.specs.CommandLine.{AreNumbers, AskFor, Asks, IsNumber, Reads, ReadsNumber, ReadsOf}
 use Rattle.command_line.specs.declared.subcommand.Subcommand.{Subcommand}
-use Rattle.command_line.specs.declared.subcommand.Subcommand.TheVariants.{Replay, Schedule, Decode, Stress, Words, Image, Encode}
+use Rattle.command_line.specs.declared.subcommand.Subcommand.TheVariants.{Replay, Schedule, Decode, Stress, Words, Image, Encode, Trace}
 
 -- a subcommand as clap builds it
 abbrev leaf : App → Shape
@@ -48,6 +48,7 @@ of_replay rows (Stress numbers) h = absurd (differ _ _ refl h.0)
 of_replay rows (Words asked) h = absurd (differ _ _ refl h.0)
 of_replay rows (Image asked) h = absurd (differ _ _ refl h.0)
 of_replay rows Encode h = absurd (differ _ _ refl h)
+of_replay rows Trace h = absurd (differ _ _ refl h)
 
 of_schedule : (rows : List Row) (subcommand : Subcommand) → ReadsOf (codes "schedule") rows subcommand → Asks (codes "schedule") rows subcommand
 of_schedule rows Replay h = absurd (h.0 refl)
@@ -57,15 +58,17 @@ of_schedule rows (Stress numbers) h = absurd (differ _ _ refl h.0)
 of_schedule rows (Words asked) h = absurd (differ _ _ refl h.0)
 of_schedule rows (Image asked) h = absurd (differ _ _ refl h.0)
 of_schedule rows Encode h = absurd (differ _ _ refl h)
+of_schedule rows Trace h = absurd (differ _ _ refl h)
 
 of_decode : (rows : List Row) (subcommand : Subcommand) → HasValue (codes "HEX") (made spec.hex) rows → ReadsOf (codes "decode") rows subcommand → Asks (codes "decode") rows subcommand
-of_decode rows Replay has h = absurd (true≢false (ap is_some (sym has.1 ∙ h.5 refl)))
+of_decode rows Replay has h = absurd (true≢false (ap is_some (sym has.1 ∙ h.6 refl)))
 of_decode rows Schedule has h = h
 of_decode rows (Decode word) has h = h
 of_decode rows (Stress numbers) has h = absurd (differ _ _ refl h.0)
 of_decode rows (Words asked) has h = absurd (differ _ _ refl h.0)
 of_decode rows (Image asked) has h = absurd (differ _ _ refl h.0)
 of_decode rows Encode has h = absurd (differ _ _ refl h)
+of_decode rows Trace has h = absurd (differ _ _ refl h)
 
 record HasNumbers (rows : List Row) : Type 0 where
   log2 : HasValue (codes "log2") (made spec.log2) rows
@@ -81,6 +84,7 @@ of_stress rows (Decode word) has h = h
 of_stress rows (Words asked) has h = absurd (differ _ _ refl h.0)
 of_stress rows (Image asked) has h = absurd (differ _ _ refl h.0)
 of_stress rows Encode has h = absurd (differ _ _ refl h)
+of_stress rows Trace has h = absurd (differ _ _ refl h)
 of_stress rows (Stress numbers) has h = (
   refl,
   record {
@@ -100,6 +104,7 @@ of_words rows (Stress numbers) h = absurd (differ _ _ refl h.0)
 of_words rows (Words asked) h = (refl, h.1)
 of_words rows (Image asked) h = absurd (differ _ _ refl h.0)
 of_words rows Encode h = absurd (differ _ _ refl h)
+of_words rows Trace h = absurd (differ _ _ refl h)
 
 of_image : (rows : List Row) (subcommand : Subcommand) → ReadsOf (codes "image") rows subcommand → Asks (codes "image") rows subcommand
 of_image rows Replay h = absurd (h.3 refl)
@@ -109,6 +114,7 @@ of_image rows (Stress numbers) h = absurd (differ _ _ refl h.0)
 of_image rows (Words asked) h = absurd (differ _ _ refl h.0)
 of_image rows (Image asked) h = (refl, h.1)
 of_image rows Encode h = absurd (differ _ _ refl h)
+of_image rows Trace h = absurd (differ _ _ refl h)
 
 of_encode : (rows : List Row) (subcommand : Subcommand) → ReadsOf (codes "encode") rows subcommand → Asks (codes "encode") rows subcommand
 of_encode rows Replay h = absurd (h.4 refl)
@@ -118,6 +124,17 @@ of_encode rows (Stress numbers) h = absurd (differ _ _ refl h.0)
 of_encode rows (Words asked) h = absurd (differ _ _ refl h.0)
 of_encode rows (Image asked) h = absurd (differ _ _ refl h.0)
 of_encode rows Encode h = refl
+of_encode rows Trace h = absurd (differ _ _ refl h)
+
+of_trace : (rows : List Row) (subcommand : Subcommand) → ReadsOf (codes "trace") rows subcommand → Asks (codes "trace") rows subcommand
+of_trace rows Replay h = absurd (h.5 refl)
+of_trace rows Schedule h = h
+of_trace rows (Decode word) h = h
+of_trace rows (Stress numbers) h = absurd (differ _ _ refl h.0)
+of_trace rows (Words asked) h = absurd (differ _ _ refl h.0)
+of_trace rows (Image asked) h = absurd (differ _ _ refl h.0)
+of_trace rows Encode h = absurd (differ _ _ refl h)
+of_trace rows Trace h = refl
 
 decode_has : (words : List Text) → level_fault (leaf spec.decode) [] nothing_held words false [] ≡ [] → HasValue (codes "HEX") (made spec.hex) (rows_of_leaf spec.decode words)
 decode_has words e = leaf_value (leaf spec.decode) refl refl refl refl words (codes "HEX") (made spec.hex) e refl refl refl
@@ -151,9 +168,10 @@ by_shape s met subcommand (inr (inr (inr (inl is)))) answers unlike = subst (Fol
 by_shape s met subcommand (inr (inr (inr (inr (inl is))))) answers unlike = subst (Follows subcommand met.1) is (λ e h. of_words (rows_of_leaf spec.words met.1) subcommand h)
 by_shape s met subcommand (inr (inr (inr (inr (inr (inl is)))))) answers unlike = subst (Follows subcommand met.1) is (λ e h. of_image (rows_of_leaf spec.image met.1) subcommand h)
 by_shape s met subcommand (inr (inr (inr (inr (inr (inr (inl is))))))) answers unlike = subst (Follows subcommand met.1) is (λ e h. of_encode (rows_of_leaf spec.encode met.1) subcommand h)
-by_shape s met subcommand (inr (inr (inr (inr (inr (inr (inr (inl is)))))))) answers unlike =
+by_shape s met subcommand (inr (inr (inr (inr (inr (inr (inr (inl is)))))))) answers unlike = subst (Follows subcommand met.1) is (λ e h. of_trace (rows_of_leaf spec.trace met.1) subcommand h)
+by_shape s met subcommand (inr (inr (inr (inr (inr (inr (inr (inr (inl is))))))))) answers unlike =
     absurd (help_no met.0 s (subst (λ (x : Shape). x.name ≡ codes "help") is refl) (subst (λ (x : Shape). x.aliases ≡ []) is refl) answers unlike)
-by_shape s met subcommand (inr (inr (inr (inr (inr (inr (inr (inr none)))))))) answers unlike = absurd none
+by_shape s met subcommand (inr (inr (inr (inr (inr (inr (inr (inr (inr none))))))))) answers unlike = absurd none
 
 pub asked : (words : List Text) (subcommand : Subcommand) → fault_of spec.smmuq words ≡ [] → Reads (subcommand_of spec.smmuq words) subcommand → AskFor words subcommand
 asked words subcommand none reads =

@@ -7,7 +7,7 @@ use Rattle.command_line.specs.CommandLine.{Reads, ReadsImage, ReadsNumbers, Read
 use Rattle.command_line.specs.declared.image_arguments.ImageArguments.{ImageArguments}
 use Rattle.command_line.specs.declared.stress_numbers.StressNumbers.{StressNumbers}
 use Rattle.command_line.specs.declared.words_arguments.WordsArguments.{WordsArguments}
-use Rattle.command_line.specs.declared.subcommand.Subcommand.TheVariants.{Replay, Schedule, Decode, Stress, Words, Image, Encode}
+use Rattle.command_line.specs.declared.subcommand.Subcommand.TheVariants.{Replay, Schedule, Decode, Stress, Words, Image, Encode, Trace}
 
 abbrev pub name_in : Option (Text × List Row) → Option Text
 name_in = option_map (λ p. p.0)
@@ -37,6 +37,10 @@ pub encoded : (o : Option (Text × List Row)) → name_in o ≡ Some (codes "enc
 encoded None name = cc
 encoded (Some p) name = same_Some _ _ name
 
+pub traced : (o : Option (Text × List Row)) → name_in o ≡ Some (codes "trace") → Reads o Trace
+traced None name = cc
+traced (Some p) name = same_Some _ _ name
+
 pub imaged : (o : Option (Text × List Row)) (rows : List Row) (asked : ImageArguments) → name_in o ≡ Some (codes "image") → rows_in o ≡ Some rows → ReadsImage rows asked
     → Reads o (Image asked)
 imaged None rows asked name has h = cc
@@ -49,13 +53,15 @@ decoded (Some p) rows word name has h = (same_Some _ _ name, ap (first_of (codes
 
 pub replayed : (o : Option (Text × List Row)) → (name_in o ≡ Some (codes "schedule") → ⊥) → (name_in o ≡ Some (codes "stress") → ⊥) → (name_in o ≡ Some (codes "words") → ⊥)
     → (name_in o ≡ Some (codes "image") → ⊥) → (name_in o ≡ Some (codes "encode") → ⊥)
+    → (name_in o ≡ Some (codes "trace") → ⊥)
     → (name_in o ≡ Some (codes "decode") → (rows : List Row) × (rows_in o ≡ Some rows) × (first_of (codes "HEX") rows ≡ None)) → Reads o Replay
-replayed None schedule stress words image encode decode = refl
-replayed (Some p) schedule stress words image encode decode = (
+replayed None schedule stress words image encode trace decode = refl
+replayed (Some p) schedule stress words image encode trace decode = (
   λ e. schedule (ap Some e),
   λ e. stress (ap Some e),
   λ e. words (ap Some e),
   λ e. image (ap Some e),
   λ e. encode (ap Some e),
+  λ e. trace (ap Some e),
   λ e. let has = decode (ap Some e) in ap (first_of (codes "HEX")) (same_Some _ _ has.1) ∙ has.2,
 )

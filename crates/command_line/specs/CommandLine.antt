@@ -14,7 +14,7 @@ use Rattle.command_line.specs.declared.image_arguments.ImageArguments.{ImageArgu
 use Rattle.command_line.specs.declared.stress_numbers.StressNumbers.{StressNumbers}
 use Rattle.command_line.specs.declared.subcommand.Subcommand.{Subcommand}
 use Rattle.command_line.specs.declared.words_arguments.WordsArguments.{WordsArguments}
-use Rattle.command_line.specs.declared.subcommand.Subcommand.TheVariants.{Replay, Schedule, Decode, Stress, Words, Image, Encode}
+use Rattle.command_line.specs.declared.subcommand.Subcommand.TheVariants.{Replay, Schedule, Decode, Stress, Words, Image, Encode, Trace}
 
 -- ---- what it may say
 
@@ -99,14 +99,17 @@ image = with_rule (with_rule image_with_errors (flag (codes "all"))) (flag (code
 abbrev pub encode : App
 encode = new_app (codes "encode")
 
+abbrev pub trace : App
+trace = new_app (codes "trace")
+
 -- `smmuq` itself, before its subcommands: it has a version, no word or option of its own, and requires a subcommand
 abbrev pub alone : App
 alone = record (new_app (codes "smmuq")) { top = record (new_app (codes "smmuq")).top { no_binary_name = true; subcommand_required = true; has_version = true } }
 
 abbrev pub smmuq : App
 smmuq =
-    with_subcommand (with_subcommand (with_subcommand (with_subcommand (with_subcommand (with_subcommand (with_subcommand alone
-    replay.top) schedule.top) decode.top) stress.top) words.top) image.top) encode.top
+    with_subcommand (with_subcommand (with_subcommand (with_subcommand (with_subcommand (with_subcommand (with_subcommand (with_subcommand alone
+    replay.top) schedule.top) decode.top) stress.top) words.top) image.top) encode.top) trace.top
 
 -- ---- what it asks for
 
@@ -167,6 +170,7 @@ Asks name rows (Stress numbers) = (name ≡ codes "stress") × AreNumbers rows n
 Asks name rows (Words asked) = (name ≡ codes "words") × ReadsWords rows asked
 Asks name rows (Image asked) = (name ≡ codes "image") × ReadsImage rows asked
 Asks name rows Encode = name ≡ codes "encode"
+Asks name rows Trace = name ≡ codes "trace"
 
 -- The subcommand is what the words ask for: by clap's definition they name one, and give its arguments what is found
 -- for them.
@@ -195,6 +199,7 @@ pub record ReadsNumbers (rows : List Row) (numbers : StressNumbers) : Type 0 whe
 abbrev pub ReadsOf : Text → List Row → Subcommand → Type 0
 ReadsOf name rows Replay =
     (name ≢ codes "schedule") × (name ≢ codes "stress") × (name ≢ codes "words") × (name ≢ codes "image") × (name ≢ codes "encode")
+    × (name ≢ codes "trace")
     × (name ≡ codes "decode" → first_of (codes "HEX") rows ≡ None)
 ReadsOf name rows Schedule = name ≡ codes "schedule"
 ReadsOf name rows (Decode word) = (name ≡ codes "decode") × (first_of (codes "HEX") rows ≡ Some word.now)
@@ -202,6 +207,7 @@ ReadsOf name rows (Stress numbers) = (name ≡ codes "stress") × ReadsNumbers r
 ReadsOf name rows (Words asked) = (name ≡ codes "words") × ReadsWords rows asked
 ReadsOf name rows (Image asked) = (name ≡ codes "image") × ReadsImage rows asked
 ReadsOf name rows Encode = name ≡ codes "encode"
+ReadsOf name rows Trace = name ≡ codes "trace"
 
 abbrev pub Reads : Option (Text × List Row) → Subcommand → Type 0
 Reads None subcommand = subcommand ≡ Replay

@@ -218,6 +218,45 @@ order, each once, decimal or 0x and hexadecimal. Those of a range, tg, num and
 scale, are given all or none. What is no command is 'bad command', with exit
 status 1.";
 
+pub(crate) const TRACE: &str = "\
+Reads the log of a device model from standard input, and writes what is right for
+each line to standard output, as soon as it was read.
+
+Example:
+    smmuq trace < examples/model.log
+
+Lines, each with the words that its answers begin with:
+    walk N                'walking'; walk N begins
+    fill N TAG VALUE      'filled', or 'overtaken' if a command that covers TAG
+                          was taken since walk N began, 'too old' if more than
+                          64 invalidations were
+    use N TAG             'used value=', 'not held'; access N begins
+    end N                 'ended'; access N is over
+    command HEX           'applied', 'stopped', 'replaced', 'still stopped',
+                          'exhausted', or 'waiting K' for a CMD_SYNC that has
+                          to wait for K accesses: it comes again
+    ack GERRORN retry     'acknowledged'
+    ack GERRORN replace   'acknowledged'; by a CMD_SYNC
+    did filled            'right', for what the model did with the line before;
+    did overtaken         'unjudged' behind a line with nothing to compare
+    did used value=V
+    did missed
+    did completed
+    did waited
+    # ...                 a comment
+
+A fill and an acknowledgement may be 'refused', as by replay.
+
+A line ends the run as 'line N: NAME', with exit status 1, where NAME is
+    wrong: W is right     the model did something else than W
+    bad line              it is none of these lines
+    long line             it has more than 4096 bytes
+    no walk               walk N isn't among the last 1024
+    access open           access N isn't over
+    no access             access N hasn't begun, or is over
+    too many accesses     1024 aren't over
+    other command         after a stop, not the one at which it stopped";
+
 pub(crate) const IMAGE: &str = "\
 Reads the memory of a queue from standard input, 16 bytes a slot in the order of
 the slots. Writes five lines to standard output, size, prod, cons, err and

@@ -23,6 +23,9 @@ const HEX: &str = "HEX";
 /// The subcommand that says which words lines of text mean.
 const ENCODE: &str = "encode";
 
+/// The subcommand that judges a device model's log.
+const TRACE: &str = "trace";
+
 /// What the words of a command line ask for.
 #[derive(Clone, Copy)]
 pub enum Subcommand<'a> {
@@ -40,6 +43,8 @@ pub enum Subcommand<'a> {
     Image(ImageArguments<'a>),
     /// Say which words each line of text means as a command.
     Encode,
+    /// Judge the log of a device model.
+    Trace,
 }
 
 fn replay<'a>(alloc: Global) -> Command<'a>
@@ -89,6 +94,15 @@ fn encode<'a>(alloc: Global) -> Command<'a>
         .after_help(help::ENCODE)
 }
 
+fn trace<'a>(alloc: Global) -> Command<'a>
+    ensures { app_of result ≡ spec.trace }
+{
+    Command::new(alloc, TRACE)
+        .about("Judges the log of a device model, line by line")
+        .override_usage("smmuq trace < LOG")
+        .after_help(help::TRACE)
+}
+
 fn command_line<'a>(alloc: Global) -> Result<Command<'a>, AllocError>
     ensures { IfOk result (λ command. app_of command ≡ spec.smmuq) }
 {
@@ -104,7 +118,8 @@ fn command_line<'a>(alloc: Global) -> Result<Command<'a>, AllocError>
         .subcommand(stress(alloc)?)?
         .subcommand(words(alloc)?)?
         .subcommand(image(alloc)?)?
-        .subcommand(encode(alloc))
+        .subcommand(encode(alloc))?
+        .subcommand(trace(alloc))
 }
 
 fn subcommand_in<'a>(matches: &ArgMatches<'a>) -> Subcommand<'a>
@@ -124,6 +139,9 @@ fn subcommand_in<'a>(matches: &ArgMatches<'a>) -> Subcommand<'a>
     }
     if matches.subcommand_matches(ENCODE).is_some() {
         return Subcommand::Encode;
+    }
+    if matches.subcommand_matches(TRACE).is_some() {
+        return Subcommand::Trace;
     }
     let Some(decode) = matches.subcommand_matches(DECODE) else {
         return Subcommand::Replay;

@@ -22,6 +22,7 @@ use script::Status;
 use std::alloc::{AllocError, Global};
 use std::io::{Read, Write};
 use std::thread::Threads;
+use trace::trace;
 
 /// Writes a line that says what a word means as a command.
 fn decode<W: Write>(alloc: Global, word: &str, output: &mut Watched<W>) -> Status
@@ -78,6 +79,7 @@ fn serve<'a, A: Threads + AllocGlobal + Sync, I: Read, O: Write, F: Write>(
             let (status, notes) = encode_with_notes(rt.alloc(), input, output);
             exit_of_lines(rt.alloc(), status, &notes, faults)
         }
+        Subcommand::Trace => trace(rt.alloc(), input, output).exit_status(),
     }
 }
 

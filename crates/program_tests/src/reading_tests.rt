@@ -20,6 +20,16 @@ fn lines_of_text(rt: HostRuntime) {
     expect_explained(&rt, &["encode"], lines, (1, text, why));
 }
 
+/// A model that filled what a command overtook.
+#[test]
+fn a_log_of_a_model(rt: HostRuntime) {
+    let lines = "walk 1\ncommand 03000000050000000100000000000000\nfill 1 ste 5 70\ndid filled\n";
+    let text = "walking\napplied CFGI_STE sid=5 leaf=1 removed=0\novertaken\n\
+                line 4: wrong: overtaken is right\n";
+    expect_explained(&rt, &["trace"], lines, (1, text, ""));
+    expect_explained(&rt, &["trace"], "walk 1\n", (0, "walking\n", ""));
+}
+
 /// A line that is too long ends a script, and lines of words or text too.
 #[test]
 fn long_lines(rt: HostRuntime) {

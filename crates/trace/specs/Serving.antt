@@ -5,6 +5,7 @@ use Rattle.cmdcodec.specs.declared.raw.Raw.{Raw}
 use Rattle.ringcore.specs.Limits.{most_reserved}
 use Rattle.ringcore.specs.world.World.{Taken}
 use Rattle.caches.specs.declared.fault.CacheFault.{CacheFault}
+use Rattle.caches.specs.declared.fault.CacheFault.TheVariants.{NoMemory}
 use Rattle.caches.specs.declared.tag.Entry.{Entry}
 use Rattle.caches.specs.declared.tag.Tag.{Tag}
 use Rattle.caches.specs.Stored.{IsFillAnswer}
@@ -39,6 +40,7 @@ fill_reply (Ok was) = reply.Filled
 fill_reply (Err fault) = reply.NotFilled fault
 
 -- What a walk that began after so many commands read is filled, or isn't, by those that were taken.
+-- A want of memory is no answer: it ends the run.
 pub record IsFill (taken : List Taken) (began : ℕ) (tag : Tag) (value : ℕ)
     (old : TraceValue) (said : Reply) (new : TraceValue) : Type 0 where
   pub answer : WalkAnswer
@@ -46,6 +48,7 @@ pub record IsFill (taken : List Taken) (began : ℕ) (tag : Tag) (value : ℕ)
   pub by_walk : IsWalkAnswer taken began tag answer
   pub by_caches : (fault : CacheFault) → answer ≡ Err (RefusedBy fault)
       → IsFillAnswer old.unit.unit.caches tag (Err fault)
+  pub had_memory : answer ≢ Err (RefusedBy NoMemory)
   pub filled : OnOk answer (new ≡ record old { unit = with_walked began tag value old.unit })
   pub kept : OnErr answer (new ≡ old)
 

@@ -25,4 +25,5 @@ returns-in-None c =
     (λ e. let some = c.in_default-subcommand_matches.ensures.found.1 (name_is ∙ e) in absurd (true≢false (sym some)))
     (λ e. let some = c.in_default-subcommand_matches-2.ensures.found.1 (name_is ∙ e) in absurd (true≢false (sym some)))
     (λ e. let some = c.subcommand_matches-5.ensures.found.1 (name_is ∙ e) in absurd (true≢false (sym some ∙ sym c.is_some-2.ensures ∙ c.if-is_some-2.false)))
+    (λ e. let some = c.subcommand_matches-6.ensures.found.1 (name_is ∙ e) in absurd (true≢false (sym some ∙ sym c.is_some-3.ensures ∙ c.if-is_some-3.false)))
     (λ e. (rows, c.in-Some-subcommand_matches-3.ensures.rows, first))
