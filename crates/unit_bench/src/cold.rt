@@ -2,7 +2,7 @@
 ghost use Rattle.std.specs.Prelude.{◌≡◌, ◌≤◌, ◌<◌, OnOk};
 ghost use Rattle.engine.specs.Stops.{unstopped};
 
-mod contents;
+pub(crate) mod contents;
 mod walking;
 
 use contents::{NEVER_HELD, USED, full_unit, invalidation, tag, used_unit};
