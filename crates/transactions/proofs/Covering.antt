@@ -1,6 +1,6 @@
 -- Transactions and one more command.
 use Rattle.std.proofs.Common.{◌≡◌, ◌≤◌, ◌<◌, ◌+◌, ℕ, zero, suc, Bool, true, false, cond, ◌||◌, List, [], ◌∷◌, ◌++◌, length, length-append, append-nil, map, Option, Some, None, refl, sym, ap, subst, ◌∙◌, arith, ⊎_elim, inl, inr, ◌⊎◌}
-use Rattle.std.specs.Prelude.{slice_get, slice_set, count_by}
+use Rattle.std.specs.Prelude.{slice_get, slice_set, count_by, ◌↔◌, Ok}
 use Rattle.std.proofs.lemmas.Option.{slice_get_within}
 use Rattle.cmdcodec.specs.declared.raw.Raw.{Raw}
 use Rattle.cmdcodec.specs.declared.command.Command.{Command}
@@ -15,7 +15,9 @@ use Rattle.caches.specs.Blocks.{IsBlock}
 use Rattle.caches.specs.declared.tag.Entry.{Entry}
 use Rattle.transactions.specs.FreeSlots.{HasBlocks}
 use Rattle.transactions.specs.Tracking.{TrackedValue, IsTracked}
-use Rattle.transactions.specs.Transactions.{TransactionValue, with_outstanding, IsEnded}
+use Rattle.transactions.specs.declared.transaction.Ended.{Ended}
+use Rattle.transactions.specs.declared.transaction.Ended.TheVariants.{LastCovered}
+use Rattle.transactions.specs.Transactions.{TransactionValue, with_outstanding, WasLastCovered, IsEndAnswer}
 use Rattle.std.proofs.lemmas.List.Sums.{sum_by-cons}
 use Rattle.engine.specs.Counting.{taken}
 use Rattle.engine.specs.Units.{UnitValue, StaysSettled}
@@ -318,10 +320,14 @@ ended_tracked old list slot slots is changed =
       on_time = subst (λ (s : Slots). NoneIsOverdue s list) (sym changed) (λ at outstanding there. is.on_time at outstanding (ended_at old.outstanding slot at outstanding there));
     })
 
-pub ended_one : (old new : TrackedValue) (transaction : TransactionValue) (outstanding : OutstandingTransaction) → slice_get old.outstanding transaction.slot ≡ Some (Some outstanding) → outstanding.number ≡ transaction.number
-    → new ≡ record old { outstanding = slice_set old.outstanding transaction.slot None } → IsEnded old transaction new
-ended_one old new transaction outstanding at number is = record {
-  was = record { outstanding = outstanding; at = at; number = number };
-  new_is = is;
-  fewer = ap (λ (t : TrackedValue). count_by is_covered t.outstanding + cond outstanding.covered 1 0) is ∙ one_less old.outstanding transaction.slot outstanding at;
-}
+pub ended_one : (old new : TrackedValue) (transaction : TransactionValue) (outstanding : OutstandingTransaction) (ended : Ended) → slice_get old.outstanding transaction.slot ≡ Some (Some outstanding)
+    → outstanding.number ≡ transaction.number → new ≡ record old { outstanding = slice_set old.outstanding transaction.slot None } → (ended ≡ LastCovered) ↔ WasLastCovered outstanding new.outstanding
+    → IsEndAnswer old transaction new (Ok ended)
+ended_one old new transaction outstanding ended at number is tells = (
+  record {
+    was = record { outstanding = outstanding; at = at; number = number };
+    new_is = is;
+    fewer = ap (λ (t : TrackedValue). count_by is_covered t.outstanding + cond outstanding.covered 1 0) is ∙ one_less old.outstanding transaction.slot outstanding at;
+  },
+  tells,
+)

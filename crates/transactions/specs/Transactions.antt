@@ -1,6 +1,6 @@
 -- Transactions begin with an entry and end.
-use Rattle.std.specs.Prelude.{◌≡◌, ◌≤◌, ◌+◌, ◌⊎◌, ℕ, false, cond, count_by, List, length}
-use Rattle.std.specs.Prelude.{Some, None, Result, Ok, Err, ⊤, slice_get, slice_set}
+use Rattle.std.specs.Prelude.{◌≡◌, ◌≤◌, ◌+◌, ◌⊎◌, ◌↔◌, ℕ, true, false, cond, count_by, List}
+use Rattle.std.specs.Prelude.{Some, None, Result, Ok, Err, length, slice_get, slice_set}
 use Rattle.std.specs.FinMap as finite
 use Rattle.ringcore.specs.world.World.{Taken}
 use Rattle.caches.specs.declared.tag.Tag.{Tag}
@@ -10,6 +10,8 @@ use Rattle.caches.specs.Blocks.{IsBlock}
 use Rattle.transactions.specs.declared.outstanding.OutstandingTransaction.{OutstandingTransaction}
 use Rattle.transactions.specs.declared.transaction.BeginFault.{BeginFault}
 use Rattle.transactions.specs.declared.transaction.BeginFault.TheVariants.{NotHeld, Full, Walked}
+use Rattle.transactions.specs.declared.transaction.Ended.{Ended}
+use Rattle.transactions.specs.declared.transaction.Ended.TheVariants.{LastCovered}
 use Rattle.transactions.specs.declared.walk.WalkFault.{WalkFault}
 use Rattle.transactions.specs.declared.walk.WalkFault.TheVariants.{Overtaken, TooOld}
 use Rattle.transactions.specs.declared.walk.WalkFault.TheVariants.{OtherUnit, Refused}
@@ -96,9 +98,16 @@ pub record IsEnded (old : TrackedValue) (token : TransactionValue)
       count_by is_covered new.outstanding + cond was.outstanding.covered 1 0
       ≡ count_by is_covered old.outstanding
 
--- It ended; or the token isn't of a transaction that is outstanding here, and is given back.
+-- It was covered, and none that is outstanding now is.
+abbrev pub WasLastCovered : OutstandingTransaction → Slots → Type 0
+WasLastCovered was now = (was.covered ≡ true) × (count_by is_covered now ≡ 0)
+
+-- It ended, and the answer tells whether it was the last covered one; or the token isn't of a
+-- transaction that is outstanding here, and is given back.
 abbrev pub IsEndAnswer :
-    TrackedValue → TransactionValue → TrackedValue → Result ⊤ TransactionValue → Type 0
-IsEndAnswer old token new (Ok done) = IsEnded old token new
+    TrackedValue → TransactionValue → TrackedValue → Result Ended TransactionValue → Type 0
+IsEndAnswer old token new (Ok ended) =
+    (done : IsEnded old token new)
+    × ((ended ≡ LastCovered) ↔ WasLastCovered done.was.outstanding new.outstanding)
 IsEndAnswer old token new (Err back) =
     ¬ IsOutstandingIn old.outstanding token × (back ≡ token) × (new ≡ old)

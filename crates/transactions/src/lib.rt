@@ -23,5 +23,5 @@ pub use tracked::TrackedUnit;
 pub use tracked_run::{TrackedRun, step_run_with};
 pub use tracked_step::{TrackedStep, step_with};
 pub use tracked_verdict::TrackedVerdict;
-pub use transaction::{BeginFault, Transaction};
+pub use transaction::{BeginFault, Ended, OutstandingCounts, Transaction};
 pub use walk::{Walk, WalkFault};

@@ -6,9 +6,10 @@ ghost use Rattle.caches.specs.Blocks.{IsBlock};
 ghost use Rattle.transactions.specs.Between.{IsInsertAnswer};
 ghost use Rattle.transactions.specs.FreeSlots.{AreOwnPlaces, HasBlocks};
 ghost use Rattle.transactions.specs.Outstanding.{covered_by, cover, is_covered, IsBlockOf};
-ghost use Rattle.transactions.specs.Outstanding.{IsAt, IsEmptyAt};
+ghost use Rattle.transactions.specs.Outstanding.{IsAt, IsEmptyAt, AreCountsOf};
 
 use crate::coverage::is_invalidation;
+use crate::transaction::OutstandingCounts;
 use caches::{Tag, covers};
 use cmdcodec::Command;
 use engine::Verdict;
@@ -76,6 +77,16 @@ impl OutstandingTransactions {
                 self.covered = count_covered(&self.slots);
             }
             _ => {}
+        }
+    }
+
+    /// How many are outstanding, and how many of them are covered.
+    pub(crate) fn counts(&self) -> OutstandingCounts
+        ensures { AreCountsOf self.now result }
+    {
+        OutstandingCounts {
+            outstanding: self.count as u32,
+            covered: self.covered,
         }
     }
 

@@ -16,7 +16,7 @@ ghost use Rattle.engine.specs.Counting.{taken};
 ghost use Rattle.engine.specs.Units.{HasJudged, took};
 ghost use Rattle.transactions.specs.Between.{IsWaitAnswer, TakesTracked, IsApplyAnswer};
 ghost use Rattle.transactions.specs.Between.{IsRefusal, IsBegunIfRoom};
-ghost use Rattle.transactions.specs.Outstanding.{covered_by};
+ghost use Rattle.transactions.specs.Outstanding.{covered_by, AreCountsOf};
 ghost use Rattle.transactions.specs.Completed.{IsCompletedAt, IsComplete};
 ghost use Rattle.transactions.specs.TrackedVerdicts.{IsTrackedVerdict, WaitsExactly, took_by};
 ghost use Rattle.transactions.specs.Tracking.{IsTracked, StaysTracked, new_tracked};
@@ -28,7 +28,7 @@ ghost use Rattle.transactions.specs.Walks.{AnswersWalk, with_walked};
 use crate::outstanding::{OutstandingTransaction, OutstandingTransactions};
 use crate::recent_invalidations::RecentInvalidations;
 use crate::tracked_verdict::TrackedVerdict;
-use crate::transaction::{BeginFault, Transaction, number_after};
+use crate::transaction::{BeginFault, Ended, OutstandingCounts, Transaction, number_after};
 use crate::walk::{Walk, WalkFault};
 use caches::{CacheFault, Caches, Entry, Tag};
 use cmdcodec::{Raw, first_ill};
@@ -293,10 +293,10 @@ impl TrackedUnit {
         Some(Transaction { slot, number })
     }
 
-    /// A transaction is over.
+    /// A transaction is over. Returns whether it was the last that a CMD_SYNC waits for.
     ///
     /// Errors, changing nothing: the token, if it isn't of a transaction that is outstanding here.
-    pub fn end(&mut self, transaction: Transaction) -> Result<(), Transaction>
+    pub fn end(&mut self, transaction: Transaction) -> Result<Ended, Transaction>
         ensures ended { IsEndAnswer self.old transaction self.new result }
         ensures tracked { StaysTracked self.old self.new [] }
         ensures together { StaysTogether self.old self.new }
@@ -304,11 +304,20 @@ impl TrackedUnit {
         match self.outstanding.get(transaction.slot) {
             Some(outstanding) if outstanding.number == transaction.number => {
                 let Transaction { slot, number: _ } = transaction;
+                let covered = outstanding.covered;
                 self.outstanding.remove(slot, outstanding);
-                Ok(())
+                let left = self.outstanding.covered();
+                Ok(Ended::of(covered, left))
             }
             _ => Err(transaction),
         }
+    }
+
+    /// How many transactions are outstanding.
+    pub fn outstanding(&self) -> OutstandingCounts
+        ensures { AreCountsOf self.now.outstanding result }
+    {
+        self.outstanding.counts()
     }
 
     /// Fills an entry that is read and born now, as `Unit::fill` does.

@@ -1,5 +1,5 @@
 //! Transactions that began with an entry.
-ghost use Rattle.std.specs.Prelude.{◌≡◌};
+ghost use Rattle.std.specs.Prelude.{◌≡◌, ◌↔◌, true};
 ghost use Rattle.transactions.specs.Tracking.{number_after};
 
 use crate::walk::WalkFault;
@@ -23,6 +23,38 @@ impl Model for Transaction {
     ghost Value = { TransactionValue };
 
     ghost view = { λ t. record { slot = t.slot; number = t.number } };
+}
+
+/// What the end of a transaction means for a CMD_SYNC that waits.
+#[derive(Clone, Copy, Debug, PartialEq, Eq)]
+pub enum Ended {
+    /// It was covered, and no other is: a CMD_SYNC that waited needn't any more. Look at the queue
+    /// again.
+    LastCovered,
+    /// It wasn't covered, or others are: a CMD_SYNC that waited waits still.
+    Other,
+}
+
+impl Ended {
+    /// By whether the one that ended was covered, and how many are covered now.
+    pub(crate) fn of(covered: bool, left: u32) -> Ended
+        ensures { (result ≡ Ended.LastCovered) ↔ ((covered ≡ true) × (left ≡ 0)) }
+    {
+        if covered && left == 0 {
+            Ended::LastCovered
+        } else {
+            Ended::Other
+        }
+    }
+}
+
+/// How many transactions are outstanding.
+#[derive(Clone, Copy, Debug, PartialEq, Eq)]
+pub struct OutstandingCounts {
+    /// All that are.
+    pub outstanding: u32,
+    /// Those of them that a CMD_SYNC waits for.
+    pub covered: u32,
 }
 
 /// Why a transaction can't begin. Nothing changes.
