@@ -1,7 +1,8 @@
 -- A unit stays tracked by a verdict.
-use Rattle.std.proofs.Common.{◌≡◌, ◌+◌, ◌<◌, ℕ, Bool, true, false, cond, List, [], ◌∷◌, ◌++◌, length, length-append, None, sym, ap, subst, ◌∙◌, arith, append-nil}
+use Rattle.std.proofs.Common.{◌≡◌, ◌+◌, ◌<◌, ℕ, Bool, true, false, cond, List, [], ◌∷◌, ◌++◌, length, length-append, None, refl, sym, ap, subst, ◌∙◌, arith, append-nil}
 use Rattle.circular_buffer.specs.Buffer.{keep_last}
 use Rattle.cmdcodec.specs.declared.raw.Raw.{Raw}
+use Rattle.cmdcodec.specs.declared.command.Command.{Command}
 use Rattle.ringcore.specs.declared.world.event.Outcome.TheVariants.{Applied as AsApplied, Replaced as AsReplaced}
 use Rattle.ringcore.specs.world.World.{Taken}
 use Rattle.engine.specs.declared.verdict.Verdict.{Verdict}
@@ -14,7 +15,8 @@ use Rattle.transactions.specs.Since.{last_invalidations, recent_after}
 use Rattle.cmdcodec.specs.Opcodes.{is_sync}
 use Rattle.cmdcodec.specs.Legality.{first_ill}
 use Rattle.transactions.specs.Outstanding.{Slots, covered_by, TellCovered, NoneIsOverdue, HasCoveredOutstanding}
-use Rattle.transactions.specs.Tracking.{TrackedValue, StaysTracked}
+use Rattle.engine.specs.Settled.{IsSettled}
+use Rattle.transactions.specs.Tracking.{TrackedValue, TrackingValue, tracked_with, IsTracked, StaysTracked}
 use Rattle.transactions.specs.Between.{IsWaitAnswer, TakesTracked}
 use Rattle.transactions.proofs.Covering.{are_covered, none_overdue, replaced_covered, replaced_overdue, has_to_wait}
 use Rattle.transactions.proofs.Sinces.{last_more}
@@ -73,3 +75,28 @@ needs_no_wait raw old new more free takes list is =
   where
     none_count : (n : ℕ) → n ≡ 0 → 0 < n → ⊥
     none_count n is some = omega (arith, is, some)
+
+-- What is known before and after a verdict: the unit is tracked for what that takes.
+pub judged_tracked : (raw : Raw) (old new : UnitValue) (v : Verdict) → HasJudged raw old new v → (before after : TrackingValue) (list : List Taken)
+    → taken old.counts ≡ length list → before.recent ≡ last_invalidations list → TellCovered before.outstanding list → NoneIsOverdue before.outstanding list
+    → (is_sync raw ≡ true → first_ill raw ≡ None → ¬ HasCoveredOutstanding before.outstanding list)
+    → after.recent ≡ recent_after (taken old.counts) raw v before.recent → after.outstanding ≡ covered_by v before.outstanding
+    → IsSettled new.caches.entries (list ++ took raw v) → IsTracked (tracked_with new after) (list ++ took raw v)
+judged_tracked raw old new v judged before after list many recorded covered on_time waited recent_is outstanding_is settled = record {
+  many = many_now raw old new v judged list many;
+  settled = settled;
+  recorded = recent_is ∙ recorded_now raw old new v judged list many before.recent recorded;
+  covered = subst (λ (s : Slots). TellCovered s (list ++ took raw v)) (sym outstanding_is) (covered_now raw old new v judged list before.outstanding covered);
+  on_time = subst (λ (s : Slots). NoneIsOverdue s (list ++ took raw v)) (sym outstanding_is) (on_time_now raw old new v judged list before.outstanding covered on_time waited);
+}
+
+-- Where nothing was applied, nothing is kept and nothing covered.
+pub same_recent : (place : ℕ) (raw : Raw) (v : Verdict) (kept : List Invalidation) → ((command : Command) (removed : ℕ) → v ≡ Applied command removed → ⊥) → kept ≡ recent_after place raw v kept
+same_recent place raw (Applied command removed) kept none = absurd (none command removed refl)
+same_recent place raw (Stopped ill) kept none = refl
+same_recent place raw (Replaced ill) kept none = refl
+
+pub same_slots : (v : Verdict) (slots : Slots) → ((command : Command) (removed : ℕ) → v ≡ Applied command removed → ⊥) → slots ≡ covered_by v slots
+same_slots (Applied command removed) slots none = absurd (none command removed refl)
+same_slots (Stopped ill) slots none = refl
+same_slots (Replaced ill) slots none = refl

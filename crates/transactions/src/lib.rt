@@ -15,6 +15,7 @@ mod tracked;
 mod tracked_run;
 mod tracked_step;
 mod tracked_verdict;
+mod tracking;
 mod transaction;
 mod walk;
 

@@ -2,17 +2,17 @@
 ghost use Rattle.std.specs.Prelude.{◌≡◌, ◌<◌, ◌≤◌, ◌^◌, List, length, map, replicate, count_by};
 ghost use Rattle.std.specs.Prelude.{slice_get, slice_set, Some, None, IfOk, IsTrue, ◌↔◌, false};
 ghost use Rattle.std.specs.Option.{MatchOption};
+ghost use Rattle.cmdcodec.specs.declared.command.Command.{Command as CommandOf};
+ghost use Rattle.cmdcodec.specs.Spelling.{Spells};
 ghost use Rattle.caches.specs.Blocks.{IsBlock};
 ghost use Rattle.transactions.specs.Between.{IsInsertAnswer};
 ghost use Rattle.transactions.specs.FreeSlots.{AreOwnPlaces, HasBlocks};
-ghost use Rattle.transactions.specs.Outstanding.{covered_by, cover, is_covered, IsBlockOf};
+ghost use Rattle.transactions.specs.Outstanding.{cover, is_covered, IsBlockOf};
 ghost use Rattle.transactions.specs.Outstanding.{IsAt, IsEmptyAt, AreCountsOf};
 
-use crate::coverage::is_invalidation;
 use crate::transaction::OutstandingCounts;
 use caches::{Tag, covers};
-use cmdcodec::Command;
-use engine::Verdict;
+use cmdcodec::{Command, Raw, decode};
 use std::alloc::{AllocError, Global};
 use std::marker::Model;
 
@@ -66,17 +66,18 @@ impl OutstandingTransactions {
         })
     }
 
-    /// A command was judged so: if it was applied, those are covered from now on whose tag it
-    /// covers.
-    pub(crate) fn cover(&mut self, verdict: &Verdict)
-        ensures { self.new ≡ covered_by verdict.now self.old }
+    /// A command with these words was applied: those are covered from now on whose tag it covers.
+    /// The words are decoded only if one is outstanding.
+    pub(crate) fn cover(&mut self, raw: Raw)
+        ensures { (command : CommandOf) → Spells raw command
+            → self.new ≡ map (cover command) self.old }
     {
-        match verdict {
-            Verdict::Applied { command, .. } if self.count > 0 && is_invalidation(command) => {
-                cover_all(command, &mut self.slots);
-                self.covered = count_covered(&self.slots);
-            }
-            _ => {}
+        if self.count == 0 {
+            return;
+        }
+        if let Ok(command) = decode(raw) {
+            cover_all(&command, &mut self.slots);
+            self.covered = count_covered(&self.slots);
         }
     }
 

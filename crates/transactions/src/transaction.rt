@@ -1,6 +1,6 @@
 //! Transactions that began with an entry.
 ghost use Rattle.std.specs.Prelude.{◌≡◌, ◌↔◌, true};
-ghost use Rattle.transactions.specs.Tracking.{number_after};
+ghost use Rattle.transactions.specs.Tracking.{number_after, IsNumber};
 
 use crate::walk::WalkFault;
 use std::marker::Model;
@@ -73,7 +73,8 @@ pub enum BeginFault {
 
 /// The number of the transaction after this one: 1 to 2^48 - 1, and then from 1 again.
 pub(crate) fn number_after(number: u64) -> u64
-    ensures { result ≡ number_after number }
+    ensures next { result ≡ number_after number }
+    ensures number { IsNumber result }
 {
     number % LAST_NUMBER + 1
 }

@@ -6,7 +6,7 @@ use Rattle.engine.specs.declared.remedy.Remedy.{Remedy}
 use Rattle.engine.specs.Stops.{told}
 use Rattle.engine.specs.Counting.{taken}
 use Rattle.engine.specs.Units.{UnitValue}
-use Rattle.transactions.specs.Tracking.{TrackedValue, IsTracked}
+use Rattle.transactions.specs.Tracking.{TrackedValue, tracked_with, IsTracked}
 use Rattle.transactions.proofs.Covering.{unit_tracked}
 use Rattle.transactions.proofs.Together.{stays_together}
 use Rattle.transactions.proofs.tracked.TrackedUnit.acknowledge.Goals as goal
@@ -19,7 +19,7 @@ same_counts old remedy (Err fault) new ok err = ap (λ (u : UnitValue). taken u.
 pub returns-clause-tracked : goal.returns-clause-tracked
 returns-clause-tracked c list is =
     let before = subst (λ (t : TrackedValue). IsTracked t list) (sym c.self.view_is) is in
-    unit_tracked (record { unit = c.self.inside.unit; recent = c.self.inside.recent; outstanding = c.self.inside.outstanding; next_number = c.self.inside.next_number }) c.acknowledge.new.self list before
+    unit_tracked (tracked_with c.self.inside.unit c.self.inside.tracking) c.acknowledge.new.self list before
     (same_counts c.self.inside.unit c.args.remedy c.acknowledge.result c.acknowledge.new.self c.acknowledge.ensures.ok c.acknowledge.ensures.err) c.acknowledge.ensures.settled
 
 same_next : (old : UnitValue) (remedy : Remedy) (answer : Result ⊤ AckFault) (new : UnitValue) → OnOk answer (new ≡ record old { stop = told remedy old.stop }) → OnErr answer (new ≡ old)
@@ -29,6 +29,6 @@ same_next old remedy (Err fault) new ok err = ap (λ (u : UnitValue). u.stop.nex
 
 pub returns-clause-together : goal.returns-clause-together
 returns-clause-together c =
-    stays_together c.args.self.now (record { unit = c.acknowledge.new.self; recent = c.self.inside.recent; outstanding = c.self.inside.outstanding; next_number = c.self.inside.next_number })
+    stays_together c.args.self.now (tracked_with c.acknowledge.new.self c.self.inside.tracking)
     (returns-clause-tracked c)
     (same_next c.self.inside.unit c.args.remedy c.acknowledge.result c.acknowledge.new.self c.acknowledge.ensures.ok c.acknowledge.ensures.err ∙ ap (λ (t : TrackedValue). t.unit.stop.next) c.self.view_is)
