@@ -1,6 +1,6 @@
 -- Transactions and one more command.
 use Rattle.std.proofs.Common.{◌≡◌, ◌≤◌, ◌<◌, ◌+◌, ℕ, zero, suc, Bool, true, false, cond, ◌||◌, List, [], ◌∷◌, ◌++◌, length, length-append, append-nil, map, Option, Some, None, refl, sym, ap, subst, ◌∙◌, arith, ⊎_elim, inl, inr, ◌⊎◌}
-use Rattle.std.specs.Prelude.{slice_get, slice_set, count_by, replicate, ◌↔◌, Ok}
+use Rattle.std.specs.Prelude.{slice_get, slice_set, count_by, replicate, ◌↔◌, Result, Ok, Err, OnOk, OnErr}
 use Rattle.std.proofs.lemmas.Option.{slice_get_within}
 use Rattle.cmdcodec.specs.declared.raw.Raw.{Raw}
 use Rattle.cmdcodec.specs.declared.command.Command.{Command}
@@ -293,6 +293,11 @@ began_tracked old new list slot tag entry is own changed =
       covered = begun_covered old.outstanding list slot _ is.covered (new_covered list tag entry old.next_number own);
       on_time = began_on_time old.outstanding list slot _ is.on_time (new_on_time list tag entry old.next_number own);
     }))
+
+-- What is the same if it was done, is so either way.
+pub kept_by : {A F V X : Type 0} (f : V → X) (answer : Result A F) (new done old : V) → OnOk answer (new ≡ done) → OnErr answer (new ≡ old) → f done ≡ f old → f new ≡ f old
+kept_by f (Ok a) new done old ok err same = ap f ok ∙ same
+kept_by f (Err e) new done old ok err same = ap f err
 
 pub unit_tracked : (old : TrackedValue) (unit : UnitValue) (list : List Taken) → IsTracked old list → taken unit.counts ≡ taken old.unit.counts → StaysSettled old.unit unit []
     → IsTracked (record old { unit = unit }) (list ++ [])

@@ -1,5 +1,5 @@
 -- A unit stays tracked by a verdict.
-use Rattle.std.proofs.Common.{◌≡◌, ◌+◌, ◌<◌, ℕ, Bool, true, false, cond, List, [], ◌∷◌, ◌++◌, length, length-append, None, refl, sym, ap, subst, ◌∙◌, arith, append-nil}
+use Rattle.std.proofs.Common.{◌≡◌, ◌+◌, ◌<◌, ℕ, Bool, true, false, cond, List, [], ◌∷◌, ◌++◌, length, length-append, None, Some, refl, sym, ap, subst, ◌∙◌, arith, append-nil}
 use Rattle.circular_buffer.specs.Buffer.{keep_last}
 use Rattle.cmdcodec.specs.declared.raw.Raw.{Raw}
 use Rattle.cmdcodec.specs.declared.command.Command.{Command}
@@ -17,8 +17,9 @@ use Rattle.cmdcodec.specs.Legality.{first_ill}
 use Rattle.transactions.specs.Outstanding.{Slots, covered_by, TellCovered, NoneIsOverdue, HasCoveredOutstanding}
 use Rattle.engine.specs.Settled.{IsSettled}
 use Rattle.transactions.specs.Tracking.{TrackedValue, TrackingValue, tracked_with, IsTracked, StaysTracked}
+use Rattle.transactions.specs.TrackedVerdicts.{IsLegalSync, HasToWait, waited_for}
 use Rattle.transactions.specs.Between.{IsWaitAnswer, TakesTracked}
-use Rattle.transactions.proofs.Covering.{are_covered, none_overdue, replaced_covered, replaced_overdue, has_to_wait}
+use Rattle.transactions.proofs.Covering.{are_covered, none_overdue, replaced_covered, replaced_overdue, waits_for, has_to_wait}
 use Rattle.transactions.proofs.Sinces.{last_more}
 use Rattle.transactions.proofs.Spelled.{applied_kind}
 
@@ -68,13 +69,27 @@ on_time_now raw old new (Applied command removed) is list slots covered on_time 
 on_time_now raw old new (Stopped ill) is list slots covered on_time waited = subst (NoneIsOverdue slots) (sym (append-nil list)) on_time
 on_time_now raw old new (Replaced ill) is list slots covered on_time waited = replaced_overdue list raw slots on_time
 
--- What is asked of a command that is taken holds of one that needn't wait.
-pub needs_no_wait : (raw : Raw) (old new : TrackedValue) (more : List Taken) → IsWaitAnswer raw old.outstanding None → TakesTracked raw old new more → StaysTracked old new more
-needs_no_wait raw old new more free takes list is =
-    takes list is (λ sync legal covered. none_count _ (free sync legal) (has_to_wait old.outstanding list is.covered covered))
-  where
-    none_count : (n : ℕ) → n ≡ 0 → 0 < n → ⊥
-    none_count n is some = omega (arith, is, some)
+-- ---- waiting
+
+some_count : (n m : ℕ) → n ≡ m → 0 < n → 0 < m
+some_count n m is some = omega (arith, is, some)
+
+none_count : (n : ℕ) → n ≡ 0 → 0 < n → ⊥
+none_count n is some = omega (arith, is, some)
+
+module _ (raw : Raw) (old : TrackedValue) where
+  pub waits_for_some : (n : ℕ) → IsWaitAnswer raw old.outstanding (Some n) → (n ≡ waited_for old) × HasToWait old raw
+  waits_for_some n must = (must.2, ((must.0, must.1), some_count _ _ must.2 must.3))
+
+  pub must_wait : (n : ℕ) → IsWaitAnswer raw old.outstanding (Some n) → (list : List Taken) → IsTracked old list → IsLegalSync raw × HasCoveredOutstanding old.outstanding list
+  must_wait n must list is = ((must.0, must.1), waits_for old.outstanding list is.covered (some_count _ _ must.2 must.3))
+
+  pub need_not_wait : IsWaitAnswer raw old.outstanding None → (list : List Taken) → IsTracked old list → IsLegalSync raw × HasCoveredOutstanding old.outstanding list → ⊥
+  need_not_wait free list is all = none_count _ (free all.0.0 all.0.1) (has_to_wait old.outstanding list is.covered all.1)
+
+  -- What is asked of a command that is taken holds of one that needn't wait.
+  pub needs_no_wait : (new : TrackedValue) (more : List Taken) → IsWaitAnswer raw old.outstanding None → TakesTracked raw old new more → StaysTracked old new more
+  needs_no_wait new more free takes list is = takes list is (λ sync legal covered. need_not_wait free list is ((sync, legal), covered))
 
 -- What is known before and after a verdict: the unit is tracked for what that takes.
 pub judged_tracked : (raw : Raw) (old new : UnitValue) (v : Verdict) → HasJudged raw old new v → (before after : TrackingValue) (list : List Taken)

@@ -26,6 +26,10 @@ use Rattle.transactions.specs.Transactions.{TransactionValue, IsBegun}
 use Rattle.transactions.specs.Tracking.{TrackedValue, TrackingValue, IsTracked, StaysTracked}
 use Rattle.transactions.specs.TrackedVerdicts.{HasJudgedTracked}
 use Rattle.transactions.specs.TrackedRuns.{EndsRun}
+use Rattle.engine.specs.declared.verdict.Judgement.{Judgement}
+use Rattle.engine.specs.QueueUnits.{HasJudgedNext}
+use Rattle.transactions.specs.TrackedQueueUnits.{TrackedQueueValue, tracked_in, CoversBy}
+use Rattle.transactions.specs.TrackedQueueUnits.{TookNext}
 
 -- A slot was free and has this transaction now, or none was free.
 abbrev pub IsInsertAnswer : Slots → OutstandingTransaction → Slots → Option ℕ → Type 0
@@ -64,6 +68,17 @@ pub record IsNoted (place : ℕ) (raw : Raw) (command : Command)
 abbrev pub HasNoted : ℕ → Raw → TrackingValue → TrackingValue → Type 0
 HasNoted place raw old new =
     (command : Command) → Spells raw command → IsNoted place raw command old new
+
+-- The queue's unit judged words; and whatever it was tracked for, it is for what it took now if
+-- they needn't wait.
+pub record HasTakenQueue (raw : Raw) (old new : TrackedQueueValue)
+    (judgement : Judgement) : Type 0 where
+  pub judged : HasJudgedNext raw old.queue new.queue judgement
+  pub covers : CoversBy raw judgement old.outstanding new.outstanding
+  pub next_number : new.next_number ≡ old.next_number
+  pub before : new.before ≡ old.before
+  pub takes : (more : List Taken) × TookNext raw old.queue.unit judgement more
+      × TakesTracked raw (tracked_in old) (tracked_in new) more
 
 -- How many transactions a command has to wait for, if it has to: for those that are covered, if it
 -- is a legal CMD_SYNC.

@@ -61,6 +61,10 @@ new_tracked caches room = record {
 abbrev pub new_tracking : ℕ → TrackingValue
 new_tracking room = record { recent = []; outstanding = replicate room None; next_number = 1 }
 
+-- the same once all is forgotten that was taken, and every slot is free
+abbrev pub reset_tracking : TrackingValue → TrackingValue
+reset_tracking t = record t { recent = []; outstanding = replicate (length t.outstanding) None }
+
 abbrev pub with_unit : UnitValue → TrackedValue → TrackedValue
 with_unit unit t = record t { unit = unit }
 

@@ -1,5 +1,6 @@
 -- Transactions begin with an entry and end.
-use Rattle.std.specs.Prelude.{◌≡◌, ◌≤◌, ◌+◌, ◌⊎◌, ◌↔◌, ℕ, true, false, cond, count_by, List}
+use Rattle.std.specs.Prelude.{◌≡◌, ◌≤◌, ◌<◌, ◌+◌, ◌*◌, ◌/◌, ◌%◌, ◌^◌, ◌⊎◌, ◌↔◌, ℕ, true, false}
+use Rattle.std.specs.Prelude.{cond, count_by, List}
 use Rattle.std.specs.Prelude.{Some, None, Result, Ok, Err, length, slice_get, slice_set}
 use Rattle.std.specs.FinMap as finite
 use Rattle.ringcore.specs.world.World.{Taken}
@@ -24,6 +25,18 @@ use Rattle.transactions.specs.Tracking.{TrackedValue, IsTracked, number_after}
 pub record TransactionValue : Type 0 where
   pub slot : ℕ
   pub number : ℕ
+
+-- a word of 64 bits that keeps it: the number in the upper 48 bits, the slot in the lower 16
+abbrev pub bits_of : TransactionValue → ℕ
+bits_of t = t.number * 65536 + t.slot
+
+-- the transaction in a word
+abbrev pub transaction_of : ℕ → TransactionValue
+transaction_of bits = record { slot = bits % 65536; number = bits / 65536 }
+
+-- so that they fit there
+abbrev pub FitsBits : ℕ → ℕ → Type 0
+FitsBits slot number = (slot < 2 ^ 16) × (number < 2 ^ 48)
 
 -- It is the one that is outstanding in its slot.
 pub record IsOutstandingIn (slots : Slots) (transaction : TransactionValue) : Type 0 where

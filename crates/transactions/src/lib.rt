@@ -12,6 +12,8 @@ mod coverage;
 mod outstanding;
 mod recent_invalidations;
 mod tracked;
+mod tracked_judgement;
+mod tracked_queue_unit;
 mod tracked_run;
 mod tracked_step;
 mod tracked_verdict;
@@ -21,6 +23,8 @@ mod walk;
 
 pub use completion_witness::told;
 pub use tracked::TrackedUnit;
+pub use tracked_judgement::TrackedJudgement;
+pub use tracked_queue_unit::TrackedQueueUnit;
 pub use tracked_run::{TrackedRun, step_run_with};
 pub use tracked_step::{TrackedStep, step_with};
 pub use tracked_verdict::TrackedVerdict;

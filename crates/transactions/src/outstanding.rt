@@ -1,6 +1,7 @@
 //! The transactions that are outstanding.
 ghost use Rattle.std.specs.Prelude.{◌≡◌, ◌<◌, ◌≤◌, ◌^◌, List, length, map, replicate, count_by};
-ghost use Rattle.std.specs.Prelude.{slice_get, slice_set, Some, None, IfOk, IsTrue, ◌↔◌, false};
+ghost use Rattle.std.specs.Prelude.{slice_get, slice_set, Some, None, false};
+ghost use Rattle.std.specs.Prelude.{IfOk, IfSome, IsTrue, ◌↔◌};
 ghost use Rattle.std.specs.Option.{MatchOption};
 ghost use Rattle.cmdcodec.specs.declared.command.Command.{Command as CommandOf};
 ghost use Rattle.cmdcodec.specs.Spelling.{Spells};
@@ -113,7 +114,8 @@ impl OutstandingTransactions {
     pub(crate) fn insert(&mut self, transaction: OutstandingTransaction) -> Option<usize>
         requires block { IsBlock transaction.tag }
         requires uncovered { transaction.covered ≡ false }
-        ensures { IsInsertAnswer self.old transaction self.new result }
+        ensures inserted { IsInsertAnswer self.old transaction self.new result }
+        ensures few { IfSome result (λ slot. slot < 2 ^ 16) }
     {
         if self.count >= self.free.len() {
             return None;
@@ -122,6 +124,24 @@ impl OutstandingTransactions {
         self.slots[slot] = Some(transaction);
         self.count += 1;
         Some(slot)
+    }
+
+    /// How many slots there are.
+    fn room(&self) -> usize
+        ensures { result ≡ length self.now }
+    {
+        self.slots.len()
+    }
+
+    /// Frees every slot.
+    pub(crate) fn clear(&mut self)
+        ensures { self.new ≡ replicate (length self.old) None }
+    {
+        for slot in 0..self.room() {
+            if let Some(outstanding) = self.get(slot) {
+                self.remove(slot, outstanding);
+            }
+        }
     }
 
     /// Frees the slot of one that is outstanding.

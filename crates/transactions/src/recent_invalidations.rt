@@ -54,6 +54,13 @@ impl RecentInvalidations {
         let _oldest = self.kept.push_back(invalidation);
     }
 
+    /// Forgets all.
+    pub(crate) fn clear(&mut self)
+        ensures { self.new ≡ [] }
+    {
+        self.kept.clear();
+    }
+
     /// Whether more than 64 were taken since so many commands were.
     pub(crate) fn is_before_oldest(&self, began: u64) -> bool
         ensures { IsTrue result ↔ IsBeforeOldest self.now began }

@@ -9,9 +9,11 @@ ghost use Rattle.caches.specs.declared.fault.CacheFault.{CacheFault as CacheFaul
 ghost use Rattle.engine.specs.Units.{UnitValue};
 ghost use Rattle.transactions.specs.Between.{IsWaitAnswer, HasNoted, IsRefusal, IsBegunIfRoom};
 ghost use Rattle.transactions.specs.Outstanding.{AreCountsOf};
-ghost use Rattle.transactions.specs.Tracking.{new_tracking, tracked_with, StaysTracked};
+ghost use Rattle.transactions.specs.Tracking.{new_tracking, reset_tracking, tracked_with};
+ghost use Rattle.transactions.specs.Tracking.{StaysTracked};
 ghost use Rattle.transactions.specs.Together.{StaysTogether};
 ghost use Rattle.transactions.specs.Transactions.{IsBeginAnswer, IsBeginWalkedAnswer, IsEndAnswer};
+ghost use Rattle.transactions.specs.Transactions.{bits_of};
 ghost use Rattle.transactions.specs.Walks.{AnswersWalk, with_walked};
 
 use crate::coverage::is_invalidation;
@@ -60,6 +62,15 @@ impl Tracking {
             outstanding,
             next_number: 1,
         })
+    }
+
+    /// Nothing was taken since, and no transaction is outstanding. Their numbers go on. Takes no
+    /// memory.
+    pub(crate) fn reset(&mut self)
+        ensures { self.new ≡ reset_tracking self.old }
+    {
+        self.recent.clear();
+        self.outstanding.clear();
     }
 
     /// How many transactions a command has to wait for, if it has to.
@@ -145,6 +156,7 @@ impl Tracking {
     ) -> Result<(Entry, Transaction), BeginFault>
         ensures begun { IsBeginAnswer (tracked_with unit.now self.old) tag.now
             (tracked_with unit.now self.new) result }
+        ensures some { IfOk result (λ both. 0 < bits_of both.1) }
         ensures tracked { StaysTracked (tracked_with unit.now self.old)
             (tracked_with unit.now self.new) [] }
         ensures together { StaysTogether (tracked_with unit.now self.old)
@@ -171,6 +183,7 @@ impl Tracking {
     ) -> Result<Transaction, BeginFault>
         ensures begun { IsBeginWalkedAnswer (tracked_with unit.now self.old) began tag.now
             (tracked_with unit.now self.new) result }
+        ensures some { IfOk result (λ transaction. 0 < bits_of transaction) }
         ensures tracked { StaysTracked (tracked_with unit.now self.old)
             (tracked_with unit.now self.new) [] }
         ensures together { StaysTogether (tracked_with unit.now self.old)
@@ -194,7 +207,7 @@ impl Tracking {
         requires block { IsBlock tag }
         ensures begun { (unit : UnitValue) → IsBegunIfRoom (tracked_with unit self.old) tag born
             (tracked_with unit self.new) result }
-        ensures some { IfSome result (λ transaction. 0 < transaction.number) }
+        ensures some { IfSome result (λ transaction. 0 < bits_of transaction) }
     {
         let number = self.next_number;
         let transaction = OutstandingTransaction {
