@@ -195,7 +195,7 @@ impl Trace {
             transaction,
         } = self.accesses.remove(place);
         match self.unit.end(transaction) {
-            Ok(()) => {}
+            Ok(_) => {}
             Err(_back) => unreachable!(),
         }
     }
@@ -214,7 +214,7 @@ impl Trace {
                 transaction,
             } = accesses.remove(0);
             match unit.end(transaction) {
-                Ok(()) => {}
+                Ok(_) => {}
                 Err(_back) => unreachable!(),
             }
         }

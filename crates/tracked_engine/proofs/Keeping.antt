@@ -1,12 +1,12 @@
 -- What always holds of a tracked engine is kept by its calls.
 use Rattle.std.proofs.Common.{◌≡◌, ℕ, List, [], Option, Some, None, Result, Ok, Err, sym, ap, subst, ◌∙◌, append-nil}
-use Rattle.std.specs.Prelude.{⊤}
 use Rattle.ringcore.specs.world.World.{Taken}
 use Rattle.ring.specs.consumer.Completing.{taken_of}
 use Rattle.transactions.specs.Tracking.{TrackedValue, IsTracked, StaysTracked}
 use Rattle.caches.specs.declared.tag.Tag.{Tag}
 use Rattle.caches.specs.declared.tag.Entry.{Entry}
 use Rattle.transactions.specs.declared.transaction.BeginFault.{BeginFault}
+use Rattle.transactions.specs.declared.transaction.Ended.{Ended}
 use Rattle.transactions.specs.declared.transaction.BeginFault.TheVariants.{NotHeld, Full, Walked}
 use Rattle.transactions.specs.Transactions.{TransactionValue, IsBeginAnswer, IsBeginWalkedAnswer, IsEndAnswer}
 use Rattle.transactions.specs.Together.{TrackedConsumer, AreTracked}
@@ -38,6 +38,6 @@ next_after_walked old walk tag new (Err NotHeld) is = absurd is
 next_after_walked old walk tag new (Err Full) is = ap (λ (t : TrackedValue). t.unit.stop.next) is.0
 next_after_walked old walk tag new (Err (Walked fault)) is = ap (λ (t : TrackedValue). t.unit.stop.next) is.0
 
-pub next_after_end : (old : TrackedValue) (token : TransactionValue) (new : TrackedValue) (answer : Result ⊤ TransactionValue) → IsEndAnswer old token new answer → new.unit.stop.next ≡ old.unit.stop.next
-next_after_end old token new (Ok done) is = ap (λ (t : TrackedValue). t.unit.stop.next) is.new_is
+pub next_after_end : (old : TrackedValue) (token : TransactionValue) (new : TrackedValue) (answer : Result Ended TransactionValue) → IsEndAnswer old token new answer → new.unit.stop.next ≡ old.unit.stop.next
+next_after_end old token new (Ok ended) is = ap (λ (t : TrackedValue). t.unit.stop.next) is.0.new_is
 next_after_end old token new (Err back) is = ap (λ (t : TrackedValue). t.unit.stop.next) is.2

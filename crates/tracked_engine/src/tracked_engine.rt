@@ -10,6 +10,7 @@ ghost use Rattle.engine.specs.Completions.{AreToCells};
 ghost use Rattle.engine.specs.Stops.{IsStopped, IsAcknowledgementAnswer};
 ghost use Rattle.engine.specs.Counting.{taken};
 ghost use Rattle.transactions.specs.Tracking.{with_filled, with_evicted, with_acknowledged};
+ghost use Rattle.transactions.specs.Outstanding.{AreCountsOf};
 ghost use Rattle.transactions.specs.Transactions.{IsBeginAnswer, IsBeginWalkedAnswer, IsEndAnswer};
 ghost use Rattle.transactions.specs.Walks.{AnswersWalk, with_walked};
 ghost use Rattle.transactions.specs.Together.{AreTracked, HasGrown};
@@ -27,8 +28,8 @@ use engine::{AckFault, Completion, Counts, Registers, Remedy, RunAnswer, StepAns
 use ring::{Consumer, Ring, Sender};
 use std::marker::Model;
 use transactions::{
-    BeginFault, TrackedRun, TrackedStep, TrackedUnit, Transaction, Walk, WalkFault, step_run_with,
-    step_with, told,
+    BeginFault, Ended, OutstandingCounts, TrackedRun, TrackedStep, TrackedUnit, Transaction, Walk,
+    WalkFault, step_run_with, step_with, told,
 };
 
 /// Serves a command queue as an engine does, with a unit that knows of walks and of transactions.
@@ -358,14 +359,21 @@ impl TrackedEngine {
         self.tracked.begin_walked(walk, tag)
     }
 
-    /// A transaction is over.
+    /// A transaction is over. Returns whether it was the last that a CMD_SYNC waits for.
     ///
     /// Errors, changing nothing: the token, if it isn't of a transaction that is outstanding here.
-    pub fn end(&mut self, transaction: Transaction) -> Result<(), Transaction>
+    pub fn end(&mut self, transaction: Transaction) -> Result<Ended, Transaction>
         ensures ended { IsEndAnswer self.old.tracked transaction self.new.tracked result }
         ensures consumer { self.new.consumer ≡ self.old.consumer }
         ensures tracked { AreTracked self.new.consumer self.new.tracked }
     {
         self.tracked.end(transaction)
+    }
+
+    /// How many transactions are outstanding.
+    pub fn outstanding(&self) -> OutstandingCounts
+        ensures { AreCountsOf self.now.tracked.outstanding result }
+    {
+        self.tracked.outstanding()
     }
 }

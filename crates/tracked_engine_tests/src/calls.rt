@@ -5,7 +5,7 @@ use caches::Tag;
 use cmdcodec::{Raw, Sid};
 use std::process::Abort;
 use tracked_engine::TrackedEngine;
-use transactions::Transaction;
+use transactions::{Ended, Transaction};
 
 /// CMD_CFGI_STE of stream 5 with Leaf 1.
 pub const STE: Raw = Raw {
@@ -27,11 +27,11 @@ pub fn begin(rt: &impl Abort, engine: &mut TrackedEngine, tag: &Tag) -> Transact
     }
 }
 
-pub fn end(rt: &impl Abort, engine: &mut TrackedEngine, transaction: Transaction)
+pub fn end(rt: &impl Abort, engine: &mut TrackedEngine, transaction: Transaction) -> Ended
     ensures { engine.new.consumer ≡ engine.old.consumer }
 {
     match engine.end(transaction) {
-        Ok(()) => {}
+        Ok(ended) => ended,
         Err(_back) => panic!(rt; "it isn't outstanding here"),
     }
 }

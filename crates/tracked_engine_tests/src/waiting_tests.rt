@@ -8,7 +8,7 @@ use engine::StepAnswer;
 use ring::{Receipt, Ring, RingFault, Sender};
 use std::process::Abort;
 use tracked_engine::{TrackedEngine, TrackedFinished};
-use transactions::{BeginFault, TrackedStep, TrackedUnit, WalkFault};
+use transactions::{BeginFault, Ended, OutstandingCounts, TrackedStep, TrackedUnit, WalkFault};
 
 fn send(rt: &impl Abort, ring: &Ring, sender: Sender) -> (Sender, Receipt)
     requires { sender.ring ≡ ring.now }
@@ -73,7 +73,15 @@ fn a_sync_that_waits_for_a_transaction(rt: HostRuntime) -> Result<(), RingFault>
     assert_eq!(rt; engine.step(&ring), TrackedStep::Waiting { transactions });
     assert!(rt; !sender.is_done(&ring, &receipt));
     assert_eq!(rt; engine.registers(&ring).cons, 1);
-    end(&rt, &mut engine, transaction);
+    let (outstanding, covered) = (1, 1);
+    assert_eq!(rt;
+        engine.outstanding(),
+        OutstandingCounts {
+            outstanding,
+            covered
+        }
+    );
+    assert_eq!(rt; end(&rt, &mut engine, transaction), Ended::LastCovered);
     expect_applied(&rt, &ring, &mut engine, 0);
     assert!(rt; sender.is_done(&ring, &receipt));
     engine.told(&ring, &mut sender);
@@ -114,7 +122,7 @@ fn a_walk_that_a_command_overtakes(rt: HostRuntime) -> Result<(), RingFault> {
     // It is outstanding at the end, and ends on the unit that is left.
     let mut left = finish(&rt, ring, senders, sender, engine);
     match left.tracked.end(transaction) {
-        Ok(()) => Ok(()),
+        Ok(_) => Ok(()),
         Err(_back) => panic!(rt; "it isn't outstanding there"),
     }
 }

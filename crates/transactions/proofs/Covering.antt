@@ -1,6 +1,6 @@
 -- Transactions and one more command.
 use Rattle.std.proofs.Common.{◌≡◌, ◌≤◌, ◌<◌, ◌+◌, ℕ, zero, suc, Bool, true, false, cond, ◌||◌, List, [], ◌∷◌, ◌++◌, length, length-append, append-nil, map, Option, Some, None, refl, sym, ap, subst, ◌∙◌, arith, ⊎_elim, inl, inr, ◌⊎◌}
-use Rattle.std.specs.Prelude.{slice_get, slice_set, count_by}
+use Rattle.std.specs.Prelude.{slice_get, slice_set, count_by, replicate, ◌↔◌, Result, Ok, Err, OnOk, OnErr}
 use Rattle.std.proofs.lemmas.Option.{slice_get_within}
 use Rattle.cmdcodec.specs.declared.raw.Raw.{Raw}
 use Rattle.cmdcodec.specs.declared.command.Command.{Command}
@@ -14,8 +14,10 @@ use Rattle.engine.specs.Settled.{HasCovered, IsSettled, IsSettledEntry}
 use Rattle.caches.specs.Blocks.{IsBlock}
 use Rattle.caches.specs.declared.tag.Entry.{Entry}
 use Rattle.transactions.specs.FreeSlots.{HasBlocks}
-use Rattle.transactions.specs.Tracking.{TrackedValue, IsTracked}
-use Rattle.transactions.specs.Transactions.{TransactionValue, with_outstanding, IsEnded}
+use Rattle.transactions.specs.Tracking.{TrackedValue, TrackingValue, tracked_with, IsTracked}
+use Rattle.transactions.specs.declared.transaction.Ended.{Ended}
+use Rattle.transactions.specs.declared.transaction.Ended.TheVariants.{LastCovered}
+use Rattle.transactions.specs.Transactions.{TransactionValue, with_outstanding, WasLastCovered, IsEndAnswer}
 use Rattle.std.proofs.lemmas.List.Sums.{sum_by-cons}
 use Rattle.engine.specs.Counting.{taken}
 use Rattle.engine.specs.Units.{UnitValue, StaysSettled}
@@ -23,7 +25,7 @@ use Rattle.transactions.specs.declared.outstanding.OutstandingTransaction.{Outst
 use Rattle.transactions.specs.Coverage.{is_invalidation}
 use Rattle.transactions.specs.Since.{HasCoveredSince}
 use Rattle.transactions.specs.Outstanding.{Slots, cover, is_covered, IsOverdue, NoneIsOverdue, TellsCovered, TellCovered, HasCoveredOutstanding}
-use Rattle.transactions.proofs.Lists.{get_more, get_end, get_last, get_set, get_map, counted, counts_one}
+use Rattle.transactions.proofs.Lists.{get_more, get_end, get_last, get_set, get_map, get_copies, counted, counts_one}
 use Rattle.transactions.proofs.Spelled.{covers_may}
 
 -- ---- what has covered a tag
@@ -169,7 +171,7 @@ module _ (list : List Taken) (raw : Raw) where
   abbrev instead : Taken
   instead = record { raw = raw; outcome = Replaced }
 
-  no_cover : (tag : Tag) → ¬ HasCovered instead tag
+  pub no_cover : (tag : Tag) → ¬ HasCovered instead tag
   no_cover tag c = let nay : Replaced ≡ Applied = c.applied in absurd (cc)
 
   pub replaced_covered : (slots : Slots) → TellCovered slots list → TellCovered slots (list ++ instead ∷ [])
@@ -267,6 +269,20 @@ blocks_covered command slots blocks slot o at = let there = get_map (cover comma
 
 -- ---- the whole unit
 
+none_open : (room slot : ℕ) (outstanding : OutstandingTransaction) → slice_get (replicate {A = Option OutstandingTransaction} room None) slot ≡ Some (Some outstanding) → ⊥
+none_open room slot outstanding at = let same : None ≡ Some outstanding = get_copies room None slot (Some outstanding) at in absurd (cc)
+
+-- One that has taken nothing.
+pub none_tracked : (unit : UnitValue) (tracking : TrackingValue) (room : ℕ) → taken unit.counts ≡ 0 → IsSettled unit.caches.entries [] → tracking.recent ≡ [] → tracking.outstanding ≡ replicate room None
+    → IsTracked (tracked_with unit tracking) []
+none_tracked unit tracking room many settled recent free = record {
+  many = many;
+  settled = settled;
+  recorded = recent;
+  covered = subst (λ (s : Slots). TellCovered s []) (sym free) (λ slot outstanding at. absurd (none_open room slot outstanding at));
+  on_time = subst (λ (s : Slots). NoneIsOverdue s []) (sym free) (λ slot outstanding at late. none_open room slot outstanding at);
+}
+
 pub began_tracked : (old new : TrackedValue) (list : List Taken) (slot : ℕ) (tag : Tag) (entry : Entry) → IsTracked old list → IsSettledEntry list tag entry
     → new ≡ with_outstanding old slot tag entry.born → IsTracked new (list ++ [])
 began_tracked old new list slot tag entry is own changed =
@@ -277,6 +293,11 @@ began_tracked old new list slot tag entry is own changed =
       covered = begun_covered old.outstanding list slot _ is.covered (new_covered list tag entry old.next_number own);
       on_time = began_on_time old.outstanding list slot _ is.on_time (new_on_time list tag entry old.next_number own);
     }))
+
+-- What is the same if it was done, is so either way.
+pub kept_by : {A F V X : Type 0} (f : V → X) (answer : Result A F) (new done old : V) → OnOk answer (new ≡ done) → OnErr answer (new ≡ old) → f done ≡ f old → f new ≡ f old
+kept_by f (Ok a) new done old ok err same = ap f ok ∙ same
+kept_by f (Err e) new done old ok err same = ap f err
 
 pub unit_tracked : (old : TrackedValue) (unit : UnitValue) (list : List Taken) → IsTracked old list → taken unit.counts ≡ taken old.unit.counts → StaysSettled old.unit unit []
     → IsTracked (record old { unit = unit }) (list ++ [])
@@ -318,10 +339,14 @@ ended_tracked old list slot slots is changed =
       on_time = subst (λ (s : Slots). NoneIsOverdue s list) (sym changed) (λ at outstanding there. is.on_time at outstanding (ended_at old.outstanding slot at outstanding there));
     })
 
-pub ended_one : (old new : TrackedValue) (transaction : TransactionValue) (outstanding : OutstandingTransaction) → slice_get old.outstanding transaction.slot ≡ Some (Some outstanding) → outstanding.number ≡ transaction.number
-    → new ≡ record old { outstanding = slice_set old.outstanding transaction.slot None } → IsEnded old transaction new
-ended_one old new transaction outstanding at number is = record {
-  was = record { outstanding = outstanding; at = at; number = number };
-  new_is = is;
-  fewer = ap (λ (t : TrackedValue). count_by is_covered t.outstanding + cond outstanding.covered 1 0) is ∙ one_less old.outstanding transaction.slot outstanding at;
-}
+pub ended_one : (old new : TrackedValue) (transaction : TransactionValue) (outstanding : OutstandingTransaction) (ended : Ended) → slice_get old.outstanding transaction.slot ≡ Some (Some outstanding)
+    → outstanding.number ≡ transaction.number → new ≡ record old { outstanding = slice_set old.outstanding transaction.slot None } → (ended ≡ LastCovered) ↔ WasLastCovered outstanding new.outstanding
+    → IsEndAnswer old transaction new (Ok ended)
+ended_one old new transaction outstanding ended at number is tells = (
+  record {
+    was = record { outstanding = outstanding; at = at; number = number };
+    new_is = is;
+    fewer = ap (λ (t : TrackedValue). count_by is_covered t.outstanding + cond outstanding.covered 1 0) is ∙ one_less old.outstanding transaction.slot outstanding at;
+  },
+  tells,
+)

@@ -1,12 +1,12 @@
 -- The free slots as transactions begin and end.
-use Rattle.std.proofs.Common.{◌≡◌, ◌≤◌, ◌<◌, ◌+◌, ◌^◌, ℕ, true, false, cond, List, [], ◌∷◌, length, map, Option, Some, None, refl, sym, ap, subst, ◌∙◌, arith, ⊎_elim}
+use Rattle.std.proofs.Common.{◌≡◌, ◌≤◌, ◌<◌, ◌+◌, ◌^◌, ℕ, zero, suc, true, false, cond, List, [], ◌∷◌, ◌++◌, drop, length, map, Option, Some, None, refl, sym, ap, subst, ◌∙◌, arith, ⊎_elim}
 use Rattle.std.specs.Prelude.{slice_get, slice_set, count_by, replicate}
 use Rattle.std.proofs.lemmas.Option.{slice_get_within}
 use Rattle.std.proofs.lemmas.List.{length-map, length-replicate}
 use Rattle.std.proofs.lemmas.List.Sums.{sum_by-cons, count_by-le-length}
 use Rattle.cmdcodec.specs.declared.command.Command.{Command}
 use Rattle.transactions.specs.declared.outstanding.OutstandingTransaction.{OutstandingTransaction}
-use Rattle.transactions.specs.Outstanding.{Slots, cover, is_outstanding, is_covered}
+use Rattle.transactions.specs.Outstanding.{Slots, cover, is_outstanding, is_covered, IsEmptyAt}
 use Rattle.transactions.specs.FreeSlots.{AreFree, AreOutstanding, AreOwnPlaces, HasBlocks}
 use Rattle.caches.specs.Blocks.{IsBlock}
 use Rattle.transactions.proofs.Lists.{get_set, get_copies, count_set, count_copies, counted, set_at, set_same, set_other, set_length, in_copies, get_map, map_at}
@@ -230,3 +230,23 @@ kept_covered slots free count covered now command are blocks now_is = record {
   covered_is = now_is;
   free_are = still_free slots free count are.free_are command;
 }
+
+-- ---- slot after slot is freed
+
+abbrev cleared : ℕ → Slots → Slots
+cleared k slots = replicate k None ++ drop k slots
+
+pub one_cleared : (slots : Slots) (k : ℕ) → k < length slots → slice_set (cleared k slots) k None ≡ cleared (suc k) slots
+one_cleared [] k below = absurd (omega (arith, below))
+one_cleared (x ∷ slots) zero below = refl
+one_cleared (x ∷ slots) (suc k) below = ap (λ (l : Slots). None ∷ l) (one_cleared slots k (omega (arith, below)))
+
+pub was_clear : (slots : Slots) (k : ℕ) → k < length slots → IsEmptyAt (cleared k slots) k → cleared k slots ≡ cleared (suc k) slots
+was_clear [] k below none = absurd (omega (arith, below))
+was_clear (None ∷ slots) zero below none = refl
+was_clear (Some o ∷ slots) zero below none = absurd (none o refl)
+was_clear (x ∷ slots) (suc k) below none = ap (λ (l : Slots). None ∷ l) (was_clear slots k (omega (arith, below)) none)
+
+pub all_cleared : (slots : Slots) → cleared (length slots) slots ≡ replicate (length slots) None
+all_cleared [] = refl
+all_cleared (x ∷ slots) = ap (λ (l : Slots). None ∷ l) (all_cleared slots)

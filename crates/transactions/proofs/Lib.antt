@@ -11,3 +11,4 @@ pub mod Together
 pub mod Ahead
 pub mod Unstopped
 pub mod TrackedRuns
+pub mod Queued

@@ -16,9 +16,13 @@ is_invalidation (Kept words) = false
 is_invalidation (CmdSync cs msh attr «data» address) = false
 is_invalidation other = true
 
--- the same of a command that was taken, by its opcode; one that was replaced covers nothing
+-- the same of legal words, by their opcode
+abbrev pub invalidates : Raw → Bool
+invalidates raw = not (is_sync raw || is_kept (opcode_of raw))
+
+-- the same of a command that was taken; one that was replaced covers nothing
 abbrev pub was_invalidation : Taken → Bool
-was_invalidation t = is_applied t.outcome && not (is_sync t.raw || is_kept (opcode_of t.raw))
+was_invalidation t = is_applied t.outcome && invalidates t.raw
 
 -- The words spell a command that covers the tag.
 pub record WordsCover (raw : Raw) (tag : Tag) : Type 0 where

@@ -11,4 +11,5 @@ pub mod TrackedVerdicts
 pub mod Together
 pub mod TrackedRuns
 pub mod Told
+pub mod TrackedQueueUnits
 pub mod Between

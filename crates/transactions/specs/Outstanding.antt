@@ -1,6 +1,6 @@
 -- Transactions that are outstanding, each in a slot.
 use Rattle.std.specs.Prelude.{◌≡◌, ◌≤◌, ◌<◌, ℕ, Bool, true, false, ◌||◌, List, length}
-use Rattle.std.specs.Prelude.{Option, Some, None, map, slice_get}
+use Rattle.std.specs.Prelude.{Option, Some, None, map, slice_get, count_by}
 use Rattle.cmdcodec.specs.declared.command.Command.{Command}
 use Rattle.cmdcodec.specs.Opcodes.{is_sync}
 use Rattle.engine.specs.declared.verdict.Verdict.{Verdict}
@@ -11,6 +11,7 @@ use Rattle.caches.specs.Blocks.{IsBlock}
 use Rattle.caches.specs.Covers.{covers}
 use Rattle.engine.specs.Settled.{HasCovered}
 use Rattle.transactions.specs.declared.outstanding.OutstandingTransaction.{OutstandingTransaction}
+use Rattle.transactions.specs.declared.transaction.OutstandingCounts.{OutstandingCounts}
 use Rattle.transactions.specs.Since.{HasCoveredSince}
 
 abbrev pub Slots : Type 0
@@ -36,6 +37,11 @@ is_outstanding (Some o) = true
 abbrev pub is_covered : Option OutstandingTransaction → Bool
 is_covered None = false
 is_covered (Some o) = o.covered
+
+-- how many are outstanding, and how many of those are covered
+pub record AreCountsOf (slots : Slots) (counts : OutstandingCounts) : Type 0 where
+  pub outstanding : counts.outstanding ≡ count_by is_outstanding slots
+  pub covered : counts.covered ≡ count_by is_covered slots
 
 abbrev pub IsBlockOf : Option OutstandingTransaction → Type 0
 IsBlockOf None = Unit {0}

@@ -8,6 +8,7 @@ use Rattle.engine.specs.Settled.{HasCovered}
 use Rattle.engine.specs.Counting.{how_many}
 use Rattle.transactions.specs.declared.recent_invalidations.Invalidation.{Invalidation}
 use Rattle.cmdcodec.specs.declared.raw.Raw.{Raw}
+use Rattle.cmdcodec.specs.declared.command.Command.{Command}
 use Rattle.engine.specs.declared.verdict.Verdict.{Verdict}
 use Rattle.engine.specs.declared.verdict.Verdict.TheVariants.{Applied, Stopped, Replaced}
 use Rattle.transactions.specs.Coverage.{is_invalidation, was_invalidation}
@@ -40,9 +41,13 @@ last_invalidations list = keep_last 65 (invalidations 0 list)
 abbrev pub kept_with : List Invalidation → Invalidation → List Invalidation
 kept_with kept new = keep_last 65 (kept ++ new ∷ [])
 
+-- what is kept once a command with these words was applied at this place
+abbrev pub recent_with : ℕ → Raw → Command → List Invalidation → List Invalidation
+recent_with place raw command kept =
+    if is_invalidation command then kept_with kept (record { place = place; raw = raw }) else kept
+
 -- what is kept after a verdict on the command at this place
 abbrev pub recent_after : ℕ → Raw → Verdict → List Invalidation → List Invalidation
-recent_after place raw (Applied command removed) kept =
-    if is_invalidation command then kept_with kept (record { place = place; raw = raw }) else kept
+recent_after place raw (Applied command removed) kept = recent_with place raw command kept
 recent_after place raw (Stopped ill) kept = kept
 recent_after place raw (Replaced ill) kept = kept

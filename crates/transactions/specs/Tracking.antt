@@ -1,5 +1,5 @@
 -- The tracked unit as contracts see it, and what it knows of the commands taken.
-use Rattle.std.specs.Prelude.{◌≡◌, ◌+◌, ◌%◌, ℕ, List, [], ◌++◌, length, None, replicate}
+use Rattle.std.specs.Prelude.{◌≡◌, ◌<◌, ◌+◌, ◌%◌, ◌^◌, ℕ, List, [], ◌++◌, length, None, replicate}
 use Rattle.ringcore.specs.world.World.{Taken}
 use Rattle.engine.specs.Settled.{IsSettled}
 use Rattle.engine.specs.Counting.{taken}
@@ -19,6 +19,20 @@ pub record TrackedValue : Type 0 where
   pub recent : List Invalidation
   pub outstanding : Slots
   pub next_number : ℕ
+
+-- what is known beside the unit
+pub record TrackingValue : Type 0 where
+  pub recent : List Invalidation
+  pub outstanding : Slots
+  pub next_number : ℕ
+
+abbrev pub tracked_with : UnitValue → TrackingValue → TrackedValue
+tracked_with unit tracking = record {
+  unit = unit;
+  recent = tracking.recent;
+  outstanding = tracking.outstanding;
+  next_number = tracking.next_number;
+}
 
 -- The unit has taken exactly these: it counts as many, its entries are settled for them, it keeps
 -- their last invalidations, it knows which outstanding transactions they cover, and none of those
@@ -43,6 +57,14 @@ new_tracked caches room = record {
   next_number = 1;
 }
 
+-- nothing is known yet, and there is room for so many transactions
+abbrev pub new_tracking : ℕ → TrackingValue
+new_tracking room = record { recent = []; outstanding = replicate room None; next_number = 1 }
+
+-- the same once all is forgotten that was taken, and every slot is free
+abbrev pub reset_tracking : TrackingValue → TrackingValue
+reset_tracking t = record t { recent = []; outstanding = replicate (length t.outstanding) None }
+
 abbrev pub with_unit : UnitValue → TrackedValue → TrackedValue
 with_unit unit t = record t { unit = unit }
 
@@ -61,5 +83,8 @@ with_acknowledged remedy t =
     with_unit (record t.unit { stop = told remedy t.unit.stop }) t
 
 -- numbers of transactions are 1 to 2^48 - 1, and then begin again
+abbrev pub IsNumber : ℕ → Type 0
+IsNumber number = (0 < number) × (number < 2 ^ 48)
+
 abbrev pub number_after : ℕ → ℕ
 number_after number = number % 281474976710655 + 1

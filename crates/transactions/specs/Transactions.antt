@@ -1,6 +1,7 @@
 -- Transactions begin with an entry and end.
-use Rattle.std.specs.Prelude.{◌≡◌, ◌≤◌, ◌+◌, ◌⊎◌, ℕ, false, cond, count_by, List, length}
-use Rattle.std.specs.Prelude.{Some, None, Result, Ok, Err, ⊤, slice_get, slice_set}
+use Rattle.std.specs.Prelude.{◌≡◌, ◌≤◌, ◌<◌, ◌+◌, ◌*◌, ◌/◌, ◌%◌, ◌^◌, ◌⊎◌, ◌↔◌, ℕ, true, false}
+use Rattle.std.specs.Prelude.{cond, count_by, List}
+use Rattle.std.specs.Prelude.{Some, None, Result, Ok, Err, length, slice_get, slice_set}
 use Rattle.std.specs.FinMap as finite
 use Rattle.ringcore.specs.world.World.{Taken}
 use Rattle.caches.specs.declared.tag.Tag.{Tag}
@@ -10,6 +11,8 @@ use Rattle.caches.specs.Blocks.{IsBlock}
 use Rattle.transactions.specs.declared.outstanding.OutstandingTransaction.{OutstandingTransaction}
 use Rattle.transactions.specs.declared.transaction.BeginFault.{BeginFault}
 use Rattle.transactions.specs.declared.transaction.BeginFault.TheVariants.{NotHeld, Full, Walked}
+use Rattle.transactions.specs.declared.transaction.Ended.{Ended}
+use Rattle.transactions.specs.declared.transaction.Ended.TheVariants.{LastCovered}
 use Rattle.transactions.specs.declared.walk.WalkFault.{WalkFault}
 use Rattle.transactions.specs.declared.walk.WalkFault.TheVariants.{Overtaken, TooOld}
 use Rattle.transactions.specs.declared.walk.WalkFault.TheVariants.{OtherUnit, Refused}
@@ -22,6 +25,18 @@ use Rattle.transactions.specs.Tracking.{TrackedValue, IsTracked, number_after}
 pub record TransactionValue : Type 0 where
   pub slot : ℕ
   pub number : ℕ
+
+-- a word of 64 bits that keeps it: the number in the upper 48 bits, the slot in the lower 16
+abbrev pub bits_of : TransactionValue → ℕ
+bits_of t = t.number * 65536 + t.slot
+
+-- the transaction in a word
+abbrev pub transaction_of : ℕ → TransactionValue
+transaction_of bits = record { slot = bits % 65536; number = bits / 65536 }
+
+-- so that they fit there
+abbrev pub FitsBits : ℕ → ℕ → Type 0
+FitsBits slot number = (slot < 2 ^ 16) × (number < 2 ^ 48)
 
 -- It is the one that is outstanding in its slot.
 pub record IsOutstandingIn (slots : Slots) (transaction : TransactionValue) : Type 0 where
@@ -96,9 +111,16 @@ pub record IsEnded (old : TrackedValue) (token : TransactionValue)
       count_by is_covered new.outstanding + cond was.outstanding.covered 1 0
       ≡ count_by is_covered old.outstanding
 
--- It ended; or the token isn't of a transaction that is outstanding here, and is given back.
+-- It was covered, and none that is outstanding now is.
+abbrev pub WasLastCovered : OutstandingTransaction → Slots → Type 0
+WasLastCovered was now = (was.covered ≡ true) × (count_by is_covered now ≡ 0)
+
+-- It ended, and the answer tells whether it was the last covered one; or the token isn't of a
+-- transaction that is outstanding here, and is given back.
 abbrev pub IsEndAnswer :
-    TrackedValue → TransactionValue → TrackedValue → Result ⊤ TransactionValue → Type 0
-IsEndAnswer old token new (Ok done) = IsEnded old token new
+    TrackedValue → TransactionValue → TrackedValue → Result Ended TransactionValue → Type 0
+IsEndAnswer old token new (Ok ended) =
+    (done : IsEnded old token new)
+    × ((ended ≡ LastCovered) ↔ WasLastCovered done.was.outstanding new.outstanding)
 IsEndAnswer old token new (Err back) =
     ¬ IsOutstandingIn old.outstanding token × (back ≡ token) × (new ≡ old)

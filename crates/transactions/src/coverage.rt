@@ -1,17 +1,29 @@
 //! Which commands are invalidations, and which words cover a tag.
-ghost use Rattle.std.specs.Prelude.{◌≡◌, IsTrue, ◌↔◌};
+ghost use Rattle.std.specs.Prelude.{◌≡◌, IsTrue, ◌↔◌, None};
+ghost use Rattle.cmdcodec.specs.Legality.{first_ill};
 ghost use Rattle.caches.specs.Blocks.{IsBlock};
-ghost use Rattle.transactions.specs.Coverage.{is_invalidation, WordsCover};
+ghost use Rattle.transactions.specs.Coverage.{invalidates, WordsCover};
 
 use caches::{Tag, covers};
-use cmdcodec::{Command, Raw, decode};
+use cmdcodec::{Opcode, Raw, decode};
 
-/// Whether a command is an invalidation: all are but CMD_SYNC and those whose fields nothing here
-/// reads.
-pub(crate) fn is_invalidation(command: &Command) -> bool
-    ensures { result ≡ is_invalidation command.now }
+/// Whether legal words are an invalidation: all are but CMD_SYNC and those whose fields nothing
+/// here reads. They aren't decoded.
+pub(crate) fn is_invalidation(raw: Raw) -> bool
+    requires { first_ill raw ≡ None }
+    ensures { result ≡ invalidates raw }
 {
-    !matches!(command, Command::Kept(_) | Command::CmdSync { .. })
+    !matches!(
+        raw.opcode(),
+        Some(
+            Opcode::PrefetchConfig
+                | Opcode::PrefetchAddr
+                | Opcode::PriResp
+                | Opcode::Resume
+                | Opcode::StallTerm
+                | Opcode::CmdSync
+        )
+    )
 }
 
 /// Whether the words spell a command that covers the tag.

@@ -1,17 +1,19 @@
 //! The transactions that are outstanding.
 ghost use Rattle.std.specs.Prelude.{◌≡◌, ◌<◌, ◌≤◌, ◌^◌, List, length, map, replicate, count_by};
-ghost use Rattle.std.specs.Prelude.{slice_get, slice_set, Some, None, IfOk, IsTrue, ◌↔◌, false};
+ghost use Rattle.std.specs.Prelude.{slice_get, slice_set, Some, None, false};
+ghost use Rattle.std.specs.Prelude.{IfOk, IfSome, IsTrue, ◌↔◌};
 ghost use Rattle.std.specs.Option.{MatchOption};
+ghost use Rattle.cmdcodec.specs.declared.command.Command.{Command as CommandOf};
+ghost use Rattle.cmdcodec.specs.Spelling.{Spells};
 ghost use Rattle.caches.specs.Blocks.{IsBlock};
 ghost use Rattle.transactions.specs.Between.{IsInsertAnswer};
 ghost use Rattle.transactions.specs.FreeSlots.{AreOwnPlaces, HasBlocks};
-ghost use Rattle.transactions.specs.Outstanding.{covered_by, cover, is_covered, IsBlockOf};
-ghost use Rattle.transactions.specs.Outstanding.{IsAt, IsEmptyAt};
+ghost use Rattle.transactions.specs.Outstanding.{cover, is_covered, IsBlockOf};
+ghost use Rattle.transactions.specs.Outstanding.{IsAt, IsEmptyAt, AreCountsOf};
 
-use crate::coverage::is_invalidation;
+use crate::transaction::OutstandingCounts;
 use caches::{Tag, covers};
-use cmdcodec::Command;
-use engine::Verdict;
+use cmdcodec::{Command, Raw, decode};
 use std::alloc::{AllocError, Global};
 use std::marker::Model;
 
@@ -65,17 +67,28 @@ impl OutstandingTransactions {
         })
     }
 
-    /// A command was judged so: if it was applied, those are covered from now on whose tag it
-    /// covers.
-    pub(crate) fn cover(&mut self, verdict: &Verdict)
-        ensures { self.new ≡ covered_by verdict.now self.old }
+    /// A command with these words was applied: those are covered from now on whose tag it covers.
+    /// The words are decoded only if one is outstanding.
+    pub(crate) fn cover(&mut self, raw: Raw)
+        ensures { (command : CommandOf) → Spells raw command
+            → self.new ≡ map (cover command) self.old }
     {
-        match verdict {
-            Verdict::Applied { command, .. } if self.count > 0 && is_invalidation(command) => {
-                cover_all(command, &mut self.slots);
-                self.covered = count_covered(&self.slots);
-            }
-            _ => {}
+        if self.count == 0 {
+            return;
+        }
+        if let Ok(command) = decode(raw) {
+            cover_all(&command, &mut self.slots);
+            self.covered = count_covered(&self.slots);
+        }
+    }
+
+    /// How many are outstanding, and how many of them are covered.
+    pub(crate) fn counts(&self) -> OutstandingCounts
+        ensures { AreCountsOf self.now result }
+    {
+        OutstandingCounts {
+            outstanding: self.count as u32,
+            covered: self.covered,
         }
     }
 
@@ -101,7 +114,8 @@ impl OutstandingTransactions {
     pub(crate) fn insert(&mut self, transaction: OutstandingTransaction) -> Option<usize>
         requires block { IsBlock transaction.tag }
         requires uncovered { transaction.covered ≡ false }
-        ensures { IsInsertAnswer self.old transaction self.new result }
+        ensures inserted { IsInsertAnswer self.old transaction self.new result }
+        ensures few { IfSome result (λ slot. slot < 2 ^ 16) }
     {
         if self.count >= self.free.len() {
             return None;
@@ -110,6 +124,24 @@ impl OutstandingTransactions {
         self.slots[slot] = Some(transaction);
         self.count += 1;
         Some(slot)
+    }
+
+    /// How many slots there are.
+    fn room(&self) -> usize
+        ensures { result ≡ length self.now }
+    {
+        self.slots.len()
+    }
+
+    /// Frees every slot.
+    pub(crate) fn clear(&mut self)
+        ensures { self.new ≡ replicate (length self.old) None }
+    {
+        for slot in 0..self.room() {
+            if let Some(outstanding) = self.get(slot) {
+                self.remove(slot, outstanding);
+            }
+        }
     }
 
     /// Frees the slot of one that is outstanding.

@@ -2,13 +2,12 @@
 ghost use Rattle.std.specs.Prelude.{◌≡◌, ◌<◌, IsTrue, ◌↔◌, [], ◌∷◌, ◌++◌, IfOk, length};
 ghost use Rattle.caches.specs.Blocks.{IsBlock};
 ghost use Rattle.transactions.specs.RecentInvalidations.{IsBeforeOldest, HasCovering};
-ghost use Rattle.transactions.specs.Since.{recent_after};
+ghost use Rattle.transactions.specs.Since.{kept_with};
 
-use crate::coverage::{is_invalidation, words_cover};
+use crate::coverage::words_cover;
 use caches::Tag;
 use circular_buffer::HeapCircularBuffer;
 use cmdcodec::Raw;
-use engine::Verdict;
 use std::alloc::{AllocError, Global};
 use std::marker::Model;
 
@@ -48,16 +47,18 @@ impl RecentInvalidations {
         Ok(RecentInvalidations { kept })
     }
 
-    /// Keeps the words at a place if they were an invalidation and it was applied.
-    pub(crate) fn note(&mut self, place: u64, raw: Raw, verdict: &Verdict)
-        ensures { self.new ≡ recent_after place raw verdict.now self.old }
+    /// Keeps an invalidation that was taken, in place of the oldest if there is no more room.
+    pub(crate) fn keep(&mut self, invalidation: Invalidation)
+        ensures { self.new ≡ kept_with self.old invalidation }
     {
-        match verdict {
-            Verdict::Applied { command, .. } if is_invalidation(command) => {
-                let _oldest = self.kept.push_back(Invalidation { place, raw });
-            }
-            _ => {}
-        }
+        let _oldest = self.kept.push_back(invalidation);
+    }
+
+    /// Forgets all.
+    pub(crate) fn clear(&mut self)
+        ensures { self.new ≡ [] }
+    {
+        self.kept.clear();
     }
 
     /// Whether more than 64 were taken since so many commands were.

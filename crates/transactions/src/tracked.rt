@@ -14,9 +14,8 @@ ghost use Rattle.caches.specs.declared.fault.CacheFault.{CacheFault as CacheFaul
 ghost use Rattle.engine.specs.Stops.{IsStopped, MayComeNext, IsAcknowledgementAnswer};
 ghost use Rattle.engine.specs.Counting.{taken};
 ghost use Rattle.engine.specs.Units.{HasJudged, took};
-ghost use Rattle.transactions.specs.Between.{IsWaitAnswer, TakesTracked, IsApplyAnswer};
-ghost use Rattle.transactions.specs.Between.{IsRefusal, IsBegunIfRoom};
-ghost use Rattle.transactions.specs.Outstanding.{covered_by};
+ghost use Rattle.transactions.specs.Between.{TakesTracked, IsApplyAnswer};
+ghost use Rattle.transactions.specs.Outstanding.{covered_by, AreCountsOf};
 ghost use Rattle.transactions.specs.Completed.{IsCompletedAt, IsComplete};
 ghost use Rattle.transactions.specs.TrackedVerdicts.{IsTrackedVerdict, WaitsExactly, took_by};
 ghost use Rattle.transactions.specs.Tracking.{IsTracked, StaysTracked, new_tracked};
@@ -25,10 +24,9 @@ ghost use Rattle.transactions.specs.Together.{StaysTogether, IsTogetherFromNothi
 ghost use Rattle.transactions.specs.Transactions.{IsBeginAnswer, IsBeginWalkedAnswer, IsEndAnswer};
 ghost use Rattle.transactions.specs.Walks.{AnswersWalk, with_walked};
 
-use crate::outstanding::{OutstandingTransaction, OutstandingTransactions};
-use crate::recent_invalidations::RecentInvalidations;
 use crate::tracked_verdict::TrackedVerdict;
-use crate::transaction::{BeginFault, Transaction, number_after};
+use crate::tracking::Tracking;
+use crate::transaction::{BeginFault, Ended, OutstandingCounts, Transaction};
 use crate::walk::{Walk, WalkFault};
 use caches::{CacheFault, Caches, Entry, Tag};
 use cmdcodec::{Raw, first_ill};
@@ -43,9 +41,7 @@ use std::marker::Model;
 #[derive(Drop)]
 pub struct TrackedUnit {
     unit: Unit,
-    recent: RecentInvalidations,
-    outstanding: OutstandingTransactions,
-    next_number: u64,
+    tracking: Tracking,
 }
 
 impl Model for TrackedUnit {
@@ -59,9 +55,9 @@ impl Model for TrackedUnit {
 
     ghost view = { λ t. record {
       unit = t.unit;
-      recent = t.recent;
-      outstanding = t.outstanding;
-      next_number = t.next_number;
+      recent = t.tracking.recent;
+      outstanding = t.tracking.outstanding;
+      next_number = t.tracking.next_number;
     } };
 }
 
@@ -93,15 +89,9 @@ impl TrackedUnit {
         ensures tracked { IfOk result (λ t. IsTracked t []) }
         ensures together { IfOk result (λ t. IsTogetherFromNothing t) }
     {
-        let recent = RecentInvalidations::new(alloc)?;
-        let outstanding = OutstandingTransactions::new(alloc, room)?;
+        let tracking = Tracking::new(alloc, room)?;
         let unit = Unit::new(caches);
-        Ok(TrackedUnit {
-            unit,
-            recent,
-            outstanding,
-            next_number: 1,
-        })
+        Ok(TrackedUnit { unit, tracking })
     }
 
     /// Applies a legal command; stops at an illegal one, or takes it without effect if told to
@@ -116,24 +106,10 @@ impl TrackedUnit {
         ensures waits { WaitsExactly raw self.old result }
         ensures tracked { StaysTracked self.old self.new (took_by raw result) }
     {
-        if let Some(transactions) = self.has_to_wait(raw) {
+        if let Some(transactions) = self.tracking.has_to_wait(raw) {
             return TrackedVerdict::Waiting { transactions };
         }
         TrackedVerdict::Judged(self.take(raw))
-    }
-
-    /// How many transactions a command has to wait for, if it has to.
-    fn has_to_wait(&self, raw: Raw) -> Option<u32>
-        ensures { IsWaitAnswer raw self.now.outstanding result }
-    {
-        if !raw.is_sync() || first_ill(raw).is_some() {
-            return None;
-        }
-        let transactions = self.outstanding.covered();
-        if transactions == 0 {
-            return None;
-        }
-        Some(transactions)
     }
 
     /// Judges a command that needn't wait.
@@ -147,10 +123,13 @@ impl TrackedUnit {
         ensures tracked { TakesTracked raw self.old self.new (took raw result) }
     {
         let place = self.unit.counts().taken();
-        let verdict = self.unit.judge(raw);
-        self.recent.note(place, raw, &verdict);
-        self.outstanding.cover(&verdict);
-        verdict
+        match self.unit.judge(raw) {
+            Verdict::Applied { command, removed } => {
+                self.tracking.note(place, raw);
+                Verdict::Applied { command, removed }
+            }
+            other => other,
+        }
     }
 
     /// Applies a command that is legal and needn't wait, and returns how many entries it removed.
@@ -164,7 +143,7 @@ impl TrackedUnit {
         if first_ill(raw).is_some() {
             return None;
         }
-        if self.has_to_wait(raw).is_some() {
+        if self.tracking.has_to_wait(raw).is_some() {
             return None;
         }
         match self.take(raw) {
@@ -201,33 +180,8 @@ impl TrackedUnit {
         ensures tracked { StaysTracked self.old self.new [] }
         ensures together { StaysTogether self.old self.new }
     {
-        if let Some(fault) = self.refusal(walk, &tag) {
-            return Err(fault);
-        }
-        let born = walk.began;
-        match self.unit.fill_born(Entry { tag, value, born }) {
-            Ok(was) => Ok(was),
-            Err(fault) => Err(WalkFault::Refused(fault)),
-        }
-    }
-
-    /// Why what the walk read can't be used, if the caches needn't be asked for that.
-    fn refusal(&self, walk: Walk, tag: &Tag) -> Option<WalkFault>
-        ensures { IsRefusal self.now walk tag.now result }
-    {
-        if !tag.is_block() {
-            return None;
-        }
-        if walk.began > self.unit.counts().taken() {
-            return Some(WalkFault::OtherUnit);
-        }
-        if self.recent.is_before_oldest(walk.began) {
-            return Some(WalkFault::TooOld);
-        }
-        if self.recent.has_covering(walk.began, tag) {
-            return Some(WalkFault::Overtaken);
-        }
-        None
+        self.tracking
+            .fill_walked(&mut self.unit, walk.began, tag, value)
     }
 
     /// A transaction begins with the entry that is held under a tag. Its token is to be given to
@@ -240,16 +194,7 @@ impl TrackedUnit {
         ensures tracked { StaysTracked self.old self.new [] }
         ensures together { StaysTogether self.old self.new }
     {
-        if !tag.is_block() {
-            return Err(BeginFault::NotHeld);
-        }
-        let Some(entry) = self.unit.lookup(tag) else {
-            return Err(BeginFault::NotHeld);
-        };
-        match self.begin_with(*tag, entry.born) {
-            Some(transaction) => Ok((entry, transaction)),
-            None => Err(BeginFault::Full),
-        }
+        self.tracking.begin(&self.unit, tag)
     }
 
     /// A transaction begins with what a walk read, whether that is held or not: as with an entry
@@ -263,52 +208,25 @@ impl TrackedUnit {
         ensures tracked { StaysTracked self.old self.new [] }
         ensures together { StaysTogether self.old self.new }
     {
-        if !tag.is_block() {
-            let fault = WalkFault::Refused(CacheFault::BadBlock);
-            return Err(BeginFault::Walked(fault));
-        }
-        if let Some(fault) = self.refusal(walk, tag) {
-            return Err(BeginFault::Walked(fault));
-        }
-        match self.begin_with(*tag, walk.began) {
-            Some(transaction) => Ok(transaction),
-            None => Err(BeginFault::Full),
-        }
+        self.tracking.begin_walked(&self.unit, walk.began, tag)
     }
 
-    /// A transaction begins with an entry of this tag, if a slot is free.
-    fn begin_with(&mut self, tag: Tag, born: u64) -> Option<Transaction>
-        requires block { IsBlock tag }
-        ensures { IsBegunIfRoom self.old tag born self.new result }
-    {
-        let number = self.next_number;
-        let transaction = OutstandingTransaction {
-            number,
-            tag,
-            born,
-            covered: false,
-        };
-        let slot = self.outstanding.insert(transaction)?;
-        self.next_number = number_after(number);
-        Some(Transaction { slot, number })
-    }
-
-    /// A transaction is over.
+    /// A transaction is over. Returns whether it was the last that a CMD_SYNC waits for.
     ///
     /// Errors, changing nothing: the token, if it isn't of a transaction that is outstanding here.
-    pub fn end(&mut self, transaction: Transaction) -> Result<(), Transaction>
+    pub fn end(&mut self, transaction: Transaction) -> Result<Ended, Transaction>
         ensures ended { IsEndAnswer self.old transaction self.new result }
         ensures tracked { StaysTracked self.old self.new [] }
         ensures together { StaysTogether self.old self.new }
     {
-        match self.outstanding.get(transaction.slot) {
-            Some(outstanding) if outstanding.number == transaction.number => {
-                let Transaction { slot, number: _ } = transaction;
-                self.outstanding.remove(slot, outstanding);
-                Ok(())
-            }
-            _ => Err(transaction),
-        }
+        self.tracking.end(transaction)
+    }
+
+    /// How many transactions are outstanding.
+    pub fn outstanding(&self) -> OutstandingCounts
+        ensures { AreCountsOf self.now.outstanding result }
+    {
+        self.tracking.counts()
     }
 
     /// Fills an entry that is read and born now, as `Unit::fill` does.

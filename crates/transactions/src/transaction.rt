@@ -1,6 +1,7 @@
 //! Transactions that began with an entry.
-ghost use Rattle.std.specs.Prelude.{◌≡◌};
-ghost use Rattle.transactions.specs.Tracking.{number_after};
+ghost use Rattle.std.specs.Prelude.{◌≡◌, ◌↔◌, true};
+ghost use Rattle.transactions.specs.Tracking.{number_after, IsNumber};
+ghost use Rattle.transactions.specs.Transactions.{bits_of, transaction_of};
 
 use crate::walk::WalkFault;
 use std::marker::Model;
@@ -10,6 +11,9 @@ use thiserror::Error;
 /// project's choice.
 const LAST_NUMBER: u64 = 281_474_976_710_655;
 
+/// How many slots there may be: a slot's number has 16 bits.
+const SLOTS: u64 = 65_536;
+
 /// A transaction that was translated with an entry of a unit, and hasn't ended: it is to be given
 /// to `TrackedUnit::end` when it has. The compiler lets nobody drop it.
 pub struct Transaction {
@@ -18,11 +22,68 @@ pub struct Transaction {
 }
 
 impl Model for Transaction {
-    ghost use Rattle.transactions.specs.Transactions.{TransactionValue};
+    ghost use Rattle.transactions.specs.Transactions.{TransactionValue, FitsBits};
 
     ghost Value = { TransactionValue };
 
     ghost view = { λ t. record { slot = t.slot; number = t.number } };
+
+    ghost invariant = { λ t. FitsBits t.slot t.number };
+}
+
+impl Transaction {
+    /// Its number in the upper 48 bits and its slot in the lower 16, for whoever keeps it in a
+    /// word. It isn't over by that.
+    pub fn into_bits(self) -> u64
+        ensures bits { result ≡ bits_of self }
+        ensures back { transaction_of result ≡ self }
+    {
+        let Transaction { slot, number } = self;
+        number * SLOTS + slot as u64
+    }
+
+    /// The transaction of a word. One that no transaction had is its caller's claim: `end` gives it
+    /// back if it isn't of one that is outstanding.
+    pub fn from_bits(bits: u64) -> Transaction
+        ensures { result ≡ transaction_of bits }
+    {
+        Transaction {
+            slot: (bits % SLOTS) as usize,
+            number: bits / SLOTS,
+        }
+    }
+}
+
+/// What the end of a transaction means for a CMD_SYNC that waits.
+#[derive(Clone, Copy, Debug, PartialEq, Eq)]
+pub enum Ended {
+    /// It was covered, and no other is: a CMD_SYNC that waited needn't any more. Look at the queue
+    /// again.
+    LastCovered,
+    /// It wasn't covered, or others are: a CMD_SYNC that waited waits still.
+    Other,
+}
+
+impl Ended {
+    /// By whether the one that ended was covered, and how many are covered now.
+    pub(crate) fn of(covered: bool, left: u32) -> Ended
+        ensures { (result ≡ Ended.LastCovered) ↔ ((covered ≡ true) × (left ≡ 0)) }
+    {
+        if covered && left == 0 {
+            Ended::LastCovered
+        } else {
+            Ended::Other
+        }
+    }
+}
+
+/// How many transactions are outstanding.
+#[derive(Clone, Copy, Debug, PartialEq, Eq)]
+pub struct OutstandingCounts {
+    /// All that are.
+    pub outstanding: u32,
+    /// Those of them that a CMD_SYNC waits for.
+    pub covered: u32,
 }
 
 /// Why a transaction can't begin. Nothing changes.
@@ -41,7 +102,8 @@ pub enum BeginFault {
 
 /// The number of the transaction after this one: 1 to 2^48 - 1, and then from 1 again.
 pub(crate) fn number_after(number: u64) -> u64
-    ensures { result ≡ number_after number }
+    ensures next { result ≡ number_after number }
+    ensures number { IsNumber result }
 {
     number % LAST_NUMBER + 1
 }

@@ -1,4 +1,6 @@
 //! Translation table walks.
+ghost use Rattle.std.specs.Prelude.{◌≡◌};
+
 use caches::CacheFault;
 use std::marker::Model;
 use thiserror::Error;
@@ -18,6 +20,22 @@ impl Model for Walk {
     ghost view = { λ w. w.began };
 
     ghost inverse = { λ began. record { began = began } };
+}
+
+impl Walk {
+    /// Its number, for whoever keeps it in a word.
+    pub fn bits(self) -> u64
+        ensures { result ≡ self }
+    {
+        self.began
+    }
+
+    /// The walk of a number. One that nobody made is its caller's claim, and is judged as any.
+    pub fn from_bits(bits: u64) -> Walk
+        ensures { result ≡ bits }
+    {
+        Walk { began: bits }
+    }
 }
 
 /// Why what a walk read isn't used. Nothing changes. Walk again, unless the caches refuse it.

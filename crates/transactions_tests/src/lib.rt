@@ -5,4 +5,6 @@
 #[cfg(test)]
 mod overtaken_tests;
 #[cfg(test)]
+mod queue_tests;
+#[cfg(test)]
 mod ring_tests;

@@ -5,7 +5,9 @@ use engine::Verdict;
 use ringcore::MOST_RESERVED;
 use std::alloc::Global;
 use std::process::Abort;
-use transactions::{BeginFault, TrackedUnit, TrackedVerdict, Transaction, WalkFault};
+use transactions::{
+    BeginFault, Ended, OutstandingCounts, TrackedUnit, TrackedVerdict, Transaction, WalkFault,
+};
 
 /// CMD_CFGI_STE of stream 5 with Leaf 1.
 const STE: Raw = Raw {
@@ -68,9 +70,9 @@ fn begin(rt: &impl Abort, unit: &mut TrackedUnit, tag: &Tag) -> Transaction {
     }
 }
 
-fn end(rt: &impl Abort, unit: &mut TrackedUnit, transaction: Transaction) {
+fn end(rt: &impl Abort, unit: &mut TrackedUnit, transaction: Transaction) -> Ended {
     match unit.end(transaction) {
-        Ok(()) => {}
+        Ok(ended) => ended,
         Err(_back) => panic!(rt; "it isn't outstanding here"),
     }
 }
@@ -153,7 +155,7 @@ fn a_sync_that_waits(rt: HostRuntime) {
         judged(&rt, &mut unit, SYNC),
         TrackedVerdict::Waiting { transactions }
     );
-    end(&rt, &mut unit, first);
+    assert_eq!(rt; end(&rt, &mut unit, first), Ended::Other);
     let transactions = 1;
     assert_eq!(rt;
         judged(&rt, &mut unit, SYNC),
@@ -161,9 +163,17 @@ fn a_sync_that_waits(rt: HostRuntime) {
     );
     // Another command is taken meanwhile, if it comes in place of the CMD_SYNC.
     assert!(rt; is_applied(&judged(&rt, &mut unit, PREFETCH)));
-    end(&rt, &mut unit, second);
+    assert_eq!(rt; end(&rt, &mut unit, second), Ended::LastCovered);
+    let (outstanding, covered) = (1, 0);
+    assert_eq!(rt;
+        unit.outstanding(),
+        OutstandingCounts {
+            outstanding,
+            covered
+        }
+    );
     assert!(rt; is_applied(&judged(&rt, &mut unit, SYNC)));
-    end(&rt, &mut unit, third);
+    assert_eq!(rt; end(&rt, &mut unit, third), Ended::Other);
     assert_eq!(rt; unit.unit().counts().syncs(), 2);
 }
 
@@ -174,10 +184,10 @@ fn a_token_of_another_unit(rt: HostRuntime) {
     assert!(rt; one.fill(tag, 70).is_ok());
     let token = begin(&rt, &mut one, &tag);
     let token = match other.end(token) {
-        Ok(()) => panic!(rt; "nothing is outstanding there"),
+        Ok(_) => panic!(rt; "nothing is outstanding there"),
         Err(token) => token,
     };
-    end(&rt, &mut one, token);
+    assert_eq!(rt; end(&rt, &mut one, token), Ended::Other);
     assert!(rt; is_applied(&judged(&rt, &mut one, STE)));
     let stopped = judged(&rt, &mut one, ILLEGAL_SYNC);
     assert!(rt; matches!(stopped, TrackedVerdict::Judged(Verdict::Stopped(_))));

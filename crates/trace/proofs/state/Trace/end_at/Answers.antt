@@ -19,7 +19,7 @@ pub invariant_of-self : goal.invariant_of-self
 invariant_of-self c =
     let there = subst (λ (t : TraceValue). IsPlaceOf c.args.number t.accesses c.args.place) (sym c.self.view_is) c.requires in
     let can = can_end_removed c.self.inside.unit.outstanding c.self.inside.accesses.items c.args.place there.0 c.remove-transaction.result c.self.invariant there.1.at c.remove-transaction.ensures.value in
-    ended_so c.self.inside.unit c.end.new.self c.remove-transaction.result c.self.inside.accesses.items c.remove-transaction.new.self.items c.args.place c.in-Ok.ensures.ended can c.remove-transaction.ensures.items
+    ended_so c.self.inside.unit c.end.new.self c.remove-transaction.result c.self.inside.accesses.items c.remove-transaction.new.self.items c.args.place c.in-Ok.ensures.ended.0 can c.remove-transaction.ensures.items
 
 pub returns : goal.returns
 returns c taken is =
@@ -36,7 +36,7 @@ returns c taken is =
           place = c.args.place;
           access = c.remove-transaction.result;
           open_at = record { at = subst (λ (a : OpenAccess). slice_get c.self.inside.accesses.items c.args.place ≡ Some a) (sym same) there.1.at; number_is = ap (λ (a : OpenAccess). a.number) same ∙ there.1.number_is };
-          ended = c.in-Ok.ensures.ended;
+          ended = c.in-Ok.ensures.ended.0;
           new_is = λ k. record { unit = c.end.new.self; walks = c.self.inside.walks.items; accesses = c.remove-transaction.ensures.items k; right = c.self.inside.right };
         },
         refl,

@@ -18,9 +18,17 @@ invariant_of-self c =
     let at = slice_get_read c.self.inside.free.items c.len.result c.self.inside.count c.index-slot.result.now (c.len.ensures ∙ c.self.inside.free.ok.0) c.if-self-len.false c.index-slot.ensures in
     kept_begun _ _ _ _ c.self.invariant c.index-slot.result.now c.args.transaction c.requires.block c.requires.uncovered at
 
-pub returns : goal.returns
-returns c =
+pub returns-clause-inserted : goal.returns-clause-inserted
+returns-clause-inserted c =
     let at = slice_get_read c.self.inside.free.items c.len.result c.self.inside.count c.index-slot.result.now (c.len.ensures ∙ c.self.inside.free.ok.0) c.if-self-len.false c.index-slot.ensures in (
       subst (λ (s : Slots). slice_get s c.index-slot.result.now ≡ Some None) c.self.view_is (free_slot _ _ _ _ c.self.invariant c.index-slot.result.now c.args.transaction at),
       ap (λ (s : Slots). slice_set s c.index-slot.result.now (Some c.args.transaction)) c.self.view_is,
     )
+
+below_all : (slot len most : ℕ) → slot < len → len < most → slot < most
+below_all slot len most below few = omega (arith, below, few)
+
+pub returns-clause-few : goal.returns-clause-few
+returns-clause-few c =
+    let at = slice_get_read c.self.inside.free.items c.len.result c.self.inside.count c.index-slot.result.now (c.len.ensures ∙ c.self.inside.free.ok.0) c.if-self-len.false c.index-slot.ensures in
+    below_all _ _ _ (slice_get_within c.self.inside.slots.items c.index-slot.result.now None (free_slot _ _ _ _ c.self.invariant c.index-slot.result.now c.args.transaction at)) c.self.invariant.few

@@ -2,6 +2,7 @@ use Rattle.std.proofs.Common.{◌≡◌, false, Option, None, Some, refl, sym, s
 use Rattle.std.specs.Option.{is_some}
 use Rattle.std.specs.Prelude.{ℕ}
 use Rattle.transactions.specs.Between.{IsWaitAnswer}
+use Rattle.transactions.specs.Tracking.{TrackedValue}
 use Rattle.transactions.proofs.Judged.{needs_no_wait}
 use Rattle.transactions.proofs.tracked.TrackedUnit.apply.Goals as goal
 
@@ -12,7 +13,8 @@ none_found (Some n) is = absurd (cc)
 pub returns : goal.returns
 returns c =
     let free : IsWaitAnswer c.args.raw c.args.self.now.outstanding None =
-    subst (IsWaitAnswer c.args.raw c.args.self.now.outstanding) (none_found c.has_to_wait.result (sym c.is_some-2.ensures ∙ c.if-is_some-2.false)) c.has_to_wait.ensures in (
+    subst (IsWaitAnswer c.args.raw c.args.self.now.outstanding) (none_found c.has_to_wait.result (sym c.is_some-2.ensures ∙ c.if-is_some-2.false))
+    (subst (λ (t : TrackedValue). IsWaitAnswer c.args.raw t.outstanding c.has_to_wait.result) c.self.view_is c.has_to_wait.ensures) in (
       (
         c.in-Applied.command,
         record {

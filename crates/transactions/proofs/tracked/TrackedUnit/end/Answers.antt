@@ -1,25 +1,17 @@
-use Rattle.std.proofs.Common.{ap, sym, subst}
-use Rattle.transactions.specs.Outstanding.{Slots}
-use Rattle.transactions.specs.Tracking.{TrackedValue, IsTracked}
-use Rattle.transactions.specs.Transactions.{TransactionValue, IsEnded}
-use Rattle.transactions.proofs.Covering.{ended_tracked, ended_one}
-use Rattle.transactions.proofs.Together.{stays_together}
+use Rattle.std.proofs.Common.{[], subst}
+use Rattle.transactions.specs.Tracking.{TrackedValue, tracked_with, StaysTracked}
+use Rattle.transactions.specs.Together.{StaysTogether}
+use Rattle.transactions.specs.Transactions.{IsEndAnswer}
 use Rattle.transactions.proofs.tracked.TrackedUnit.end.Goals as goal
 
-pub returns-in-Some-clause-ended : goal.returns-in-Some-clause-ended
-returns-in-Some-clause-ended c =
-    let old : TrackedValue = record { unit = c.self.inside.unit; recent = c.self.inside.recent; outstanding = c.self.inside.outstanding; next_number = c.self.inside.next_number } in
-    let new : TrackedValue = record old { outstanding = c.remove.new.self } in
-    let transaction : TransactionValue = record { slot = c.transaction.inside.slot; number = c.transaction.inside.number } in
-    subst (λ (x : TrackedValue × TransactionValue). IsEnded x.0 x.1 new) (λ k. (c.self.view_is k, c.transaction.view_is k))
-    (ended_one old new transaction c.in-Some.outstanding c.in-Some.ensures c.if-outstanding-transaction.true (ap (λ (s : Slots). record old { outstanding = s }) c.remove.ensures))
+pub returns-clause-ended : goal.returns-clause-ended
+returns-clause-ended c =
+    subst (λ (t : TrackedValue). IsEndAnswer t c.args.transaction (tracked_with c.self.inside.unit c.end.new.self) c.end.result) c.self.view_is (c.end.ensures.ended c.self.inside.unit)
 
-pub returns-in-Some-clause-tracked : goal.returns-in-Some-clause-tracked
-returns-in-Some-clause-tracked c list is =
-    let before = subst (λ (t : TrackedValue). IsTracked t list) (sym c.self.view_is) is in
-    ended_tracked (record { unit = c.self.inside.unit; recent = c.self.inside.recent; outstanding = c.self.inside.outstanding; next_number = c.self.inside.next_number }) list _ c.remove.new.self before c.remove.ensures
+pub returns-clause-tracked : goal.returns-clause-tracked
+returns-clause-tracked c =
+    subst (λ (t : TrackedValue). StaysTracked t (tracked_with c.self.inside.unit c.end.new.self) []) c.self.view_is (c.end.ensures.tracked c.self.inside.unit)
 
-pub returns-in-Some-clause-together : goal.returns-in-Some-clause-together
-returns-in-Some-clause-together c =
-    stays_together c.args.self.now (record { unit = c.self.inside.unit; recent = c.self.inside.recent; outstanding = c.remove.new.self; next_number = c.self.inside.next_number })
-    (returns-in-Some-clause-tracked c) (ap (λ (t : TrackedValue). t.unit.stop.next) c.self.view_is)
+pub returns-clause-together : goal.returns-clause-together
+returns-clause-together c =
+    subst (λ (t : TrackedValue). StaysTogether t (tracked_with c.self.inside.unit c.end.new.self)) c.self.view_is (c.end.ensures.together c.self.inside.unit)
