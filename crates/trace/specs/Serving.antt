@@ -4,11 +4,9 @@ use Rattle.std.specs.List.{remove}
 use Rattle.cmdcodec.specs.declared.raw.Raw.{Raw}
 use Rattle.ringcore.specs.Limits.{most_reserved}
 use Rattle.ringcore.specs.world.World.{Taken}
-use Rattle.caches.specs.declared.fault.CacheFault.{CacheFault}
 use Rattle.caches.specs.declared.fault.CacheFault.TheVariants.{NoMemory}
 use Rattle.caches.specs.declared.tag.Entry.{Entry}
 use Rattle.caches.specs.declared.tag.Tag.{Tag}
-use Rattle.caches.specs.Stored.{IsFillAnswer}
 use Rattle.engine.specs.declared.answer.StepAnswer.TheVariants as step
 use Rattle.engine.specs.declared.verdict.Verdict.TheVariants as verdict
 use Rattle.engine.specs.declared.remedy.AckFault.{AckFault}
@@ -22,7 +20,7 @@ use Rattle.transactions.specs.Outstanding.{HasCoveredOutstanding}
 use Rattle.transactions.specs.Tracking.{IsTracked, with_acknowledged}
 use Rattle.transactions.specs.TrackedVerdicts.{IsLegalSync, IsTrackedVerdict, IsWaiting, took_by}
 use Rattle.transactions.specs.Transactions.{TransactionValue, IsBeginAnswer, IsEnded}
-use Rattle.transactions.specs.Walks.{WalkAnswer, IsWalkAnswer, with_walked}
+use Rattle.transactions.specs.Walks.{WalkAnswer, IsWalkAnswer, IsCachesAnswer, with_walked}
 use Rattle.trace.specs.declared.access.OpenAccess.{OpenAccess}
 use Rattle.trace.specs.declared.log_fault.LogFault.{LogFault}
 use Rattle.trace.specs.declared.log_fault.LogFault.TheVariants.{Memory, NoWalk, AccessOpen, NoAccess, TooManyAccesses, OtherCommand, Wrong}
@@ -46,8 +44,7 @@ pub record IsFill (taken : List Taken) (began : ℕ) (tag : Tag) (value : ℕ)
   pub answer : WalkAnswer
   pub said_is : said ≡ fill_reply answer
   pub by_walk : IsWalkAnswer taken began tag answer
-  pub by_caches : (fault : CacheFault) → answer ≡ Err (RefusedBy fault)
-      → IsFillAnswer old.unit.unit.caches tag (Err fault)
+  pub by_caches : IsCachesAnswer old.unit.unit.caches tag answer
   pub had_memory : answer ≢ Err (RefusedBy NoMemory)
   pub filled : OnOk answer (new ≡ record old { unit = with_walked began tag value old.unit })
   pub kept : OnErr answer (new ≡ old)

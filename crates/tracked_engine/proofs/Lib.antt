@@ -1,2 +1,3 @@
 pub mod Keeping
 pub mod Ending
+pub mod Crossing

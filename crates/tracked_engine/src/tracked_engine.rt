@@ -1,9 +1,8 @@
 //! The tracked engine: a tracked unit with the consumer of a ring.
 ghost use Rattle.std.specs.Prelude.{◌≡◌, ◌≤◌, ◌↔◌, [], length};
-ghost use Rattle.std.specs.Prelude.{IfOk, IfSome, IsTrue, OnOk, OnErr, Err};
+ghost use Rattle.std.specs.Prelude.{IfSome, IsTrue, OnOk, OnErr};
 ghost use Rattle.std.specs.FinMap as finite;
 ghost use Rattle.caches.specs.Stored.{IsFillAnswer};
-ghost use Rattle.caches.specs.declared.fault.CacheFault.{CacheFault as CacheFaultOf};
 ghost use Rattle.ring.specs.Runs.{raws_by};
 ghost use Rattle.ring.specs.Finishing.{AreAll};
 ghost use Rattle.engine.specs.Completions.{AreToCells};
@@ -12,7 +11,7 @@ ghost use Rattle.engine.specs.Counting.{taken};
 ghost use Rattle.transactions.specs.Tracking.{with_filled, with_evicted, with_acknowledged};
 ghost use Rattle.transactions.specs.Outstanding.{AreCountsOf};
 ghost use Rattle.transactions.specs.Transactions.{IsBeginAnswer, IsBeginWalkedAnswer, IsEndAnswer};
-ghost use Rattle.transactions.specs.Walks.{AnswersWalk, with_walked};
+ghost use Rattle.transactions.specs.Walks.{AnswersWalk, IsCachesAnswer, with_walked};
 ghost use Rattle.transactions.specs.Together.{AreTracked, HasGrown};
 ghost use Rattle.transactions.specs.Told.{WasToldAllFully, HasConsumerSteps, HasSenderSteps};
 ghost use Rattle.transactions.specs.Told.{SenderWentOn};
@@ -321,9 +320,7 @@ impl TrackedEngine {
         value: u64,
     ) -> Result<Option<Entry>, WalkFault>
         ensures answer { AnswersWalk self.old.tracked walk tag result }
-        ensures was { IfOk result (λ w. w ≡ finite.get self.old.tracked.unit.caches.entries tag) }
-        ensures refused { (fault : CacheFaultOf) → result ≡ Err (WalkFault.Refused fault)
-            → IsFillAnswer self.old.tracked.unit.caches tag (Err fault) }
+        ensures caches { IsCachesAnswer self.old.tracked.unit.caches tag result }
         ensures ok { OnOk result (self.new.tracked ≡ with_walked walk tag value self.old.tracked) }
         ensures err { OnErr result (self.new ≡ self.old) }
         ensures consumer { self.new.consumer ≡ self.old.consumer }

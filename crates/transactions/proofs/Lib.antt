@@ -12,3 +12,4 @@ pub mod Ahead
 pub mod Unstopped
 pub mod TrackedRuns
 pub mod Queued
+pub mod Crossing

@@ -1,12 +1,14 @@
 -- What becomes of what a walk read.
-use Rattle.std.specs.Prelude.{◌≡◌, ◌≤◌, ◌<◌, ◌↔◌, ℕ, List, length, Option, Result, Err, OnOk}
+use Rattle.std.specs.Prelude.{◌≡◌, ◌≤◌, ◌<◌, ◌↔◌, ℕ, List, length, Option, Result, Ok, Err, OnOk}
 use Rattle.ringcore.specs.world.World.{Taken}
 use Rattle.caches.specs.declared.tag.Tag.{Tag}
 use Rattle.caches.specs.declared.tag.Entry.{Entry}
 use Rattle.caches.specs.Blocks.{IsBlock}
+use Rattle.caches.specs.Stored.{Stored, IsFillAnswer}
 use Rattle.engine.specs.Units.{with_entries, with_entry}
 use Rattle.transactions.specs.declared.walk.WalkFault.{WalkFault}
 use Rattle.transactions.specs.declared.walk.WalkFault.TheVariants.{Overtaken, TooOld, OtherUnit}
+use Rattle.transactions.specs.declared.walk.WalkFault.TheVariants.{Refused}
 use Rattle.transactions.specs.Since.{HasCoveredSince, IsTooOld}
 use Rattle.transactions.specs.Tracking.{TrackedValue, IsTracked, with_unit}
 
@@ -27,6 +29,14 @@ pub record IsWalkAnswer (list : List Taken) (began : ℕ) (tag : Tag) (a : WalkA
 abbrev pub AnswersWalk : TrackedValue → ℕ → Tag → WalkAnswer → Type 0
 AnswersWalk old began tag answer =
     (list : List Taken) → IsTracked old list → IsWalkAnswer list began tag answer
+
+-- Where the walk has no fault of its own, the caches answer as they do for any entry.
+abbrev pub IsCachesAnswer : Stored → Tag → WalkAnswer → Type 0
+IsCachesAnswer held tag (Ok was) = IsFillAnswer held tag (Ok was)
+IsCachesAnswer held tag (Err (Refused fault)) = IsFillAnswer held tag (Err fault)
+IsCachesAnswer held tag (Err Overtaken) = Unit {0}
+IsCachesAnswer held tag (Err TooOld) = Unit {0}
+IsCachesAnswer held tag (Err OtherUnit) = Unit {0}
 
 -- the entry that a walk read
 abbrev pub walked : ℕ → Tag → ℕ → Entry

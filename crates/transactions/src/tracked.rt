@@ -10,7 +10,6 @@ ghost use Rattle.ringcore.specs.world.World.{Taken};
 ghost use Rattle.caches.specs.Blocks.{IsBlock};
 ghost use Rattle.caches.specs.Held.{held};
 ghost use Rattle.caches.specs.Stored.{IsFillAnswer};
-ghost use Rattle.caches.specs.declared.fault.CacheFault.{CacheFault as CacheFaultOf};
 ghost use Rattle.engine.specs.Stops.{IsStopped, MayComeNext, IsAcknowledgementAnswer};
 ghost use Rattle.engine.specs.Counting.{taken};
 ghost use Rattle.engine.specs.Units.{HasJudged, took};
@@ -22,7 +21,7 @@ ghost use Rattle.transactions.specs.Tracking.{IsTracked, StaysTracked, new_track
 ghost use Rattle.transactions.specs.Tracking.{with_filled, with_evicted, with_acknowledged};
 ghost use Rattle.transactions.specs.Together.{StaysTogether, IsTogetherFromNothing};
 ghost use Rattle.transactions.specs.Transactions.{IsBeginAnswer, IsBeginWalkedAnswer, IsEndAnswer};
-ghost use Rattle.transactions.specs.Walks.{AnswersWalk, with_walked};
+ghost use Rattle.transactions.specs.Walks.{AnswersWalk, IsCachesAnswer, with_walked};
 
 use crate::tracked_verdict::TrackedVerdict;
 use crate::tracking::Tracking;
@@ -172,9 +171,7 @@ impl TrackedUnit {
         value: u64,
     ) -> Result<Option<Entry>, WalkFault>
         ensures answer { AnswersWalk self.old walk tag result }
-        ensures was { IfOk result (λ was. was ≡ finite.get self.old.unit.caches.entries tag) }
-        ensures refused { (fault : CacheFaultOf) → result ≡ Err (WalkFault.Refused fault)
-            → IsFillAnswer self.old.unit.caches tag (Err fault) }
+        ensures caches { IsCachesAnswer self.old.unit.caches tag result }
         ensures ok { OnOk result (self.new ≡ with_walked walk tag value self.old) }
         ensures err { OnErr result (self.new ≡ self.old) }
         ensures tracked { StaysTracked self.old self.new [] }

@@ -4,7 +4,6 @@ ghost use Rattle.std.specs.Prelude.{IfOk, IfSome, OnOk, OnErr, IsTrue};
 ghost use Rattle.std.specs.FinMap as finite;
 ghost use Rattle.caches.specs.Held.{held};
 ghost use Rattle.caches.specs.Stored.{IsFillAnswer};
-ghost use Rattle.caches.specs.declared.fault.CacheFault.{CacheFault as CacheFaultOf};
 ghost use Rattle.engine.specs.Stops.{command_queue_bit, word_of};
 ghost use Rattle.engine.specs.Units.{HasLost, HasLostOlder};
 ghost use Rattle.engine.specs.QueueUnits.{IsStoppedQueue, IsJudgeRefusal, IsQueueAcknowledgement};
@@ -22,7 +21,7 @@ ghost use Rattle.transactions.specs.TrackedQueueUnits.{reset_queue, IsTrackedJud
 ghost use Rattle.transactions.specs.TrackedQueueUnits.{QueueWaitsExactly, HasTakenNext};
 ghost use Rattle.transactions.specs.Transactions.{IsBeginAnswer, IsBeginWalkedAnswer, IsEndAnswer};
 ghost use Rattle.transactions.specs.Transactions.{bits_of};
-ghost use Rattle.transactions.specs.Walks.{AnswersWalk, with_walked};
+ghost use Rattle.transactions.specs.Walks.{AnswersWalk, IsCachesAnswer, with_walked};
 
 use crate::tracked_judgement::TrackedJudgement;
 use crate::tracking::Tracking;
@@ -218,10 +217,7 @@ impl TrackedQueueUnit {
         value: u64,
     ) -> Result<Option<Entry>, WalkFault>
         ensures answer { AnswersWalk (tracked_in self.old) (began_in self.old walk) tag result }
-        ensures was { IfOk result
-            (λ was. was ≡ finite.get self.old.queue.unit.caches.entries tag) }
-        ensures refused { (fault : CacheFaultOf) → result ≡ Err (WalkFault.Refused fault)
-            → IsFillAnswer self.old.queue.unit.caches tag (Err fault) }
+        ensures caches { IsCachesAnswer self.old.queue.unit.caches tag result }
         ensures ok { OnOk result (tracked_in self.new
             ≡ with_walked (began_in self.old walk) tag value (tracked_in self.old)) }
         ensures rest { self.new ≡ with_its_unit self.new.queue.unit self.old }

@@ -1,11 +1,8 @@
 //! What a unit with walks and transactions knows of them beside its commands.
 ghost use Rattle.std.specs.Prelude.{◌≡◌, ◌<◌, [], None, Err};
 ghost use Rattle.std.specs.Prelude.{IfOk, OnOk, OnErr, IfSome};
-ghost use Rattle.std.specs.FinMap as finite;
 ghost use Rattle.cmdcodec.specs.Legality.{first_ill};
 ghost use Rattle.caches.specs.Blocks.{IsBlock};
-ghost use Rattle.caches.specs.Stored.{IsFillAnswer};
-ghost use Rattle.caches.specs.declared.fault.CacheFault.{CacheFault as CacheFaultOf};
 ghost use Rattle.engine.specs.Units.{UnitValue};
 ghost use Rattle.transactions.specs.Between.{IsWaitAnswer, HasNoted, IsRefusal, IsBegunIfRoom};
 ghost use Rattle.transactions.specs.Outstanding.{AreCountsOf};
@@ -14,7 +11,7 @@ ghost use Rattle.transactions.specs.Tracking.{StaysTracked};
 ghost use Rattle.transactions.specs.Together.{StaysTogether};
 ghost use Rattle.transactions.specs.Transactions.{IsBeginAnswer, IsBeginWalkedAnswer, IsEndAnswer};
 ghost use Rattle.transactions.specs.Transactions.{bits_of};
-ghost use Rattle.transactions.specs.Walks.{AnswersWalk, with_walked};
+ghost use Rattle.transactions.specs.Walks.{AnswersWalk, IsCachesAnswer, with_walked};
 
 use crate::coverage::is_invalidation;
 use crate::outstanding::{OutstandingTransaction, OutstandingTransactions};
@@ -108,9 +105,7 @@ impl Tracking {
         value: u64,
     ) -> Result<Option<Entry>, WalkFault>
         ensures answer { AnswersWalk (tracked_with unit.old self.now) began tag result }
-        ensures was { IfOk result (λ was. was ≡ finite.get unit.old.caches.entries tag) }
-        ensures refused { (fault : CacheFaultOf) → result ≡ Err (WalkFault.Refused fault)
-            → IsFillAnswer unit.old.caches tag (Err fault) }
+        ensures caches { IsCachesAnswer unit.old.caches tag result }
         ensures ok { OnOk result (tracked_with unit.new self.now
             ≡ with_walked began tag value (tracked_with unit.old self.now)) }
         ensures err { OnErr result (unit.new ≡ unit.old) }
