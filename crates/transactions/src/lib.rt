@@ -5,6 +5,9 @@
 //!    covers it was taken meanwhile.
 //! 2. A transaction begins with an entry that is held, and ends. A CMD_SYNC isn't taken while one
 //!    is outstanding whose entry a command before that CMD_SYNC covers.
+//!
+//! `TrackedUnit` does that for a ring, and `TrackedQueueUnit` for a queue in memory that its owner
+//! may write over.
 #![tactic(auto)]
 
 mod completion_witness;

@@ -1,5 +1,5 @@
 //! A unit of a queue in memory, with walks and transactions beside it.
-use caches::{Caches, Kind, Tag};
+use caches::{Caches, Entry, Kind, Tag};
 use cmdcodec::{Ill, Raw, Sid};
 use engine::{JudgeFault, Judgement, QueueError, StopRemedy};
 use std::alloc::Global;
@@ -40,6 +40,16 @@ fn filled(rt: &impl Abort, alloc: Global) -> TrackedQueueUnit {
     assert_eq!(rt; unit.fill(stream(rt, 5), 70), Ok(None));
     assert_eq!(rt; unit.fill(stream(rt, 6), 71), Ok(None));
     unit
+}
+
+/// Fills what a walk of a stream's entry read.
+fn fill_walked(
+    rt: &impl Abort,
+    unit: &mut TrackedQueueUnit,
+    walk: u64,
+    number: u64,
+) -> Result<Option<Entry>, WalkFault> {
+    unit.fill_walked(Walk::from_bits(walk), stream(rt, number), 72)
 }
 
 fn begin(rt: &impl Abort, unit: &mut TrackedQueueUnit, tag: &Tag) -> Transaction {
@@ -122,14 +132,16 @@ fn a_sync_that_waits_beside_a_queue(rt: HostRuntime) {
 #[test]
 fn a_walk_of_a_queue_that_a_command_overtakes(rt: HostRuntime) {
     let mut unit = tracked(&rt, rt.alloc());
-    let walk = Walk::from_bits(unit.begin_walk().bits());
+    let walk = unit.begin_walk().bits();
+    assert_eq!(rt; walk, 1);
     applied(&rt, &mut unit, STE, 0);
-    let (five, six) = (stream(&rt, 5), stream(&rt, 6));
-    assert_eq!(rt; unit.fill_walked(walk, five, 70), Err(WalkFault::Overtaken));
-    assert_eq!(rt; unit.fill_walked(walk, six, 71), Ok(None));
-    let nobody = Walk::from_bits(0);
     assert_eq!(rt;
-        unit.fill_walked(nobody, six, 72),
+        fill_walked(&rt, &mut unit, walk, 5),
+        Err(WalkFault::Overtaken)
+    );
+    assert_eq!(rt; fill_walked(&rt, &mut unit, walk, 6), Ok(None));
+    assert_eq!(rt;
+        fill_walked(&rt, &mut unit, 0, 6),
         Err(WalkFault::OtherUnit)
     );
 }
@@ -153,16 +165,21 @@ fn a_sync_written_over_the_words_at_which_it_stopped(rt: HostRuntime) {
 fn a_walk_that_began_before_a_reset(rt: HostRuntime) {
     let mut unit = filled(&rt, rt.alloc());
     applied(&rt, &mut unit, STE, 1);
-    let old = unit.begin_walk();
+    let old = unit.begin_walk().bits();
     unit.reset();
-    let five = stream(&rt, 5);
     assert_eq!(rt; unit.unit().len(), 0);
-    assert_eq!(rt; unit.fill_walked(old, five, 72), Err(WalkFault::OtherUnit));
+    assert_eq!(rt;
+        fill_walked(&rt, &mut unit, old, 5),
+        Err(WalkFault::OtherUnit)
+    );
     unit.reset();
     applied(&rt, &mut unit, SYNC, 0);
-    assert_eq!(rt; unit.fill_walked(old, five, 72), Err(WalkFault::OtherUnit));
-    let walk = unit.begin_walk();
-    assert_eq!(rt; unit.fill_walked(walk, five, 73), Ok(None));
+    assert_eq!(rt;
+        fill_walked(&rt, &mut unit, old, 5),
+        Err(WalkFault::OtherUnit)
+    );
+    let walk = unit.begin_walk().bits();
+    assert_eq!(rt; fill_walked(&rt, &mut unit, walk, 5), Ok(None));
 }
 
 #[test]
