@@ -4,19 +4,15 @@ use Rattle.std.proofs.Crossing.{crosses, send, sync}
 use Rattle.atomic_table.proofs.shared.Seat.TheSendSync.{the_send as seat_send}
 use Rattle.atomic_table.proofs.shared.Shared.TheSendSync.{the_send as shared_send, the_sync as shared_sync}
 use Rattle.atomic_table.proofs.send_lease.SendLease.TheSendSync.{the_send as lease_send, the_sync as lease_sync}
-use Rattle.caches.proofs.Crossing.{caches_send}
 use Rattle.ring.proofs.Crossing.{pending_send, ring_sync}
 use Rattle.ring.specs.contracts.ring.Ring as Ring
 use Rattle.engine.proofs.Crossing.{engine_send}
-use Rattle.engine.specs.contracts.queue_unit.QueueUnit as QueueUnit
+use Rattle.transactions.proofs.Crossing.{tracked_queue_unit_send}
 use Rattle.smmuq_c.specs.contracts.seated_sender.SeatedSender as SeatedSender
 use Rattle.smmuq_c.specs.contracts.seated_reservation.SeatedReservation as SeatedReservation
 use Rattle.smmuq_c.specs.contracts.seated_engine.SeatedEngine as SeatedEngine
 use Rattle.smmuq_c.specs.contracts.seated_consumer.SeatedConsumer as SeatedConsumer
 use Rattle.smmuq_c.specs.contracts.object.Object as Object
-
-pub unit_send : IsSend QueueUnit.the_row
-unit_send = search (sendable, crosses, caches_send) depth 60 fits 100000
 
 pub ring_send : IsSend Ring.the_row
 ring_send = search (sendable, send, sync, crosses, shared_send, shared_sync, lease_send, lease_sync) depth 60 fits 100000
@@ -34,4 +30,4 @@ pub taker_send : IsSend SeatedConsumer.the_row
 taker_send = search (sendable, crosses, send, sync, pending_send, ring_send, ring_sync) depth 60 fits 100000
 
 pub object_send : IsSend Object.the_row
-object_send = search (sendable, crosses, caches_send, unit_send, sender_send, reservation_send, seated_send, taker_send) depth 60 fits 100000
+object_send = search (sendable, crosses, tracked_queue_unit_send, sender_send, reservation_send, seated_send, taker_send) depth 60 fits 100000

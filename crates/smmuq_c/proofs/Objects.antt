@@ -8,8 +8,9 @@ use Rattle.engine.specs.declared.queue_unit.QueueUnit.{QueueUnit}
 use Rattle.engine.specs.declared.queue_unit.StopRemedy.{StopRemedy}
 use Rattle.engine.specs.QueueUnits.{remedy_until_then}
 use Rattle.engine.specs.Settled.{IsSettled}
-use Rattle.engine.specs.Units.{UnitValue, StaysSettled}
+use Rattle.engine.specs.Units.{UnitValue}
 use Rattle.engine.specs.Engines.{EngineValue}
+use Rattle.transactions.specs.TrackedQueueUnits.{TrackedQueueValue, with_queue, with_its_unit}
 use Rattle.smmuq_c.specs.HeldConsumers.{HeldConsumer}
 use Rattle.smmuq_c.specs.declared.status.Status.{Status}
 use Rattle.smmuq_c.specs.declared.status.Status.TheVariants.{WrongHandle, BadField}
@@ -17,15 +18,31 @@ use Rattle.smmuq_c.specs.declared.object.Object.{Object}
 use Rattle.smmuq_c.specs.declared.object.Object.TheVariants.{Unit as UnitOf, Sender as SenderOf, Reservation as ReservationOf, Engine as EngineOf, Consumer as ConsumerOf}
 use Rattle.smmuq_c.specs.Registers.{HasAcknowledged, HasAcknowledgedQueue, IsRemedyOf}
 use Rattle.smmuq_c.specs.Kept.{has_unit, unit_in, IsSettledObject}
-use Rattle.smmuq_c.proofs.Unchanged.{stays}
-use Rattle.smmuq_c.specs.Calls.{OfUnit, OfSender, OfEngine, OfConsumer, OfAnyUnit, OfStop, BySaid, OfSaid}
+use Rattle.smmuq_c.proofs.Unchanged.{takes_none}
+use Rattle.smmuq_c.specs.Statuses.{number_of}
+use Rattle.smmuq_c.specs.Calls.{HasCalledOn, OfUnit, OfQueue, OfSender, OfEngine, OfConsumer, OfAnyUnit, OfStop, TakesNone, BySaid, OfSaid}
+
+-- what is done to an object is done to the handle that holds it
+pub called : (does : Object → Object → Status → Type 0) {held new : Option Object} {old after : Object} {number : ℕ} {status : Status}
+    → held ≡ Some old → new ≡ Some after → number ≡ number_of status → does old after status → HasCalledOn does held new number
+called does {new = new} {after = after} {number = number} {status = status} is becomes answered done =
+    subst (λ (o : Option Object). HasCalledOn does o new number) (sym is) (after, becomes, (status, answered, done))
 
 same_unit : (a b : UnitValue) → Some a ≡ Some b → a ≡ b
 same_unit a b is = cc
 
-pub of_unit : (does : QueueUnit → QueueUnit → Status → Type 0) {object : Object} {old new : QueueUnit} {status : Status}
+pub of_unit : (does : TrackedQueueValue → TrackedQueueValue → Status → Type 0) {object : Object} {old new : TrackedQueueValue} {status : Status}
     → object ≡ UnitOf old → does old new status → OfUnit does object (UnitOf new) status
 of_unit does {object} {old} {new} {status} is done = subst (λ (o : Object). OfUnit does o (UnitOf new) status) (sym is) (new, refl, done)
+
+-- if it is only read
+pub of_read_unit : (does : TrackedQueueValue → TrackedQueueValue → Status → Type 0) {object : Object} {unit : TrackedQueueValue} {status : Status}
+    → object ≡ UnitOf unit → does unit unit status → OfUnit does object object status
+of_read_unit does {unit = unit} {status = status} is done = subst (λ (o : Object). OfUnit does o o status) (sym is) (unit, refl, done)
+
+pub of_queue : (does : QueueUnit → QueueUnit → Status → Type 0) {object : Object} {old new : TrackedQueueValue} {status : Status}
+    → object ≡ UnitOf old → new ≡ with_queue new.queue old → does old.queue new.queue status → OfQueue does object (UnitOf new) status
+of_queue does is rest done = of_unit (λ old new status. (new ≡ with_queue new.queue old) × does old.queue new.queue status) is (rest, done)
 
 pub of_sender : (does : SenderValue → SenderValue → Status → Type 0) {object : Object} {old new : SenderValue} {status : Status}
     → object ≡ SenderOf old → does old new status → OfSender does object (SenderOf new) status
@@ -39,11 +56,12 @@ pub of_consumer : (does : HeldConsumer → HeldConsumer → Status → Type 0) {
     → object ≡ ConsumerOf old → does old new status → OfConsumer does object (ConsumerOf new) status
 of_consumer does {object} {old} {new} {status} is done = subst (λ (o : Object). OfConsumer does o (ConsumerOf new) status) (sym is) (new, refl, done)
 
-pub any_unit : (does : UnitValue → UnitValue → Status → Type 0) {object : Object} {old new : QueueUnit} {status : Status}
-    → object ≡ UnitOf old → new ≡ record old { unit = new.unit } → StaysSettled old.unit new.unit [] → does old.unit new.unit status
+pub any_unit : (does : UnitValue → UnitValue → Status → Type 0) {object : Object} {old new : TrackedQueueValue} {status : Status}
+    → object ≡ UnitOf old → new ≡ with_its_unit new.queue.unit old → TakesNone old new → does old.queue.unit new.queue.unit status
     → OfAnyUnit does object (UnitOf new) status
-any_unit does {object} {old} {new} {status} is same settled done =
-    subst (λ (o : Object). OfAnyUnit does o (UnitOf new) status) (sym is) (new.unit, ap UnitOf same, settled, done)
+any_unit does {object} {old} {new} {status} is same none done =
+    subst (λ (o : Object). OfAnyUnit does o (UnitOf new) status) (sym is)
+    (new.queue.unit, ap UnitOf same, subst (λ (q : TrackedQueueValue). TakesNone old q) same none, done)
 
 pub any_engine : (does : UnitValue → UnitValue → Status → Type 0) {object : Object} {old new : EngineValue} {status : Status}
     → object ≡ EngineOf old → new ≡ record old { unit = new.unit } → IsSettled new.unit.caches.entries (taken_of new.consumer.trail)
@@ -54,11 +72,11 @@ any_engine does {object} {old} {new} {status} is same settled done =
 
 -- ---- by what its words say
 
-pub said_unit : {X : Type 0} (said : Option X → Type 0) (does : X → UnitValue → UnitValue → Status → Type 0) {object : Object} {old new : QueueUnit} {status : Status} (x : X)
-    → said (Some x) → object ≡ UnitOf old → new ≡ record old { unit = new.unit } → StaysSettled old.unit new.unit []
-    → does x old.unit new.unit status → OfSaid said does object (UnitOf new) status
-said_unit said does {object} {old} {new} {status} x says is same settled done =
-    subst (λ (o : Object). OfSaid said does o (UnitOf new) status) (sym is) (Some x, says, any_unit (does x) refl same settled done)
+pub said_unit : {X : Type 0} (said : Option X → Type 0) (does : X → UnitValue → UnitValue → Status → Type 0) {object : Object} {old new : TrackedQueueValue} {status : Status} (x : X)
+    → said (Some x) → object ≡ UnitOf old → new ≡ with_its_unit new.queue.unit old → TakesNone old new
+    → does x old.queue.unit new.queue.unit status → OfSaid said does object (UnitOf new) status
+said_unit said does {object} {old} {new} {status} x says is same none done =
+    subst (λ (o : Object). OfSaid said does o (UnitOf new) status) (sym is) (Some x, says, any_unit (does x) refl same none done)
 
 pub said_engine : {X : Type 0} (said : Option X → Type 0) (does : X → UnitValue → UnitValue → Status → Type 0) {object : Object} {old new : EngineValue} {status : Status} (x : X)
     → said (Some x) → object ≡ EngineOf old → new ≡ record old { unit = new.unit } → IsSettled new.unit.caches.entries (taken_of new.consumer.trail)
@@ -86,11 +104,12 @@ unsaid said does (ConsumerOf c) has none = absurd (true≢false (sym has))
 
 -- ---- a stop that is acknowledged
 
-pub stop_of_unit : {number gerrorn : ℕ} {object : Object} {old new : QueueUnit} {status : Status} (remedy : StopRemedy)
-    → IsRemedyOf number (Some remedy) → object ≡ UnitOf old → StaysSettled old.unit new.unit [] → HasAcknowledgedQueue gerrorn remedy old new status
-    → BySaid (IsRemedyOf number) (OfStop gerrorn) object (UnitOf new) status
-stop_of_unit {number} {gerrorn} {object} {old} {new} {status} remedy says is settled done =
-    subst (λ (o : Object). BySaid (IsRemedyOf number) (OfStop gerrorn) o (UnitOf new) status) (sym is) (Some remedy, says, (new, refl, settled, done))
+pub stop_of_unit : {number gerrorn : ℕ} {object : Object} {old new : TrackedQueueValue} {status : Status} (remedy : StopRemedy)
+    → IsRemedyOf number (Some remedy) → object ≡ UnitOf old → new ≡ with_queue new.queue old → TakesNone old new
+    → HasAcknowledgedQueue gerrorn remedy old.queue new.queue status → BySaid (IsRemedyOf number) (OfStop gerrorn) object (UnitOf new) status
+stop_of_unit {number} {gerrorn} {object} {old} {new} {status} remedy says is same none done =
+    subst (λ (o : Object). BySaid (IsRemedyOf number) (OfStop gerrorn) o (UnitOf new) status) (sym is)
+    (Some remedy, says, (new.queue, ap UnitOf same, subst (λ (q : TrackedQueueValue). TakesNone old q) same none, done))
 
 pub stop_of_engine : {number gerrorn : ℕ} {object : Object} {old new : EngineValue} {status : Status} (remedy : StopRemedy) {told : Remedy}
     → IsRemedyOf number (Some remedy) → told ≡ remedy_until_then remedy → object ≡ EngineOf old → new ≡ record old { unit = new.unit }
@@ -107,7 +126,8 @@ stop_of_engine {number} {gerrorn} {object} {old} {new} {status} remedy says whic
 
 pub read_unit : (does : UnitValue → UnitValue → Status → Type 0) (object : Object) (unit : UnitValue) {status : Status}
     → unit_in object ≡ Some unit → IsSettledObject object → does unit unit status → OfAnyUnit does object object status
-read_unit does (UnitOf q) unit {status} is settled done = (q.unit, refl, stays q.unit, subst (λ (u : UnitValue). does u u status) (sym (same_unit q.unit unit is)) done)
+read_unit does (UnitOf q) unit {status} is settled done =
+    (q.queue.unit, refl, takes_none q, subst (λ (u : UnitValue). does u u status) (sym (same_unit q.queue.unit unit is)) done)
 read_unit does (SenderOf s) unit is settled done = absurd (cc)
 read_unit does (ReservationOf r) unit is settled done = absurd (cc)
 read_unit does (EngineOf e) unit {status} is settled done = (e.unit, refl, settled, subst (λ (u : UnitValue). does u u status) (sym (same_unit e.unit unit is)) done)

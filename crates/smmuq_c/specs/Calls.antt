@@ -8,6 +8,9 @@ use Rattle.engine.specs.declared.queue_unit.QueueUnit.{QueueUnit}
 use Rattle.engine.specs.declared.queue_unit.StopRemedy.{StopRemedy}
 use Rattle.engine.specs.QueueUnits.{remedy_until_then}
 use Rattle.engine.specs.Engines.{EngineValue, IsSettledEngine}
+use Rattle.transactions.specs.Tracking.{StaysTracked}
+use Rattle.transactions.specs.TrackedQueueUnits.{TrackedQueueValue, tracked_in, with_queue}
+use Rattle.transactions.specs.TrackedQueueUnits.{with_its_unit}
 use Rattle.smmuq_c.specs.HeldConsumers.{HeldConsumer}
 use Rattle.smmuq_c.specs.Registers.{HasAcknowledged, HasAcknowledgedQueue, error_words, queue_error_words, count_words}
 use Rattle.smmuq_c.specs.Statuses.{number_of}
@@ -34,9 +37,13 @@ HasCalled does old new number = HasCalledOn does old.object new.object number
 
 -- ---- an object of one kind is changed, and one of another kind refused
 
-abbrev pub OfUnit : (QueueUnit → QueueUnit → Status → Type 0) → Object → Object → Status → Type 0
-OfUnit does (UnitOf old) new status = (after : QueueUnit) × (new ≡ UnitOf after) × does old after status
+abbrev pub OfUnit : (TrackedQueueValue → TrackedQueueValue → Status → Type 0) → Object → Object → Status → Type 0
+OfUnit does (UnitOf old) new status = (after : TrackedQueueValue) × (new ≡ UnitOf after) × does old after status
 OfUnit does other new status = (new ≡ other) × (status ≡ WrongHandle)
+
+-- A unit's queue is changed, and what it knows of walks and transactions stays.
+abbrev pub OfQueue : (QueueUnit → QueueUnit → Status → Type 0) → Object → Object → Status → Type 0
+OfQueue does = OfUnit (λ old new status. (new ≡ with_queue new.queue old) × does old.queue new.queue status)
 
 abbrev pub OfSender : (SenderValue → SenderValue → Status → Type 0) → Object → Object → Status → Type 0
 OfSender does (SenderOf old) new status = (after : SenderValue) × (new ≡ SenderOf after) × does old after status
@@ -51,30 +58,37 @@ abbrev pub OfConsumer : (HeldConsumer → HeldConsumer → Status → Type 0) �
 OfConsumer does (ConsumerOf old) new status = (after : HeldConsumer) × (new ≡ ConsumerOf after) × does old after status
 OfConsumer does other new status = (new ≡ other) × (status ≡ WrongHandle)
 
+-- Nothing was taken: entries that were settled stay so, and transactions and walks stay tracked.
+pub record TakesNone (old new : TrackedQueueValue) : Type 0 where
+  pub settled : StaysSettled old.queue.unit new.queue.unit []
+  pub tracked : StaysTracked (tracked_in old) (tracked_in new) []
+
 -- For a unit, or that of an engine, whose consumer stays. Settled entries stay settled.
 abbrev pub OfAnyUnit : (UnitValue → UnitValue → Status → Type 0) → Object → Object → Status → Type 0
-OfAnyUnit does (UnitOf h) new status =
-    (after : UnitValue) × (new ≡ UnitOf (record h { unit = after })) × StaysSettled h.unit after [] × does h.unit after status
+OfAnyUnit does (UnitOf q) new status =
+    (after : UnitValue) × (new ≡ UnitOf (with_its_unit after q)) × TakesNone q (with_its_unit after q)
+    × does q.queue.unit after status
 OfAnyUnit does (EngineOf e) new status =
     (after : UnitValue) × (new ≡ EngineOf (record e { unit = after })) × IsSettled after.caches.entries (taken_of e.consumer.trail) × does e.unit after status
 OfAnyUnit does other new status = (new ≡ other) × (status ≡ WrongHandle)
 
 -- Its stop is acknowledged. Nothing rewrites what was published in an engine's ring, so there Reread is Retry.
 abbrev pub OfStop : ℕ → StopRemedy → Object → Object → Status → Type 0
-OfStop gerrorn remedy (UnitOf old) new status =
-    (after : QueueUnit) × (new ≡ UnitOf after) × StaysSettled old.unit after.unit [] × HasAcknowledgedQueue gerrorn remedy old after status
+OfStop gerrorn remedy (UnitOf q) new status =
+    (after : QueueUnit) × (new ≡ UnitOf (with_queue after q)) × TakesNone q (with_queue after q)
+    × HasAcknowledgedQueue gerrorn remedy q.queue after status
 OfStop gerrorn remedy other new status = OfAnyUnit (HasAcknowledged gerrorn (remedy_until_then remedy)) other new status
 
 -- Its error registers and counts are told, and nothing changed.
 abbrev pub OfState : Errors → Tallies → Object → Object → Status → Type 0
 OfState errors tallies (UnitOf q) new status =
-    (new ≡ UnitOf q) × (errors ≡ queue_error_words q) × (tallies ≡ count_words q.unit.counts) × (status ≡ Done)
+    (new ≡ UnitOf q) × (errors ≡ queue_error_words q.queue) × (tallies ≡ count_words q.queue.unit.counts) × (status ≡ Done)
 OfState errors tallies (EngineOf e) new status =
     (new ≡ EngineOf e) × IsSettledEngine e × (errors ≡ error_words e.unit.stop) × (tallies ≡ count_words e.unit.counts) × (status ≡ Done)
 OfState errors tallies other new status = (new ≡ other) × (status ≡ WrongHandle)
 
 -- It did this with what its words say; if they say nothing, it did nothing.
-abbrev pub DoesSaid : {X : Type 0} → (Option X → Type 0) → (X → Object → Object → Status → Type 0) → Object → Object → Status → Type 0
+abbrev pub DoesSaid : {X O : Type 0} → (Option X → Type 0) → (X → O → O → Status → Type 0) → O → O → Status → Type 0
 DoesSaid {X} said does old new status =
     (found : Option X) × said found × MatchOption found ((new ≡ old) × (status ≡ BadField)) (λ x. does x old new status)
 

@@ -57,7 +57,7 @@ KeptUnlessRun object buffer old new = KeptOfOthers is_engine object old new × (
 -- ---- the unit of a unit or an engine
 
 abbrev pub unit_in : Object → Option UnitValue
-unit_in (UnitOf q) = Some q.unit
+unit_in (UnitOf q) = Some q.queue.unit
 unit_in (EngineOf e) = Some e.unit
 unit_in other = None
 

@@ -1,13 +1,14 @@
 -- What is made, and into which handle.
-use Rattle.std.specs.Prelude.{◌≡◌, ℕ, [], Option, Some}
+use Rattle.std.specs.Prelude.{◌≡◌, ◌<◌, ◌^◌, ℕ, [], Option, Some}
 use Rattle.caches.specs.declared.fault.CacheFault.TheVariants.{BadCapacity}
 use Rattle.caches.specs.Stored.{Stored}
 use Rattle.caches.specs.Held.{held}
 use Rattle.engine.specs.Units.{UnitValue, new_unit}
-use Rattle.engine.specs.QueueUnits.{new_queue_unit}
+use Rattle.transactions.specs.Tracking.{IsTracked}
+use Rattle.transactions.specs.TrackedQueueUnits.{tracked_in, new_tracked_queue}
 use Rattle.caches.specs.Limits.{IsCapacity}
 use Rattle.smmuq_c.specs.declared.status.Status.{Status}
-use Rattle.smmuq_c.specs.declared.status.Status.TheVariants.{Done, Cache, NoMemory}
+use Rattle.smmuq_c.specs.declared.status.Status.TheVariants.{Done, Cache, NoMemory, BadField}
 use Rattle.smmuq_c.specs.declared.object.Object.{Object}
 use Rattle.smmuq_c.specs.declared.object.Object.TheVariants.{Unit as UnitOf}
 
@@ -23,9 +24,22 @@ pub record IsNewUnit (capacity : ℕ) (unit : UnitValue) : Type 0 where
   pub caches_are : AreNewCaches capacity caches
   pub unit_is : unit ≡ new_unit caches
 
--- The handle holds a unit that has taken nothing, with such caches, and what it held before is dropped; or it is as before.
-abbrev pub HasMadeUnit : ℕ → Option Object → Option Object → Status → Type 0
-HasMadeUnit capacity old new Done = (caches : Stored) × AreNewCaches capacity caches × (new ≡ Some (UnitOf (new_queue_unit caches)))
-HasMadeUnit capacity old new (Cache BadCapacity) = ¬ IsCapacity capacity × (new ≡ old)
-HasMadeUnit capacity old new NoMemory = IsCapacity capacity × (new ≡ old)
-HasMadeUnit capacity old new other = ⊥
+-- The handle holds a unit that has taken nothing, with such caches and room for so many transactions.
+pub record HoldsNewUnit (capacity room : ℕ) (new : Option Object) : Type 0 where
+  pub caches : Stored
+  pub caches_are : AreNewCaches capacity caches
+  pub new_is : new ≡ Some (UnitOf (new_tracked_queue caches room))
+  pub tracked : IsTracked (tracked_in (new_tracked_queue caches room)) []
+
+-- It holds that, and what it held before is dropped; or it is as before.
+abbrev pub HasMadeUnit : ℕ → ℕ → Option Object → Option Object → Status → Type 0
+HasMadeUnit capacity room old new Done = HoldsNewUnit capacity room new
+HasMadeUnit capacity room old new (Cache BadCapacity) = ¬ IsCapacity capacity × (new ≡ old)
+HasMadeUnit capacity room old new NoMemory = IsCapacity capacity × (new ≡ old)
+HasMadeUnit capacity room old new other = ⊥
+
+-- The same if there may be room for so many.
+abbrev pub HasMadeTrackingUnit : ℕ → ℕ → Option Object → Option Object → Status → Type 0
+HasMadeTrackingUnit capacity room old new BadField = ¬ (room < 2 ^ 16) × (new ≡ old)
+HasMadeTrackingUnit capacity room old new status =
+    (room < 2 ^ 16) × HasMadeUnit capacity room old new status

@@ -1,15 +1,18 @@
 -- What C gets of the error registers and the counts, and what an acknowledgement does.
-use Rattle.std.specs.Prelude.{◌≡◌, ℕ, ⊤, Option, Some, None, Result, Ok, Err, OnOk, OnErr, IfSome}
+use Rattle.std.specs.Prelude.{◌≡◌, ℕ, ⊤, [], Option, Some, None, Result, Ok, Err, OnOk, OnErr, IfSome}
 use Rattle.engine.specs.declared.remedy.AckFault.{AckFault}
 use Rattle.engine.specs.declared.remedy.Remedy.{Remedy}
 use Rattle.engine.specs.declared.queue_unit.QueueUnit.{QueueUnit}
 use Rattle.engine.specs.declared.queue_unit.QueueError.{QueueError}
 use Rattle.engine.specs.declared.queue_unit.StopRemedy.{StopRemedy}
 use Rattle.engine.specs.declared.queue_unit.StopRemedy.TheVariants.{Retry, Replace, Reread}
-use Rattle.engine.specs.QueueUnits.{new_queue_unit, error_number, IsStoppedQueue, OnlyRegistersChanged, queue_err_of, error_bit, acknowledged_bit, IsQueueAcknowledgement, acknowledged_with}
+use Rattle.engine.specs.QueueUnits.{error_number, IsStoppedQueue, OnlyRegistersChanged, queue_err_of, error_bit, acknowledged_bit, IsQueueAcknowledgement, acknowledged_with}
 use Rattle.engine.specs.Stops.{StopValue, IsAcknowledgementAnswer, told, err_of, word_of, command_queue_bit}
 use Rattle.engine.specs.Counting.{CountsValue}
-use Rattle.engine.specs.Units.{UnitValue, emptied}
+use Rattle.engine.specs.Units.{UnitValue}
+use Rattle.transactions.specs.Tracking.{IsTracked}
+use Rattle.transactions.specs.TrackedQueueUnits.{TrackedQueueValue, tracked_in, reset_queue}
+use Rattle.transactions.specs.TrackedQueueUnits.{RefusesWalksOf, BringsNearer}
 use Rattle.smmuq_c.specs.declared.status.Status.{Status}
 use Rattle.smmuq_c.specs.declared.status.Status.TheVariants.{Done, Acknowledgement, BadField, StillStopped}
 use Rattle.smmuq_c.specs.declared.words.Errors.{Errors}
@@ -86,7 +89,10 @@ HasRestored err gerror gerrorn old new BadField = IsErrorOf err None × (new ≡
 HasRestored err gerror gerrorn old new StillStopped = IsStoppedQueue old × (new ≡ old)
 HasRestored err gerror gerrorn old new other = ⊥
 
--- It holds nothing, and is as a new one.
-pub record HasReset (old new : QueueUnit) (status : Status) : Type 0 where
-  pub new_is : new ≡ new_queue_unit (emptied old.unit.caches)
+-- It holds nothing, and its queue is as a new one. No transaction is outstanding, and no walk that began before is good.
+pub record HasReset (old new : TrackedQueueValue) (status : Status) : Type 0 where
+  pub new_is : new ≡ reset_queue old
+  pub tracked : IsTracked (tracked_in new) []
+  pub walks : RefusesWalksOf old new
+  pub older : BringsNearer old new
   pub status_is : status ≡ Done

@@ -5,11 +5,12 @@ use Rattle.batch.specs.Refusals.{list_refusal}
 use Rattle.ringcore.specs.declared.world.event.Who.TheVariants.{Sender as SenderWho}
 use Rattle.ringcore.specs.world.Trails.{IsSettled}
 use Rattle.ring.specs.table.Histories.{Grew}
+use Rattle.ring.specs.sender.GoingOn.{WentOn, HasOpened}
 use Rattle.ring.specs.sender.Senders.{SenderValue, ReceiptValue}
 use Rattle.ring.specs.sender.Reservations.{ReservationValue, IsReceiptOf}
 use Rattle.ring.specs.sender.Sending.{IsReservedWithin, IsGivenUp}
 use Rattle.ring.specs.sender.Publishing.{published, sender_of}
-use Rattle.smmuq_c.specs.Sends.{HasGrown, tries_of}
+use Rattle.smmuq_c.specs.Sends.{tries_of}
 use Rattle.smmuq_c.specs.declared.object.Object.{Object}
 use Rattle.smmuq_c.specs.declared.object.Object.TheVariants.{Sender as SenderOf, Reservation as ReservationOf}
 use Rattle.smmuq_c.specs.declared.status.Status.{Status}
@@ -17,23 +18,17 @@ use Rattle.smmuq_c.specs.declared.status.Status.TheVariants.{Done, Batch, Refuse
 
 -- ---- reserving
 
--- The reservation is of this sender, whose trail and run grew together.
-pub record IsReservationOf (old : SenderValue) (new : ReservationValue) : Type 0 where
-  pub history : Grew (SenderWho old.number) old.trail new.trail old.history new.history
-  pub ring_is : new.ring ≡ old.ring
-  pub sender_is : new.sender ≡ old.number
-
 -- A batch of these commands with a closing CMD_SYNC was reserved, and nothing of it is written.
 pub record IsOpened (commands : List Raw) (tries : ℕ) (old : SenderValue) (new : ReservationValue) : Type 0 where
   pub batch : list_refusal commands ≡ None
   pub reserved : IsReservedWithin commands true (tries_of tries) old new
-  pub own : IsReservationOf old new
+  pub own : HasOpened old new
 
 -- None was, and this is why.
 abbrev pub IsUnreserved : List Raw → ℕ → SenderValue → SenderValue → Status → Type 0
 IsUnreserved commands tries old new (Batch fault) = (list_refusal commands ≡ Some fault) × (new ≡ old)
 IsUnreserved commands tries old new (Refused cause) =
-    (list_refusal commands ≡ None) × IsGivenUp commands true (tries_of tries) old cause new × HasGrown old new
+    (list_refusal commands ≡ None) × IsGivenUp commands true (tries_of tries) old cause new × WentOn old new
 IsUnreserved commands tries old new other = ⊥
 
 abbrev pub HasReserved : List Raw → ℕ → Object → Object → Status → Type 0

@@ -9,18 +9,13 @@ use Rattle.ringcore.specs.declared.world.event.Event.{Event}
 use Rattle.ringcore.specs.declared.world.event.Event.TheVariants.{Look, Ask, Close}
 use Rattle.ringcore.specs.world.Trails.{batches_made}
 use Rattle.ringcore.specs.world.World.{world, control as control_of}
-use Rattle.ring.specs.table.Histories.{Grew, GrewBy, AreApplied}
+use Rattle.ring.specs.table.Histories.{GrewBy, AreApplied}
+use Rattle.ring.specs.sender.GoingOn.{WentOn}
 use Rattle.ring.specs.sender.Senders.{SenderValue, ReceiptValue}
 use Rattle.ring.specs.sender.Sending.{IsSent, IsSentBare, IsGivenUp}
 use Rattle.smmuq_c.specs.declared.words.ControlWords.{ControlWords}
 use Rattle.smmuq_c.specs.declared.status.Status.{Status}
 use Rattle.smmuq_c.specs.declared.status.Status.TheVariants.{Done, Batch, Refused}
-
--- The sender's trail and the run that it knows grew together, and it is the same sender of the same ring.
-pub record HasGrown (old new : SenderValue) : Type 0 where
-  pub history : Grew (SenderOf old.number) old.trail new.trail old.history new.history
-  pub ring_is : new.ring ≡ old.ring
-  pub number_is : new.number ≡ old.number
 
 -- ---- sending
 
@@ -44,10 +39,10 @@ IsSendingBare commands tries old new (Refused cause) = (list_refusal commands �
 IsSendingBare commands tries old new other = ⊥
 
 abbrev pub HasSent : List Raw → ℕ → ℕ → SenderValue → SenderValue → Status → Type 0
-HasSent commands tries told old new status = IsSending commands tries told old new status × HasGrown old new
+HasSent commands tries told old new status = IsSending commands tries told old new status × WentOn old new
 
 abbrev pub HasSentBare : List Raw → ℕ → SenderValue → SenderValue → Status → Type 0
-HasSentBare commands tries old new status = IsSendingBare commands tries old new status × HasGrown old new
+HasSentBare commands tries old new status = IsSendingBare commands tries old new status × WentOn old new
 
 -- ---- one step
 

@@ -7,7 +7,7 @@ use Rattle.ring.specs.declared.sender.cause.Cause.TheVariants as cause
 use Rattle.ringcore.specs.declared.ring_fault.RingFault.TheVariants as ring
 use Rattle.engine.specs.declared.remedy.AckFault.TheVariants.{NoError, OtherBit}
 use Rattle.smmuq_c.specs.declared.status.Status.{Status}
-use Rattle.smmuq_c.specs.declared.status.Status.TheVariants.{Done, Illegal, Cache, Batch, Refused, Waiting, Ring, Acknowledgement, EmptyHandle, WrongHandle, BadField, ShortBuffer, NoMemory, NotHeld, OpenReservation, NoReservation, StillStopped, OtherCommand, Exhausted, RingEmpty, RingDrained, RingUnwritten, Replaced}
+use Rattle.smmuq_c.specs.declared.status.Status.TheVariants.{Done, Illegal, Cache, Batch, Refused, Waiting, Ring, Acknowledgement, EmptyHandle, WrongHandle, BadField, ShortBuffer, NoMemory, NotHeld, OpenReservation, NoReservation, StillStopped, OtherCommand, Exhausted, RingEmpty, RingDrained, RingUnwritten, Replaced, SyncWaiting, Overtaken, TooOld, OtherWalk, TransactionsFull, NotOutstanding}
 use Rattle.smmuq_c.specs.Statuses.{number_of}
 use Rattle.smmuq_c.specs.Texts.{IsCopied}
 
@@ -54,6 +54,12 @@ words_of RingEmpty = codes "nothing is reserved"
 words_of RingDrained = codes "nothing is reserved, and nothing will be"
 words_of RingUnwritten = codes "the command at the head isn't handed over"
 words_of Replaced = codes "an illegal command was taken without effect"
+words_of SyncWaiting = codes "the CMD_SYNC has to wait for transactions"
+words_of Overtaken = codes "a command that covers the tag was taken since the walk began"
+words_of TooOld = codes "more than 64 invalidations were taken since the walk began"
+words_of OtherWalk = codes "the walk isn't one of this unit since its last reset"
+words_of TransactionsFull = codes "as many transactions are outstanding as there is room for"
+words_of NotOutstanding = codes "no transaction of this number is outstanding"
 
 -- It is the status of this number, or there is none.
 abbrev pub IsNumbered : ℕ → Option Status → Type 0

@@ -13,7 +13,7 @@ use Rattle.ringcore.specs.declared.ring_fault.RingFault.TheVariants as ring
 use Rattle.engine.specs.declared.remedy.AckFault.{AckFault}
 use Rattle.engine.specs.declared.remedy.AckFault.TheVariants.{NoError, OtherBit}
 use Rattle.smmuq_c.specs.declared.status.Status.{Status}
-use Rattle.smmuq_c.specs.declared.status.Status.TheVariants.{Done, Illegal, Cache, Batch, Refused, Waiting, Ring, Acknowledgement, EmptyHandle, WrongHandle, BadField, ShortBuffer, NoMemory, NotHeld, OpenReservation, NoReservation, StillStopped, OtherCommand, Exhausted, RingEmpty, RingDrained, RingUnwritten, Replaced}
+use Rattle.smmuq_c.specs.declared.status.Status.TheVariants.{Done, Illegal, Cache, Batch, Refused, Waiting, Ring, Acknowledgement, EmptyHandle, WrongHandle, BadField, ShortBuffer, NoMemory, NotHeld, OpenReservation, NoReservation, StillStopped, OtherCommand, Exhausted, RingEmpty, RingDrained, RingUnwritten, Replaced, SyncWaiting, Overtaken, TooOld, OtherWalk, TransactionsFull, NotOutstanding}
 
 abbrev pub ill_number : Ill → ℕ
 ill_number UnknownOpcode = 1
@@ -75,3 +75,9 @@ number_of RingEmpty = 0x73
 number_of RingDrained = 0x74
 number_of RingUnwritten = 0x75
 number_of Replaced = 0x76
+number_of SyncWaiting = 0x77
+number_of Overtaken = 0x78
+number_of TooOld = 0x79
+number_of OtherWalk = 0x7a
+number_of TransactionsFull = 0x7b
+number_of NotOutstanding = 0x7c

@@ -5,6 +5,7 @@ ghost use Rattle.smmuq_c.specs.Entries.{fill_status, entry_status, entry_words};
 ghost use Rattle.smmuq_c.specs.Registers.{acknowledgement_status};
 ghost use Rattle.smmuq_c.specs.Runs.{run_status};
 ghost use Rattle.smmuq_c.specs.Renewing.{renewal_status};
+ghost use Rattle.smmuq_c.specs.TrackingCalls.{walk_status, begin_status};
 ghost use Rattle.smmuq_c.specs.Kept.{IsKept};
 
 use crate::status::Status;
@@ -12,14 +13,16 @@ use crate::words::Held;
 use caches::{CacheFault, Entry};
 use engine::{AckFault, JudgeFault, Judgement, RunAnswer};
 use renewal::RenewalFault;
+use transactions::{BeginFault, TrackedJudgement, WalkFault};
 
-pub(crate) fn verdict_status(judgement: Judgement) -> Status
+pub(crate) fn verdict_status(judgement: TrackedJudgement) -> Status
     ensures { result ≡ verdict_status judgement }
 {
     match judgement {
-        Judgement::Applied { .. } => Status::Done,
-        Judgement::Stopped(ill) => Status::Illegal(ill),
-        Judgement::Replaced(_) => Status::Replaced,
+        TrackedJudgement::Judged(Judgement::Applied { .. }) => Status::Done,
+        TrackedJudgement::Judged(Judgement::Stopped(ill)) => Status::Illegal(ill),
+        TrackedJudgement::Judged(Judgement::Replaced(_)) => Status::Replaced,
+        TrackedJudgement::Waiting { .. } => Status::SyncWaiting,
     }
 }
 
@@ -60,6 +63,31 @@ impl From<RenewalFault> for Status {
             RenewalFault::Waiting => Status::Waiting,
             RenewalFault::Ring(fault) => Status::Ring(fault),
             RenewalFault::Caches(fault) => Status::Cache(fault),
+        }
+    }
+}
+
+impl From<WalkFault> for Status {
+    fn from(fault: WalkFault) -> Status
+        ensures { result ≡ walk_status fault }
+    {
+        match fault {
+            WalkFault::Overtaken => Status::Overtaken,
+            WalkFault::TooOld => Status::TooOld,
+            WalkFault::OtherUnit => Status::OtherWalk,
+            WalkFault::Refused(fault) => Status::Cache(fault),
+        }
+    }
+}
+
+impl From<BeginFault> for Status {
+    fn from(fault: BeginFault) -> Status
+        ensures { result ≡ begin_status fault }
+    {
+        match fault {
+            BeginFault::NotHeld => Status::NotHeld,
+            BeginFault::Full => Status::TransactionsFull,
+            BeginFault::Walked(fault) => Status::from(fault),
         }
     }
 }

@@ -15,9 +15,9 @@ use std::alloc::Global;
 /// The version of this interface.
 #[unsafe(no_mangle)]
 pub extern "C" fn smmuq_version() -> u32
-    ensures { result ≡ 2 }
+    ensures { result ≡ 3 }
 {
-    2
+    3
 }
 
 fn decode_status(decoded: Result<Command, Ill>) -> Status

@@ -34,7 +34,7 @@ fn fill(object: &mut Object, tag: &TagWords, value: u64) -> Status
         return Status::BadField;
     };
     match object {
-        Object::Unit(queue) => fill_status(queue.unit.fill(tag, value)),
+        Object::Unit(unit) => fill_status(unit.fill(tag, value)),
         Object::Engine(seated) => seated.fill(tag, value),
         Object::Sender(_) | Object::Reservation(_) | Object::Consumer(_) => Status::WrongHandle,
     }
@@ -91,7 +91,7 @@ fn evict(object: &mut Object, tag: &TagWords, held: &mut Held) -> Status
         return Status::BadField;
     };
     match object {
-        Object::Unit(queue) => tell_entry(queue.unit.evict(&tag), held),
+        Object::Unit(unit) => tell_entry(unit.evict(&tag), held),
         Object::Engine(seated) => seated.evict(&tag, held),
         Object::Sender(_) | Object::Reservation(_) | Object::Consumer(_) => Status::WrongHandle,
     }

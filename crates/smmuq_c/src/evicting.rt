@@ -116,8 +116,8 @@ fn evict_older(object: &mut Object, born: u64, count: &mut usize) -> Status
     ensures kept { IsKept result count.old count.new }
 {
     match object {
-        Object::Unit(queue) => {
-            *count = queue.unit.evict_older(born) as usize;
+        Object::Unit(unit) => {
+            *count = unit.evict_older(born) as usize;
             Status::Done
         }
         Object::Engine(seated) => {
@@ -134,8 +134,8 @@ fn evict_passing<T: TagTest>(object: &mut Object, test: &T, count: &mut usize) -
     ensures kept { IsKept result count.old count.new }
 {
     match object {
-        Object::Unit(queue) => {
-            *count = queue.unit.evict_all(test) as usize;
+        Object::Unit(unit) => {
+            *count = unit.evict_all(test) as usize;
             Status::Done
         }
         Object::Engine(seated) => {

@@ -6,12 +6,13 @@ use crate::seated_consumer::SeatedConsumer;
 use crate::seated_engine::SeatedEngine;
 use crate::seated_reservation::SeatedReservation;
 use crate::seated_sender::SeatedSender;
-use engine::{QueueUnit, Unit};
+use engine::Unit;
+use transactions::TrackedQueueUnit;
 
 /// The kinds of things that a handle may own.
 #[derive(Drop)]
 pub(crate) enum Object {
-    Unit(QueueUnit),
+    Unit(TrackedQueueUnit),
     Sender(SeatedSender),
     /// A sender that has an open reservation.
     Reservation(SeatedReservation),
@@ -40,7 +41,7 @@ impl Object {
         ensures settled { IsSettledObject self.now }
     {
         match self {
-            Object::Unit(queue) => Some(&queue.unit),
+            Object::Unit(unit) => Some(unit.unit()),
             Object::Engine(seated) => Some(seated.unit()),
             Object::Sender(_) | Object::Reservation(_) | Object::Consumer(_) => None,
         }

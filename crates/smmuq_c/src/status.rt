@@ -54,6 +54,18 @@ pub(crate) enum Status {
     RingUnwritten,
     /// An illegal command was taken without effect.
     Replaced,
+    /// It is a CMD_SYNC that has to wait for transactions.
+    SyncWaiting,
+    /// A command that covers the tag was taken since the walk began.
+    Overtaken,
+    /// More than 64 invalidations were taken since the walk began.
+    TooOld,
+    /// The walk isn't one of this unit since its last reset.
+    OtherWalk,
+    /// As many transactions are outstanding as there is room for.
+    TransactionsFull,
+    /// No transaction of this number is outstanding.
+    NotOutstanding,
 }
 
 impl Status {
@@ -85,6 +97,12 @@ impl Status {
             Status::RingDrained => 0x74,
             Status::RingUnwritten => 0x75,
             Status::Replaced => 0x76,
+            Status::SyncWaiting => 0x77,
+            Status::Overtaken => 0x78,
+            Status::TooOld => 0x79,
+            Status::OtherWalk => 0x7a,
+            Status::TransactionsFull => 0x7b,
+            Status::NotOutstanding => 0x7c,
         }
     }
 }

@@ -60,6 +60,12 @@ impl Status {
             Status::RingDrained => "nothing is reserved, and nothing will be",
             Status::RingUnwritten => "the command at the head isn't handed over",
             Status::Replaced => "an illegal command was taken without effect",
+            Status::SyncWaiting => "the CMD_SYNC has to wait for transactions",
+            Status::Overtaken => "a command that covers the tag was taken since the walk began",
+            Status::TooOld => "more than 64 invalidations were taken since the walk began",
+            Status::OtherWalk => "the walk isn't one of this unit since its last reset",
+            Status::TransactionsFull => "as many transactions are outstanding as there is room for",
+            Status::NotOutstanding => "no transaction of this number is outstanding",
         }
     }
 }
@@ -110,6 +116,12 @@ fn numbered(number: u32) -> Option<Status>
         0x74 => Some(Status::RingDrained),
         0x75 => Some(Status::RingUnwritten),
         0x76 => Some(Status::Replaced),
+        0x77 => Some(Status::SyncWaiting),
+        0x78 => Some(Status::Overtaken),
+        0x79 => Some(Status::TooOld),
+        0x7a => Some(Status::OtherWalk),
+        0x7b => Some(Status::TransactionsFull),
+        0x7c => Some(Status::NotOutstanding),
         _ => None,
     }
 }

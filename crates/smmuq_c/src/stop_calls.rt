@@ -1,5 +1,7 @@
 //! The exports of the error stop and the counts, of a unit or of an engine.
-ghost use Rattle.smmuq_c.specs.Calls.{HasCalled, OfState, OfStop, OfUnit, BySaid};
+ghost use Rattle.std.specs.Prelude.{◌≡◌};
+ghost use Rattle.transactions.specs.TrackedQueueUnits.{with_queue};
+ghost use Rattle.smmuq_c.specs.Calls.{HasCalled, OfState, OfStop, OfUnit, OfQueue, BySaid};
 ghost use Rattle.smmuq_c.specs.Registers.{IsRemedyOf, IsErrorOf, HasStoppedFor, HasRestored, HasReset};
 ghost use Rattle.smmuq_c.specs.Kept.{IsKept, KeptUnlessDone};
 
@@ -8,7 +10,8 @@ use crate::handle::Handle;
 use crate::object::Object;
 use crate::status::Status;
 use crate::words::{Errors, Tallies};
-use engine::{QueueError, QueueUnit, StopRemedy};
+use engine::{QueueError, StopRemedy};
+use transactions::TrackedQueueUnit;
 
 /// Writes SMMU_GERRORN, as software. `remedy` 0 has the illegal command come again, 1 has it replaced, 2 leaves that to
 /// the words that come next: the same ones come again, and others replace it. For an engine 2 is 0. G1 if no error is
@@ -44,7 +47,7 @@ fn acknowledge(object: &mut Object, gerrorn: u32, remedy: u32) -> Status
         return Status::BadField;
     };
     match object {
-        Object::Unit(queue) => acknowledgement_status(queue.acknowledge(gerrorn, remedy)),
+        Object::Unit(unit) => acknowledgement_status(unit.acknowledge(gerrorn, remedy)),
         Object::Engine(seated) => seated.acknowledge(gerrorn, remedy.until_then()),
         Object::Sender(_) | Object::Reservation(_) | Object::Consumer(_) => Status::WrongHandle,
     }
@@ -73,9 +76,9 @@ fn tell_state(object: &Object, errors: &mut Errors, tallies: &mut Tallies) -> St
     ensures tallies { IsKept result tallies.old tallies.new }
 {
     match object {
-        Object::Unit(queue) => {
-            *errors = Errors::of(queue.error());
-            *tallies = Tallies::from(queue.unit.counts());
+        Object::Unit(unit) => {
+            *errors = Errors::of(unit.error());
+            *tallies = Tallies::from(unit.unit().counts());
             Status::Done
         }
         Object::Engine(seated) => {
@@ -102,7 +105,7 @@ fn error_of(number: u32) -> Option<QueueError>
 /// number `BAD_FIELD`. CMDQ_ERR of SMMU_GERROR toggles. `STILL_STOPPED` if it is stopped: then nothing changed.
 #[unsafe(no_mangle)]
 pub extern "C" fn smmuq_unit_stop(unit: &mut Handle, err: u32) -> u32
-    ensures { HasCalled (OfUnit (HasStoppedFor err)) unit.old unit.new result }
+    ensures { HasCalled (OfQueue (HasStoppedFor err)) unit.old unit.new result }
 {
     let Some(object) = unit.object_mut() else {
         return Status::EmptyHandle.number();
@@ -111,25 +114,26 @@ pub extern "C" fn smmuq_unit_stop(unit: &mut Handle, err: u32) -> u32
 }
 
 fn stop(object: &mut Object, err: u32) -> Status
-    ensures { OfUnit (HasStoppedFor err) object.old object.new result }
+    ensures { OfQueue (HasStoppedFor err) object.old object.new result }
 {
     match object {
-        Object::Unit(queue) => stop_for(queue, err),
+        Object::Unit(unit) => stop_for(unit, err),
         Object::Sender(_) | Object::Reservation(_) | Object::Engine(_) | Object::Consumer(_) =>
             Status::WrongHandle,
     }
 }
 
-fn stop_for(queue: &mut QueueUnit, err: u32) -> Status
-    ensures { HasStoppedFor err queue.old queue.new result }
+fn stop_for(unit: &mut TrackedQueueUnit, err: u32) -> Status
+    ensures stopped { HasStoppedFor err unit.old.queue unit.new.queue result }
+    ensures rest { unit.new ≡ with_queue unit.new.queue unit.old }
 {
     let Some(error) = error_of(err) else {
         return Status::BadField;
     };
-    if queue.stopped() {
+    if unit.stopped() {
         return Status::StillStopped;
     }
-    queue.stop(error);
+    unit.stop(error);
     Status::Done
 }
 
@@ -138,7 +142,7 @@ fn stop_for(queue: &mut QueueUnit, err: u32) -> Status
 /// nothing changed.
 #[unsafe(no_mangle)]
 pub extern "C" fn smmuq_unit_restore(unit: &mut Handle, err: u32, gerror: u32, gerrorn: u32) -> u32
-    ensures { HasCalled (OfUnit (HasRestored err gerror gerrorn)) unit.old unit.new result }
+    ensures { HasCalled (OfQueue (HasRestored err gerror gerrorn)) unit.old unit.new result }
 {
     let Some(object) = unit.object_mut() else {
         return Status::EmptyHandle.number();
@@ -147,30 +151,31 @@ pub extern "C" fn smmuq_unit_restore(unit: &mut Handle, err: u32, gerror: u32, g
 }
 
 fn restore(object: &mut Object, err: u32, gerror: u32, gerrorn: u32) -> Status
-    ensures { OfUnit (HasRestored err gerror gerrorn) object.old object.new result }
+    ensures { OfQueue (HasRestored err gerror gerrorn) object.old object.new result }
 {
     match object {
-        Object::Unit(queue) => restore_to(queue, err, gerror, gerrorn),
+        Object::Unit(unit) => restore_to(unit, err, gerror, gerrorn),
         Object::Sender(_) | Object::Reservation(_) | Object::Engine(_) | Object::Consumer(_) =>
             Status::WrongHandle,
     }
 }
 
-fn restore_to(queue: &mut QueueUnit, err: u32, gerror: u32, gerrorn: u32) -> Status
-    ensures { HasRestored err gerror gerrorn queue.old queue.new result }
+fn restore_to(unit: &mut TrackedQueueUnit, err: u32, gerror: u32, gerrorn: u32) -> Status
+    ensures restored { HasRestored err gerror gerrorn unit.old.queue unit.new.queue result }
+    ensures rest { unit.new ≡ with_queue unit.new.queue unit.old }
 {
     let Some(error) = error_of(err) else {
         return Status::BadField;
     };
-    if queue.stopped() {
+    if unit.stopped() {
         return Status::StillStopped;
     }
-    queue.restore(gerror, gerrorn, error);
+    unit.restore(gerror, gerrorn, error);
     Status::Done
 }
 
 /// Empties a unit's caches where it is, and starts its counts, registers and stop afresh, as a reset of the SMMU does.
-/// Takes no memory.
+/// No transaction is outstanding then, and walks that began before are refused. Takes no memory.
 #[unsafe(no_mangle)]
 pub extern "C" fn smmuq_unit_reset(unit: &mut Handle) -> u32
     ensures { HasCalled (OfUnit HasReset) unit.old unit.new result }
@@ -185,8 +190,8 @@ fn reset(object: &mut Object) -> Status
     ensures { OfUnit HasReset object.old object.new result }
 {
     match object {
-        Object::Unit(queue) => {
-            queue.reset();
+        Object::Unit(unit) => {
+            unit.reset();
             Status::Done
         }
         Object::Sender(_) | Object::Reservation(_) | Object::Engine(_) | Object::Consumer(_) =>

@@ -5,32 +5,50 @@ ghost use Rattle.smmuq_c.specs.Entries.{entry_words};
 ghost use Rattle.smmuq_c.specs.Registers.{count_words};
 ghost use Rattle.smmuq_c.specs.Runs.{run_words, register_words};
 ghost use Rattle.smmuq_c.specs.Sends.{control_words};
+ghost use Rattle.smmuq_c.specs.TrackingCalls.{transaction_counts};
 
 use crate::status::ill_number;
 use caches::Entry;
 use engine::{Counts, Judgement, Registers, RunAnswer};
 use qindex::Control;
+use transactions::{OutstandingCounts, TrackedJudgement};
 
-/// What a command did: how many entries it removed, and the number of what is illegal in it, or 0.
+/// What a command did.
 #[repr(C)]
 #[derive(Clone, Copy)]
 pub struct VerdictWords {
+    /// How many entries it removed.
     pub removed: u32,
+    /// The number of what is illegal in it, or 0.
     pub ill: u32,
+    /// For how many transactions it has to wait, if it is a CMD_SYNC, or 0.
+    pub waiting: u32,
 }
 
 impl VerdictWords {
     /// For a command that wasn't judged.
-    pub(crate) const NONE: VerdictWords = VerdictWords { removed: 0, ill: 0 };
+    pub(crate) const NONE: VerdictWords = VerdictWords {
+        removed: 0,
+        ill: 0,
+        waiting: 0,
+    };
 
-    pub(crate) fn of(judgement: Judgement) -> VerdictWords
+    pub(crate) fn of(judgement: TrackedJudgement) -> VerdictWords
         ensures { result ≡ verdict_words judgement }
     {
         match judgement {
-            Judgement::Applied { removed } => VerdictWords { removed, ill: 0 },
-            Judgement::Stopped(ill) | Judgement::Replaced(ill) => VerdictWords {
-                removed: 0,
-                ill: ill_number(ill),
+            TrackedJudgement::Judged(Judgement::Applied { removed }) => VerdictWords {
+                removed,
+                ..VerdictWords::NONE
+            },
+            TrackedJudgement::Judged(Judgement::Stopped(ill) | Judgement::Replaced(ill)) =>
+                VerdictWords {
+                    ill: ill_number(ill),
+                    ..VerdictWords::NONE
+                },
+            TrackedJudgement::Waiting { transactions } => VerdictWords {
+                waiting: transactions,
+                ..VerdictWords::NONE
             },
         }
     }
@@ -98,6 +116,26 @@ impl From<Counts> for Tallies {
             replaced: counts.replaced(),
             syncs: counts.syncs(),
             removed: counts.removed(),
+        }
+    }
+}
+
+/// How many transactions are outstanding.
+#[repr(C)]
+#[derive(Clone, Copy)]
+pub struct TransactionCounts {
+    pub outstanding: u32,
+    /// Those of them that a CMD_SYNC waits for.
+    pub covered: u32,
+}
+
+impl From<OutstandingCounts> for TransactionCounts {
+    fn from(counts: OutstandingCounts) -> TransactionCounts
+        ensures { result ≡ transaction_counts counts }
+    {
+        TransactionCounts {
+            outstanding: counts.outstanding,
+            covered: counts.covered,
         }
     }
 }

@@ -1,9 +1,10 @@
 use Rattle.std.proofs.Common.{refl}
 use Rattle.smmuq_c.proofs.Objects.{any_unit, any_engine}
+use Rattle.smmuq_c.proofs.Unchanged.{lost_none}
 use Rattle.smmuq_c.proofs.evicting.evict_passing.Goals as goal
 
 pub returns-in-Unit-clause-called : goal.returns-in-Unit-clause-called
-returns-in-Unit-clause-called g c = let e = c.evict_all.ensures in any_unit _ c.in-Unit.is refl e.settled (record { lost = e.lost; status_is = refl })
+returns-in-Unit-clause-called g c = let e = c.evict_all.ensures in any_unit _ c.in-Unit.is e.rest (lost_none _ c.evict_all.result c.in-Unit.unit c.evict_all.new.self e.lost e.tracked) (record { lost = e.lost; status_is = refl })
 
 pub returns-in-Engine-clause-called : goal.returns-in-Engine-clause-called
 returns-in-Engine-clause-called g c =

@@ -5,7 +5,7 @@ use Rattle.batch.specs.declared.fault.BatchFault.TheVariants as batch
 use Rattle.ring.specs.declared.sender.cause.Cause.TheVariants as cause
 use Rattle.ringcore.specs.declared.ring_fault.RingFault.TheVariants as ring
 use Rattle.engine.specs.declared.remedy.AckFault.TheVariants.{NoError, OtherBit}
-use Rattle.smmuq_c.specs.declared.status.Status.TheVariants.{Done, Illegal, Cache, Batch, Refused, Waiting, Ring, Acknowledgement, EmptyHandle, WrongHandle, BadField, ShortBuffer, NoMemory, NotHeld, OpenReservation, NoReservation, StillStopped, OtherCommand, Exhausted, RingEmpty, RingDrained, RingUnwritten, Replaced}
+use Rattle.smmuq_c.specs.declared.status.Status.TheVariants.{Done, Illegal, Cache, Batch, Refused, Waiting, Ring, Acknowledgement, EmptyHandle, WrongHandle, BadField, ShortBuffer, NoMemory, NotHeld, OpenReservation, NoReservation, StillStopped, OtherCommand, Exhausted, RingEmpty, RingDrained, RingUnwritten, Replaced, SyncWaiting, Overtaken, TooOld, OtherWalk, TransactionsFull, NotOutstanding}
 use Rattle.smmuq_c.proofs.status_words.numbered.Goals as goal
 
 pub returns-in_default : goal.returns-in_default
@@ -50,3 +50,9 @@ returns-in_default c RingEmpty is = omega arith
 returns-in_default c RingDrained is = omega arith
 returns-in_default c RingUnwritten is = omega arith
 returns-in_default c Replaced is = omega arith
+returns-in_default c SyncWaiting is = omega arith
+returns-in_default c Overtaken is = omega arith
+returns-in_default c TooOld is = omega arith
+returns-in_default c OtherWalk is = omega arith
+returns-in_default c TransactionsFull is = omega arith
+returns-in_default c NotOutstanding is = omega arith

@@ -9,7 +9,7 @@ returns-in-Ok-reserve_within-clause-opened c =
     let e = c.in-Ok-reserve_within.ensures in
     opened c.args.commands.now c.args.tries c.in-Ok.ensures c.max.ensures (lent c.unwrap-sender.ensures c.self.view_is) (c.new.ensures ∙ c.unbind-reservation.ensures)
     (subst (λ (b : List Raw). IsReservedWithin b true c.max.result c.unwrap-sender.result c.in-Ok-reserve_within.reservation) c.as_borrowed.ensures e.reserved)
-    (record { history = e.opened.grew; ring_is = e.opened.ring_is; sender_is = e.opened.number_is })
+    e.opened
 
 pub returns-in-Err-reserve_within-clause-refused : goal.returns-in-Err-reserve_within-clause-refused
 returns-in-Err-reserve_within-clause-refused c =
@@ -18,4 +18,4 @@ returns-in-Err-reserve_within-clause-refused c =
     let refused = c.in-Err-reserve_within.field-0 in
     unreserved c.args.commands.now c.args.tries refused.cause c.in-Ok.ensures c.max.ensures same c.new-in-Err-reserve_within.ensures
     (subst (λ (b : List Raw). IsGivenUp b true c.max.result c.unwrap-sender.result refused.cause refused.sender) c.as_borrowed.ensures e.refused)
-    (record { history = e.given_back.grew; ring_is = e.given_back.ring_is; number_is = e.given_back.number_is })
+    e.given_back
