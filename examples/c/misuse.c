@@ -303,7 +303,7 @@ static void be_refused(void) {
     smmuq_consumer consumer = SMMUQ_EMPTY;
     smmuq_tag bad = {.kind = 7};
     smmuq_held held = {11, 12};
-    smmuq_verdict verdict = {13, 14};
+    smmuq_verdict verdict = {13, 14, 19};
     smmuq_command room[4] = {{15, 16}};
     uint32_t number = 17;
     size_t count = 18;
@@ -323,7 +323,7 @@ static void be_refused(void) {
     WANT(smmuq_evict_all(&sender.handle, SMMUQ_KIND(7), &count), SMMUQ_WRONG_HANDLE);
     WANT(smmuq_unit_judge((smmuq_unit *)&sender, 3, 0, &verdict), SMMUQ_WRONG_HANDLE);
     WANT(smmuq_take_run((smmuq_consumer *)&unit, room, 4, &count), SMMUQ_WRONG_HANDLE);
-    WANT(held.value == 11 && held.born == 12 && verdict.removed == 13 && verdict.ill == 14, 1);
+    WANT(held.value == 11 && held.born == 12 && verdict.removed == 13 && verdict.ill == 14 && verdict.waiting == 19, 1);
     WANT(room[0].lo == 15 && room[0].hi == 16 && count == 18, 1);
     WANT(smmuq_publish(&sender, &number), SMMUQ_OK);
     /* What a take without room told, nothing, is what can be completed. */
