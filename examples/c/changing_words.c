@@ -30,8 +30,26 @@ static void *change(void *nothing) {
     return NULL;
 }
 
+/* Fills and uses the entry of whatever tag is read. Answers whether only what may come of a tag did. */
+static int walk_and_access(smmuq_unit *unit) {
+    smmuq_held held;
+    uint64_t walk, transaction;
+    uint32_t last;
+    smmuq_status status;
+    if (smmuq_begin_walk(unit, &walk) != SMMUQ_OK)
+        return 0;
+    status = smmuq_fill_walked(unit, walk, (const smmuq_tag *)&tag, 7);
+    if (status != SMMUQ_OK && status != SMMUQ_BAD_FIELD)
+        return 0;
+    status = smmuq_begin(unit, (const smmuq_tag *)&tag, &held, &transaction);
+    if (status == SMMUQ_OK)
+        return held.value == 7 && smmuq_end(unit, transaction, &last) == SMMUQ_OK;
+    return status == SMMUQ_BAD_FIELD || status == SMMUQ_NOT_HELD;
+}
+
 int main(int argc, char **argv) {
     smmuq_sender sender = SMMUQ_EMPTY;
+    smmuq_unit unit = SMMUQ_EMPTY;
     smmuq_engine engine = SMMUQ_EMPTY;
     unsigned long calls = argc > 1 ? strtoul(argv[1], NULL, 10) : 1000000, i;
     smmuq_run_answer answer;
@@ -41,7 +59,7 @@ int main(int argc, char **argv) {
     pthread_t thread;
     tag.kind = SMMUQ_S1;
     tag.scope = SMMUQ_SCOPE_GLOBAL;
-    if (smmuq_ring_new(4, 0xfffffffeu, 8, &sender, 1, &engine) != SMMUQ_OK)
+    if (smmuq_ring_new(4, 0xfffffffeu, 8, &sender, 1, &engine) != SMMUQ_OK || smmuq_unit_new_tracking(8, 1, &unit) != SMMUQ_OK)
         return 1;
     pthread_create(&thread, NULL, change, NULL);
     for (i = 0; i < calls; i++) {
@@ -62,6 +80,8 @@ int main(int argc, char **argv) {
         status = smmuq_lookup(&engine.handle, (const smmuq_tag *)&tag, &held);
         if (status != SMMUQ_OK && status != SMMUQ_BAD_FIELD && status != SMMUQ_NOT_HELD)
             return 1;
+        if (!walk_and_access(&unit))
+            return 1;
     }
     stop = 1;
     pthread_join(thread, NULL);
@@ -69,6 +89,7 @@ int main(int argc, char **argv) {
         return 1;
     smmuq_free(&sender.handle);
     smmuq_free(&engine.handle);
+    smmuq_free(&unit.handle);
     puts("changing_words: each that was sent is done");
     return 0;
 }

@@ -303,7 +303,7 @@ static void be_refused(void) {
     smmuq_consumer consumer = SMMUQ_EMPTY;
     smmuq_tag bad = {.kind = 7};
     smmuq_held held = {11, 12};
-    smmuq_verdict verdict = {13, 14};
+    smmuq_verdict verdict = {13, 14, 19};
     smmuq_command room[4] = {{15, 16}};
     uint32_t number = 17;
     size_t count = 18;
@@ -323,7 +323,7 @@ static void be_refused(void) {
     WANT(smmuq_evict_all(&sender.handle, SMMUQ_KIND(7), &count), SMMUQ_WRONG_HANDLE);
     WANT(smmuq_unit_judge((smmuq_unit *)&sender, 3, 0, &verdict), SMMUQ_WRONG_HANDLE);
     WANT(smmuq_take_run((smmuq_consumer *)&unit, room, 4, &count), SMMUQ_WRONG_HANDLE);
-    WANT(held.value == 11 && held.born == 12 && verdict.removed == 13 && verdict.ill == 14, 1);
+    WANT(held.value == 11 && held.born == 12 && verdict.removed == 13 && verdict.ill == 14 && verdict.waiting == 19, 1);
     WANT(room[0].lo == 15 && room[0].hi == 16 && count == 18, 1);
     WANT(smmuq_publish(&sender, &number), SMMUQ_OK);
     /* What a take without room told, nothing, is what can be completed. */
@@ -476,6 +476,41 @@ static void share_a_guarded_handle(void) {
     smmuq_free(&engine.handle);
 }
 
+/* A number of a walk or of a transaction that was overtaken, spent, or is of nobody. */
+static void misuse_walks_and_transactions(void) {
+    smmuq_unit unit = SMMUQ_EMPTY;
+    const smmuq_tag stream = {.kind = SMMUQ_STE, .sid = 7};
+    smmuq_held held;
+    smmuq_verdict verdict;
+    uint64_t walk, transaction, another = 21;
+    uint32_t last = 22, i;
+    WANT(smmuq_unit_new_tracking(4, 65536, &unit), SMMUQ_BAD_FIELD);
+    WANT(smmuq_unit_new_tracking(4, 1, &unit), SMMUQ_OK);
+    WANT(smmuq_begin(&unit, &stream, &held, &transaction), SMMUQ_NOT_HELD);
+    WANT(smmuq_end(&unit, 0, &last), SMMUQ_NOT_OUTSTANDING);
+    WANT(smmuq_begin_walk(&unit, &walk), SMMUQ_OK);
+    WANT(smmuq_fill_walked(&unit, walk + 1, &stream, 70), SMMUQ_OTHER_WALK);
+    WANT(smmuq_fill_walked(&unit, walk, &stream, 70), SMMUQ_OK);
+    WANT(smmuq_begin(&unit, &stream, &held, &transaction), SMMUQ_OK);
+    WANT(smmuq_begin(&unit, &stream, &held, &another), SMMUQ_TRANSACTIONS_FULL);
+    WANT(smmuq_unit_judge(&unit, CFGI_STE.lo, CFGI_STE.hi, &verdict), SMMUQ_OK);
+    WANT(smmuq_fill_walked(&unit, walk, &stream, 70), SMMUQ_OVERTAKEN);
+    WANT(smmuq_unit_judge(&unit, CMD_SYNC.lo, CMD_SYNC.hi, &verdict), SMMUQ_WAITING);
+    WANT(verdict.waiting, 1);
+    WANT(last == 22 && another == 21, 1); /* a refusal tells nothing */
+    WANT(smmuq_end(&unit, transaction, &last), SMMUQ_OK);
+    WANT(last, 1);
+    WANT(smmuq_end(&unit, transaction, &last), SMMUQ_NOT_OUTSTANDING);
+    WANT(smmuq_unit_judge(&unit, CMD_SYNC.lo, CMD_SYNC.hi, &verdict), SMMUQ_OK);
+    for (i = 0; i < 64; i++)
+        WANT(smmuq_unit_judge(&unit, CFGI_STE.lo, CFGI_STE.hi, &verdict), SMMUQ_OK);
+    WANT(smmuq_begin_walked(&unit, walk, &stream, &another), SMMUQ_TOO_OLD);
+    WANT(smmuq_unit_reset(&unit), SMMUQ_OK);
+    WANT(smmuq_begin_walked(&unit, walk, &stream, &another), SMMUQ_OTHER_WALK);
+    smmuq_free(&unit.handle);
+    WANT(smmuq_begin_walk(&unit, &walk), SMMUQ_EMPTY_HANDLE);
+}
+
 int main(void) {
     misuse_words();
     misuse_a_unit();
@@ -487,6 +522,7 @@ int main(void) {
     stop_a_unit();
     evict_by_owner();
     renew_a_closed_ring();
+    misuse_walks_and_transactions();
     share_a_guarded_handle();
     puts("misuse: all told");
     return 0;

@@ -15,7 +15,7 @@ class Unit(ctypes.Structure):
 
 
 class Verdict(ctypes.Structure):
-    _fields_ = [("removed", ctypes.c_uint32), ("ill", ctypes.c_uint32)]
+    _fields_ = [("removed", ctypes.c_uint32), ("ill", ctypes.c_uint32), ("waiting", ctypes.c_uint32)]
 
 
 library = ctypes.CDLL(sys.argv[1])

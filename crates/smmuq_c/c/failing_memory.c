@@ -32,7 +32,7 @@ static void fail(const char *why, const char *call) {
     exit(1);
 }
 
-// A unit that is stopped and holds an entry, one that holds none, a ring of two senders with its engine, one of a sender
+// A unit that is stopped, holds an entry and has room for a transaction, one that holds none, a ring of two senders with its engine, one of a sender
 // with its consumer, one in which nothing waits and whose engine holds an entry, and handles that hold nothing.
 struct handles {
     smmuq_unit unit, unused, empty_unit;
@@ -52,7 +52,7 @@ static struct handles made(void) {
     memset(&handles, 0, sizeof handles); // all bytes 0 are empty handles
     smmuq_verdict verdict;
     uint32_t number;
-    if (smmuq_unit_new(4, &handles.unused) || smmuq_unit_new(4, &handles.unit) || smmuq_fill(&handles.unit.handle, &FILLED, 7) ||
+    if (smmuq_unit_new(4, &handles.unused) || smmuq_unit_new_tracking(4, 1, &handles.unit) || smmuq_fill(&handles.unit.handle, &FILLED, 7) ||
         smmuq_unit_judge(&handles.unit, UNKNOWN.lo, UNKNOWN.hi, &verdict) != SMMUQ_ILL_OPCODE ||
         smmuq_ring_new(7, 9, 4, handles.senders, 2, &handles.engine) ||
         smmuq_ring_new(4, 9, 4, &handles.idle_sender, 1, &handles.idle_engine) ||
@@ -85,6 +85,7 @@ static size_t describe(smmuq_handle *handle, char *text, size_t room) {
     smmuq_tallies tallies = {0};
     smmuq_queue_registers registers = {0};
     smmuq_queue_control control = {0};
+    smmuq_transactions transactions = {0};
     smmuq_entry entries[8];
     smmuq_command run[8] = {{0}};
     size_t count = 0, ready = 0;
@@ -94,12 +95,13 @@ static size_t describe(smmuq_handle *handle, char *text, size_t room) {
     uint32_t first = smmuq_lookup(handle, &FILLED, &held[0]), second = smmuq_lookup(handle, &OTHER, &held[1]);
     uint32_t engine = smmuq_registers((smmuq_engine *)handle, &registers), looked = smmuq_look((smmuq_sender *)handle, &control);
     uint32_t told = smmuq_done_up_to((smmuq_sender *)handle, &number), taken = smmuq_take_run((smmuq_consumer *)handle, run, 8, &ready);
-    return (size_t)snprintf(text, room, "kind %u; %u %u %u %u %llu %llu; %u %zu; %u %llu %u %llu; %u %x %x; %u %x %x %u; %u %u; %u %zu %llx\n",
+    uint32_t tracked = smmuq_outstanding((smmuq_unit *)handle, &transactions);
+    return (size_t)snprintf(text, room, "kind %u; %u %u %u %u %llu %llu; %u %zu; %u %llu %u %llu; %u %x %x; %u %x %x %u; %u %u; %u %zu %llx; %u %u %u\n",
                             smmuq_kind(handle), state, errors.err, errors.gerror, errors.gerrorn,
                             (unsigned long long)tallies.applied, (unsigned long long)tallies.replaced, listed, count, first,
                             (unsigned long long)held[0].value, second, (unsigned long long)held[1].value, engine,
                             registers.prod, registers.cons, looked, control.prod, control.cons, control.closed, told, number, taken,
-                            ready, (unsigned long long)run[0].lo);
+                            ready, (unsigned long long)run[0].lo, tracked, transactions.outstanding, transactions.covered);
 }
 
 static void describe_all(struct handles *handles, char *text, size_t room) {
@@ -112,6 +114,8 @@ static void describe_all(struct handles *handles, char *text, size_t room) {
 
 static uint32_t unit_new(struct handles *handles) { return smmuq_unit_new(4, &handles->empty_unit); }
 static uint32_t unit_reset(struct handles *handles) { return smmuq_unit_new(4, &handles->unit); }
+static uint32_t tracking_unit(struct handles *handles) { return smmuq_unit_new_tracking(4, 16, &handles->empty_unit); }
+static uint32_t tracking_again(struct handles *handles) { return smmuq_unit_new_tracking(4, 0, &handles->unit); }
 static uint32_t ring_new(struct handles *handles) { return smmuq_ring_new(5, 9, 4, handles->empty_senders, 2, &handles->empty_engine); }
 static uint32_t ring_again(struct handles *handles) {
     return smmuq_ring_new(5, 9, 4, handles->senders, 2, &handles->engine);
@@ -131,6 +135,26 @@ static uint32_t consumer_ring_again(struct handles *handles) {
 static uint32_t fill_unit(struct handles *handles) { return smmuq_fill(&handles->unused.handle, &OTHER, 9); }
 static uint32_t fill_engine(struct handles *handles) { return smmuq_fill(&handles->engine.handle, &OTHER, 9); }
 static uint32_t fill_in_place(struct handles *handles) { return smmuq_fill(&handles->unit.handle, &FILLED, 9); }
+
+static uint32_t fill_walked(struct handles *handles) {
+    uint64_t walk;
+    uint32_t status = smmuq_begin_walk(&handles->unused, &walk);
+    return status ? status : smmuq_fill_walked(&handles->unused, walk, &OTHER, 9);
+}
+
+// All that begins and ends a transaction.
+static uint32_t track(struct handles *handles) {
+    uint64_t walk, transaction;
+    uint32_t last, status;
+    smmuq_held held;
+    smmuq_transactions counts;
+    status = smmuq_begin(&handles->unit, &FILLED, &held, &transaction);
+    status |= smmuq_end(&handles->unit, transaction, &last);
+    status |= smmuq_begin_walk(&handles->unit, &walk);
+    status |= smmuq_begin_walked(&handles->unit, walk, &OTHER, &transaction);
+    status |= smmuq_outstanding(&handles->unit, &counts) | (counts.outstanding != 1);
+    return status | smmuq_unit_reset(&handles->unit);
+}
 
 static uint32_t entries(struct handles *handles) {
     smmuq_entry buffer[8];
@@ -257,6 +281,8 @@ static const struct {
 } CALLS[] = {
     {"smmuq_unit_new", unit_new, SMMUQ_OK, {SMMUQ_NO_MEMORY}},
     {"smmuq_unit_new over a unit", unit_reset, SMMUQ_OK, {SMMUQ_NO_MEMORY}},
+    {"smmuq_unit_new_tracking", tracking_unit, SMMUQ_OK, {SMMUQ_NO_MEMORY}},
+    {"smmuq_unit_new_tracking over a unit", tracking_again, SMMUQ_OK, {SMMUQ_NO_MEMORY}},
     {"smmuq_ring_new", ring_new, SMMUQ_OK, {SMMUQ_RING_NO_MEMORY, SMMUQ_NO_MEMORY}},
     {"smmuq_ring_new over a ring", ring_again, SMMUQ_OK, {SMMUQ_RING_NO_MEMORY, SMMUQ_NO_MEMORY}},
     {"smmuq_consumer_ring_new", consumer_ring_new, SMMUQ_OK, {SMMUQ_RING_NO_MEMORY, SMMUQ_NO_MEMORY}},
@@ -266,6 +292,8 @@ static const struct {
     {"smmuq_fill of a unit", fill_unit, SMMUQ_OK, {SMMUQ_CACHES_NO_MEMORY}},
     {"smmuq_fill of an engine", fill_engine, SMMUQ_OK, {SMMUQ_CACHES_NO_MEMORY}},
     {"smmuq_fill in place", fill_in_place, SMMUQ_OK, {0}},
+    {"smmuq_fill_walked", fill_walked, SMMUQ_OK, {SMMUQ_CACHES_NO_MEMORY}},
+    {"transactions, and smmuq_unit_reset", track, SMMUQ_OK, {0}},
     {"smmuq_entries", entries, SMMUQ_OK, {SMMUQ_CACHES_NO_MEMORY}},
     {"smmuq_evict_all", evict_all, SMMUQ_OK, {SMMUQ_CACHES_NO_MEMORY}},
     {"smmuq_text", text, SMMUQ_OK, {SMMUQ_NO_MEMORY}},
@@ -288,7 +316,7 @@ static const struct {
 // Makes a call with this allocation failing, and says whether it came to that.
 static bool came_to(size_t which, size_t failing) {
     struct handles handles = made();
-    char before[4096], after[4096];
+    char before[8192], after[8192];
     describe_all(&handles, before, sizeof before);
     serving = failing;
     asked = 0;
