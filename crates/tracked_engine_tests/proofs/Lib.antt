@@ -1,3 +1,4 @@
 pub mod WorkedOutstanding
 pub mod WorkedEnds
 pub mod WorkedRuns
+pub mod Crossing

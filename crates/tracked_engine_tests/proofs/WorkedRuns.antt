@@ -1,11 +1,10 @@
 -- What a run of a tracked engine may not do: for each part of its definitions a case in which they are false. CMD_SYNC with
 -- CS SIG_NONE is the command that comes; it is legal.
-use Rattle.std.proofs.Common.{◌≡◌, ℕ, ◌<◌, true, false, List, [], ◌∷◌, length, take, Some, None, inl, inr, refl, sym, ◌∙◌, arith}
+use Rattle.std.proofs.Common.{◌≡◌, ℕ, true, false, List, [], ◌∷◌, length, take, Some, None, inl, inr, refl, sym, ◌∙◌, arith}
 use Rattle.std.specs.Prelude.{slice_get}
 use Rattle.cmdcodec.specs.declared.raw.Raw.{Raw}
 use Rattle.cmdcodec.specs.declared.ill.Ill.{Ill}
-use Rattle.cmdcodec.specs.Opcodes.{opcode_named, is_sync}
-use Rattle.cmdcodec.specs.Legality.{first_ill}
+use Rattle.cmdcodec.specs.Opcodes.{opcode_named}
 use Rattle.engine.specs.declared.answer.RunAnswer.TheVariants.{Applied, Stopped}
 use Rattle.engine.specs.declared.completion.Completion.{Completion}
 use Rattle.engine.specs.Completions.{completions_of}

@@ -9,4 +9,6 @@ mod run_tests;
 #[cfg(test)]
 mod stop_tests;
 #[cfg(test)]
+mod thread_tests;
+#[cfg(test)]
 mod waiting_tests;
