@@ -3,7 +3,6 @@ ghost use Rattle.std.specs.Prelude.{◌≡◌};
 
 use crate::pages::{Pages, tag_of};
 use crate::report::Report;
-use std::process::Abort;
 use tracked_engine::TrackedEngine;
 use transactions::Transaction;
 
@@ -24,7 +23,6 @@ pub(crate) struct Access {
 
 /// An access begins, with what is held or with what a walk reads. None if it can't begin.
 pub(crate) fn begin(
-    rt: &impl Abort,
     engine: &mut TrackedEngine,
     pages: &Pages,
     place: u32,
@@ -37,7 +35,7 @@ pub(crate) fn begin(
     let transaction = match ending {
         Ending::AfterAccess => Some(transaction),
         Ending::Early => {
-            end_transaction(rt, engine, transaction);
+            end_transaction(engine, transaction, report);
             None
         }
     };
@@ -81,13 +79,7 @@ fn walk(engine: &mut TrackedEngine, pages: &Pages, place: u32) -> Option<(u64, T
 }
 
 /// An access uses its page and ends. If its transaction ended before, the page may be free by now.
-pub(crate) fn end(
-    rt: &impl Abort,
-    engine: &mut TrackedEngine,
-    pages: &Pages,
-    access: Access,
-    report: &mut Report,
-)
+pub(crate) fn end(engine: &mut TrackedEngine, pages: &Pages, access: Access, report: &mut Report)
     ensures { engine.new.consumer ≡ engine.old.consumer }
 {
     let Access {
@@ -100,16 +92,19 @@ pub(crate) fn end(
         report.of_free_pages = report.of_free_pages.saturating_add(1);
     }
     match transaction {
-        Some(transaction) => end_transaction(rt, engine, transaction),
+        Some(transaction) => end_transaction(engine, transaction, report),
         None => {}
     }
 }
 
-fn end_transaction(rt: &impl Abort, engine: &mut TrackedEngine, transaction: Transaction)
+fn end_transaction(engine: &mut TrackedEngine, transaction: Transaction, report: &mut Report)
     ensures { engine.new.consumer ≡ engine.old.consumer }
 {
     match engine.end(transaction) {
         Ok(_) => {}
-        Err(_back) => panic!(rt; "it is outstanding"),
+        Err(back) => {
+            back.into_bits();
+            report.unknown = report.unknown.saturating_add(1);
+        }
     }
 }

@@ -1,7 +1,8 @@
 //! `access_stress ACCESSES [early]`: a device model whose devices access pages, beside three drivers that free a page as
 //! soon as they are told that its invalidation completed. It prints how many accesses ended, how many of them used a page
-//! that was free by then, how many walks there were, and how many runs found a CMD_SYNC that waits. With `early` a
-//! transaction ends when its access begins: a model with that fault uses pages that are free.
+//! that was free by then, how many walks there were, how many runs found a CMD_SYNC that waits, and how many tokens
+//! weren't of an outstanding transaction. With `early` a transaction ends when its access begins: a model with that fault
+//! uses pages that are free.
 #![tactic(auto)]
 
 mod access;
@@ -31,5 +32,6 @@ fn main(rt: HostRuntime) -> io::Result<()> {
     println!(rt; "accesses {}", report.accesses)?;
     println!(rt; "of free pages {}", report.of_free_pages)?;
     println!(rt; "walks {}", report.walks)?;
-    println!(rt; "waiting {}", report.waiting)
+    println!(rt; "waiting {}", report.waiting)?;
+    println!(rt; "unknown tokens {}", report.unknown)
 }

@@ -5,7 +5,6 @@ use crate::access::{Access, Ending, begin, end};
 use crate::pages::Pages;
 use crate::report::Report;
 use ring::Ring;
-use std::process::Abort;
 use tracked_engine::TrackedEngine;
 use transactions::TrackedRun;
 
@@ -30,7 +29,6 @@ fn serve(ring: &Ring, engine: &mut TrackedEngine, report: &mut Report)
 }
 
 fn end_if_begun(
-    rt: &impl Abort,
     engine: &mut TrackedEngine,
     pages: &Pages,
     access: Option<Access>,
@@ -39,14 +37,13 @@ fn end_if_begun(
     ensures { engine.new.consumer ≡ engine.old.consumer }
 {
     match access {
-        Some(access) => end(rt, engine, pages, access, report),
+        Some(access) => end(engine, pages, access, report),
         None => {}
     }
 }
 
 /// Two accesses, the second of which begins while the first is under way. The queue is served while they are.
 fn turn(
-    rt: &impl Abort,
     ring: &Ring,
     engine: &mut TrackedEngine,
     pages: &Pages,
@@ -57,24 +54,18 @@ fn turn(
     requires { engine.old.consumer.ring ≡ ring.now }
     ensures { engine.new.consumer.ring ≡ ring.now }
 {
-    let first = begin(rt, engine, pages, places.0, ending, report);
+    let first = begin(engine, pages, places.0, ending, report);
     serve(ring, engine, report);
-    let second = begin(rt, engine, pages, places.1, ending, report);
+    let second = begin(engine, pages, places.1, ending, report);
     serve(ring, engine, report);
-    end_if_begun(rt, engine, pages, first, report);
+    end_if_begun(engine, pages, first, report);
     serve(ring, engine, report);
-    end_if_begun(rt, engine, pages, second, report);
+    end_if_begun(engine, pages, second, report);
     serve(ring, engine, report);
 }
 
 /// Serves the queue and its devices until so many accesses ended.
-pub(crate) fn serve_all(
-    rt: &impl Abort,
-    ring: &Ring,
-    engine: TrackedEngine,
-    pages: &Pages,
-    plan: Plan,
-) -> Report
+pub(crate) fn serve_all(ring: &Ring, engine: TrackedEngine, pages: &Pages, plan: Plan) -> Report
     requires { engine.consumer.ring ≡ ring.now }
 {
     let (mut engine, mut report) = (engine, Report::NONE);
@@ -84,15 +75,7 @@ pub(crate) fn serve_all(
             break;
         }
         let places = (at % addresses, at / 3 % addresses);
-        turn(
-            rt,
-            ring,
-            &mut engine,
-            pages,
-            places,
-            plan.ending,
-            &mut report,
-        );
+        turn(ring, &mut engine, pages, places, plan.ending, &mut report);
     }
     pages.end();
     report

@@ -1,13 +1,14 @@
 //! What a model's turns came to.
 
-/// How many accesses ended, how many of them used a page that was free by then, how many walks there were, and how many
-/// runs found a CMD_SYNC that waits.
+/// How many accesses ended, how many of them used a page that was free by then, how many walks there were, how many runs
+/// found a CMD_SYNC that waits, and how many tokens weren't of an outstanding transaction.
 #[derive(Clone, Copy, Debug, PartialEq, Eq)]
 pub(crate) struct Report {
     pub(crate) accesses: u64,
     pub(crate) of_free_pages: u64,
     pub(crate) walks: u64,
     pub(crate) waiting: u64,
+    pub(crate) unknown: u64,
 }
 
 impl Report {
@@ -16,5 +17,6 @@ impl Report {
         of_free_pages: 0,
         walks: 0,
         waiting: 0,
+        unknown: 0,
     };
 }

@@ -13,7 +13,6 @@ use ring::{Ring, Sender};
 use std::alloc::AllocGlobal;
 use std::io;
 use std::io::ErrorKind;
-use std::process::Abort;
 use std::thread::{Threads, join};
 use tracked_engine::TrackedEngine;
 use transactions::TrackedUnit;
@@ -48,7 +47,7 @@ fn run_drivers<R: Threads + Sync>(rt: &R, ring: &Ring, mut senders: Vec<Sender>,
 }
 
 /// Runs the drivers and the model until so many accesses ended.
-pub(crate) fn run<R: Threads + AllocGlobal + Abort + Sync>(
+pub(crate) fn run<R: Threads + AllocGlobal + Sync>(
     rt: &R,
     accesses: u64,
     ending: Ending,
@@ -79,7 +78,7 @@ pub(crate) fn run<R: Threads + AllocGlobal + Abort + Sync>(
     Ok(run_all(rt, &ring, senders, engine, &pages, plan))
 }
 
-fn run_all<R: Threads + Abort + Sync>(
+fn run_all<R: Threads + Sync>(
     rt: &R,
     ring: &Ring,
     senders: Vec<Sender>,
@@ -97,7 +96,7 @@ fn run_all<R: Threads + Abort + Sync>(
         { run_drivers(rt, ring, senders, pages) },
         move || -> Report
             requires { engine.consumer.ring ≡ ring.now }
-        { serve_all(rt, ring, engine, pages, plan) },
+        { serve_all(ring, engine, pages, plan) },
     );
     report
 }

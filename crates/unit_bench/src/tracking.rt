@@ -10,7 +10,6 @@ use cmdcodec::Raw;
 use engine::Unit;
 use std::io;
 use std::io::ErrorKind;
-use std::process::Abort;
 use std::rt::Clock;
 use transactions::TrackedUnit;
 
@@ -42,7 +41,7 @@ struct Times {
 }
 
 /// Times a call of both units.
-fn time_both<R: Clock + Abort>(
+fn time_both<R: Clock>(
     rt: &R,
     alone: &mut Unit,
     tracked: &mut TrackedUnit,
@@ -82,7 +81,7 @@ fn report<R: Print>(rt: &R, what: &str, times: Times) -> io::Result<()> {
 }
 
 /// Times all calls of both units in turn.
-pub(crate) fn time_all<R: Clock + Print + AllocGlobal + Abort>(rt: &R) -> io::Result<()> {
+pub(crate) fn time_all<R: Clock + Print + AllocGlobal>(rt: &R) -> io::Result<()> {
     let (Some(mut alone), Some(mut tracked)) = (
         full_unit(rt.alloc(), HELD),
         tracked::full_unit(rt.alloc(), HELD, ROOM),
