@@ -8,6 +8,9 @@ use ring::Ring;
 use tracked_engine::TrackedEngine;
 use transactions::TrackedRun;
 
+/// How often the queue is served while an access is under way.
+const RUNS: u32 = 32;
+
 /// What the devices do: at how many addresses they access pages, when their transactions end, and after how many accesses
 /// the model is over.
 #[derive(Clone, Copy)]
@@ -25,6 +28,16 @@ fn serve(ring: &Ring, engine: &mut TrackedEngine, report: &mut Report)
     match engine.step_run(ring, 64) {
         TrackedRun::Waiting { .. } => report.waiting = report.waiting.saturating_add(1),
         TrackedRun::Ran(_) => {}
+    }
+}
+
+/// Serves what comes into the ring while accesses are under way.
+fn serve_meanwhile(ring: &Ring, engine: &mut TrackedEngine, report: &mut Report)
+    requires { engine.old.consumer.ring ≡ ring.now }
+    ensures { engine.new.consumer.ring ≡ ring.now }
+{
+    for _ in 0..RUNS {
+        serve(ring, engine, report);
     }
 }
 
@@ -55,13 +68,12 @@ fn turn(
     ensures { engine.new.consumer.ring ≡ ring.now }
 {
     let first = begin(engine, pages, places.0, ending, report);
-    serve(ring, engine, report);
+    serve_meanwhile(ring, engine, report);
     let second = begin(engine, pages, places.1, ending, report);
-    serve(ring, engine, report);
+    serve_meanwhile(ring, engine, report);
     end_if_begun(engine, pages, first, report);
-    serve(ring, engine, report);
+    serve_meanwhile(ring, engine, report);
     end_if_begun(engine, pages, second, report);
-    serve(ring, engine, report);
 }
 
 /// Serves the queue and its devices until so many accesses ended.
