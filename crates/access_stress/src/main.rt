@@ -2,7 +2,7 @@
 //! soon as they are told that its invalidation completed. It prints how many accesses ended, how many of them used a page
 //! that was free by then, how many walks there were, how many runs found a CMD_SYNC that waits, and how many tokens
 //! weren't of an outstanding transaction. With `early` a transaction ends when its access begins: a model with that fault
-//! uses pages that are free.
+//! uses pages that are free. Without a number it does nothing.
 #![tactic(auto)]
 
 mod access;
@@ -19,7 +19,7 @@ use std::{env, io};
 fn main(rt: HostRuntime) -> io::Result<()> {
     let words: Vec<String> = env::args(&rt)?.collect(rt.alloc())?;
     let Some(wanted) = words.get(1) else {
-        return Err(io::Error::from(ErrorKind::InvalidInput));
+        return Ok(());
     };
     let Ok(accesses) = wanted.as_str().parse::<u64>() else {
         return Err(io::Error::from(ErrorKind::InvalidInput));
