@@ -92,7 +92,7 @@ module _ {K X : Type 0} {R : K → K → Ordering} (o : IsTotalOrder R) (exact :
       ap finite.entries (same_map o exact (finite.from_entries es) (finite.from_sorted xs) (λ q. get-from_entries o es q ∙ alike q ∙ sym (get-from_sorted R xs q s))) ∙ entries-from_sorted R xs s
 
 -- ---- the entries of the map
-found : (es : List (Key × Entry)) → IsDistinct (eq_by_cmp key_cmp) (keys_of es) → All (λ (e : Key × Entry). lookup (eq_by_cmp key_cmp e.0) es ≡ Some e.1) es
+pub found : (es : List (Key × Entry)) → IsDistinct (eq_by_cmp key_cmp) (keys_of es) → All (λ (e : Key × Entry). lookup (eq_by_cmp key_cmp e.0) es ≡ Some e.1) es
 found es d = λ k e h. let here : Key × Entry = slice_index_or es k e in lookup-from_Contains (eq_by_cmp_equiv key_total) here.0 here.1 es d (Contains-get_or es k e h)
 
 own_tags : (es : List (Key × Entry)) → All (λ (e : Key × Entry). e.1.tag ≡ tag_of e.0) es → tagged es ≡ paired (map (λ (e : Key × Entry). e.1) es)
@@ -102,7 +102,7 @@ own_tags (e ∷ es) h =
     let rest = own_tags es (All-tail (λ (e : Key × Entry). e.1.tag ≡ tag_of e.0) e es h) in
     ap (λ t. (t, e.1) ∷ tagged es) (sym first) ∙ ap (λ ts. (e.1.tag, e.1) ∷ ts) rest
 
-distinct_tags : (es : List (Key × Entry)) → IsDistinct (eq_by_cmp key_cmp) (keys_of es) → IsDistinct (eq_by_cmp tag_cmp) (keys_of (tagged es))
+pub distinct_tags : (es : List (Key × Entry)) → IsDistinct (eq_by_cmp key_cmp) (keys_of es) → IsDistinct (eq_by_cmp tag_cmp) (keys_of (tagged es))
 unfolding IsDistinct
 distinct_tags [] d = tt
 distinct_tags (e ∷ es) d = IsDistinct-cons (eq_by_cmp tag_cmp) (tag_of e.0) (keys_of (tagged es)) (apart e.0 es (IsDistinct-head (eq_by_cmp key_cmp) e.0 (keys_of es) d)) (distinct_tags es (IsDistinct-tail (eq_by_cmp key_cmp) e.0 (keys_of es) d))
@@ -178,7 +178,7 @@ module _ (ks : List Key) where
 abbrev pub AreOwn : BTreeMap Key Entry → Type 0
 AreOwn m = (key : Key) (entry : Entry) → get key_cmp m key ≡ Some entry → entry.tag ≡ tag_of key
 
-all_own : (m : BTreeMap Key Entry) → AreOwn m → IsDistinct (eq_by_cmp key_cmp) (keys_of m.entries) → All (λ (e : Key × Entry). e.1.tag ≡ tag_of e.0) m.entries
+pub all_own : (m : BTreeMap Key Entry) → AreOwn m → IsDistinct (eq_by_cmp key_cmp) (keys_of m.entries) → All (λ (e : Key × Entry). e.1.tag ≡ tag_of e.0) m.entries
 all_own m own d = λ k e lt. let here : Key × Entry = slice_index_or m.entries k e in own here.0 here.1 (found m.entries d k e lt)
 
 pub unlisted_in_order : (m : BTreeMap Key Entry) (ks : List Key) (xs : List Entry) → IsStrictlySortedBy key_cmp (keys_of m.entries) → AreOwn m

@@ -17,6 +17,8 @@ pub mod RangeLaw
 pub mod RankOrder
 pub mod Rest
 pub mod Sharing
+pub mod Shuffled
 pub mod Standing
 pub mod Sweeping
+pub mod Telling
 pub mod Viewed

@@ -18,6 +18,7 @@ pub mod Spanned
 pub mod Stored
 pub mod Sweep
 pub mod TagOrder
+pub mod Told
 pub mod Unlisted
 pub mod Views
 pub mod Walks

@@ -1,5 +1,5 @@
 //! The caches: entries up to a capacity.
-ghost use Rattle.std.specs.Prelude.{◌≡◌, ◌+◌, ◌<◌, ◌≤◌, ◌↔◌, IfOk, IfSome, OnOk, OnErr, Err, None, Some, [], ◌∷◌, ◌++◌};
+ghost use Rattle.std.specs.Prelude.{◌≡◌, ◌+◌, ◌<◌, ◌≤◌, ◌↔◌, All, take, IfOk, IfSome, OnOk, OnErr, Err, None, Some, [], ◌∷◌, ◌++◌};
 ghost use Rattle.std.specs.FinMap as finite;
 ghost use Rattle.caches.specs.Limits.{most_entries, IsCapacity};
 ghost use Rattle.caches.specs.declared.tag.Entry.{Entry};
@@ -7,6 +7,7 @@ ghost use Rattle.caches.specs.Blocks.{IsBlock};
 ghost use Rattle.caches.specs.Finding.{IsFound, IsHeldIn};
 ghost use Rattle.caches.specs.Held.{without_covered, without_older, without_passing, evictions, older_evictions, held, AreOwn, History, Fill, Evict, Take};
 ghost use Rattle.caches.specs.Stored.{IsFilled, IsFillAnswer, IsListAnswer};
+ghost use Rattle.caches.specs.Told.{AreTold, IsCoveredIn, only_covered};
 
 use crate::address_space::AddressSpace;
 use crate::entry_map::EntryMap;
@@ -108,6 +109,21 @@ impl Caches {
         ensures { IsListAnswer self.now.entries result }
     {
         self.held.list(self.alloc)
+    }
+
+    /// Tells which entries `command` covers, those that `apply` would remove, and removes none: writes them in no
+    /// particular order to the beginning of `entries`, as many as there is room for, leaves the rest of it as it is,
+    /// and returns how many there are in all. Takes no memory; one walk along all entries (this project's choice).
+    pub fn covered(&self, command: &Command, entries: &mut [Entry]) -> usize
+        ensures told { AreTold (only_covered command.now self.now.entries)
+            entries.old entries.new result }
+        ensures own { All (IsCoveredIn self.now.entries command.now) (take result entries.new) }
+        ensures counted { result + finite.len (without_covered command.now self.now.entries)
+            ≡ finite.len self.now.entries }
+        ensures few { result ≤ most_entries }
+    {
+        self.held.are_own();
+        self.held.covered(command, entries)
     }
 
     /// Removes the entries that `command` covers and returns how many there were.

@@ -19,8 +19,10 @@ ghost use Rattle.caches.specs.OneStreams.{is_of, is_in};
 ghost use Rattle.caches.specs.Spanned.{HasNoneOf};
 ghost use Rattle.caches.specs.Stored.{IsFilled, IsListAnswer};
 ghost use Rattle.caches.specs.TagOrder.{tag_cmp, numbers};
+ghost use Rattle.caches.specs.Told.{AreTold, only_covered};
 ghost use Rattle.caches.specs.Unlisted.{is_listed, unlisted, IsPartOf};
 
+use crate::covered::tell_covered;
 use crate::entry_test::EntryTest;
 use crate::evicting::remove_passing;
 use crate::fault::CacheFault;
@@ -184,6 +186,14 @@ impl EntryMap {
         }
     }
 
+    /// Writes the entries that `command` covers to the beginning of `room` as far as it reaches, and returns how many
+    /// they are. Takes no memory.
+    pub(crate) fn covered(&self, command: &Command, room: &mut [Entry]) -> usize
+        ensures { AreTold (only_covered command.now self.now) room.old room.new result }
+    {
+        tell_covered(&self.map.ordered, &self.removed, command, room)
+    }
+
     /// Removes the entries that `command` covers. Takes no memory.
     ///
     /// If there are none it doesn't look at the command, so that a command that is only judged never has to be built.
@@ -275,7 +285,7 @@ impl EntryMap {
 ///
 /// Inlined, since the list is mostly empty.
 #[inline(always)]
-fn is_among(ranks: &[Rank], rank: Rank) -> bool
+pub(crate) fn is_among(ranks: &[Rank], rank: Rank) -> bool
     ensures { result ≡ is_listed ranks.now (tag_of rank) }
 {
     !ranks.is_empty() && ranks.contains(&rank)

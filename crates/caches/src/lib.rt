@@ -24,6 +24,7 @@
 
 mod address_space;
 mod caches;
+mod covered;
 mod covering;
 mod entry_map;
 mod entry_test;

@@ -1,3 +1,4 @@
+pub mod WorkedCovered
 pub mod WorkedEvictions
 pub mod WorkedFinding
 pub mod WorkedKinds

@@ -13,6 +13,8 @@ mod clearing;
 #[cfg(test)]
 mod coverage;
 #[cfg(test)]
+mod covered;
+#[cfg(test)]
 mod evicting;
 #[cfg(test)]
 mod finding;
