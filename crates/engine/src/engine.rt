@@ -4,6 +4,7 @@ ghost use Rattle.std.specs.FinMap as finite;
 ghost use Rattle.qindex.specs.ControlWord.{IsControl};
 ghost use Rattle.ringcore.specs.declared.world.event.Who.TheVariants.{Consumer as ConsumerOf, Sender as SenderOf};
 ghost use Rattle.ringcore.specs.world.World.{world};
+ghost use Rattle.caches.specs.Covers.{covers};
 ghost use Rattle.caches.specs.Held.{held};
 ghost use Rattle.caches.specs.Stored.{IsFillAnswer, IsListAnswer};
 ghost use Rattle.ring.specs.Runs.{raws_by};
@@ -29,6 +30,7 @@ use crate::finished::Finished;
 use crate::remedy::{AckFault, Remedy};
 use crate::unit::Unit;
 use caches::{CacheFault, Caches, Entry, Tag, TagTest};
+use cmdcodec::Command;
 use qindex::Control;
 use ring::{Consumer, Ring, Sender};
 use ringcore::laws;
@@ -311,6 +313,16 @@ impl Engine {
         ensures settled { IsSettledEngine self.new }
     {
         self.unit.evict_all(test)
+    }
+
+    /// Removes the entries that `command` covers, without taking it, and returns how many there were, as
+    /// `Unit::invalidate` does. Takes no memory.
+    pub fn invalidate(&mut self, command: &Command) -> u32
+        ensures lost { HasLost (covers command.now) result self.old.unit self.new.unit }
+        ensures new { self.new ≡ record self.old { unit = self.new.unit } }
+        ensures settled { IsSettledEngine self.new }
+    {
+        self.unit.invalidate(command)
     }
 
     /// Removes all entries that were filled before `born` commands were taken, those whose `born` is less, and returns

@@ -1,14 +1,17 @@
 //! The unit: the caches, and the stop at an illegal command.
-ghost use Rattle.std.specs.Prelude.{◌≡◌, ◌<◌, ◌↔◌, [], List, None, Some, IfSome, OnOk, OnErr, IsTrue};
+ghost use Rattle.std.specs.Prelude.{◌≡◌, ◌+◌, ◌<◌, ◌≤◌, ◌↔◌, All, take, [], List, None, Some, IfSome, OnOk, OnErr, IsTrue};
 ghost use Rattle.std.specs.FinMap as finite;
 ghost use Rattle.cmdcodec.specs.declared.command.Command.{Command as CommandOf};
 ghost use Rattle.cmdcodec.specs.declared.ill.Ill.{Ill as IllOf};
 ghost use Rattle.cmdcodec.specs.Legality.{first_ill};
 ghost use Rattle.ringcore.specs.Limits.{most_reserved};
 ghost use Rattle.ringcore.specs.world.World.{Taken};
+ghost use Rattle.caches.specs.Covers.{covers};
 ghost use Rattle.caches.specs.Finding.{IsFound, IsHeldIn};
-ghost use Rattle.caches.specs.Held.{held, AreOwn};
+ghost use Rattle.caches.specs.Held.{held, without_covered, AreOwn};
+ghost use Rattle.caches.specs.Limits.{most_entries};
 ghost use Rattle.caches.specs.Stored.{IsFillAnswer, IsListAnswer};
+ghost use Rattle.caches.specs.Told.{AreTold, IsCoveredIn, only_covered};
 ghost use Rattle.engine.specs.Settled.{IsSettled, StaysSettledWith};
 ghost use Rattle.engine.specs.Stops.{IsStopped, MayComeNext, IsAcknowledgementAnswer, IsActive, told, err_of, word_of};
 ghost use Rattle.engine.specs.Counting.{taken};
@@ -309,6 +312,29 @@ impl Unit {
         ensures settled { StaysSettled self.old self.new [] }
     {
         self.caches.evict_all(test)
+    }
+
+    /// Removes the entries that `command` covers, without taking it, and returns how many there were: for a device that
+    /// is unplugged, or a virtual machine that is reset. Also while it is stopped. Takes no memory.
+    pub fn invalidate(&mut self, command: &Command) -> u32
+        ensures lost { HasLost (covers command.now) result self.old self.new }
+        ensures settled { StaysSettled self.old self.new [] }
+    {
+        self.caches.apply(command)
+    }
+
+    /// Tells which entries `command` covers, those that `invalidate` would remove, and removes none: writes them to the
+    /// beginning of `entries`, as many as there is room for, and returns how many there are in all, as `Caches::covered`
+    /// does. Takes no memory.
+    pub fn covered(&self, command: &Command, entries: &mut [Entry]) -> usize
+        ensures told { AreTold (only_covered command.now self.now.caches.entries)
+            entries.old entries.new result }
+        ensures own { All (IsCoveredIn self.now.caches.entries command.now) (take result entries.new) }
+        ensures counted { result + finite.len (without_covered command.now self.now.caches.entries)
+            ≡ finite.len self.now.caches.entries }
+        ensures few { result ≤ most_entries }
+    {
+        self.caches.covered(command, entries)
     }
 
     /// Removes all entries that were filled before `born` commands were taken, those whose `born` is less, and returns
