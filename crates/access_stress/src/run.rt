@@ -71,7 +71,7 @@ pub(crate) fn run<R: Threads + AllocGlobal + Sync>(
     ) else {
         return Err(io::Error::from(ErrorKind::OutOfMemory));
     };
-    let Ok(unit) = TrackedUnit::new(rt.alloc(), caches, ROOM) else {
+    let Ok(unit) = TrackedUnit::new(rt.alloc(), 0, caches, ROOM) else {
         return Err(io::Error::from(ErrorKind::OutOfMemory));
     };
     let engine = TrackedEngine::new(consumer, unit);

@@ -21,6 +21,7 @@ use Rattle.transactions.specs.Tracking.{IsTracked, with_acknowledged}
 use Rattle.transactions.specs.TrackedVerdicts.{IsLegalSync, IsTrackedVerdict, IsWaiting, took_by}
 use Rattle.transactions.specs.Transactions.{TransactionValue, IsBeginAnswer, IsEnded}
 use Rattle.transactions.specs.Walks.{WalkAnswer, IsWalkAnswer, IsCachesAnswer, with_walked}
+use Rattle.transactions.specs.Walks.{walk_now, began_on}
 use Rattle.trace.specs.declared.access.OpenAccess.{OpenAccess}
 use Rattle.trace.specs.declared.log_fault.LogFault.{LogFault}
 use Rattle.trace.specs.declared.log_fault.LogFault.TheVariants.{Memory, NoWalk, AccessOpen, NoAccess, TooManyAccesses, OtherCommand, Wrong}
@@ -51,9 +52,9 @@ pub record IsFill (taken : List Taken) (began : ℕ) (tag : Tag) (value : ℕ)
 
 pub record HasFilled (taken : List Taken) (number : ℕ) (tag : Tag) (value : ℕ)
     (old : TraceValue) (said : Reply) (new : TraceValue) : Type 0 where
-  pub began : ℕ
-  pub walk : walk_of number old.walks ≡ Some began
-  pub fill : IsFill taken began tag value old said new
+  pub walk : ℕ
+  pub walk_is : walk_of number old.walks ≡ Some walk
+  pub fill : IsFill taken (began_on old.unit walk) tag value old said new
 
 -- ---- an access
 
@@ -150,7 +151,7 @@ abbrev pub Served :
     List Taken → Request → TraceValue → Reply → TraceValue → List Taken → Type 0
 Served taken asks.Nothing old said new more = (said ≡ reply.Nothing) × (new ≡ old) × (more ≡ [])
 Served taken (asks.Walk number) old said new more =
-    (said ≡ reply.Walking) × (new ≡ with_walk number (length taken) old) × (more ≡ [])
+    (said ≡ reply.Walking) × (new ≡ with_walk number (walk_now old.unit) old) × (more ≡ [])
 Served taken (asks.Fill number tag value) old said new more =
     HasFilled taken number tag value old said new × (more ≡ [])
 Served taken (asks.Use number tag) old said new more = IsUse number tag old said new × (more ≡ [])

@@ -17,7 +17,7 @@ pub record TraceValue : Type 0 where
 -- before the first line: empty caches for 65,536 entries, and room for 1,024 accesses
 abbrev pub new_trace : TraceValue
 new_trace = record {
-  unit = new_tracked (record { capacity = 65536; entries = held [] }) 1024;
+  unit = new_tracked 0 (record { capacity = 65536; entries = held [] }) 1024;
   walks = [];
   accesses = [];
   right = None;
@@ -25,15 +25,15 @@ new_trace = record {
 
 -- ---- walks
 
--- how many commands had been taken when the newest walk of this number began
+-- the newest walk of this number in the log, by its own number on the unit
 abbrev pub walk_of : ℕ → List OpenWalk → Option ℕ
 walk_of number [] = None
 walk_of number (w ∷ walks) = if w.number == number then Some w.walk else walk_of number walks
 
--- A walk begins after so many commands. The last 1,024 are known.
+-- A walk begins. The last 1,024 are known.
 abbrev pub with_walk : ℕ → ℕ → TraceValue → TraceValue
-with_walk number began t =
-    record t { walks = take 1024 (record { number = number; walk = began } ∷ t.walks) }
+with_walk number walk t =
+    record t { walks = take 1024 (record { number = number; walk = walk } ∷ t.walks) }
 
 -- ---- accesses
 

@@ -37,7 +37,7 @@ pub(crate) struct Trace {
 impl Model for Trace {
     ghost use Rattle.std.specs.Coded.{codes};
     ghost use Rattle.caches.specs.Stored.{stored_code};
-    ghost use Rattle.trace.specs.Accesses.{AreIn};
+    ghost use Rattle.trace.specs.Accesses.{AreOf};
     ghost use Rattle.trace.specs.Traces.{TraceValue};
 
     ghost Value = { TraceValue };
@@ -51,7 +51,7 @@ impl Model for Trace {
       right = t.right;
     } };
 
-    ghost invariant = { λ t. AreIn t.unit.outstanding t.accesses.items };
+    ghost invariant = { λ t. AreOf t.unit t.accesses.items };
 }
 
 impl Trace {
@@ -61,7 +61,7 @@ impl Trace {
         ensures tracked { IfOk result (λ t. IsTracked t.unit []) }
     {
         let caches = Caches::new(alloc, MOST_ENTRIES).unwrap();
-        let unit = TrackedUnit::new(alloc, caches, MOST_ACCESSES)?;
+        let unit = TrackedUnit::new(alloc, 0, caches, MOST_ACCESSES)?;
         Ok(Trace {
             unit,
             walks: Vec::new(alloc),

@@ -8,7 +8,7 @@ use Rattle.caches.specs.declared.tag.Entry.{Entry}
 use Rattle.transactions.specs.declared.transaction.BeginFault.{BeginFault}
 use Rattle.transactions.specs.declared.transaction.Ended.{Ended}
 use Rattle.transactions.specs.declared.transaction.BeginFault.TheVariants.{NotHeld, Full, Walked}
-use Rattle.transactions.specs.Transactions.{TransactionValue, IsBeginAnswer, IsBeginWalkedAnswer, IsEndAnswer}
+use Rattle.transactions.specs.Transactions.{TransactionValue, IsBeginAnswer, IsBeginWalkedAnswer, IsOutstandingWalk, IsEndAnswer}
 use Rattle.transactions.specs.Together.{TrackedConsumer, AreTracked}
 use Rattle.tracked_engine.specs.TrackedEngines.{IsTrackedEngine, consumer_in}
 
@@ -37,6 +37,10 @@ next_after_walked old walk tag new (Ok token) is = ap (λ (t : TrackedValue). t.
 next_after_walked old walk tag new (Err NotHeld) is = absurd is
 next_after_walked old walk tag new (Err Full) is = ap (λ (t : TrackedValue). t.unit.stop.next) is.0
 next_after_walked old walk tag new (Err (Walked fault)) is = ap (λ (t : TrackedValue). t.unit.stop.next) is.0
+
+pub next_after_walk : (number : ℕ) (old new : TrackedValue) (answer : Option (ℕ × TransactionValue)) → IsOutstandingWalk number old new answer → new.unit.stop.next ≡ old.unit.stop.next
+next_after_walk number old new (Some both) is = ap (λ (t : TrackedValue). t.unit.stop.next) is.1.new_is
+next_after_walk number old new None is = ap (λ (t : TrackedValue). t.unit.stop.next) is.0
 
 pub next_after_end : (old : TrackedValue) (token : TransactionValue) (new : TrackedValue) (answer : Result Ended TransactionValue) → IsEndAnswer old token new answer → new.unit.stop.next ≡ old.unit.stop.next
 next_after_end old token new (Ok ended) is = ap (λ (t : TrackedValue). t.unit.stop.next) is.0.new_is

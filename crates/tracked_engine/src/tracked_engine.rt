@@ -2,16 +2,21 @@
 ghost use Rattle.std.specs.Prelude.{◌≡◌, ◌≤◌, ◌↔◌, [], length};
 ghost use Rattle.std.specs.Prelude.{IfSome, IsTrue, OnOk, OnErr};
 ghost use Rattle.std.specs.FinMap as finite;
+ghost use Rattle.caches.specs.Covers.{covers};
 ghost use Rattle.caches.specs.Stored.{IsFillAnswer};
+ghost use Rattle.engine.specs.Units.{HasLost};
 ghost use Rattle.ring.specs.Runs.{raws_by};
 ghost use Rattle.ring.specs.Finishing.{AreAll};
 ghost use Rattle.engine.specs.Completions.{AreToCells};
 ghost use Rattle.engine.specs.Stops.{IsStopped, IsAcknowledgementAnswer};
 ghost use Rattle.engine.specs.Counting.{taken};
-ghost use Rattle.transactions.specs.Tracking.{with_filled, with_evicted, with_acknowledged};
+ghost use Rattle.transactions.specs.Tracking.{with_unit, with_filled, with_evicted};
+ghost use Rattle.transactions.specs.Tracking.{with_acknowledged};
 ghost use Rattle.transactions.specs.Outstanding.{AreCountsOf};
 ghost use Rattle.transactions.specs.Transactions.{IsBeginAnswer, IsBeginWalkedAnswer, IsEndAnswer};
+ghost use Rattle.transactions.specs.Transactions.{IsOutstandingWalk};
 ghost use Rattle.transactions.specs.Walks.{AnswersWalk, IsCachesAnswer, with_walked};
+ghost use Rattle.transactions.specs.Walks.{walk_now, began_on, IsRefusedElsewhere};
 ghost use Rattle.transactions.specs.Together.{AreTracked, HasGrown};
 ghost use Rattle.transactions.specs.Told.{WasToldAllFully, HasConsumerSteps, HasSenderSteps};
 ghost use Rattle.transactions.specs.Told.{SenderWentOn};
@@ -23,6 +28,7 @@ ghost use Rattle.tracked_engine.specs.TrackedEnds.{IsTrackedEnd};
 
 use crate::finished::TrackedFinished;
 use caches::{CacheFault, Entry, Tag};
+use cmdcodec::Command;
 use engine::{AckFault, Completion, Counts, Registers, Remedy, RunAnswer, StepAnswer, Unit};
 use ring::{Consumer, Ring, Sender};
 use std::marker::Model;
@@ -168,8 +174,8 @@ impl TrackedEngine {
     }
 
     /// A witness, while the ring runs, that a sender was told truly: whatever number it was told,
-    /// no entry is held, and no transaction is outstanding that began with an entry, which is older
-    /// than a command that was reserved before that CMD_SYNC and covers it. From then on both know
+    /// no entry is held, and no transaction is outstanding that uses one or tables, which is older
+    /// than a command that was reserved before that CMD_SYNC and concerns it. From then on both know
     /// the run as it is at this moment, which has the steps of both. Otherwise both stay as they
     /// are.
     pub fn told(&mut self, ring: &Ring, sender: &mut Sender)
@@ -203,8 +209,8 @@ impl TrackedEngine {
 
     /// Joins the engine and all senders of its ring. `senders` has them in the order of their
     /// numbers. One run has all their steps. Whatever number a sender was told, no entry is held,
-    /// and no transaction is outstanding that began with an entry, which is older than a command
-    /// that was reserved before that CMD_SYNC and covers it.
+    /// and no transaction is outstanding that uses one or tables, which is older than a command
+    /// that was reserved before that CMD_SYNC and concerns it.
     ///
     /// Transactions may be outstanding still, so the unit comes back.
     pub fn finish(self, ring: Ring, senders: Vec<Sender>) -> TrackedFinished
@@ -298,14 +304,41 @@ impl TrackedEngine {
     {
         self.tracked.evict(tag)
     }
+
+    /// Removes the entries that `command` covers, without taking it, and returns how many there
+    /// were, as `TrackedUnit::invalidate` does.
+    pub fn invalidate(&mut self, command: &Command) -> u32
+        ensures lost { HasLost (covers command.now) result self.old.tracked.unit
+            self.new.tracked.unit }
+        ensures rest { self.new.tracked ≡ with_unit self.new.tracked.unit self.old.tracked }
+        ensures consumer { self.new.consumer ≡ self.old.consumer }
+        ensures tracked { AreTracked self.new.consumer self.new.tracked }
+    {
+        self.tracked.invalidate(command)
+    }
 }
 
 impl TrackedEngine {
     /// A translation table walk begins now.
     pub fn begin_walk(&self) -> Walk
-        ensures { result ≡ taken self.now.tracked.unit.counts }
+        ensures walk { result ≡ walk_now self.now.tracked }
+        ensures began { began_on self.now.tracked result ≡ taken self.now.tracked.unit.counts }
+        ensures elsewhere { IsRefusedElsewhere self.now.tracked result }
     {
         self.tracked.begin_walk()
+    }
+
+    /// A translation table walk begins now that a CMD_SYNC waits for: it counts as a transaction
+    /// that each invalidation concerns. Its token is to be given to `end` once it reads and writes
+    /// tables no more. `None`, changing nothing, if as many transactions are outstanding as there is
+    /// room for.
+    pub fn begin_outstanding_walk(&mut self) -> Option<(Walk, Transaction)>
+        ensures begun { IsOutstandingWalk (walk_now self.old.tracked) self.old.tracked
+            self.new.tracked result }
+        ensures consumer { self.new.consumer ≡ self.old.consumer }
+        ensures tracked { AreTracked self.new.consumer self.new.tracked }
+    {
+        self.tracked.begin_outstanding_walk()
     }
 
     /// Fills what a walk read, as an entry that was born when the walk began, and returns the one
@@ -319,9 +352,10 @@ impl TrackedEngine {
         tag: Tag,
         value: u64,
     ) -> Result<Option<Entry>, WalkFault>
-        ensures answer { AnswersWalk self.old.tracked walk tag result }
+        ensures answer { AnswersWalk self.old.tracked (began_on self.old.tracked walk) tag result }
         ensures caches { IsCachesAnswer self.old.tracked.unit.caches tag result }
-        ensures ok { OnOk result (self.new.tracked ≡ with_walked walk tag value self.old.tracked) }
+        ensures ok { OnOk result (self.new.tracked
+            ≡ with_walked (began_on self.old.tracked walk) tag value self.old.tracked) }
         ensures err { OnErr result (self.new ≡ self.old) }
         ensures consumer { self.new.consumer ≡ self.old.consumer }
         ensures tracked { AreTracked self.new.consumer self.new.tracked }
@@ -349,7 +383,8 @@ impl TrackedEngine {
     /// answers by the tag's block and by what was taken; Full if as many are outstanding as there
     /// is room for.
     pub fn begin_walked(&mut self, walk: Walk, tag: &Tag) -> Result<Transaction, BeginFault>
-        ensures begun { IsBeginWalkedAnswer self.old.tracked walk tag.now self.new.tracked result }
+        ensures begun { IsBeginWalkedAnswer self.old.tracked (began_on self.old.tracked walk)
+            tag.now self.new.tracked result }
         ensures consumer { self.new.consumer ≡ self.old.consumer }
         ensures tracked { AreTracked self.new.consumer self.new.tracked }
     {
@@ -358,7 +393,8 @@ impl TrackedEngine {
 
     /// A transaction is over. Returns whether it was the last that a CMD_SYNC waits for.
     ///
-    /// Errors, changing nothing: the token, if it isn't of a transaction that is outstanding here.
+    /// Errors, changing nothing: the token, if it isn't of a transaction that is outstanding here,
+    /// but has ended or is another unit's.
     pub fn end(&mut self, transaction: Transaction) -> Result<Ended, Transaction>
         ensures ended { IsEndAnswer self.old.tracked transaction self.new.tracked result }
         ensures consumer { self.new.consumer ≡ self.old.consumer }

@@ -1,4 +1,5 @@
 pub mod WorkedOutstanding
+pub mod WorkedUnits
 pub mod WorkedEnds
 pub mod WorkedRuns
 pub mod Crossing

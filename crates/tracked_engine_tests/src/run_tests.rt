@@ -24,7 +24,7 @@ fn a_run_that_ends_ahead_of_a_sync_that_waits(rt: HostRuntime) -> Result<(), Rin
     let (ring, mut senders, consumer) = Ring::new(rt.alloc(), 3, 1, 100)?;
     let sender = senders.pop().expect(&rt, "one sender");
     let caches = Caches::new(rt.alloc(), 8).expect(&rt, "1 to 65,536");
-    let unit = TrackedUnit::new(rt.alloc(), caches, 1).expect(&rt, "memory");
+    let unit = TrackedUnit::new(rt.alloc(), 0, caches, 1).expect(&rt, "memory");
     let mut engine = TrackedEngine::new(consumer, unit);
     let tag = stream(&rt, 5);
     assert!(rt; engine.fill(tag, 70).is_ok());
@@ -56,7 +56,7 @@ fn a_run_that_tells_what_it_completed(rt: HostRuntime) -> Result<(), RingFault> 
     let (ring, mut senders, consumer) = Ring::new(rt.alloc(), 3, 1, 100)?;
     let sender = senders.pop().expect(&rt, "one sender");
     let caches = Caches::new(rt.alloc(), 8).expect(&rt, "1 to 65,536");
-    let unit = TrackedUnit::new(rt.alloc(), caches, 1).expect(&rt, "memory");
+    let unit = TrackedUnit::new(rt.alloc(), 0, caches, 1).expect(&rt, "memory");
     let mut engine = TrackedEngine::new(consumer, unit);
     let batch = Batch::from_raws(&[STE]).expect(&rt, "no CMD_SYNC");
     assert!(rt; sender.send(&ring, &batch, 1).is_ok());

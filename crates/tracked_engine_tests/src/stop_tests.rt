@@ -15,7 +15,7 @@ fn a_stop_and_its_acknowledgement(rt: HostRuntime) -> Result<(), RingFault> {
     let (ring, mut senders, consumer) = Ring::new(rt.alloc(), 3, 1, 100)?;
     let sender = senders.pop().expect(&rt, "one sender");
     let caches = Caches::new(rt.alloc(), 8).expect(&rt, "1 to 65,536");
-    let unit = TrackedUnit::new(rt.alloc(), caches, 1).expect(&rt, "memory");
+    let unit = TrackedUnit::new(rt.alloc(), 0, caches, 1).expect(&rt, "memory");
     let mut engine = TrackedEngine::new(consumer, unit);
     let batch = Batch::from_raws(&[ILLEGAL]).expect(&rt, "one command");
     let Ok((mut sender, receipt)) = sender.send(&ring, &batch, 1) else {

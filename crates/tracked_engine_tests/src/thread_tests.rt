@@ -72,7 +72,7 @@ fn an_engine_that_goes_from_thread_to_thread(rt: HostRuntime) -> Result<(), Ring
     let (ring, mut senders, consumer) = Ring::new(rt.alloc(), 3, 1, 100)?;
     let sender = senders.pop().expect(&rt, "one sender");
     let caches = Caches::new(rt.alloc(), 8).expect(&rt, "1 to 65,536");
-    let unit = TrackedUnit::new(rt.alloc(), caches, 1).expect(&rt, "memory");
+    let unit = TrackedUnit::new(rt.alloc(), 0, caches, 1).expect(&rt, "memory");
     let mut engine = TrackedEngine::new(consumer, unit);
     assert!(rt; engine.fill(stream(&rt, 5), 70).is_ok());
     let (engine, Some(transaction)) = begin_elsewhere(&rt, engine) else {

@@ -59,7 +59,7 @@ fn a_sync_that_waits_for_a_transaction(rt: HostRuntime) -> Result<(), RingFault>
     let (ring, mut senders, consumer) = Ring::new(rt.alloc(), 3, 1, 100)?;
     let sender = senders.pop().expect(&rt, "one sender");
     let caches = Caches::new(rt.alloc(), 8).expect(&rt, "1 to 65,536");
-    let unit = TrackedUnit::new(rt.alloc(), caches, 1).expect(&rt, "memory");
+    let unit = TrackedUnit::new(rt.alloc(), 0, caches, 1).expect(&rt, "memory");
     let mut engine = TrackedEngine::new(consumer, unit);
     let tag = stream(&rt, 5);
     assert!(rt; engine.fill(tag, 70).is_ok());
@@ -97,7 +97,7 @@ fn a_walk_that_a_command_overtakes(rt: HostRuntime) -> Result<(), RingFault> {
     let (ring, mut senders, consumer) = Ring::new(rt.alloc(), 3, 1, 100)?;
     let sender = senders.pop().expect(&rt, "one sender");
     let caches = Caches::new(rt.alloc(), 8).expect(&rt, "1 to 65,536");
-    let unit = TrackedUnit::new(rt.alloc(), caches, 2).expect(&rt, "memory");
+    let unit = TrackedUnit::new(rt.alloc(), 0, caches, 2).expect(&rt, "memory");
     let mut engine = TrackedEngine::new(consumer, unit);
     let (five, six) = (stream(&rt, 5), stream(&rt, 6));
     let walk = engine.begin_walk();

@@ -38,7 +38,7 @@ none_outstanding t list all is list_is earlier s number applied up_to_now outcom
       taken = taken_as raw;
       at = in_list place raw (begun_at first (advanced earlier) applied.completed.all_ahead place raw at);
       since = from;
-      covered = record { applied = legal_is_applied raw legal; command = command; spelled = spelled; covered = covered };
+      concerned = record { applied = legal_is_applied raw legal; command = command; spelled = spelled; concerned = covered };
       later = length first;
       sync = taken_as (sync_raw s number);
       at_later = in_list (length first) (sync_raw s number) applied.completed.sync;

@@ -9,39 +9,40 @@ use Rattle.cmdcodec.specs.Spelling.{Spells}
 use Rattle.ringcore.specs.declared.world.event.Outcome.TheVariants.{Applied, Replaced}
 use Rattle.ringcore.specs.world.World.{Taken}
 use Rattle.caches.specs.declared.tag.Tag.{Tag}
-use Rattle.caches.specs.Covers.{covers}
 use Rattle.engine.specs.Settled.{HasCovered, IsSettled, IsSettledEntry}
-use Rattle.caches.specs.Blocks.{IsBlock}
 use Rattle.caches.specs.declared.tag.Entry.{Entry}
 use Rattle.transactions.specs.FreeSlots.{HasBlocks}
 use Rattle.transactions.specs.Tracking.{TrackedValue, TrackingValue, tracked_with, IsTracked}
 use Rattle.transactions.specs.declared.transaction.Ended.{Ended}
 use Rattle.transactions.specs.declared.transaction.Ended.TheVariants.{LastCovered}
-use Rattle.transactions.specs.Transactions.{TransactionValue, with_outstanding, WasLastCovered, IsEndAnswer}
+use Rattle.caches.specs.Covers.{covers}
+use Rattle.transactions.specs.Transactions.{TransactionValue, IsOwn, new_transaction, with_outstanding, WasLastCovered, IsEndAnswer}
 use Rattle.std.proofs.lemmas.List.Sums.{sum_by-cons}
 use Rattle.engine.specs.Counting.{taken}
 use Rattle.engine.specs.Units.{UnitValue, StaysSettled}
 use Rattle.transactions.specs.declared.outstanding.OutstandingTransaction.{OutstandingTransaction}
-use Rattle.transactions.specs.Coverage.{is_invalidation}
-use Rattle.transactions.specs.Since.{HasCoveredSince}
-use Rattle.transactions.specs.Outstanding.{Slots, cover, is_covered, IsOverdue, NoneIsOverdue, TellsCovered, TellCovered, HasCoveredOutstanding}
+use Rattle.transactions.specs.declared.used.Used.{Used}
+use Rattle.transactions.specs.declared.used.Used.TheVariants.{Entry as EntryOf, Tables}
+use Rattle.transactions.specs.Coverage.{is_invalidation, concerns, HasConcerned}
+use Rattle.transactions.specs.Since.{HasCoveredSince, HasConcernedSince}
+use Rattle.transactions.specs.Outstanding.{Slots, cover, is_covered, IsOverdue, NoneIsOverdue, TellsCovered, TellCovered, HasCoveredOutstanding, UsesBlock}
 use Rattle.transactions.proofs.Lists.{get_more, get_end, get_last, get_set, get_map, get_copies, counted, counts_one}
 use Rattle.transactions.proofs.Spelled.{covers_may}
 
--- ---- what has covered a tag
+-- ---- what has concerned what is used
 
-module _ (list : List Taken) (t : Taken) (began : ℕ) (tag : Tag) where
-  pub since_more : HasCoveredSince list began tag → HasCoveredSince (list ++ t ∷ []) began tag
-  since_more h = record { place = h.place; taken = h.taken; at = get_more list t h.taken h.place h.at; since = h.since; covered = h.covered }
+module _ (list : List Taken) (t : Taken) (began : ℕ) (used : Used) where
+  pub since_more : HasConcernedSince list began used → HasConcernedSince (list ++ t ∷ []) began used
+  since_more h = record { place = h.place; taken = h.taken; at = get_more list t h.taken h.place h.at; since = h.since; concerned = h.concerned }
 
-  pub since_now : began ≤ length list → HasCovered t tag → HasCoveredSince (list ++ t ∷ []) began tag
-  since_now within c = record { place = length list; taken = t; at = get_end list t; since = within; covered = c }
+  pub since_now : began ≤ length list → HasConcerned t used → HasConcernedSince (list ++ t ∷ []) began used
+  since_now within c = record { place = length list; taken = t; at = get_end list t; since = within; concerned = c }
 
-  pub since_last : HasCoveredSince (list ++ t ∷ []) began tag → HasCoveredSince list began tag ⊎ HasCovered t tag
+  pub since_last : HasConcernedSince (list ++ t ∷ []) began used → HasConcernedSince list began used ⊎ HasConcerned t used
   since_last h =
       ⊎_elim
-      (λ (old : slice_get list h.place ≡ Some h.taken). inl (record { place = h.place; taken = h.taken; at = old; since = h.since; covered = h.covered }))
-      (λ (new : (h.place ≡ length list) × (t ≡ h.taken)). inr (subst (λ (u : Taken). HasCovered u tag) (sym new.1) h.covered))
+      (λ (old : slice_get list h.place ≡ Some h.taken). inl (record { place = h.place; taken = h.taken; at = old; since = h.since; concerned = h.concerned }))
+      (λ (new : (h.place ≡ length list) × (t ≡ h.taken)). inr (subst (λ (u : Taken). HasConcerned u used) (sym new.1) h.concerned))
       (get_last list t h.taken h.place h.at)
 
 -- ---- what makes a transaction late
@@ -50,16 +51,16 @@ record IsSyncNow (t : Taken) : Type 0 where
   applied : t.outcome ≡ Applied
   sync : is_sync t.raw ≡ true
 
-overdue_last : (list : List Taken) (t : Taken) (o : OutstandingTransaction) → IsOverdue (list ++ t ∷ []) o → IsOverdue list o ⊎ (IsSyncNow t × HasCoveredSince list o.born o.tag)
+overdue_last : (list : List Taken) (t : Taken) (o : OutstandingTransaction) → IsOverdue (list ++ t ∷ []) o → IsOverdue list o ⊎ (IsSyncNow t × HasConcernedSince list o.born o.used)
 overdue_last list t o l =
     ⊎_elim
     (λ (old : slice_get list l.later ≡ Some l.sync).
     let low = slice_get_within list l.later l.sync old in
-    inl (record { place = l.place; taken = l.taken; at = in_list (before l.place l.later (length list) l.after low); since = l.since; covered = l.covered; later = l.later; sync = l.sync; at_later = old; after = l.after; applied = l.applied; is_sync = l.is_sync }))
+    inl (record { place = l.place; taken = l.taken; at = in_list (before l.place l.later (length list) l.after low); since = l.since; concerned = l.concerned; later = l.later; sync = l.sync; at_later = old; after = l.after; applied = l.applied; is_sync = l.is_sync }))
     (λ (new : (l.later ≡ length list) × (t ≡ l.sync)).
     inr (
       record { applied = ap (λ (u : Taken). u.outcome) new.1 ∙ l.applied; sync = ap (λ (u : Taken). is_sync u.raw) new.1 ∙ l.is_sync },
-      record { place = l.place; taken = l.taken; at = in_list (at_end l.place l.later (length list) l.after new.0); since = l.since; covered = l.covered },
+      record { place = l.place; taken = l.taken; at = in_list (at_end l.place l.later (length list) l.after new.0); since = l.since; concerned = l.concerned },
     ))
     (get_last list t l.sync l.later l.at_later)
   where
@@ -100,39 +101,39 @@ module _ (list : List Taken) (raw : Raw) (command : Command) (spelled : Spells r
   abbrev now : Taken
   now = record { raw = raw; outcome = Applied }
 
-  covers_now : (tag : Tag) → covers command tag ≡ true → HasCovered now tag
-  covers_now tag so = record { applied = refl; command = command; spelled = spelled; covered = so }
+  concerns_now : (used : Used) → concerns command used ≡ true → HasConcerned now used
+  concerns_now used so = record { applied = refl; command = command; spelled = spelled; concerned = so }
 
-  is_covering : (tag : Tag) → HasCovered now tag → covers command tag ≡ true
-  is_covering tag c = ap (λ (x : Command). covers x tag) (sym (alone c.command c.spelled)) ∙ c.covered
+  is_concerned : (used : Used) → HasConcerned now used → concerns command used ≡ true
+  is_concerned used c = ap (λ (x : Command). concerns x used) (sym (alone c.command c.spelled)) ∙ c.concerned
 
-  covered_one : (o : OutstandingTransaction) → TellsCovered list o → TellsCovered (list ++ now ∷ []) (record o { covered = o.covered || covers command o.tag })
+  covered_one : (o : OutstandingTransaction) → TellsCovered list o → TellsCovered (list ++ now ∷ []) (record o { covered = o.covered || concerns command o.used })
   covered_one o m = record {
     born = let b = m.born in let longer = length-append list (now ∷ []) in omega (arith, b, longer);
     covered = λ so.
         ⊎_elim
-        (λ (old : o.covered ≡ true). since_more list now o.born o.tag (m.covered old))
-        (λ (new : covers command o.tag ≡ true). since_now list now o.born o.tag m.born (covers_now o.tag new))
-        (or_true o.covered (covers command o.tag) so);
+        (λ (old : o.covered ≡ true). since_more list now o.born o.used (m.covered old))
+        (λ (new : concerns command o.used ≡ true). since_now list now o.born o.used m.born (concerns_now o.used new))
+        (or_true o.covered (concerns command o.used) so);
     uncovered = λ nay h.
-        let neither = or_false o.covered (covers command o.tag) nay in
+        let neither = or_false o.covered (concerns command o.used) nay in
         ⊎_elim
-        (λ (old : HasCoveredSince list o.born o.tag). m.uncovered neither.0 old)
-        (λ (new : HasCovered now o.tag). let so = is_covering o.tag new in let not_so = neither.1 in absurd (cc))
-        (since_last list now o.born o.tag h);
+        (λ (old : HasConcernedSince list o.born o.used). m.uncovered neither.0 old)
+        (λ (new : HasConcerned now o.used). let so = is_concerned o.used new in let not_so = neither.1 in absurd (cc))
+        (since_last list now o.born o.used h);
   }
 
   record WasCovered (slots : Slots) (slot : ℕ) (o : OutstandingTransaction) : Type 0 where
     was : OutstandingTransaction
     at : slice_get slots slot ≡ Some (Some was)
-    o_is : record was { covered = was.covered || covers command was.tag } ≡ o
+    o_is : record was { covered = was.covered || concerns command was.used } ≡ o
 
   was_covered : (slots : Slots) (slot : ℕ) (o : OutstandingTransaction) → slice_get (map (cover command) slots) slot ≡ Some (Some o) → WasCovered slots slot o
   was_covered slots slot o at = let there = get_map (cover command) slots slot (Some o) at in by_slot there.0 there.1 there.2
     where
       by_slot : (x : Option OutstandingTransaction) → slice_get slots slot ≡ Some x → cover command x ≡ Some o → WasCovered slots slot o
       by_slot None there is = absurd (cc)
-      by_slot (Some was) there is = record { was = was; at = there; o_is = same (record was { covered = was.covered || covers command was.tag }) o is }
+      by_slot (Some was) there is = record { was = was; at = there; o_is = same (record was { covered = was.covered || concerns command was.used }) o is }
         where
           same : (a b : OutstandingTransaction) → Some a ≡ Some b → a ≡ b
           same a b is = cc
@@ -148,22 +149,27 @@ module _ (list : List Taken) (raw : Raw) (command : Command) (spelled : Spells r
       let l : IsOverdue (list ++ now ∷ []) w.was = as_before w.was (subst (IsOverdue (list ++ now ∷ [])) (sym w.o_is) late) in
       ⊎_elim
       (λ (old : IsOverdue list w.was). on_time slot w.was w.at old)
-      (λ (new : IsSyncNow now × HasCoveredSince list w.was.born w.was.tag). waited new.0.sync (record { slot = slot; outstanding = w.was; at = w.at; covered = new.1 }))
+      (λ (new : IsSyncNow now × HasConcernedSince list w.was.born w.was.used). waited new.0.sync (record { slot = slot; outstanding = w.was; at = w.at; concerned = new.1 }))
       (overdue_last list now w.was l)
     where
-      as_before : (was : OutstandingTransaction) → IsOverdue (list ++ now ∷ []) (record was { covered = was.covered || covers command was.tag }) → IsOverdue (list ++ now ∷ []) was
-      as_before was l = record { place = l.place; taken = l.taken; at = l.at; since = l.since; covered = l.covered; later = l.later; sync = l.sync; at_later = l.at_later; after = l.after; applied = l.applied; is_sync = l.is_sync }
+      as_before : (was : OutstandingTransaction) → IsOverdue (list ++ now ∷ []) (record was { covered = was.covered || concerns command was.used }) → IsOverdue (list ++ now ∷ []) was
+      as_before was l = record { place = l.place; taken = l.taken; at = l.at; since = l.since; concerned = l.concerned; later = l.later; sync = l.sync; at_later = l.at_later; after = l.after; applied = l.applied; is_sync = l.is_sync }
 
--- A command that can't cover anything marks nothing.
+-- A command that is no invalidation concerns nothing,
+concerns_none : (command : Command) → is_invalidation command ≡ false → (used : Used) → concerns command used ≡ false
+concerns_none command none (EntryOf tag) = covers_none (either (covers command tag))
+  where
+    covers_none : (covers command tag ≡ true) ⊎ (covers command tag ≡ false) → covers command tag ≡ false
+    covers_none (inl so) = let may = covers_may command tag so in absurd (cc)
+    covers_none (inr nay) = nay
+concerns_none command none Tables = none
+
+-- and marks nothing.
 pub covers_no_slot : (command : Command) (slots : Slots) → is_invalidation command ≡ false → slots ≡ map (cover command) slots
 covers_no_slot command [] none = refl
 covers_no_slot command (None ∷ slots) none = ap (λ (l : Slots). None ∷ l) (covers_no_slot command slots none)
 covers_no_slot command (Some o ∷ slots) none =
-    λ k. Some (record o { covered = sym (or_none o.covered (covers command o.tag) (covers_none (either (covers command o.tag)))) k }) ∷ covers_no_slot command slots none k
-  where
-    covers_none : (covers command o.tag ≡ true) ⊎ (covers command o.tag ≡ false) → covers command o.tag ≡ false
-    covers_none (inl so) = let may = covers_may command o.tag so in absurd (cc)
-    covers_none (inr nay) = nay
+    λ k. Some (record o { covered = sym (or_none o.covered (concerns command o.used) (concerns_none command none o.used)) k }) ∷ covers_no_slot command slots none k
 
 -- ---- a command that was replaced
 
@@ -171,27 +177,27 @@ module _ (list : List Taken) (raw : Raw) where
   abbrev instead : Taken
   instead = record { raw = raw; outcome = Replaced }
 
-  pub no_cover : (tag : Tag) → ¬ HasCovered instead tag
-  no_cover tag c = let nay : Replaced ≡ Applied = c.applied in absurd (cc)
+  pub no_concern : (used : Used) → ¬ HasConcerned instead used
+  no_concern used c = let nay : Replaced ≡ Applied = c.applied in absurd (cc)
 
   pub replaced_covered : (slots : Slots) → TellCovered slots list → TellCovered slots (list ++ instead ∷ [])
   replaced_covered slots covered slot o at =
       let m = covered slot o at in
       record {
         born = let b = m.born in let longer = length-append list (instead ∷ []) in omega (arith, b, longer);
-        covered = λ so. since_more list instead o.born o.tag (m.covered so);
+        covered = λ so. since_more list instead o.born o.used (m.covered so);
         uncovered = λ nay h.
             ⊎_elim
-            (λ (old : HasCoveredSince list o.born o.tag). m.uncovered nay old)
-            (λ (new : HasCovered instead o.tag). no_cover o.tag new)
-            (since_last list instead o.born o.tag h);
+            (λ (old : HasConcernedSince list o.born o.used). m.uncovered nay old)
+            (λ (new : HasConcerned instead o.used). no_concern o.used new)
+            (since_last list instead o.born o.used h);
       }
 
   pub replaced_overdue : (slots : Slots) → NoneIsOverdue slots list → NoneIsOverdue slots (list ++ instead ∷ [])
   replaced_overdue slots on_time slot o at late =
       ⊎_elim
       (λ (old : IsOverdue list o). on_time slot o at old)
-      (λ (new : IsSyncNow instead × HasCoveredSince list o.born o.tag). let nay : Replaced ≡ Applied = new.0.applied in absurd (cc))
+      (λ (new : IsSyncNow instead × HasConcernedSince list o.born o.used). let nay : Replaced ≡ Applied = new.0.applied in absurd (cc))
       (overdue_last list instead o late)
 
 -- ---- how many are covered
@@ -201,7 +207,7 @@ waits_for slots list covered some = let one = counts_one is_covered slots some i
   where
     by_slot : (slot : ℕ) (x : Option OutstandingTransaction) → slice_get slots slot ≡ Some x → is_covered x ≡ true → HasCoveredOutstanding slots list
     by_slot slot None at so = absurd (cc)
-    by_slot slot (Some o) at so = record { slot = slot; outstanding = o; at = at; covered = (covered slot o at).covered so }
+    by_slot slot (Some o) at so = record { slot = slot; outstanding = o; at = at; concerned = (covered slot o at).covered so }
 
 pub has_to_wait : (slots : Slots) (list : List Taken) → TellCovered slots list → HasCoveredOutstanding slots list → 0 < count_by is_covered slots
 has_to_wait slots list covered h =
@@ -209,7 +215,7 @@ has_to_wait slots list covered h =
   where
     so : (h.outstanding.covered ≡ true) ⊎ (h.outstanding.covered ≡ false) → h.outstanding.covered ≡ true
     so (inl is) = is
-    so (inr nay) = absurd ((covered h.slot h.outstanding h.at).uncovered nay h.covered)
+    so (inr nay) = absurd ((covered h.slot h.outstanding h.at).uncovered nay h.concerned)
 
 -- ---- one begins or ends
 
@@ -240,29 +246,52 @@ ended_at slots slot at outstanding there =
     (λ (new : None ≡ Some outstanding). absurd (cc))
     (get_set slots slot None at (Some outstanding) there)
 
--- What a walk read is settled.
-pub walked_settled : (list : List Taken) (tag : Tag) (value began : ℕ) → (began ≤ length list) × ¬ HasCoveredSince list began tag → IsSettledEntry list tag (record { tag = tag; value = value; born = began })
-walked_settled list tag value began good = record { born = good.0; uncovered = λ place t at since covered. good.1 (record { place = place; taken = t; at = at; since = since; covered = covered }) }
+-- ---- what a transaction that begins uses is new enough
 
--- The entry that it begins with is settled.
-pub new_covered : (list : List Taken) (tag : Tag) (entry : Entry) (number : ℕ) → IsSettledEntry list tag entry → TellsCovered list (record { number = number; tag = tag; born = entry.born; covered = false })
-new_covered list tag entry number settled = record {
-  born = settled.born;
-  covered = λ is. absurd (cc);
-  uncovered = λ is h. settled.uncovered h.place h.taken h.at h.since h.covered;
+-- What was born then was, and nothing that was taken since concerns it.
+pub record IsFresh (list : List Taken) (used : Used) (born : ℕ) : Type 0 where
+  pub within : born ≤ length list
+  pub unconcerned : ¬ HasConcernedSince list born used
+
+has_covered_entry : (t : Taken) (tag : Tag) → HasConcerned t (EntryOf tag) → HasCovered t tag
+has_covered_entry t tag c = record { applied = c.applied; command = c.command; spelled = c.spelled; covered = c.concerned }
+
+pub fresh_entry : (list : List Taken) (tag : Tag) (entry : Entry) → IsSettledEntry list tag entry → IsFresh list (EntryOf tag) entry.born
+fresh_entry list tag entry settled = record {
+  within = settled.born;
+  unconcerned = λ h. settled.uncovered h.place h.taken h.at h.since (has_covered_entry h.taken tag h.concerned);
 }
 
-pub new_on_time : (list : List Taken) (tag : Tag) (entry : Entry) (number : ℕ) → IsSettledEntry list tag entry → ¬ IsOverdue list (record { number = number; tag = tag; born = entry.born; covered = false })
-new_on_time list tag entry number settled late = settled.uncovered late.place late.taken late.at late.since late.covered
+pub fresh_walked : (list : List Taken) (tag : Tag) (began : ℕ) → (began ≤ length list) × ¬ HasCoveredSince list began tag → IsFresh list (EntryOf tag) began
+fresh_walked list tag began good = record {
+  within = good.0;
+  unconcerned = λ h. good.1 (record { place = h.place; taken = h.taken; at = h.at; since = h.since; covered = has_covered_entry h.taken tag h.concerned });
+}
+
+pub fresh_now : (list : List Taken) (used : Used) (born : ℕ) → born ≡ length list → IsFresh list used born
+fresh_now list used born is = record {
+  within = (omega (arith, is));
+  unconcerned = λ h. let inside = slice_get_within list h.place h.taken h.at in let since = h.since in absurd (omega (arith, is, inside, since));
+}
+
+new_covered : (list : List Taken) (used : Used) (born number : ℕ) → IsFresh list used born → TellsCovered list (new_transaction number used born)
+new_covered list used born number fresh = record {
+  born = fresh.within;
+  covered = λ is. absurd (cc);
+  uncovered = λ is h. fresh.unconcerned h;
+}
+
+new_on_time : (list : List Taken) (used : Used) (born number : ℕ) → IsFresh list used born → ¬ IsOverdue list (new_transaction number used born)
+new_on_time list used born number fresh late = fresh.unconcerned (record { place = late.place; taken = late.taken; at = late.at; since = late.since; concerned = late.concerned })
 
 -- ---- tags
 
 pub blocks_covered : (command : Command) (slots : Slots) → HasBlocks slots → HasBlocks (map (cover command) slots)
 blocks_covered command slots blocks slot o at = let there = get_map (cover command) slots slot (Some o) at in by_slot slot o there.0 there.1 there.2
   where
-    by_slot : (slot : ℕ) (o : OutstandingTransaction) (x : Option OutstandingTransaction) → slice_get slots slot ≡ Some x → cover command x ≡ Some o → IsBlock o.tag
+    by_slot : (slot : ℕ) (o : OutstandingTransaction) (x : Option OutstandingTransaction) → slice_get slots slot ≡ Some x → cover command x ≡ Some o → UsesBlock o.used
     by_slot slot o None at same = absurd (cc)
-    by_slot slot o (Some was) at same = subst (λ (b : OutstandingTransaction). IsBlock b.tag) (inner (record was { covered = was.covered || covers command was.tag }) o same) (blocks slot was at)
+    by_slot slot o (Some was) at same = subst (λ (b : OutstandingTransaction). UsesBlock b.used) (inner (record was { covered = was.covered || concerns command was.used }) o same) (blocks slot was at)
       where
         inner : (a b : OutstandingTransaction) → Some a ≡ Some b → a ≡ b
         inner a b is = cc
@@ -283,15 +312,15 @@ none_tracked unit tracking room many settled recent free = record {
   on_time = subst (λ (s : Slots). NoneIsOverdue s []) (sym free) (λ slot outstanding at late. none_open room slot outstanding at);
 }
 
-pub began_tracked : (old new : TrackedValue) (list : List Taken) (slot : ℕ) (tag : Tag) (entry : Entry) → IsTracked old list → IsSettledEntry list tag entry
-    → new ≡ with_outstanding old slot tag entry.born → IsTracked new (list ++ [])
-began_tracked old new list slot tag entry is own changed =
-    subst (λ (t : TrackedValue). IsTracked t (list ++ [])) (sym changed) (subst (IsTracked (with_outstanding old slot tag entry.born)) (sym (append-nil list)) (record {
+pub began_tracked : (old new : TrackedValue) (list : List Taken) (slot : ℕ) (used : Used) (born : ℕ) → IsTracked old list → IsFresh list used born
+    → new ≡ with_outstanding old slot used born → IsTracked new (list ++ [])
+began_tracked old new list slot used born is fresh changed =
+    subst (λ (t : TrackedValue). IsTracked t (list ++ [])) (sym changed) (subst (IsTracked (with_outstanding old slot used born)) (sym (append-nil list)) (record {
       many = is.many;
       settled = is.settled;
       recorded = is.recorded;
-      covered = begun_covered old.outstanding list slot _ is.covered (new_covered list tag entry old.next_number own);
-      on_time = began_on_time old.outstanding list slot _ is.on_time (new_on_time list tag entry old.next_number own);
+      covered = begun_covered old.outstanding list slot _ is.covered (new_covered list used born old.next_number fresh);
+      on_time = began_on_time old.outstanding list slot _ is.on_time (new_on_time list used born old.next_number fresh);
     }))
 
 -- What is the same if it was done, is so either way.
@@ -339,11 +368,12 @@ ended_tracked old list slot slots is changed =
       on_time = subst (λ (s : Slots). NoneIsOverdue s list) (sym changed) (λ at outstanding there. is.on_time at outstanding (ended_at old.outstanding slot at outstanding there));
     })
 
-pub ended_one : (old new : TrackedValue) (transaction : TransactionValue) (outstanding : OutstandingTransaction) (ended : Ended) → slice_get old.outstanding transaction.slot ≡ Some (Some outstanding)
-    → outstanding.number ≡ transaction.number → new ≡ record old { outstanding = slice_set old.outstanding transaction.slot None } → (ended ≡ LastCovered) ↔ WasLastCovered outstanding new.outstanding
+pub ended_one : (old new : TrackedValue) (transaction : TransactionValue) (outstanding : OutstandingTransaction) (ended : Ended) → IsOwn old.next_number transaction
+    → slice_get old.outstanding transaction.slot ≡ Some (Some outstanding) → outstanding.number ≡ transaction.number → new ≡ record old { outstanding = slice_set old.outstanding transaction.slot None } → (ended ≡ LastCovered) ↔ WasLastCovered outstanding new.outstanding
     → IsEndAnswer old transaction new (Ok ended)
-ended_one old new transaction outstanding ended at number is tells = (
+ended_one old new transaction outstanding ended own at number is tells = (
   record {
+    own = own;
     was = record { outstanding = outstanding; at = at; number = number };
     new_is = is;
     fewer = ap (λ (t : TrackedValue). count_by is_covered t.outstanding + cond outstanding.covered 1 0) is ∙ one_less old.outstanding transaction.slot outstanding at;

@@ -6,9 +6,8 @@ use Rattle.std.proofs.lemmas.List.{length-map, length-replicate}
 use Rattle.std.proofs.lemmas.List.Sums.{sum_by-cons, count_by-le-length}
 use Rattle.cmdcodec.specs.declared.command.Command.{Command}
 use Rattle.transactions.specs.declared.outstanding.OutstandingTransaction.{OutstandingTransaction}
-use Rattle.transactions.specs.Outstanding.{Slots, cover, is_outstanding, is_covered, IsEmptyAt}
+use Rattle.transactions.specs.Outstanding.{Slots, cover, is_outstanding, is_covered, IsEmptyAt, UsesBlock}
 use Rattle.transactions.specs.FreeSlots.{AreFree, AreOutstanding, AreOwnPlaces, HasBlocks}
-use Rattle.caches.specs.Blocks.{IsBlock}
 use Rattle.transactions.proofs.Lists.{get_set, get_copies, count_set, count_copies, counted, set_at, set_same, set_other, set_length, in_copies, get_map, map_at}
 
 abbrev empty : Option OutstandingTransaction
@@ -164,12 +163,12 @@ module _ (slots : Slots) (free : List ℕ) (count covered : ℕ) (are : AreOutst
   pub free_slot : slice_get free count ≡ Some slot → slice_get slots slot ≡ Some None
   free_slot at = are.free_are.are count slot (omega arith) at
 
-  pub kept_begun : IsBlock o.tag → o.covered ≡ false → slice_get free count ≡ Some slot → AreOutstanding (slice_set slots slot (Some o)) free (count + 1) covered
+  pub kept_begun : UsesBlock o.used → o.covered ≡ false → slice_get free count ≡ Some slot → AreOutstanding (slice_set slots slot (Some o)) free (count + 1) covered
   kept_begun block uncovered at = record {
     few = let same = set_length slots slot (Some o) in let few = are.few in omega (arith, same, few);
     blocks = λ s t there. ⊎_elim
         (λ (old : slice_get slots s ≡ Some (Some t)). are.blocks s t old)
-        (λ (new : Some o ≡ Some t). subst (λ (x : OutstandingTransaction). IsBlock x.tag) (inner o t new) block)
+        (λ (new : Some o ≡ Some t). subst (λ (x : OutstandingTransaction). UsesBlock x.used) (inner o t new) block)
         (get_set slots slot (Some o) s (Some t) there);
     count_is =
         let more : count_by is_outstanding (slice_set slots slot (Some o)) + 0 ≡ count_by is_outstanding slots + 1 = count_set is_outstanding slots slot None (Some o) (free_slot at) in

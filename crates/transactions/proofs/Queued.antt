@@ -22,7 +22,7 @@ use Rattle.transactions.specs.Outstanding.{Slots, TellCovered, NoneIsOverdue, Ha
 use Rattle.transactions.specs.Tracking.{TrackingValue, tracked_with, IsTracked, StaysTracked}
 use Rattle.transactions.specs.Between.{HasNoted, HasTakenQueue, TakesTracked}
 use Rattle.transactions.specs.TrackedQueueUnits.{TrackedQueueValue, tracked_in, CoversBy, TookNext}
-use Rattle.transactions.proofs.Covering.{since_last, replaced_covered, replaced_overdue, no_cover, unit_tracked}
+use Rattle.transactions.proofs.Covering.{since_last, replaced_covered, replaced_overdue, no_concern, unit_tracked}
 use Rattle.transactions.proofs.Judged.{judged_tracked}
 use Rattle.transactions.proofs.Sinces.{last_more}
 
@@ -77,7 +77,7 @@ module _ (list : List Taken) (awaited : Raw) where
     slot = h.slot;
     outstanding = h.outstanding;
     at = h.at;
-    covered = ⊎_elim (λ old. old) (λ now. absurd (no_cover list awaited h.outstanding.tag now)) (since_last list instead h.outstanding.born h.outstanding.tag h.covered);
+    concerned = ⊎_elim (λ old. old) (λ now. absurd (no_concern list awaited h.outstanding.used now)) (since_last list instead h.outstanding.born h.outstanding.used h.concerned);
   }
 
   counted_awaited : (old between : UnitValue) → HasReplacedAwaited awaited old between → taken old.counts ≡ length list → taken between.counts ≡ length (list ++ took_awaited awaited)

@@ -19,6 +19,7 @@ use Rattle.transactions.specs.declared.walk.WalkFault.TheVariants.{Overtaken, To
 use Rattle.transactions.specs.declared.walk.WalkFault.TheVariants.{OtherUnit, Refused}
 use Rattle.transactions.specs.RecentInvalidations.{IsBeforeOldest, HasCovering}
 use Rattle.transactions.specs.declared.outstanding.OutstandingTransaction.{OutstandingTransaction}
+use Rattle.transactions.specs.declared.used.Used.{Used}
 use Rattle.transactions.specs.Since.{recent_with}
 use Rattle.transactions.specs.Outstanding.{Slots, cover, is_covered, HasNoRoom}
 use Rattle.transactions.specs.Outstanding.{HasCoveredOutstanding}
@@ -37,11 +38,11 @@ IsInsertAnswer old o new None = (new ≡ old) × HasNoRoom old
 IsInsertAnswer old o new (Some slot) =
     (slice_get old slot ≡ Some None) × (new ≡ slice_set old slot (Some o))
 
--- A transaction began with an entry of this tag that was born then, or no slot was free.
+-- A transaction began that uses this, which was born then, or no slot was free.
 abbrev pub IsBegunIfRoom :
-    TrackedValue → Tag → ℕ → TrackedValue → Option TransactionValue → Type 0
-IsBegunIfRoom old tag born new None = (new ≡ old) × HasNoRoom old.outstanding
-IsBegunIfRoom old tag born new (Some token) = IsBegun old tag born new token
+    TrackedValue → Used → ℕ → TrackedValue → Option TransactionValue → Type 0
+IsBegunIfRoom old used born new None = (new ≡ old) × HasNoRoom old.outstanding
+IsBegunIfRoom old used born new (Some token) = IsBegun old used born new token
 
 -- The same and these are taken now, if the command needn't wait.
 abbrev pub TakesTracked : Raw → TrackedValue → TrackedValue → List Taken → Type 0

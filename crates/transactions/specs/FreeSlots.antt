@@ -1,8 +1,7 @@
 -- How a free slot is found at once, and what is counted.
 use Rattle.std.specs.Prelude.{◌≡◌, ◌≤◌, ◌<◌, ◌^◌, ℕ, List, length, Some, None, slice_get, count_by}
-use Rattle.caches.specs.Blocks.{IsBlock}
 use Rattle.transactions.specs.declared.outstanding.OutstandingTransaction.{OutstandingTransaction}
-use Rattle.transactions.specs.Outstanding.{Slots, is_outstanding, is_covered}
+use Rattle.transactions.specs.Outstanding.{Slots, is_outstanding, is_covered, UsesBlock}
 
 -- The list has the slot at this place or behind it.
 pub record IsListedFrom (free : List ℕ) (from slot : ℕ) : Type 0 where
@@ -24,12 +23,12 @@ pub record AreFree (slots : Slots) (free : List ℕ) (from : ℕ) : Type 0 where
 abbrev pub AreOwnPlaces : ℕ → List ℕ → Type 0
 AreOwnPlaces many numbers = (place : ℕ) → place < many → slice_get numbers place ≡ Some place
 
--- Each tag is a block.
+-- Each tag is that of a block.
 abbrev pub HasBlocks : Slots → Type 0
 HasBlocks slots =
-    (slot : ℕ) (o : OutstandingTransaction) → slice_get slots slot ≡ Some (Some o) → IsBlock o.tag
+    (slot : ℕ) (o : OutstandingTransaction) → slice_get slots slot ≡ Some (Some o) → UsesBlock o.used
 
--- There are fewer than 2^16 slots, each tag is a block, so many are outstanding and so many of
+-- There are fewer than 2^16 slots, each tag is that of a block, so many are outstanding and so many of
 -- those covered, and the list has as many places ahead of the free slots as are outstanding.
 pub record AreOutstanding (slots : Slots) (free : List ℕ) (count covered : ℕ) : Type 0 where
   pub few : length slots < 2 ^ 16

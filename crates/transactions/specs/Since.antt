@@ -11,7 +11,8 @@ use Rattle.cmdcodec.specs.declared.raw.Raw.{Raw}
 use Rattle.cmdcodec.specs.declared.command.Command.{Command}
 use Rattle.engine.specs.declared.verdict.Verdict.{Verdict}
 use Rattle.engine.specs.declared.verdict.Verdict.TheVariants.{Applied, Stopped, Replaced}
-use Rattle.transactions.specs.Coverage.{is_invalidation, was_invalidation}
+use Rattle.transactions.specs.declared.used.Used.{Used}
+use Rattle.transactions.specs.Coverage.{is_invalidation, was_invalidation, HasConcerned}
 
 -- A command taken at this place or later has covered the tag.
 pub record HasCoveredSince (list : List Taken) (began : ℕ) (tag : Tag) : Type 0 where
@@ -20,6 +21,14 @@ pub record HasCoveredSince (list : List Taken) (began : ℕ) (tag : Tag) : Type 
   pub at : slice_get list place ≡ Some taken
   pub since : began ≤ place
   pub covered : HasCovered taken tag
+
+-- A command taken at this place or later has concerned what is used.
+pub record HasConcernedSince (list : List Taken) (began : ℕ) (used : Used) : Type 0 where
+  pub place : ℕ
+  pub taken : Taken
+  pub at : slice_get list place ≡ Some taken
+  pub since : began ≤ place
+  pub concerned : HasConcerned taken used
 
 -- More than 64 invalidations were taken at this place or later.
 abbrev pub IsTooOld : List Taken → ℕ → Type 0

@@ -6,9 +6,9 @@ use Rattle.cmdcodec.specs.Spelling.{Spells}
 use Rattle.cmdcodec.specs.Legality.{first_ill}
 use Rattle.ringcore.specs.declared.world.event.Event.TheVariants.{Ask}
 use Rattle.ringcore.specs.world.Trails.{Run, Trail}
-use Rattle.caches.specs.Covers.{covers}
 use Rattle.engine.specs.Ends.{WasToldTruly, reserved_ahead}
 use Rattle.transactions.specs.declared.outstanding.OutstandingTransaction.{OutstandingTransaction}
+use Rattle.transactions.specs.Coverage.{concerns}
 use Rattle.transactions.specs.Outstanding.{Slots}
 use Rattle.ring.specs.sender.Senders.{SenderValue}
 use Rattle.ring.specs.table.Rule.{WentOn}
@@ -17,18 +17,18 @@ use Rattle.ringcore.specs.declared.world.event.Who.TheVariants.{Consumer, Sender
 use Rattle.transactions.specs.Tracking.{TrackedValue}
 use Rattle.transactions.specs.Together.{TrackedConsumer}
 
--- These are the first commands that the ring ever had. No transaction is outstanding whose entry a
--- legal one of them covers and was born before that was taken.
+-- These are the first commands that the ring ever had. No transaction is outstanding that a legal
+-- one of them concerns and that uses what was born before that was taken.
 abbrev pub NoOutstandingIsOlder : Slots → List Raw → Type 0
 NoOutstandingIsOlder slots first =
     (slot : ℕ) (o : OutstandingTransaction) → slice_get slots slot ≡ Some (Some o)
     → (place : ℕ) (raw : Raw) (command : Command) → slice_get first place ≡ Some raw
-    → first_ill raw ≡ None → Spells raw command → covers command o.tag ≡ true
+    → first_ill raw ≡ None → Spells raw command → concerns command o.used ≡ true
     → place < o.born
 
 -- The sender was told this number, and truly of the entries that are held. For each of its batches
--- up to that number, no transaction is outstanding whose entry is older than a command that was
--- reserved before that batch's closing sync and covers it.
+-- up to that number, no transaction is outstanding that uses what is older than a command which
+-- was reserved before that batch's closing sync and concerns it.
 pub record WasToldFully (run : Run) (t : TrackedValue) (s told : ℕ) (older : Trail) : Type 0 where
   pub truly : WasToldTruly run t.unit.caches.entries s told older
   pub none_outstanding : (number : ℕ) (some : 1 ≤ number) (most : number ≤ told)

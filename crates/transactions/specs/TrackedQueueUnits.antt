@@ -1,5 +1,5 @@
 -- A tracked unit that serves a queue in memory that its owner may write meanwhile.
-use Rattle.std.specs.Prelude.{◌≡◌, ◌≤◌, ◌<◌, ◌+◌, ◌-◌, ◌%◌, ◌^◌, ◌↔◌, ◌⊎◌, ℕ, List, [], ◌++◌}
+use Rattle.std.specs.Prelude.{◌≡◌, ◌≢◌, ◌≤◌, ◌<◌, ◌+◌, ◌-◌, ◌/◌, ◌%◌, ◌^◌, ◌==◌, if◌then◌else◌, ◌↔◌, ◌⊎◌, ℕ, List, [], ◌++◌}
 use Rattle.std.specs.Prelude.{None, Some, map, replicate, length}
 use Rattle.cmdcodec.specs.declared.raw.Raw.{Raw}
 use Rattle.cmdcodec.specs.declared.command.Command.{Command}
@@ -22,6 +22,8 @@ use Rattle.transactions.specs.declared.tracked_judgement.TrackedJudgement.TheVar
 use Rattle.transactions.specs.declared.tracked_judgement.TrackedJudgement.TheVariants.{Waiting}
 use Rattle.transactions.specs.Outstanding.{Slots, cover, HasCoveredOutstanding}
 use Rattle.transactions.specs.Tracking.{TrackedValue, IsTracked, StaysTracked}
+use Rattle.transactions.specs.Tracking.{unit_of, first_number}
+use Rattle.transactions.specs.Walks.{walk_number}
 use Rattle.transactions.specs.TrackedVerdicts.{IsLegalSync, HasToWait, waited_for}
 
 -- the queue's unit, what is known beside it, and the number of a walk that begins before any
@@ -63,29 +65,40 @@ with_evicted_queue tag q =
 abbrev pub KeepsQueue : TrackedQueueValue → TrackedQueueValue → Type 0
 KeepsQueue old new = (new.queue ≡ old.queue) × (new.before ≡ old.before)
 
--- one that has taken nothing, with these caches and room for so many transactions
-abbrev pub new_tracked_queue : Stored → ℕ → TrackedQueueValue
-new_tracked_queue caches room = record {
+-- one of this number that has taken nothing, with these caches and room for so many transactions
+abbrev pub new_tracked_queue : ℕ → Stored → ℕ → TrackedQueueValue
+new_tracked_queue number caches room = record {
   queue = new_queue_unit caches;
   recent = [];
   outstanding = replicate room None;
-  next_number = 1;
+  next_number = first_number number;
   before = 1;
 }
 
 -- ---- walks, whose numbers go on over a reset
 
--- the number of a walk that begins now
+-- the number of a walk that begins now: the lower 56 bits go on
 abbrev pub walk_now : TrackedQueueValue → ℕ
-walk_now q = (q.before + taken q.queue.unit.counts) % 2 ^ 64
+walk_now q =
+    walk_number (unit_of q.next_number) ((q.before + taken q.queue.unit.counts) % 2 ^ 56)
 
--- after how many commands of this unit a walk of this number began
+-- after how many commands of this unit a walk of this number began. One of another unit counts as
+-- begun after more than are ever taken.
 abbrev pub began_in : TrackedQueueValue → ℕ → ℕ
-began_in q walk = (walk + (2 ^ 64 - q.before)) % 2 ^ 64
+began_in q walk =
+    if walk / 2 ^ 56 == unit_of q.next_number
+    then (walk % 2 ^ 56 + (2 ^ 56 - q.before)) % 2 ^ 56
+    else 2 ^ 56
 
 -- It began after no more commands than were taken.
 abbrev pub BeganHere : TrackedQueueValue → ℕ → Type 0
 BeganHere q walk = began_in q walk ≤ taken q.queue.unit.counts
+
+-- Units of other numbers take this walk for one that began after more than are ever taken.
+abbrev pub IsRefusedByOthers : TrackedQueueValue → ℕ → Type 0
+IsRefusedByOthers here walk =
+    (other : TrackedQueueValue) → unit_of other.next_number ≢ unit_of here.next_number
+    → most_reserved < began_in other walk
 
 -- ---- a reset
 
@@ -96,18 +109,19 @@ reset_queue q = record {
   recent = [];
   outstanding = replicate (length q.outstanding) None;
   next_number = q.next_number;
-  before = (q.before + (taken q.queue.unit.counts + 1)) % 2 ^ 64;
+  before = (q.before + (taken q.queue.unit.counts + 1)) % 2 ^ 56;
 }
 
 -- Each walk that began here until now comes out as one of another unit.
 abbrev pub RefusesWalksOf : TrackedQueueValue → TrackedQueueValue → Type 0
 RefusesWalksOf old new = (walk : ℕ) → BeganHere old walk → most_reserved < began_in new walk
 
--- Each other comes out nearer by as many commands as were taken, and one: refused still, but for one
--- that began 2^64 - 2^46 commands and resets ago.
+-- Each other of this unit comes out nearer by as many commands as were taken, and one: refused
+-- still, but for one that began 2^56 - 2^46 commands and resets ago. One of another unit is as before.
 abbrev pub BringsNearer : TrackedQueueValue → TrackedQueueValue → Type 0
 BringsNearer old new =
-    (walk : ℕ) → taken old.queue.unit.counts < began_in old walk
+    (walk : ℕ) → walk / 2 ^ 56 ≡ unit_of old.next_number
+    → taken old.queue.unit.counts < began_in old walk
     → began_in new walk + (taken old.queue.unit.counts + 1) ≡ began_in old walk
 
 -- ---- judging
@@ -141,8 +155,8 @@ abbrev pub IsWaitingQueue : TrackedJudgement → Type 0
 IsWaitingQueue (Judged judgement) = ⊥
 IsWaitingQueue (Waiting transactions) = Unit {0}
 
--- It waits exactly if the words are a legal CMD_SYNC and a transaction is outstanding whose entry a
--- command taken since it was born covers.
+-- It waits exactly if the words are a legal CMD_SYNC and a transaction is outstanding that a
+-- command concerns which was taken since what it uses was born.
 abbrev pub QueueWaitsExactly : Raw → TrackedQueueValue → TrackedJudgement → Type 0
 QueueWaitsExactly raw old answer =
     (list : List Taken) → IsTracked (tracked_in old) list

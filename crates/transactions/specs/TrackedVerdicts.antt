@@ -50,8 +50,8 @@ abbrev pub IsWaiting : TrackedVerdict → Type 0
 IsWaiting (Judged verdict) = ⊥
 IsWaiting (Waiting transactions) = Unit {0}
 
--- It waits exactly if the command is a legal CMD_SYNC and a transaction is outstanding whose entry
--- a command taken since it was born covers.
+-- It waits exactly if the command is a legal CMD_SYNC and a transaction is outstanding that a
+-- command concerns which was taken since what it uses was born.
 abbrev pub WaitsExactly : Raw → TrackedValue → TrackedVerdict → Type 0
 WaitsExactly raw old answer =
     (list : List Taken) → IsTracked old list

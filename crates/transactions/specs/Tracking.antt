@@ -1,5 +1,5 @@
 -- The tracked unit as contracts see it, and what it knows of the commands taken.
-use Rattle.std.specs.Prelude.{◌≡◌, ◌<◌, ◌+◌, ◌%◌, ◌^◌, ℕ, List, [], ◌++◌, length, None, replicate}
+use Rattle.std.specs.Prelude.{◌≡◌, ◌<◌, ◌+◌, ◌*◌, ◌/◌, ◌%◌, ◌^◌, ℕ, List, [], ◌++◌, length, None, replicate}
 use Rattle.ringcore.specs.world.World.{Taken}
 use Rattle.engine.specs.Settled.{IsSettled}
 use Rattle.engine.specs.Counting.{taken}
@@ -48,18 +48,42 @@ pub record IsTracked (tracked : TrackedValue) (list : List Taken) : Type 0 where
 abbrev pub StaysTracked : TrackedValue → TrackedValue → List Taken → Type 0
 StaysTracked old new more = (list : List Taken) → IsTracked old list → IsTracked new (list ++ more)
 
--- a unit that has taken nothing, with these caches and room for so many transactions
-abbrev pub new_tracked : Stored → ℕ → TrackedValue
-new_tracked caches room = record {
+-- ---- numbers of transactions
+
+-- the number of the unit that a transaction is of: the upper 8 of its 48 bits
+abbrev pub unit_of : ℕ → ℕ
+unit_of number = number / 2 ^ 40
+
+-- the first number of a unit's transactions
+abbrev pub first_number : ℕ → ℕ
+first_number unit = unit * 2 ^ 40 + 1
+
+-- The lower 40 bits are 1 to 2^40 - 1,
+abbrev pub IsNumber : ℕ → Type 0
+IsNumber number = (0 < number % 2 ^ 40) × (number < 2 ^ 48)
+
+-- and then begin again.
+abbrev pub number_after : ℕ → ℕ
+number_after number = unit_of number * 2 ^ 40 + (number % 2 ^ 40 % 1099511627775 + 1)
+
+-- ---- what a call leaves
+
+-- a unit of this number that has taken nothing, with these caches and room for so many transactions
+abbrev pub new_tracked : ℕ → Stored → ℕ → TrackedValue
+new_tracked number caches room = record {
   unit = new_unit caches;
   recent = [];
   outstanding = replicate room None;
-  next_number = 1;
+  next_number = first_number number;
 }
 
 -- nothing is known yet, and there is room for so many transactions
-abbrev pub new_tracking : ℕ → TrackingValue
-new_tracking room = record { recent = []; outstanding = replicate room None; next_number = 1 }
+abbrev pub new_tracking : ℕ → ℕ → TrackingValue
+new_tracking number room = record {
+  recent = [];
+  outstanding = replicate room None;
+  next_number = first_number number;
+}
 
 -- the same once all is forgotten that was taken, and every slot is free
 abbrev pub reset_tracking : TrackingValue → TrackingValue
@@ -81,10 +105,3 @@ with_evicted tag t =
 abbrev pub with_acknowledged : Remedy → TrackedValue → TrackedValue
 with_acknowledged remedy t =
     with_unit (record t.unit { stop = told remedy t.unit.stop }) t
-
--- numbers of transactions are 1 to 2^48 - 1, and then begin again
-abbrev pub IsNumber : ℕ → Type 0
-IsNumber number = (0 < number) × (number < 2 ^ 48)
-
-abbrev pub number_after : ℕ → ℕ
-number_after number = number % 281474976710655 + 1

@@ -1,6 +1,6 @@
--- Transactions begin with an entry and end.
+-- Transactions begin with an entry or a walk, and end.
 use Rattle.std.specs.Prelude.{◌≡◌, ◌≤◌, ◌<◌, ◌+◌, ◌*◌, ◌/◌, ◌%◌, ◌^◌, ◌⊎◌, ◌↔◌, ℕ, true, false}
-use Rattle.std.specs.Prelude.{cond, count_by, List}
+use Rattle.std.specs.Prelude.{cond, count_by, List, Option}
 use Rattle.std.specs.Prelude.{Some, None, Result, Ok, Err, length, slice_get, slice_set}
 use Rattle.std.specs.FinMap as finite
 use Rattle.ringcore.specs.world.World.{Taken}
@@ -19,7 +19,10 @@ use Rattle.transactions.specs.declared.walk.WalkFault.TheVariants.{OtherUnit, Re
 use Rattle.transactions.specs.Since.{HasCoveredSince}
 use Rattle.transactions.specs.Walks.{AnswersWalk}
 use Rattle.transactions.specs.Outstanding.{Slots, is_covered, HasNoRoom}
-use Rattle.transactions.specs.Tracking.{TrackedValue, IsTracked, number_after}
+use Rattle.engine.specs.Counting.{taken}
+use Rattle.transactions.specs.declared.used.Used.{Used}
+use Rattle.transactions.specs.declared.used.Used.TheVariants.{Entry as EntryOf, Tables}
+use Rattle.transactions.specs.Tracking.{TrackedValue, IsTracked, unit_of, number_after}
 
 -- what a transaction's token says: its slot, and its number among all that began
 pub record TransactionValue : Type 0 where
@@ -38,30 +41,34 @@ transaction_of bits = record { slot = bits % 65536; number = bits / 65536 }
 abbrev pub FitsBits : ℕ → ℕ → Type 0
 FitsBits slot number = (slot < 2 ^ 16) × (number < 2 ^ 48)
 
+-- It is of a unit's own, whose next transaction has this number.
+abbrev pub IsOwn : ℕ → TransactionValue → Type 0
+IsOwn next transaction = unit_of transaction.number ≡ unit_of next
+
 -- It is the one that is outstanding in its slot.
 pub record IsOutstandingIn (slots : Slots) (transaction : TransactionValue) : Type 0 where
   pub outstanding : OutstandingTransaction
   pub at : slice_get slots transaction.slot ≡ Some (Some outstanding)
   pub number : outstanding.number ≡ transaction.number
 
--- a transaction that begins with an entry of this tag that was born then
-abbrev pub new_transaction : ℕ → Tag → ℕ → OutstandingTransaction
-new_transaction number tag born =
-    record { number = number; tag = tag; born = born; covered = false }
+-- a transaction that uses this, which was born then
+abbrev pub new_transaction : ℕ → Used → ℕ → OutstandingTransaction
+new_transaction number used born =
+    record { number = number; used = used; born = born; covered = false }
 
 -- the tracked unit with one more outstanding in this slot
-abbrev pub with_outstanding : TrackedValue → ℕ → Tag → ℕ → TrackedValue
-with_outstanding t slot tag born = record t {
-  outstanding = slice_set t.outstanding slot (Some (new_transaction t.next_number tag born));
+abbrev pub with_outstanding : TrackedValue → ℕ → Used → ℕ → TrackedValue
+with_outstanding t slot used born = record t {
+  outstanding = slice_set t.outstanding slot (Some (new_transaction t.next_number used born));
   next_number = number_after t.next_number;
 }
 
--- It began in a slot that was free, with an entry of this tag that was born then.
-pub record IsBegun (old : TrackedValue) (tag : Tag) (born : ℕ)
+-- It began in a slot that was free, and uses this, which was born then.
+pub record IsBegun (old : TrackedValue) (used : Used) (born : ℕ)
     (new : TrackedValue) (token : TransactionValue) : Type 0 where
   pub free : slice_get old.outstanding token.slot ≡ Some None
   pub number : token.number ≡ old.next_number
-  pub new_is : new ≡ with_outstanding old token.slot tag born
+  pub new_is : new ≡ with_outstanding old token.slot used born
 
 -- It began with the entry that is held. Not held: nothing is held under the tag. Full: no slot is
 -- free.
@@ -69,7 +76,7 @@ abbrev pub IsBeginAnswer :
     TrackedValue → Tag → TrackedValue → Result (Entry × TransactionValue) BeginFault → Type 0
 IsBeginAnswer old tag new (Ok both) =
     (finite.get old.unit.caches.entries tag ≡ Some both.0) × (both.0.tag ≡ tag)
-    × IsBegun old tag both.0.born new both.1
+    × IsBegun old (EntryOf tag) both.0.born new both.1
 IsBeginAnswer old tag new (Err NotHeld) =
     (new ≡ old) × ((finite.get old.unit.caches.entries tag ≡ None) ⊎ ¬ IsBlock tag)
 IsBeginAnswer old tag new (Err Full) =
@@ -95,16 +102,24 @@ IsRefusedFor tag (Refused fault) = (fault ≡ BadBlock) × ¬ IsBlock tag
 abbrev pub IsBeginWalkedAnswer :
     TrackedValue → ℕ → Tag → TrackedValue → Result TransactionValue BeginFault → Type 0
 IsBeginWalkedAnswer old walk tag new (Ok token) =
-    IsBegun old tag walk new token × IsGoodWalk old walk tag
+    IsBegun old (EntryOf tag) walk new token × IsGoodWalk old walk tag
 IsBeginWalkedAnswer old walk tag new (Err NotHeld) = ⊥
 IsBeginWalkedAnswer old walk tag new (Err Full) = (new ≡ old) × HasNoRoom old.outstanding
 IsBeginWalkedAnswer old walk tag new (Err (Walked fault)) =
     (new ≡ old) × AnswersWalk old walk tag (Err fault) × IsRefusedFor tag fault
 
+-- A walk of this number began, and a transaction that uses the tables. None: no slot is free.
+abbrev pub IsOutstandingWalk :
+    ℕ → TrackedValue → TrackedValue → Option (ℕ × TransactionValue) → Type 0
+IsOutstandingWalk number old new (Some both) =
+    (both.0 ≡ number) × IsBegun old Tables (taken old.unit.counts) new both.1
+IsOutstandingWalk number old new None = (new ≡ old) × HasNoRoom old.outstanding
+
 -- Its slot is free again, nothing else changed, and if it was covered, there is one fewer to wait
 -- for.
 pub record IsEnded (old : TrackedValue) (token : TransactionValue)
     (new : TrackedValue) : Type 0 where
+  pub own : IsOwn old.next_number token
   pub was : IsOutstandingIn old.outstanding token
   pub new_is : new ≡ record old { outstanding = slice_set old.outstanding token.slot None }
   pub fewer :
@@ -123,4 +138,5 @@ IsEndAnswer old token new (Ok ended) =
     (done : IsEnded old token new)
     × ((ended ≡ LastCovered) ↔ WasLastCovered done.was.outstanding new.outstanding)
 IsEndAnswer old token new (Err back) =
-    ¬ IsOutstandingIn old.outstanding token × (back ≡ token) × (new ≡ old)
+    ¬ (IsOwn old.next_number token × IsOutstandingIn old.outstanding token)
+    × (back ≡ token) × (new ≡ old)

@@ -1,16 +1,45 @@
 -- What becomes of what a walk read.
-use Rattle.std.specs.Prelude.{◌≡◌, ◌≤◌, ◌<◌, ◌↔◌, ℕ, List, length, Option, Result, Ok, Err, OnOk}
+use Rattle.std.specs.Prelude.{◌≡◌, ◌≢◌, ◌≤◌, ◌<◌, ◌+◌, ◌*◌, ◌/◌, ◌%◌, ◌^◌, ◌==◌, ◌↔◌, ℕ, if◌then◌else◌, List, length, Option, Result, Ok, Err, OnOk}
+use Rattle.ringcore.specs.Limits.{most_reserved}
 use Rattle.ringcore.specs.world.World.{Taken}
 use Rattle.caches.specs.declared.tag.Tag.{Tag}
 use Rattle.caches.specs.declared.tag.Entry.{Entry}
 use Rattle.caches.specs.Blocks.{IsBlock}
 use Rattle.caches.specs.Stored.{Stored, IsFillAnswer}
+use Rattle.engine.specs.Counting.{taken}
 use Rattle.engine.specs.Units.{with_entries, with_entry}
 use Rattle.transactions.specs.declared.walk.WalkFault.{WalkFault}
 use Rattle.transactions.specs.declared.walk.WalkFault.TheVariants.{Overtaken, TooOld, OtherUnit}
 use Rattle.transactions.specs.declared.walk.WalkFault.TheVariants.{Refused}
 use Rattle.transactions.specs.Since.{HasCoveredSince, IsTooOld}
-use Rattle.transactions.specs.Tracking.{TrackedValue, IsTracked, with_unit}
+use Rattle.transactions.specs.Tracking.{TrackedValue, IsTracked, unit_of, with_unit}
+
+-- ---- numbers of walks
+
+-- a walk of this unit that began after so many commands: the unit's number in the upper 8 bits
+abbrev pub walk_number : ℕ → ℕ → ℕ
+walk_number unit began = unit * 2 ^ 56 + began
+
+-- after how many commands a walk of this unit began. One of another unit counts as begun after more
+-- than are ever taken.
+abbrev pub began_of : ℕ → ℕ → ℕ
+began_of unit walk = if walk / 2 ^ 56 == unit then walk % 2 ^ 56 else 2 ^ 56
+
+-- the number of a walk that begins now
+abbrev pub walk_now : TrackedValue → ℕ
+walk_now t = walk_number (unit_of t.next_number) (taken t.unit.counts)
+
+-- after how many commands of this unit a walk began
+abbrev pub began_on : TrackedValue → ℕ → ℕ
+began_on t walk = began_of (unit_of t.next_number) walk
+
+-- Units of other numbers take this walk for one that began after more than are ever taken.
+abbrev pub IsRefusedElsewhere : TrackedValue → ℕ → Type 0
+IsRefusedElsewhere here walk =
+    (other : TrackedValue) → unit_of other.next_number ≢ unit_of here.next_number
+    → most_reserved < began_on other walk
+
+-- ---- answers
 
 abbrev pub WalkAnswer : Type 0
 WalkAnswer = Result (Option Entry) WalkFault

@@ -11,8 +11,8 @@ use ring::{Consumer, Ring, Sender};
 use ringcore::laws;
 
 /// A witness, while the ring runs, that a sender was told truly: whatever number it was told, no
-/// entry is held, and no transaction is outstanding that began with an entry, which is older than a
-/// command that was reserved before that CMD_SYNC and covers it. From then on consumer and sender
+/// entry is held, and no transaction is outstanding that uses one or tables, which is older than a
+/// command that was reserved before that CMD_SYNC and concerns it. From then on consumer and sender
 /// know the run as it is at this moment, which has the steps of both. Otherwise both stay as they
 /// are.
 pub fn told(

@@ -5,6 +5,8 @@
 //!    covers it was taken meanwhile.
 //! 2. A transaction begins with an entry that is held, and ends. A CMD_SYNC isn't taken while one
 //!    is outstanding whose entry a command before that CMD_SYNC covers.
+//! 3. A walk may be outstanding as well, until it reads tables no more. Each invalidation since it
+//!    began concerns it, and a CMD_SYNC behind that waits for it.
 //!
 //! `TrackedUnit` does that for a ring, and `TrackedQueueUnit` for a queue in memory that its owner
 //! may write over.
@@ -22,6 +24,7 @@ mod tracked_step;
 mod tracked_verdict;
 mod tracking;
 mod transaction;
+mod used;
 mod walk;
 
 pub use completion_witness::told;

@@ -5,24 +5,23 @@ ghost use Rattle.std.specs.Prelude.{IfOk, IfSome, IsTrue, ◌↔◌};
 ghost use Rattle.std.specs.Option.{MatchOption};
 ghost use Rattle.cmdcodec.specs.declared.command.Command.{Command as CommandOf};
 ghost use Rattle.cmdcodec.specs.Spelling.{Spells};
-ghost use Rattle.caches.specs.Blocks.{IsBlock};
 ghost use Rattle.transactions.specs.Between.{IsInsertAnswer};
 ghost use Rattle.transactions.specs.FreeSlots.{AreOwnPlaces, HasBlocks};
-ghost use Rattle.transactions.specs.Outstanding.{cover, is_covered, IsBlockOf};
+ghost use Rattle.transactions.specs.Outstanding.{cover, is_covered, IsBlockOf, UsesBlock};
 ghost use Rattle.transactions.specs.Outstanding.{IsAt, IsEmptyAt, AreCountsOf};
 
 use crate::transaction::OutstandingCounts;
-use caches::{Tag, covers};
+use crate::used::{Used, concerns};
 use cmdcodec::{Command, Raw, decode};
 use std::alloc::{AllocError, Global};
 use std::marker::Model;
 
-/// A transaction that is outstanding: which one it is, the tag of the entry that it began with,
-/// when that was born, and whether a command taken since covers it.
+/// A transaction that is outstanding: which one it is, what it uses, when that was born, and
+/// whether a command taken since concerns it.
 #[derive(Clone, Copy, Debug, PartialEq, Eq)]
 pub struct OutstandingTransaction {
     pub number: u64,
-    pub tag: Tag,
+    pub used: Used,
     pub born: u64,
     pub covered: bool,
 }
@@ -67,8 +66,8 @@ impl OutstandingTransactions {
         })
     }
 
-    /// A command with these words was applied: those are covered from now on whose tag it covers.
-    /// The words are decoded only if one is outstanding.
+    /// A command with these words was applied: those are covered from now on that it concerns. The
+    /// words are decoded only if one is outstanding.
     pub(crate) fn cover(&mut self, raw: Raw)
         ensures { (command : CommandOf) → Spells raw command
             → self.new ≡ map (cover command) self.old }
@@ -112,7 +111,7 @@ impl OutstandingTransactions {
 
     /// Puts one that isn't covered into a free slot, and returns that.
     pub(crate) fn insert(&mut self, transaction: OutstandingTransaction) -> Option<usize>
-        requires block { IsBlock transaction.tag }
+        requires block { UsesBlock transaction.used }
         requires uncovered { transaction.covered ≡ false }
         ensures inserted { IsInsertAnswer self.old transaction self.new result }
         ensures few { IfSome result (λ slot. slot < 2 ^ 16) }
@@ -200,7 +199,7 @@ fn cover(command: &Command, slot: Option<OutstandingTransaction>) -> Option<Outs
     match slot {
         None => None,
         Some(outstanding) => {
-            let covered = outstanding.covered || covers(command, &outstanding.tag);
+            let covered = outstanding.covered || concerns(command, &outstanding.used);
             Some(OutstandingTransaction {
                 covered,
                 ..outstanding

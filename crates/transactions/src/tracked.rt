@@ -8,35 +8,39 @@ ghost use Rattle.cmdcodec.specs.Legality.{first_ill};
 ghost use Rattle.ringcore.specs.Limits.{most_reserved};
 ghost use Rattle.ringcore.specs.world.World.{Taken};
 ghost use Rattle.caches.specs.Blocks.{IsBlock};
+ghost use Rattle.caches.specs.Covers.{covers};
 ghost use Rattle.caches.specs.Held.{held};
 ghost use Rattle.caches.specs.Stored.{IsFillAnswer};
 ghost use Rattle.engine.specs.Stops.{IsStopped, MayComeNext, IsAcknowledgementAnswer};
 ghost use Rattle.engine.specs.Counting.{taken};
-ghost use Rattle.engine.specs.Units.{HasJudged, took};
+ghost use Rattle.engine.specs.Units.{HasJudged, HasLost, took};
 ghost use Rattle.transactions.specs.Between.{TakesTracked, IsApplyAnswer};
 ghost use Rattle.transactions.specs.Outstanding.{covered_by, AreCountsOf};
 ghost use Rattle.transactions.specs.Completed.{IsCompletedAt, IsComplete};
 ghost use Rattle.transactions.specs.TrackedVerdicts.{IsTrackedVerdict, WaitsExactly, took_by};
 ghost use Rattle.transactions.specs.Tracking.{IsTracked, StaysTracked, new_tracked};
-ghost use Rattle.transactions.specs.Tracking.{with_filled, with_evicted, with_acknowledged};
+ghost use Rattle.transactions.specs.Tracking.{with_unit, with_filled, with_evicted};
+ghost use Rattle.transactions.specs.Tracking.{with_acknowledged};
 ghost use Rattle.transactions.specs.Together.{StaysTogether, IsTogetherFromNothing};
 ghost use Rattle.transactions.specs.Transactions.{IsBeginAnswer, IsBeginWalkedAnswer, IsEndAnswer};
+ghost use Rattle.transactions.specs.Transactions.{IsOutstandingWalk};
 ghost use Rattle.transactions.specs.Walks.{AnswersWalk, IsCachesAnswer, with_walked};
+ghost use Rattle.transactions.specs.Walks.{walk_now, began_on, IsRefusedElsewhere};
 
 use crate::tracked_verdict::TrackedVerdict;
 use crate::tracking::Tracking;
 use crate::transaction::{BeginFault, Ended, OutstandingCounts, Transaction};
 use crate::walk::{Walk, WalkFault};
 use caches::{CacheFault, Caches, Entry, Tag};
-use cmdcodec::{Raw, first_ill};
+use cmdcodec::{Command, Raw, first_ill};
 use engine::{AckFault, Remedy, Unit, Verdict};
 use ring::Device;
 use std::alloc::{AllocError, Global};
 use std::marker::Model;
 
 /// A unit that knows of walks and of transactions. What a walk read is filled only if nothing taken
-/// meanwhile covers it, and a CMD_SYNC is taken only if no transaction is outstanding that began
-/// with an entry which a command before it covers.
+/// meanwhile covers it, and a CMD_SYNC is taken only if no transaction is outstanding that a command
+/// before it concerns: one that began with an entry which it covers, or that reads tables.
 #[derive(Drop)]
 pub struct TrackedUnit {
     unit: Unit,
@@ -71,8 +75,8 @@ impl Device for TrackedUnit {
 
 impl TrackedUnit {
     /// A witness: whatever CMD_SYNC was taken, no entry is held, and no transaction is outstanding
-    /// that began with an entry, which is older than a command before that CMD_SYNC and covered by
-    /// it. It does nothing.
+    /// that uses one or tables, which is older than a command before that CMD_SYNC that concerns it.
+    /// It does nothing.
     pub fn is_complete(&self)
         ensures { (list : List Taken) (end : ℕ) → IsTracked self.now list
             → IsCompletedAt list end → IsComplete self.now list end }
@@ -81,21 +85,27 @@ impl TrackedUnit {
     }
 
     /// Creates a unit that has taken nothing, with these empty caches, and room for 0 to 65,535
-    /// transactions.
-    pub fn new(alloc: Global, caches: Caches, room: u16) -> Result<TrackedUnit, AllocError>
+    /// transactions. Its number tells its transactions and walks from those of other units: who has
+    /// several gives each another.
+    pub fn new(
+        alloc: Global,
+        number: u8,
+        caches: Caches,
+        room: u16,
+    ) -> Result<TrackedUnit, AllocError>
         requires empty { caches.entries ≡ held [] }
-        ensures unit { IfOk result (λ t. t ≡ new_tracked caches room) }
+        ensures unit { IfOk result (λ t. t ≡ new_tracked number caches room) }
         ensures tracked { IfOk result (λ t. IsTracked t []) }
         ensures together { IfOk result (λ t. IsTogetherFromNothing t) }
     {
-        let tracking = Tracking::new(alloc, room)?;
+        let tracking = Tracking::new(alloc, number, room)?;
         let unit = Unit::new(caches);
         Ok(TrackedUnit { unit, tracking })
     }
 
     /// Applies a legal command; stops at an illegal one, or takes it without effect if told to
-    /// replace it. A legal CMD_SYNC isn't taken while a transaction is outstanding that began with
-    /// an entry which a command before it covers. The unit must not be stopped, and after a stop
+    /// replace it. A legal CMD_SYNC isn't taken while a transaction is outstanding that a command
+    /// before it concerns. The unit must not be stopped, and after a stop
     /// `raw` must be the words at which it stopped.
     pub fn judge(&mut self, raw: Raw) -> TrackedVerdict
         requires running { ¬ IsStopped self.old.unit.stop.mode }
@@ -153,10 +163,32 @@ impl TrackedUnit {
 
     /// A translation table walk begins now.
     pub fn begin_walk(&self) -> Walk
-        ensures { result ≡ taken self.now.unit.counts }
+        ensures walk { result ≡ walk_now self.now }
+        ensures began { began_on self.now result ≡ taken self.now.unit.counts }
+        ensures elsewhere { IsRefusedElsewhere self.now result }
     {
-        let began = self.unit.counts().taken();
-        Walk { began }
+        let taken = self.unit.counts().taken();
+        Walk::new(self.tracking.unit_number(), taken)
+    }
+
+    /// A translation table walk begins now that a CMD_SYNC waits for: it counts as a transaction
+    /// that each invalidation concerns. Its token is to be given to `end` once it reads and writes
+    /// tables no more. `None`, changing nothing, if as many transactions are outstanding as there is
+    /// room for.
+    pub fn begin_outstanding_walk(&mut self) -> Option<(Walk, Transaction)>
+        ensures begun { IsOutstandingWalk (walk_now self.old) self.old self.new result }
+        ensures tracked { StaysTracked self.old self.new [] }
+        ensures together { StaysTogether self.old self.new }
+    {
+        let walk = self.begin_walk();
+        self.tracking.begin_outstanding_walk(&self.unit, walk)
+    }
+
+    /// After how many commands a walk began.
+    fn began(&self, walk: Walk) -> u64
+        ensures { result ≡ began_on self.now walk }
+    {
+        walk.began_on(self.tracking.unit_number())
     }
 
     /// Fills what a walk read, as an entry that was born when the walk began, and returns the one
@@ -170,15 +202,16 @@ impl TrackedUnit {
         tag: Tag,
         value: u64,
     ) -> Result<Option<Entry>, WalkFault>
-        ensures answer { AnswersWalk self.old walk tag result }
+        ensures answer { AnswersWalk self.old (began_on self.old walk) tag result }
         ensures caches { IsCachesAnswer self.old.unit.caches tag result }
-        ensures ok { OnOk result (self.new ≡ with_walked walk tag value self.old) }
+        ensures ok { OnOk result (self.new
+            ≡ with_walked (began_on self.old walk) tag value self.old) }
         ensures err { OnErr result (self.new ≡ self.old) }
         ensures tracked { StaysTracked self.old self.new [] }
         ensures together { StaysTogether self.old self.new }
     {
-        self.tracking
-            .fill_walked(&mut self.unit, walk.began, tag, value)
+        let began = self.began(walk);
+        self.tracking.fill_walked(&mut self.unit, began, tag, value)
     }
 
     /// A transaction begins with the entry that is held under a tag. Its token is to be given to
@@ -201,16 +234,19 @@ impl TrackedUnit {
     /// answers by the tag's block and by what was taken; Full if as many are outstanding as there
     /// is room for.
     pub fn begin_walked(&mut self, walk: Walk, tag: &Tag) -> Result<Transaction, BeginFault>
-        ensures begun { IsBeginWalkedAnswer self.old walk tag.now self.new result }
+        ensures begun { IsBeginWalkedAnswer self.old (began_on self.old walk) tag.now
+            self.new result }
         ensures tracked { StaysTracked self.old self.new [] }
         ensures together { StaysTogether self.old self.new }
     {
-        self.tracking.begin_walked(&self.unit, walk.began, tag)
+        let began = self.began(walk);
+        self.tracking.begin_walked(&self.unit, began, tag)
     }
 
     /// A transaction is over. Returns whether it was the last that a CMD_SYNC waits for.
     ///
-    /// Errors, changing nothing: the token, if it isn't of a transaction that is outstanding here.
+    /// Errors, changing nothing: the token, if it isn't of a transaction that is outstanding here,
+    /// but has ended or is another unit's.
     pub fn end(&mut self, transaction: Transaction) -> Result<Ended, Transaction>
         ensures ended { IsEndAnswer self.old transaction self.new result }
         ensures tracked { StaysTracked self.old self.new [] }
@@ -246,6 +282,18 @@ impl TrackedUnit {
         ensures together { StaysTogether self.old self.new }
     {
         self.unit.evict(tag)
+    }
+
+    /// Removes the entries that `command` covers, without taking it, and returns how many there
+    /// were, as `Unit::invalidate` does. Transactions that began with one stay outstanding, and no
+    /// CMD_SYNC waits for them for that.
+    pub fn invalidate(&mut self, command: &Command) -> u32
+        ensures lost { HasLost (covers command.now) result self.old.unit self.new.unit }
+        ensures rest { self.new ≡ with_unit self.new.unit self.old }
+        ensures tracked { StaysTracked self.old self.new [] }
+        ensures together { StaysTogether self.old self.new }
+    {
+        self.unit.invalidate(command)
     }
 
     /// Software writes SMMU_GERRORN and chooses what happens to the command, as

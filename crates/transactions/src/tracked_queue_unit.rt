@@ -2,6 +2,7 @@
 ghost use Rattle.std.specs.Prelude.{◌≡◌, ◌<◌, ◌↔◌, [], Some, Err};
 ghost use Rattle.std.specs.Prelude.{IfOk, IfSome, OnOk, OnErr, IsTrue};
 ghost use Rattle.std.specs.FinMap as finite;
+ghost use Rattle.caches.specs.Covers.{covers};
 ghost use Rattle.caches.specs.Held.{held};
 ghost use Rattle.caches.specs.Stored.{IsFillAnswer};
 ghost use Rattle.engine.specs.Stops.{command_queue_bit, word_of};
@@ -16,19 +17,20 @@ ghost use Rattle.transactions.specs.TrackedQueueUnits.{tracked_in, new_tracked_q
 ghost use Rattle.transactions.specs.TrackedQueueUnits.{with_its_unit, with_filled_queue};
 ghost use Rattle.transactions.specs.TrackedQueueUnits.{with_evicted_queue, KeepsQueue};
 ghost use Rattle.transactions.specs.TrackedQueueUnits.{walk_now, began_in, RefusesWalksOf};
-ghost use Rattle.transactions.specs.TrackedQueueUnits.{BringsNearer};
+ghost use Rattle.transactions.specs.TrackedQueueUnits.{BringsNearer, IsRefusedByOthers};
+ghost use Rattle.engine.specs.Counting.{taken};
 ghost use Rattle.transactions.specs.TrackedQueueUnits.{reset_queue, IsTrackedJudgement};
 ghost use Rattle.transactions.specs.TrackedQueueUnits.{QueueWaitsExactly, HasTakenNext};
 ghost use Rattle.transactions.specs.Transactions.{IsBeginAnswer, IsBeginWalkedAnswer, IsEndAnswer};
-ghost use Rattle.transactions.specs.Transactions.{bits_of};
+ghost use Rattle.transactions.specs.Transactions.{bits_of, IsOutstandingWalk};
 ghost use Rattle.transactions.specs.Walks.{AnswersWalk, IsCachesAnswer, with_walked};
 
 use crate::tracked_judgement::TrackedJudgement;
 use crate::tracking::Tracking;
 use crate::transaction::{BeginFault, Ended, OutstandingCounts, Transaction};
-use crate::walk::{Walk, WalkFault};
+use crate::walk::{NUMBERS, Walk, WalkFault};
 use caches::{CacheFault, Caches, Entry, Tag, TagTest};
-use cmdcodec::Raw;
+use cmdcodec::{Command, Raw};
 use engine::{AckFault, JudgeFault, Judgement, QueueError, QueueUnit, StopRemedy, Unit};
 use ringcore::MOST_RESERVED;
 use std::alloc::{AllocError, Global};
@@ -42,13 +44,14 @@ use std::marker::Model;
 pub struct TrackedQueueUnit {
     queue: QueueUnit,
     tracking: Tracking,
-    /// The number of a walk that begins before any command.
+    /// The lower 56 bits of the number of a walk that begins before any command.
     before: u64,
 }
 
 impl Model for TrackedQueueUnit {
     ghost use Rattle.std.specs.Coded.{codes};
     ghost use Rattle.caches.specs.Stored.{stored_code};
+    ghost use Rattle.std.specs.Prelude.{◌<◌, ◌^◌};
     ghost use Rattle.transactions.specs.TrackedQueueUnits.{TrackedQueueValue};
 
     ghost Value = { TrackedQueueValue };
@@ -62,17 +65,25 @@ impl Model for TrackedQueueUnit {
       next_number = t.tracking.next_number;
       before = t.before;
     } };
+
+    ghost invariant = { λ t. t.before < 2 ^ 56 };
 }
 
 impl TrackedQueueUnit {
     /// Creates one that has taken nothing, with these empty caches, and room for 0 to 65,535
-    /// transactions.
-    pub fn new(alloc: Global, caches: Caches, room: u16) -> Result<TrackedQueueUnit, AllocError>
+    /// transactions. Its number tells its transactions and walks from those of other units: who has
+    /// several gives each another.
+    pub fn new(
+        alloc: Global,
+        number: u8,
+        caches: Caches,
+        room: u16,
+    ) -> Result<TrackedQueueUnit, AllocError>
         requires empty { caches.entries ≡ held [] }
-        ensures unit { IfOk result (λ t. t ≡ new_tracked_queue caches room) }
+        ensures unit { IfOk result (λ t. t ≡ new_tracked_queue number caches room) }
         ensures tracked { IfOk result (λ t. IsTracked (tracked_in t) []) }
     {
-        let tracking = Tracking::new(alloc, room)?;
+        let tracking = Tracking::new(alloc, number, room)?;
         let queue = QueueUnit::new(caches);
         Ok(TrackedQueueUnit {
             queue,
@@ -82,8 +93,7 @@ impl TrackedQueueUnit {
     }
 
     /// Judges the words that come next, as `QueueUnit::judge` does. A legal CMD_SYNC waits while a
-    /// transaction is outstanding that began with an entry which a command before it covers. Then
-    /// nothing is taken, not even words that it was written over.
+    /// transaction is outstanding that a command before it concerns. Then nothing is taken, not even words that it was written over.
     ///
     /// Errors, ahead of waiting and changing nothing: those of `QueueUnit::judge`.
     pub fn judge(&mut self, raw: Raw) -> Result<TrackedJudgement, JudgeFault>
@@ -182,7 +192,7 @@ impl TrackedQueueUnit {
         ensures older { BringsNearer self.old self.new }
     {
         let taken = self.queue.unit.counts().taken();
-        self.before = self.before.wrapping_add(taken + 1);
+        self.before = (self.before + (taken + 1)) % NUMBERS;
         self.queue.reset();
         self.tracking.reset();
     }
@@ -191,19 +201,39 @@ impl TrackedQueueUnit {
 impl TrackedQueueUnit {
     /// A translation table walk begins now.
     pub fn begin_walk(&self) -> Walk
-        ensures { result ≡ walk_now self.now }
+        ensures walk { result ≡ walk_now self.now }
+        ensures began { began_in self.now result ≡ taken self.now.queue.unit.counts }
+        ensures elsewhere { IsRefusedByOthers self.now result }
     {
         let taken = self.queue.unit.counts().taken();
-        Walk {
-            began: self.before.wrapping_add(taken),
-        }
+        let began = (self.before + taken) % NUMBERS;
+        Walk::new(self.tracking.unit_number(), began)
     }
 
-    /// After how many commands a walk began. Far more than can be taken if that was before a reset.
+    /// A translation table walk begins now that a CMD_SYNC waits for, as
+    /// `TrackedUnit::begin_outstanding_walk` says. `None`, changing nothing, if as many transactions
+    /// are outstanding as there is room for.
+    pub fn begin_outstanding_walk(&mut self) -> Option<(Walk, Transaction)>
+        ensures begun { IsOutstandingWalk (walk_now self.old) (tracked_in self.old)
+            (tracked_in self.new) result }
+        ensures some { IfSome result (λ both. 0 < bits_of both.1) }
+        ensures queue { KeepsQueue self.old self.new }
+        ensures tracked { StaysTracked (tracked_in self.old) (tracked_in self.new) [] }
+    {
+        let walk = self.begin_walk();
+        self.tracking.begin_outstanding_walk(&self.queue.unit, walk)
+    }
+
+    /// After how many commands a walk began. Far more than can be taken if that was before a reset,
+    /// or on another unit.
     fn began(&self, walk: Walk) -> u64
         ensures { result ≡ began_in self.now walk }
     {
-        walk.began.wrapping_sub(self.before)
+        if walk.bits / NUMBERS == self.tracking.unit_number() {
+            (walk.bits % NUMBERS + (NUMBERS - self.before)) % NUMBERS
+        } else {
+            NUMBERS
+        }
     }
 
     /// Fills what a walk read, as `TrackedUnit::fill_walked` does.
@@ -263,7 +293,7 @@ impl TrackedQueueUnit {
     /// A transaction is over. Returns whether it was the last that a CMD_SYNC waits for.
     ///
     /// Errors, changing nothing: the token, if it isn't of a transaction that is outstanding here,
-    /// as after a reset.
+    /// but has ended, as by a reset, or is another unit's.
     pub fn end(&mut self, transaction: Transaction) -> Result<Ended, Transaction>
         ensures ended { IsEndAnswer (tracked_in self.old) transaction (tracked_in self.new) result }
         ensures queue { KeepsQueue self.old self.new }
@@ -315,6 +345,16 @@ impl TrackedQueueUnit {
         ensures tracked { StaysTracked (tracked_in self.old) (tracked_in self.new) [] }
     {
         self.queue.unit.evict_all(test)
+    }
+
+    /// Removes the entries that `command` covers, without taking it, as `Unit::invalidate` does.
+    /// Transactions that began with one stay outstanding, and no CMD_SYNC waits for them for that.
+    pub fn invalidate(&mut self, command: &Command) -> u32
+        ensures lost { HasLost (covers command.now) result self.old.queue.unit self.new.queue.unit }
+        ensures rest { self.new ≡ with_its_unit self.new.queue.unit self.old }
+        ensures tracked { StaysTracked (tracked_in self.old) (tracked_in self.new) [] }
+    {
+        self.queue.unit.invalidate(command)
     }
 
     /// Removes all entries that were filled before `born` commands were taken, as

@@ -1,8 +1,7 @@
 //! What a unit with walks and transactions knows of them beside its commands.
-ghost use Rattle.std.specs.Prelude.{◌≡◌, ◌<◌, [], None, Err};
+ghost use Rattle.std.specs.Prelude.{◌≡◌, ◌<◌, ◌^◌, [], None, Err};
 ghost use Rattle.std.specs.Prelude.{IfOk, OnOk, OnErr, IfSome};
 ghost use Rattle.cmdcodec.specs.Legality.{first_ill};
-ghost use Rattle.caches.specs.Blocks.{IsBlock};
 ghost use Rattle.engine.specs.Units.{UnitValue};
 ghost use Rattle.transactions.specs.Between.{IsWaitAnswer, HasNoted, IsRefusal, IsBegunIfRoom};
 ghost use Rattle.transactions.specs.Outstanding.{AreCountsOf};
@@ -10,14 +9,19 @@ ghost use Rattle.transactions.specs.Tracking.{new_tracking, reset_tracking, trac
 ghost use Rattle.transactions.specs.Tracking.{StaysTracked};
 ghost use Rattle.transactions.specs.Together.{StaysTogether};
 ghost use Rattle.transactions.specs.Transactions.{IsBeginAnswer, IsBeginWalkedAnswer, IsEndAnswer};
-ghost use Rattle.transactions.specs.Transactions.{bits_of};
+ghost use Rattle.transactions.specs.Transactions.{bits_of, IsOutstandingWalk};
+ghost use Rattle.transactions.specs.Tracking.{unit_of};
+ghost use Rattle.transactions.specs.Outstanding.{UsesBlock};
 ghost use Rattle.transactions.specs.Walks.{AnswersWalk, IsCachesAnswer, with_walked};
 
 use crate::coverage::is_invalidation;
 use crate::outstanding::{OutstandingTransaction, OutstandingTransactions};
 use crate::recent_invalidations::{Invalidation, RecentInvalidations};
-use crate::transaction::{BeginFault, Ended, OutstandingCounts, Transaction, number_after};
-use crate::walk::WalkFault;
+use crate::transaction::{
+    BeginFault, Ended, OutstandingCounts, Transaction, first_number, number_after, unit_of,
+};
+use crate::used::Used;
+use crate::walk::{Walk, WalkFault};
 use caches::{CacheFault, Entry, Tag};
 use cmdcodec::{Raw, first_ill};
 use engine::Unit;
@@ -48,17 +52,25 @@ impl Model for Tracking {
 }
 
 impl Tracking {
-    /// Nothing was taken yet. There is room for so many transactions.
-    pub(crate) fn new(alloc: Global, room: u16) -> Result<Tracking, AllocError>
-        ensures { IfOk result (λ t. t ≡ new_tracking room) }
+    /// Of a unit of this number. Nothing was taken yet, and there is room for so many transactions.
+    pub(crate) fn new(alloc: Global, number: u8, room: u16) -> Result<Tracking, AllocError>
+        ensures { IfOk result (λ t. t ≡ new_tracking number room) }
     {
         let recent = RecentInvalidations::new(alloc)?;
         let outstanding = OutstandingTransactions::new(alloc, room)?;
         Ok(Tracking {
             recent,
             outstanding,
-            next_number: 1,
+            next_number: first_number(number),
         })
+    }
+
+    /// The unit's number.
+    pub(crate) fn unit_number(&self) -> u64
+        ensures number { result ≡ unit_of self.now.next_number }
+        ensures few { result < 2 ^ 8 }
+    {
+        unit_of(self.next_number)
     }
 
     /// Nothing was taken since, and no transaction is outstanding. Their numbers go on. Takes no
@@ -85,7 +97,7 @@ impl Tracking {
     }
 
     /// A command was applied, behind so many that were taken: if it is an invalidation its words
-    /// are kept, and those transactions are covered from now on that it covers.
+    /// are kept, and those transactions are covered from now on that it concerns.
     pub(crate) fn note(&mut self, place: u64, raw: Raw)
         requires legal { first_ill raw ≡ None }
         ensures noted { HasNoted place raw self.old self.new }
@@ -163,7 +175,7 @@ impl Tracking {
         let Some(entry) = unit.lookup(tag) else {
             return Err(BeginFault::NotHeld);
         };
-        match self.begin_with(*tag, entry.born) {
+        match self.begin_with(Used::Entry(*tag), entry.born) {
             Some(transaction) => Ok((entry, transaction)),
             None => Err(BeginFault::Full),
         }
@@ -191,23 +203,44 @@ impl Tracking {
         if let Some(fault) = self.refusal(unit, began, tag) {
             return Err(BeginFault::Walked(fault));
         }
-        match self.begin_with(*tag, began) {
+        match self.begin_with(Used::Entry(*tag), began) {
             Some(transaction) => Ok(transaction),
             None => Err(BeginFault::Full),
         }
     }
 
-    /// A transaction begins with an entry of this tag, if a slot is free.
-    fn begin_with(&mut self, tag: Tag, born: u64) -> Option<Transaction>
-        requires block { IsBlock tag }
-        ensures begun { (unit : UnitValue) → IsBegunIfRoom (tracked_with unit self.old) tag born
+    /// A walk of this number begins now, and a transaction that uses the tables, if a slot is free.
+    pub(crate) fn begin_outstanding_walk(
+        &mut self,
+        unit: &Unit,
+        walk: Walk,
+    ) -> Option<(Walk, Transaction)>
+        ensures begun { IsOutstandingWalk walk (tracked_with unit.now self.old)
+            (tracked_with unit.now self.new) result }
+        ensures some { IfSome result (λ both. 0 < bits_of both.1) }
+        ensures tracked { StaysTracked (tracked_with unit.now self.old)
+            (tracked_with unit.now self.new) [] }
+        ensures together { StaysTogether (tracked_with unit.now self.old)
+            (tracked_with unit.now self.new) }
+    {
+        let taken = unit.counts().taken();
+        match self.begin_with(Used::Tables, taken) {
+            Some(transaction) => Some((walk, transaction)),
+            None => None,
+        }
+    }
+
+    /// A transaction begins that uses this, if a slot is free.
+    fn begin_with(&mut self, used: Used, born: u64) -> Option<Transaction>
+        requires block { UsesBlock used }
+        ensures begun { (unit : UnitValue) → IsBegunIfRoom (tracked_with unit self.old) used born
             (tracked_with unit self.new) result }
         ensures some { IfSome result (λ transaction. 0 < bits_of transaction) }
     {
         let number = self.next_number;
         let transaction = OutstandingTransaction {
             number,
-            tag,
+            used,
             born,
             covered: false,
         };
@@ -227,6 +260,9 @@ impl Tracking {
         ensures together { (unit : UnitValue) → StaysTogether (tracked_with unit self.old)
             (tracked_with unit self.new) }
     {
+        if unit_of(transaction.number) != unit_of(self.next_number) {
+            return Err(transaction);
+        }
         match self.outstanding.get(transaction.slot) {
             Some(outstanding) if outstanding.number == transaction.number => {
                 let Transaction { slot, number: _ } = transaction;

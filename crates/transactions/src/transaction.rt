@@ -1,21 +1,22 @@
-//! Transactions that began with an entry.
+//! Transactions that began with an entry or a walk.
 ghost use Rattle.std.specs.Prelude.{◌≡◌, ◌↔◌, true};
-ghost use Rattle.transactions.specs.Tracking.{number_after, IsNumber};
+ghost use Rattle.transactions.specs.Tracking.{number_after, first_number, unit_of, IsNumber};
 ghost use Rattle.transactions.specs.Transactions.{bits_of, transaction_of};
 
 use crate::walk::WalkFault;
 use std::marker::Model;
 use thiserror::Error;
 
-/// The last number of a transaction: so a number and a slot fit into a word of 64 bits. This
-/// project's choice.
-const LAST_NUMBER: u64 = 281_474_976_710_655;
+/// How many numbers a unit's transactions have, 0 among them, which none has: so a unit's number of
+/// 8 bits, one of these and a slot fit into a word of 64 bits. This project's choice.
+const NUMBERS: u64 = 1_099_511_627_776;
 
 /// How many slots there may be: a slot's number has 16 bits.
 const SLOTS: u64 = 65_536;
 
-/// A transaction that was translated with an entry of a unit, and hasn't ended: it is to be given
-/// to `TrackedUnit::end` when it has. The compiler lets nobody drop it.
+/// A transaction that was translated with an entry of a unit, or a walk's that reads tables, and
+/// hasn't ended: it is to be given to `TrackedUnit::end` of that unit when it has. The compiler lets
+/// nobody drop it.
 pub struct Transaction {
     pub(crate) slot: usize,
     pub(crate) number: u64,
@@ -32,8 +33,8 @@ impl Model for Transaction {
 }
 
 impl Transaction {
-    /// Its number in the upper 48 bits and its slot in the lower 16, for whoever keeps it in a
-    /// word. It isn't over by that.
+    /// Its number in the upper 48 bits, whose upper 8 are the unit's, and its slot in the lower 16,
+    /// for whoever keeps it in a word. It isn't over by that.
     pub fn into_bits(self) -> u64
         ensures bits { result ≡ bits_of self }
         ensures back { transaction_of result ≡ self }
@@ -100,10 +101,27 @@ pub enum BeginFault {
     Walked(WalkFault),
 }
 
-/// The number of the transaction after this one: 1 to 2^48 - 1, and then from 1 again.
+/// The number of the first transaction of a unit.
+pub(crate) fn first_number(unit: u8) -> u64
+    ensures first { result ≡ first_number unit }
+    ensures number { IsNumber result }
+{
+    u64::from(unit) * NUMBERS + 1
+}
+
+/// The number of the unit that a transaction is of.
+pub(crate) fn unit_of(number: u64) -> u64
+    ensures { result ≡ unit_of number }
+{
+    number / NUMBERS
+}
+
+/// The number of the transaction after this one: its lower 40 bits are 1 to 2^40 - 1, and then 1
+/// again.
 pub(crate) fn number_after(number: u64) -> u64
+    requires { IsNumber number }
     ensures next { result ≡ number_after number }
     ensures number { IsNumber result }
 {
-    number % LAST_NUMBER + 1
+    unit_of(number) * NUMBERS + (number % NUMBERS % (NUMBERS - 1) + 1)
 }

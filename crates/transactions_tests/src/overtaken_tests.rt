@@ -30,9 +30,13 @@ const SYNC: Raw = Raw { lo: 0x46, hi: 0 };
 /// CMD_SYNC with the reserved signal.
 const ILLEGAL_SYNC: Raw = Raw { lo: 0x3046, hi: 0 };
 
-fn tracked(rt: &impl Abort, alloc: Global, room: u16) -> TrackedUnit {
+fn numbered(rt: &impl Abort, alloc: Global, number: u8, room: u16) -> TrackedUnit {
     let caches = Caches::new(alloc, 8).expect(rt, "room for eight");
-    TrackedUnit::new(alloc, caches, room).expect(rt, "memory")
+    TrackedUnit::new(alloc, number, caches, room).expect(rt, "memory")
+}
+
+fn tracked(rt: &impl Abort, alloc: Global, room: u16) -> TrackedUnit {
+    numbered(rt, alloc, 0, room)
 }
 
 fn stream(rt: &impl Abort, number: u64) -> Tag {
@@ -116,6 +120,24 @@ fn a_walk_that_is_too_old(rt: HostRuntime) {
 
 #[test]
 fn a_walk_of_another_unit(rt: HostRuntime) {
+    let unit = numbered(&rt, rt.alloc(), 1, 1);
+    let mut other = numbered(&rt, rt.alloc(), 255, 1);
+    let (six, seven) = (stream(&rt, 6), stream(&rt, 7));
+    let walk = unit.begin_walk();
+    assert_eq!(rt; other.fill_walked(walk, six, 74), Err(WalkFault::OtherUnit));
+    let own = other.begin_walk();
+    assert_eq!(rt; other.fill_walked(own, seven, 73), Ok(None));
+}
+
+#[test]
+fn a_walk_s_word_has_its_unit(rt: HostRuntime) {
+    let unit = numbered(&rt, rt.alloc(), 1, 1);
+    let word = unit.begin_walk().bits();
+    assert_eq!(rt; word, 0x0100_0000_0000_0000);
+}
+
+#[test]
+fn a_walk_of_another_unit_of_the_same_number(rt: HostRuntime) {
     let mut unit = tracked(&rt, rt.alloc(), 1);
     let mut other = tracked(&rt, rt.alloc(), 1);
     assert!(rt; is_applied(&judged(&rt, &mut unit, STE)));
@@ -124,6 +146,32 @@ fn a_walk_of_another_unit(rt: HostRuntime) {
     assert_eq!(rt; other.fill_walked(late, six, 74), Err(WalkFault::OtherUnit));
     let early = other.begin_walk();
     assert_eq!(rt; unit.fill_walked(early, seven, 73), Ok(None));
+}
+
+#[test]
+fn a_sync_that_waits_for_a_walk(rt: HostRuntime) {
+    let mut unit = tracked(&rt, rt.alloc(), 1);
+    let (walk, reads) = match unit.begin_outstanding_walk() {
+        Some(both) => both,
+        None => panic!(rt; "there is room for one"),
+    };
+    match unit.begin_outstanding_walk() {
+        Some((_walk, _transaction)) => panic!(rt; "there is room for one"),
+        None => {}
+    }
+    assert!(rt; is_applied(&judged(&rt, &mut unit, PREFETCH)));
+    assert!(rt; is_applied(&judged(&rt, &mut unit, SYNC)));
+    assert!(rt; is_applied(&judged(&rt, &mut unit, STE)));
+    let transactions = 1;
+    assert_eq!(rt;
+        judged(&rt, &mut unit, SYNC),
+        TrackedVerdict::Waiting { transactions }
+    );
+    let (five, six) = (stream(&rt, 5), stream(&rt, 6));
+    assert_eq!(rt; unit.fill_walked(walk, five, 70), Err(WalkFault::Overtaken));
+    assert_eq!(rt; unit.fill_walked(walk, six, 71), Ok(None));
+    assert_eq!(rt; end(&rt, &mut unit, reads), Ended::LastCovered);
+    assert!(rt; is_applied(&judged(&rt, &mut unit, SYNC)));
 }
 
 #[test]
@@ -179,14 +227,18 @@ fn a_sync_that_waits(rt: HostRuntime) {
 
 #[test]
 fn a_token_of_another_unit(rt: HostRuntime) {
-    let (mut one, mut other) = (tracked(&rt, rt.alloc(), 1), tracked(&rt, rt.alloc(), 1));
+    let mut one = numbered(&rt, rt.alloc(), 1, 1);
+    let mut other = numbered(&rt, rt.alloc(), 2, 1);
     let tag = stream(&rt, 5);
     assert!(rt; one.fill(tag, 70).is_ok());
+    assert!(rt; other.fill(tag, 70).is_ok());
     let token = begin(&rt, &mut one, &tag);
+    let theirs = begin(&rt, &mut other, &tag);
     let token = match other.end(token) {
-        Ok(_) => panic!(rt; "nothing is outstanding there"),
+        Ok(_) => panic!(rt; "it is another unit's"),
         Err(token) => token,
     };
+    assert_eq!(rt; end(&rt, &mut other, theirs), Ended::Other);
     assert_eq!(rt; end(&rt, &mut one, token), Ended::Other);
     assert!(rt; is_applied(&judged(&rt, &mut one, STE)));
     let stopped = judged(&rt, &mut one, ILLEGAL_SYNC);

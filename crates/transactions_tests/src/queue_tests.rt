@@ -26,7 +26,7 @@ const WAITING: Result<TrackedJudgement, JudgeFault> = Ok(TrackedJudgement::Waiti
 
 fn tracked(rt: &impl Abort, alloc: Global) -> TrackedQueueUnit {
     let caches = Caches::new(alloc, 8).expect(rt, "room for eight");
-    TrackedQueueUnit::new(alloc, caches, 2).expect(rt, "memory")
+    TrackedQueueUnit::new(alloc, 0, caches, 2).expect(rt, "memory")
 }
 
 fn stream(rt: &impl Abort, number: u64) -> Tag {
@@ -232,7 +232,7 @@ fn evictions_beside_a_queue(rt: HostRuntime) {
 /// Makes one, and returns how it went.
 fn outcome(rt: &impl Abort, alloc: Global) -> &'static str {
     let caches = Caches::new(alloc, 8).expect(rt, "room for eight");
-    match TrackedQueueUnit::new(alloc, caches, 2) {
+    match TrackedQueueUnit::new(alloc, 0, caches, 2) {
         Ok(_unit) => "whole",
         Err(_) => "refused",
     }

@@ -12,14 +12,14 @@ use Rattle.trace.proofs.state.Trace.end_at.Goals as goal
 pub unreachable-requires : goal.unreachable-requires
 unreachable-requires c =
     let there = subst (λ (t : TraceValue). IsPlaceOf c.args.number t.accesses c.args.place) (sym c.self.view_is) c.requires in
-    let can = can_end_removed c.self.inside.unit.outstanding c.self.inside.accesses.items c.args.place there.0 c.remove-transaction.result c.self.invariant there.1.at c.remove-transaction.ensures.value in
-    c.in-Err.ensures.ended.0 can.is
+    let can = can_end_removed c.self.inside.unit c.self.inside.accesses.items c.args.place there.0 c.remove-transaction.result c.self.invariant there.1.at c.remove-transaction.ensures.value in
+    c.in-Err.ensures.ended.0 (can.own, can.can.is)
 
 pub invariant_of-self : goal.invariant_of-self
 invariant_of-self c =
     let there = subst (λ (t : TraceValue). IsPlaceOf c.args.number t.accesses c.args.place) (sym c.self.view_is) c.requires in
-    let can = can_end_removed c.self.inside.unit.outstanding c.self.inside.accesses.items c.args.place there.0 c.remove-transaction.result c.self.invariant there.1.at c.remove-transaction.ensures.value in
-    ended_so c.self.inside.unit c.end.new.self c.remove-transaction.result c.self.inside.accesses.items c.remove-transaction.new.self.items c.args.place c.in-Ok.ensures.ended.0 can c.remove-transaction.ensures.items
+    let can = can_end_removed c.self.inside.unit c.self.inside.accesses.items c.args.place there.0 c.remove-transaction.result c.self.invariant there.1.at c.remove-transaction.ensures.value in
+    ended_so c.self.inside.unit c.end.new.self c.remove-transaction.result c.self.inside.accesses.items c.remove-transaction.new.self.items c.args.place c.in-Ok.ensures.ended.0 c.self.invariant can c.remove-transaction.ensures.items
 
 pub returns : goal.returns
 returns c taken is =

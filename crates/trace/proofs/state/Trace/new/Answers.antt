@@ -8,5 +8,5 @@ pub returns-clause-new : goal.returns-clause-new
 returns-clause-new c =
     let both = subst (λ r. IfOk r (λ (caches : Stored). (caches.capacity ≡ 65536) × (caches.entries ≡ held []))) c.unwrap-caches.ensures c.new.ensures.ok in
     let caches : c.unwrap-caches.result ≡ record { capacity = 65536; entries = held [] } = λ k. record { capacity = both.0 k; entries = both.1 k } in
-    let unit = c.in_ok-unit.ensures.unit ∙ ap (λ (s : Stored). new_tracked s 1024) caches in
+    let unit = c.in_ok-unit.ensures.unit ∙ ap (λ (s : Stored). new_tracked 0 s 1024) caches in
     λ k. record { unit = unit k; walks = c.new-3.ensures.items k; accesses = c.new-4.ensures.items k; right = None }

@@ -1,13 +1,13 @@
 use Rattle.std.proofs.Common.{sym, ap}
 use Rattle.transactions.specs.Tracking.{TrackedValue, tracked_with}
-use Rattle.transactions.proofs.Covering.{began_tracked}
+use Rattle.transactions.proofs.Covering.{began_tracked, fresh_entry}
 use Rattle.transactions.proofs.Together.{stays_together, unchanged_tracked, unchanged_together}
 use Rattle.transactions.proofs.tracking.Tracking.begin.Goals as goal
 
 pub returns-in-Some-begin_with-clause-tracked : goal.returns-in-Some-begin_with-clause-tracked
 returns-in-Some-begin_with-clause-tracked c list is =
-    began_tracked (tracked_with c.args.unit.now c.args.self.now) (tracked_with c.args.unit.now c.begin_with.new.self) list c.in-Some-begin_with.transaction.slot c.args.tag.now c.in-Some.entry is
-    (is.settled c.args.tag.now c.in-Some.entry (sym c.in-Some.ensures.value)) (c.in-Some-begin_with.ensures.begun c.args.unit.now).new_is
+    began_tracked (tracked_with c.args.unit.now c.args.self.now) (tracked_with c.args.unit.now c.begin_with.new.self) list c.in-Some-begin_with.transaction.slot _ c.in-Some.entry.born is
+    (fresh_entry list c.args.tag.now c.in-Some.entry (is.settled c.args.tag.now c.in-Some.entry (sym c.in-Some.ensures.value))) (c.in-Some-begin_with.ensures.begun c.args.unit.now).new_is
 
 pub returns-in-Some-begin_with-clause-together : goal.returns-in-Some-begin_with-clause-together
 returns-in-Some-begin_with-clause-together c =

@@ -1,7 +1,7 @@
 use Rattle.std.proofs.Common.{refl, ap}
 use Rattle.transactions.specs.Tracking.{TrackedValue, tracked_with}
 use Rattle.transactions.proofs.Answering.{refused, refused_for, inside_of, uncovered}
-use Rattle.transactions.proofs.Covering.{began_tracked, walked_settled}
+use Rattle.transactions.proofs.Covering.{began_tracked, fresh_walked}
 use Rattle.transactions.proofs.Together.{stays_together, unchanged_tracked, unchanged_together}
 use Rattle.transactions.proofs.tracking.Tracking.begin_walked.Goals as goal
 
@@ -24,8 +24,8 @@ returns-in-Some-begin_with-clause-tracked c list is =
     let block = c.is_block.ensures.0 c.if-not-is_block.false in
     let within = inside_of old list c.args.began c.args.tag.now is c.in_default.ensures block in
     let free = uncovered old list c.args.began c.args.tag.now is c.in_default.ensures block in
-    began_tracked old (tracked_with c.args.unit.now c.begin_with.new.self) list c.in-Some-begin_with.transaction.slot c.args.tag.now (record { tag = c.args.tag.now; value = 0; born = c.args.began }) is
-    (walked_settled list c.args.tag.now 0 c.args.began (within, free)) (c.in-Some-begin_with.ensures.begun c.args.unit.now).new_is
+    began_tracked old (tracked_with c.args.unit.now c.begin_with.new.self) list c.in-Some-begin_with.transaction.slot _ c.args.began is
+    (fresh_walked list c.args.tag.now c.args.began (within, free)) (c.in-Some-begin_with.ensures.begun c.args.unit.now).new_is
 
 pub returns-in-Some-begin_with-clause-together : goal.returns-in-Some-begin_with-clause-together
 returns-in-Some-begin_with-clause-together c =

@@ -1,4 +1,4 @@
-use Rattle.std.proofs.Common.{◌≡◌, ℕ, true, Ok, refl, ap, sym, subst}
+use Rattle.std.proofs.Common.{◌≡◌, ℕ, true, Ok, refl, ap, sym, subst, ◌∙◌}
 use Rattle.std.specs.Prelude.{◌↔◌}
 use Rattle.transactions.specs.Outstanding.{Slots}
 use Rattle.transactions.specs.Tracking.{TrackingValue, tracked_with, IsTracked}
@@ -14,7 +14,7 @@ returns-in-Some-clause-ended c unit =
     let new : TrackingValue = record old { outstanding = c.remove.new.self } in
     let transaction : TransactionValue = record { slot = c.transaction.inside.slot; number = c.transaction.inside.number } in
     subst (λ (x : TrackingValue × TransactionValue). IsEndAnswer (tracked_with unit x.0) x.1 (tracked_with unit new) (Ok c.of.result)) (λ k. (c.self.view_is k, c.transaction.view_is k))
-    (ended_one (tracked_with unit old) (tracked_with unit new) transaction c.in-Some.outstanding c.of.result c.in-Some.ensures c.if-outstanding-transaction.true
+    (ended_one (tracked_with unit old) (tracked_with unit new) transaction c.in-Some.outstanding c.of.result (sym c.unit_of.ensures ∙ c.if-unit_of.false ∙ c.unit_of-2.ensures) c.in-Some.ensures c.if-outstanding-transaction.true
     (ap (λ (s : Slots). tracked_with unit (record old { outstanding = s })) c.remove.ensures)
     (subst (λ (n : ℕ). (c.of.result ≡ LastCovered) ↔ ((c.in-Some.outstanding.covered ≡ true) × (n ≡ 0))) c.covered-left.ensures c.of.ensures))
 
