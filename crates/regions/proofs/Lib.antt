@@ -1,0 +1,4 @@
+pub mod BlockLemmas
+pub mod RunLemmas
+pub mod CoveredLemmas
+pub mod SpaceLemmas
