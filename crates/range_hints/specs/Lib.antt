@@ -1,0 +1,4 @@
+pub mod Hints
+pub mod ReservedBits
+pub mod HintedWords
+pub mod Laws
