@@ -1,0 +1,15 @@
+pub mod PieceLemmas
+pub mod LeafLemmas
+pub mod RoundingLemmas
+pub mod ByAddressLemmas
+pub mod Holding
+pub mod LawLemmas
+pub mod HintLemmas
+pub mod PlanLemmas
+pub mod FillLemmas
+pub mod WholeLemmas
+pub mod EndpointLemmas
+pub mod ReachLemmas
+pub mod IntervalLemmas
+pub mod GatherLemmas
+pub mod LegalLemmas

@@ -1,0 +1,12 @@
+pub mod Spaces
+pub mod Targets
+pub mod Pieces
+pub mod ByAddress
+pub mod Laws
+pub mod Hints
+pub mod Filling
+pub mod Endpoints
+pub mod Plans
+pub mod Intervals
+pub mod Gathering
+pub mod Reaching

@@ -1,0 +1,2 @@
+pub mod WorkedRegisters
+pub mod WorkedInvalidations
