@@ -11,10 +11,11 @@ pub use Rattle.clap.specs.declared.error.kind.ErrorKind.{ErrorKind}
 pub use Rattle.clap.specs.declared.error.kind.ErrorKind.TheVariants.{DisplayHelp, DisplayVersion, OutOfMemory}
 use Rattle.clap.specs.declared.builder.action.ArgAction.TheVariants.{SetTrue}
 use Rattle.command_line.specs.declared.image_arguments.ImageArguments.{ImageArguments}
+use Rattle.command_line.specs.declared.range_arguments.RangeArguments.{RangeArguments}
 use Rattle.command_line.specs.declared.stress_numbers.StressNumbers.{StressNumbers}
 use Rattle.command_line.specs.declared.subcommand.Subcommand.{Subcommand}
 use Rattle.command_line.specs.declared.words_arguments.WordsArguments.{WordsArguments}
-use Rattle.command_line.specs.declared.subcommand.Subcommand.TheVariants.{Replay, Schedule, Decode, Stress, Words, Image, Encode, Trace}
+use Rattle.command_line.specs.declared.subcommand.Subcommand.TheVariants.{Replay, Schedule, Decode, Stress, Words, Image, Encode, Trace, Range}
 
 -- ---- what it may say
 
@@ -102,14 +103,33 @@ encode = new_app (codes "encode")
 abbrev pub trace : App
 trace = new_app (codes "trace")
 
+-- whose translations: of a virtual machine, at stage 1 or 2, or the hypervisor's
+abbrev pub range_of_space : App
+range_of_space =
+    with_rule (with_rule (with_rule (with_rule (new_app (codes "range"))
+    (text (codes "vmid"))) (text (codes "asid"))) (flag (codes "el2"))) (flag (codes "stage2"))
+
+-- with the bytes, which must be given
+abbrev pub range_of_bytes : App
+range_of_bytes = with_rule (with_rule range_of_space (wanted_text (codes "address"))) (wanted_text (codes "length"))
+
+-- with what is known of the translation tables
+abbrev pub range_of_tables : App
+range_of_tables =
+    with_rule (with_rule (with_rule range_of_bytes
+    (text (codes "granule"))) (flag (codes "leaf"))) (number (codes "level") (between 1 3))
+
+abbrev pub range : App
+range = with_rule (with_rule range_of_tables (flag (codes "no-ril"))) (number (codes "limit") (between 0 100000))
+
 -- `smmuq` itself, before its subcommands: it has a version, no word or option of its own, and requires a subcommand
 abbrev pub alone : App
 alone = record (new_app (codes "smmuq")) { top = record (new_app (codes "smmuq")).top { no_binary_name = true; subcommand_required = true; has_version = true } }
 
 abbrev pub smmuq : App
 smmuq =
-    with_subcommand (with_subcommand (with_subcommand (with_subcommand (with_subcommand (with_subcommand (with_subcommand (with_subcommand alone
-    replay.top) schedule.top) decode.top) stress.top) words.top) image.top) encode.top) trace.top
+    with_subcommand (with_subcommand (with_subcommand (with_subcommand (with_subcommand (with_subcommand (with_subcommand (with_subcommand (with_subcommand alone
+    replay.top) schedule.top) decode.top) stress.top) words.top) image.top) encode.top) trace.top) range.top
 
 -- ---- what it asks for
 
@@ -161,6 +181,19 @@ pub record ReadsWords (rows : List Row) (asked : WordsArguments) : Type 0 where
   pub log : IsFlag (codes "log") rows asked.log
   pub hex : IsFlag (codes "hex") rows asked.hex
 
+pub record ReadsRange (rows : List Row) (asked : RangeArguments) : Type 0 where
+  pub vmid : MayReadText rows (codes "vmid") asked.vmid
+  pub asid : MayReadText rows (codes "asid") asked.asid
+  pub el2 : IsFlag (codes "el2") rows asked.el2
+  pub stage2 : IsFlag (codes "stage2") rows asked.stage2
+  pub address : ReadsText rows (codes "address") asked.address.now
+  pub length : ReadsText rows (codes "length") asked.length.now
+  pub granule : MayReadText rows (codes "granule") asked.granule
+  pub leaf : IsFlag (codes "leaf") rows asked.leaf
+  pub level : MayReadNumber rows (codes "level") asked.level
+  pub no_ril : IsFlag (codes "no-ril") rows asked.no_ril
+  pub limit : MayReadNumber rows (codes "limit") asked.limit
+
 -- what a subcommand of this name asks for, given what was found for its arguments
 abbrev pub Asks : Text → List Row → Subcommand → Type 0
 Asks name rows Replay = name ≡ codes "replay"
@@ -171,6 +204,7 @@ Asks name rows (Words asked) = (name ≡ codes "words") × ReadsWords rows asked
 Asks name rows (Image asked) = (name ≡ codes "image") × ReadsImage rows asked
 Asks name rows Encode = name ≡ codes "encode"
 Asks name rows Trace = name ≡ codes "trace"
+Asks name rows (Range asked) = (name ≡ codes "range") × ReadsRange rows asked
 
 -- The subcommand is what the words ask for: by clap's definition they name one, and give its arguments what is found
 -- for them.
@@ -199,7 +233,7 @@ pub record ReadsNumbers (rows : List Row) (numbers : StressNumbers) : Type 0 whe
 abbrev pub ReadsOf : Text → List Row → Subcommand → Type 0
 ReadsOf name rows Replay =
     (name ≢ codes "schedule") × (name ≢ codes "stress") × (name ≢ codes "words") × (name ≢ codes "image") × (name ≢ codes "encode")
-    × (name ≢ codes "trace")
+    × (name ≢ codes "trace") × (name ≢ codes "range")
     × (name ≡ codes "decode" → first_of (codes "HEX") rows ≡ None)
 ReadsOf name rows Schedule = name ≡ codes "schedule"
 ReadsOf name rows (Decode word) = (name ≡ codes "decode") × (first_of (codes "HEX") rows ≡ Some word.now)
@@ -208,6 +242,7 @@ ReadsOf name rows (Words asked) = (name ≡ codes "words") × ReadsWords rows as
 ReadsOf name rows (Image asked) = (name ≡ codes "image") × ReadsImage rows asked
 ReadsOf name rows Encode = name ≡ codes "encode"
 ReadsOf name rows Trace = name ≡ codes "trace"
+ReadsOf name rows (Range asked) = (name ≡ codes "range") × ReadsRange rows asked
 
 abbrev pub Reads : Option (Text × List Row) → Subcommand → Type 0
 Reads None subcommand = subcommand ≡ Replay

@@ -257,6 +257,30 @@ A line ends the run as 'line N: NAME', with exit status 1, where NAME is
     too many accesses     1024 aren't over
     other command         after a stop, not the one at which it stopped";
 
+pub(crate) const RANGE: &str = "\
+Reads no input. Writes the commands that invalidate these bytes to standard output,
+a line for each: its 32 hexadecimal digits, the 16 bytes as they lie in the queue,
+and its text as 'smmuq decode' writes it. TTL, the level, is in the digits alone.
+
+The commands are for stage 1 of a virtual machine (--vmid, and --asid for one
+address space of it), for the hypervisor (--el2, and --asid), or for stage 2 of a
+virtual machine (--stage2 --vmid), whose address is an intermediate physical one.
+The SMMU has every stage and granule, and no page is global. Where more commands
+by address than the limit were needed, there is one for the whole space.
+
+Example:
+    smmuq range --vmid 1 --asid 2 --address 0x100000 --length 0x8000 --leaf
+
+Numbers are decimal without a leading 0, or hexadecimal behind 0x.
+
+Refused, with exit status 1 and one of these lines alone:
+    bad vmid        it is no number of 16 bits
+    bad asid        it is no number of 16 bits
+    bad address     it is no number of 64 bits
+    bad length      it is no number of 64 bits
+    bad granule     it isn't 4K, 16K or 64K
+    past the end    bytes past the last: of 2^64, or of 2^52 at stage 2";
+
 pub(crate) const IMAGE: &str = "\
 Reads the memory of a queue from standard input, 16 bytes a slot in the order of
 the slots. Writes five lines to standard output, size, prod, cons, err and

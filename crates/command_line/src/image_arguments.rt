@@ -57,7 +57,7 @@ pub struct ImageArguments<'a> {
 }
 
 /// An option that takes a text.
-fn text<'a>(alloc: Global, name: &'a str, value: &'a str, help: &'a str) -> Arg<'a>
+pub(crate) fn text<'a>(alloc: Global, name: &'a str, value: &'a str, help: &'a str) -> Arg<'a>
     ensures rule { rule_of result ≡ spec.text name.entry.now }
     ensures local { result.global ≡ false }
 {
@@ -117,7 +117,7 @@ pub(crate) fn image<'a>(alloc: Global) -> Result<Command<'a>, AllocError>
 }
 
 /// Returns the text of this name that the words gave. It is required, so it is there.
-fn text_in<'a>(matches: &ArgMatches<'a>, name: &str) -> &'a str
+pub(crate) fn text_in<'a>(matches: &ArgMatches<'a>, name: &str) -> &'a str
     ensures { spec.ReadsText (rows_of (found_of matches.now)) name.now result.now }
 {
     matches.get_str(name).unwrap_or("")
@@ -130,14 +130,14 @@ pub(crate) fn flag_in(matches: &ArgMatches<'_>, name: &str) -> bool
 }
 
 /// Returns the number of this name, if the words gave it.
-fn given_number(matches: &ArgMatches<'_>, name: &str) -> Option<u32>
+pub(crate) fn given_number(matches: &ArgMatches<'_>, name: &str) -> Option<u32>
     ensures { spec.MayReadNumber (rows_of (found_of matches.now)) name.now result }
 {
     matches.get_one::<u32>(name)
 }
 
 /// Returns the text of this name, if the words gave it.
-fn given_text<'a>(matches: &ArgMatches<'a>, name: &str) -> Option<&'a str>
+pub(crate) fn given_text<'a>(matches: &ArgMatches<'a>, name: &str) -> Option<&'a str>
     ensures { spec.MayReadText (rows_of (found_of matches.now)) name.now result }
 {
     matches.get_str(name)

@@ -4,12 +4,14 @@
 mod help;
 mod image_arguments;
 mod misunderstood;
+mod range_arguments;
 mod stress_numbers;
 mod subcommand;
 mod words_arguments;
 
 pub use image_arguments::ImageArguments;
 pub use misunderstood::Misunderstood;
+pub use range_arguments::RangeArguments;
 pub use stress_numbers::StressNumbers;
 pub use subcommand::{Subcommand, understand};
 pub use words_arguments::WordsArguments;

@@ -6,9 +6,10 @@ ghost use Rattle.command_line.specs.CommandLine as spec;
 
 use crate::image_arguments::{IMAGE, ImageArguments, image};
 use crate::misunderstood::Misunderstood;
+use crate::range_arguments::{RANGE, RangeArguments, range};
 use crate::stress_numbers::{STRESS, StressNumbers, numbers_in, stress};
 use crate::words_arguments::{WORDS, WordsArguments, words};
-use crate::{help, image_arguments, words_arguments};
+use crate::{help, image_arguments, range_arguments, words_arguments};
 use clap::{Arg, ArgMatches, Command, Error};
 use std::alloc::{AllocError, Global};
 
@@ -45,6 +46,8 @@ pub enum Subcommand<'a> {
     Encode,
     /// Judge the log of a device model.
     Trace,
+    /// Write the commands of an invalidation.
+    Range(RangeArguments<'a>),
 }
 
 fn replay<'a>(alloc: Global) -> Command<'a>
@@ -119,7 +122,8 @@ fn command_line<'a>(alloc: Global) -> Result<Command<'a>, AllocError>
         .subcommand(words(alloc)?)?
         .subcommand(image(alloc)?)?
         .subcommand(encode(alloc))?
-        .subcommand(trace(alloc))
+        .subcommand(trace(alloc))?
+        .subcommand(range(alloc)?)
 }
 
 fn subcommand_in<'a>(matches: &ArgMatches<'a>) -> Subcommand<'a>
@@ -136,6 +140,9 @@ fn subcommand_in<'a>(matches: &ArgMatches<'a>) -> Subcommand<'a>
     }
     if let Some(image) = matches.subcommand_matches(IMAGE) {
         return Subcommand::Image(image_arguments::arguments_in(image));
+    }
+    if let Some(range) = matches.subcommand_matches(RANGE) {
+        return Subcommand::Range(range_arguments::arguments_in(range));
     }
     if matches.subcommand_matches(ENCODE).is_some() {
         return Subcommand::Encode;

@@ -2,6 +2,7 @@ pub mod Explaining
 pub mod Images
 pub mod Unclear
 pub mod Program
+pub mod Ranging
 pub mod Stressing
 pub mod Telling
 pub mod Troubles

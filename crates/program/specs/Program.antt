@@ -3,7 +3,7 @@ use Rattle.std.specs.Prelude.{◌≡◌, ℕ, List, ◌⊎◌, Bool, true, false
 use Rattle.std.specs.Io.KnownBytes.{Keeps}
 use Rattle.command_line.specs.CommandLine.{AskFor, IsAmong, MisunderstoodValue, OutOfMemory, Text, fault_of, smmuq}
 use Rattle.command_line.specs.declared.subcommand.Subcommand.{Subcommand}
-use Rattle.command_line.specs.declared.subcommand.Subcommand.TheVariants.{Replay, Schedule, Decode, Stress, Words, Image, Encode, Trace}
+use Rattle.command_line.specs.declared.subcommand.Subcommand.TheVariants.{Replay, Schedule, Decode, Stress, Words, Image, Encode, Trace, Range}
 use Rattle.script.specs.Writing.{no_memory_line}
 use Rattle.script.specs.declared.status.Status.{Status}
 use Rattle.script.specs.declared.status.Status.TheVariants.{Good, Refused, NoMemory, ReadFailed, WriteFailed, Endless}
@@ -17,6 +17,7 @@ use Rattle.trace.specs.Tellings.{ExitsAsTrace}
 use Rattle.words.specs.Tellings.{ExitsAsWords, ExitsAsLog, ExitsAsDump}
 use Rattle.program.specs.Explaining.{Explains}
 use Rattle.program.specs.Images.{asked_of}
+use Rattle.program.specs.Ranging.{ExitsAsRange, range_asked_of}
 use Rattle.program.specs.Stressing.{ExitsAsStress, plan_of}
 use Rattle.program.specs.Telling.{ExitsAsTold, line_of}
 use Rattle.program.specs.Troubles.{TellsTrouble}
@@ -45,7 +46,7 @@ ExitsInForm false true exit input rest before after = ExitsAsDump exit input res
 ExitsInForm false false exit input rest before after = ExitsAsWords exit input rest before after
 
 -- It did what was asked for: a script was replayed, or played as a schedule; or nothing was read, and a word was
--- decoded or a stress run made; or lines of words or of text were answered, an image was shown, or a log was judged.
+-- decoded, a stress run made or the commands of a range written; or lines of words or of text were answered, an image was shown, or a log was judged.
 abbrev pub ExitsAs : Subcommand → ℕ → Option (List ℕ) → Option (List ℕ) → Seen → Seen → Type 0
 ExitsAs Replay exit input rest before after = ExitsAsReplay exit input rest before.bytes after.bytes
 ExitsAs Schedule exit input rest before after = ExitsAsSchedule exit input rest before.bytes after.bytes
@@ -55,6 +56,8 @@ ExitsAs (Words asked) exit input rest before after = ExitsInForm asked.log asked
 ExitsAs (Image arguments) exit input rest before after = ExitsAsImage (asked_of arguments) exit input rest before.bytes after.bytes
 ExitsAs Encode exit input rest before after = ExitsAsEncode exit input rest before.bytes after.bytes
 ExitsAs Trace exit input rest before after = ExitsAsTrace exit input rest before.bytes after.bytes
+ExitsAs (Range arguments) exit input rest before after =
+    Keeps input rest × ExitsAsRange exit (range_asked_of arguments) before after
 
 -- The words have no fault, and it did what they ask for; on standard error it told first of the line that ended a
 -- script, or why lines were refused, and then only of memory, or of a stream that failed.

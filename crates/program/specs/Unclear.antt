@@ -1,13 +1,14 @@
 -- Command lines without a fault that ask for nothing all the same, since it isn't clear what is meant.
-use Rattle.std.specs.Prelude.{ℕ, nat_le, ◌==◌, ◌&&◌, ◌||◌, Bool, true, false, Option, None, Some, List, [], ◌∷◌, ◌++◌, codes, if◌then◌else◌}
+use Rattle.std.specs.Prelude.{ℕ, nat_le, ◌==◌, ◌&&◌, ◌||◌, not, is_some, Bool, true, false, Option, None, Some, List, [], ◌∷◌, ◌++◌, codes, if◌then◌else◌}
 use Rattle.std.specs.Borrow.{Bor}
 use Rattle.command_line.specs.declared.image_arguments.ImageArguments.{ImageArguments}
+use Rattle.command_line.specs.declared.range_arguments.RangeArguments.{RangeArguments}
 use Rattle.command_line.specs.declared.words_arguments.WordsArguments.{WordsArguments}
 use Rattle.command_line.specs.declared.subcommand.Subcommand.{Subcommand}
-use Rattle.command_line.specs.declared.subcommand.Subcommand.TheVariants.{Image, Words}
+use Rattle.command_line.specs.declared.subcommand.Subcommand.TheVariants.{Image, Range, Words}
 use Rattle.script.specs.Words.{words_of}
 use Rattle.program.specs.declared.unclear.Unclear.{Unclear}
-use Rattle.program.specs.declared.unclear.Unclear.TheVariants.{LeadingZero, OneErrorRegister, TwoForms}
+use Rattle.program.specs.declared.unclear.Unclear.TheVariants.{LeadingZero, OneErrorRegister, TwoForms, LeadingZeroOfNumber, Whose, LevelWithoutLeaf}
 
 -- Two decimal digits and more, of which the first is 0: whoever wrote them may have meant hexadecimal ones.
 abbrev pub is_zero_led : List ℕ → Bool
@@ -46,9 +47,29 @@ image_unclear arguments =
 abbrev pub words_unclear : WordsArguments → Option Unclear
 words_unclear arguments = if arguments.log && arguments.hex then Some TwoForms else None
 
+abbrev pub has_unclear_number : RangeArguments → Bool
+has_unclear_number arguments =
+    is_given_unclear arguments.vmid || (is_given_unclear arguments.asid
+    || (is_register_unclear arguments.address.now || is_register_unclear arguments.length.now))
+
+-- It is said whose translations a range is of: the hypervisor's, or stage 1 or 2 of a virtual machine, of which stage 2
+-- has no ASID.
+abbrev pub is_whose_clear : (el2 stage2 : Bool) (vmid asid : Option (Bor (List ℕ))) → Bool
+is_whose_clear true true vmid asid = false
+is_whose_clear true false vmid asid = not (is_some vmid)
+is_whose_clear false true vmid asid = is_some vmid && not (is_some asid)
+is_whose_clear false false vmid asid = is_some vmid
+
+abbrev pub range_unclear : RangeArguments → Option Unclear
+range_unclear arguments =
+    if has_unclear_number arguments then Some LeadingZeroOfNumber
+    else if not (is_whose_clear arguments.el2 arguments.stage2 arguments.vmid arguments.asid) then Some Whose
+    else if is_some arguments.level && not arguments.leaf then Some LevelWithoutLeaf else None
+
 abbrev pub unclear_of : Subcommand → Option Unclear
 unclear_of (Image arguments) = image_unclear arguments
 unclear_of (Words arguments) = words_unclear arguments
+unclear_of (Range arguments) = range_unclear arguments
 unclear_of other = None
 
 -- the line that tells it
@@ -56,6 +77,9 @@ abbrev pub unclear_text : Unclear → List ℕ
 unclear_text LeadingZero = codes "error: a register is decimal digits without a leading 0, or 0x and hexadecimal digits: write 98 or 0x98 for 098"
 unclear_text OneErrorRegister = codes "error: --gerror and --gerrorn are given together or not at all"
 unclear_text TwoForms = codes "error: --log and --hex aren't given together"
+unclear_text LeadingZeroOfNumber = codes "error: a number is decimal digits without a leading 0, or 0x and hexadecimal digits: write 98 or 0x98 for 098"
+unclear_text Whose = codes "error: a range is of --vmid V, of --el2, or of --stage2 --vmid V; --asid A goes with the first two"
+unclear_text LevelWithoutLeaf = codes "error: --level is given with --leaf"
 
 abbrev pub unclear_line : Unclear → List ℕ
 unclear_line unclear = unclear_text unclear ++ codes "\n"

@@ -2,6 +2,7 @@
 #![tactic(auto)]
 
 mod explaining;
+mod ranging;
 mod reading;
 mod running;
 mod serving;

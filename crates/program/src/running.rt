@@ -6,6 +6,7 @@ ghost use Rattle.program.specs.Stressing.{HasPlan};
 ghost use Rattle.program.specs.Program.{Decodes, ExitsAs, ExitsAsDecode, ExitsAsProgram};
 
 use crate::explaining::{exit_of_lines, exit_of_script};
+use crate::ranging::range_to_exit;
 use crate::reading::{image_to_exit, words_to_exit};
 use crate::serving::decode_text;
 use crate::stressing::stress_to_exit;
@@ -80,6 +81,7 @@ fn serve<'a, A: Threads + AllocGlobal + Sync, I: Read, O: Write, F: Write>(
             exit_of_lines(rt.alloc(), status, &notes, faults)
         }
         Subcommand::Trace => trace(rt.alloc(), input, output).exit_status(),
+        Subcommand::Range(arguments) => range_to_exit(rt.alloc(), &arguments, output),
     }
 }
 

@@ -1,12 +1,12 @@
 //! Command lines without a fault of which it isn't clear what they ask for.
 ghost use Rattle.std.specs.Prelude.{◌≡◌, ◌||◌};
 ghost use Rattle.script.specs.Words.{words_of};
-ghost use Rattle.program.specs.Unclear.{has_leading_zero, image_unclear, is_given_unclear, is_one_given, is_register_unclear, is_zero_led, unclear_line, unclear_of, unclear_text, words_unclear};
+ghost use Rattle.program.specs.Unclear.{has_leading_zero, has_unclear_number, image_unclear, is_given_unclear, is_one_given, is_register_unclear, is_whose_clear, is_zero_led, range_unclear, unclear_line, unclear_of, unclear_text, words_unclear};
 ghost use Rattle.program.specs.Watching.{TellsWith};
 
 use crate::telling::tell_fault;
 use crate::watched::Watched;
-use command_line::{ImageArguments, Subcommand, WordsArguments};
+use command_line::{ImageArguments, RangeArguments, Subcommand, WordsArguments};
 use script::next_word;
 use std::io::Write;
 
@@ -19,6 +19,12 @@ pub(crate) enum Unclear {
     OneErrorRegister,
     /// Lines can't be a kernel's log and a hex dump.
     TwoForms,
+    /// A number of a range begins with 0, as a register may.
+    LeadingZeroOfNumber,
+    /// It isn't said whose translations a range is of, or it is said twice.
+    Whose,
+    /// A level is given, but not that only last-level entries changed.
+    LevelWithoutLeaf,
 }
 
 /// Whether a word is two decimal digits or more, of which the first is 0.
@@ -87,6 +93,41 @@ fn words_unclear(arguments: &WordsArguments) -> Option<Unclear>
     }
 }
 
+fn has_unclear_number(arguments: &RangeArguments<'_>) -> bool
+    ensures { result ≡ has_unclear_number arguments.now }
+{
+    is_given_unclear(arguments.vmid)
+        || is_given_unclear(arguments.asid)
+        || is_register_unclear(arguments.address)
+        || is_register_unclear(arguments.length)
+}
+
+/// Whether it is said whose translations a range is of.
+fn is_whose_clear(arguments: &RangeArguments<'_>) -> bool
+    ensures { result ≡ is_whose_clear arguments.now.el2 arguments.now.stage2 arguments.now.vmid arguments.now.asid }
+{
+    match (arguments.el2, arguments.stage2) {
+        (true, true) => false,
+        (true, false) => arguments.vmid.is_none(),
+        (false, true) => arguments.vmid.is_some() && arguments.asid.is_none(),
+        (false, false) => arguments.vmid.is_some(),
+    }
+}
+
+fn range_unclear(arguments: &RangeArguments<'_>) -> Option<Unclear>
+    ensures { result ≡ range_unclear arguments.now }
+{
+    if has_unclear_number(arguments) {
+        Some(Unclear::LeadingZeroOfNumber)
+    } else if !is_whose_clear(arguments) {
+        Some(Unclear::Whose)
+    } else if arguments.level.is_some() && !arguments.leaf {
+        Some(Unclear::LevelWithoutLeaf)
+    } else {
+        None
+    }
+}
+
 /// Returns why it isn't clear what is asked for, if it isn't.
 pub(crate) fn unclear_of(subcommand: &Subcommand<'_>) -> Option<Unclear>
     ensures { result ≡ unclear_of subcommand.now }
@@ -94,6 +135,7 @@ pub(crate) fn unclear_of(subcommand: &Subcommand<'_>) -> Option<Unclear>
     match subcommand {
         Subcommand::Image(arguments) => image_unclear(arguments),
         Subcommand::Words(arguments) => words_unclear(arguments),
+        Subcommand::Range(arguments) => range_unclear(arguments),
         _ => None,
     }
 }
@@ -107,6 +149,11 @@ fn unclear_text(unclear: Unclear) -> &'static str
         Unclear::OneErrorRegister =>
             "error: --gerror and --gerrorn are given together or not at all",
         Unclear::TwoForms => "error: --log and --hex aren't given together",
+        Unclear::LeadingZeroOfNumber =>
+            "error: a number is decimal digits without a leading 0, or 0x and hexadecimal digits: write 98 or 0x98 for 098",
+        Unclear::Whose =>
+            "error: a range is of --vmid V, of --el2, or of --stage2 --vmid V; --asid A goes with the first two",
+        Unclear::LevelWithoutLeaf => "error: --level is given with --leaf",
     }
 }
 

@@ -89,6 +89,7 @@ stress --help = Usage: smmuq stress --log2 <L>
 help replay =     Q2  the ring has too little room
 help schedule =     F10  a reservation is open, or no batch left
 help stress = A turn of a sender is one try to reserve a batch
+help range =     bad granule     it isn't 4K, 16K or 64K
 --version = smmuq 0.1.0 (rattle-kit-
 -V = smmuq 0.1.0 (rattle-kit-";
     for line in asked.lines() {

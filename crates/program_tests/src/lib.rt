@@ -13,6 +13,8 @@ mod decoding_tests;
 #[cfg(test)]
 mod program_caller;
 #[cfg(test)]
+mod range_tests;
+#[cfg(test)]
 mod reading_tests;
 #[cfg(test)]
 mod replaying_tests;

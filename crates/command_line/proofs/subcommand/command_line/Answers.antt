@@ -59,6 +59,12 @@ returns c =
     c.in_ok-subcommand-7.ensures.shape (is_false _ (both _ _ (both _ _ (both _ _ (ap (λ (a : App). a.top.is_plain) encode_is)).1).1).0)
     ∙ ap₂ with_subcommand sixth (ap (λ (a : App). a.top) encode_is) in
     let trace_is : app_of c.trace.result ≡ spec.trace = c.trace.ensures in
-    IfOk-weaker c.subcommand-8.result _ _ (λ command h.
-    h.shape (is_false _ (both _ _ (both _ _ (both _ _ (ap (λ (a : App). a.top.is_plain) trace_is)).1).1).0)
-    ∙ ap₂ with_subcommand seventh (ap (λ (a : App). a.top) trace_is)) c.subcommand-8.ensures
+    let eighth :
+    app_of c.in_ok-subcommand-8.field-0
+    ≡ with_subcommand (with_subcommand (with_subcommand (with_subcommand (with_subcommand (with_subcommand (with_subcommand (with_subcommand spec.alone spec.replay.top) spec.schedule.top) spec.decode.top) spec.stress.top) spec.words.top) spec.image.top) spec.encode.top) spec.trace.top =
+    c.in_ok-subcommand-8.ensures.shape (is_false _ (both _ _ (both _ _ (both _ _ (ap (λ (a : App). a.top.is_plain) trace_is)).1).1).0)
+    ∙ ap₂ with_subcommand seventh (ap (λ (a : App). a.top) trace_is) in
+    let range_is : app_of c.in_ok-range.field-0 ≡ spec.range = search rules in
+    IfOk-weaker c.subcommand-9.result _ _ (λ command h.
+    h.shape (is_false _ (both _ _ (both _ _ (both _ _ (ap (λ (a : App). a.top.is_plain) range_is)).1).1).0)
+    ∙ ap₂ with_subcommand eighth (ap (λ (a : App). a.top) range_is)) c.subcommand-9.ensures
