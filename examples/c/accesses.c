@@ -1,11 +1,11 @@
 /* SPDX-License-Identifier: MIT OR Apache-2.0 */
-/* A device model in which walks, accesses to memory and the command queue go on at the same time. A driver frees a page as
- * soon as its CMD_SYNC completed, and poisons it. No access ever reads poison: each is a transaction, for which the CMD_SYNC
- * waits, and what a walk read isn't filled in once an invalidation overtook it.
+/* A device model in which walks, accesses to memory and the command queue go on at the same time. A driver frees a page and
+ * its table as soon as its CMD_SYNC completed, and poisons them. No access and no walk ever reads poison: each is a
+ * transaction, for which the CMD_SYNC waits, and what a walk read isn't filled in once an invalidation overtook it.
  *
- *     accesses              each access ends when it is over
+ *     accesses              each access and walk ends when it is over
  *     accesses early        each ends before it reads: some read poison
- *     accesses unwalked     what a walk read is filled in as if it were read then: some read poison
+ *     accesses unwalked     what a walk read is filled in as if it were read then: some accesses read poison
  *
  * The SMMU's thread takes commands, two devices read a page, and the driver maps and frees it. All of the model is under one
  * lock, which nobody holds while tables or pages are read.
@@ -23,12 +23,12 @@
 enum { LOG2 = 4, SLOTS = 1 << LOG2, DEVICES = 2, PAGES = 2, WORDS = 512, ROUNDS = 200 };
 #define POISON UINT64_C(0x6b6b6b6b6b6b6b6b)
 
-/* The guest's memory: its command queue, its pages, and a table with one leaf, the page's place or 0. The driver writes the
- * leaf while a walk may read it, so both do that by an atomic access. */
+/* The guest's memory: its command queue, its pages, and for each a table whose first word is the page's place. The driver
+ * says which table is walked, or NULL, while a walk may begin, so both do that by an atomic access. */
 static struct {
     smmuq_command queue[SLOTS];
-    uint64_t pages[PAGES][WORDS];
-    uint64_t leaf;
+    uint64_t pages[PAGES][WORDS], tables[PAGES][WORDS];
+    const uint64_t *table;
 } guest;
 
 static const smmuq_tag PAGE = {.kind = SMMUQ_S1, .vmid = 1, .scope = SMMUQ_SCOPE_ASID, .asid = 2, .address = 0x3000};
@@ -40,7 +40,7 @@ static struct {
     uint32_t prod, cons; /* SMMU_CMDQ_PROD and SMMU_CMDQ_CONS, with the wrap bit */
     int due;             /* the queue is to be looked at */
     int over;            /* the driver is done */
-    uint32_t accesses, waits, poisoned;
+    uint32_t accesses, waits, poisoned, strayed;
 } model = {.lock = PTHREAD_MUTEX_INITIALIZER, .changed = PTHREAD_COND_INITIALIZER, .unit = SMMUQ_EMPTY};
 
 /* What the devices do wrong. It is set before the threads start. */
@@ -94,25 +94,55 @@ static void take_time(void) {
     nanosleep(&some, NULL);
 }
 
-/* Walks for the page's entry and fills it in, unless an invalidation came meanwhile. Answers whether the page is mapped.
- * The lock is free while the table is read. */
-static int walk_for_page(void) {
-    uint64_t walk, leaf;
-    smmuq_status status;
-    want("begin_walk", smmuq_begin_walk(&model.unit, &walk));
-    pthread_mutex_unlock(&model.lock);
-    leaf = __atomic_load_n(&guest.leaf, __ATOMIC_SEQ_CST);
+/* A walk or an access is over. If a CMD_SYNC waited for it alone, the queue goes on. */
+static void end(uint64_t transaction) {
+    uint32_t last;
+    want("end", smmuq_end(&model.unit, transaction, &last));
+    if (last) {
+        model.due = 1;
+        pthread_cond_broadcast(&model.changed);
+    }
+}
+
+/* Reads a page or a table, and is slow about it. Answers whether a word of it was poison. */
+static int reads_poison(const uint64_t *page) {
+    int word, poisoned = 0;
     take_time();
-    pthread_mutex_lock(&model.lock);
-    if (leaf == 0)
-        return 0;
+    for (word = 0; word < WORDS; word++)
+        poisoned |= page[word] == POISON;
+    return poisoned;
+}
+
+/* Fills in what a walk read, unless an invalidation came meanwhile: then nothing is held, and there is another walk. */
+static void fill(uint64_t walk, uint64_t leaf) {
+    smmuq_status status;
     if (fault == UNWALKED)
         status = smmuq_fill(&model.unit.handle, &PAGE, leaf);
     else
         status = smmuq_fill_walked(&model.unit, walk, &PAGE, leaf);
     if (status != SMMUQ_OVERTAKEN && status != SMMUQ_TOO_OLD && status != SMMUQ_OTHER_WALK)
         want("fill_walked", status);
-    return 1; /* if it was overtaken nothing is held, so there is another walk */
+}
+
+/* Walks for the page's entry. Answers whether the page is mapped. The lock is free while the table is read. */
+static int walk_for_page(void) {
+    uint64_t walk, transaction;
+    const uint64_t *table;
+    int strayed = 0;
+    want("begin_outstanding_walk", smmuq_begin_outstanding_walk(&model.unit, &walk, &transaction));
+    if (fault == EARLY)
+        end(transaction); /* nothing waits for what follows */
+    pthread_mutex_unlock(&model.lock);
+    table = __atomic_load_n(&guest.table, __ATOMIC_SEQ_CST);
+    if (table)
+        strayed = reads_poison(table);
+    pthread_mutex_lock(&model.lock);
+    model.strayed += strayed;
+    if (table && !strayed)
+        fill(walk, table[0]);
+    if (fault != EARLY)
+        end(transaction);
+    return table != NULL;
 }
 
 /* Begins an access: with the page's entry, or once a walk has filled it in. Answers whether the page is mapped. */
@@ -127,25 +157,6 @@ static int begin_access(smmuq_held *held, uint64_t *transaction) {
     return 1;
 }
 
-/* Ends an access. If a CMD_SYNC waited for it alone, the queue goes on. */
-static void end_access(uint64_t transaction) {
-    uint32_t last;
-    want("end", smmuq_end(&model.unit, transaction, &last));
-    if (last) {
-        model.due = 1;
-        pthread_cond_broadcast(&model.changed);
-    }
-}
-
-/* Reads a page, and is slow about it. Answers whether a word of it was poison. */
-static int read_page(const uint64_t *page) {
-    int word, poisoned = 0;
-    take_time();
-    for (word = 0; word < WORDS; word++)
-        poisoned |= page[word] == POISON;
-    return poisoned;
-}
-
 static void *use_page(void *unused) {
     smmuq_held held;
     uint64_t transaction;
@@ -154,16 +165,16 @@ static void *use_page(void *unused) {
         const int mapped = begin_access(&held, &transaction);
         int poisoned = 0;
         if (mapped && fault == EARLY)
-            end_access(transaction); /* nothing waits for what follows */
+            end(transaction); /* nothing waits for what follows */
         pthread_mutex_unlock(&model.lock);
         if (mapped)
-            poisoned = read_page((const uint64_t *)(uintptr_t)held.value);
+            poisoned = reads_poison((const uint64_t *)(uintptr_t)held.value);
         else
             sched_yield();
         pthread_mutex_lock(&model.lock);
         model.poisoned += poisoned;
         if (mapped && fault != EARLY)
-            end_access(transaction);
+            end(transaction);
     }
     pthread_mutex_unlock(&model.lock);
     return unused;
@@ -171,9 +182,7 @@ static void *use_page(void *unused) {
 
 /* ---- the driver's thread */
 
-static void map(const uint64_t *page) {
-    __atomic_store_n(&guest.leaf, (uint64_t)(uintptr_t)page, __ATOMIC_SEQ_CST);
-}
+static void map(const uint64_t *table) { __atomic_store_n(&guest.table, table, __ATOMIC_SEQ_CST); }
 
 static void fill_page(uint64_t *page, uint64_t value) {
     int word;
@@ -199,22 +208,25 @@ static void invalidate(void) {
         pthread_cond_wait(&model.changed, &model.lock);
 }
 
-/* Maps a page, and frees it while it is in use: it is another's once the driver was told. */
+/* Maps a page, and frees it and its table while they are in use: they are another's once the driver was told. */
 static void *drive(void *unused) {
     uint32_t round;
     for (round = 1; round <= ROUNDS; round++) {
-        uint64_t *page = guest.pages[round % PAGES];
+        uint64_t *page = guest.pages[round % PAGES], *table = guest.tables[round % PAGES];
         uint32_t before;
         fill_page(page, round);
+        fill_page(table, 0);
+        table[0] = (uint64_t)(uintptr_t)page;
         pthread_mutex_lock(&model.lock);
         before = model.accesses;
-        map(page);
+        map(table);
         while (model.accesses == before)
             pthread_cond_wait(&model.changed, &model.lock);
         map(NULL);
         invalidate();
         pthread_mutex_unlock(&model.lock);
         fill_page(page, POISON);
+        fill_page(table, POISON);
     }
     pthread_mutex_lock(&model.lock);
     model.over = 1;
@@ -229,8 +241,8 @@ int main(int argc, char **argv) {
     for (i = NOTHING; argc > 1 && i <= UNWALKED; i++)
         if (strcmp(argv[1], WORDS_OF[i]) == 0)
             fault = i;
-    /* Each device makes one access at a time, with one entry. */
-    want("unit_new_tracking", smmuq_unit_new_tracking(16, DEVICES, &model.unit));
+    /* Each device makes one walk or one access at a time, with one entry. */
+    want("unit_new_tracking", smmuq_unit_new_tracking(0, 16, DEVICES, &model.unit));
     pthread_create(&smmu, NULL, take_commands, NULL);
     for (i = 0; i < DEVICES; i++)
         pthread_create(&devices[i], NULL, use_page, NULL);
@@ -240,7 +252,7 @@ int main(int argc, char **argv) {
         pthread_join(devices[i], NULL);
     pthread_join(smmu, NULL);
     smmuq_free(&model.unit.handle);
-    printf("%s: %s read poison, %s\n", WORDS_OF[fault], model.poisoned ? "some accesses" : "no access",
-           model.waits ? "CMD_SYNCs waited" : "no CMD_SYNC waited");
+    printf("%s: %s and %s read poison, %s\n", WORDS_OF[fault], model.poisoned ? "some accesses" : "no access",
+           model.strayed ? "some walks" : "no walk", model.waits ? "CMD_SYNCs waited" : "no CMD_SYNC waited");
     return 0;
 }

@@ -59,7 +59,7 @@ int main(int argc, char **argv) {
     pthread_t thread;
     tag.kind = SMMUQ_S1;
     tag.scope = SMMUQ_SCOPE_GLOBAL;
-    if (smmuq_ring_new(4, 0xfffffffeu, 8, &sender, 1, &engine) != SMMUQ_OK || smmuq_unit_new_tracking(8, 1, &unit) != SMMUQ_OK)
+    if (smmuq_ring_new(4, 0xfffffffeu, 8, &sender, 1, &engine) != SMMUQ_OK || smmuq_unit_new_tracking(0, 8, 1, &unit) != SMMUQ_OK)
         return 1;
     pthread_create(&thread, NULL, change, NULL);
     for (i = 0; i < calls; i++) {

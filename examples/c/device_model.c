@@ -24,6 +24,7 @@ struct model {
     uint32_t prod; /* SMMU_CMDQ_PROD */
     uint32_t cons; /* SMMU_CMDQ_CONS without ERR */
     uint32_t walks;
+    uint64_t told; /* how often a listener was told that translations go */
 };
 
 static void fail(const char *what, smmuq_status status) {
@@ -35,6 +36,16 @@ static smmuq_command *slot(struct model *model, uint32_t index) {
     return &model->queue[index & ((1u << model->log2) - 1)];
 }
 
+/* Tells who listens which translations a command removed, as QEMU tells a device that is assigned to the guest. */
+static void notify(struct model *model, smmuq_command command) {
+    smmuq_reached reached;
+    smmuq_status status = smmuq_region(command.lo, command.hi, &reached);
+    if (status != SMMUQ_OK)
+        fail("region", status);
+    if (reached.kind >= SMMUQ_REGION_S1)
+        model->told++; /* of reached.vmid and reached.asid, from reached.first to reached.last */
+}
+
 /* Takes what waits, up to an illegal command. Answers SMMUQ_OK, or why the queue is stopped. */
 static smmuq_status serve(struct model *model) {
     while (model->cons != model->prod) {
@@ -43,6 +54,8 @@ static smmuq_status serve(struct model *model) {
         smmuq_status status = smmuq_unit_judge(&model->unit, command.lo, command.hi, &verdict);
         if (status != SMMUQ_OK && status != SMMUQ_REPLACED)
             return status;
+        if (status == SMMUQ_OK)
+            notify(model, command);
         model->cons = (model->cons + 1) & ((2u << model->log2) - 1);
     }
     return SMMUQ_OK;
@@ -103,9 +116,9 @@ static void print_queue(struct model *model) {
     if (status != SMMUQ_OK)
         fail("state", status);
     printf("prod 0x%08" PRIx32 " cons 0x%08" PRIx32 " gerror %" PRIu32 " gerrorn %" PRIu32 " applied %" PRIu64 " replaced %" PRIu64
-           " syncs %" PRIu64 "\n",
+           " syncs %" PRIu64 " told %" PRIu64 "\n",
            model->prod, model->cons | errors.err << 24, errors.gerror, errors.gerrorn, tallies.applied, tallies.replaced,
-           tallies.syncs);
+           tallies.syncs, model->told);
 }
 
 static void print_command(const char *what, smmuq_command command) {

@@ -484,8 +484,8 @@ static void misuse_walks_and_transactions(void) {
     smmuq_verdict verdict;
     uint64_t walk, transaction, another = 21;
     uint32_t last = 22, i;
-    WANT(smmuq_unit_new_tracking(4, 65536, &unit), SMMUQ_BAD_FIELD);
-    WANT(smmuq_unit_new_tracking(4, 1, &unit), SMMUQ_OK);
+    WANT(smmuq_unit_new_tracking(0, 4, 65536, &unit), SMMUQ_BAD_FIELD);
+    WANT(smmuq_unit_new_tracking(0, 4, 1, &unit), SMMUQ_OK);
     WANT(smmuq_begin(&unit, &stream, &held, &transaction), SMMUQ_NOT_HELD);
     WANT(smmuq_end(&unit, 0, &last), SMMUQ_NOT_OUTSTANDING);
     WANT(smmuq_begin_walk(&unit, &walk), SMMUQ_OK);

@@ -14,6 +14,7 @@ static inline uint64_t bits(uint64_t word, unsigned high, unsigned low) {
 /* What the five invalidations by address have in common. */
 static inline void decode_address(uint64_t lo, uint64_t hi, smmuq_fields *fields) {
     fields->leaf = (uint32_t)bits(hi, 0, 0);
+    fields->ttl = (uint32_t)bits(hi, 9, 8);
     fields->tg = (uint32_t)bits(hi, 11, 10);
     if (fields->tg) {
         fields->num = (uint32_t)bits(lo, 16, 12);

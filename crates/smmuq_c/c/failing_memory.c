@@ -52,7 +52,7 @@ static struct handles made(void) {
     memset(&handles, 0, sizeof handles); // all bytes 0 are empty handles
     smmuq_verdict verdict;
     uint32_t number;
-    if (smmuq_unit_new(4, &handles.unused) || smmuq_unit_new_tracking(4, 1, &handles.unit) || smmuq_fill(&handles.unit.handle, &FILLED, 7) ||
+    if (smmuq_unit_new(4, &handles.unused) || smmuq_unit_new_tracking(0, 4, 1, &handles.unit) || smmuq_fill(&handles.unit.handle, &FILLED, 7) ||
         smmuq_unit_judge(&handles.unit, UNKNOWN.lo, UNKNOWN.hi, &verdict) != SMMUQ_ILL_OPCODE ||
         smmuq_ring_new(7, 9, 4, handles.senders, 2, &handles.engine) ||
         smmuq_ring_new(4, 9, 4, &handles.idle_sender, 1, &handles.idle_engine) ||
@@ -114,8 +114,8 @@ static void describe_all(struct handles *handles, char *text, size_t room) {
 
 static uint32_t unit_new(struct handles *handles) { return smmuq_unit_new(4, &handles->empty_unit); }
 static uint32_t unit_reset(struct handles *handles) { return smmuq_unit_new(4, &handles->unit); }
-static uint32_t tracking_unit(struct handles *handles) { return smmuq_unit_new_tracking(4, 16, &handles->empty_unit); }
-static uint32_t tracking_again(struct handles *handles) { return smmuq_unit_new_tracking(4, 0, &handles->unit); }
+static uint32_t tracking_unit(struct handles *handles) { return smmuq_unit_new_tracking(1, 4, 16, &handles->empty_unit); }
+static uint32_t tracking_again(struct handles *handles) { return smmuq_unit_new_tracking(0, 4, 0, &handles->unit); }
 static uint32_t ring_new(struct handles *handles) { return smmuq_ring_new(5, 9, 4, handles->empty_senders, 2, &handles->empty_engine); }
 static uint32_t ring_again(struct handles *handles) {
     return smmuq_ring_new(5, 9, 4, handles->senders, 2, &handles->engine);
@@ -150,7 +150,8 @@ static uint32_t track(struct handles *handles) {
     smmuq_transactions counts;
     status = smmuq_begin(&handles->unit, &FILLED, &held, &transaction);
     status |= smmuq_end(&handles->unit, transaction, &last);
-    status |= smmuq_begin_walk(&handles->unit, &walk);
+    status |= smmuq_begin_outstanding_walk(&handles->unit, &walk, &transaction);
+    status |= smmuq_end(&handles->unit, transaction, &last);
     status |= smmuq_begin_walked(&handles->unit, walk, &OTHER, &transaction);
     status |= smmuq_outstanding(&handles->unit, &counts) | (counts.outstanding != 1);
     return status | smmuq_unit_reset(&handles->unit);

@@ -28,13 +28,15 @@ enum { UNTOLD = 0x5a };
 
 /* ---- a unit, and what is asked of it again and again */
 
-static smmuq_unit new_unit(uint32_t room) {
+static smmuq_unit new_numbered(uint32_t number, uint32_t room) {
     smmuq_unit unit = SMMUQ_EMPTY;
-    WANT(smmuq_unit_new_tracking(4, room, &unit), SMMUQ_OK);
+    WANT(smmuq_unit_new_tracking(number, 4, room, &unit), SMMUQ_OK);
     WANT(smmuq_kind(&unit.handle), 1);
     WANT(smmuq_fill(&unit.handle, &PAGE, 7), SMMUQ_OK);
     return unit;
 }
+
+static smmuq_unit new_unit(uint32_t room) { return new_numbered(0, room); }
 
 static void want_counts(smmuq_unit *unit, uint32_t outstanding, uint32_t covered) {
     smmuq_transactions counts;
@@ -108,6 +110,7 @@ static void refuse_handle(smmuq_unit *handle, smmuq_status status) {
     smmuq_held held = {UNTOLD, UNTOLD};
     smmuq_transactions counts = {UNTOLD, UNTOLD};
     WANT(smmuq_begin_walk(handle, &walk), status);
+    WANT(smmuq_begin_outstanding_walk(handle, &walk, &transaction), status);
     WANT(smmuq_fill_walked(handle, 1, &NO_TAG, 9), status);
     WANT(smmuq_begin(handle, &NO_TAG, &held, &transaction), status);
     WANT(smmuq_begin_walked(handle, 1, &NO_TAG, &transaction), status);
@@ -148,13 +151,16 @@ static void pass_wrong_handles(void) {
 static void ask_for_room(void) {
     smmuq_unit unit = new_unit(1);
     const uint64_t transaction = begun(&unit, &PAGE);
-    WANT(smmuq_unit_new_tracking(4, MOST_ROOM + 1, &unit), SMMUQ_BAD_FIELD);
-    WANT(smmuq_unit_new_tracking(4, 0xffffffff, &unit), SMMUQ_BAD_FIELD);
-    WANT(smmuq_unit_new_tracking(0, MOST_ROOM + 1, &unit), SMMUQ_BAD_FIELD);
-    WANT(smmuq_unit_new_tracking(0, 1, &unit), SMMUQ_BAD_CAPACITY);
-    WANT(smmuq_unit_new_tracking(65537, 1, &unit), SMMUQ_BAD_CAPACITY);
+    WANT(smmuq_unit_new_tracking(0, 4, MOST_ROOM + 1, &unit), SMMUQ_BAD_FIELD);
+    WANT(smmuq_unit_new_tracking(0, 4, 0xffffffff, &unit), SMMUQ_BAD_FIELD);
+    WANT(smmuq_unit_new_tracking(256, 4, 1, &unit), SMMUQ_BAD_FIELD);
+    WANT(smmuq_unit_new_tracking(0xffffffff, 4, 1, &unit), SMMUQ_BAD_FIELD);
+    WANT(smmuq_unit_new_tracking(256, 0, 1, &unit), SMMUQ_BAD_FIELD);
+    WANT(smmuq_unit_new_tracking(0, 0, MOST_ROOM + 1, &unit), SMMUQ_BAD_FIELD);
+    WANT(smmuq_unit_new_tracking(0, 0, 1, &unit), SMMUQ_BAD_CAPACITY);
+    WANT(smmuq_unit_new_tracking(255, 65537, 1, &unit), SMMUQ_BAD_CAPACITY);
     want_counts(&unit, 1, 0); /* it is as before */
-    WANT(smmuq_unit_new_tracking(4, 1, &unit), SMMUQ_OK);
+    WANT(smmuq_unit_new_tracking(0, 4, 1, &unit), SMMUQ_OK);
     want_counts(&unit, 0, 0);
     want_not_outstanding(&unit, transaction);
     smmuq_free(&unit.handle);
@@ -163,10 +169,12 @@ static void ask_for_room(void) {
 static void want_full(smmuq_unit *unit) {
     const uint64_t walk = walking(unit);
     smmuq_held held = {UNTOLD, UNTOLD};
-    uint64_t transaction = UNTOLD;
+    uint64_t transaction = UNTOLD, untold = UNTOLD;
     WANT(smmuq_begin(unit, &PAGE, &held, &transaction), SMMUQ_TRANSACTIONS_FULL);
     WANT(smmuq_begin(unit, &OTHER, &held, &transaction), SMMUQ_NOT_HELD);
     WANT(smmuq_begin_walked(unit, walk, &OTHER, &transaction), SMMUQ_TRANSACTIONS_FULL);
+    WANT(smmuq_begin_outstanding_walk(unit, &untold, &transaction), SMMUQ_TRANSACTIONS_FULL);
+    WANT(untold, UNTOLD);
     WANT(held.value == UNTOLD && held.born == UNTOLD && transaction == UNTOLD, 1);
 }
 
@@ -213,7 +221,7 @@ static void guess_numbers(void) {
     for (bit = 0; bit < 64; bit++)
         want_not_outstanding(&unit, transaction ^ UINT64_C(1) << bit);
     want_counts(&unit, 1, 0);
-    /* Another unit's, unless it happens to be as far. */
+    /* Another unit's of the same number, unless it happens to be as far. */
     want_not_outstanding(&idle, transaction);
     want_end(&another, begun(&another, &PAGE), 0);
     later = begun(&another, &PAGE);
@@ -230,6 +238,29 @@ static void guess_numbers(void) {
     smmuq_free(&unit.handle);
     smmuq_free(&another.handle);
     smmuq_free(&idle.handle);
+}
+
+/* Units of other numbers refuse what they didn't give, however far they are. */
+static void pass_to_another_unit(void) {
+    smmuq_unit units[3] = {new_numbered(0, 2), new_numbered(1, 2), new_numbered(255, 2)};
+    uint64_t transactions[3], walks[3];
+    int own, other;
+    for (own = 0; own < 3; own++) {
+        transactions[own] = begun(&units[own], &PAGE);
+        walks[own] = walking(&units[own]);
+    }
+    for (own = 0; own < 3; own++)
+        for (other = 0; other < 3; other++)
+            if (other != own) {
+                want_not_outstanding(&units[own], transactions[other]);
+                want_refused_walk(&units[own], walks[other], &OTHER, SMMUQ_OTHER_WALK);
+            }
+    for (own = 0; own < 3; own++) {
+        WANT(smmuq_fill_walked(&units[own], walks[own], &OTHER, 9), SMMUQ_OK);
+        want_counts(&units[own], 1, 0);
+        want_end(&units[own], transactions[own], 0);
+        smmuq_free(&units[own].handle);
+    }
 }
 
 static void end_after_reset(void) {
@@ -317,7 +348,7 @@ static void walk_where_nothing_fits(void) {
     smmuq_unit unit = SMMUQ_EMPTY;
     smmuq_held held;
     uint64_t walk, transaction;
-    WANT(smmuq_unit_new_tracking(1, 1, &unit), SMMUQ_OK);
+    WANT(smmuq_unit_new_tracking(0, 1, 1, &unit), SMMUQ_OK);
     WANT(smmuq_fill(&unit.handle, &OTHER, 7), SMMUQ_OK);
     walk = walking(&unit);
     WANT(smmuq_fill_walked(&unit, walk, &PAGE, 9), SMMUQ_CACHES_FULL);
@@ -353,6 +384,27 @@ static void let_a_sync_wait(void) {
     sync_waits(&unit, 1);
     want_end(&unit, second, 1);
     sync_is_taken(&unit);
+    smmuq_free(&unit.handle);
+}
+
+/* A walk that is outstanding keeps a CMD_SYNC behind any invalidation, and no other. */
+static void let_a_sync_wait_for_a_walk(void) {
+    smmuq_unit unit = new_unit(2);
+    uint64_t walk = 0, transaction = 0, later = 0, second = 0;
+    WANT(smmuq_begin_outstanding_walk(&unit, &walk, &transaction), SMMUQ_OK);
+    WANT(walk == walking(&unit) && transaction != 0, 1);
+    sync_is_taken(&unit);
+    want_counts(&unit, 1, 0);
+    invalidate(&unit, 9, 0); /* which nothing is held of */
+    want_counts(&unit, 1, 1);
+    sync_waits(&unit, 1);
+    WANT(smmuq_begin_outstanding_walk(&unit, &later, &second), SMMUQ_OK); /* which began behind it */
+    sync_waits(&unit, 1);
+    WANT(smmuq_fill_walked(&unit, walk, &OTHER, 9), SMMUQ_OK); /* it fills while it is outstanding */
+    want_end(&unit, transaction, 1);
+    want_not_outstanding(&unit, transaction);
+    sync_is_taken(&unit);
+    want_end(&unit, second, 0);
     smmuq_free(&unit.handle);
 }
 
@@ -471,12 +523,14 @@ int main(void) {
     have_no_room();
     use_all_room();
     guess_numbers();
+    pass_to_another_unit();
     end_after_reset();
     claim_walks();
     walk_over_a_reset();
     let_walks_be_overtaken();
     walk_where_nothing_fits();
     let_a_sync_wait();
+    let_a_sync_wait_for_a_walk();
     evict_what_is_in_use();
     stop_while_a_sync_waits();
     write_a_sync_over_an_illegal_command();

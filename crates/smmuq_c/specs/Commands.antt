@@ -1,5 +1,5 @@
 -- Which command the flat fields of C say, and what decoding and encoding do.
-use Rattle.std.specs.Prelude.{◌≡◌, ◌<◌, ◌≤◌, ◌*◌, ◌^◌, ℕ, Option, None, Some, Result, Ok, Err}
+use Rattle.std.specs.Prelude.{◌≡◌, ◌<◌, ◌≤◌, ◌*◌, ◌^◌, ℕ, Bool, true, false, Option, None, Some, Result, Ok, Err}
 use Rattle.cmdcodec.specs.declared.raw.Raw.{Raw}
 use Rattle.cmdcodec.specs.declared.ill.Ill.{Ill}
 use Rattle.cmdcodec.specs.declared.command.Command.{Command}
@@ -11,6 +11,9 @@ use Rattle.cmdcodec.specs.Opcodes.{opcode_of}
 use Rattle.cmdcodec.specs.Legality.{IsKept}
 use Rattle.cmdcodec.specs.Spelling.{granule_number}
 use Rattle.cmdcodec.specs.Words.{decoding}
+use Rattle.range_hints.specs.declared.ttl.Ttl.{Ttl}
+use Rattle.range_hints.specs.declared.ttl.Ttl.TheVariants.{AnyLevel}
+use Rattle.range_hints.specs.Hints.{has_ttl, ttl_number, SpellsWithHint}
 use Rattle.smmuq_c.specs.declared.fields.Fields.{Fields}
 use Rattle.smmuq_c.specs.declared.status.Status.{Status}
 use Rattle.smmuq_c.specs.declared.status.Status.TheVariants.{Done, Illegal, BadField}
@@ -76,13 +79,46 @@ abbrev pub decode_status : Result Command Ill → Status
 decode_status (Ok command) = Done
 decode_status (Err ill) = Illegal ill
 
+-- what is told of the first fault, if there is one
+abbrev pub check_status : Option Ill → Status
+check_status None = Done
+check_status (Some ill) = Illegal ill
+
 -- The fields are those of the command that legal words spell; for illegal words they stay.
 abbrev pub HasDecoded : Result Command Ill → Fields → Fields → Type 0
 HasDecoded (Ok command) old new = SaysCommand new command
 HasDecoded (Err ill) old new = new ≡ old
 
+-- The hint of legal words is among the fields.
+abbrev pub HasDecodedHint : Raw → Fields → Type 0
+HasDecodedHint raw new =
+    (command : Command) (ttl : Ttl) → SpellsWithHint raw command ttl → new.ttl ≡ ttl_number ttl
+
+-- The fields say this level hint, if a command has a place for one.
+abbrev pub SaysHintBy : Bool → Fields → Ttl → Type 0
+SaysHintBy true f ttl = f.ttl ≡ ttl_number ttl
+SaysHintBy false f ttl = ttl ≡ AnyLevel
+
+abbrev pub SaysHint : Fields → Command → Ttl → Type 0
+SaysHint f command = SaysHintBy (has_ttl command) f
+
+abbrev pub IsHintOf : Fields → Command → Option Ttl → Type 0
+IsHintOf f command None = (ttl : Ttl) → ¬ SaysHint f command ttl
+IsHintOf f command (Some ttl) = SaysHint f command ttl
+
+-- The fields say this command and this hint, and the words spell both.
+pub record AreWordsOf (f : Fields) (raw : Raw) : Type 0 where
+  pub command : Command
+  pub ttl : Ttl
+  pub says : SaysCommand f command
+  pub hints : SaysHint f command ttl
+  pub spelled : SpellsWithHint raw command ttl
+  pub decoded : decoding raw ≡ Ok command
+
 -- The words spell the command that the fields say; or they say none, and the words stay.
 abbrev pub HasEncoded : Fields → Raw → Raw → Status → Type 0
-HasEncoded fields old new Done = (command : Command) × SaysCommand fields command × (decoding new ≡ Ok command)
-HasEncoded fields old new BadField = ((command : Command) → ¬ SaysCommand fields command) × (new ≡ old)
+HasEncoded fields old new Done = AreWordsOf fields new
+HasEncoded fields old new BadField =
+    ((command : Command) (ttl : Ttl) → SaysCommand fields command → ¬ SaysHint fields command ttl)
+    × (new ≡ old)
 HasEncoded fields old new other = ⊥

@@ -24,22 +24,24 @@ pub record IsNewUnit (capacity : ℕ) (unit : UnitValue) : Type 0 where
   pub caches_are : AreNewCaches capacity caches
   pub unit_is : unit ≡ new_unit caches
 
--- The handle holds a unit that has taken nothing, with such caches and room for so many transactions.
-pub record HoldsNewUnit (capacity room : ℕ) (new : Option Object) : Type 0 where
+-- The handle holds a unit of this number that has taken nothing, with such caches and room for so many
+-- transactions.
+pub record HoldsNewUnit (number capacity room : ℕ) (new : Option Object) : Type 0 where
   pub caches : Stored
   pub caches_are : AreNewCaches capacity caches
-  pub new_is : new ≡ Some (UnitOf (new_tracked_queue caches room))
-  pub tracked : IsTracked (tracked_in (new_tracked_queue caches room)) []
+  pub new_is : new ≡ Some (UnitOf (new_tracked_queue number caches room))
+  pub tracked : IsTracked (tracked_in (new_tracked_queue number caches room)) []
 
 -- It holds that, and what it held before is dropped; or it is as before.
-abbrev pub HasMadeUnit : ℕ → ℕ → Option Object → Option Object → Status → Type 0
-HasMadeUnit capacity room old new Done = HoldsNewUnit capacity room new
-HasMadeUnit capacity room old new (Cache BadCapacity) = ¬ IsCapacity capacity × (new ≡ old)
-HasMadeUnit capacity room old new NoMemory = IsCapacity capacity × (new ≡ old)
-HasMadeUnit capacity room old new other = ⊥
+abbrev pub HasMadeUnit : ℕ → ℕ → ℕ → Option Object → Option Object → Status → Type 0
+HasMadeUnit number capacity room old new Done = HoldsNewUnit number capacity room new
+HasMadeUnit number capacity room old new (Cache BadCapacity) = ¬ IsCapacity capacity × (new ≡ old)
+HasMadeUnit number capacity room old new NoMemory = IsCapacity capacity × (new ≡ old)
+HasMadeUnit number capacity room old new other = ⊥
 
 -- The same if there may be room for so many.
-abbrev pub HasMadeTrackingUnit : ℕ → ℕ → Option Object → Option Object → Status → Type 0
-HasMadeTrackingUnit capacity room old new BadField = ¬ (room < 2 ^ 16) × (new ≡ old)
-HasMadeTrackingUnit capacity room old new status =
-    (room < 2 ^ 16) × HasMadeUnit capacity room old new status
+abbrev pub HasMadeTrackingUnit : ℕ → ℕ → ℕ → Option Object → Option Object → Status → Type 0
+HasMadeTrackingUnit number capacity room old new BadField =
+    ¬ ((number < 2 ^ 8) × (room < 2 ^ 16)) × (new ≡ old)
+HasMadeTrackingUnit number capacity room old new status =
+    (number < 2 ^ 8) × (room < 2 ^ 16) × HasMadeUnit number capacity room old new status

@@ -1,5 +1,6 @@
 -- What the calls of a unit's walks and transactions do to it, and what C gets of them.
 use Rattle.std.specs.Prelude.{◌≡◌, ◌<◌, ℕ, [], Result, Ok, Err, IfOk, OnOk, OnErr}
+use Rattle.std.specs.Prelude.{Option, Some, None, IfSome}
 use Rattle.caches.specs.declared.tag.Tag.{Tag}
 use Rattle.caches.specs.declared.tag.Entry.{Entry}
 use Rattle.transactions.specs.declared.transaction.BeginFault.{BeginFault}
@@ -13,6 +14,7 @@ use Rattle.transactions.specs.Outstanding.{AreCountsOf}
 use Rattle.transactions.specs.Tracking.{StaysTracked}
 use Rattle.transactions.specs.Transactions.{TransactionValue, bits_of, transaction_of}
 use Rattle.transactions.specs.Transactions.{IsBeginAnswer, IsBeginWalkedAnswer, IsEndAnswer}
+use Rattle.transactions.specs.Transactions.{IsOutstandingWalk}
 use Rattle.transactions.specs.Walks.{WalkAnswer, AnswersWalk, IsCachesAnswer, with_walked}
 use Rattle.transactions.specs.TrackedQueueUnits.{TrackedQueueValue, tracked_in, KeepsQueue}
 use Rattle.transactions.specs.TrackedQueueUnits.{with_its_unit, walk_now, began_in}
@@ -47,6 +49,10 @@ begin_status (Walked fault) = walk_status fault
 abbrev pub begun_status : {A : Type 0} → Result A BeginFault → Status
 begun_status (Ok begun) = Done
 begun_status (Err fault) = begin_status fault
+
+abbrev pub outstanding_walk_status : Option (ℕ × TransactionValue) → Status
+outstanding_walk_status (Some both) = Done
+outstanding_walk_status None = status.TransactionsFull
 
 abbrev pub end_status : Result Ended TransactionValue → Status
 end_status (Ok ended) = Done
@@ -103,6 +109,18 @@ pub record HasBegunWalked (number : ℕ) (tag : Tag) (told : ℕ) (old new : Tra
   pub some : IfOk answer (λ transaction. 0 < told)
   pub status_is : status ≡ begun_status answer
 
+-- A walk began now, and a transaction that uses the tables, and both are told; or there was no
+-- room. The transaction's number isn't 0.
+pub record HasBegunOutstandingWalk (walk told : ℕ) (old new : TrackedQueueValue)
+    (status : Status) : Type 0 where
+  pub answer : Option (ℕ × TransactionValue)
+  pub begun : IsOutstandingWalk (walk_now old) (tracked_in old) (tracked_in new) answer
+  pub only : OnlyTransactions old new
+  pub walk_is : IfSome answer (λ both. walk ≡ both.0)
+  pub told_is : IfSome answer (λ both. told ≡ bits_of both.1)
+  pub some : IfSome answer (λ both. 0 < told)
+  pub status_is : status ≡ outstanding_walk_status answer
+
 -- 1 if it was the last that a CMD_SYNC waits for
 abbrev pub last_word : Ended → ℕ
 last_word LastCovered = 1
@@ -132,6 +150,9 @@ pub record HasToldOutstanding (told : TransactionCounts) (old new : TrackedQueue
 
 abbrev pub BeginsWalk : ℕ → Object → Object → Status → Type 0
 BeginsWalk told = OfUnit (HasBegunWalk told)
+
+abbrev pub BeginsOutstandingWalk : ℕ → ℕ → Object → Object → Status → Type 0
+BeginsOutstandingWalk walk told = OfUnit (HasBegunOutstandingWalk walk told)
 
 abbrev pub FillsWalked : ℕ → TagWords → ℕ → Object → Object → Status → Type 0
 FillsWalked number tag value = OfUnit (DoesSaid (IsTagOf tag) (λ t. HasFilledWalked number t value))

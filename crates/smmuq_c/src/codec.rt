@@ -3,21 +3,26 @@ ghost use Rattle.std.specs.Prelude.{◌≡◌};
 ghost use Rattle.cmdcodec.specs.Words.{decoding};
 ghost use Rattle.smmuq_c.specs.Statuses.{number_of};
 ghost use Rattle.smmuq_c.specs.Calls.{Answers};
-ghost use Rattle.smmuq_c.specs.Commands.{decode_status, HasDecoded, HasEncoded};
+ghost use Rattle.smmu_features.specs.IdRegisters.{smmu_of};
+ghost use Rattle.smmu_features.specs.Commands.{first_ill_for};
+ghost use Rattle.smmuq_c.specs.Commands.{decode_status, check_status, HasDecoded, HasDecodedHint};
+ghost use Rattle.smmuq_c.specs.Commands.{IsHintOf, HasEncoded};
 ghost use Rattle.smmuq_c.specs.Texts.{HasTold, IsCopied};
 ghost use Rattle.smmuq_c.specs.Kept.{CountKept, IsCountKept, IsKept, KeptUnlessDone};
 
 use crate::fields::{Fields, command_of};
 use crate::status::Status;
-use cmdcodec::{Command, Ill, Raw, decode, encode, text};
+use cmdcodec::{Command, Ill, Raw, decode, legal_words_spell_one_command, text};
+use range_hints::{Ttl, decode_with_hint, encode_with_hint, has_ttl};
+use smmu_features::Smmu;
 use std::alloc::Global;
 
 /// The version of this interface.
 #[unsafe(no_mangle)]
 pub extern "C" fn smmuq_version() -> u32
-    ensures { result ≡ 3 }
+    ensures { result ≡ 4 }
 {
-    3
+    4
 }
 
 fn decode_status(decoded: Result<Command, Ill>) -> Status
@@ -37,22 +42,51 @@ pub extern "C" fn smmuq_check(lo: u64, hi: u64) -> u32
     decode_status(decode(Raw { lo, hi })).number()
 }
 
+fn check_status(ill: Option<Ill>) -> Status
+    ensures { result ≡ check_status ill }
+{
+    match ill {
+        None => Status::Done,
+        Some(ill) => Status::Illegal(ill),
+    }
+}
+
+/// Returns 0 if the words are legal for an SMMU with these ID registers, else the number of the first fault in them, 1 to
+/// 4. A command that it doesn't have is one with an unknown opcode.
+#[unsafe(no_mangle)]
+pub extern "C" fn smmuq_check_for(
+    idr0: u32,
+    idr1: u32,
+    idr3: u32,
+    idr5: u32,
+    lo: u64,
+    hi: u64,
+) -> u32
+    ensures { result ≡ number_of (check_status
+        (first_ill_for (smmu_of idr0 idr1 idr3 idr5) (record { lo = lo; hi = hi }))) }
+{
+    let smmu = Smmu::from_registers(idr0, idr1, idr3, idr5);
+    check_status(smmu.judge(Raw { lo, hi })).number()
+}
+
 /// The same, and writes the fields of legal words.
 #[unsafe(no_mangle)]
 pub extern "C" fn smmuq_decode(lo: u64, hi: u64, fields: &mut Fields) -> u32
     ensures status { result ≡ number_of (decode_status (decoding (record { lo = lo; hi = hi }))) }
     ensures fields { HasDecoded (decoding (record { lo = lo; hi = hi })) fields.old fields.new }
+    ensures hint { HasDecodedHint (record { lo = lo; hi = hi }) fields.new }
 {
-    match decode(Raw { lo, hi }) {
-        Ok(command) => {
-            *fields = Fields::from(command);
+    legal_words_spell_one_command();
+    match decode_with_hint(Raw { lo, hi }) {
+        Ok((command, ttl)) => {
+            *fields = Fields::with_hint(command, ttl);
             Status::Done.number()
         }
         Err(ill) => Status::Illegal(ill).number(),
     }
 }
 
-/// Writes the words of the command that the fields say, all free bits 0. Fields that it doesn't have are ignored.
+/// Writes the words of the command that the fields say, all reserved bits 0. Fields that it doesn't have are ignored.
 /// `BAD_FIELD` if they say none.
 #[unsafe(no_mangle)]
 pub extern "C" fn smmuq_encode(fields: &Fields, words: &mut Raw) -> u32
@@ -63,6 +97,16 @@ pub extern "C" fn smmuq_encode(fields: &Fields, words: &mut Raw) -> u32
     encode_fields(&fields, words).number()
 }
 
+/// The level hint that the fields say, if the command has a place for one.
+fn hint_of(fields: &Fields, command: &Command) -> Option<Ttl>
+    ensures { IsHintOf fields.now command.now result }
+{
+    if !has_ttl(command) {
+        return Some(Ttl::AnyLevel);
+    }
+    Ttl::new(u64::from(fields.ttl))
+}
+
 fn encode_fields(fields: &Fields, words: &mut Raw) -> Status
     ensures answered { HasEncoded fields.now words.old words.new result }
     ensures kept { IsKept result words.old words.new }
@@ -70,7 +114,11 @@ fn encode_fields(fields: &Fields, words: &mut Raw) -> Status
     let Some(command) = command_of(fields) else {
         return Status::BadField;
     };
-    *words = encode(&command);
+    let Some(ttl) = hint_of(fields, &command) else {
+        return Status::BadField;
+    };
+    legal_words_spell_one_command();
+    *words = encode_with_hint(&command, ttl);
     Status::Done
 }
 

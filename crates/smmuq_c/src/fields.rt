@@ -20,6 +20,8 @@ pub struct Fields {
     pub tg: u32,
     pub num: u32,
     pub scale: u32,
+    /// 0 for any level, 1 to 3 for that of the leaves.
+    pub ttl: u32,
     pub ssv: u32,
     pub global: u32,
     /// `Size` of an ATC_INV, `Range` of a CFGI_STE_RANGE.
@@ -28,6 +30,8 @@ pub struct Fields {
     pub msh: u32,
     pub attr: u32,
     pub data: u32,
+    /// So that no byte of it is padding.
+    pub unused: u32,
     /// The address in bytes: of the first page, or MSIADDR.
     pub address: u64,
     /// The words of a command that is kept as it is.

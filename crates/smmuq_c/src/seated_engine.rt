@@ -2,6 +2,7 @@
 ghost use Rattle.std.specs.Prelude.{◌≡◌, ◌⊎◌, length};
 ghost use Rattle.std.specs.Arc.{arc_value};
 ghost use Rattle.engine.specs.Engines.{IsSettledEngine};
+ghost use Rattle.caches.specs.Covers.{covers};
 ghost use Rattle.engine.specs.Units.{HasLost, HasLostOlder};
 ghost use Rattle.smmuq_c.specs.Entries.{HasFilled, HasEvicted};
 ghost use Rattle.smmuq_c.specs.Registers.{HasAcknowledged};
@@ -15,6 +16,7 @@ use crate::ring_calls::{count_of, fill_senders, share};
 use crate::status::Status;
 use crate::words::{Held, RegisterWords, RunWords};
 use caches::{Tag, TagTest};
+use cmdcodec::Command;
 use engine::{Completion, Engine, Remedy, Unit};
 use renewal::{Queue, Sizes, sees_waiting, successor};
 use ring::Ring;
@@ -144,6 +146,15 @@ impl SeatedEngine {
         ensures settled { IsSettledEngine self.new }
     {
         self.engine.evict_all(test)
+    }
+
+    /// Removes the entries that a command covers, without taking it, and returns how many they were.
+    pub(crate) fn invalidate(&mut self, command: &Command) -> u32
+        ensures lost { HasLost (covers command.now) result self.old.unit self.new.unit }
+        ensures consumer { self.new ≡ record self.old { unit = self.new.unit } }
+        ensures settled { IsSettledEngine self.new }
+    {
+        self.engine.invalidate(command)
     }
 
     /// Evicts the entries that were filled before `born` commands were taken, and returns how many they were.

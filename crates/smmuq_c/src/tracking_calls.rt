@@ -6,6 +6,7 @@ ghost use Rattle.smmuq_c.specs.Tags.{IsTagOf};
 ghost use Rattle.smmuq_c.specs.TrackingCalls.{BeginsWalk, FillsWalked, Begins, BeginsWalked};
 ghost use Rattle.smmuq_c.specs.TrackingCalls.{Ends, TellsOutstanding, HasFilledWalked, HasBegun};
 ghost use Rattle.smmuq_c.specs.TrackingCalls.{HasBegunWalked, HasEnded, last_word};
+ghost use Rattle.smmuq_c.specs.TrackingCalls.{BeginsOutstandingWalk, HasBegunOutstandingWalk};
 
 use crate::handle::Handle;
 use crate::object::Object;
@@ -41,6 +42,57 @@ fn begin_walk(object: &Object, walk: &mut u64) -> Status
     }
 }
 
+/// A translation table walk begins now that a CMD_SYNC waits for: `walk` tells its number, as `smmuq_begin_walk` does, and
+/// `transaction` that of a transaction that uses the tables, never 0, which is to be given to `smmuq_end` once the walk reads
+/// and writes tables no more. `TRANSACTIONS_FULL` if as many are outstanding as there is room for.
+#[unsafe(no_mangle)]
+pub extern "C" fn smmuq_begin_outstanding_walk(
+    unit: &mut Handle,
+    walk: &mut u64,
+    transaction: &mut u64,
+) -> u32
+    ensures called { HasCalled (BeginsOutstandingWalk walk.new transaction.new) unit.old unit.new
+        result }
+    ensures walk { KeptUnlessDone result walk.old walk.new }
+    ensures transaction { KeptUnlessDone result transaction.old transaction.new }
+{
+    let Some(object) = unit.object_mut() else {
+        return Status::EmptyHandle.number();
+    };
+    begin_outstanding_walk(object, walk, transaction).number()
+}
+
+fn begin_outstanding_walk(object: &mut Object, walk: &mut u64, transaction: &mut u64) -> Status
+    ensures called { BeginsOutstandingWalk walk.new transaction.new object.old object.new result }
+    ensures walk { IsKept result walk.old walk.new }
+    ensures transaction { IsKept result transaction.old transaction.new }
+{
+    match object {
+        Object::Unit(unit) => begin_outstanding_walk_in(unit, walk, transaction),
+        Object::Sender(_) | Object::Reservation(_) | Object::Engine(_) | Object::Consumer(_) =>
+            Status::WrongHandle,
+    }
+}
+
+fn begin_outstanding_walk_in(
+    unit: &mut TrackedQueueUnit,
+    walk: &mut u64,
+    transaction: &mut u64,
+) -> Status
+    ensures begun { HasBegunOutstandingWalk walk.new transaction.new unit.old unit.new result }
+    ensures walk { IsKept result walk.old walk.new }
+    ensures transaction { IsKept result transaction.old transaction.new }
+{
+    match unit.begin_outstanding_walk() {
+        Some((begun, token)) => {
+            *walk = begun.bits();
+            *transaction = token.into_bits();
+            Status::Done
+        }
+        None => Status::TransactionsFull,
+    }
+}
+
 /// Puts what a walk read into a unit's caches, born when the walk began. `BAD_FIELD` if the tag
 /// isn't one; `OTHER_WALK` if the walk isn't one of this unit since its last reset, `TOO_OLD` if more
 /// than 64 invalidations were taken since it began, `OVERTAKEN` if a command that covers the tag was;
@@ -67,7 +119,8 @@ fn fill_walked(object: &mut Object, walk: u64, tag: &TagWords, value: u64) -> St
 }
 
 fn fill_walked_in(unit: &mut TrackedQueueUnit, walk: u64, tag: &TagWords, value: u64) -> Status
-    ensures { DoesSaid (IsTagOf tag.now) (λ t. HasFilledWalked walk t value) unit.old unit.new result }
+    ensures { DoesSaid (IsTagOf tag.now) (λ t. HasFilledWalked walk t value)
+        unit.old unit.new result }
 {
     let Some(tag) = tag_of(tag) else {
         return Status::BadField;

@@ -3,6 +3,7 @@ ghost use Rattle.std.specs.Prelude.{◌≡◌, ◌<◌, ◌*◌, ◌^◌};
 ghost use Rattle.cmdcodec.specs.Fields.{bit};
 ghost use Rattle.cmdcodec.specs.Opcodes.{number_of};
 ghost use Rattle.cmdcodec.specs.declared.command.Command.TheVariants.{CfgiSte, CfgiSteRange, CfgiCd, CfgiCdAll, TlbiNhAll, TlbiNhAsid, TlbiNhVa, TlbiNhVaa, TlbiEl2Asid, TlbiEl2Va, TlbiEl2Vaa, TlbiS12Vmall, TlbiS2Ipa, AtcInv, Kept, CmdSync};
+ghost use Rattle.range_hints.specs.Hints.{ttl_number};
 ghost use Rattle.smmuq_c.specs.Commands.{SaysCommand, SaysReach};
 
 use crate::fields::Fields;
@@ -10,6 +11,7 @@ use cmdcodec::{
     Asid, Attr, Command, Cs, IpaPage, KeptRaw, Msh, MsiWord, Opcode, Page, Reach, Sid, Size, Ssid,
     StreamRange, Vmid,
 };
+use range_hints::Ttl;
 
 impl From<Command> for Fields {
     fn from(command: Command) -> Fields
@@ -83,6 +85,7 @@ impl Fields {
         tg: 0,
         num: 0,
         scale: 0,
+        ttl: 0,
         ssv: 0,
         global: 0,
         size: 0,
@@ -90,10 +93,22 @@ impl Fields {
         msh: 0,
         attr: 0,
         data: 0,
+        unused: 0,
         address: 0,
         lo: 0,
         hi: 0,
     };
+
+    /// The fields of a command and its level hint.
+    pub(crate) fn with_hint(command: Command, ttl: Ttl) -> Fields
+        ensures command { SaysCommand result command }
+        ensures hint { result.ttl ≡ ttl_number ttl }
+    {
+        Fields {
+            ttl: u32::from(ttl.get()),
+            ..Fields::from(command)
+        }
+    }
 
     fn of(opcode: Opcode) -> Fields
         ensures { result ≡ record Fields.NONE { opcode = number_of opcode } }
