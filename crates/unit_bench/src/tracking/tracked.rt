@@ -19,7 +19,7 @@ pub(crate) fn full_unit(alloc: Global, count: u16, room: u16) -> Option<TrackedU
     ensures { IfSome result (λ tracked. tracked.unit.stop ≡ unstopped) }
 {
     let caches = Caches::new(alloc, u32::from(count)).ok()?;
-    let mut tracked = TrackedUnit::new(alloc, caches, room).ok()?;
+    let mut tracked = TrackedUnit::new(alloc, 0, caches, room).ok()?;
     for place in 0..count {
         if tracked.fill(tag(place), 0).is_err() {
             return None;
