@@ -163,6 +163,18 @@ static uint32_t entries(struct handles *handles) {
     return smmuq_entries(&handles->unit.handle, buffer, 8, &count);
 }
 
+static uint32_t covered(struct handles *handles) {
+    smmuq_entry buffer[8];
+    size_t count;
+    return smmuq_covered(&handles->unit.handle, TLBI_NSNH_ALL.lo, TLBI_NSNH_ALL.hi, buffer, 8, &count);
+}
+
+static uint32_t covered_without_room(struct handles *handles) {
+    smmuq_entry none;
+    size_t count;
+    return smmuq_covered(&handles->unit.handle, TLBI_NSNH_ALL.lo, TLBI_NSNH_ALL.hi, &none, 0, &count);
+}
+
 static uint32_t text(struct handles *handles) {
     char room[160];
     size_t length;
@@ -181,6 +193,7 @@ static uint32_t status_text(struct handles *handles) {
 static uint32_t codec(struct handles *handles) {
     smmuq_fields fields;
     smmuq_command command, room[63];
+    const smmuq_change change = {.kind = SMMUQ_REGION_S1, .tg = SMMUQ_GRANULE_4K, .most_commands = 62, .length = 0x21000};
     size_t count;
     (void)handles;
     uint32_t status = smmuq_check(TLBI_NSNH_ALL.lo, TLBI_NSNH_ALL.hi);
@@ -188,6 +201,7 @@ static uint32_t codec(struct handles *handles) {
     status |= smmuq_encode(&fields, &command);
     status |= smmuq_range(1, 2, 0x1000, 33, room, 63, &count);
     status |= smmuq_detach(5, room, 63, &count);
+    status |= smmuq_invalidation(2, 0, 0, 0x10, &change, room, 63, &count);
     return status;
 }
 
@@ -296,6 +310,8 @@ static const struct {
     {"smmuq_fill_walked", fill_walked, SMMUQ_OK, {SMMUQ_CACHES_NO_MEMORY}},
     {"transactions, and smmuq_unit_reset", track, SMMUQ_OK, {0}},
     {"smmuq_entries", entries, SMMUQ_OK, {SMMUQ_CACHES_NO_MEMORY}},
+    {"smmuq_covered", covered, SMMUQ_OK, {SMMUQ_CACHES_NO_MEMORY}},
+    {"smmuq_covered without room", covered_without_room, SMMUQ_SHORT_BUFFER, {0}},
     {"smmuq_evict_all", evict_all, SMMUQ_OK, {SMMUQ_CACHES_NO_MEMORY}},
     {"smmuq_text", text, SMMUQ_OK, {SMMUQ_NO_MEMORY}},
     {"smmuq_status_text", status_text, SMMUQ_OK, {0}},

@@ -1,5 +1,5 @@
--- Invalidating without a command that is taken.
-use Rattle.std.specs.Prelude.{◌≡◌, ℕ, Result, Ok, Err}
+-- Invalidating without a command that is taken, and what that would remove.
+use Rattle.std.specs.Prelude.{◌≡◌, ℕ, List, Result, Ok, Err}
 use Rattle.cmdcodec.specs.declared.command.Command.{Command}
 use Rattle.cmdcodec.specs.declared.ill.Ill.{Ill}
 use Rattle.caches.specs.Covers.{covers}
@@ -9,6 +9,8 @@ use Rattle.smmuq_c.specs.declared.status.Status.{Status}
 use Rattle.smmuq_c.specs.declared.status.Status.TheVariants.{Illegal, WrongHandle}
 use Rattle.smmuq_c.specs.Calls.{OfAnyUnit}
 use Rattle.smmuq_c.specs.Evicting.{HasEvictedAll}
+use Rattle.smmuq_c.specs.Lists.{HasToldCovered}
+use Rattle.smmuq_c.specs.declared.listing.EntryWords.{EntryWords}
 
 -- A unit or an engine stays, for this reason; an object of another kind is refused whatever it is.
 abbrev pub IsRefusedFor : Status → Object → Object → Status → Type 0
@@ -20,3 +22,8 @@ IsRefusedFor why other new status = (new ≡ other) × (status ≡ WrongHandle)
 abbrev pub Invalidates : Result Command Ill → ℕ → Object → Object → Status → Type 0
 Invalidates (Ok command) told = OfAnyUnit (HasEvictedAll (covers command) told)
 Invalidates (Err ill) told = IsRefusedFor (Illegal ill)
+
+-- The entries that legal words cover are told, and stay.
+abbrev pub TellsCovered : Result Command Ill → List EntryWords → List EntryWords → ℕ → Object → Object → Status → Type 0
+TellsCovered (Ok command) before after told = OfAnyUnit (HasToldCovered command before after told)
+TellsCovered (Err ill) before after told = IsRefusedFor (Illegal ill)

@@ -1,12 +1,15 @@
 -- The list of entries in a buffer of C.
 use Rattle.std.specs.Prelude.{◌≡◌, ◌*◌, ℕ, List, Option, Some, None, map}
 use Rattle.std.specs.FinMap as finite
+use Rattle.std.specs.List.Sorted.{IsPermutation}
+use Rattle.cmdcodec.specs.declared.command.Command.{Command}
 use Rattle.caches.specs.declared.tag.Tag.{Tag}
 use Rattle.caches.specs.declared.tag.Tag.TheVariants.{Ste, Cd, S1, S2, El2, Atc}
 use Rattle.caches.specs.declared.tag.Scope.{Scope}
 use Rattle.caches.specs.declared.tag.Scope.TheVariants.{Global, Of}
 use Rattle.caches.specs.declared.tag.Entry.{Entry}
 use Rattle.caches.specs.declared.fault.CacheFault.TheVariants.{NoMemory}
+use Rattle.caches.specs.Told.{only_covered}
 use Rattle.engine.specs.Units.{UnitValue}
 use Rattle.smmuq_c.specs.declared.status.Status.{Status}
 use Rattle.smmuq_c.specs.declared.status.Status.TheVariants.{Cache}
@@ -50,4 +53,17 @@ IsListed entries old new told status = IsGiven (map listed entries) old new told
 -- It told them, and changed nothing.
 pub record HasListed (old_buffer new_buffer : List EntryWords) (told : ℕ) (old new : UnitValue) (status : Status) : Type 0 where
   pub listed_are : IsListed (finite.values old.caches.entries) old_buffer new_buffer told status
+  pub new_is : new ≡ old
+
+-- ---- those that a command covers
+
+-- These entries come first in the buffer, each once, in some order; or it is too short, or memory ran out, and it stays.
+abbrev pub AreListedInSomeOrder : List Entry → List EntryWords → List EntryWords → ℕ → Status → Type 0
+AreListedInSomeOrder entries old new told (Cache NoMemory) = new ≡ old
+AreListedInSomeOrder entries old new told status =
+    (list : List Entry) × IsPermutation entries list × IsGiven (map listed list) old new told status
+
+-- It told those that the command covers, and changed nothing.
+pub record HasToldCovered (command : Command) (old_buffer new_buffer : List EntryWords) (told : ℕ) (old new : UnitValue) (status : Status) : Type 0 where
+  pub covered_are : AreListedInSomeOrder (finite.values (only_covered command old.caches.entries)) old_buffer new_buffer told status
   pub new_is : new ≡ old

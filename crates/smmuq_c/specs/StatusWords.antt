@@ -7,7 +7,7 @@ use Rattle.ring.specs.declared.sender.cause.Cause.TheVariants as cause
 use Rattle.ringcore.specs.declared.ring_fault.RingFault.TheVariants as ring
 use Rattle.engine.specs.declared.remedy.AckFault.TheVariants.{NoError, OtherBit}
 use Rattle.smmuq_c.specs.declared.status.Status.{Status}
-use Rattle.smmuq_c.specs.declared.status.Status.TheVariants.{Done, Illegal, Cache, Batch, Refused, Waiting, Ring, Acknowledgement, EmptyHandle, WrongHandle, BadField, ShortBuffer, NoMemory, NotHeld, OpenReservation, NoReservation, StillStopped, OtherCommand, Exhausted, RingEmpty, RingDrained, RingUnwritten, Replaced, SyncWaiting, Overtaken, TooOld, OtherWalk, TransactionsFull, NotOutstanding}
+use Rattle.smmuq_c.specs.declared.status.Status.TheVariants.{Done, Illegal, Cache, Batch, Refused, Waiting, Ring, Acknowledgement, EmptyHandle, WrongHandle, BadField, ShortBuffer, NoMemory, NotHeld, OpenReservation, NoReservation, StillStopped, OtherCommand, Exhausted, RingEmpty, RingDrained, RingUnwritten, Replaced, SyncWaiting, Overtaken, TooOld, OtherWalk, TransactionsFull, NotOutstanding, Unsupported}
 use Rattle.smmuq_c.specs.Statuses.{number_of}
 use Rattle.smmuq_c.specs.Texts.{IsCopied}
 
@@ -47,6 +47,7 @@ words_of NoMemory = codes "out of memory"
 words_of NotHeld = codes "no entry has this tag"
 words_of OpenReservation = codes "the sender's reservation is open"
 words_of NoReservation = codes "the sender has no open reservation"
+words_of Unsupported = codes "the SMMU lacks the stage, the granule or ATS"
 words_of StillStopped = codes "consumption is stopped"
 words_of OtherCommand = codes "another command than the one at which it stopped"
 words_of Exhausted = codes "as many commands as may be were taken"

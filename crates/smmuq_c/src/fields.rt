@@ -4,7 +4,7 @@ ghost use Rattle.std.specs.Prelude.{◌≡◌};
 mod of_command;
 mod to_command;
 
-pub(crate) use to_command::command_of;
+pub(crate) use to_command::{command_of, flag};
 
 /// The fields of a command, 0 for those it doesn't have.
 #[repr(C)]

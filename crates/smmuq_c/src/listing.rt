@@ -140,7 +140,11 @@ impl EntryWords {
 }
 
 /// Writes entries to a buffer, and their number to `count`.
-fn give_entries(entries: &[Entry], buffer: &mut [EntryWords], count: &mut usize) -> Status
+pub(crate) fn give_entries(
+    entries: &[Entry],
+    buffer: &mut [EntryWords],
+    count: &mut usize,
+) -> Status
     ensures { IsGiven (map listed entries.now) buffer.old buffer.new count.new result }
 {
     *count = entries.len();

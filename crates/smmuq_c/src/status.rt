@@ -40,6 +40,8 @@ pub(crate) enum Status {
     OpenReservation,
     /// The sender has no open reservation.
     NoReservation,
+    /// The SMMU lacks the stage, the granule or ATS.
+    Unsupported,
     /// Consumption is stopped, and nothing was done.
     StillStopped,
     /// After a stop, another command came than the one at which it stopped.
@@ -90,6 +92,7 @@ impl Status {
             Status::NotHeld => 0x65,
             Status::OpenReservation => 0x66,
             Status::NoReservation => 0x67,
+            Status::Unsupported => 0x68,
             Status::StillStopped => 0x70,
             Status::OtherCommand => 0x71,
             Status::Exhausted => 0x72,

@@ -12,7 +12,8 @@ use cmdcodec::{
     RangeScale, Raw, Reach, Sid, Size, Ssid, StreamRange, Vmid,
 };
 
-fn flag(word: u32) -> Option<bool>
+/// A flag, 0 or 1.
+pub(crate) fn flag(word: u32) -> Option<bool>
     ensures { MatchOption result ((b : Bool) → ¬ (word ≡ bit b)) (λ b. word ≡ bit b) }
 {
     match word {

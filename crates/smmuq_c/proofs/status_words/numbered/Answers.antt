@@ -5,7 +5,7 @@ use Rattle.batch.specs.declared.fault.BatchFault.TheVariants as batch
 use Rattle.ring.specs.declared.sender.cause.Cause.TheVariants as cause
 use Rattle.ringcore.specs.declared.ring_fault.RingFault.TheVariants as ring
 use Rattle.engine.specs.declared.remedy.AckFault.TheVariants.{NoError, OtherBit}
-use Rattle.smmuq_c.specs.declared.status.Status.TheVariants.{Done, Illegal, Cache, Batch, Refused, Waiting, Ring, Acknowledgement, EmptyHandle, WrongHandle, BadField, ShortBuffer, NoMemory, NotHeld, OpenReservation, NoReservation, StillStopped, OtherCommand, Exhausted, RingEmpty, RingDrained, RingUnwritten, Replaced, SyncWaiting, Overtaken, TooOld, OtherWalk, TransactionsFull, NotOutstanding}
+use Rattle.smmuq_c.specs.declared.status.Status.TheVariants.{Done, Illegal, Cache, Batch, Refused, Waiting, Ring, Acknowledgement, EmptyHandle, WrongHandle, BadField, ShortBuffer, NoMemory, NotHeld, OpenReservation, NoReservation, StillStopped, OtherCommand, Exhausted, RingEmpty, RingDrained, RingUnwritten, Replaced, SyncWaiting, Overtaken, TooOld, OtherWalk, TransactionsFull, NotOutstanding, Unsupported}
 use Rattle.smmuq_c.proofs.status_words.numbered.Goals as goal
 
 pub returns-in_default : goal.returns-in_default
@@ -43,6 +43,7 @@ returns-in_default c NoMemory is = omega arith
 returns-in_default c NotHeld is = omega arith
 returns-in_default c OpenReservation is = omega arith
 returns-in_default c NoReservation is = omega arith
+returns-in_default c Unsupported is = omega arith
 returns-in_default c StillStopped is = omega arith
 returns-in_default c OtherCommand is = omega arith
 returns-in_default c Exhausted is = omega arith
