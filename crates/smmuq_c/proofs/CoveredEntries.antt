@@ -1,11 +1,11 @@
 -- The entries that a command covers, told whole where there is room for them.
-use Rattle.std.proofs.Common.{◌≡◌, ◌≤◌, ◌<◌, ℕ, ◌+◌, zero, suc, List, [], ◌∷◌, ◌++◌, length, take, drop, refl, ap, sym, subst, ◌∙◌, append-nil, arith}
+use Rattle.std.proofs.Common.{◌≡◌, ℕ, List, [], ◌∷◌, ◌++◌, length, take, drop, refl, ap, sym, subst, ◌∙◌, append-nil, arith}
 use Rattle.std.proofs.lemmas.List.Sorted.{length_permutation}
 use Rattle.std.specs.FinMap as finite
 use Rattle.std.specs.List.Sorted.{IsPermutation}
 use Rattle.caches.specs.declared.tag.Entry.{Entry}
 use Rattle.caches.specs.Held.{Entries}
-use Rattle.caches.specs.Told.{AreTold, begun_with}
+use Rattle.caches.specs.Told.{AreTold}
 
 take_all : (list : List Entry) → take (length list) list ≡ list
 take_all [] = refl
@@ -23,7 +23,7 @@ whole entries old new count told fits =
     let same : length old ≡ length told.list = fits ∙ told.counted in
     subst (IsPermutation (finite.values entries))
     (sym (told.begun ∙ ap (λ n. take n told.list ++ drop (length told.list) old) same ∙ ap (λ l. l ++ drop (length told.list) old) (take_all told.list)
-        ∙ ap (λ l. told.list ++ l) (drop_all told.list old same) ∙ append-nil told.list))
+    ∙ ap (λ l. told.list ++ l) (drop_all told.list old same) ∙ append-nil told.list))
     told.all
 
 -- Two tellings of the same entries count as many.

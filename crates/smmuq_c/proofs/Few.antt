@@ -1,5 +1,5 @@
 -- An invalidation has few commands, by its policy.
-use Rattle.std.proofs.Common.{◌≡◌, ◌≤◌, ◌<◌, ℕ, ◌+◌, ◌^◌, true, false, List, [], length, Option, Some, None, Ok, Err, Result, refl, ap, subst, arith}
+use Rattle.std.proofs.Common.{◌≡◌, ◌≤◌, ℕ, ◌+◌, true, [], length, Option, Some, None, Ok, refl, ap, subst, arith}
 use Rattle.std.proofs.lemmas.Bool.{cond_both, leb-true}
 use Rattle.std.proofs.lemmas.List.{length-append}
 use Rattle.smmu_features.specs.declared.smmu.Smmu.{Smmu}
@@ -12,7 +12,7 @@ use Rattle.invalidations.specs.declared.request.Request.{Request}
 use Rattle.invalidations.specs.declared.request.Target.{Target}
 use Rattle.invalidations.specs.declared.space.Space.{Space}
 use Rattle.invalidations.specs.ByAddress.{commands_up_to, commands_by_address}
-use Rattle.invalidations.specs.Plans.{Plan, are_few, commands_for_whole, commands_of, few_or_wholly, following, none_of, plan_for, plan_of, planned, refusal_of, request_of, target_of, unless, wholly}
+use Rattle.invalidations.specs.Plans.{Plan, are_few, commands_for_whole, commands_of, following, none_of, plan_for, plan_of, planned, refusal_of, request_of, target_of, unless, wholly}
 
 one_at_most : (whole : Option Space) → length (commands_for_whole whole) ≤ 1
 one_at_most None = omega arith

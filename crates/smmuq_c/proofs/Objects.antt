@@ -1,5 +1,5 @@
 -- What a call does to a unit, a sender, an engine or a consumer, it does to the object that it is.
-use Rattle.std.proofs.Common.{◌≡◌, ℕ, [], true, false, refl, sym, ap, subst, Option, Some, None, true≢false}
+use Rattle.std.proofs.Common.{◌≡◌, ℕ, true, false, refl, sym, ap, subst, Option, Some, None, true≢false}
 use Rattle.ringcore.specs.world.Trails.{Trail}
 use Rattle.ring.specs.consumer.Completing.{taken_of}
 use Rattle.ring.specs.sender.Senders.{SenderValue}

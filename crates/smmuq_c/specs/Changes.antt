@@ -13,7 +13,6 @@ use Rattle.invalidations.specs.declared.entries.Entries.{Entries}
 use Rattle.invalidations.specs.declared.entries.Entries.TheVariants.{Any, Leaves}
 use Rattle.invalidations.specs.declared.fault.InvalidationFault.{InvalidationFault}
 use Rattle.invalidations.specs.declared.fault.InvalidationFault.TheVariants as fault
-use Rattle.invalidations.specs.declared.invalidation.ByteRange.{ByteRange}
 use Rattle.invalidations.specs.declared.invalidation.Bytes.{Bytes}
 use Rattle.invalidations.specs.declared.invalidation.Bytes.TheVariants.{Everything, Range}
 use Rattle.invalidations.specs.declared.invalidation.Invalidation.{Invalidation}

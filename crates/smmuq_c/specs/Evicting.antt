@@ -1,5 +1,5 @@
 -- Evicting all entries whose tags are of some kinds, of a stream, or of a virtual machine.
-use Rattle.std.specs.Prelude.{◌≡◌, ◌<◌, ◌+◌, ◌^◌, ℕ, Bool, Option, None, Some}
+use Rattle.std.specs.Prelude.{◌≡◌, ◌<◌, ◌^◌, ℕ, Bool, Option, None, Some}
 use Rattle.caches.specs.declared.tag.Tag.{Tag}
 use Rattle.caches.specs.declared.owner_tests.OfMachine.{OfMachine}
 use Rattle.caches.specs.Kinds.{AreKindsOf, is_of_kinds}

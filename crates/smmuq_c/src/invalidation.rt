@@ -49,12 +49,7 @@ pub extern "C" fn smmuq_invalidation(
     write_invalidation(&smmu, &change, buffer, count).number()
 }
 
-fn write_invalidation(
-    smmu: &Smmu,
-    change: &Change,
-    buffer: &mut [Raw],
-    count: &mut usize,
-) -> Status
+fn write_invalidation(smmu: &Smmu, change: &Change, buffer: &mut [Raw], count: &mut usize) -> Status
     ensures answered { HasInvalidation smmu.now change.now buffer.old buffer.new count.new result }
     ensures buffer { IsKept result buffer.old buffer.new }
     ensures count { IsCountKept result count.old count.new }

@@ -1,4 +1,4 @@
-use Rattle.std.proofs.Common.{◌≡◌, ◌+◌, length}
+use Rattle.std.proofs.Common.{◌≡◌, length}
 use Rattle.invalidations.specs.Plans.{commands_of}
 use Rattle.smmuq_c.proofs.Writing.{IsWriting}
 use Rattle.smmuq_c.proofs.invalidation.write_words.Given as goal

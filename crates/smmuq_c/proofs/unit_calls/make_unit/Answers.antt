@@ -1,4 +1,4 @@
-use Rattle.std.proofs.Common.{◌≡◌, [], Some, ap, subst, ◌∙◌}
+use Rattle.std.proofs.Common.{[], Some, ap, subst, ◌∙◌}
 use Rattle.transactions.specs.Tracking.{IsTracked}
 use Rattle.transactions.specs.TrackedQueueUnits.{TrackedQueueValue, tracked_in}
 use Rattle.smmuq_c.specs.declared.object.Object.TheVariants.{Unit as UnitOf}

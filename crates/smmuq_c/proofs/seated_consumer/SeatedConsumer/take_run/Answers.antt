@@ -2,7 +2,6 @@ use Rattle.std.proofs.Common.{rules, ◌≡◌, ◌<◌, inr, length, subst, ◌
 use Rattle.ring.specs.declared.consumer.taken.Found.{Found}
 use Rattle.ring.specs.declared.consumer.taken.Found.TheVariants.{Empty, Drained, Unwritten, Ready}
 use Rattle.ring.specs.consumer.PendingConsumers as consumers
-use Rattle.smmuq_c.specs.HeldConsumers.{HeldConsumer}
 use Rattle.smmuq_c.proofs.Taking.{looked_ahead, none_given}
 use Rattle.smmuq_c.proofs.seated_consumer.SeatedConsumer.take_run.Goals.{in-Empty, in-Drained, in-Unwritten, in-Ready}
 use Rattle.smmuq_c.proofs.seated_consumer.SeatedConsumer.take_run.Goals as goal
