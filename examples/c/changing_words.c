@@ -1,5 +1,5 @@
 /* SPDX-License-Identifier: MIT OR Apache-2.0 */
-/* Another thread changes the words of a batch and of a tag while calls read them, as a guest can whose memory a hypervisor
+/* Another thread changes the words of a batch, of a tag and of a change while calls read them, as a guest can whose memory a hypervisor
  * passes on: the words of a CMD_SYNC to a cell of nobody, and of an entry of 2^200 pages. Each word is read once, so what is
  * judged is what is used: a call does what it would do for some words, and nothing that it would refuse.
  *
@@ -13,6 +13,7 @@
 
 static volatile uint64_t words[2];
 static volatile smmuq_tag tag;
+static volatile smmuq_change changed;
 static volatile uint32_t stop;
 
 static void *change(void *nothing) {
@@ -26,6 +27,10 @@ static void *change(void *nothing) {
         tag.address = 0x1000;
         tag.span = 200;
         tag.address = 0x1001;
+        changed.vmid = 0x10000;
+        changed.length = 1;
+        changed.vmid = 1;
+        changed.length = 0x8000;
     }
     return NULL;
 }
@@ -47,6 +52,19 @@ static int walk_and_access(smmuq_unit *unit) {
     return status == SMMUQ_BAD_FIELD || status == SMMUQ_NOT_HELD;
 }
 
+/* Gets the commands for whatever change is read. Answers whether they are a page or eight, of VMID 1. */
+static int unmap(void) {
+    smmuq_command commands[8];
+    size_t count, i;
+    smmuq_status status = smmuq_invalidation(2, 0, 0, 0x10, (const smmuq_change *)&changed, commands, 8, &count);
+    if (status == SMMUQ_BAD_FIELD)
+        return 1;
+    for (i = 0; status == SMMUQ_OK && i < count; i++)
+        if (commands[i].lo != 0x0000000100000013 || commands[i].hi != (0x1000 + i * 0x1000))
+            return 0;
+    return status == SMMUQ_OK && (count == 1 || count == 8);
+}
+
 int main(int argc, char **argv) {
     smmuq_sender sender = SMMUQ_EMPTY;
     smmuq_unit unit = SMMUQ_EMPTY;
@@ -59,6 +77,12 @@ int main(int argc, char **argv) {
     pthread_t thread;
     tag.kind = SMMUQ_S1;
     tag.scope = SMMUQ_SCOPE_GLOBAL;
+    changed.kind = SMMUQ_REGION_S1;
+    changed.vmid = 1;
+    changed.tg = SMMUQ_GRANULE_4K;
+    changed.most_commands = 8;
+    changed.first = 0x1000;
+    changed.length = 1;
     if (smmuq_ring_new(4, 0xfffffffeu, 8, &sender, 1, &engine) != SMMUQ_OK || smmuq_unit_new_tracking(0, 8, 1, &unit) != SMMUQ_OK)
         return 1;
     pthread_create(&thread, NULL, change, NULL);
@@ -80,7 +104,7 @@ int main(int argc, char **argv) {
         status = smmuq_lookup(&engine.handle, (const smmuq_tag *)&tag, &held);
         if (status != SMMUQ_OK && status != SMMUQ_BAD_FIELD && status != SMMUQ_NOT_HELD)
             return 1;
-        if (!walk_and_access(&unit))
+        if (!walk_and_access(&unit) || !unmap())
             return 1;
     }
     stop = 1;

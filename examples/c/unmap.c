@@ -45,11 +45,11 @@ static smmuq_status send_all(smmuq_sender *sender, smmuq_engine *engine, const s
 }
 
 static smmuq_status unmap(smmuq_sender *sender, smmuq_engine *engine, uint32_t idr3, uint64_t first, uint64_t length) {
-    smmuq_change change = {.kind = SMMUQ_REGION_S1, .vmid = 1, .asids = SMMUQ_ASIDS_ONE, .asid = 2, .tg = SMMUQ_GRANULE_4K,
-                           .leaf = 1, .ttl = 3, .most_commands = MOST_COMMANDS, .first = first, .length = length};
     smmuq_command commands[MOST_COMMANDS + 1];
     smmuq_status status;
     size_t count;
+    smmuq_change change = {.kind = SMMUQ_REGION_S1, .vmid = 1, .asids = SMMUQ_ASIDS_ONE, .asid = 2, .tg = SMMUQ_GRANULE_4K,
+                           .leaf = 1, .ttl = 3, .most_commands = MOST_COMMANDS, .first = first, .length = length};
     status = smmuq_invalidation(IDR0, 0, idr3, IDR5, &change, commands, MOST_COMMANDS + 1, &count);
     if (status != SMMUQ_OK || !say(commands, count))
         return status;
