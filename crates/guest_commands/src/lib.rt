@@ -1,0 +1,21 @@
+//! A guest's SMMUv3 commands, converted for the host's queue.
+//!
+//! A hypervisor with nested translation takes what a guest puts into its command queue, and hands the host's queue
+//! commands that invalidate the guest's entries and nobody else's.
+#![tactic(auto)]
+
+mod conversion;
+mod ended;
+mod fault;
+mod guest;
+mod limits;
+mod reach;
+mod stream_commands;
+mod streams;
+mod tlb_commands;
+
+pub use conversion::Converted;
+pub use ended::{Ended, Stop};
+pub use fault::AttachFault;
+pub use guest::Guest;
+pub use streams::{Attachment, HostStream};
