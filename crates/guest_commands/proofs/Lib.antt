@@ -8,3 +8,4 @@ pub mod WordLemmas
 pub mod CompleteLemmas
 pub mod BatchLemmas
 pub mod AppendedLemmas
+pub mod LawLemmas

@@ -15,7 +15,7 @@ use Rattle.smmu_features.specs.declared.smmu.Smmu.{Smmu}
 use Rattle.invalidations.specs.ByAddress.{single}
 use Rattle.invalidations.specs.Plans.{has_granule}
 use Rattle.guest_commands.specs.HostCommands.{known_ttl, is_any, is_one, by_range, by_page, host_reach}
-use Rattle.guest_commands.specs.Theorems.{IsLevelOf, HasReach}
+use Rattle.guest_commands.specs.Theorems.{IsLevelOf, HasReach, granule_in}
 
 -- ---- Runs of pages.
 
@@ -75,15 +75,15 @@ known_level Kib16 Level3 = tt
 known_level Kib64 ttl = tt
 
 abbrev pub IsKept : Ttl → Ttl → Type 0
-IsKept host ttl = (host ≡ ttl) ⊎ (host ≡ AnyLevel)
+IsKept host ttl = (host ≡ AnyLevel) ⊎ (host ≡ ttl)
 
 known_kept : (tg : Granule) (ttl : Ttl) → IsKept (known_ttl tg ttl) ttl
-known_kept Kib4 ttl = inl refl
-known_kept Kib16 AnyLevel = inl refl
-known_kept Kib16 Level1 = inr refl
-known_kept Kib16 Level2 = inl refl
-known_kept Kib16 Level3 = inl refl
-known_kept Kib64 ttl = inl refl
+known_kept Kib4 ttl = inr refl
+known_kept Kib16 AnyLevel = inr refl
+known_kept Kib16 Level1 = inl refl
+known_kept Kib16 Level2 = inr refl
+known_kept Kib16 Level3 = inr refl
+known_kept Kib64 ttl = inr refl
 
 -- ---- The host's reach.
 
@@ -91,7 +91,7 @@ known_kept Kib64 ttl = inl refl
 pub record IsGoodReach (smmu : Smmu) (page : ℕ) (reach : Reach) (ttl : Ttl) (host : Reach × Ttl) : Type 0 where
   pub near : IsNear page reach host.0
   pub had : HasReach smmu host.1 host.0
-  pub kept : IsKept host.1 ttl
+  pub kept : (host.1 ≡ AnyLevel) ⊎ ((host.1 ≡ ttl) × (granule_in host.0 ≡ granule_in reach))
 
 not_zero : (num scale : ℕ) (ttl : Ttl) → (is_one num scale && is_any ttl) ≡ false → 0 < num + scale + ttl_number ttl
 not_zero zero zero AnyLevel e = cc
@@ -111,10 +111,10 @@ by_range_at : (smmu : Smmu) (page num scale : ℕ) (tg : Granule) (known ttl : T
 by_range_at smmu page num scale tg known ttl true e ranged granule level kept = record {
   near = one_is_near page num scale tg (and_parts (is_one num scale) (is_any known) e).0;
   had = single_had smmu tg ranged granule;
-  kept = inr refl;
+  kept = inl refl;
 }
 by_range_at smmu page num scale tg known ttl false e ranged granule level kept =
-    record { near = same_run _; had = (ranged, granule, level, not_zero num scale known e); kept = kept }
+    record { near = same_run _; had = (ranged, granule, level, not_zero num scale known e); kept = elim kept [ inl none ↦ inl none | inr same ↦ inr (same, refl) ] }
 
 pair_same : (x y : Reach × Ttl) → Some x ≡ Some y → x ≡ y
 pair_same x y e = cc
@@ -122,7 +122,7 @@ pair_same x y e = cc
 by_page_at : (smmu : Smmu) (page num scale : ℕ) (ttl : Ttl) (host : Reach × Ttl) (b : Bool) → is_one num scale ≡ b → cond b (Some (Page, AnyLevel)) None ≡ Some host
     → IsGoodReach smmu page (Range Kib4 num scale) ttl host
 by_page_at smmu page num scale ttl host true e is =
-    subst (IsGoodReach smmu page (Range Kib4 num scale) ttl) (pair_same (Page, AnyLevel) host is) (record { near = one_is_near page num scale Kib4 e; had = refl; kept = inr refl })
+    subst (IsGoodReach smmu page (Range Kib4 num scale) ttl) (pair_same (Page, AnyLevel) host is) (record { near = one_is_near page num scale Kib4 e; had = refl; kept = inl refl })
 by_page_at smmu page num scale ttl host false e is = cc
 
 by_page_good : (smmu : Smmu) (page num scale : ℕ) (tg : Granule) (ttl : Ttl) (host : Reach × Ttl) → by_page tg num scale ≡ Some host → IsGoodReach smmu page (Range tg num scale) ttl host
@@ -141,5 +141,5 @@ range_at smmu page num scale tg ttl host false e is = by_page_good smmu page num
 
 pub good_reach : (smmu : Smmu) (page : ℕ) (reach : Reach) (ttl : Ttl) (host : Reach × Ttl) → host_reach smmu reach ttl ≡ Some host → IsGoodReach smmu page reach ttl host
 good_reach smmu page Page ttl host is =
-    subst (IsGoodReach smmu page Page ttl) (pair_same (Page, AnyLevel) host is) (record { near = same_run _; had = refl; kept = inr refl })
+    subst (IsGoodReach smmu page Page ttl) (pair_same (Page, AnyLevel) host is) (record { near = same_run _; had = refl; kept = inl refl })
 good_reach smmu page (Range tg num scale) ttl host is = range_at smmu page num scale tg ttl host (smmu.range_invalidation && has_granule smmu tg) refl is

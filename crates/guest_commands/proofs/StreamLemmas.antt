@@ -37,7 +37,7 @@ own m stream sid rest among e = (stream.sid, stream.host, among, eqb-true sid st
 cd_good : (m : Mapping) (stream : Attachment) (sid ssid : ℕ) (leaf : Bool) → Contains m.streams stream → has_stream m.smmu stream.host.sid ≡ true → has_substream m.smmu ssid ≡ true
     → IsGoodStream m (CfgiCd sid ssid leaf) (CfgiCd stream.host.sid ssid leaf)
 cd_good m stream sid ssid leaf among had substream =
-    record { isolated = isolated; had = (had, substream); narrowed = λ ttl. record { leaf = inl refl; level = inr refl } }
+    record { isolated = isolated; had = (had, substream); narrowed = λ ttl. record { leaf = inl refl; level = inl refl } }
   where
     isolated : (tag : Tag) → covers (CfgiCd stream.host.sid ssid leaf) tag ≡ true → IsOfGuest m tag
     isolated (Cd s u) e = own m stream s (u == ssid) among e
@@ -52,7 +52,7 @@ cd_at m stream sid ssid leaf host false e among had is = cc
 -- ---- CFGI_CD_ALL
 
 cd_all_good : (m : Mapping) (stream : Attachment) (sid : ℕ) → Contains m.streams stream → has_stream m.smmu stream.host.sid ≡ true → IsGoodStream m (CfgiCdAll sid) (CfgiCdAll stream.host.sid)
-cd_all_good m stream sid among had = record { isolated = isolated; had = had; narrowed = λ ttl. record { leaf = inl refl; level = inr refl } }
+cd_all_good m stream sid among had = record { isolated = isolated; had = had; narrowed = λ ttl. record { leaf = inl refl; level = inl refl } }
   where
     isolated : (tag : Tag) → covers (CfgiCdAll stream.host.sid) tag ≡ true → IsOfGuest m tag
     isolated (Cd s u) e = (stream.sid, stream.host, among, eqb-true s stream.host.sid e)
@@ -82,29 +82,29 @@ accesses_had smmu true ssid true access is = each_at smmu access (has_substreams
 accesses_had smmu true ssid false access is = one_at smmu ssid access (has_accesses smmu (Some ssid)) refl is
 
 atc_good : (m : Mapping) (stream : Attachment) (sid : ℕ) (ssv : Bool) (ssid : ℕ) (global : Bool) (size page : ℕ) (access : ℕ × Bool) → Contains m.streams stream
-    → has_stream m.smmu stream.host.sid ≡ true → m.smmu.ats ≡ true → HasAccesses m.smmu ssv access.0 access.1
+    → stream.host.ats ≡ true → has_stream m.smmu stream.host.sid ≡ true → m.smmu.ats ≡ true → HasAccesses m.smmu ssv access.0 access.1
     → IsGoodStream m (AtcInv sid ssv ssid global size page) (AtcInv stream.host.sid ssv access.0 access.1 size page)
-atc_good m stream sid ssv ssid global size page access among had ats accesses =
-    record { isolated = isolated; had = (ats, had, accesses); narrowed = λ ttl. record { leaf = inl refl; level = inr refl } }
+atc_good m stream sid ssv ssid global size page access among own_ats had ats accesses =
+    record { isolated = isolated; had = (ats, had, accesses); narrowed = λ ttl. record { leaf = inl refl; level = inl refl } }
   where
     isolated : (tag : Tag) → covers (AtcInv stream.host.sid ssv access.0 access.1 size page) tag ≡ true → IsOfGuest m tag
-    isolated (Atc s u p n) e = own m stream s _ among e
+    isolated (Atc s u p n) e = (stream.sid, stream.host, among, eqb-true s stream.host.sid (and_parts (s == stream.host.sid) _ e).0, own_ats)
     isolated other e = cc
 
 atc_of : (m : Mapping) (stream : Attachment) (sid : ℕ) (ssv : Bool) (ssid : ℕ) (global : Bool) (size page : ℕ) (found : Option (ℕ × Bool)) (host : Command)
-    → accesses m.smmu ssv ssid global ≡ found → Contains m.streams stream → has_stream m.smmu stream.host.sid ≡ true → m.smmu.ats ≡ true
+    → accesses m.smmu ssv ssid global ≡ found → Contains m.streams stream → stream.host.ats ≡ true → has_stream m.smmu stream.host.sid ≡ true → m.smmu.ats ≡ true
     → atc_inv stream.host.sid ssv size page found ≡ Some host → IsGoodStream m (AtcInv sid ssv ssid global size page) host
-atc_of m stream sid ssv ssid global size page None host e among had ats is = cc
-atc_of m stream sid ssv ssid global size page (Some (own_ssid, own_global)) host e among had ats is =
+atc_of m stream sid ssv ssid global size page None host e among own_ats had ats is = cc
+atc_of m stream sid ssv ssid global size page (Some (own_ssid, own_global)) host e among own_ats had ats is =
     subst (IsGoodStream m (AtcInv sid ssv ssid global size page)) (some_same _ host is)
-    (atc_good m stream sid ssv ssid global size page (own_ssid, own_global) among had ats (accesses_had m.smmu ssv ssid global (own_ssid, own_global) e))
+    (atc_good m stream sid ssv ssid global size page (own_ssid, own_global) among own_ats had ats (accesses_had m.smmu ssv ssid global (own_ssid, own_global) e))
 
 atc_at : (m : Mapping) (stream : Attachment) (sid : ℕ) (ssv : Bool) (ssid : ℕ) (global : Bool) (size page : ℕ) (host : Command) (b : Bool)
     → (stream.sid == sid && (stream.host.ats && m.smmu.ats)) ≡ b → Contains m.streams stream → has_stream m.smmu stream.host.sid ≡ true
     → cond b (atc_inv stream.host.sid ssv size page (accesses m.smmu ssv ssid global)) None ≡ Some host → IsGoodStream m (AtcInv sid ssv ssid global size page) host
 atc_at m stream sid ssv ssid global size page host true e among had is =
-    let ats = (and_parts stream.host.ats m.smmu.ats (and_parts (stream.sid == sid) (stream.host.ats && m.smmu.ats) e).1).1 in
-    atc_of m stream sid ssv ssid global size page (accesses m.smmu ssv ssid global) host refl among had ats is
+    let ats = and_parts stream.host.ats m.smmu.ats (and_parts (stream.sid == sid) (stream.host.ats && m.smmu.ats) e).1 in
+    atc_of m stream sid ssv ssid global size page (accesses m.smmu ssv ssid global) host refl among ats.0 had ats.1 is
 atc_at m stream sid ssv ssid global size page host false e among had is = cc
 
 -- ---- each

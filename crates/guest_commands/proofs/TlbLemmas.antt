@@ -57,7 +57,7 @@ good_all : (m : Mapping) (command : Command) (ttl : Ttl) → Serves m → IsOfSt
 good_all m command ttl serves of = record {
   isolated = all_isolated m;
   had = (serves.stage, serves.machine);
-  narrowed = record { leaf = inr refl; level = inr refl };
+  narrowed = record { leaf = inr refl; level = inl refl };
   complete = λ tag image e is. all_covers m tag image (of tag e) is;
   kept = refl;
 }
@@ -84,7 +84,7 @@ good_nsnh : (m : Mapping) (ttl : Ttl) → Serves m → IsGood m TlbiNsnhAll ttl 
 good_nsnh m ttl serves = record {
   isolated = all_isolated m;
   had = (serves.stage, serves.machine);
-  narrowed = record { leaf = inr refl; level = inr refl };
+  narrowed = record { leaf = inr refl; level = inl refl };
   complete = covered;
   kept = refl;
 }
@@ -113,7 +113,7 @@ good_asid : (m : Mapping) (vmid asid : ℕ) (ttl : Ttl) (b : Bool) → has_asid 
 good_asid m vmid asid ttl true e serves = record {
   isolated = asid_isolated m asid;
   had = (serves.stage, serves.machine, e);
-  narrowed = record { leaf = inr refl; level = inr refl };
+  narrowed = record { leaf = inr refl; level = inl refl };
   complete = asid_covers m vmid asid;
   kept = refl;
 }

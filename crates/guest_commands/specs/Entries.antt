@@ -23,11 +23,15 @@ IsImage mapping (Atc sid ssid page span) image =
 abbrev pub IsOwnStream : Mapping → ℕ → Type 0
 IsOwnStream mapping sid = (guest : ℕ) × (host : HostStream) × IsAttached mapping guest host × (sid ≡ host.sid)
 
--- an entry of the host that is the guest's: a translation of stage 1, a context descriptor or an endpoint's entry
+-- one whose endpoint caches translations
+abbrev pub IsOwnEndpoint : Mapping → ℕ → Type 0
+IsOwnEndpoint mapping sid = (guest : ℕ) × (host : HostStream) × IsAttached mapping guest host × (sid ≡ host.sid) × (host.ats ≡ true)
+
+-- an entry of the host that is the guest's: a translation of its stage 1, or what is cached for one of its streams
 abbrev pub IsOfGuest : Mapping → Tag → Type 0
-IsOfGuest mapping (Ste sid) = ⊥
+IsOfGuest mapping (Ste sid) = IsOwnStream mapping sid
 IsOfGuest mapping (Cd sid ssid) = IsOwnStream mapping sid
 IsOfGuest mapping (S1 vmid scope page span) = vmid ≡ mapping.vmid
 IsOfGuest mapping (S2 vmid page span) = ⊥
 IsOfGuest mapping (El2 scope page span) = ⊥
-IsOfGuest mapping (Atc sid ssid page span) = IsOwnStream mapping sid
+IsOfGuest mapping (Atc sid ssid page span) = IsOwnEndpoint mapping sid

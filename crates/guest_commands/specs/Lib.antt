@@ -5,3 +5,4 @@ pub mod Entries
 pub mod Theorems
 pub mod Conversions
 pub mod Appending
+pub mod Laws

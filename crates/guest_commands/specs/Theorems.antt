@@ -79,11 +79,21 @@ leaf_of (TlbiEl2Vaa leaf page reach) = Some leaf
 leaf_of (TlbiS2Ipa vmid leaf page reach) = Some leaf
 leaf_of other = None
 
--- Leaf and TTL narrow a command of the host only as they do the guest's: they are the same there, or they aren't there, and
--- neither leaves out a table or a level.
+-- TG of a range
+abbrev pub granule_in : Reach → Option Granule
+granule_in Page = None
+granule_in (Range tg num scale) = Some tg
+
+abbrev pub granule_of : Command → Option Granule
+granule_of (TlbiNhVa vmid asid leaf page reach) = granule_in reach
+granule_of (TlbiNhVaa vmid leaf page reach) = granule_in reach
+granule_of other = None
+
+-- Leaf and TTL narrow a command of the host only as they do the guest's: they are the same there, TTL beside the same
+-- granule, or they aren't there, and leave out no table and no level.
 pub record IsNarrowedAlike (command : Command) (ttl : Ttl) (host : Command) (host_ttl : Ttl) : Type 0 where
   pub leaf : (leaf_of host ≡ leaf_of command) ⊎ (leaf_of host ≡ None)
-  pub level : (host_ttl ≡ ttl) ⊎ (host_ttl ≡ AnyLevel)
+  pub level : (host_ttl ≡ AnyLevel) ⊎ ((host_ttl ≡ ttl) × (granule_of host ≡ granule_of command))
 
 -- The words spell a command that covers this entry for a command of the guest.
 pub record Reaches (command : Command) (ttl : Ttl) (image : Tag) (raw : Raw) : Type 0 where
