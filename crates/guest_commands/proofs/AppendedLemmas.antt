@@ -1,6 +1,5 @@
 -- The host's commands for a command of the guest are appended, or don't fit.
 use Rattle.std.proofs.Common.{◌≡◌, ◌≤◌, Bool, true, false, List, [], ◌∷◌, ◌++◌, length, Some, None, refl, sym, ◌∙◌, ap, subst, arith}
-use Rattle.std.specs.Bool.{MatchBool}
 use Rattle.std.specs.List.{filter_map}
 use Rattle.cmdcodec.specs.declared.raw.Raw.{Raw}
 use Rattle.cmdcodec.specs.declared.command.Command.{Command}
@@ -11,7 +10,7 @@ use Rattle.range_hints.specs.HintedWords.{hinted_words}
 use Rattle.invalidations.specs.Reaching.{ServedWordsAreLegal}
 use Rattle.guest_commands.specs.Mappings.{Mapping, IsMapping}
 use Rattle.guest_commands.specs.HostCommands.{host_words, tlb_command, stream_words, words_or}
-use Rattle.guest_commands.specs.Appending.{AreAppended, DoNotFit, AreHostCommands, AreReached, IsAppended, DoesNotFit}
+use Rattle.guest_commands.specs.Appending.{AreAppended, DoNotFit, AreHostCommands, AreReached, IsAppended, DoesNotFit, AreTried, IsTried}
 use Rattle.guest_commands.proofs.TlbLemmas.{good_tlb}
 use Rattle.guest_commands.proofs.CompleteLemmas.{tlb_own, tlb_reached, streams_own, streams_reached}
 use Rattle.guest_commands.proofs.BatchLemmas.{few_words}
@@ -62,8 +61,7 @@ tlb_unfit m command ttl host old is_mapping is full =
     some_if m command ttl old old is_mapping (record { same = refl; many = omega arith })
 
 pub streams_tried : SpelledWordsAreLegal → ServedWordsAreLegal → (m : Mapping) (command : Command) (ttl : Ttl) (old new : List Raw) (b : Bool) → IsMapping m → tlb_command m command ttl ≡ None
-    → MatchBool b (AreAppended m.smmu command m.streams old new) (DoNotFit (filter_map (stream_words m.smmu command) m.streams) old new)
-    → MatchBool b (IsAppended m command ttl old new) (DoesNotFit m command ttl old new)
+    → AreTried m.smmu command m.streams old new b → IsTried m command ttl old new b
 streams_tried legal served m command ttl old new true is_mapping none was = streams_appended legal served m command ttl old new is_mapping none was
 streams_tried legal served m command ttl old new false is_mapping none was =
     some_if m command ttl old new is_mapping (subst (λ w. DoNotFit w old new) (sym (words_of_streams m command ttl none)) was)

@@ -9,3 +9,4 @@ pub mod CompleteLemmas
 pub mod BatchLemmas
 pub mod AppendedLemmas
 pub mod LawLemmas
+pub mod ConfigurationLemmas

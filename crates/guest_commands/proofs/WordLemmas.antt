@@ -36,7 +36,7 @@ reach_served : (smmu : Smmu) (ttl : Ttl) (reach : Reach) → HasReach smmu ttl r
 reach_served smmu ttl Page had = refl
 reach_served smmu ttl (Range tg num scale) (ranged, granule, level, some) = and_from _ _ ranged granule
 
-had_by : (smmu : Smmu) (raw : Raw) (number : ℕ) (own other : Opcode) → opcode_of raw ≡ number → opcode_named number ≡ Some own → has_command smmu own ≡ true
+pub had_by : (smmu : Smmu) (raw : Raw) (number : ℕ) (own other : Opcode) → opcode_of raw ≡ number → opcode_named number ≡ Some own → has_command smmu own ≡ true
     → opcode_named (opcode_of raw) ≡ Some other → has_command smmu other ≡ true
 had_by smmu raw number own other is named has found =
     let same : own ≡ other = let both : Some own ≡ Some other = sym named ∙ ap opcode_named (sym is) ∙ found in cc in

@@ -1,5 +1,5 @@
 -- How the host's commands are appended one by one.
-use Rattle.std.specs.Prelude.{◌≡◌, ◌<◌, ◌≤◌, ◌+◌, true, List, ◌++◌, length, All, Any, Some, None}
+use Rattle.std.specs.Prelude.{◌≡◌, ◌<◌, ◌≤◌, ◌+◌, Bool, true, false, List, ◌++◌, length, All, Any, Option, Some, None}
 use Rattle.std.specs.List.{filter_map}
 use Rattle.cmdcodec.specs.declared.raw.Raw.{Raw}
 use Rattle.cmdcodec.specs.declared.command.Command.{Command}
@@ -11,12 +11,13 @@ use Rattle.range_hints.specs.Hints.{SpellsWithHint}
 use Rattle.range_hints.specs.HintedWords.{hinted_words}
 use Rattle.smmu_features.specs.declared.smmu.Smmu.{Smmu}
 use Rattle.smmu_features.specs.Commands.{IsLegalFor}
+use Rattle.guest_commands.specs.declared.ended.Ended.{Ended}
 use Rattle.guest_commands.specs.declared.streams.Attachment.{Attachment}
 use Rattle.guest_commands.specs.Mappings.{Mapping}
 use Rattle.guest_commands.specs.HostCommands.{stream_command, stream_words, host_words}
 use Rattle.guest_commands.specs.Entries.{IsImage}
 use Rattle.guest_commands.specs.Theorems.{IsIsolated, IsSupported, Reaches, IsReachedBy}
-use Rattle.guest_commands.specs.Conversions.{stop_of, stop_for, words_for}
+use Rattle.guest_commands.specs.Conversions.{stop_of, stop_for, words_for, IsStopped}
 
 -- The words of the host's command for a stream spell it, if there is one.
 abbrev pub IsSpelledFor : Smmu → Command → Attachment → Type 0
@@ -32,6 +33,10 @@ pub record AreAppended (smmu : Smmu) (command : Command) (streams : List Attachm
 pub record DoNotFit (words old new : List Raw) : Type 0 where
   pub same : new ≡ old
   pub many : 63 < length old + length words
+
+abbrev pub AreTried : Smmu → Command → List Attachment → List Raw → List Raw → Bool → Type 0
+AreTried smmu command streams old new true = AreAppended smmu command streams old new
+AreTried smmu command streams old new false = DoNotFit (filter_map (stream_words smmu command) streams) old new
 
 -- Each of the words may be sent.
 pub record AreHostCommands (mapping : Mapping) (words : List Raw) : Type 0 where
@@ -56,6 +61,10 @@ pub record DoesNotFit (mapping : Mapping) (command : Command) (ttl : Ttl) (old n
   pub rest : DoNotFit (host_words mapping command ttl) old new
   pub some : 1 ≤ length old
 
+abbrev pub IsTried : Mapping → Command → Ttl → List Raw → List Raw → Bool → Type 0
+IsTried mapping command ttl old new true = IsAppended mapping command ttl old new
+IsTried mapping command ttl old new false = DoesNotFit mapping command ttl old new
+
 -- Words of the guest were taken, and the words of the host's commands for them appended.
 pub record IsPut (mapping : Mapping) (raw : Raw) (old new : List Raw) : Type 0 where
   pub none_stops : stop_for raw ≡ None
@@ -63,3 +72,8 @@ pub record IsPut (mapping : Mapping) (raw : Raw) (old new : List Raw) : Type 0 w
   pub few : length new ≤ 63
   pub own : AreHostCommands mapping (words_for mapping raw)
   pub reached : IsReachedBy mapping (words_for mapping raw) raw
+
+-- They were taken, or aren't for a reason, and nothing was appended.
+abbrev pub IsPutOr : Mapping → Raw → List Raw → List Raw → Option Ended → Type 0
+IsPutOr mapping raw old new None = IsPut mapping raw old new
+IsPutOr mapping raw old new (Some ended) = (new ≡ old) × IsStopped mapping (length old) raw ended

@@ -6,3 +6,4 @@ pub mod Theorems
 pub mod Conversions
 pub mod Appending
 pub mod Laws
+pub mod Configurations

@@ -15,6 +15,9 @@ pub record Mapping : Type 0 where
   pub smmu : Smmu
   pub streams : List Attachment
 
+abbrev pub without_streams : ℕ → Smmu → Mapping
+without_streams vmid smmu = record { vmid = vmid; smmu = smmu; streams = [] }
+
 -- The guest's stream is this one of the host, or it is one of several that it is.
 abbrev pub IsAttached : Mapping → ℕ → HostStream → Type 0
 IsAttached mapping sid host = Contains mapping.streams (record { sid = sid; host = host })
@@ -45,8 +48,8 @@ abbrev pub detached : Mapping → ℕ → Mapping
 detached mapping sid = record mapping { streams = filter (λ stream. not (stream.sid == sid)) mapping.streams }
 
 -- why this stream of the host can't be attached to this one of the guest, if so
-abbrev pub attach_refusal : Mapping → ℕ → ℕ → Option AttachFault
-attach_refusal mapping sid host =
+abbrev pub refusal : Mapping → ℕ → ℕ → Option AttachFault
+refusal mapping sid host =
     if not (has_stream mapping.smmu host) then Some OutOfRange
     else if is_used mapping host then Some Used
     else if length (attached_to mapping.streams sid) == 63 then Some Full

@@ -1,10 +1,9 @@
 //! Converts a beginning of a guest's commands into the body of a batch.
-ghost use Rattle.std.specs.Prelude.{◌≡◌, ◌≤◌, All, length, take, MatchBool, MatchOption};
-ghost use Rattle.std.specs.List.{filter_map};
+ghost use Rattle.std.specs.Prelude.{◌≡◌, ◌≤◌, All, length, take};
 ghost use Rattle.cmdcodec.specs.Bodies.{IsBody};
 ghost use Rattle.smmu_features.specs.Commands.{IsLegalFor};
-ghost use Rattle.guest_commands.specs.Appending.{IsSpelledFor, AreAppended, DoNotFit, IsAppended, DoesNotFit, IsPut};
-ghost use Rattle.guest_commands.specs.Conversions.{stop_of, IsStopped, IsConverted};
+ghost use Rattle.guest_commands.specs.Appending.{IsSpelledFor, AreTried, IsTried, IsPutOr};
+ghost use Rattle.guest_commands.specs.Conversions.{stop_of, IsConverted};
 ghost use Rattle.guest_commands.specs.HostCommands.{stream_words};
 ghost use Rattle.guest_commands.specs.Theorems.{IsIsolated, IsSupported, IsReachedBy};
 
@@ -107,7 +106,7 @@ fn append_of_streams(
     streams: &[Attachment],
     body: &mut Body,
 ) -> bool
-    ensures { MatchBool result (AreAppended smmu.now command.now streams.now body.old.items body.new.items) (DoNotFit (filter_map (stream_words smmu.now command.now) streams.now) body.old.items body.new.items) }
+    ensures { AreTried smmu.now command.now streams.now body.old.items body.new.items result }
 {
     let before = body.len();
     for stream in streams {
@@ -125,7 +124,7 @@ fn append_of_streams(
 impl Guest {
     /// Appends the host's commands for a command of the guest, and returns whether they fit.
     fn append(&self, command: &Command, ttl: Ttl, body: &mut Body) -> bool
-        ensures { MatchBool result (IsAppended self.now command.now ttl body.old.items body.new.items) (DoesNotFit self.now command.now ttl body.old.items body.new.items) }
+        ensures { IsTried self.now command.now ttl body.old.items body.new.items result }
     {
         legal_words_spell_one_command();
         served_words_are_legal();
@@ -144,7 +143,7 @@ impl Guest {
 
     /// Converts a command and appends the host's, or returns why it isn't taken.
     fn put(&self, raw: Raw, body: &mut Body) -> Option<Ended>
-        ensures { MatchOption result (IsPut self.now raw body.old.items body.new.items) (λ ended. (body.new.items ≡ body.old.items) × IsStopped self.now (length body.old.items) raw ended) }
+        ensures { IsPutOr self.now raw body.old.items body.new.items result }
     {
         legal_words_spell_one_command();
         let (command, ttl) = match decode_with_hint(raw) {

@@ -1,9 +1,8 @@
 //! What a guest's numbers stand for on the host.
-ghost use Rattle.std.specs.Prelude.{◌≡◌, OnOk, OnErr, IfErr, Ok, Err, Some, None, [], true, length};
+ghost use Rattle.std.specs.Prelude.{◌≡◌, OnOk, OnErr, IfSome, IfNone, IsOkUnless, Err, true, length};
 ghost use Rattle.std.specs.Option.{SomeIff};
-ghost use Rattle.guest_commands.specs.declared.fault.AttachFault.{AttachFault as Fault};
 ghost use Rattle.guest_commands.specs.Limits.{has_vmid};
-ghost use Rattle.guest_commands.specs.Mappings.{is_used, attached_to, attached, detached, attach_refusal, IsMapping};
+ghost use Rattle.guest_commands.specs.Mappings.{is_used, attached_to, attached, detached, without_streams, refusal, IsMapping};
 
 use crate::fault::AttachFault;
 use crate::limits::{has_stream, has_vmid};
@@ -36,7 +35,7 @@ impl Guest {
     /// Returns a guest without streams on a host with this SMMU, or `None` if the SMMU doesn't have the VMID
     /// (SMMU_IDR0.VMID16).
     pub fn new(alloc: Global, vmid: Vmid, smmu: Smmu) -> Option<Guest>
-        ensures { SomeIff result (has_vmid smmu vmid ≡ true) (record { vmid = vmid; smmu = smmu; streams = [] }) }
+        ensures { SomeIff result (has_vmid smmu vmid ≡ true) (without_streams vmid smmu) }
     {
         if !has_vmid(&smmu, vmid) {
             return None;
@@ -82,8 +81,8 @@ impl Guest {
     pub fn attach(&mut self, sid: Sid, host: HostStream) -> Result<(), AttachFault>
         ensures ok { OnOk result (self.new ≡ attached self.old sid host) }
         ensures err { OnErr result (self.new ≡ self.old) }
-        ensures fault { (fault : Fault) → attach_refusal self.old sid host.sid ≡ Some fault → result ≡ Err fault }
-        ensures memory { attach_refusal self.old sid host.sid ≡ None → IfErr result (λ fault. fault ≡ AttachFault.NoMemory) }
+        ensures fault { IfSome (refusal self.old sid host.sid) (λ fault. result ≡ Err fault) }
+        ensures memory { IfNone (refusal self.old sid host.sid) (IsOkUnless result AttachFault.NoMemory) }
     {
         if !has_stream(&self.smmu, host.sid) {
             return Err(AttachFault::OutOfRange);

@@ -4,6 +4,7 @@
 //! commands that invalidate the guest's entries and nobody else's.
 #![tactic(auto)]
 
+mod configuration;
 mod conversion;
 mod ended;
 mod fault;
@@ -15,6 +16,7 @@ mod stream_commands;
 mod streams;
 mod tlb_commands;
 
+pub use configuration::Configuration;
 pub use conversion::Converted;
 pub use ended::{Ended, Stop};
 pub use fault::AttachFault;

@@ -1,11 +1,8 @@
 use Rattle.std.proofs.Common.{List, length, sym, subst}
-use Rattle.std.specs.Bool.{MatchBool}
-use Rattle.std.specs.List.{filter_map}
 use Rattle.std.proofs.lemmas.Bool.{eqb-true}
 use Rattle.smmu_features.specs.declared.smmu.Smmu.{Smmu}
 use Rattle.guest_commands.specs.declared.streams.Attachment.{Attachment}
-use Rattle.guest_commands.specs.HostCommands.{stream_words}
-use Rattle.guest_commands.specs.Appending.{AreAppended, DoNotFit}
+use Rattle.guest_commands.specs.Appending.{AreTried}
 use Rattle.guest_commands.proofs.AppendLemmas.{few_more}
 use Rattle.guest_commands.proofs.AppendedLemmas.{tlb_appended, tlb_unfit, streams_tried}
 use Rattle.guest_commands.proofs.guest.Guest.append.Goals as goal
@@ -23,8 +20,8 @@ returns-in-None c =
     let new = c.append_of_streams.new.body.items in
     let result = c.append_of_streams.result in
     let tried =
-    subst (λ (smmu : Smmu). MatchBool result (AreAppended smmu command m.streams old new) (DoNotFit (filter_map (stream_words smmu command) m.streams) old new)) c.smmu.ensures
-    (subst (λ (streams : List Attachment). MatchBool result (AreAppended c.smmu.result.now command streams old new) (DoNotFit (filter_map (stream_words c.smmu.result.now command) streams) old new))
+    subst (λ (smmu : Smmu). AreTried smmu command m.streams old new result) c.smmu.ensures
+    (subst (λ (streams : List Attachment). AreTried c.smmu.result.now command streams old new result)
     c.streams-streams.ensures.value c.append_of_streams.ensures) in
     streams_tried c.legal_words_spell_one_command.ensures.legal c.served_words_are_legal.ensures m command c.args.ttl old new result c.streams-streams.ensures.mapping (sym c.in-None.ensures) tried
 
