@@ -77,7 +77,7 @@ one_at smmu ssid access true e is = subst (λ (a : ℕ × Bool). HasAccesses smm
 one_at smmu ssid access false e is = cc
 
 accesses_had : (smmu : Smmu) (ssv : Bool) (ssid : ℕ) (global : Bool) (access : ℕ × Bool) → accesses smmu ssv ssid global ≡ Some access → HasAccesses smmu ssv access.0 access.1
-accesses_had smmu false ssid global access is = subst (λ (a : ℕ × Bool). HasAccesses smmu false a.0 a.1) (access_same (0, false) access is) refl
+accesses_had smmu false ssid global access is = subst (λ (a : ℕ × Bool). HasAccesses smmu false a.0 a.1) (access_same (0, false) access is) (refl, refl)
 accesses_had smmu true ssid true access is = each_at smmu access (has_substreams smmu) refl is
 accesses_had smmu true ssid false access is = one_at smmu ssid access (has_accesses smmu (Some ssid)) refl is
 

@@ -41,9 +41,9 @@ HasReach smmu ttl Page = ttl ≡ AnyLevel
 HasReach smmu ttl (Range tg num scale) =
     (smmu.range_invalidation ≡ true) × (has_granule smmu tg ≡ true) × IsLevelOf tg ttl × (0 < num + scale + ttl_number ttl)
 
--- the SubstreamID of CMD_ATC_INV with this SSV and Global
+-- SubstreamID and Global of CMD_ATC_INV with this SSV: 0 where they mean nothing
 abbrev pub HasAccesses : Smmu → Bool → ℕ → Bool → Type 0
-HasAccesses smmu false ssid global = ssid ≡ 0
+HasAccesses smmu false ssid global = (ssid ≡ 0) × (global ≡ false)
 HasAccesses smmu true ssid true = (ssid ≡ 0) × (has_substreams smmu ≡ true)
 HasAccesses smmu true ssid false = (has_substreams smmu ≡ true) × (has_substream smmu ssid ≡ true)
 
