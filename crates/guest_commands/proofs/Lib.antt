@@ -1,0 +1,12 @@
+pub mod LimitLemmas
+pub mod MappingLemmas
+pub mod ReachLemmas
+pub mod TlbLemmas
+pub mod StreamLemmas
+pub mod AppendLemmas
+pub mod WordLemmas
+pub mod CompleteLemmas
+pub mod BatchLemmas
+pub mod AppendedLemmas
+pub mod LawLemmas
+pub mod ConfigurationLemmas

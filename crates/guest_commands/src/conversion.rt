@@ -1,0 +1,191 @@
+//! Converts a beginning of a guest's commands into the body of a batch.
+ghost use Rattle.std.specs.Prelude.{◌≡◌, ◌≤◌, All, length, take};
+ghost use Rattle.cmdcodec.specs.Bodies.{IsBody};
+ghost use Rattle.smmu_features.specs.Commands.{IsLegalFor};
+ghost use Rattle.guest_commands.specs.Appending.{IsSpelledFor, AreTried, IsTried, IsPutOr};
+ghost use Rattle.guest_commands.specs.Conversions.{stop_of, IsConverted};
+ghost use Rattle.guest_commands.specs.HostCommands.{stream_words};
+ghost use Rattle.guest_commands.specs.Theorems.{IsIsolated, IsSupported, IsReachedBy};
+
+use crate::ended::{Ended, Stop};
+use crate::guest::Guest;
+use crate::stream_commands::stream_command;
+use crate::streams::Attachment;
+use cmdcodec::{Command, Opcode, Raw, legal_words_spell_one_command};
+use invalidations::{Body, served_words_are_legal};
+use range_hints::{Ttl, decode_with_hint, encode_with_hint};
+use smmu_features::Smmu;
+use std::marker::Model;
+
+/// The host's commands for a beginning of a guest's. They borrow the guest: no stream is attached or detached before they
+/// are sent or let go.
+#[derive(Drop)]
+pub struct Converted<'g> {
+    guest: &'g Guest,
+    commands: Body,
+    taken: usize,
+    ended: Ended,
+}
+
+impl<'g> Model for Converted<'g> {
+    ghost use Rattle.guest_commands.specs.Conversions.{Conversion};
+
+    ghost Value = { Conversion };
+
+    ghost view = { λ c. record { guest = c.guest.now; commands = c.commands.items; taken = c.taken; ended = c.ended } };
+}
+
+impl<'g> Converted<'g> {
+    /// Returns the guest whose commands they are.
+    pub fn guest(&self) -> &'g Guest
+        ensures { result.now ≡ self.now.guest }
+    {
+        self.guest
+    }
+
+    /// Returns the host's commands, at most 63, in the guest's order.
+    pub fn commands(&self) -> &[Raw]
+        ensures { result.now ≡ self.now.commands }
+    {
+        self.commands.as_slice()
+    }
+
+    /// Returns how many of the guest's commands they are for.
+    pub fn taken(&self) -> usize
+        ensures { result ≡ self.now.taken }
+    {
+        self.taken
+    }
+
+    /// Returns why no more of the guest's commands were taken.
+    pub fn ended(&self) -> Ended
+        ensures { result ≡ self.now.ended }
+    {
+        self.ended
+    }
+}
+
+/// Returns why a command of a guest isn't taken, or `None` for one that is.
+fn stop_of(command: &Command) -> Option<Stop>
+    ensures { result ≡ stop_of command.now }
+{
+    match *command {
+        Command::CfgiSte { .. } | Command::CfgiSteRange { .. } => Some(Stop::Configure(*command)),
+        Command::CmdSync { .. } => Some(Stop::Sync),
+        Command::Kept(kept) => match kept.get().opcode() {
+            Some(Opcode::PrefetchConfig | Opcode::PrefetchAddr) => None,
+            _ => Some(Stop::Refused),
+        },
+        Command::CfgiCd { .. }
+        | Command::CfgiCdAll { .. }
+        | Command::TlbiNhAll { .. }
+        | Command::TlbiNhAsid { .. }
+        | Command::TlbiNhVa { .. }
+        | Command::TlbiNhVaa { .. }
+        | Command::TlbiNsnhAll
+        | Command::AtcInv { .. } => None,
+        _ => Some(Stop::Refused),
+    }
+}
+
+/// The words of the host's command for one of its streams, if the guest's command is of that.
+fn stream_words(smmu: &Smmu, command: &Command, stream: &Attachment) -> Option<Raw>
+    ensures value { result ≡ stream_words smmu.now command.now stream.now }
+    ensures spelled { IsSpelledFor smmu.now command.now stream.now }
+{
+    match stream_command(smmu, command, stream) {
+        None => None,
+        Some(host) => Some(encode_with_hint(&host, Ttl::AnyLevel)),
+    }
+}
+
+/// Appends the host's commands for each of its streams that the guest's command is of, and returns whether they fit.
+fn append_of_streams(
+    smmu: &Smmu,
+    command: &Command,
+    streams: &[Attachment],
+    body: &mut Body,
+) -> bool
+    ensures { AreTried smmu.now command.now streams.now body.old.items body.new.items result }
+{
+    let before = body.len();
+    for stream in streams {
+        if let Some(words) = stream_words(smmu, command, stream) {
+            if body.is_full() {
+                body.truncate(before);
+                return false;
+            }
+            body.push(words);
+        }
+    }
+    true
+}
+
+impl Guest {
+    /// Appends the host's commands for a command of the guest, and returns whether they fit.
+    fn append(&self, command: &Command, ttl: Ttl, body: &mut Body) -> bool
+        ensures { IsTried self.now command.now ttl body.old.items body.new.items result }
+    {
+        legal_words_spell_one_command();
+        served_words_are_legal();
+        let streams = self.streams();
+        match self.tlb_command(command, ttl) {
+            None => append_of_streams(self.smmu(), command, streams, body),
+            Some((host, ttl)) => {
+                if body.is_full() {
+                    return false;
+                }
+                body.push(encode_with_hint(&host, ttl));
+                true
+            }
+        }
+    }
+
+    /// Converts a command and appends the host's, or returns why it isn't taken.
+    fn put(&self, raw: Raw, body: &mut Body) -> Option<Ended>
+        ensures { IsPutOr self.now raw body.old.items body.new.items result }
+    {
+        legal_words_spell_one_command();
+        let (command, ttl) = match decode_with_hint(raw) {
+            Ok(hinted) => hinted,
+            Err(ill) => return Some(Ended::At(Stop::Illegal(ill))),
+        };
+        if let Some(stop) = stop_of(&command) {
+            return Some(Ended::At(stop));
+        }
+        if self.append(&command, ttl, body) {
+            None
+        } else {
+            Some(Ended::Full)
+        }
+    }
+
+    /// Converts as many of the guest's commands from the first on as it can.
+    pub fn convert_all(&self, raws: &[Raw]) -> Converted<'_>
+        ensures converted { IsConverted self.now raws.now result }
+        ensures legal { All (IsLegalFor self.now.smmu) result.commands }
+        ensures isolated { All (IsIsolated self.now) result.commands }
+        ensures supported { All (IsSupported self.now.smmu) result.commands }
+        ensures complete { All (IsReachedBy self.now result.commands) (take result.taken raws.now) }
+        ensures body { 1 ≤ length result.commands → IsBody result.commands }
+        ensures moves_on { result.ended ≡ Ended.Full → 1 ≤ length result.commands }
+    {
+        let mut body = Body::new();
+        for (taken, raw) in raws.iter().enumerate() {
+            if let Some(ended) = self.put(*raw, &mut body) {
+                return Converted {
+                    guest: self,
+                    commands: body,
+                    taken,
+                    ended,
+                };
+            }
+        }
+        Converted {
+            guest: self,
+            commands: body,
+            taken: raws.len(),
+            ended: Ended::End,
+        }
+    }
+}
