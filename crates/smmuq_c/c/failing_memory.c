@@ -175,6 +175,32 @@ static uint32_t covered_without_room(struct handles *handles) {
     return smmuq_covered(&handles->unit.handle, TLBI_NSNH_ALL.lo, TLBI_NSNH_ALL.hi, &none, 0, &count);
 }
 
+static uint32_t guest_new(struct handles *handles) {
+    smmuq_guest guest = SMMUQ_EMPTY;
+    uint32_t status = smmuq_guest_new(0x21, 0x41403, 0x210, 0x400, 0x70, &guest);
+    (void)handles;
+    smmuq_free(&guest.handle);
+    return status;
+}
+
+// A guest whose stream is one of the host's. If that one isn't attached, the guest converts nothing of it.
+static uint32_t guest_attach(struct handles *handles) {
+    static const smmuq_command cfgi_cd_all = {3ull << 32 | SMMUQ_OPCODE_CFGI_CD_ALL, 0};
+    smmuq_guest guest = SMMUQ_EMPTY;
+    smmuq_command buffer[63];
+    smmuq_converted converted;
+    uint32_t attached, status = smmuq_guest_new(0x21, 0x41403, 0x210, 0x400, 0x70, &guest);
+    (void)handles;
+    if (status != SMMUQ_OK)
+        return status;
+    attached = smmuq_guest_attach(&guest, 3, 0x103, 1);
+    status = smmuq_guest_convert(&guest, &cfgi_cd_all, 1, buffer, 63, &converted);
+    if (status == SMMUQ_OK && converted.made != (attached == SMMUQ_OK))
+        status = SMMUQ_BAD_FIELD;
+    smmuq_free(&guest.handle);
+    return status != SMMUQ_OK ? status : attached;
+}
+
 static uint32_t text(struct handles *handles) {
     char room[160];
     size_t length;
@@ -312,6 +338,8 @@ static const struct {
     {"smmuq_entries", entries, SMMUQ_OK, {SMMUQ_CACHES_NO_MEMORY}},
     {"smmuq_covered", covered, SMMUQ_OK, {SMMUQ_CACHES_NO_MEMORY}},
     {"smmuq_covered without room", covered_without_room, SMMUQ_SHORT_BUFFER, {0}},
+    {"smmuq_guest_new", guest_new, SMMUQ_OK, {SMMUQ_NO_MEMORY}},
+    {"smmuq_guest_attach and smmuq_guest_convert", guest_attach, SMMUQ_OK, {SMMUQ_NO_MEMORY, SMMUQ_GUEST_NO_MEMORY}},
     {"smmuq_evict_all", evict_all, SMMUQ_OK, {SMMUQ_CACHES_NO_MEMORY}},
     {"smmuq_text", text, SMMUQ_OK, {SMMUQ_NO_MEMORY}},
     {"smmuq_status_text", status_text, SMMUQ_OK, {0}},

@@ -15,7 +15,7 @@ use Rattle.smmuq_c.specs.HeldConsumers.{HeldConsumer}
 use Rattle.smmuq_c.specs.declared.status.Status.{Status}
 use Rattle.smmuq_c.specs.declared.status.Status.TheVariants.{WrongHandle, BadField}
 use Rattle.smmuq_c.specs.declared.object.Object.{Object}
-use Rattle.smmuq_c.specs.declared.object.Object.TheVariants.{Unit as UnitOf, Sender as SenderOf, Reservation as ReservationOf, Engine as EngineOf, Consumer as ConsumerOf}
+use Rattle.smmuq_c.specs.declared.object.Object.TheVariants.{Unit as UnitOf, Sender as SenderOf, Reservation as ReservationOf, Engine as EngineOf, Consumer as ConsumerOf, Guest as GuestOf}
 use Rattle.smmuq_c.specs.Registers.{HasAcknowledged, HasAcknowledgedQueue, IsRemedyOf}
 use Rattle.smmuq_c.specs.Kept.{has_unit, unit_in, IsSettledObject}
 use Rattle.smmuq_c.proofs.Unchanged.{takes_none}
@@ -92,6 +92,7 @@ said_to_another said does (SenderOf s) none = (refl, refl)
 said_to_another said does (ReservationOf r) none = (refl, refl)
 said_to_another said does (EngineOf e) none = absurd (true≢false none)
 said_to_another said does (ConsumerOf c) none = (refl, refl)
+said_to_another said does (GuestOf g) none = (refl, refl)
 
 -- if the words say nothing
 pub unsaid : {X : Type 0} (said : Option X → Type 0) (does : X → Object → Object → Status → Type 0) (object : Object)
@@ -101,6 +102,7 @@ unsaid said does (SenderOf s) has none = absurd (true≢false (sym has))
 unsaid said does (ReservationOf r) has none = absurd (true≢false (sym has))
 unsaid said does (EngineOf e) has none = (None, none, (refl, refl))
 unsaid said does (ConsumerOf c) has none = absurd (true≢false (sym has))
+unsaid said does (GuestOf g) has none = absurd (true≢false (sym has))
 
 -- ---- a stop that is acknowledged
 
@@ -132,6 +134,7 @@ read_unit does (SenderOf s) unit is settled done = absurd (cc)
 read_unit does (ReservationOf r) unit is settled done = absurd (cc)
 read_unit does (EngineOf e) unit {status} is settled done = (e.unit, refl, settled, subst (λ (u : UnitValue). does u u status) (sym (same_unit e.unit unit is)) done)
 read_unit does (ConsumerOf c) unit is settled done = absurd (cc)
+read_unit does (GuestOf g) unit is settled done = absurd (cc)
 
 -- one without a unit is of another kind
 pub read_of_another : (does : UnitValue → UnitValue → Status → Type 0) (object : Object) → has_unit object ≡ false → OfAnyUnit does object object WrongHandle
@@ -140,6 +143,7 @@ read_of_another does (SenderOf s) none = (refl, refl)
 read_of_another does (ReservationOf r) none = (refl, refl)
 read_of_another does (EngineOf e) none = absurd (true≢false none)
 read_of_another does (ConsumerOf c) none = (refl, refl)
+read_of_another does (GuestOf g) none = (refl, refl)
 
 pub has_one : (object : Object) (unit : UnitValue) → unit_in object ≡ Some unit → has_unit object ≡ true
 has_one (UnitOf q) unit is = refl
@@ -147,6 +151,7 @@ has_one (SenderOf s) unit is = absurd (cc)
 has_one (ReservationOf r) unit is = absurd (cc)
 has_one (EngineOf e) unit is = refl
 has_one (ConsumerOf c) unit is = absurd (cc)
+has_one (GuestOf g) unit is = absurd (cc)
 
 -- what is done to a unit or an engine by what words say
 pub said_any : {X : Type 0} (said : Option X → Type 0) (does : X → UnitValue → UnitValue → Status → Type 0) (object new : Object) (status : Status) (x : X)
@@ -156,6 +161,7 @@ said_any said does (SenderOf s) new status x has says done = absurd (true≢fals
 said_any said does (ReservationOf r) new status x has says done = absurd (true≢false (sym has))
 said_any said does (EngineOf e) new status x has says done = (Some x, says, done)
 said_any said does (ConsumerOf c) new status x has says done = absurd (true≢false (sym has))
+said_any said does (GuestOf g) new status x has says done = absurd (true≢false (sym has))
 
 pub said_read : {X : Type 0} (said : Option X → Type 0) (does : X → UnitValue → UnitValue → Status → Type 0) (object : Object) (unit : UnitValue) (status : Status) (x : X)
     → unit_in object ≡ Some unit → IsSettledObject object → said (Some x) → does x unit unit status → OfSaid said does object object status

@@ -6,8 +6,9 @@ use Rattle.batch.specs.declared.fault.BatchFault.TheVariants as batch
 use Rattle.ring.specs.declared.sender.cause.Cause.TheVariants as cause
 use Rattle.ringcore.specs.declared.ring_fault.RingFault.TheVariants as ring
 use Rattle.engine.specs.declared.remedy.AckFault.TheVariants.{NoError, OtherBit}
+use Rattle.guest_commands.specs.declared.fault.AttachFault.TheVariants as attach
 use Rattle.smmuq_c.specs.declared.status.Status.{Status}
-use Rattle.smmuq_c.specs.declared.status.Status.TheVariants.{Done, Illegal, Cache, Batch, Refused, Waiting, Ring, Acknowledgement, EmptyHandle, WrongHandle, BadField, ShortBuffer, NoMemory, NotHeld, OpenReservation, NoReservation, StillStopped, OtherCommand, Exhausted, RingEmpty, RingDrained, RingUnwritten, Replaced, SyncWaiting, Overtaken, TooOld, OtherWalk, TransactionsFull, NotOutstanding, Unsupported}
+use Rattle.smmuq_c.specs.declared.status.Status.TheVariants.{Done, Illegal, Cache, Batch, Refused, Waiting, Ring, Acknowledgement, Attachment, EmptyHandle, WrongHandle, BadField, ShortBuffer, NoMemory, NotHeld, OpenReservation, NoReservation, StillStopped, OtherCommand, Exhausted, RingEmpty, RingDrained, RingUnwritten, Replaced, SyncWaiting, Overtaken, TooOld, OtherWalk, TransactionsFull, NotOutstanding, Unsupported}
 use Rattle.smmuq_c.specs.Statuses.{number_of}
 use Rattle.smmuq_c.specs.Texts.{IsCopied}
 
@@ -39,6 +40,10 @@ words_of (Ring ring.Batches) = codes "N3: a sender may reserve no batch"
 words_of (Ring (ring.Memory error)) = codes "N4: out of memory"
 words_of (Acknowledgement NoError) = codes "G1: no error is active"
 words_of (Acknowledgement OtherBit) = codes "G2: CMDQ_ERR isn't that of SMMU_GERROR"
+words_of (Attachment attach.OutOfRange) = codes "V1: the host's SMMU doesn't have this stream"
+words_of (Attachment attach.Used) = codes "V2: the host's stream is in use already"
+words_of (Attachment attach.Full) = codes "V3: the guest's stream is 63 streams already"
+words_of (Attachment attach.NoMemory) = codes "V4: out of memory"
 words_of EmptyHandle = codes "the handle is empty"
 words_of WrongHandle = codes "the handle is of another kind"
 words_of BadField = codes "a field is out of range"

@@ -12,8 +12,10 @@ use Rattle.ringcore.specs.declared.ring_fault.RingFault.{RingFault}
 use Rattle.ringcore.specs.declared.ring_fault.RingFault.TheVariants as ring
 use Rattle.engine.specs.declared.remedy.AckFault.{AckFault}
 use Rattle.engine.specs.declared.remedy.AckFault.TheVariants.{NoError, OtherBit}
+use Rattle.guest_commands.specs.declared.fault.AttachFault.{AttachFault}
+use Rattle.guest_commands.specs.declared.fault.AttachFault.TheVariants as attach
 use Rattle.smmuq_c.specs.declared.status.Status.{Status}
-use Rattle.smmuq_c.specs.declared.status.Status.TheVariants.{Done, Illegal, Cache, Batch, Refused, Waiting, Ring, Acknowledgement, EmptyHandle, WrongHandle, BadField, ShortBuffer, NoMemory, NotHeld, OpenReservation, NoReservation, StillStopped, OtherCommand, Exhausted, RingEmpty, RingDrained, RingUnwritten, Replaced, SyncWaiting, Overtaken, TooOld, OtherWalk, TransactionsFull, NotOutstanding, Unsupported}
+use Rattle.smmuq_c.specs.declared.status.Status.TheVariants.{Done, Illegal, Cache, Batch, Refused, Waiting, Ring, Acknowledgement, Attachment, EmptyHandle, WrongHandle, BadField, ShortBuffer, NoMemory, NotHeld, OpenReservation, NoReservation, StillStopped, OtherCommand, Exhausted, RingEmpty, RingDrained, RingUnwritten, Replaced, SyncWaiting, Overtaken, TooOld, OtherWalk, TransactionsFull, NotOutstanding, Unsupported}
 
 abbrev pub ill_number : Ill → ℕ
 ill_number UnknownOpcode = 1
@@ -51,6 +53,12 @@ abbrev pub acknowledgement_number : AckFault → ℕ
 acknowledgement_number NoError = 0x51
 acknowledgement_number OtherBit = 0x52
 
+abbrev pub attachment_number : AttachFault → ℕ
+attachment_number attach.OutOfRange = 0x81
+attachment_number attach.Used = 0x82
+attachment_number attach.Full = 0x83
+attachment_number attach.NoMemory = 0x84
+
 abbrev pub number_of : Status → ℕ
 number_of Done = 0
 number_of (Illegal ill) = ill_number ill
@@ -60,6 +68,7 @@ number_of (Refused cause) = cause_number cause
 number_of Waiting = 0x36
 number_of (Ring fault) = ring_number fault
 number_of (Acknowledgement fault) = acknowledgement_number fault
+number_of (Attachment fault) = attachment_number fault
 number_of EmptyHandle = 0x60
 number_of WrongHandle = 0x61
 number_of BadField = 0x62

@@ -36,8 +36,11 @@ fn take_run(object: &mut Object, buffer: &mut [Raw], count: &mut usize) -> Statu
 {
     match object {
         Object::Consumer(consumer) => consumer.take_run(buffer, count),
-        Object::Unit(_) | Object::Sender(_) | Object::Reservation(_) | Object::Engine(_) =>
-            Status::WrongHandle,
+        Object::Unit(_)
+        | Object::Sender(_)
+        | Object::Reservation(_)
+        | Object::Engine(_)
+        | Object::Guest(_) => Status::WrongHandle,
     }
 }
 
@@ -60,7 +63,10 @@ fn complete(object: &mut Object, count: usize) -> Status
 {
     match object {
         Object::Consumer(consumer) => consumer.complete(count),
-        Object::Unit(_) | Object::Sender(_) | Object::Reservation(_) | Object::Engine(_) =>
-            Status::WrongHandle,
+        Object::Unit(_)
+        | Object::Sender(_)
+        | Object::Reservation(_)
+        | Object::Engine(_)
+        | Object::Guest(_) => Status::WrongHandle,
     }
 }

@@ -31,8 +31,11 @@ fn run(object: &mut Object, most: u32, answer: &mut RunWords) -> Status
 {
     match object {
         Object::Engine(engine) => engine.run(most, answer),
-        Object::Unit(_) | Object::Sender(_) | Object::Reservation(_) | Object::Consumer(_) =>
-            Status::WrongHandle,
+        Object::Unit(_)
+        | Object::Sender(_)
+        | Object::Reservation(_)
+        | Object::Consumer(_)
+        | Object::Guest(_) => Status::WrongHandle,
     }
 }
 
@@ -73,8 +76,11 @@ fn run_completions(
 {
     match object {
         Object::Engine(engine) => engine.run_completions(most, answer, buffer, count),
-        Object::Unit(_) | Object::Sender(_) | Object::Reservation(_) | Object::Consumer(_) =>
-            Status::WrongHandle,
+        Object::Unit(_)
+        | Object::Sender(_)
+        | Object::Reservation(_)
+        | Object::Consumer(_)
+        | Object::Guest(_) => Status::WrongHandle,
     }
 }
 
@@ -96,7 +102,10 @@ fn tell_registers(object: &mut Object, told: &mut RegisterWords) -> Status
 {
     match object {
         Object::Engine(engine) => engine.registers(told),
-        Object::Unit(_) | Object::Sender(_) | Object::Reservation(_) | Object::Consumer(_) =>
-            Status::WrongHandle,
+        Object::Unit(_)
+        | Object::Sender(_)
+        | Object::Reservation(_)
+        | Object::Consumer(_)
+        | Object::Guest(_) => Status::WrongHandle,
     }
 }

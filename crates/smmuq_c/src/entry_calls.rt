@@ -36,7 +36,8 @@ fn fill(object: &mut Object, tag: &TagWords, value: u64) -> Status
     match object {
         Object::Unit(unit) => fill_status(unit.fill(tag, value)),
         Object::Engine(seated) => seated.fill(tag, value),
-        Object::Sender(_) | Object::Reservation(_) | Object::Consumer(_) => Status::WrongHandle,
+        Object::Sender(_) | Object::Reservation(_) | Object::Consumer(_) | Object::Guest(_) =>
+            Status::WrongHandle,
     }
 }
 
@@ -93,7 +94,8 @@ fn evict(object: &mut Object, tag: &TagWords, held: &mut Held) -> Status
     match object {
         Object::Unit(unit) => tell_entry(unit.evict(&tag), held),
         Object::Engine(seated) => seated.evict(&tag, held),
-        Object::Sender(_) | Object::Reservation(_) | Object::Consumer(_) => Status::WrongHandle,
+        Object::Sender(_) | Object::Reservation(_) | Object::Consumer(_) | Object::Guest(_) =>
+            Status::WrongHandle,
     }
 }
 

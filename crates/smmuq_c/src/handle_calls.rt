@@ -30,7 +30,7 @@ fn is_reservation(object: &Object) -> bool
     matches!(object, Object::Reservation(_))
 }
 
-/// Returns 0 for an empty handle, 1 for a unit, 2 for a sender, 3 for an engine, 4 for a consumer.
+/// Returns 0 for an empty handle, 1 for a unit, 2 for a sender, 3 for an engine, 4 for a consumer, 5 for a guest.
 #[unsafe(no_mangle)]
 pub extern "C" fn smmuq_kind(handle: &mut Handle) -> u32
     ensures kind { result ≡ kind_in handle.old.object }
@@ -50,5 +50,6 @@ fn kind_of(object: &Object) -> u32
         Object::Sender(_) | Object::Reservation(_) => 2,
         Object::Engine(_) => 3,
         Object::Consumer(_) => 4,
+        Object::Guest(_) => 5,
     }
 }

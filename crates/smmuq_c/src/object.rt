@@ -7,6 +7,7 @@ use crate::seated_engine::SeatedEngine;
 use crate::seated_reservation::SeatedReservation;
 use crate::seated_sender::SeatedSender;
 use engine::Unit;
+use guest_commands::Guest;
 use transactions::TrackedQueueUnit;
 
 /// The kinds of things that a handle may own.
@@ -18,6 +19,7 @@ pub(crate) enum Object {
     Reservation(SeatedReservation),
     Engine(SeatedEngine),
     Consumer(SeatedConsumer),
+    Guest(Guest),
 }
 
 fn may_cross_threads<T: Send>(_value: &T) {}
@@ -43,7 +45,8 @@ impl Object {
         match self {
             Object::Unit(unit) => Some(unit.unit()),
             Object::Engine(seated) => Some(seated.unit()),
-            Object::Sender(_) | Object::Reservation(_) | Object::Consumer(_) => None,
+            Object::Sender(_) | Object::Reservation(_) | Object::Consumer(_) | Object::Guest(_) =>
+                None,
         }
     }
 }

@@ -42,7 +42,10 @@ fn renew(alloc: Global, object: &mut Object, sizes: Sizes, senders: &mut [Handle
 {
     match object {
         Object::Engine(engine) => engine.renew(alloc, sizes, senders),
-        Object::Unit(_) | Object::Sender(_) | Object::Reservation(_) | Object::Consumer(_) =>
-            Status::WrongHandle,
+        Object::Unit(_)
+        | Object::Sender(_)
+        | Object::Reservation(_)
+        | Object::Consumer(_)
+        | Object::Guest(_) => Status::WrongHandle,
     }
 }

@@ -36,7 +36,8 @@ fn send(object: &mut Object, commands: &[Raw], tries: u32, number: &mut u32) -> 
     match object {
         Object::Sender(sender) => sender.send(commands, tries, number),
         Object::Reservation(_) => Status::OpenReservation,
-        Object::Unit(_) | Object::Engine(_) | Object::Consumer(_) => Status::WrongHandle,
+        Object::Unit(_) | Object::Engine(_) | Object::Consumer(_) | Object::Guest(_) =>
+            Status::WrongHandle,
     }
 }
 
@@ -57,7 +58,8 @@ fn send_bare(object: &mut Object, commands: &[Raw], tries: u32) -> Status
     match object {
         Object::Sender(sender) => sender.send_bare(commands, tries),
         Object::Reservation(_) => Status::OpenReservation,
-        Object::Unit(_) | Object::Engine(_) | Object::Consumer(_) => Status::WrongHandle,
+        Object::Unit(_) | Object::Engine(_) | Object::Consumer(_) | Object::Guest(_) =>
+            Status::WrongHandle,
     }
 }
 
@@ -80,7 +82,8 @@ fn done_up_to(object: &mut Object, number: &mut u32) -> Status
     match object {
         Object::Sender(sender) => sender.done_up_to(number),
         Object::Reservation(_) => Status::OpenReservation,
-        Object::Unit(_) | Object::Engine(_) | Object::Consumer(_) => Status::WrongHandle,
+        Object::Unit(_) | Object::Engine(_) | Object::Consumer(_) | Object::Guest(_) =>
+            Status::WrongHandle,
     }
 }
 
@@ -103,7 +106,8 @@ fn left(object: &mut Object, batches: &mut u32) -> Status
     match object {
         Object::Sender(sender) => sender.left(batches),
         Object::Reservation(_) => Status::OpenReservation,
-        Object::Unit(_) | Object::Engine(_) | Object::Consumer(_) => Status::WrongHandle,
+        Object::Unit(_) | Object::Engine(_) | Object::Consumer(_) | Object::Guest(_) =>
+            Status::WrongHandle,
     }
 }
 
@@ -124,7 +128,8 @@ fn close(object: &mut Object) -> Status
     match object {
         Object::Sender(sender) => sender.close(),
         Object::Reservation(_) => Status::OpenReservation,
-        Object::Unit(_) | Object::Engine(_) | Object::Consumer(_) => Status::WrongHandle,
+        Object::Unit(_) | Object::Engine(_) | Object::Consumer(_) | Object::Guest(_) =>
+            Status::WrongHandle,
     }
 }
 
@@ -147,6 +152,7 @@ fn look(object: &mut Object, told: &mut ControlWords) -> Status
     match object {
         Object::Sender(sender) => sender.look(told),
         Object::Reservation(_) => Status::OpenReservation,
-        Object::Unit(_) | Object::Engine(_) | Object::Consumer(_) => Status::WrongHandle,
+        Object::Unit(_) | Object::Engine(_) | Object::Consumer(_) | Object::Guest(_) =>
+            Status::WrongHandle,
     }
 }

@@ -1,11 +1,12 @@
 //! A call's status, and its number for C: an enum doesn't cross to C.
 ghost use Rattle.std.specs.Prelude.{◌≡◌, ◌<◌};
-ghost use Rattle.smmuq_c.specs.Statuses.{number_of, ill_number, cache_number, batch_number, cause_number, ring_number, acknowledgement_number};
+ghost use Rattle.smmuq_c.specs.Statuses.{number_of, ill_number, cache_number, batch_number, cause_number, ring_number, acknowledgement_number, attachment_number};
 
 use batch::BatchFault;
 use caches::CacheFault;
 use cmdcodec::Ill;
 use engine::AckFault;
+use guest_commands::AttachFault;
 use ring::{Cause, RingFault};
 
 /// A call's status: it did what it was asked, or why not.
@@ -24,6 +25,8 @@ pub(crate) enum Status {
     /// No ring was made.
     Ring(RingFault),
     Acknowledgement(AckFault),
+    /// The stream wasn't attached.
+    Attachment(AttachFault),
     /// The handle is empty: it was never made, or it was freed.
     EmptyHandle,
     /// The handle is of another kind.
@@ -84,6 +87,7 @@ impl Status {
             Status::Waiting => 0x36,
             Status::Ring(fault) => ring_number(fault),
             Status::Acknowledgement(fault) => acknowledgement_number(fault),
+            Status::Attachment(fault) => attachment_number(fault),
             Status::EmptyHandle => 0x60,
             Status::WrongHandle => 0x61,
             Status::BadField => 0x62,
@@ -166,6 +170,17 @@ fn ring_number(fault: RingFault) -> u32
         RingFault::Senders => 0x42,
         RingFault::Batches => 0x43,
         RingFault::Memory(_) => 0x44,
+    }
+}
+
+fn attachment_number(fault: AttachFault) -> u32
+    ensures { result ≡ attachment_number fault }
+{
+    match fault {
+        AttachFault::OutOfRange => 0x81,
+        AttachFault::Used => 0x82,
+        AttachFault::Full => 0x83,
+        AttachFault::NoMemory => 0x84,
     }
 }
 

@@ -10,6 +10,7 @@ use batch::BatchFault;
 use caches::CacheFault;
 use cmdcodec::Ill;
 use engine::AckFault;
+use guest_commands::AttachFault;
 use ring::{Cause, RingFault};
 use std::alloc::AllocError;
 
@@ -45,6 +46,11 @@ impl Status {
             Status::Ring(RingFault::Memory(_)) => "N4: out of memory",
             Status::Acknowledgement(AckFault::NoError) => "G1: no error is active",
             Status::Acknowledgement(AckFault::OtherBit) => "G2: CMDQ_ERR isn't that of SMMU_GERROR",
+            Status::Attachment(AttachFault::OutOfRange) =>
+                "V1: the host's SMMU doesn't have this stream",
+            Status::Attachment(AttachFault::Used) => "V2: the host's stream is in use already",
+            Status::Attachment(AttachFault::Full) => "V3: the guest's stream is 63 streams already",
+            Status::Attachment(AttachFault::NoMemory) => "V4: out of memory",
             Status::EmptyHandle => "the handle is empty",
             Status::WrongHandle => "the handle is of another kind",
             Status::BadField => "a field is out of range",
@@ -124,6 +130,10 @@ fn numbered(number: u32) -> Option<Status>
         0x7a => Some(Status::OtherWalk),
         0x7b => Some(Status::TransactionsFull),
         0x7c => Some(Status::NotOutstanding),
+        0x81 => Some(Status::Attachment(AttachFault::OutOfRange)),
+        0x82 => Some(Status::Attachment(AttachFault::Used)),
+        0x83 => Some(Status::Attachment(AttachFault::Full)),
+        0x84 => Some(Status::Attachment(AttachFault::NoMemory)),
         _ => None,
     }
 }

@@ -49,7 +49,8 @@ fn acknowledge(object: &mut Object, gerrorn: u32, remedy: u32) -> Status
     match object {
         Object::Unit(unit) => acknowledgement_status(unit.acknowledge(gerrorn, remedy)),
         Object::Engine(seated) => seated.acknowledge(gerrorn, remedy.until_then()),
-        Object::Sender(_) | Object::Reservation(_) | Object::Consumer(_) => Status::WrongHandle,
+        Object::Sender(_) | Object::Reservation(_) | Object::Consumer(_) | Object::Guest(_) =>
+            Status::WrongHandle,
     }
 }
 
@@ -86,7 +87,8 @@ fn tell_state(object: &Object, errors: &mut Errors, tallies: &mut Tallies) -> St
             *tallies = Tallies::from(seated.unit().counts());
             Status::Done
         }
-        Object::Sender(_) | Object::Reservation(_) | Object::Consumer(_) => Status::WrongHandle,
+        Object::Sender(_) | Object::Reservation(_) | Object::Consumer(_) | Object::Guest(_) =>
+            Status::WrongHandle,
     }
 }
 
@@ -118,8 +120,11 @@ fn stop(object: &mut Object, err: u32) -> Status
 {
     match object {
         Object::Unit(unit) => stop_for(unit, err),
-        Object::Sender(_) | Object::Reservation(_) | Object::Engine(_) | Object::Consumer(_) =>
-            Status::WrongHandle,
+        Object::Sender(_)
+        | Object::Reservation(_)
+        | Object::Engine(_)
+        | Object::Consumer(_)
+        | Object::Guest(_) => Status::WrongHandle,
     }
 }
 
@@ -155,8 +160,11 @@ fn restore(object: &mut Object, err: u32, gerror: u32, gerrorn: u32) -> Status
 {
     match object {
         Object::Unit(unit) => restore_to(unit, err, gerror, gerrorn),
-        Object::Sender(_) | Object::Reservation(_) | Object::Engine(_) | Object::Consumer(_) =>
-            Status::WrongHandle,
+        Object::Sender(_)
+        | Object::Reservation(_)
+        | Object::Engine(_)
+        | Object::Consumer(_)
+        | Object::Guest(_) => Status::WrongHandle,
     }
 }
 
@@ -194,7 +202,10 @@ fn reset(object: &mut Object) -> Status
             unit.reset();
             Status::Done
         }
-        Object::Sender(_) | Object::Reservation(_) | Object::Engine(_) | Object::Consumer(_) =>
-            Status::WrongHandle,
+        Object::Sender(_)
+        | Object::Reservation(_)
+        | Object::Engine(_)
+        | Object::Consumer(_)
+        | Object::Guest(_) => Status::WrongHandle,
     }
 }

@@ -37,8 +37,11 @@ fn begin_walk(object: &Object, walk: &mut u64) -> Status
             *walk = unit.begin_walk().bits();
             Status::Done
         }
-        Object::Sender(_) | Object::Reservation(_) | Object::Engine(_) | Object::Consumer(_) =>
-            Status::WrongHandle,
+        Object::Sender(_)
+        | Object::Reservation(_)
+        | Object::Engine(_)
+        | Object::Consumer(_)
+        | Object::Guest(_) => Status::WrongHandle,
     }
 }
 
@@ -69,8 +72,11 @@ fn begin_outstanding_walk(object: &mut Object, walk: &mut u64, transaction: &mut
 {
     match object {
         Object::Unit(unit) => begin_outstanding_walk_in(unit, walk, transaction),
-        Object::Sender(_) | Object::Reservation(_) | Object::Engine(_) | Object::Consumer(_) =>
-            Status::WrongHandle,
+        Object::Sender(_)
+        | Object::Reservation(_)
+        | Object::Engine(_)
+        | Object::Consumer(_)
+        | Object::Guest(_) => Status::WrongHandle,
     }
 }
 
@@ -113,8 +119,11 @@ fn fill_walked(object: &mut Object, walk: u64, tag: &TagWords, value: u64) -> St
 {
     match object {
         Object::Unit(unit) => fill_walked_in(unit, walk, tag, value),
-        Object::Sender(_) | Object::Reservation(_) | Object::Engine(_) | Object::Consumer(_) =>
-            Status::WrongHandle,
+        Object::Sender(_)
+        | Object::Reservation(_)
+        | Object::Engine(_)
+        | Object::Consumer(_)
+        | Object::Guest(_) => Status::WrongHandle,
     }
 }
 
@@ -160,8 +169,11 @@ fn begin(object: &mut Object, tag: &TagWords, held: &mut Held, transaction: &mut
 {
     match object {
         Object::Unit(unit) => begin_in(unit, tag, held, transaction),
-        Object::Sender(_) | Object::Reservation(_) | Object::Engine(_) | Object::Consumer(_) =>
-            Status::WrongHandle,
+        Object::Sender(_)
+        | Object::Reservation(_)
+        | Object::Engine(_)
+        | Object::Consumer(_)
+        | Object::Guest(_) => Status::WrongHandle,
     }
 }
 
@@ -216,8 +228,11 @@ fn begin_walked(object: &mut Object, walk: u64, tag: &TagWords, transaction: &mu
 {
     match object {
         Object::Unit(unit) => begin_walked_in(unit, walk, tag, transaction),
-        Object::Sender(_) | Object::Reservation(_) | Object::Engine(_) | Object::Consumer(_) =>
-            Status::WrongHandle,
+        Object::Sender(_)
+        | Object::Reservation(_)
+        | Object::Engine(_)
+        | Object::Consumer(_)
+        | Object::Guest(_) => Status::WrongHandle,
     }
 }
 
@@ -262,8 +277,11 @@ fn end(object: &mut Object, transaction: u64, last: &mut u32) -> Status
 {
     match object {
         Object::Unit(unit) => end_in(unit, transaction, last),
-        Object::Sender(_) | Object::Reservation(_) | Object::Engine(_) | Object::Consumer(_) =>
-            Status::WrongHandle,
+        Object::Sender(_)
+        | Object::Reservation(_)
+        | Object::Engine(_)
+        | Object::Consumer(_)
+        | Object::Guest(_) => Status::WrongHandle,
     }
 }
 
@@ -313,7 +331,10 @@ fn tell_outstanding(object: &Object, counts: &mut TransactionCounts) -> Status
             *counts = TransactionCounts::from(unit.outstanding());
             Status::Done
         }
-        Object::Sender(_) | Object::Reservation(_) | Object::Engine(_) | Object::Consumer(_) =>
-            Status::WrongHandle,
+        Object::Sender(_)
+        | Object::Reservation(_)
+        | Object::Engine(_)
+        | Object::Consumer(_)
+        | Object::Guest(_) => Status::WrongHandle,
     }
 }

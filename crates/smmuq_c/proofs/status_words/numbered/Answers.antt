@@ -5,7 +5,8 @@ use Rattle.batch.specs.declared.fault.BatchFault.TheVariants as batch
 use Rattle.ring.specs.declared.sender.cause.Cause.TheVariants as cause
 use Rattle.ringcore.specs.declared.ring_fault.RingFault.TheVariants as ring
 use Rattle.engine.specs.declared.remedy.AckFault.TheVariants.{NoError, OtherBit}
-use Rattle.smmuq_c.specs.declared.status.Status.TheVariants.{Done, Illegal, Cache, Batch, Refused, Waiting, Ring, Acknowledgement, EmptyHandle, WrongHandle, BadField, ShortBuffer, NoMemory, NotHeld, OpenReservation, NoReservation, StillStopped, OtherCommand, Exhausted, RingEmpty, RingDrained, RingUnwritten, Replaced, SyncWaiting, Overtaken, TooOld, OtherWalk, TransactionsFull, NotOutstanding, Unsupported}
+use Rattle.guest_commands.specs.declared.fault.AttachFault.TheVariants as attach
+use Rattle.smmuq_c.specs.declared.status.Status.TheVariants.{Done, Illegal, Cache, Batch, Refused, Waiting, Ring, Acknowledgement, Attachment, EmptyHandle, WrongHandle, BadField, ShortBuffer, NoMemory, NotHeld, OpenReservation, NoReservation, StillStopped, OtherCommand, Exhausted, RingEmpty, RingDrained, RingUnwritten, Replaced, SyncWaiting, Overtaken, TooOld, OtherWalk, TransactionsFull, NotOutstanding, Unsupported}
 use Rattle.smmuq_c.proofs.status_words.numbered.Goals as goal
 
 pub returns-in_default : goal.returns-in_default
@@ -35,6 +36,10 @@ returns-in_default c (Ring ring.Batches) is = omega arith
 returns-in_default c (Ring (ring.Memory error)) is = omega arith
 returns-in_default c (Acknowledgement NoError) is = omega arith
 returns-in_default c (Acknowledgement OtherBit) is = omega arith
+returns-in_default c (Attachment attach.OutOfRange) is = omega arith
+returns-in_default c (Attachment attach.Used) is = omega arith
+returns-in_default c (Attachment attach.Full) is = omega arith
+returns-in_default c (Attachment attach.NoMemory) is = omega arith
 returns-in_default c EmptyHandle is = omega arith
 returns-in_default c WrongHandle is = omega arith
 returns-in_default c BadField is = omega arith
