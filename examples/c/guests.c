@@ -14,7 +14,7 @@
 
 /* SMMU_IDR0: S2P, S1P, ATS and 16-bit ASIDs and VMIDs; SMMU_IDR1: 8 bits of SubstreamIDs and 16 of StreamIDs; SMMU_IDR3: RIL. */
 enum { IDR0 = 0x41403, IDR1 = 8 << 6 | 16, IDR3 = 0x400, IDR5 = 0x70 };
-enum { BATCH = 63, ROUNDS = 2000, MOST_ENTRIES = 32, HOSTILE = 0x21, OTHER = 0x22, HOSTILE_STREAM = 0x103, OTHER_STREAM = 0x104 };
+enum { BATCH = 63, ROUNDS = 20000, MOST_ENTRIES = 32, HOSTILE = 0x21, OTHER = 0x22, HOSTILE_STREAM = 0x103, OTHER_STREAM = 0x104 };
 
 /* The hostile guest's queue, which its thread writes. */
 static volatile uint64_t queue[2 * BATCH];
