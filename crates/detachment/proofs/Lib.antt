@@ -1,0 +1,3 @@
+pub mod GoingOn
+pub mod OneBatch
+pub mod OrderLemmas

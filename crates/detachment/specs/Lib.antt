@@ -1,0 +1,4 @@
+pub mod Commands
+pub mod Laws
+pub mod Order
+pub mod Values

@@ -1,0 +1,105 @@
+//! A stream whose configuration's commands are complete.
+ghost use Rattle.std.specs.Prelude.{◌≡◌, ◌≤◌, true, IfOk, IfErr};
+ghost use Rattle.ring.specs.sender.GoingOn.{WentOn};
+ghost use Rattle.ring.specs.sender.Sending.{IsSent, IsGivenUpWith};
+ghost use Rattle.detachment.specs.Commands.{endpoint_words};
+ghost use Rattle.detachment.specs.Order.{IsConfigured, IsLeaving};
+
+use crate::detachment::Detachment;
+use crate::leaving::Leaving;
+use crate::unsent::Unsent;
+use cmdcodec::Sid;
+use ring::{Receipt, Ring, Sender};
+use std::marker::Model;
+use std::snapshot::Snapshot;
+
+/// A stream whose configuration's commands are complete: its sender was told so.
+#[derive(Drop)]
+pub struct Configured {
+    pub(crate) sid: Sid,
+    pub(crate) receipt: Receipt,
+    /// The sender once it was told, for clauses: it has no bytes.
+    pub(crate) told: Snapshot<Sender>,
+}
+
+impl Model for Configured {
+    ghost use Rattle.detachment.specs.Values.{ConfigurationValue, KeepsConfigured};
+
+    ghost Value = { ConfigurationValue };
+
+    ghost view = { λ c. record { sid = c.sid; configuration = c.receipt; sender = c.told.value } };
+
+    ghost invariant = { λ c. KeepsConfigured (record { sid = c.sid; configuration = c.receipt; sender = c.told.value }) };
+}
+
+impl Configured {
+    /// Returns the stream.
+    pub fn sid(&self) -> Sid
+        ensures { result ≡ self.now.sid }
+    {
+        self.sid
+    }
+
+    /// A witness that the commands are applied in the run that the sender knew. It does nothing.
+    pub fn is_applied(&self)
+        ensures { IsConfigured self.now.sid self.now.sender.number self.now.configuration.number self.now.sender.history }
+    {
+        let _ = &self.sid;
+    }
+
+    /// Sends the command for the endpoint with its CMD_SYNC, as `Sender::send` does.
+    ///
+    /// Errors: those of `Sender::send`, with `self` unchanged.
+    pub fn send(
+        self,
+        ring: &Ring,
+        sender: Sender,
+        tries: u32,
+    ) -> Result<(Sender, Leaving), Unsent<Configured>>
+        requires ring { sender.ring ≡ ring.now }
+        requires same_sender { WentOn self.sender sender }
+        requires tries { 1 ≤ tries }
+        ensures sent { IfOk result (λ r. IsSent (endpoint_words self.sid) tries sender r.0 r.1.endpoint) }
+        ensures step { IfOk result (λ r. (r.1.sid ≡ self.sid) × (r.1.configuration ≡ self.configuration)) }
+        ensures ordered { IfOk result (λ r. IsLeaving self.sid r.0.number self.configuration.number r.1.endpoint.number r.0.history) }
+        ensures went_on { IfOk result (λ r. WentOn sender r.0) }
+        ensures sender { IfOk result (λ r. r.1.sender ≡ r.0) }
+        ensures may_look { IfOk result (λ r. WentOn r.1.sender r.0) }
+        ensures refused { IfErr result (λ e. IsGivenUpWith (endpoint_words self.sid) true tries sender e.refused) }
+        ensures unsent { IfErr result (λ e. e.step ≡ self) }
+        ensures given_back { IfErr result (λ e. WentOn sender e.refused.sender) }
+        ensures may_send { IfErr result (λ e. WentOn e.step.sender e.refused.sender) }
+    {
+        let batch = Detachment::new(self.sid).endpoint();
+        match sender.send(ring, &batch, tries) {
+            Ok((sender, endpoint)) => {
+                let leaving = self.leaving(endpoint, &sender);
+                leaving.is_behind();
+                Ok((sender, leaving))
+            }
+            Err(refused) => Err(Unsent {
+                step: self,
+                refused,
+            }),
+        }
+    }
+
+    /// Its command for the endpoint is sent.
+    fn leaving(self, endpoint: Receipt, sender: &Sender) -> Leaving
+        requires own { endpoint.sender ≡ sender.now.number }
+        requires order { IsLeaving self.sid sender.now.number self.configuration.number endpoint.number sender.now.history }
+        ensures { result ≡ record { sid = self.sid; configuration = self.configuration; endpoint = endpoint; sender = sender.now } }
+    {
+        let Configured {
+            sid,
+            receipt,
+            told: _,
+        } = self;
+        Leaving {
+            sid,
+            configuration: receipt,
+            endpoint,
+            sent: Snapshot::of(sender),
+        }
+    }
+}

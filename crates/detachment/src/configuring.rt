@@ -1,0 +1,87 @@
+//! A stream whose configuration's commands are sent.
+ghost use Rattle.std.specs.Prelude.{◌≡◌, IfOk, IfErr, is_ok};
+ghost use Rattle.ring.specs.sender.Senders.{HasAsked};
+ghost use Rattle.ring.specs.sender.GoingOn.{WentOn};
+ghost use Rattle.detachment.specs.Order.{IsConfiguring, IsConfigured};
+
+use crate::configured::Configured;
+use cmdcodec::Sid;
+use ring::{Receipt, Ring, Sender};
+use ringcore::world_law;
+use std::marker::Model;
+use std::snapshot::Snapshot;
+
+/// A stream whose configuration's commands are sent, with their CMD_SYNC. It isn't known to be complete.
+#[derive(Drop)]
+pub struct Configuring {
+    pub(crate) sid: Sid,
+    pub(crate) receipt: Receipt,
+    /// The sender once it had sent them, for clauses: it has no bytes.
+    pub(crate) sent: Snapshot<Sender>,
+}
+
+impl Model for Configuring {
+    ghost use Rattle.detachment.specs.Values.{ConfigurationValue, KeepsConfiguring};
+
+    ghost Value = { ConfigurationValue };
+
+    ghost view = { λ c. record { sid = c.sid; configuration = c.receipt; sender = c.sent.value } };
+
+    ghost invariant = { λ c. KeepsConfiguring (record { sid = c.sid; configuration = c.receipt; sender = c.sent.value }) };
+}
+
+impl Configuring {
+    /// Returns the stream.
+    pub fn sid(&self) -> Sid
+        ensures { result ≡ self.now.sid }
+    {
+        self.sid
+    }
+
+    /// Returns the receipt of the CMD_SYNC behind the commands.
+    pub fn receipt(&self) -> Receipt
+        ensures { result ≡ self.now.configuration }
+    {
+        self.receipt
+    }
+
+    /// A witness that the commands are reserved in the run that the sender knew. It does nothing.
+    pub fn is_reserved(&self)
+        ensures { IsConfiguring self.now.sid self.now.sender.number self.now.configuration.number self.now.sender.history }
+    {
+        let _ = &self.sid;
+    }
+
+    /// Asks whether the CMD_SYNC is complete, with the sender that sent it.
+    ///
+    /// Errors: `self`, unchanged, if it isn't.
+    pub fn look(self, ring: &Ring, sender: &mut Sender) -> Result<Configured, Configuring>
+        requires ring { sender.old.ring ≡ ring.now }
+        requires same_sender { WentOn self.sender sender.old }
+        ensures asked { HasAsked self.configuration.number sender.old sender.new (is_ok result) }
+        ensures told { IfOk result (λ c. c ≡ record self { sender = sender.new }) }
+        ensures configured { IfOk result (λ c. IsConfigured c.sid sender.new.number c.configuration.number sender.new.history) }
+        ensures not_told { IfErr result (λ c. c ≡ self) }
+        ensures went_on { WentOn sender.old sender.new }
+        ensures told_sender { IfOk result (λ c. WentOn c.sender sender.new) }
+        ensures still_same { IfErr result (λ c. WentOn c.sender sender.new) }
+    {
+        world_law();
+        if !sender.is_done(ring, &self.receipt) {
+            return Err(self);
+        }
+        sender.trail_stands_in_a_run();
+        let Configuring {
+            sid,
+            receipt,
+            sent: _,
+        } = self;
+        let configured = Configured {
+            sid,
+            receipt,
+            told: Snapshot::of(sender),
+        };
+        configured.is_applied();
+        Ok(configured)
+    }
+}

@@ -1,0 +1,91 @@
+//! A stream whose endpoint's command is sent.
+ghost use Rattle.std.specs.Prelude.{◌≡◌, IfOk, IfErr, is_ok};
+ghost use Rattle.ring.specs.sender.Senders.{HasAsked};
+ghost use Rattle.ring.specs.sender.GoingOn.{WentOn};
+ghost use Rattle.detachment.specs.Order.{IsLeaving, IsDetached};
+
+use crate::detached::Detached;
+use cmdcodec::Sid;
+use ring::{Receipt, Ring, Sender};
+use ringcore::world_law;
+use std::marker::Model;
+use std::snapshot::Snapshot;
+
+/// A stream whose endpoint's command is sent, behind those for its configuration, with its CMD_SYNC. It isn't
+/// known to be complete.
+#[derive(Drop)]
+pub struct Leaving {
+    pub(crate) sid: Sid,
+    pub(crate) configuration: Receipt,
+    pub(crate) endpoint: Receipt,
+    /// The sender once it had sent it, for clauses: it has no bytes.
+    pub(crate) sent: Snapshot<Sender>,
+}
+
+impl Model for Leaving {
+    ghost use Rattle.detachment.specs.Values.{EndpointValue, KeepsLeaving};
+
+    ghost Value = { EndpointValue };
+
+    ghost view = { λ e. record { sid = e.sid; configuration = e.configuration; endpoint = e.endpoint; sender = e.sent.value } };
+
+    ghost invariant = { λ e. KeepsLeaving (record { sid = e.sid; configuration = e.configuration; endpoint = e.endpoint; sender = e.sent.value }) };
+}
+
+impl Leaving {
+    /// Returns the stream.
+    pub fn sid(&self) -> Sid
+        ensures { result ≡ self.now.sid }
+    {
+        self.sid
+    }
+
+    /// Returns the receipt of the CMD_SYNC behind the command.
+    pub fn receipt(&self) -> Receipt
+        ensures { result ≡ self.now.endpoint }
+    {
+        self.endpoint
+    }
+
+    /// A witness that the command is reserved behind a run in which those for the configuration are applied. It
+    /// does nothing.
+    pub fn is_behind(&self)
+        ensures { IsLeaving self.now.sid self.now.sender.number self.now.configuration.number self.now.endpoint.number self.now.sender.history }
+    {
+        let _ = &self.sid;
+    }
+
+    /// Asks whether the CMD_SYNC is complete, with the sender that sent it.
+    ///
+    /// Errors: `self`, unchanged, if it isn't.
+    pub fn look(self, ring: &Ring, sender: &mut Sender) -> Result<Detached, Leaving>
+        requires ring { sender.old.ring ≡ ring.now }
+        requires same_sender { WentOn self.sender sender.old }
+        ensures asked { HasAsked self.endpoint.number sender.old sender.new (is_ok result) }
+        ensures told { IfOk result (λ d. d ≡ record self { sender = sender.new }) }
+        ensures detached { IfOk result (λ d. IsDetached d.sid sender.new.number d.configuration.number d.endpoint.number sender.new.history) }
+        ensures not_told { IfErr result (λ d. d ≡ self) }
+        ensures went_on { WentOn sender.old sender.new }
+        ensures still_same { IfErr result (λ d. WentOn d.sender sender.new) }
+    {
+        world_law();
+        if !sender.is_done(ring, &self.endpoint) {
+            return Err(self);
+        }
+        sender.trail_stands_in_a_run();
+        let Leaving {
+            sid,
+            configuration,
+            endpoint,
+            sent: _,
+        } = self;
+        let detached = Detached {
+            sid,
+            configuration,
+            endpoint,
+            told: Snapshot::of(sender),
+        };
+        detached.order_was_kept();
+        Ok(detached)
+    }
+}
