@@ -1,7 +1,7 @@
 -- A run has one batch with a number of a sender.
 use Rattle.std.proofs.Common.{◌≡◌, ℕ, zero, suc, ◌≤◌, ◌==◌, Bool, true, false, cond, List, [], ◌∷◌, ◌++◌, Option, Some, None, refl, sym, ap, ◌∙◌, append_assoc, append-nil, length, eq-eqb, arith}
 use Rattle.cmdcodec.specs.declared.raw.Raw.{Raw}
-use Rattle.ring.specs.Runs.{Who, Consumer, Sender, Event, Won, Run, Batch, batches}
+use Rattle.ring.specs.Runs.{Who, Sender, Event, Won, Run, Batch, batches}
 use Rattle.ringcore.specs.world.Delivery.{number_of, numbers, counted, NumberedInOrder, IsCompleted}
 
 -- ---- the batches of a run that goes on

@@ -2,3 +2,4 @@ pub mod Commands
 pub mod Laws
 pub mod Order
 pub mod Values
+pub mod Sending

@@ -1,10 +1,10 @@
--- What contracts see of a stream that is being taken away.
+-- What contracts see of a stream that is being taken away, and what each step keeps.
 use Rattle.std.specs.Prelude.{◌≡◌, ℕ}
 use Rattle.ring.specs.sender.Senders.{SenderValue, ReceiptValue}
-use Rattle.detachment.specs.Order.{IsConfiguring, IsConfigured, IsLeaving, IsDetached}
+use Rattle.detachment.specs.Order.{IsConfiguringIn, IsConfiguredIn, IsLeavingIn, IsDetachedIn}
 
--- the stream, the CMD_SYNC behind the commands for its configuration, and the sender as it sent them, or was
--- told that they are complete
+-- the stream, the CMD_SYNC behind the commands for its configuration, and their sender as it was when it had
+-- sent them, or when it was told that they are complete
 pub record ConfigurationValue : Type 0 where
   pub sid : ℕ
   pub configuration : ReceiptValue
@@ -17,23 +17,20 @@ pub record EndpointValue : Type 0 where
   pub endpoint : ReceiptValue
   pub sender : SenderValue
 
--- The receipt is that sender's.
-abbrev pub IsOf : SenderValue → ReceiptValue → Type 0
-IsOf sender receipt = receipt.sender ≡ sender.number
+-- The receipt that is asked for next is the sender's own, and in the run that the sender knew then the stream
+-- had come as far as the step says.
+pub record IsConfiguring (c : ConfigurationValue) : Type 0 where
+  pub own : c.configuration.sender ≡ c.sender.number
+  pub order : IsConfiguringIn c.sid c.sender.number c.configuration.number c.sender.history
 
--- What each of the four steps keeps: the run that the sender knew.
-pub record KeepsConfiguring (c : ConfigurationValue) : Type 0 where
-  pub own : IsOf c.sender c.configuration
-  pub order : IsConfiguring c.sid c.sender.number c.configuration.number c.sender.history
+pub record IsConfigured (c : ConfigurationValue) : Type 0 where
+  pub own : c.configuration.sender ≡ c.sender.number
+  pub order : IsConfiguredIn c.sid c.sender.number c.configuration.number c.sender.history
 
-pub record KeepsConfigured (c : ConfigurationValue) : Type 0 where
-  pub own : IsOf c.sender c.configuration
-  pub order : IsConfigured c.sid c.sender.number c.configuration.number c.sender.history
+pub record IsLeaving (e : EndpointValue) : Type 0 where
+  pub own : e.endpoint.sender ≡ e.sender.number
+  pub order : IsLeavingIn e.sid e.sender.number e.configuration.number e.endpoint.number e.sender.history
 
-pub record KeepsLeaving (e : EndpointValue) : Type 0 where
-  pub own : IsOf e.sender e.endpoint
-  pub order : IsLeaving e.sid e.sender.number e.configuration.number e.endpoint.number e.sender.history
-
-pub record KeepsDetached (e : EndpointValue) : Type 0 where
-  pub own : IsOf e.sender e.endpoint
-  pub order : IsDetached e.sid e.sender.number e.configuration.number e.endpoint.number e.sender.history
+pub record IsDetached (e : EndpointValue) : Type 0 where
+  pub own : e.endpoint.sender ≡ e.sender.number
+  pub order : IsDetachedIn e.sid e.sender.number e.configuration.number e.endpoint.number e.sender.history

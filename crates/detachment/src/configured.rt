@@ -1,9 +1,10 @@
 //! A stream whose configuration's commands are complete.
 ghost use Rattle.std.specs.Prelude.{◌≡◌, ◌≤◌, true, IfOk, IfErr};
 ghost use Rattle.ring.specs.sender.GoingOn.{WentOn};
-ghost use Rattle.ring.specs.sender.Sending.{IsSent, IsGivenUpWith};
 ghost use Rattle.detachment.specs.Commands.{endpoint_words};
-ghost use Rattle.detachment.specs.Order.{IsConfigured, IsLeaving};
+ghost use Rattle.detachment.specs.Order.{IsLeavingIn};
+ghost use Rattle.detachment.specs.Values.{IsConfigured, IsLeaving};
+ghost use Rattle.detachment.specs.Sending.{HasSentEndpoint, IsUnsent};
 
 use crate::detachment::Detachment;
 use crate::leaving::Leaving;
@@ -23,13 +24,13 @@ pub struct Configured {
 }
 
 impl Model for Configured {
-    ghost use Rattle.detachment.specs.Values.{ConfigurationValue, KeepsConfigured};
+    ghost use Rattle.detachment.specs.Values.{ConfigurationValue, IsConfigured};
 
     ghost Value = { ConfigurationValue };
 
     ghost view = { λ c. record { sid = c.sid; configuration = c.receipt; sender = c.told.value } };
 
-    ghost invariant = { λ c. KeepsConfigured (record { sid = c.sid; configuration = c.receipt; sender = c.told.value }) };
+    ghost invariant = { λ c. IsConfigured (record { sid = c.sid; configuration = c.receipt; sender = c.told.value }) };
 }
 
 impl Configured {
@@ -41,8 +42,8 @@ impl Configured {
     }
 
     /// A witness that the commands are applied in the run that the sender knew. It does nothing.
-    pub fn is_applied(&self)
-        ensures { IsConfigured self.now.sid self.now.sender.number self.now.configuration.number self.now.sender.history }
+    pub fn commands_are_applied(&self)
+        ensures { IsConfigured self.now }
     {
         let _ = &self.sid;
     }
@@ -59,13 +60,11 @@ impl Configured {
         requires ring { sender.ring ≡ ring.now }
         requires same_sender { WentOn self.sender sender }
         requires tries { 1 ≤ tries }
-        ensures sent { IfOk result (λ r. IsSent (endpoint_words self.sid) tries sender r.0 r.1.endpoint) }
-        ensures step { IfOk result (λ r. (r.1.sid ≡ self.sid) × (r.1.configuration ≡ self.configuration)) }
-        ensures ordered { IfOk result (λ r. IsLeaving self.sid r.0.number self.configuration.number r.1.endpoint.number r.0.history) }
+        ensures sent { IfOk result (λ r. HasSentEndpoint self tries sender r.0 r.1) }
+        ensures ordered { IfOk result (λ r. IsLeaving r.1) }
         ensures went_on { IfOk result (λ r. WentOn sender r.0) }
-        ensures sender { IfOk result (λ r. r.1.sender ≡ r.0) }
         ensures may_look { IfOk result (λ r. WentOn r.1.sender r.0) }
-        ensures refused { IfErr result (λ e. IsGivenUpWith (endpoint_words self.sid) true tries sender e.refused) }
+        ensures refused { IfErr result (λ e. IsUnsent (endpoint_words self.sid) tries sender e.refused) }
         ensures unsent { IfErr result (λ e. e.step ≡ self) }
         ensures given_back { IfErr result (λ e. WentOn sender e.refused.sender) }
         ensures may_send { IfErr result (λ e. WentOn e.step.sender e.refused.sender) }
@@ -74,7 +73,7 @@ impl Configured {
         match sender.send(ring, &batch, tries) {
             Ok((sender, endpoint)) => {
                 let leaving = self.leaving(endpoint, &sender);
-                leaving.is_behind();
+                leaving.command_is_behind();
                 Ok((sender, leaving))
             }
             Err(refused) => Err(Unsent {
@@ -87,7 +86,7 @@ impl Configured {
     /// Its command for the endpoint is sent.
     fn leaving(self, endpoint: Receipt, sender: &Sender) -> Leaving
         requires own { endpoint.sender ≡ sender.now.number }
-        requires order { IsLeaving self.sid sender.now.number self.configuration.number endpoint.number sender.now.history }
+        requires order { IsLeavingIn self.sid sender.now.number self.configuration.number endpoint.number sender.now.history }
         ensures { result ≡ record { sid = self.sid; configuration = self.configuration; endpoint = endpoint; sender = sender.now } }
     {
         let Configured {

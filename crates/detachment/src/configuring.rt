@@ -2,11 +2,12 @@
 ghost use Rattle.std.specs.Prelude.{◌≡◌, IfOk, IfErr, is_ok};
 ghost use Rattle.ring.specs.sender.Senders.{HasAsked};
 ghost use Rattle.ring.specs.sender.GoingOn.{WentOn};
-ghost use Rattle.detachment.specs.Order.{IsConfiguring, IsConfigured};
+ghost use Rattle.detachment.specs.Values.{IsConfiguring, IsConfigured};
 
 use crate::configured::Configured;
 use cmdcodec::Sid;
 use ring::{Receipt, Ring, Sender};
+use ringcore::laws::consumer_trail;
 use ringcore::world_law;
 use std::marker::Model;
 use std::snapshot::Snapshot;
@@ -21,13 +22,13 @@ pub struct Configuring {
 }
 
 impl Model for Configuring {
-    ghost use Rattle.detachment.specs.Values.{ConfigurationValue, KeepsConfiguring};
+    ghost use Rattle.detachment.specs.Values.{ConfigurationValue, IsConfiguring};
 
     ghost Value = { ConfigurationValue };
 
     ghost view = { λ c. record { sid = c.sid; configuration = c.receipt; sender = c.sent.value } };
 
-    ghost invariant = { λ c. KeepsConfiguring (record { sid = c.sid; configuration = c.receipt; sender = c.sent.value }) };
+    ghost invariant = { λ c. IsConfiguring (record { sid = c.sid; configuration = c.receipt; sender = c.sent.value }) };
 }
 
 impl Configuring {
@@ -46,8 +47,8 @@ impl Configuring {
     }
 
     /// A witness that the commands are reserved in the run that the sender knew. It does nothing.
-    pub fn is_reserved(&self)
-        ensures { IsConfiguring self.now.sid self.now.sender.number self.now.configuration.number self.now.sender.history }
+    pub fn commands_are_reserved(&self)
+        ensures { IsConfiguring self.now }
     {
         let _ = &self.sid;
     }
@@ -60,13 +61,14 @@ impl Configuring {
         requires same_sender { WentOn self.sender sender.old }
         ensures asked { HasAsked self.configuration.number sender.old sender.new (is_ok result) }
         ensures told { IfOk result (λ c. c ≡ record self { sender = sender.new }) }
-        ensures configured { IfOk result (λ c. IsConfigured c.sid sender.new.number c.configuration.number sender.new.history) }
+        ensures configured { IfOk result IsConfigured }
         ensures not_told { IfErr result (λ c. c ≡ self) }
         ensures went_on { WentOn sender.old sender.new }
-        ensures told_sender { IfOk result (λ c. WentOn c.sender sender.new) }
-        ensures still_same { IfErr result (λ c. WentOn c.sender sender.new) }
+        ensures may_send { IfOk result (λ c. WentOn c.sender sender.new) }
+        ensures may_look { IfErr result (λ c. WentOn c.sender sender.new) }
     {
         world_law();
+        consumer_trail();
         if !sender.is_done(ring, &self.receipt) {
             return Err(self);
         }
@@ -81,7 +83,7 @@ impl Configuring {
             receipt,
             told: Snapshot::of(sender),
         };
-        configured.is_applied();
+        configured.commands_are_applied();
         Ok(configured)
     }
 }

@@ -1,6 +1,6 @@
 //! A stream that is taken away from its device.
 ghost use Rattle.std.specs.Prelude.{◌≡◌};
-ghost use Rattle.detachment.specs.Order.{IsDetached};
+ghost use Rattle.detachment.specs.Values.{IsDetached};
 
 use cmdcodec::Sid;
 use ring::{Receipt, Sender};
@@ -18,13 +18,13 @@ pub struct Detached {
 }
 
 impl Model for Detached {
-    ghost use Rattle.detachment.specs.Values.{EndpointValue, KeepsDetached};
+    ghost use Rattle.detachment.specs.Values.{EndpointValue, IsDetached};
 
     ghost Value = { EndpointValue };
 
     ghost view = { λ e. record { sid = e.sid; configuration = e.configuration; endpoint = e.endpoint; sender = e.told.value } };
 
-    ghost invariant = { λ e. KeepsDetached (record { sid = e.sid; configuration = e.configuration; endpoint = e.endpoint; sender = e.told.value }) };
+    ghost invariant = { λ e. IsDetached (record { sid = e.sid; configuration = e.configuration; endpoint = e.endpoint; sender = e.told.value }) };
 }
 
 impl Detached {
@@ -38,7 +38,7 @@ impl Detached {
     /// A witness that all commands are applied in the run that the sender knew, and that the endpoint's was
     /// reserved behind a run in which those for the configuration were. It does nothing.
     pub fn order_was_kept(&self)
-        ensures { IsDetached self.now.sid self.now.sender.number self.now.configuration.number self.now.endpoint.number self.now.sender.history }
+        ensures { IsDetached self.now }
     {
         let _ = &self.sid;
     }

@@ -2,9 +2,10 @@
 ghost use Rattle.std.specs.Prelude.{◌≡◌, ◌≤◌, true, All, None, IfOk, IfErr};
 ghost use Rattle.cmdcodec.specs.Legality.{first_ill};
 ghost use Rattle.ring.specs.sender.GoingOn.{WentOn};
-ghost use Rattle.ring.specs.sender.Sending.{IsSent, IsGivenUpWith};
 ghost use Rattle.detachment.specs.Commands.{configuration_words, endpoint_words};
-ghost use Rattle.detachment.specs.Order.{IsConfiguring};
+ghost use Rattle.detachment.specs.Order.{IsConfiguringIn};
+ghost use Rattle.detachment.specs.Values.{IsConfiguring};
+ghost use Rattle.detachment.specs.Sending.{HasSentConfiguration, IsUnsent};
 
 use crate::configuring::Configuring;
 use crate::unsent::Unsent;
@@ -91,19 +92,18 @@ impl Detachment {
     ) -> Result<(Sender, Configuring), Unsent<Detachment>>
         requires ring { sender.ring ≡ ring.now }
         requires tries { 1 ≤ tries }
-        ensures sent { IfOk result (λ r. IsSent (configuration_words self) tries sender r.0 r.1.configuration) }
-        ensures stream { IfOk result (λ r. r.1.sid ≡ self) }
-        ensures configuring { IfOk result (λ r. IsConfiguring self r.0.number r.1.configuration.number r.0.history) }
+        ensures sent { IfOk result (λ r. HasSentConfiguration self tries sender r.0 r.1) }
+        ensures reserved { IfOk result (λ r. IsConfiguring r.1) }
         ensures went_on { IfOk result (λ r. WentOn sender r.0) }
-        ensures sender { IfOk result (λ r. r.1.sender ≡ r.0) }
         ensures may_look { IfOk result (λ r. WentOn r.1.sender r.0) }
-        ensures refused { IfErr result (λ e. IsGivenUpWith (configuration_words self) true tries sender e.refused) }
+        ensures refused { IfErr result (λ e. IsUnsent (configuration_words self) tries sender e.refused) }
         ensures unsent { IfErr result (λ e. e.step ≡ self) }
         ensures given_back { IfErr result (λ e. WentOn sender e.refused.sender) }
     {
         match sender.send(ring, &self.configuration(), tries) {
             Ok((sender, receipt)) => {
                 let configuring = self.configuring(receipt, &sender);
+                configuring.commands_are_reserved();
                 Ok((sender, configuring))
             }
             Err(refused) => Err(Unsent {
@@ -116,7 +116,7 @@ impl Detachment {
     /// Its commands for the configuration are sent.
     fn configuring(self, receipt: Receipt, sender: &Sender) -> Configuring
         requires own { receipt.sender ≡ sender.now.number }
-        requires order { IsConfiguring self sender.now.number receipt.number sender.now.history }
+        requires order { IsConfiguringIn self sender.now.number receipt.number sender.now.history }
         ensures { result ≡ record { sid = self; configuration = receipt; sender = sender.now } }
     {
         Configuring {

@@ -2,11 +2,12 @@
 ghost use Rattle.std.specs.Prelude.{◌≡◌, IfOk, IfErr, is_ok};
 ghost use Rattle.ring.specs.sender.Senders.{HasAsked};
 ghost use Rattle.ring.specs.sender.GoingOn.{WentOn};
-ghost use Rattle.detachment.specs.Order.{IsLeaving, IsDetached};
+ghost use Rattle.detachment.specs.Values.{IsLeaving, IsDetached};
 
 use crate::detached::Detached;
 use cmdcodec::Sid;
 use ring::{Receipt, Ring, Sender};
+use ringcore::laws::consumer_trail;
 use ringcore::world_law;
 use std::marker::Model;
 use std::snapshot::Snapshot;
@@ -23,13 +24,13 @@ pub struct Leaving {
 }
 
 impl Model for Leaving {
-    ghost use Rattle.detachment.specs.Values.{EndpointValue, KeepsLeaving};
+    ghost use Rattle.detachment.specs.Values.{EndpointValue, IsLeaving};
 
     ghost Value = { EndpointValue };
 
     ghost view = { λ e. record { sid = e.sid; configuration = e.configuration; endpoint = e.endpoint; sender = e.sent.value } };
 
-    ghost invariant = { λ e. KeepsLeaving (record { sid = e.sid; configuration = e.configuration; endpoint = e.endpoint; sender = e.sent.value }) };
+    ghost invariant = { λ e. IsLeaving (record { sid = e.sid; configuration = e.configuration; endpoint = e.endpoint; sender = e.sent.value }) };
 }
 
 impl Leaving {
@@ -49,8 +50,8 @@ impl Leaving {
 
     /// A witness that the command is reserved behind a run in which those for the configuration are applied. It
     /// does nothing.
-    pub fn is_behind(&self)
-        ensures { IsLeaving self.now.sid self.now.sender.number self.now.configuration.number self.now.endpoint.number self.now.sender.history }
+    pub fn command_is_behind(&self)
+        ensures { IsLeaving self.now }
     {
         let _ = &self.sid;
     }
@@ -62,13 +63,14 @@ impl Leaving {
         requires ring { sender.old.ring ≡ ring.now }
         requires same_sender { WentOn self.sender sender.old }
         ensures asked { HasAsked self.endpoint.number sender.old sender.new (is_ok result) }
-        ensures told { IfOk result (λ d. d ≡ record self { sender = sender.new }) }
-        ensures detached { IfOk result (λ d. IsDetached d.sid sender.new.number d.configuration.number d.endpoint.number sender.new.history) }
-        ensures not_told { IfErr result (λ d. d ≡ self) }
+        ensures told { IfOk result (λ e. e ≡ record self { sender = sender.new }) }
+        ensures detached { IfOk result IsDetached }
+        ensures not_told { IfErr result (λ e. e ≡ self) }
         ensures went_on { WentOn sender.old sender.new }
-        ensures still_same { IfErr result (λ d. WentOn d.sender sender.new) }
+        ensures may_look { IfErr result (λ e. WentOn e.sender sender.new) }
     {
         world_law();
+        consumer_trail();
         if !sender.is_done(ring, &self.endpoint) {
             return Err(self);
         }

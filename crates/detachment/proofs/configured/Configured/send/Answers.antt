@@ -1,6 +1,6 @@
 use Rattle.std.proofs.Common.{subst, ap, ◌∙◌}
 use Rattle.detachment.specs.Commands.{endpoint_words}
-use Rattle.detachment.specs.Order.{IsConfigured}
+use Rattle.detachment.specs.Order.{IsConfiguredIn}
 use Rattle.detachment.specs.Values.{ConfigurationValue}
 use Rattle.ring.proofs.SenderLemmas.GoingOn.{on_again}
 use Rattle.detachment.proofs.GoingOn.{not_at_all}
@@ -11,7 +11,7 @@ pub leaving-leaving-requires-clause-order : goal.leaving-leaving-requires-clause
 leaving-leaving-requires-clause-order c =
     sent_behind _ c.args.tries c.args.sender c.in-Ok.sender c.in-Ok.endpoint c.in-Ok.ensures.sent c.args.self.sender c.args.self.sid c.args.self.configuration.number
         (c.endpoint-batch.ensures.exact ∙ ap endpoint_words (c.new.ensures ∙ ap (λ (v : ConfigurationValue). v.sid) c.self.view_is)) c.requires.same_sender c.in-Ok.ensures.went_on
-        (subst (λ (v : ConfigurationValue). IsConfigured v.sid v.sender.number v.configuration.number v.sender.history) c.self.view_is c.self.invariant.order)
+        (subst (λ (v : ConfigurationValue). IsConfiguredIn v.sid v.sender.number v.configuration.number v.sender.history) c.self.view_is c.self.invariant.order)
 
 pub returns-in-Ok-clause-may_look : goal.returns-in-Ok-clause-may_look
 returns-in-Ok-clause-may_look c = rw c.leaving-leaving.ensures (not_at_all _)
