@@ -9,9 +9,13 @@ use Rattle.ring.specs.sender.Senders.{SenderValue}
 use Rattle.ring.specs.sender.GoingOn.{WentOn}
 use Rattle.ring.specs.sender.Reserving.{IsRefused}
 use Rattle.ring.specs.sender.Sending.{HasTried}
+use Rattle.ring.proofs.SenderLemmas.GoingOn.{on_again}
 
 pub not_at_all : (s : SenderValue) → WentOn s s
 not_at_all s = record { grew = record { newer = []; run_is = refl; trail_is = refl; last = tt }; ring_is = refl; number_is = refl }
+
+pub adds_up : (s t u : SenderValue) → WentOn s t → WentOn t u → WentOn s u
+adds_up s t u one two = on_again one two
 
 -- The run is an older one, continued.
 pub record Continues (older run : Run) : Type 0 where

@@ -27,9 +27,10 @@ legal_pages raw opcode secure size = rw (opcode, secure, size) refl
 
 pub configuration_is_legal : (sid : ℕ) → AreLegal (configuration_words sid)
 unfolding encoding
-configuration_is_legal sid =
-    (legal_as (encoding (CfgiSte sid true)) 0x03 (omega arith) (omega arith) (inl refl),
-    (legal_as (encoding (CfgiCdAll sid)) 0x06 (omega arith) (omega arith) (inr refl), tt))
+configuration_is_legal sid = (
+  legal_as (encoding (CfgiSte sid true)) 0x03 (omega arith) (omega arith) (inl refl),
+  (legal_as (encoding (CfgiCdAll sid)) 0x06 (omega arith) (omega arith) (inr refl), tt),
+)
 
 pub endpoint_is_legal : (sid : ℕ) → AreLegal (endpoint_words sid)
 unfolding encoding
@@ -46,6 +47,6 @@ pub applied_from : (ahead words : List Raw) (run : Run) → AreLegal words → (
 applied_from ahead words run legal taken begins place raw at =
     ap (λ (l : List Taken). slice_get l (length ahead + place)) taken
     ∙ get_map taken_as (advanced run) (length ahead + place) raw
-        (ap (λ (l : List Raw). slice_get l (length ahead + place)) begins.1
-        ∙ get_longer (ahead ++ words) begins.0 (length ahead + place) raw (get_behind ahead words place ∙ at))
+    (ap (λ (l : List Raw). slice_get l (length ahead + place)) begins.1
+    ∙ get_longer (ahead ++ words) begins.0 (length ahead + place) raw (get_behind ahead words place ∙ at))
     ∙ ap (λ (ill : Option Ill). Some record { raw = raw; outcome = if is_none ill then Applied else Replaced }) (legal_at words legal place raw at)

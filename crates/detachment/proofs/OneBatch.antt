@@ -100,4 +100,4 @@ module _ (s number : ℕ) (words : List Raw) (later earlier run : Run) (reserved
   pub words_of_completed : (completed : IsCompleted run s number) → completed.body ≡ words
   words_of_completed completed =
       sym (one_body s (batches earlier) completed.ahead (batches later) completed.behind number words completed.body 1 (length (numbers s (batches run)))
-          (sym among ∙ completed.reserved) in_order)
+      (sym among ∙ completed.reserved) in_order)

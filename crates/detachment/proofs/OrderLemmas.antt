@@ -28,7 +28,7 @@ reserved_on : (number : ℕ) (words : List Raw) (earlier : Run) (s t : SenderVal
 reserved_on number words earlier s t on reserved =
     let longer = still_reserved s.number number words earlier s.history on.grew.newer reserved in
     subst (λ (n : ℕ). HasReserved n words number earlier t.history) (sym on.number_is)
-        (subst (λ (r : Run). HasReserved s.number words number earlier r) (sym on.grew.run_is) longer)
+    (subst (λ (r : Run). HasReserved s.number words number earlier r) (sym on.grew.run_is) longer)
 
 -- ---- what is told
 
@@ -101,28 +101,28 @@ module _ (words : List Raw) (tries : ℕ) (s t : SenderValue) (receipt : Receipt
   goes_on : Continues s.history sent.reserved.reserved.won.grew.before
   goes_on =
       continues_again _ _ _ (by_tries words true sent.reserved.refusals s sent.reserved.after sent.reserved.tried)
-          (continues_again _ _ _ (by_one_step _ _ _ _ sent.reserved.reserved.looked.grew)
-              record { newer = sent.reserved.reserved.won.grew.went_on.newer; run_is = sent.reserved.reserved.won.grew.went_on.run_is })
+      (continues_again _ _ _ (by_one_step _ _ _ _ sent.reserved.reserved.looked.grew)
+      record { newer = sent.reserved.reserved.won.grew.went_on.newer; run_is = sent.reserved.reserved.won.grew.went_on.run_is })
 
   reserved_behind : HasReserved t.number words receipt.number (goes_on.newer ++ s.history) t.history
   reserved_behind = record {
     later = sent.grew.newer;
     run_is =
         sent.grew.run_is ∙ ap (λ (r : Run). sent.grew.newer ++ r)
-            (sent.reserved.reserved.won.grew.run_is
-            ∙ (λ i. let l : Run = (Sender (sym its_sender i), Won words (its_number i)) ∷ goes_on.run_is i in l));
+        (sent.reserved.reserved.won.grew.run_is
+        ∙ (λ i. let l : Run = (Sender (sym its_sender i), Won words (its_number i)) ∷ goes_on.run_is i in l));
   }
 
   pub sent_behind : (told : SenderValue) (sid configuration : ℕ) → words ≡ endpoint_words sid → WentOn told s → WentOn s t
       → IsConfiguredIn sid told.number configuration told.history → IsLeavingIn sid t.number configuration receipt.number t.history
   sent_behind told sid configuration is on sending configured =
       let before : goes_on.newer ++ s.history ≡ (goes_on.newer ++ on.grew.newer) ++ told.history =
-          ap (λ (r : Run). goes_on.newer ++ r) on.grew.run_is ∙ sym (append_assoc goes_on.newer on.grew.newer told.history) in
+      ap (λ (r : Run). goes_on.newer ++ r) on.grew.run_is ∙ sym (append_assoc goes_on.newer on.grew.newer told.history) in
       record {
         between = goes_on.newer ++ on.grew.newer;
         earlier = told.history;
         configured = subst (λ (n : ℕ). IsConfiguredIn sid n configuration told.history) (sym (sending.number_is ∙ on.number_is)) configured;
         reserved =
             subst (λ (ws : List Raw). HasReserved t.number ws receipt.number ((goes_on.newer ++ on.grew.newer) ++ told.history) t.history) is
-                (subst (λ (r : Run). HasReserved t.number words receipt.number r t.history) before reserved_behind);
+            (subst (λ (r : Run). HasReserved t.number words receipt.number r t.history) before reserved_behind);
       }

@@ -10,8 +10,8 @@ use Rattle.detachment.proofs.configured.Configured.send.Goals as goal
 pub leaving-leaving-requires-clause-order : goal.leaving-leaving-requires-clause-order
 leaving-leaving-requires-clause-order c =
     sent_behind _ c.args.tries c.args.sender c.in-Ok.sender c.in-Ok.endpoint c.in-Ok.ensures.sent c.args.self.sender c.args.self.sid c.args.self.configuration.number
-        (c.endpoint-batch.ensures.exact ∙ ap endpoint_words (c.new.ensures ∙ ap (λ (v : ConfigurationValue). v.sid) c.self.view_is)) c.requires.same_sender c.in-Ok.ensures.went_on
-        (subst (λ (v : ConfigurationValue). IsConfiguredIn v.sid v.sender.number v.configuration.number v.sender.history) c.self.view_is c.self.invariant.order)
+    (c.endpoint-batch.ensures.exact ∙ ap endpoint_words (c.new.ensures ∙ ap (λ (v : ConfigurationValue). v.sid) c.self.view_is)) c.requires.same_sender c.in-Ok.ensures.went_on
+    (subst (λ (v : ConfigurationValue). IsConfiguredIn v.sid v.sender.number v.configuration.number v.sender.history) c.self.view_is c.self.invariant.order)
 
 pub returns-in-Ok-clause-may_look : goal.returns-in-Ok-clause-may_look
 returns-in-Ok-clause-may_look c = rw c.leaving-leaving.ensures (not_at_all _)
