@@ -1,13 +1,13 @@
-// A library with one function.
+//! Tests of detachment, in a crate of their own, since building a crate's tests proves the crate again.
 #![tactic(auto)]
 
-ghost use Rattle.std.specs.Prelude.{◌≡◌};
-ghost use Rattle.detachment_tests.specs.Echo.{echo_of};
-
-// The `ensures` clause is the contract: what `echo` returns is `echo_of` of its argument, a definition
-// in `specs/Echo.antt`, which a caller's clause can cite too.
-pub fn echo(x: usize) -> usize
-    ensures { result ≡ echo_of x }
-{
-    x
-}
+#[cfg(test)]
+mod detachment_caller;
+#[cfg(test)]
+mod device;
+#[cfg(test)]
+mod meanwhile;
+#[cfg(test)]
+mod refusals;
+#[cfg(test)]
+mod worked;
