@@ -69,7 +69,8 @@ impl Configuring {
     {
         world_law();
         consumer_trail();
-        if !sender.is_done(ring, &self.receipt) {
+        let done = sender.is_done(ring, &self.receipt);
+        if !done {
             return Err(self);
         }
         sender.trail_stands_in_a_run();

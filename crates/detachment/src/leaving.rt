@@ -71,7 +71,8 @@ impl Leaving {
     {
         world_law();
         consumer_trail();
-        if !sender.is_done(ring, &self.endpoint) {
+        let done = sender.is_done(ring, &self.endpoint);
+        if !done {
             return Err(self);
         }
         sender.trail_stands_in_a_run();
