@@ -2,8 +2,7 @@
 ghost use Rattle.std.specs.Prelude.{◌≡◌, ◌≤◌, true, IfOk, IfErr};
 ghost use Rattle.ring.specs.sender.GoingOn.{WentOn};
 ghost use Rattle.detachment.specs.Commands.{endpoint_words};
-ghost use Rattle.detachment.specs.Order.{IsLeavingIn};
-ghost use Rattle.detachment.specs.Values.{IsConfigured, IsLeaving};
+ghost use Rattle.detachment.specs.Values.{IsConfigured, IsLeaving, endpoint_value};
 ghost use Rattle.detachment.specs.Sending.{HasSentEndpoint, IsUnsent};
 
 use crate::detachment::Detachment;
@@ -24,13 +23,13 @@ pub struct Configured {
 }
 
 impl Model for Configured {
-    ghost use Rattle.detachment.specs.Values.{ConfigurationValue, IsConfigured};
+    ghost use Rattle.detachment.specs.Values.{ConfigurationValue, IsConfigured, configuration_value};
 
     ghost Value = { ConfigurationValue };
 
-    ghost view = { λ c. record { sid = c.sid; configuration = c.receipt; sender = c.told.value } };
+    ghost view = { λ c. configuration_value c.sid c.receipt c.told.value };
 
-    ghost invariant = { λ c. IsConfigured (record { sid = c.sid; configuration = c.receipt; sender = c.told.value }) };
+    ghost invariant = { λ c. IsConfigured (configuration_value c.sid c.receipt c.told.value) };
 }
 
 impl Configured {
@@ -85,9 +84,8 @@ impl Configured {
 
     /// Its command for the endpoint is sent.
     fn leaving(self, endpoint: Receipt, sender: &Sender) -> Leaving
-        requires own { endpoint.sender ≡ sender.now.number }
-        requires order { IsLeavingIn self.sid sender.now.number self.configuration.number endpoint.number sender.now.history }
-        ensures { result ≡ record { sid = self.sid; configuration = self.configuration; endpoint = endpoint; sender = sender.now } }
+        requires { IsLeaving (endpoint_value self.sid self.configuration endpoint sender.now) }
+        ensures { result ≡ endpoint_value self.sid self.configuration endpoint sender.now }
     {
         let Configured {
             sid,

@@ -22,13 +22,13 @@ pub struct Configuring {
 }
 
 impl Model for Configuring {
-    ghost use Rattle.detachment.specs.Values.{ConfigurationValue, IsConfiguring};
+    ghost use Rattle.detachment.specs.Values.{ConfigurationValue, IsConfiguring, configuration_value};
 
     ghost Value = { ConfigurationValue };
 
-    ghost view = { λ c. record { sid = c.sid; configuration = c.receipt; sender = c.sent.value } };
+    ghost view = { λ c. configuration_value c.sid c.receipt c.sent.value };
 
-    ghost invariant = { λ c. IsConfiguring (record { sid = c.sid; configuration = c.receipt; sender = c.sent.value }) };
+    ghost invariant = { λ c. IsConfiguring (configuration_value c.sid c.receipt c.sent.value) };
 }
 
 impl Configuring {

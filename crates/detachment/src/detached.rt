@@ -18,13 +18,13 @@ pub struct Detached {
 }
 
 impl Model for Detached {
-    ghost use Rattle.detachment.specs.Values.{EndpointValue, IsDetached};
+    ghost use Rattle.detachment.specs.Values.{EndpointValue, IsDetached, endpoint_value};
 
     ghost Value = { EndpointValue };
 
-    ghost view = { λ e. record { sid = e.sid; configuration = e.configuration; endpoint = e.endpoint; sender = e.told.value } };
+    ghost view = { λ e. endpoint_value e.sid e.configuration e.endpoint e.told.value };
 
-    ghost invariant = { λ e. IsDetached (record { sid = e.sid; configuration = e.configuration; endpoint = e.endpoint; sender = e.told.value }) };
+    ghost invariant = { λ e. IsDetached (endpoint_value e.sid e.configuration e.endpoint e.told.value) };
 }
 
 impl Detached {

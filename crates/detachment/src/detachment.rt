@@ -3,8 +3,7 @@ ghost use Rattle.std.specs.Prelude.{◌≡◌, ◌≤◌, true, All, None, IfOk,
 ghost use Rattle.cmdcodec.specs.Legality.{first_ill};
 ghost use Rattle.ring.specs.sender.GoingOn.{WentOn};
 ghost use Rattle.detachment.specs.Commands.{configuration_words, endpoint_words};
-ghost use Rattle.detachment.specs.Order.{IsConfiguringIn};
-ghost use Rattle.detachment.specs.Values.{IsConfiguring};
+ghost use Rattle.detachment.specs.Values.{IsConfiguring, configuration_value};
 ghost use Rattle.detachment.specs.Sending.{HasSentConfiguration, IsUnsent};
 
 use crate::configuring::Configuring;
@@ -115,9 +114,8 @@ impl Detachment {
 
     /// Its commands for the configuration are sent.
     fn configuring(self, receipt: Receipt, sender: &Sender) -> Configuring
-        requires own { receipt.sender ≡ sender.now.number }
-        requires order { IsConfiguringIn self sender.now.number receipt.number sender.now.history }
-        ensures { result ≡ record { sid = self; configuration = receipt; sender = sender.now } }
+        requires { IsConfiguring (configuration_value self receipt sender.now) }
+        ensures { result ≡ configuration_value self receipt sender.now }
     {
         Configuring {
             sid: self.sid,

@@ -24,13 +24,13 @@ pub struct Leaving {
 }
 
 impl Model for Leaving {
-    ghost use Rattle.detachment.specs.Values.{EndpointValue, IsLeaving};
+    ghost use Rattle.detachment.specs.Values.{EndpointValue, IsLeaving, endpoint_value};
 
     ghost Value = { EndpointValue };
 
-    ghost view = { λ e. record { sid = e.sid; configuration = e.configuration; endpoint = e.endpoint; sender = e.sent.value } };
+    ghost view = { λ e. endpoint_value e.sid e.configuration e.endpoint e.sent.value };
 
-    ghost invariant = { λ e. IsLeaving (record { sid = e.sid; configuration = e.configuration; endpoint = e.endpoint; sender = e.sent.value }) };
+    ghost invariant = { λ e. IsLeaving (endpoint_value e.sid e.configuration e.endpoint e.sent.value) };
 }
 
 impl Leaving {
