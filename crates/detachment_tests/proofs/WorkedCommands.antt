@@ -1,11 +1,15 @@
 -- The commands of stream 5, and what is covered.
-use Rattle.std.proofs.Common.{◌≡◌, true, false, [], ◌∷◌, Some, None, inl, refl, arith}
+use Rattle.std.proofs.Common.{◌≡◌, ℕ, zero, suc, ◌<◌, true, false, [], ◌∷◌, ◌++◌, Some, None, slice_index_or, refl, ap, ◌∙◌, arith}
+use Rattle.cmdcodec.specs.declared.command.Command.TheVariants.{CfgiSte}
+use Rattle.cmdcodec.specs.declared.command.Command.{Command}
 use Rattle.cmdcodec.specs.Words.{encoding}
+use Rattle.batch.specs.Detaching.{detach_commands}
+use Rattle.caches.specs.Covers.{covers}
 use Rattle.caches.specs.declared.tag.Tag.TheVariants.{Ste, Cd, Atc}
 use Rattle.ring.specs.sender.Senders.{SenderValue}
 use Rattle.ring.specs.sender.GoingOn.{WentOn}
 use Rattle.detachment.specs.Commands.{configuration_commands, endpoint_commands, configuration_words, endpoint_words}
-use Rattle.detachment.specs.Laws.{IsCovered, ConfigurationIsCovered, EndpointIsCovered, NothingIsGoingOn, GoingOnAddsUp}
+use Rattle.detachment.specs.Laws.{IsCovered, ConfigurationIsCovered, EndpointIsCovered, BothDetach, NothingIsGoingOn, GoingOnAddsUp}
 
 -- ---- the words
 
@@ -20,7 +24,16 @@ endpoint_of_five = refl
 -- ---- what they cover
 
 pub entry_is_covered : IsCovered (configuration_commands 5) (Ste 5)
-entry_is_covered = inl refl
+entry_is_covered = (0, CfgiSte 5 true, omega arith, refl, refl)
+
+-- at a place in the list, as `Any` has it
+not_at : (place : ℕ) (command : Command) → place < 2 → slice_index_or (configuration_commands 5) place command ≡ command → ¬ (covers command (Ste 6) ≡ true)
+not_at zero command less is covered = let no : false ≡ true = ap (λ (c : Command). covers c (Ste 6)) is ∙ covered in absurd (cc)
+not_at (suc zero) command less is covered = let no : false ≡ true = ap (λ (c : Command). covers c (Ste 6)) is ∙ covered in absurd (cc)
+not_at (suc (suc place)) command less is covered = omega (arith, less)
+
+pub other_entry_is_not_covered : ¬ IsCovered (configuration_commands 5) (Ste 6)
+other_entry_is_not_covered covered = not_at covered.0 covered.1 covered.2 covered.3 covered.4
 
 pub other_entry_is_not : ConfigurationIsCovered → ¬ IsCovered (configuration_commands 5) (Ste 6)
 other_entry_is_not law covered = let no : false ≡ true = (law 5 (Ste 6)).0 covered in absurd (cc)
@@ -33,6 +46,9 @@ other_endpoint_is_not law covered = let no : false ≡ true = (law 5 (Atc 6 None
 
 pub last_page_of_a_substream_is_covered : EndpointIsCovered → IsCovered (endpoint_commands 5) (Atc 5 (Some 7) 0xfffffffffffff 0)
 last_page_of_a_substream_is_covered law = (law 5 (Atc 5 (Some 7) 0xfffffffffffff 0) (omega arith)).1 refl
+
+pub both_at_once : BothDetach → (sid : ℕ) → detach_commands sid ≡ configuration_commands sid ++ endpoint_commands sid
+both_at_once law = law
 
 -- ---- a sender that goes on
 

@@ -1,5 +1,5 @@
 -- Runs in which a stream isn't as far as one might think.
-use Rattle.std.proofs.Common.{◌≡◌, ℕ, suc, true, false, List, [], ◌∷◌, ◌++◌, Some, None, refl, sym, ap, ◌∙◌, subst, arith}
+use Rattle.std.proofs.Common.{Bool, ◌≡◌, ℕ, suc, true, false, List, [], ◌∷◌, ◌++◌, Some, None, refl, sym, ap, ◌∙◌, subst, arith}
 use Rattle.std.specs.Prelude.{slice_get, length, is_some, Option, ◌+◌}
 use Rattle.cmdcodec.specs.Words.{encoding}
 use Rattle.cmdcodec.specs.Opcodes.{opcode_named}
@@ -10,7 +10,7 @@ use Rattle.ring.specs.sender.Senders.{SenderValue, ReceiptValue}
 use Rattle.ring.specs.sender.Sending.{IsSent, IsGivenUp}
 use Rattle.detachment.specs.Commands.{configuration_words, endpoint_words}
 use Rattle.detachment.specs.Order.{HasReserved, AreAppliedFrom, HasApplied, IsConfiguringIn, IsConfiguredIn, IsLeavingIn, IsDetachedIn}
-use Rattle.detachment.specs.Values.{ConfigurationValue, EndpointValue, IsOwn, IsConfiguring, IsConfigured, IsLeaving, IsDetached}
+use Rattle.detachment.specs.Values.{ConfigurationValue, EndpointValue, configuration_value, endpoint_value, IsOwn, IsConfiguring, IsConfigured, IsLeaving, IsDetached}
 use Rattle.detachment.specs.Sending.{HasSentConfiguration, HasSentEndpoint, IsUnsent}
 
 -- ---- lists with one element, or none
@@ -86,14 +86,14 @@ taken_first = (Consumer, Advance (configuration_words 5 ++ sync_raw 0 1 ∷ []))
 -- ---- what is reserved
 
 pub not_by_another_sender : ¬ HasReserved 1 (configuration_words 5) 1 [] (first ∷ [])
-not_by_another_sender is = let same : 0 ≡ 1 = ap sender_of (only_one first (Sender 1, Won (configuration_words 5) (Some 1)) is.later [] is.run_is).0 in absurd (cc)
+not_by_another_sender is = let same = ap sender_of (only_one first (Sender 1, Won (configuration_words 5) (Some 1)) is.later [] is.run_is).0 in omega (arith, same)
 
 pub not_with_another_number : ¬ HasReserved 0 (configuration_words 5) 2 [] (first ∷ [])
-not_with_another_number is = let same : 1 ≡ 2 = ap number_of (only_one first (Sender 0, Won (configuration_words 5) (Some 2)) is.later [] is.run_is).0 in absurd (cc)
+not_with_another_number is = let same = ap number_of (only_one first (Sender 0, Won (configuration_words 5) (Some 2)) is.later [] is.run_is).0 in omega (arith, same)
 
 pub not_with_other_words : ¬ HasReserved 0 (configuration_words 5) 1 [] (of_six ∷ [])
 unfolding encoding
-not_with_other_words is = let same : 0x600000003 ≡ 0x500000003 = ap low_of (only_one of_six first is.later [] is.run_is).0 in absurd (cc)
+not_with_other_words is = let same = ap low_of (only_one of_six first is.later [] is.run_is).0 in omega (arith, same)
 
 pub not_behind_another_run : ¬ HasReserved 0 (configuration_words 5) 1 (first ∷ []) (first ∷ [])
 not_behind_another_run is = two_of_one is.later is.run_is
@@ -104,7 +104,7 @@ not_behind_another_run is = two_of_one is.later is.run_is
 
 pub not_of_another_stream : ¬ IsConfiguringIn 5 0 1 (of_six ∷ [])
 unfolding encoding
-not_of_another_stream is = let same : 0x600000003 ≡ 0x500000003 = ap low_of (only_one of_six first is.reserved.later is.earlier is.reserved.run_is).0 in absurd (cc)
+not_of_another_stream is = let same = ap low_of (only_one of_six first is.reserved.later is.earlier is.reserved.run_is).0 in omega (arith, same)
 
 -- ---- what is applied
 
@@ -127,7 +127,7 @@ not_applied_for_another is =
     let completed = is.sync.completed in
     let one = only_one (batch_of 1 (configuration_words 6)) (batch_of 1 completed.body) completed.ahead completed.behind completed.reserved in
     let words = ap (λ (b : Batch). b.body) one.0 in
-    let same : 0x600000003 ≡ 0x500000003 = ap first_low (words ∙ is.words_are) in absurd (cc)
+    let same = ap first_low (words ∙ is.words_are) in omega (arith, same)
 
 -- an illegal command, which is replaced, and its CMD_SYNC, which is applied
 abbrev illegal : Raw
@@ -142,8 +142,8 @@ replaced_is_not_applied is =
     let completed = is.sync.completed in
     let one = only_one (batch_of 1 (illegal ∷ [])) (batch_of 1 completed.body) completed.ahead completed.behind completed.reserved in
     let at =
-        subst (λ (ahead : List Batch). slice_get (world illegal_taken).taken (length (joined ahead) + 0) ≡ Some record { raw = illegal; outcome = Applied }) one.1
-            (is.each 0 illegal refl) in
+    subst (λ (ahead : List Batch). slice_get (world illegal_taken).taken (length (joined ahead) + 0) ≡ Some record { raw = illegal; outcome = Applied }) one.1
+    (is.each 0 illegal refl) in
     let no : Replaced ≡ Applied = ap outcome_in at in absurd (cc)
 
 -- ---- the order
@@ -158,9 +158,9 @@ nothing_taken (x ∷ []) earlier is = ap advanced (sym (ap rest_of is))
 nothing_taken (x ∷ y ∷ between) earlier is = let none : [] ≡ y ∷ (between ++ earlier) = ap rest_of is in absurd (cc)
 
 before_the_second : (later between earlier : Run) → too_early ≡ later ++ second ∷ (between ++ earlier) → advanced earlier ≡ []
-before_the_second [] between earlier is = let same : 99 ≡ 0 = ap newest_sender is in absurd (cc)
+before_the_second [] between earlier is = let same = ap newest_sender is in absurd (omega (arith, same))
 before_the_second (x ∷ []) between earlier is = nothing_taken between earlier (ap (λ (run : Run). rest_of (rest_of run)) is)
-before_the_second (x ∷ y ∷ []) between earlier is = let same : 1 ≡ 2 = ap (λ (run : Run). newest_number (rest_of (rest_of run))) is in absurd (cc)
+before_the_second (x ∷ y ∷ []) between earlier is = let same = ap (λ (run : Run). newest_number (rest_of (rest_of run))) is in absurd (omega (arith, same))
 before_the_second (x ∷ y ∷ z ∷ later) between earlier is =
     absurd (nothing_is_more later second (between ++ earlier) (ap (λ (run : Run). rest_of (rest_of (rest_of run))) is))
 
@@ -168,7 +168,7 @@ not_configured_by_nothing : (run : Run) → advanced run ≡ [] → ¬ IsConfigu
 not_configured_by_nothing run none is =
     let completed = is.sync.completed in
     let no : false ≡ true =
-        ap is_some (subst (λ (raws : List Raw). slice_get raws (length (joined completed.ahead ++ completed.body)) ≡ Some (sync_raw 0 1)) none completed.sync) in absurd (cc)
+    ap is_some (subst (λ (raws : List Raw). slice_get raws (length (joined completed.ahead ++ completed.body)) ≡ Some (sync_raw 0 1)) none completed.sync) in absurd (cc)
 
 pub sent_too_early_is_not_behind : ¬ IsLeavingIn 5 0 1 2 too_early
 sent_too_early_is_not_behind is =
@@ -181,15 +181,19 @@ sent_too_early_is_not_detached is = sent_too_early_is_not_behind is.behind
 abbrev in_order : Run
 in_order = second ∷ taken_first ∷ first ∷ []
 
+abbrev has_fourth : List Raw → Bool
+has_fourth (a ∷ b ∷ c ∷ d ∷ raws) = true
+has_fourth raws = false
+
 too_few_taken : (ahead behind : List Batch) (body : List Raw) → batches in_order ≡ ahead ++ batch_of 2 body ∷ behind → ¬ Begins (joined ahead ++ body) (advanced in_order)
-too_few_taken [] behind body is begins = let same : 1 ≡ 2 = ap first_number is in absurd (cc)
+too_few_taken [] behind body is begins = let same = ap first_number is in omega (arith, same)
 too_few_taken (b ∷ []) behind body is begins =
     let one : batch_of 1 (configuration_words 5) ≡ b = cc in
     let two : batch_of 2 (endpoint_words 5) ≡ batch_of 2 body = ap (λ (bs : List Batch). first_or bs (batch_of 2 body)) (ap rest_of is) in
     let all =
-        subst (λ (c : Batch). Begins (joined (c ∷ []) ++ endpoint_words 5) (advanced in_order)) (sym one)
-            (subst (λ (ws : List Raw). Begins (joined (b ∷ []) ++ ws) (advanced in_order)) (sym (ap (λ (c : Batch). c.body) two)) begins) in
-    let long = ap length all.1 in omega (arith, long)
+    subst (λ (c : Batch). Begins (joined (c ∷ []) ++ endpoint_words 5) (advanced in_order)) (sym one)
+    (subst (λ (ws : List Raw). Begins (joined (b ∷ []) ++ ws) (advanced in_order)) (sym (ap (λ (c : Batch). c.body) two)) begins) in
+    let no : false ≡ true = ap has_fourth all.1 in absurd (cc)
 too_few_taken (b ∷ c ∷ ahead) behind body is begins = nothing_is_more ahead (batch_of 2 body) behind (ap (λ (bs : List Batch). rest_of (rest_of bs)) is)
 
 pub reserved_is_not_detached : ¬ IsDetachedIn 5 0 1 2 in_order
@@ -210,6 +214,12 @@ configuration_known ring run = record { sid = 5; configuration = receipt 1; send
 
 abbrev endpoint_known : RingValue → Run → EndpointValue
 endpoint_known ring run = record { sid = 5; configuration = receipt 1; endpoint = receipt 2; sender = knowing ring run }
+
+pub parts_for_the_configuration : (s : SenderValue) → configuration_value 5 (receipt 1) s ≡ record { sid = 5; configuration = receipt 1; sender = s }
+parts_for_the_configuration s = refl
+
+pub parts_for_the_endpoint : (s : SenderValue) → endpoint_value 5 (receipt 1) (receipt 2) s ≡ record { sid = 5; configuration = receipt 1; endpoint = receipt 2; sender = s }
+parts_for_the_endpoint s = refl
 
 pub receipt_of_another_sender : (s : SenderValue) → ¬ IsOwn (record { sender = suc s.number; number = 1 }) s
 receipt_of_another_sender s own = omega (arith, own)
