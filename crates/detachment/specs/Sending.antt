@@ -1,6 +1,5 @@
 -- What is sent for a stream, and what comes back if it isn't.
-use Rattle.std.specs.Prelude.{◌≡◌, ℕ, true, List}
-use Rattle.ring.specs.Runs.{Raw}
+use Rattle.std.specs.Prelude.{◌≡◌, ℕ, true}
 use Rattle.ring.specs.declared.sender.cause.Refused.{Refused}
 use Rattle.ring.specs.sender.Senders.{SenderValue}
 use Rattle.ring.specs.sender.Sending.{IsSent, IsGivenUpWith}
@@ -21,6 +20,9 @@ pub record HasSentEndpoint (c : ConfigurationValue) (tries : ℕ) (old new : Sen
   pub configuration_is : e.configuration ≡ c.configuration
   pub sender_is : e.sender ≡ new
 
--- Nothing was sent: within so many tries these words and their CMD_SYNC were refused.
-abbrev pub IsUnsent : List Raw → ℕ → SenderValue → Refused → Type 0
-IsUnsent words tries sender refused = IsGivenUpWith words true tries sender refused
+-- Nothing was sent: within so many tries the commands and their CMD_SYNC were refused.
+abbrev pub ConfigurationIsUnsent : ℕ → ℕ → SenderValue → Refused → Type 0
+ConfigurationIsUnsent sid tries sender refused = IsGivenUpWith (configuration_words sid) true tries sender refused
+
+abbrev pub EndpointIsUnsent : ConfigurationValue → ℕ → SenderValue → Refused → Type 0
+EndpointIsUnsent c tries sender refused = IsGivenUpWith (endpoint_words c.sid) true tries sender refused

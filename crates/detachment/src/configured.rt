@@ -1,9 +1,8 @@
 //! A stream whose configuration's commands are complete.
-ghost use Rattle.std.specs.Prelude.{◌≡◌, ◌≤◌, true, IfOk, IfErr};
+ghost use Rattle.std.specs.Prelude.{◌≡◌, ◌≤◌, IfOk, IfErr};
 ghost use Rattle.ring.specs.sender.GoingOn.{WentOn};
-ghost use Rattle.detachment.specs.Commands.{endpoint_words};
 ghost use Rattle.detachment.specs.Values.{IsConfigured, IsLeaving, endpoint_value};
-ghost use Rattle.detachment.specs.Sending.{HasSentEndpoint, IsUnsent};
+ghost use Rattle.detachment.specs.Sending.{HasSentEndpoint, EndpointIsUnsent};
 
 use crate::detachment::Detachment;
 use crate::leaving::Leaving;
@@ -13,7 +12,7 @@ use ring::{Receipt, Ring, Sender};
 use std::marker::Model;
 use std::snapshot::Snapshot;
 
-/// A stream whose configuration's commands are complete: its sender was told so.
+/// A stream whose configuration's commands are complete: its sender was told so (own).
 #[derive(Drop)]
 pub struct Configured {
     pub(crate) sid: Sid,
@@ -47,9 +46,10 @@ impl Configured {
         let _ = &self.sid;
     }
 
-    /// Sends the command for the endpoint with its CMD_SYNC, as `Sender::send` does.
+    /// Sends the command for the endpoint with its CMD_SYNC, as `Sender::send` does: with at most `tries` tries, 1
+    /// or more (own).
     ///
-    /// Errors: those of `Sender::send`, with `self` unchanged.
+    /// Errors: the cause of the last try (Q4, Q5, Q1, Q2, Q3), with the sender and `self`.
     pub fn send(
         self,
         ring: &Ring,
@@ -63,7 +63,7 @@ impl Configured {
         ensures ordered { IfOk result (λ r. IsLeaving r.1) }
         ensures went_on { IfOk result (λ r. WentOn sender r.0) }
         ensures may_look { IfOk result (λ r. WentOn r.1.sender r.0) }
-        ensures refused { IfErr result (λ e. IsUnsent (endpoint_words self.sid) tries sender e.refused) }
+        ensures refused { IfErr result (λ e. EndpointIsUnsent self tries sender e.refused) }
         ensures unsent { IfErr result (λ e. e.step ≡ self) }
         ensures given_back { IfErr result (λ e. WentOn sender e.refused.sender) }
         ensures may_send { IfErr result (λ e. WentOn e.step.sender e.refused.sender) }

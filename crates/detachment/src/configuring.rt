@@ -12,7 +12,7 @@ use ringcore::world_law;
 use std::marker::Model;
 use std::snapshot::Snapshot;
 
-/// A stream whose configuration's commands are sent, with their CMD_SYNC. It isn't known to be complete.
+/// A stream whose configuration's commands are sent, with their CMD_SYNC, which isn't known to be complete (own).
 #[derive(Drop)]
 pub struct Configuring {
     pub(crate) sid: Sid,
@@ -53,7 +53,7 @@ impl Configuring {
         let _ = &self.sid;
     }
 
-    /// Asks whether the CMD_SYNC is complete, with the sender that sent it.
+    /// Asks whether the CMD_SYNC is complete, by the completion cell of the sender that sent it (own).
     ///
     /// Errors: `self`, unchanged, if it isn't.
     pub fn look(self, ring: &Ring, sender: &mut Sender) -> Result<Configured, Configuring>

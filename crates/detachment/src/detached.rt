@@ -7,7 +7,7 @@ use ring::{Receipt, Sender};
 use std::marker::Model;
 use std::snapshot::Snapshot;
 
-/// A stream that is taken away from its device: its sender was told that all its commands are complete.
+/// A stream that is taken away from its device: its sender was told that all its commands are complete (own).
 #[derive(Drop)]
 pub struct Detached {
     pub(crate) sid: Sid,

@@ -1,10 +1,10 @@
 //! A stream that is to be taken away from its device.
-ghost use Rattle.std.specs.Prelude.{◌≡◌, ◌≤◌, true, All, None, IfOk, IfErr};
+ghost use Rattle.std.specs.Prelude.{◌≡◌, ◌≤◌, All, None, IfOk, IfErr};
 ghost use Rattle.cmdcodec.specs.Legality.{first_ill};
 ghost use Rattle.ring.specs.sender.GoingOn.{WentOn};
 ghost use Rattle.detachment.specs.Commands.{configuration_words, endpoint_words};
 ghost use Rattle.detachment.specs.Values.{IsConfiguring, configuration_value};
-ghost use Rattle.detachment.specs.Sending.{HasSentConfiguration, IsUnsent};
+ghost use Rattle.detachment.specs.Sending.{HasSentConfiguration, ConfigurationIsUnsent};
 
 use crate::configuring::Configuring;
 use crate::unsent::Unsent;
@@ -17,7 +17,7 @@ use std::snapshot::Snapshot;
 /// `Size` of an ATC_INV for all `2^52` pages.
 const SIZE_OF_ALL: u64 = 52;
 
-/// A stream that is to be taken away from its device.
+/// A stream that is to be taken away from its device (own).
 #[derive(Clone, Copy, Debug, PartialEq, Eq)]
 pub struct Detachment {
     sid: Sid,
@@ -80,9 +80,10 @@ impl Detachment {
         Batch::new(pages).unwrap()
     }
 
-    /// Sends the commands for the configuration with their CMD_SYNC, as `Sender::send` does.
+    /// Sends the commands for the configuration with their CMD_SYNC, as `Sender::send` does: with at most `tries`
+    /// tries, 1 or more (own).
     ///
-    /// Errors: those of `Sender::send`, with `self`.
+    /// Errors: the cause of the last try (Q4, Q5, Q1, Q2, Q3), with the sender and `self`.
     pub fn send(
         self,
         ring: &Ring,
@@ -95,7 +96,7 @@ impl Detachment {
         ensures reserved { IfOk result (λ r. IsConfiguring r.1) }
         ensures went_on { IfOk result (λ r. WentOn sender r.0) }
         ensures may_look { IfOk result (λ r. WentOn r.1.sender r.0) }
-        ensures refused { IfErr result (λ e. IsUnsent (configuration_words self) tries sender e.refused) }
+        ensures refused { IfErr result (λ e. ConfigurationIsUnsent self tries sender e.refused) }
         ensures unsent { IfErr result (λ e. e.step ≡ self) }
         ensures given_back { IfErr result (λ e. WentOn sender e.refused.sender) }
     {

@@ -12,8 +12,8 @@ use ringcore::world_law;
 use std::marker::Model;
 use std::snapshot::Snapshot;
 
-/// A stream whose endpoint's command is sent, behind those for its configuration, with its CMD_SYNC. It isn't
-/// known to be complete.
+/// A stream whose endpoint's command is sent, behind those for its configuration, with its CMD_SYNC, which isn't
+/// known to be complete (own).
 #[derive(Drop)]
 pub struct Leaving {
     pub(crate) sid: Sid,
@@ -56,7 +56,7 @@ impl Leaving {
         let _ = &self.sid;
     }
 
-    /// Asks whether the CMD_SYNC is complete, with the sender that sent it.
+    /// Asks whether the CMD_SYNC is complete, by the completion cell of the sender that sent it (own).
     ///
     /// Errors: `self`, unchanged, if it isn't.
     pub fn look(self, ring: &Ring, sender: &mut Sender) -> Result<Detached, Leaving>

@@ -11,7 +11,7 @@ use Rattle.ring.specs.sender.Sending.{IsSent, IsGivenUp}
 use Rattle.detachment.specs.Commands.{configuration_words, endpoint_words}
 use Rattle.detachment.specs.Order.{HasReserved, AreAppliedFrom, HasApplied, IsConfiguringIn, IsConfiguredIn, IsLeavingIn, IsDetachedIn}
 use Rattle.detachment.specs.Values.{ConfigurationValue, EndpointValue, configuration_value, endpoint_value, IsOwn, IsConfiguring, IsConfigured, IsLeaving, IsDetached}
-use Rattle.detachment.specs.Sending.{HasSentConfiguration, HasSentEndpoint, IsUnsent}
+use Rattle.detachment.specs.Sending.{HasSentConfiguration, HasSentEndpoint, ConfigurationIsUnsent, EndpointIsUnsent}
 
 -- ---- lists with one element, or none
 
@@ -252,5 +252,10 @@ pub sent_for_its_endpoint : (c : ConfigurationValue) (tries : ℕ) (old new : Se
     → (e.sid ≡ c.sid) × (e.configuration ≡ c.configuration) × (e.sender ≡ new) × IsSent (endpoint_words c.sid) tries old new e.endpoint
 sent_for_its_endpoint c tries old new e did = (did.sid_is, did.configuration_is, did.sender_is, did.sent)
 
-pub refused_with_its_sync : (words : List Raw) (tries : ℕ) (s : SenderValue) (refused : Refused) → IsUnsent words tries s refused → IsGivenUp words true tries s refused.cause refused.sender
-refused_with_its_sync words tries s refused is = is
+pub configuration_refused_with_its_sync : (tries : ℕ) (s : SenderValue) (refused : Refused) → ConfigurationIsUnsent 5 tries s refused
+    → IsGivenUp (configuration_words 5) true tries s refused.cause refused.sender
+configuration_refused_with_its_sync tries s refused is = is
+
+pub endpoint_refused_with_its_sync : (c : ConfigurationValue) (tries : ℕ) (s : SenderValue) (refused : Refused) → EndpointIsUnsent c tries s refused
+    → IsGivenUp (endpoint_words c.sid) true tries s refused.cause refused.sender
+endpoint_refused_with_its_sync c tries s refused is = is
