@@ -8,6 +8,8 @@ mod device;
 #[cfg(test)]
 mod meanwhile;
 #[cfg(test)]
+mod receipts;
+#[cfg(test)]
 mod refusals;
 #[cfg(test)]
 mod worked;
