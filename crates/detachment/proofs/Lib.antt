@@ -1,0 +1,4 @@
+pub mod GoingOn
+pub mod OneBatch
+pub mod LegalWords
+pub mod OrderLemmas

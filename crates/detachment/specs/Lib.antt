@@ -1,0 +1,5 @@
+pub mod Commands
+pub mod Laws
+pub mod Order
+pub mod Values
+pub mod Sending

@@ -1,0 +1,2 @@
+pub mod WorkedCommands
+pub mod WorkedSteps

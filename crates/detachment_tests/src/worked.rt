@@ -1,0 +1,29 @@
+//! The words of both batches, by hand from the standard's layouts.
+use cmdcodec::{Raw, Sid};
+use detachment::Detachment;
+
+#[test]
+fn words_of_a_stream(rt: HostRuntime) {
+    let sid = Sid::new(0x12_3456).expect(&rt, "32 bits");
+    let detachment = Detachment::new(sid);
+    assert_eq!(rt; detachment.sid(), sid);
+    // CMD_CFGI_STE has Leaf in bit 64, all have the StreamID in bits 63:32.
+    let entry = Raw {
+        lo: 0x0012_3456_0000_0003,
+        hi: 1,
+    };
+    let descriptors = Raw {
+        lo: 0x0012_3456_0000_0006,
+        hi: 0,
+    };
+    assert_eq!(rt;
+        detachment.configuration().as_slice(),
+        &[entry, descriptors][..]
+    );
+    // CMD_ATC_INV has SSV in bit 11, Global in bit 9 and Size in bits 69:64.
+    let pages = Raw {
+        lo: 0x0012_3456_0000_0040,
+        hi: 52,
+    };
+    assert_eq!(rt; detachment.endpoint().as_slice(), &[pages][..]);
+}
