@@ -72,7 +72,8 @@ impl Batch {
     }
 
     /// Creates a batch that detaches a stream: CMD_CFGI_STE with Leaf 1, CMD_CFGI_CD_ALL, and CMD_ATC_INV for
-    /// all pages, in this order (own). It never fails.
+    /// all pages, in this order (own). It never fails. It is for a unit that works in order, or an endpoint without
+    /// ATS: a real SMMU wants a CMD_SYNC before the ATC_INV (crate detachment).
     pub fn detach(sid: Sid) -> Result<Batch, BatchFault>
         ensures { result ≡ Ok (map encoding (detach_commands sid)) }
     {
@@ -121,7 +122,7 @@ impl Batch {
         append_range(&mut self.commands, vmid, asid, page, pages)
     }
 
-    /// Appends all that `detach` makes, or nothing. Errors: B1 if there is too little room.
+    /// Appends all that `detach` makes, or nothing, for what `detach` is for. Errors: B1 if there is too little room.
     pub fn detach_stream(&mut self, sid: Sid) -> Result<(), BatchFault>
         ensures answer { result ≡ unless (room_refusal self.old (length (detach_commands sid))) tt }
         ensures appended { OnOk result (self.new ≡ self.old ++ map encoding (detach_commands sid)) }
