@@ -5,4 +5,4 @@ use Rattle.guest_commands.proofs.guest.Guest.put.Goals as goal
 pub returns-then-append : goal.returns-then-append
 returns-then-append c =
     put c.legal_words_spell_one_command.ensures.decoded c.args.self.now c.args.raw c.in-Ok.hinted.0 c.in-Ok.hinted.1 c.args.body.now.items c.append.new.body.items c.in-Ok.ensures.found
-    (sym c.stop_of.ensures ∙ c.in_default.is) c.if-append.ensures
+    (sym c.of.ensures ∙ c.in_default.is) c.if-append.ensures
