@@ -3,12 +3,13 @@ ghost use Rattle.std.specs.Prelude.{◌≡◌, ◌≤◌, All, length, take};
 ghost use Rattle.cmdcodec.specs.Bodies.{IsBody};
 ghost use Rattle.smmu_features.specs.Commands.{IsLegalFor};
 ghost use Rattle.guest_commands.specs.Appending.{IsTried, IsPutOr};
-ghost use Rattle.guest_commands.specs.Conversions.{IsConverted};
+ghost use Rattle.guest_commands.specs.Conversions.{batch_of, IsConverted};
 ghost use Rattle.guest_commands.specs.Theorems.{IsIsolated, IsSupported, IsReachedBy};
 
 use crate::ended::{Ended, Stop};
 use crate::guest::Guest;
 use crate::stream_commands::append_of_streams;
+use batch::BorrowedBatch;
 use cmdcodec::{Command, Raw, legal_words_spell_one_command};
 use invalidations::{Body, served_words_are_legal};
 use range_hints::{Ttl, decode_with_hint, encode_with_hint};
@@ -25,11 +26,15 @@ pub struct Converted<'g> {
 }
 
 impl<'g> Model for Converted<'g> {
+    ghost use Rattle.std.specs.Prelude.{◌≤◌, length};
+    ghost use Rattle.cmdcodec.specs.Bodies.{IsBody};
     ghost use Rattle.guest_commands.specs.Conversions.{Conversion};
 
     ghost Value = { Conversion };
 
     ghost view = { λ c. record { guest = c.guest.now; commands = c.commands.items; taken = c.taken; ended = c.ended } };
+
+    ghost invariant = { λ c. 1 ≤ length c.commands.items → IsBody c.commands.items };
 }
 
 impl<'g> Converted<'g> {
@@ -45,6 +50,16 @@ impl<'g> Converted<'g> {
         ensures { result.now ≡ self.now.commands }
     {
         self.commands.as_slice()
+    }
+
+    /// Returns the host's commands as a batch, or `None` if there are none.
+    pub fn batch(&self) -> Option<BorrowedBatch<'_>>
+        ensures { result ≡ batch_of self.now.commands }
+    {
+        match BorrowedBatch::new(self.commands.as_slice()) {
+            Ok(batch) => Some(batch),
+            Err(_) => None,
+        }
     }
 
     /// Returns how many of the guest's commands they are for.

@@ -23,7 +23,7 @@ use Rattle.guest_commands.specs.Mappings.{Mapping, IsMapping, AreApart, attached
 use Rattle.guest_commands.specs.HostCommands.{known_ttl, host_reach, by_va, stream_command}
 use Rattle.guest_commands.specs.Entries.{IsImage, IsOfGuest, IsOwnStream}
 use Rattle.guest_commands.specs.Theorems.{IsIsolated, Has, HasReach, IsSupported, IsNarrowedAlike, Reaches}
-use Rattle.guest_commands.specs.Conversions.{Conversion, stop_of, stop_for, words_for, IsStopped, IsEnd, IsConverted}
+use Rattle.guest_commands.specs.Conversions.{Conversion, batch_of, stop_of, stop_for, words_for, IsStopped, IsEnd, IsConverted}
 use Rattle.guest_commands.specs.Configurations.{concerned, cfgi_ste, IsNext}
 use Rattle.guest_commands.specs.Laws.{AreSeparate}
 
@@ -229,6 +229,12 @@ converted_ends mapping raws conversion is = is.ended
 
 pub of_its_guest : (mapping : Mapping) (raws : List Raw) (conversion : Conversion) → IsConverted mapping raws conversion → conversion.guest ≡ mapping
 of_its_guest mapping raws conversion is = is.guest
+
+pub commands_are_a_batch : batch_of (any_raw ∷ []) ≡ Some (any_raw ∷ [])
+commands_are_a_batch = refl
+
+pub nothing_is_no_batch : batch_of [] ≡ None
+nothing_is_no_batch = refl
 
 -- ---- The host's commands.
 
