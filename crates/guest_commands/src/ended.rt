@@ -7,9 +7,10 @@ use cmdcodec::{Command, Ill, Opcode};
 /// Why a command of a guest is never taken: it is for the hypervisor.
 #[derive(Clone, Copy, PartialEq, Eq)]
 pub enum Stop {
-    /// CMD_SYNC: it completes once all before it have.
+    /// CMD_SYNC: it is complete once the host's commands for all before it are.
     Sync,
-    /// This CMD_CFGI_STE or CMD_CFGI_STE_RANGE: the hypervisor reads these entries of the guest's stream table again.
+    /// This CMD_CFGI_STE or CMD_CFGI_STE_RANGE: the hypervisor reads these entries of the guest's stream table again, and
+    /// writes the host's (`Guest::configuration`).
     Configure(Command),
     /// The guest's queue stops at the command with CERROR_ILL.
     Illegal(Ill),
