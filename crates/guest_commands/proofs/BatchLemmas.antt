@@ -1,5 +1,5 @@
 -- Commands are converted one by one.
-use Rattle.std.proofs.Common.{◌≡◌, ℕ, suc, ◌+◌, ◌<◌, ◌≤◌, ◌==◌, ◌&&◌, Bool, true, false, cond, List, [], ◌∷◌, ◌++◌, length, take, get_or, Option, Some, None, All, Any, refl, sym, ◌∙◌, ap, subst, append-nil, arith, length-append}
+use Rattle.std.proofs.Common.{◌≡◌, ℕ, suc, ◌+◌, ◌<◌, ◌≤◌, ◌==◌, ◌&&◌, Bool, true, false, cond, List, [], ◌∷◌, ◌++◌, length, take, get_or, slice_get, Option, Some, None, All, Any, refl, sym, ◌∙◌, ap, subst, append-nil, arith, length-append}
 use Rattle.std.specs.List.{list_any, filter, filter_map, flat_map, cons_option}
 use Rattle.std.specs.Option.{option_map}
 use Rattle.std.proofs.Math.ListN.{get_or-append}
@@ -26,7 +26,7 @@ use Rattle.guest_commands.specs.Limits.{has_substream}
 use Rattle.guest_commands.specs.Mappings.{Mapping, IsMapping}
 use Rattle.guest_commands.specs.HostCommands.{host_words, tlb_command, stream_words, words_or}
 use Rattle.guest_commands.specs.Theorems.{IsIsolated, IsSupported, IsReachedBy, Reaches}
-use Rattle.guest_commands.specs.Conversions.{stop_of, stop_in, stop_for, ttl_in, words_in, words_for, IsStopped}
+use Rattle.guest_commands.specs.Conversions.{stop_of, stop_in, stop_for, ttl_in, words_in, words_for, IsStopped, IsEnd, IsConverted}
 use Rattle.guest_commands.specs.Appending.{AreHostCommands, IsAppended, IsPut}
 use Rattle.guest_commands.proofs.WordLemmas.{not_sync}
 
@@ -185,3 +185,20 @@ pub stopped_full : (m : Mapping) (count : ℕ) (raw : Raw) (ended : Ended) → I
 stopped_full m count raw End stopped is = absurd stopped
 stopped_full m count raw Full (none, some, many) is = some
 stopped_full m count raw (At stop) stopped is = cc
+
+ended_at : (m : Mapping) (raws : List Raw) (n count : ℕ) (next : Raw) (ended : Ended) → slice_get raws n ≡ Some next → IsStopped m count next ended → IsEnd m raws n count ended
+ended_at m raws n count next End at stopped = absurd stopped
+ended_at m raws n count next Full at stopped = (next, at, stopped)
+ended_at m raws n count next (At stop) at stopped = (next, at, stopped)
+
+-- The conversion ends at the next command.
+pub converted_at : (m : Mapping) (raws old new : List Raw) (n : ℕ) (next : Raw) (ended : Ended) → n < length raws → slice_get raws n ≡ Some next → Progress m raws old n → new ≡ old
+    → IsStopped m (length old) next ended → IsConverted m raws (record { guest = m; commands = new; taken = n; ended = ended })
+converted_at m raws old new n next ended small at progress same stopped = record {
+  guest = refl;
+  some = omega (arith, small);
+  none_stops = progress.none_stops;
+  commands = same ∙ progress.all;
+  few = omega (arith, ap length same, progress.few);
+  ended = subst (λ commands. IsEnd m raws n (length commands) ended) (sym same) (ended_at m raws n (length old) next ended at stopped);
+}

@@ -69,6 +69,11 @@ pub record Conversion : Type 0 where
   pub taken : ℕ
   pub ended : Ended
 
+-- the commands of a batch, which has at least one
+abbrev pub batch_of : List Raw → Option (List Raw)
+batch_of [] = None
+batch_of commands = Some commands
+
 -- Words of the guest behind which there are `count` commands of the host aren't taken for this reason: the host's commands for
 -- them don't fit behind these, or they are never taken.
 abbrev pub IsStopped : Mapping → ℕ → Raw → Ended → Type 0

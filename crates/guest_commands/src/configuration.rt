@@ -2,6 +2,7 @@
 ghost use Rattle.std.specs.Prelude.{◌≡◌, [], All, IfSome, IfNone, false};
 ghost use Rattle.cmdcodec.specs.declared.command.Command.TheVariants.{CfgiSte};
 ghost use Rattle.cmdcodec.specs.Spelling.{Spells};
+ghost use Rattle.cmdcodec.specs.Words.{encoding};
 ghost use Rattle.smmu_features.specs.declared.smmu.Smmu.{Smmu};
 ghost use Rattle.smmu_features.specs.Commands.{IsLegalFor};
 ghost use Rattle.guest_commands.specs.Configurations.{concerned, IsFirst, IsNext, IsOwnEntry, AreConfigured};
@@ -82,6 +83,7 @@ impl Guest {
 impl HostStream {
     /// Returns the words of CMD_CFGI_STE for this stream of the host, with Leaf 0.
     pub fn invalidate_entry(self) -> Raw
+        ensures words { result ≡ encoding (CfgiSte self.sid false) }
         ensures spelled { Spells result (CfgiSte self.sid false) }
         ensures legal { (smmu : Smmu) → IsLegalFor smmu result }
     {

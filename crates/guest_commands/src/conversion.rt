@@ -2,19 +2,17 @@
 ghost use Rattle.std.specs.Prelude.{◌≡◌, ◌≤◌, All, length, take};
 ghost use Rattle.cmdcodec.specs.Bodies.{IsBody};
 ghost use Rattle.smmu_features.specs.Commands.{IsLegalFor};
-ghost use Rattle.guest_commands.specs.Appending.{IsSpelledFor, AreTried, IsTried, IsPutOr};
-ghost use Rattle.guest_commands.specs.Conversions.{stop_of, IsConverted};
-ghost use Rattle.guest_commands.specs.HostCommands.{stream_words};
+ghost use Rattle.guest_commands.specs.Appending.{IsTried, IsPutOr};
+ghost use Rattle.guest_commands.specs.Conversions.{batch_of, IsConverted};
 ghost use Rattle.guest_commands.specs.Theorems.{IsIsolated, IsSupported, IsReachedBy};
 
 use crate::ended::{Ended, Stop};
 use crate::guest::Guest;
-use crate::stream_commands::stream_command;
-use crate::streams::Attachment;
-use cmdcodec::{Command, Opcode, Raw, legal_words_spell_one_command};
+use crate::stream_commands::append_of_streams;
+use batch::BorrowedBatch;
+use cmdcodec::{Command, Raw, legal_words_spell_one_command};
 use invalidations::{Body, served_words_are_legal};
 use range_hints::{Ttl, decode_with_hint, encode_with_hint};
-use smmu_features::Smmu;
 use std::marker::Model;
 
 /// The host's commands for a beginning of a guest's. They borrow the guest: no stream is attached or detached before they
@@ -28,11 +26,15 @@ pub struct Converted<'g> {
 }
 
 impl<'g> Model for Converted<'g> {
+    ghost use Rattle.std.specs.Prelude.{◌≤◌, length};
+    ghost use Rattle.cmdcodec.specs.Bodies.{IsBody};
     ghost use Rattle.guest_commands.specs.Conversions.{Conversion};
 
     ghost Value = { Conversion };
 
     ghost view = { λ c. record { guest = c.guest.now; commands = c.commands.items; taken = c.taken; ended = c.ended } };
+
+    ghost invariant = { λ c. 1 ≤ length c.commands.items → IsBody c.commands.items };
 }
 
 impl<'g> Converted<'g> {
@@ -50,6 +52,16 @@ impl<'g> Converted<'g> {
         self.commands.as_slice()
     }
 
+    /// Returns the host's commands as a batch, or `None` if there are none.
+    pub fn batch(&self) -> Option<BorrowedBatch<'_>>
+        ensures { result ≡ batch_of self.now.commands }
+    {
+        match BorrowedBatch::new(self.commands.as_slice()) {
+            Ok(batch) => Some(batch),
+            Err(_) => None,
+        }
+    }
+
     /// Returns how many of the guest's commands they are for.
     pub fn taken(&self) -> usize
         ensures { result ≡ self.now.taken }
@@ -63,62 +75,6 @@ impl<'g> Converted<'g> {
     {
         self.ended
     }
-}
-
-/// Returns why a command of a guest isn't taken, or `None` for one that is.
-fn stop_of(command: &Command) -> Option<Stop>
-    ensures { result ≡ stop_of command.now }
-{
-    match *command {
-        Command::CfgiSte { .. } | Command::CfgiSteRange { .. } => Some(Stop::Configure(*command)),
-        Command::CmdSync { .. } => Some(Stop::Sync),
-        Command::Kept(kept) => match kept.get().opcode() {
-            Some(Opcode::PrefetchConfig | Opcode::PrefetchAddr) => None,
-            _ => Some(Stop::Refused),
-        },
-        Command::CfgiCd { .. }
-        | Command::CfgiCdAll { .. }
-        | Command::TlbiNhAll { .. }
-        | Command::TlbiNhAsid { .. }
-        | Command::TlbiNhVa { .. }
-        | Command::TlbiNhVaa { .. }
-        | Command::TlbiNsnhAll
-        | Command::AtcInv { .. } => None,
-        _ => Some(Stop::Refused),
-    }
-}
-
-/// The words of the host's command for one of its streams, if the guest's command is of that.
-fn stream_words(smmu: &Smmu, command: &Command, stream: &Attachment) -> Option<Raw>
-    ensures value { result ≡ stream_words smmu.now command.now stream.now }
-    ensures spelled { IsSpelledFor smmu.now command.now stream.now }
-{
-    match stream_command(smmu, command, stream) {
-        None => None,
-        Some(host) => Some(encode_with_hint(&host, Ttl::AnyLevel)),
-    }
-}
-
-/// Appends the host's commands for each of its streams that the guest's command is of, and returns whether they fit.
-fn append_of_streams(
-    smmu: &Smmu,
-    command: &Command,
-    streams: &[Attachment],
-    body: &mut Body,
-) -> bool
-    ensures { AreTried smmu.now command.now streams.now body.old.items body.new.items result }
-{
-    let before = body.len();
-    for stream in streams {
-        if let Some(words) = stream_words(smmu, command, stream) {
-            if body.is_full() {
-                body.truncate(before);
-                return false;
-            }
-            body.push(words);
-        }
-    }
-    true
 }
 
 impl Guest {
@@ -150,7 +106,7 @@ impl Guest {
             Ok(hinted) => hinted,
             Err(ill) => return Some(Ended::At(Stop::Illegal(ill))),
         };
-        if let Some(stop) = stop_of(&command) {
+        if let Some(stop) = Stop::of(&command) {
             return Some(Ended::At(stop));
         }
         if self.append(&command, ttl, body) {

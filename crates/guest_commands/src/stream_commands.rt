@@ -1,10 +1,13 @@
 //! The host's commands of streams.
 ghost use Rattle.std.specs.Prelude.{◌≡◌};
-ghost use Rattle.guest_commands.specs.HostCommands.{accesses, atc_inv, stream_command};
+ghost use Rattle.guest_commands.specs.Appending.{IsSpelledFor, AreTried};
+ghost use Rattle.guest_commands.specs.HostCommands.{accesses, atc_inv, stream_command, stream_words};
 
 use crate::limits::{has_substream, has_substreams};
 use crate::streams::Attachment;
-use cmdcodec::{Command, Page, Sid, Size, Ssid};
+use cmdcodec::{Command, Page, Raw, Sid, Size, Ssid};
+use invalidations::Body;
+use range_hints::{Ttl, encode_with_hint};
 use smmu_features::Smmu;
 
 /// SubstreamID and Global of CMD_ATC_INV with this SSV, or `None` if it is of accesses that the SMMU doesn't have. Where
@@ -51,7 +54,7 @@ fn atc_inv(
 }
 
 /// Returns the host's command for one of its streams, if the guest's command is of that.
-pub(crate) fn stream_command(smmu: &Smmu, command: &Command, stream: &Attachment) -> Option<Command>
+fn stream_command(smmu: &Smmu, command: &Command, stream: &Attachment) -> Option<Command>
     ensures { result ≡ stream_command smmu.now command.now stream.now }
 {
     let host = stream.host;
@@ -78,4 +81,37 @@ pub(crate) fn stream_command(smmu: &Smmu, command: &Command, stream: &Attachment
         }
         _ => None,
     }
+}
+
+/// The words of the host's command for one of its streams, if the guest's command is of that.
+fn stream_words(smmu: &Smmu, command: &Command, stream: &Attachment) -> Option<Raw>
+    ensures value { result ≡ stream_words smmu.now command.now stream.now }
+    ensures spelled { IsSpelledFor smmu.now command.now stream.now }
+{
+    match stream_command(smmu, command, stream) {
+        None => None,
+        Some(host) => Some(encode_with_hint(&host, Ttl::AnyLevel)),
+    }
+}
+
+/// Appends the host's commands for each of its streams that the guest's command is of, and returns whether they fit.
+pub(crate) fn append_of_streams(
+    smmu: &Smmu,
+    command: &Command,
+    streams: &[Attachment],
+    body: &mut Body,
+) -> bool
+    ensures { AreTried smmu.now command.now streams.now body.old.items body.new.items result }
+{
+    let before = body.len();
+    for stream in streams {
+        if let Some(words) = stream_words(smmu, command, stream) {
+            if body.is_full() {
+                body.truncate(before);
+                return false;
+            }
+            body.push(words);
+        }
+    }
+    true
 }

@@ -4,6 +4,7 @@ use cmdcodec::Sid;
 /// A stream of the host.
 #[derive(Clone, Copy, PartialEq, Eq, Debug)]
 pub struct HostStream {
+    /// Its StreamID.
     pub sid: Sid,
     /// Whether its endpoint caches translations (PCIe ATS).
     pub ats: bool,
@@ -14,5 +15,6 @@ pub struct HostStream {
 pub struct Attachment {
     /// The guest's stream.
     pub sid: Sid,
+    /// What it is on the host.
     pub host: HostStream,
 }

@@ -1,9 +1,9 @@
 -- What the definitions say of a guest and its commands.
-use Rattle.std.proofs.Common.{◌≡◌, ◌≢◌, ℕ, zero, suc, ◌+◌, ◌^◌, ◌<◌, ◌≤◌, ◌⊎◌, Bool, true, false, inl, inr, List, [], ◌∷◌, length, take, All, AllPairs, Any, Contains, Option, Some, None, refl, ◌∙◌, ap, arith}
+use Rattle.std.proofs.Common.{◌≡◌, ◌≢◌, ℕ, zero, suc, ◌+◌, ◌<◌, ◌≤◌, Bool, true, false, inl, inr, List, [], ◌∷◌, length, take, All, AllPairs, Some, None, refl, ◌∙◌, ap, arith}
 use Rattle.std.specs.List.{flat_map}
 use Rattle.cmdcodec.specs.declared.raw.Raw.{Raw}
 use Rattle.cmdcodec.specs.declared.command.Command.{Command}
-use Rattle.cmdcodec.specs.declared.command.Command.TheVariants.{CfgiSte, CfgiSteRange, CfgiCd, TlbiNhAll, TlbiNhAsid, TlbiNhVa, TlbiNhVaa, TlbiEl2All, TlbiNsnhAll, AtcInv, CmdSync}
+use Rattle.cmdcodec.specs.declared.command.Command.TheVariants.{CfgiSte, CfgiCd, TlbiNhAll, TlbiNhAsid, TlbiNhVa, TlbiNhVaa, TlbiEl2All, AtcInv, CmdSync}
 use Rattle.cmdcodec.specs.declared.reach.Granule.TheVariants.{Kib4, Kib16, Kib64}
 use Rattle.cmdcodec.specs.declared.reach.Reach.TheVariants.{Page, Range}
 use Rattle.caches.specs.declared.tag.Scope.TheVariants.{Global}
@@ -18,13 +18,12 @@ use Rattle.guest_commands.specs.declared.ended.Ended.TheVariants.{End, Full}
 use Rattle.guest_commands.specs.declared.ended.Stop.TheVariants.{Sync, Configure, Refused}
 use Rattle.guest_commands.specs.declared.fault.AttachFault.TheVariants as fault
 use Rattle.guest_commands.specs.declared.streams.Attachment.{Attachment}
-use Rattle.guest_commands.specs.declared.streams.HostStream.{HostStream}
 use Rattle.guest_commands.specs.Limits.{has_asid, has_vmid, has_stream, has_substream, has_accesses}
-use Rattle.guest_commands.specs.Mappings.{Mapping, IsMapping, AreApart, attached_to, is_used, refusal}
-use Rattle.guest_commands.specs.HostCommands.{known_ttl, host_reach, by_va, by_asid, accesses, stream_command}
+use Rattle.guest_commands.specs.Mappings.{Mapping, IsMapping, AreApart, attached_to, refusal}
+use Rattle.guest_commands.specs.HostCommands.{known_ttl, host_reach, by_va, stream_command}
 use Rattle.guest_commands.specs.Entries.{IsImage, IsOfGuest, IsOwnStream}
 use Rattle.guest_commands.specs.Theorems.{IsIsolated, Has, HasReach, IsSupported, IsNarrowedAlike, Reaches}
-use Rattle.guest_commands.specs.Conversions.{Conversion, stop_of, stop_for, words_for, IsStopped, IsEnd, IsConverted}
+use Rattle.guest_commands.specs.Conversions.{Conversion, batch_of, stop_of, stop_for, words_for, IsStopped, IsEnd, IsConverted}
 use Rattle.guest_commands.specs.Configurations.{concerned, cfgi_ste, IsNext}
 use Rattle.guest_commands.specs.Laws.{AreSeparate}
 
@@ -230,6 +229,12 @@ converted_ends mapping raws conversion is = is.ended
 
 pub of_its_guest : (mapping : Mapping) (raws : List Raw) (conversion : Conversion) → IsConverted mapping raws conversion → conversion.guest ≡ mapping
 of_its_guest mapping raws conversion is = is.guest
+
+pub commands_are_a_batch : batch_of (any_raw ∷ []) ≡ Some (any_raw ∷ [])
+commands_are_a_batch = refl
+
+pub nothing_is_no_batch : batch_of [] ≡ None
+nothing_is_no_batch = refl
 
 -- ---- The host's commands.
 

@@ -1,5 +1,4 @@
 //! The caller that the README of guest_commands shows.
-use batch::BorrowedBatch;
 use cmdcodec::{Raw, Sid, Vmid};
 use guest_commands::{AttachFault, Ended, Guest, HostStream, Stop};
 use smmu_features::Smmu;
@@ -27,9 +26,7 @@ fn a_guests_queue(rt: HostRuntime) -> Result<(), AttachFault> {
         Raw { lo: 0x46, hi: 0 },
     ];
     let converted = guest.convert_all(&own);
-    let batch = BorrowedBatch::new(converted.commands())
-        .ok()
-        .expect(&rt, "1 to 63 commands");
+    let batch = converted.batch().expect(&rt, "not empty");
     let wanted = [
         Raw {
             lo: 0x0005_0021_0000_0011,

@@ -16,6 +16,8 @@ mod limits;
 #[cfg(test)]
 mod ranges;
 #[cfg(test)]
+mod small_world;
+#[cfg(test)]
 mod stops;
 #[cfg(test)]
 mod streams;

@@ -76,8 +76,8 @@ fn a_host_without_ranges(rt: HostRuntime) {
             (0x0005_0007_0000_0012, 0x1234_5701),
             (0x0005_0021_0000_0012, 0x1234_5001),
         ),
-        // four, and one of 16 KiB
-        ((0x0005_0007_0000_3012, 0x1234_5701), ALL),
+        // 16, and one of 16 KiB
+        ((0x0005_0007_0020_3012, 0x1234_5701), ALL),
         ((0x0000_0007_0000_0013, 0x1234_5b01), ALL),
     ];
     expect_one(&rt, &guest, &rows);

@@ -1,7 +1,8 @@
 use Rattle.std.proofs.Common.{◌≡◌, ◌≤◌, All, length, take, sym, subst, arith}
+use Rattle.std.proofs.lemmas.Option.{slice_get-get_or}
 use Rattle.cmdcodec.specs.Bodies.{IsBody}
 use Rattle.guest_commands.specs.Theorems.{IsReachedBy}
-use Rattle.guest_commands.proofs.BatchLemmas.{step, body, stopped_full}
+use Rattle.guest_commands.proofs.BatchLemmas.{step, body, stopped_full, converted_at}
 use Rattle.guest_commands.proofs.guest.Guest.convert_all.Goals as goal
 
 pub loop-taken-preserved : goal.loop-taken-preserved
@@ -27,3 +28,15 @@ returns-clause-complete c =
 
 pub returns-clause-body : goal.returns-clause-body
 returns-clause-body c = body c.args.self.now c.args.raws.now c.loop-taken.body.items c.loop-taken.taken c.loop-taken.invariant
+
+pub invariant_of-result : goal.invariant_of-result
+invariant_of-result c = returns-in-Some-clause-body c
+
+pub invariant_of-result-2 : goal.invariant_of-result-2
+invariant_of-result-2 c = body c.args.self.now c.args.raws.now c.loop-taken.body.items c.loop-taken.taken c.loop-taken.invariant
+
+pub returns-in-Some-clause-converted : goal.returns-in-Some-clause-converted
+returns-in-Some-clause-converted c =
+    converted_at c.args.self.now c.args.raws.now c.loop-taken.body.items c.put.new.body.items c.loop-taken.taken _ c.in-Some.ended c.loop-taken-test.true
+    (slice_get-get_or c.args.raws.now c.loop-taken.taken (record { lo = 0; hi = 0 }) c.loop-taken-test.true) c.loop-taken.invariant
+    c.in-Some.ensures.0 c.in-Some.ensures.1

@@ -4,8 +4,8 @@ use Rattle.std.proofs.lemmas.Bool.{eqb-true}
 use Rattle.guest_commands.specs.Appending.{IsSpelledFor}
 use Rattle.guest_commands.specs.HostCommands.{stream_words}
 use Rattle.guest_commands.proofs.AppendLemmas.{step, full, cut, few_more}
-use Rattle.guest_commands.proofs.conversion.append_of_streams.Goals as goal
-use Rattle.guest_commands.proofs.conversion.append_of_streams.Goals.{in-Some+else-is_full, in_default}
+use Rattle.guest_commands.proofs.stream_commands.append_of_streams.Goals as goal
+use Rattle.guest_commands.proofs.stream_commands.append_of_streams.Goals.{in-Some+else-is_full, in_default}
 
 pub returns-then-is_full : goal.returns-then-is_full
 returns-then-is_full c =
