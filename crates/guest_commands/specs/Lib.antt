@@ -7,3 +7,4 @@ pub mod Conversions
 pub mod Appending
 pub mod Laws
 pub mod Configurations
+pub mod Faults

@@ -76,7 +76,7 @@ impl Guest {
         self.streams.iter().any(|stream| stream.host.sid == host)
     }
 
-    /// Makes a stream of the host one of those that this stream of the guest is. Errors: the first of G1, G2, G3 and G4
+    /// Makes a stream of the host one of those that this stream of the guest is. Errors: the first of V1, V2, V3 and V4
     /// that applies.
     pub fn attach(&mut self, sid: Sid, host: HostStream) -> Result<(), AttachFault>
         ensures ok { OnOk result (self.new ≡ attached self.old sid host) }

@@ -16,6 +16,7 @@ fn refused(rt: HostRuntime) {
         assert_eq!(rt; guest.attach(sid(&rt, 5), host), Err(fault));
     }
     assert!(rt; guest.streams().len() == 3 && guest.is_used(sid(&rt, 0x105)));
+    assert!(rt; AttachFault::Used.label() == "V2" && AttachFault::Full.label() == "V3");
 }
 
 #[test]
