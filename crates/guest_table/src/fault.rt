@@ -11,7 +11,7 @@ pub enum TableFault {
     /// No guest has this VMID.
     #[error("no guest has this VMID")]
     NoGuest,
-    /// Every VMID that the host's SMMU has is a guest's or leaving (SMMU_IDR0.VMID16).
+    /// Every VMID from 1 on that the host's SMMU has is a guest's or leaving (SMMU_IDR0.VMID16).
     #[error("the host's SMMU has no VMID left")]
     NoVmid,
     /// The guest still has a stream.
