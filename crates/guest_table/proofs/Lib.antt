@@ -1,0 +1,3 @@
+pub mod PlaceLemmas
+pub mod SeparateLemmas
+pub mod FaultLemmas
