@@ -1,0 +1,3 @@
+pub mod SendingLemmas
+pub mod CarryingLemmas
+pub mod ConsumedLemmas

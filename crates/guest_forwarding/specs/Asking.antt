@@ -1,0 +1,9 @@
+-- How a sender asks for the last batch.
+use Rattle.std.specs.Prelude.{◌≡◌, Bool, true, Option, Some, None}
+use Rattle.ring.specs.sender.Senders.{SenderValue, ReceiptValue, HasAsked}
+
+-- Without a batch it asks nothing, and the answer is yes. Else it asks once, and the answer is whether the number that it
+-- found is at least that of the last one.
+abbrev pub HasAskedFor : Option ReceiptValue → SenderValue → SenderValue → Bool → Type 0
+HasAskedFor None old new answer = (new ≡ old) × (answer ≡ true)
+HasAskedFor (Some receipt) old new answer = HasAsked receipt.number old new answer

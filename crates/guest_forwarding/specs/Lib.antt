@@ -1,0 +1,5 @@
+pub mod Consumed
+pub mod Values
+pub mod Carrying
+pub mod Forwarding
+pub mod Asking
