@@ -35,9 +35,12 @@ pub none_on_their_way : (f : ForwardingValue) (known : Run) (words : List Raw) �
 none_on_their_way f known [] is = tt
 none_on_their_way f known (w ∷ ws) is = absurd (cc)
 
-pub on_their_way : (words : List Raw) (tries : ℕ) (s t : SenderValue) (receipt : ReceiptValue) → IsSent words tries s t receipt → AreOnTheirWay (behind_batch receipt t) s.history words
-on_their_way [] tries s t receipt sent = tt
-on_their_way (w ∷ ws) tries s t receipt sent = (receipt.number, omega arith, reserved_behind (w ∷ ws) tries s t receipt sent)
+behind_words : (words : List Raw) (tries : ℕ) (s t : SenderValue) (receipt : ReceiptValue) → IsSent words tries s t receipt → AreOnTheirWay (behind_batch receipt t) s.history words
+behind_words [] tries s t receipt sent = tt
+behind_words (w ∷ ws) tries s t receipt sent = (receipt.number, omega arith, reserved_behind (w ∷ ws) tries s t receipt sent)
+
+pub on_their_way : (words : List Raw) (tries : ℕ) (s t : SenderValue) (f : ForwardingValue) → IsLast words tries s t f → AreOnTheirWay f s.history words
+on_their_way words tries s t f last = subst (λ (g : ForwardingValue). AreOnTheirWay g s.history words) (sym last.kept) (behind_words words tries s t last.receipt last.sent)
 
 some_sent : (words : List Raw) (tries : ℕ) (s t : SenderValue) (old new : ForwardingValue) → 1 ≤ length words → IsLast words tries s t new → IsSentIfAny words tries s t old new
 some_sent [] tries s t old new some last = absurd (omega arith)
@@ -60,8 +63,8 @@ module _ (mapping : Mapping) (raws : List Raw) (conversion : Conversion) (forwar
   pub own_words : IsConverted mapping raws conversion → All (IsIsolated mapping) conversion.commands → IsOwn mapping raws forwarded
   own_words is isolated = subst (All (IsIsolated mapping)) (words_are is) isolated
 
-  pub sent_for : (tries : ℕ) (s : SenderValue) (old new : ForwardingValue) (receipt : ReceiptValue) → IsConverted mapping raws conversion → 1 ≤ length conversion.commands
-      → IsSent conversion.commands tries s forwarded.sender receipt → new ≡ behind_batch receipt forwarded.sender → IsSentFor mapping raws tries s old new forwarded
-  sent_for tries s old new receipt is some sent kept =
+  pub sent_for : (tries : ℕ) (s : SenderValue) (old new : ForwardingValue) → IsConverted mapping raws conversion → 1 ≤ length conversion.commands
+      → IsLast conversion.commands tries s forwarded.sender new → IsSentFor mapping raws tries s old new forwarded
+  sent_for tries s old new is some last =
       subst (λ (words : List Raw). IsSentIfAny words tries s forwarded.sender old new) (words_are is)
-      (some_sent conversion.commands tries s forwarded.sender old new some record { receipt = receipt; sent = sent; kept = kept })
+      (some_sent conversion.commands tries s forwarded.sender old new some last)

@@ -1,3 +1,4 @@
 pub mod SendingLemmas
 pub mod CarryingLemmas
 pub mod ConsumedLemmas
+pub mod LawLemmas

@@ -1,9 +1,7 @@
 -- What is sent is reserved behind the run that the sender knew, with the next number.
-use Rattle.std.proofs.Common.{◌≡◌, ℕ, zero, suc, ◌≤◌, Bool, true, List, [], ◌∷◌, ◌++◌, Some, None, sym, ap, ◌∙◌, subst, Result, Ok, Err, arith}
-use Rattle.std.specs.Prelude.{IfOk}
+use Rattle.std.proofs.Common.{◌≡◌, ℕ, zero, suc, ◌≤◌, Bool, true, List, [], ◌∷◌, ◌++◌, Some, None, sym, ap, ◌∙◌, subst, arith}
 use Rattle.cmdcodec.specs.declared.raw.Raw.{Raw}
 use Rattle.ring.specs.Runs.{Sender, Won, Trail, Run, trail_of, numbers_given}
-use Rattle.ring.specs.declared.sender.cause.Refused.{Refused}
 use Rattle.ring.specs.declared.sender.cause.Cause.{Cause}
 use Rattle.ring.specs.declared.sender.cause.Cause.TheVariants.{TooLong, Exhausted, Closed, Full, Contended}
 use Rattle.ring.specs.sender.Senders.{SenderValue, ReceiptValue}
@@ -97,8 +95,3 @@ module _ (words : List Raw) (tries : ℕ) (s t : SenderValue) (receipt : Receipt
 
   pub is_last : receipt.sender ≡ t.number → IsForwarding (behind_batch receipt t)
   is_last own = record { own = own; given = is_given }
-
-pub last_if_ok : (words : List Raw) (tries : ℕ) (s : SenderValue) (answer : Result (SenderValue × ReceiptValue) Refused) → IfOk answer (λ r. IsSent words tries s r.0 r.1)
-    → IfOk answer (λ r. r.1.sender ≡ s.number) → IfOk answer (λ r. WentOn s r.0) → IfOk answer (λ r. IsForwarding (behind_batch r.1 r.0))
-last_if_ok words tries s (Ok r) sent own on = is_last words tries s r.0 r.1 sent (own ∙ sym on.number_is)
-last_if_ok words tries s (Err e) sent own on = tt

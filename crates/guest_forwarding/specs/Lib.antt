@@ -3,3 +3,4 @@ pub mod Values
 pub mod Carrying
 pub mod Forwarding
 pub mod Asking
+pub mod Laws

@@ -2,12 +2,12 @@
 ghost use Rattle.std.specs.Prelude.{◌≡◌, ◌≤◌, true, All, IfOk, IfErr, OnErr};
 ghost use Rattle.cmdcodec.specs.Bodies.{IsBody};
 ghost use Rattle.ring.specs.sender.GoingOn.{WentOn};
-ghost use Rattle.ring.specs.sender.Sending.{IsSent, IsGivenUpWith};
+ghost use Rattle.ring.specs.sender.Sending.{IsGivenUpWith};
 ghost use Rattle.guest_forwarding.specs.Values.{IsForwarding, before_any, behind_batch};
 ghost use Rattle.guest_forwarding.specs.Consumed.{Consumed};
 ghost use Rattle.guest_forwarding.specs.Carrying.{HasConsumed, IsCarriedOut};
-ghost use Rattle.guest_forwarding.specs.Forwarding.{IsTaken, IsOwn, IsSentFor, AreConsumed, IsUnsent};
-ghost use Rattle.guest_forwarding.specs.Asking.{HasAskedFor};
+ghost use Rattle.guest_forwarding.specs.Forwarding.{IsTaken, IsOwn, IsLast, IsSentFor, AreConsumed, IsUnsent};
+ghost use Rattle.guest_forwarding.specs.Asking.{HasAskedFor, AreToldFor};
 
 use crate::forwarded::Forwarded;
 use batch::BorrowedBatch;
@@ -93,14 +93,43 @@ impl Forwarding {
                 ended,
             });
         }
-        match send(ring, sender, converted.commands(), tries) {
+        match self.send(ring, sender, batch_of(converted.commands()), tries) {
+            Ok(sender) => Ok(Forwarded {
+                sender,
+                consumed,
+                ended,
+            }),
+            Err(refused) => Err(refused),
+        }
+    }
+
+    /// Sends a batch of the hypervisor's own, as `Sender::send_borrowed` does: with at most `tries` tries, 1 or more. A
+    /// CMD_SYNC of the guest waits for it, too, as for the CMD_CFGI_STE of a stream that the guest configured (own).
+    ///
+    /// Errors: the cause of the last try (Q4, Q5, Q1, Q2, Q3), with the sender.
+    pub fn send(
+        &mut self,
+        ring: &Ring,
+        sender: Sender,
+        batch: BorrowedBatch<'_>,
+        tries: u32,
+    ) -> Result<Sender, Refused>
+        requires ring { sender.ring ≡ ring.now }
+        requires same_sender { WentOn self.old.sender sender }
+        requires tries { 1 ≤ tries }
+        ensures sent { IfOk result (λ t. IsLast batch.entry tries sender t self.new) }
+        ensures kept { (c : Consumed) → HasConsumed self.old c → HasConsumed self.new c }
+        ensures went_on { IfOk result (λ t. WentOn sender t) }
+        ensures may_go_on { IfOk result (λ t. WentOn self.new.sender t) }
+        ensures refused { IfErr result (λ e. IsGivenUpWith batch.entry true tries sender e) }
+        ensures none_sent { OnErr result (self.new ≡ self.old) }
+        ensures given_back { IfErr result (λ e. WentOn sender e.sender) }
+        ensures may_try_again { IfErr result (λ e. WentOn self.new.sender e.sender) }
+    {
+        match sender.send_borrowed(ring, batch, tries) {
             Ok((sender, receipt)) => {
                 *self = Forwarding::behind(receipt, &sender);
-                Ok(Forwarded {
-                    sender,
-                    consumed,
-                    ended,
-                })
+                Ok(sender)
             }
             Err(refused) => Err(refused),
         }
@@ -123,6 +152,7 @@ impl Forwarding {
         requires ring { sender.old.ring ≡ ring.now }
         requires same_sender { WentOn self.now.sender sender.old }
         ensures asked { HasAskedFor self.now.last sender.old sender.new result }
+        ensures told { result ≡ true → AreToldFor self.now.last sender.new }
         ensures carried_out { result ≡ true → (c : Consumed) → HasConsumed self.now c → IsCarriedOut sender.new c }
         ensures went_on { WentOn sender.old sender.new }
         ensures may_go_on { WentOn self.now.sender sender.new }
@@ -141,22 +171,10 @@ impl Forwarding {
     }
 }
 
-/// Sends these commands with a CMD_SYNC.
-fn send(
-    ring: &Ring,
-    sender: Sender,
-    commands: &[Raw],
-    tries: u32,
-) -> Result<(Sender, Receipt), Refused>
-    requires ring { sender.ring ≡ ring.now }
-    requires tries { 1 ≤ tries }
-    requires body { IsBody commands.now }
-    ensures sent { IfOk result (λ r. IsSent commands.now tries sender r.0 r.1) }
-    ensures own { IfOk result (λ r. IsForwarding (behind_batch r.1 r.0)) }
-    ensures went_on { IfOk result (λ r. WentOn sender r.0) }
-    ensures refused { IfErr result (λ e. IsGivenUpWith commands.now true tries sender e) }
-    ensures given_back { IfErr result (λ e. WentOn sender e.sender) }
+/// These commands as a batch.
+fn batch_of(commands: &[Raw]) -> BorrowedBatch<'_>
+    requires { IsBody commands.now }
+    ensures { result ≡ commands.now }
 {
-    let batch = BorrowedBatch::new(commands).ok().unwrap();
-    sender.send_borrowed(ring, batch, tries)
+    BorrowedBatch::new(commands).ok().unwrap()
 }

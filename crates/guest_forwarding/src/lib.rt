@@ -6,6 +6,8 @@
 
 mod forwarded;
 mod forwarding;
+mod laws;
 
 pub use forwarded::Forwarded;
 pub use forwarding::Forwarding;
+pub use laws::carried_out_is_applied;

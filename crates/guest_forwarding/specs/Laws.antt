@@ -1,0 +1,30 @@
+-- What is carried out was applied.
+use Rattle.std.specs.Prelude.{◌≡◌, ℕ, true, List, Contains, Some, slice_get}
+use Rattle.cmdcodec.specs.declared.command.Command.{Command}
+use Rattle.caches.specs.declared.tag.Tag.{Tag}
+use Rattle.caches.specs.Covers.{covers}
+use Rattle.range_hints.specs.declared.ttl.Ttl.{Ttl}
+use Rattle.range_hints.specs.Hints.{SpellsWithHint}
+use Rattle.ring.specs.Runs.{Raw, Applied, Run, world}
+use Rattle.ring.specs.sender.Senders.{SenderValue}
+use Rattle.guest_commands.specs.Entries.{IsImage}
+use Rattle.guest_commands.specs.Theorems.{Reaches}
+use Rattle.guest_forwarding.specs.Consumed.{Consumed}
+use Rattle.guest_forwarding.specs.Carrying.{IsAppliedBehind, IsCarriedOut}
+
+-- A command of the host that covers this entry for a command of the guest was taken and applied. It is of a batch that the
+-- sender reserved behind the run `known`, and that is applied as a whole.
+pub record HasReached (command : Command) (ttl : Ttl) (image : Tag) (known : Run) (s : SenderValue) : Type 0 where
+  pub words : List Raw
+  pub behind : IsAppliedBehind known words s
+  pub host : Raw
+  pub among : Contains words host
+  pub place : ℕ
+  pub applied : slice_get (world s.history).taken place ≡ Some record { raw = host; outcome = Applied }
+  pub covers : Reaches command ttl image host
+
+abbrev pub CarriedOutIsApplied : Type 0
+CarriedOutIsApplied =
+    (s : SenderValue) (c : Consumed) → IsCarriedOut s c → (command : Command) (ttl : Ttl) (tag image : Tag)
+    → SpellsWithHint c.raw command ttl → covers command tag ≡ true → IsImage c.mapping tag image
+    → HasReached command ttl image c.known s
