@@ -1,5 +1,5 @@
 -- What is converted is consumed once it is sent.
-use Rattle.std.proofs.Common.{◌≡◌, ℕ, ◌≤◌, ◌==◌, Bool, true, false, List, [], ◌∷◌, length, take, map, All, Some, None, refl, sym, ap, ◌∙◌, subst, eqb-true, arith}
+use Rattle.std.proofs.Common.{◌≡◌, ℕ, ◌≤◌, ◌==◌, Bool, true, false, List, [], ◌∷◌, length, take, All, None, refl, sym, ap, ◌∙◌, subst, eqb-true, arith}
 use Rattle.std.proofs.lemmas.List.Elements.{All-weaker, All-map}
 use Rattle.cmdcodec.specs.declared.raw.Raw.{Raw}
 use Rattle.cmdcodec.specs.Legality.{first_ill}
@@ -12,10 +12,10 @@ use Rattle.guest_commands.specs.Mappings.{Mapping}
 use Rattle.guest_commands.specs.Theorems.{IsReachedBy, IsIsolated}
 use Rattle.guest_commands.specs.Conversions.{Conversion, IsConverted}
 use Rattle.guest_forwarding.specs.declared.forwarded.Forwarded.{Forwarded}
-use Rattle.guest_forwarding.specs.Consumed.{Consumed, consumed_by, host_commands}
+use Rattle.guest_forwarding.specs.Consumed.{host_commands}
 use Rattle.guest_forwarding.specs.Values.{ForwardingValue, behind_batch}
 use Rattle.guest_forwarding.specs.Carrying.{AreOnTheirWay, HasConsumed}
-use Rattle.guest_forwarding.specs.Forwarding.{words_of, IsTaken, IsOwn, AreConsumed, IsLast, IsSentIfAny, IsSentFor}
+use Rattle.guest_forwarding.specs.Forwarding.{words_of, IsOwn, AreConsumed, IsLast, IsSentIfAny, AreSent}
 use Rattle.guest_forwarding.proofs.SendingLemmas.{reserved_behind}
 
 legal_words : (smmu : Smmu) (words : List Raw) → All (IsLegalFor smmu) words → All (λ raw. first_ill raw ≡ None) words
@@ -64,7 +64,7 @@ module _ (mapping : Mapping) (raws : List Raw) (conversion : Conversion) (forwar
   own_words is isolated = subst (All (IsIsolated mapping)) (words_are is) isolated
 
   pub sent_for : (tries : ℕ) (s : SenderValue) (old new : ForwardingValue) → IsConverted mapping raws conversion → 1 ≤ length conversion.commands
-      → IsLast conversion.commands tries s forwarded.sender new → IsSentFor mapping raws tries s old new forwarded
+      → IsLast conversion.commands tries s forwarded.sender new → AreSent mapping raws tries s old new forwarded
   sent_for tries s old new is some last =
       subst (λ (words : List Raw). IsSentIfAny words tries s forwarded.sender old new) (words_are is)
       (some_sent conversion.commands tries s forwarded.sender old new some last)

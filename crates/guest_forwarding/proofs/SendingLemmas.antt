@@ -10,7 +10,6 @@ use Rattle.ring.specs.sender.Reserving.{IsRefused}
 use Rattle.ring.specs.sender.GoingOn.{WentOn}
 use Rattle.ring.specs.sender.Sending.{HasTried, IsSent}
 use Rattle.ringcore.specs.machine.StepAnswers.{next_number}
-use Rattle.detachment.specs.Order.{HasReserved}
 use Rattle.detachment.proofs.GoingOn.{Continues, continues_again, by_one_step, by_tries}
 use Rattle.guest_forwarding.specs.Values.{IsForwarding, behind_batch}
 use Rattle.guest_forwarding.specs.Carrying.{IsReservedBehind}

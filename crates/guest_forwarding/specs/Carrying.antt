@@ -51,3 +51,7 @@ pub record IsCarriedOut (s : SenderValue) (c : Consumed) : Type 0 where
   pub words : List Raw
   pub reached : IsReachedBy c.mapping words c.raw
   pub done : AreCarriedOut c.known words s
+
+-- All that was consumed is carried out.
+abbrev pub IsAllCarriedOut : ForwardingValue → SenderValue → Type 0
+IsAllCarriedOut f s = (c : Consumed) → HasConsumed f c → IsCarriedOut s c

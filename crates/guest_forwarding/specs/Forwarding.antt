@@ -49,8 +49,8 @@ abbrev pub IsSentIfAny : List Raw → ℕ → SenderValue → SenderValue → Fo
 IsSentIfAny [] tries s t old new = (t ≡ s) × (new ≡ old)
 IsSentIfAny words tries s t old new = IsLast words tries s t new
 
-abbrev pub IsSentFor : Mapping → List Raw → ℕ → SenderValue → ForwardingValue → ForwardingValue → Forwarded → Type 0
-IsSentFor mapping raws tries s old new forwarded = IsSentIfAny (words_of mapping raws forwarded) tries s forwarded.sender old new
+abbrev pub AreSent : Mapping → List Raw → ℕ → SenderValue → ForwardingValue → ForwardingValue → Forwarded → Type 0
+AreSent mapping raws tries s old new forwarded = IsSentIfAny (words_of mapping raws forwarded) tries s forwarded.sender old new
 
 -- ---- refused
 

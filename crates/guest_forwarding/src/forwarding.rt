@@ -5,8 +5,8 @@ ghost use Rattle.ring.specs.sender.GoingOn.{WentOn};
 ghost use Rattle.ring.specs.sender.Sending.{IsGivenUpWith};
 ghost use Rattle.guest_forwarding.specs.Values.{IsForwarding, before_any, behind_batch};
 ghost use Rattle.guest_forwarding.specs.Consumed.{Consumed};
-ghost use Rattle.guest_forwarding.specs.Carrying.{HasConsumed, IsCarriedOut};
-ghost use Rattle.guest_forwarding.specs.Forwarding.{IsTaken, IsOwn, IsLast, IsSentFor, AreConsumed, IsUnsent};
+ghost use Rattle.guest_forwarding.specs.Carrying.{HasConsumed, IsAllCarriedOut};
+ghost use Rattle.guest_forwarding.specs.Forwarding.{IsTaken, IsOwn, IsLast, AreSent, AreConsumed, IsUnsent};
 ghost use Rattle.guest_forwarding.specs.Asking.{HasAskedFor, AreToldFor};
 
 use crate::forwarded::Forwarded;
@@ -74,7 +74,7 @@ impl Forwarding {
         requires tries { 1 ≤ tries }
         ensures taken { IfOk result (IsTaken guest.now commands.now) }
         ensures own { IfOk result (IsOwn guest.now commands.now) }
-        ensures sent { IfOk result (IsSentFor guest.now commands.now tries sender self.old self.new) }
+        ensures sent { IfOk result (AreSent guest.now commands.now tries sender self.old self.new) }
         ensures consumed { IfOk result (AreConsumed guest.now commands.now sender self.new) }
         ensures kept { (c : Consumed) → HasConsumed self.old c → HasConsumed self.new c }
         ensures went_on { IfOk result (λ f. WentOn sender f.sender) }
@@ -153,7 +153,7 @@ impl Forwarding {
         requires same_sender { WentOn self.now.sender sender.old }
         ensures asked { HasAskedFor self.now.last sender.old sender.new result }
         ensures told { result ≡ true → AreToldFor self.now.last sender.new }
-        ensures carried_out { result ≡ true → (c : Consumed) → HasConsumed self.now c → IsCarriedOut sender.new c }
+        ensures carried_out { result ≡ true → IsAllCarriedOut self.now sender.new }
         ensures went_on { WentOn sender.old sender.new }
         ensures may_go_on { WentOn self.now.sender sender.new }
     {

@@ -1,6 +1,4 @@
-use Rattle.std.proofs.Common.{subst, sym, ap, ◌∙◌, ℕ, Option, Some}
-use Rattle.ring.specs.sender.GoingOn.{WentOn}
-use Rattle.ring.specs.sender.Senders.{ReceiptValue}
+use Rattle.std.proofs.Common.{subst, sym, ap, ◌∙◌, ℕ}
 use Rattle.ring.specs.table.Histories.{AreApplied}
 use Rattle.ring.proofs.SenderLemmas.GoingOn.{on_again}
 use Rattle.guest_forwarding.specs.Values.{ForwardingValue}

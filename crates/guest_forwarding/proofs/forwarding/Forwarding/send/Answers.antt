@@ -1,5 +1,4 @@
 use Rattle.std.proofs.Common.{subst, sym, ◌∙◌}
-use Rattle.ring.specs.sender.GoingOn.{WentOn}
 use Rattle.ring.proofs.SenderLemmas.GoingOn.{on_again}
 use Rattle.detachment.proofs.GoingOn.{not_at_all}
 use Rattle.guest_forwarding.specs.Consumed.{Consumed}
