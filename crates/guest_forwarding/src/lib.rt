@@ -10,4 +10,4 @@ mod laws;
 
 pub use forwarded::Forwarded;
 pub use forwarding::Forwarding;
-pub use laws::carried_out_is_applied;
+pub use laws::{carried_out_is_applied, no_older_entry_is_held};

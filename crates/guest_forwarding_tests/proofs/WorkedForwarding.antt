@@ -1,5 +1,5 @@
 -- What the definitions say of a guest's commands on their way.
-use Rattle.std.proofs.Common.{◌≡◌, ℕ, ◌≤◌, Bool, true, List, [], ◌∷◌, ◌++◌, length, take, All, Contains, Some, None, refl, ap, arith}
+use Rattle.std.proofs.Common.{◌≡◌, ℕ, ◌≤◌, Bool, true, List, [], ◌∷◌, ◌++◌, ◌+◌, length, take, All, Some, None, refl, ap, arith}
 use Rattle.std.specs.Prelude.{slice_get}
 use Rattle.cmdcodec.specs.declared.raw.Raw.{Raw}
 use Rattle.cmdcodec.specs.declared.command.Command.{Command}
@@ -7,7 +7,7 @@ use Rattle.cmdcodec.specs.Legality.{first_ill}
 use Rattle.caches.specs.declared.tag.Tag.{Tag}
 use Rattle.range_hints.specs.declared.ttl.Ttl.{Ttl}
 use Rattle.ring.specs.Rings.{RingValue}
-use Rattle.ring.specs.Runs.{Who, Sender, Event, Won, Applied, Run, numbers_given, world}
+use Rattle.ring.specs.Runs.{Who, Sender, Event, Won, Applied, Run, numbers_given, world, joined}
 use Rattle.ring.specs.table.Histories.{AreApplied}
 use Rattle.ring.specs.declared.sender.cause.Refused.{Refused}
 use Rattle.ring.specs.sender.Senders.{SenderValue, ReceiptValue, HasAsked}
@@ -99,9 +99,9 @@ pub each_is_carried_out : (f : ForwardingValue) (s : SenderValue) (c : Consumed)
 each_is_carried_out f s c all consumed = all c consumed
 
 pub reached_by_what_was_applied : (command : Command) (ttl : Ttl) (image : Tag) (known : Run) (s : SenderValue) → HasReached command ttl image known s
-    → (words : List Raw) × (host : Raw) × (place : ℕ) × IsAppliedBehind known words s × Contains words host × Reaches command ttl image host
-    × (slice_get (world s.history).taken place ≡ Some record { raw = host; outcome = Applied })
-reached_by_what_was_applied command ttl image known s is = (is.words, is.host, is.place, is.behind, is.among, is.covers, is.applied)
+    → (words : List Raw) × (host : Raw) × (index : ℕ) × (behind : IsAppliedBehind known words s) × (slice_get words index ≡ Some host) × Reaches command ttl image host
+    × (slice_get (world s.history).taken (length (joined behind.applied.sync.completed.ahead) + index) ≡ Some record { raw = host; outcome = Applied })
+reached_by_what_was_applied command ttl image known s is = (is.words, is.host, is.index, is.behind, is.among, is.covers, is.applied)
 
 -- ---- what is consumed
 

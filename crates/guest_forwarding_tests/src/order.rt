@@ -3,12 +3,13 @@ use crate::words::{ADDRESS_SPACE, DESCRIPTORS, SYNC, guest};
 use caches::Caches;
 use engine::{Engine, RunAnswer};
 use guest_commands::{Ended, Stop};
-use guest_forwarding::{Forwarded, Forwarding, carried_out_is_applied};
+use guest_forwarding::{Forwarded, Forwarding, carried_out_is_applied, no_older_entry_is_held};
 use ring::{Ring, RingFault};
 
 #[test]
 fn told_only_behind_the_last(rt: HostRuntime) -> Result<(), RingFault> {
     carried_out_is_applied();
+    no_older_entry_is_held();
     let (ring, mut senders, consumer) = Ring::new(rt.alloc(), 4, 1, 100)?;
     let sender = senders.pop().expect(&rt, "one sender");
     let caches = Caches::new(rt.alloc(), 8).expect(&rt, "1 to 65,536");
