@@ -16,6 +16,7 @@ use Rattle.guest_forwarding.specs.Consumed.{Consumed}
 use Rattle.guest_forwarding.specs.Values.{ForwardingValue, IsReceiptOfSender, IsForwarding, behind_batch}
 use Rattle.guest_forwarding.specs.Carrying.{IsReservedBehind, IsUpTo, AreOnTheirWay, HasConsumed, AreCarriedOut, IsCarriedOut}
 use Rattle.guest_forwarding.proofs.SendingLemmas.{given_on}
+use Rattle.guest_forwarding.proofs.OnePlace.{is_late}
 
 -- ---- what is reserved stays so
 
@@ -68,13 +69,15 @@ module _ (laws : Laws) (t : SenderValue) (is : IsHistory t.ring.made_with (Sende
       laws.outcomes t.ring.made_with t.history is.stands.after.run_is
       ∙ ap (map taken_as) (sym (laws.advanced_is t.ring.made_with t.history is.stands.after.run_is))
 
+  numbered_then : NumberedInOrder t.history
+  numbered_then = laws.numbered t.ring.made_with t.history is.stands.after.run_is
+
   applied_batch : (number told : ℕ) (words : List Raw) → AreLegal words → (earlier : Run) → HasReserved t.number words number earlier t.history → number ≤ told
       → AreApplied t.history t.number told → HasApplied t.number words number t.history
   applied_batch number told words legal earlier reserved up applied =
-      let numbered = laws.numbered t.ring.made_with t.history is.stands.after.run_is in
-      let some = from_one t.number number words reserved.later earlier t.history reserved.run_is numbered in
+      let some = from_one t.number number words reserved.later earlier t.history reserved.run_is numbered_then in
       let sync = applied number some up in
-      let words_are = words_of_completed t.number number words reserved.later earlier t.history reserved.run_is numbered sync.completed in
+      let words_are = words_of_completed t.number number words reserved.later earlier t.history reserved.run_is numbered_then sync.completed in
       record {
         sync = sync;
         words_are = words_are;
@@ -87,10 +90,12 @@ module _ (laws : Laws) (t : SenderValue) (is : IsHistory t.ring.made_with (Sende
   carried_words f receipt last on applied known [] legal sent = tt
   carried_words f receipt last on applied known (w ∷ ws) legal (number, up, reserved) =
       let now = reserved_on known (w ∷ ws) number f.sender t on reserved in
+      let all = applied_batch number receipt.number (w ∷ ws) legal (now.between ++ known) now.reserved (subst (λ (o : Option ReceiptValue). IsUpTo o number) last up) applied in
       record {
         number = number;
         reserved = now;
-        applied = applied_batch number receipt.number (w ∷ ws) legal (now.between ++ known) now.reserved (subst (λ (o : Option ReceiptValue). IsUpTo o number) last up) applied;
+        applied = all;
+        late = is_late t.number number (w ∷ ws) now.reserved.later now.between known t.history now.reserved.run_is numbered_then all.sync.completed;
       }
 
   pub carried_out : (f : ForwardingValue) (receipt : ReceiptValue) → f.last ≡ Some receipt → WentOn f.sender t → AreApplied t.history t.number receipt.number

@@ -11,8 +11,8 @@ use Rattle.ring.specs.sender.Senders.{SenderValue}
 use Rattle.ringcore.proofs.WorldLemmas.Lists.{get_longer}
 use Rattle.engine.specs.Settled.{IsSettledEntry}
 use Rattle.guest_commands.specs.Theorems.{Reaches}
-use Rattle.guest_forwarding.specs.Carrying.{AreCarriedOut}
-use Rattle.guest_forwarding.specs.Laws.{place_of, HasReached, CarriedOutIsApplied, NoOlderEntryIsHeld}
+use Rattle.guest_forwarding.specs.Carrying.{place_of, AreCarriedOut}
+use Rattle.guest_forwarding.specs.Laws.{HasReached, CarriedOutIsApplied, NoOlderEntryIsHeld}
 
 get_at : {A : Type 0} (xs : List A) (place : ℕ) (x : A) → place < length xs → slice_index_or xs place x ≡ x → slice_get xs place ≡ Some x
 get_at [] place x less at = absurd (omega arith)
@@ -71,6 +71,6 @@ pub no_older_entry_is_held : NoOlderEntryIsHeld
 no_older_entry_is_held s c is newer entries settled command ttl tag image spelled covered imaged entry held =
     let reached = carried_out_is_applied s c is command ttl tag image spelled covered imaged in (
       reached,
-      younger (world (newer ++ s.history)).taken image entry (place_of reached.behind + reached.index) reached.host command ttl (settled image entry held)
-          (still_taken newer s.history (place_of reached.behind + reached.index) record { raw = reached.host; outcome = Applied } reached.applied) reached.covers (either entry.born (place_of reached.behind + reached.index)),
+      younger (world (newer ++ s.history)).taken image entry (place_of reached.behind.applied + reached.index) reached.host command ttl (settled image entry held)
+          (still_taken newer s.history (place_of reached.behind.applied + reached.index) record { raw = reached.host; outcome = Applied } reached.applied) reached.covers (either entry.born (place_of reached.behind.applied + reached.index)),
     )

@@ -1,7 +1,7 @@
 -- How far the host's commands for a guest's have come, by the run of a ring: newest event first.
-use Rattle.std.specs.Prelude.{◌≡◌, ◌≤◌, ⊤, ℕ, List, [], ◌++◌, Option, Some, None, All}
+use Rattle.std.specs.Prelude.{◌≡◌, ◌≤◌, ⊤, ℕ, List, [], ◌++◌, length, Option, Some, None, All}
 use Rattle.cmdcodec.specs.Legality.{first_ill}
-use Rattle.ring.specs.Runs.{Raw, Run}
+use Rattle.ring.specs.Runs.{Raw, Run, batches, joined}
 use Rattle.ring.specs.sender.Senders.{SenderValue, ReceiptValue}
 use Rattle.detachment.specs.Order.{HasReserved, HasApplied}
 use Rattle.guest_commands.specs.Theorems.{IsReachedBy}
@@ -35,11 +35,21 @@ pub record HasConsumed (f : ForwardingValue) (c : Consumed) : Type 0 where
 
 -- ---- carried out
 
--- Such a batch is applied, with all that was reserved before it, and so is its CMD_SYNC.
+-- how many commands were reserved in a run
+abbrev pub reserved_in : Run → ℕ
+reserved_in run = length (joined (batches run))
+
+-- the place of an applied batch among all commands that were taken: behind those of the batches ahead of it
+abbrev pub place_of : {sender : ℕ} {words : List Raw} {number : ℕ} {run : Run} → HasApplied sender words number run → ℕ
+place_of applied = length (joined applied.sync.completed.ahead)
+
+-- Such a batch is applied, with all that was reserved before it, and so is its CMD_SYNC. It was taken behind all that was
+-- reserved in the run `known`.
 pub record IsAppliedBehind (known : Run) (words : List Raw) (s : SenderValue) : Type 0 where
   pub number : ℕ
   pub reserved : IsReservedBehind known words number s
   pub applied : HasApplied s.number words number s.history
+  pub late : reserved_in known ≤ place_of applied
 
 abbrev pub AreCarriedOut : Run → List Raw → SenderValue → Type 0
 AreCarriedOut known [] s = ⊤

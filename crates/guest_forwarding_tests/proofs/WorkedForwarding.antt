@@ -7,7 +7,7 @@ use Rattle.cmdcodec.specs.Legality.{first_ill}
 use Rattle.caches.specs.declared.tag.Tag.{Tag}
 use Rattle.range_hints.specs.declared.ttl.Ttl.{Ttl}
 use Rattle.ring.specs.Rings.{RingValue}
-use Rattle.ring.specs.Runs.{Who, Sender, Event, Won, Applied, Run, numbers_given, world, joined}
+use Rattle.ring.specs.Runs.{Who, Sender, Event, Won, Applied, Run, numbers_given, batches, world, joined}
 use Rattle.ring.specs.table.Histories.{AreApplied}
 use Rattle.ring.specs.declared.sender.cause.Refused.{Refused}
 use Rattle.ring.specs.sender.Senders.{SenderValue, ReceiptValue, HasAsked}
@@ -86,8 +86,9 @@ consumed_by_legal_words f c is = (is.words, is.legal, is.reached, is.sent)
 -- ---- what is carried out
 
 pub applied_by_this_sender : (known : Run) (words : List Raw) (s : SenderValue) → IsAppliedBehind known words s
-    → (number : ℕ) × IsReservedBehind known words number s × HasApplied s.number words number s.history
-applied_by_this_sender known words s is = (is.number, is.reserved, is.applied)
+    → (number : ℕ) × IsReservedBehind known words number s × (applied : HasApplied s.number words number s.history)
+    × (length (joined (batches known)) ≤ length (joined applied.sync.completed.ahead))
+applied_by_this_sender known words s is = (is.number, is.reserved, is.applied, is.late)
 
 pub words_are_carried_out : (known : Run) (word : Raw) (words : List Raw) (s : SenderValue) → AreCarriedOut known (word ∷ words) s → IsAppliedBehind known (word ∷ words) s
 words_are_carried_out known word words s are = are
