@@ -25,8 +25,8 @@ abbrev pub AreOnTheirWay : ForwardingValue → Run → List Raw → Type 0
 AreOnTheirWay f known [] = ⊤
 AreOnTheirWay f known words = (number : ℕ) × IsUpTo f.last number × IsReservedBehind known words number f.sender
 
--- Legal commands of the host that cover whatever the guest's command covers, as it is on the host, were sent once that was
--- consumed, or none are needed.
+-- Legal commands of the host that cover whatever the guest's command covers, as it is on the host, were sent behind the run
+-- that was known when it was consumed, or none are needed.
 pub record HasConsumed (f : ForwardingValue) (c : Consumed) : Type 0 where
   pub words : List Raw
   pub legal : All (λ raw. first_ill raw ≡ None) words
@@ -55,7 +55,7 @@ abbrev pub AreCarriedOut : Run → List Raw → SenderValue → Type 0
 AreCarriedOut known [] s = ⊤
 AreCarriedOut known words s = IsAppliedBehind known words s
 
--- Commands of the host that cover whatever the guest's command covers, as it is on the host, were reserved once that was
+-- Commands of the host that cover whatever the guest's command covers, as it is on the host, were reserved after it was
 -- consumed, and applied in the run that the sender knows; or none are needed.
 pub record IsCarriedOut (s : SenderValue) (c : Consumed) : Type 0 where
   pub words : List Raw

@@ -57,8 +57,8 @@ impl Forwarding {
     }
 
     /// Converts a beginning of the guest's commands, as `Guest::convert_all` does, and sends the host's commands for
-    /// them with a CMD_SYNC, as `Sender::send` does: with at most `tries` tries, 1 or more. If there are none, nothing
-    /// is sent (own).
+    /// them with a CMD_SYNC, as `Sender::send_borrowed` does: with at most `tries` tries, 1 or more. If there are none,
+    /// nothing is sent (own).
     ///
     /// Errors: the cause of the last try (Q4, Q5, Q1, Q2, Q3), with the sender. Nothing is consumed then.
     pub fn forward(
@@ -99,7 +99,7 @@ impl Forwarding {
                 consumed,
                 ended,
             }),
-            Err(refused) => Err(refused),
+            Err(unsent) => Err(unsent),
         }
     }
 
@@ -146,8 +146,8 @@ impl Forwarding {
         }
     }
 
-    /// Whether a CMD_SYNC of the guest behind all that was consumed is complete: the host's CMD_SYNC behind the last batch
-    /// is, by the completion cell of the sender, or no batch was sent.
+    /// Whether a CMD_SYNC of the guest behind all that was consumed is complete: the host's CMD_SYNC behind the last
+    /// batch is, by the completion cell of the sender, or no batch was sent (own).
     pub fn is_sync_complete(&self, ring: &Ring, sender: &mut Sender) -> bool
         requires ring { sender.old.ring ≡ ring.now }
         requires same_sender { WentOn self.now.sender sender.old }

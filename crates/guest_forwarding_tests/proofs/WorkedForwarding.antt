@@ -1,11 +1,17 @@
 -- What the definitions say of a guest's commands on their way.
-use Rattle.std.proofs.Common.{◌≡◌, ℕ, ◌≤◌, Bool, true, List, [], ◌∷◌, ◌++◌, ◌+◌, length, take, All, Some, None, refl, ap, arith}
+use Rattle.std.proofs.Common.{◌≡◌, ℕ, ◌≤◌, ◌<◌, Bool, true, List, [], ◌∷◌, ◌++◌, ◌+◌, length, take, All, Some, None, refl, ap, arith}
 use Rattle.std.specs.Prelude.{slice_get}
+use Rattle.std.specs.FinMap as finite
 use Rattle.cmdcodec.specs.declared.raw.Raw.{Raw}
 use Rattle.cmdcodec.specs.declared.command.Command.{Command}
 use Rattle.cmdcodec.specs.Legality.{first_ill}
 use Rattle.caches.specs.declared.tag.Tag.{Tag}
+use Rattle.caches.specs.declared.tag.Entry.{Entry}
+use Rattle.caches.specs.Covers.{covers}
+use Rattle.caches.specs.Held.{Entries}
+use Rattle.engine.specs.Settled.{IsSettled}
 use Rattle.range_hints.specs.declared.ttl.Ttl.{Ttl}
+use Rattle.range_hints.specs.Hints.{SpellsWithHint}
 use Rattle.ring.specs.Rings.{RingValue}
 use Rattle.ring.specs.Runs.{Who, Sender, Event, Won, Applied, Run, numbers_given, batches, world, joined}
 use Rattle.ring.specs.table.Histories.{AreApplied}
@@ -14,6 +20,7 @@ use Rattle.ring.specs.sender.Senders.{SenderValue, ReceiptValue, HasAsked}
 use Rattle.ring.specs.sender.Sending.{IsSent, IsGivenUpWith}
 use Rattle.detachment.specs.Order.{HasReserved, HasApplied}
 use Rattle.guest_commands.specs.Mappings.{Mapping}
+use Rattle.guest_commands.specs.Entries.{IsImage}
 use Rattle.guest_commands.specs.Theorems.{IsReachedBy, IsIsolated, Reaches}
 use Rattle.guest_commands.specs.Conversions.{Conversion, IsConverted, words_for}
 use Rattle.guest_forwarding.specs.declared.forwarded.Forwarded.{Forwarded}
@@ -22,7 +29,7 @@ use Rattle.guest_forwarding.specs.Values.{ForwardingValue, before_any, behind_ba
 use Rattle.guest_forwarding.specs.Carrying.{IsReservedBehind, IsUpTo, AreOnTheirWay, HasConsumed, IsAppliedBehind, AreCarriedOut, IsCarriedOut, IsAllCarriedOut}
 use Rattle.guest_forwarding.specs.Forwarding.{IsTaken, IsOwn, AreConsumed, IsLast, IsSentIfAny, AreSent, IsUnsent}
 use Rattle.guest_forwarding.specs.Asking.{HasAskedFor, AreToldFor}
-use Rattle.guest_forwarding.specs.Laws.{HasReached}
+use Rattle.guest_forwarding.specs.Laws.{HasReached, CarriedOutIsApplied, NoOlderEntryIsHeld}
 
 -- ---- what is kept
 
@@ -103,6 +110,17 @@ pub reached_by_what_was_applied : (command : Command) (ttl : Ttl) (image : Tag) 
     → (words : List Raw) × (host : Raw) × (index : ℕ) × (behind : IsAppliedBehind known words s) × (slice_get words index ≡ Some host) × Reaches command ttl image host
     × (slice_get (world s.history).taken (length (joined behind.applied.sync.completed.ahead) + index) ≡ Some record { raw = host; outcome = Applied })
 reached_by_what_was_applied command ttl image known s is = (is.words, is.host, is.index, is.behind, is.among, is.covers, is.applied)
+
+pub each_entry_is_reached : CarriedOutIsApplied → (s : SenderValue) (c : Consumed) → IsCarriedOut s c → (command : Command) (ttl : Ttl) (tag image : Tag)
+    → SpellsWithHint c.raw command ttl → covers command tag ≡ true → IsImage c.mapping tag image → HasReached command ttl image c.known s
+each_entry_is_reached law s c is command ttl tag image spelled covered imaged = law s c is command ttl tag image spelled covered imaged
+
+pub each_entry_is_younger : NoOlderEntryIsHeld → (s : SenderValue) (c : Consumed) → IsCarriedOut s c → (newer : Run) (entries : Entries)
+    → IsSettled entries (world (newer ++ s.history)).taken → (command : Command) (ttl : Ttl) (tag image : Tag)
+    → SpellsWithHint c.raw command ttl → covers command tag ≡ true → IsImage c.mapping tag image → (entry : Entry) → finite.get entries image ≡ Some entry
+    → (reached : HasReached command ttl image c.known s) × (length (joined reached.behind.applied.sync.completed.ahead) + reached.index < entry.born)
+each_entry_is_younger law s c is newer entries settled command ttl tag image spelled covered imaged entry held =
+    law s c is newer entries settled command ttl tag image spelled covered imaged entry held
 
 -- ---- what is consumed
 
