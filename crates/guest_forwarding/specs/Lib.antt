@@ -1,0 +1,6 @@
+pub mod Consumed
+pub mod Values
+pub mod Carrying
+pub mod Forwarding
+pub mod Asking
+pub mod Laws
