@@ -41,7 +41,7 @@ static smmuq_status send_all(smmuq_sender *sender, smmuq_engine *engine, const s
             ;
     }
     status = smmuq_done_up_to(sender, &done);
-    return status == SMMUQ_OK && done != number ? SMMUQ_RING_UNWRITTEN : status;
+    return status == SMMUQ_OK && done < number ? SMMUQ_RING_UNWRITTEN : status;
 }
 
 static smmuq_status unmap(smmuq_sender *sender, smmuq_engine *engine, uint32_t idr3, uint64_t first, uint64_t length) {
