@@ -54,12 +54,15 @@ impl TextLines {
 }
 
 impl AnswersLines for TextLines {
+    ghost use Rattle.std.specs.Prelude.{refl};
     ghost use Rattle.encode.specs.LineAnswers.{answer_of};
 
-    ghost answer_of = { answer_of };
+    ghost answer_of = { λ lines. answer_of };
+
+    ghost alike = { λ one other line. refl };
 
     #[tactic(auto, unfolding(crate::specs::LineAnswers::answer_of))]
-    fn say_line(&mut self, line: &[u8], reply: &mut String) -> Result<bool, AllocError> {
+    fn say_line(&self, line: &[u8], reply: &mut String) -> Result<bool, AllocError> {
         match encode_line(line) {
             Ok(Some(raw)) => say_raw(self.alloc, raw, reply),
             Ok(None) => Ok(true),

@@ -1,5 +1,5 @@
 -- One line after others.
-use Rattle.std.proofs.Common.{◌≡◌, ℕ, ◌+◌, ◌≤◌, ◌&&◌, Bool, true, false, cond, List, [], ◌∷◌, ◌++◌, length, codes, ap, sym, ◌∙◌, subst, refl}
+use Rattle.std.proofs.Common.{◌≡◌, ℕ, ◌+◌, ◌≤◌, ◌&&◌, Bool, true, false, cond, List, [], ◌∷◌, ◌++◌, length, codes, ap, ap₂, sym, ◌∙◌, subst, refl}
 use Rattle.std.proofs.lemmas.Bool.{le-ltb}
 use Rattle.std.proofs.lemmas.List.Folds.{list_all-append}
 use Rattle.script.specs.Answers.{Answer, with_text, EndsAs}
@@ -34,3 +34,9 @@ pub one_more : (answer_of : List ℕ → LineAnswer) (past : List (List ℕ)) (l
     → all_good answer_of (past ++ line ∷ []) ≡ (all_good answer_of past && (answer_of line).is_good)
 one_more answer_of past line =
     list_all-append (λ l. (answer_of l).is_good) past (line ∷ []) ∙ ap (λ b. all_good answer_of past && b) (and_true (answer_of line).is_good)
+
+-- Answers that judge each line alike judge all lines alike.
+pub judged_alike : (one other : List ℕ → LineAnswer) → ((line : List ℕ) → (one line).is_good ≡ (other line).is_good) → (lines : List (List ℕ))
+    → all_good one lines ≡ all_good other lines
+judged_alike one other alike [] = refl
+judged_alike one other alike (line ∷ lines) = ap₂ (λ first rest. first && rest) (alike line) (judged_alike one other alike lines)

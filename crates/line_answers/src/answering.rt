@@ -17,7 +17,8 @@ pub(crate) struct Answering<K: AnswersLines> {
 
 impl<K: AnswersLines> Answering<K> {
     pub(crate) fn new(alloc: Global, kind: K) -> Answering<K>
-        ensures { result.all_good ≡ true }
+        ensures good { result.all_good ≡ true }
+        ensures kind { result.kind ≡ kind }
     {
         Answering {
             alloc,
@@ -36,7 +37,8 @@ impl<K: AnswersLines> Answering<K> {
 
     /// Keeps whether a line was good, and notes why it wasn't.
     fn judge(&mut self, is_good: bool, number: u64, line: &[u8])
-        ensures { self.new.all_good ≡ (self.old.all_good && is_good) }
+        ensures good { self.new.all_good ≡ (self.old.all_good && is_good) }
+        ensures kind { self.new.kind ≡ self.old.kind }
     {
         if !is_good {
             self.all_good = false;
@@ -50,19 +52,19 @@ impl<K: AnswersLines> Interpreter for Answering<K> {
     ghost use Rattle.line_answers.specs.AnsweringLaws as laws;
     ghost use Rattle.std.specs.Prelude.{⊤};
 
-    ghost gives = { λ answering number lines outcome. Comes K.answer_of number lines outcome };
+    ghost gives = { λ answering number lines outcome. Comes (K.answer_of answering.kind) number lines outcome };
 
-    ghost knows = { λ answering lines. answering.all_good ≡ all_good K.answer_of lines };
+    ghost knows = { λ answering lines. answering.all_good ≡ all_good (K.answer_of answering.kind) lines };
 
     ghost ended_at = { λ answering number line. ⊤ };
 
-    ghost nothing_left = { λ answering n. laws.nothing_left K.answer_of n };
+    ghost nothing_left = { λ answering n. laws.nothing_left (K.answer_of answering.kind) n };
 
-    ghost long_line = { λ answering n line lines long. laws.long_line K.answer_of n line lines long };
+    ghost long_line = { λ answering n line lines long. laws.long_line (K.answer_of answering.kind) n line lines long };
 
-    ghost begins = { λ answering n lines. laws.begins K.answer_of n lines };
+    ghost begins = { λ answering n lines. laws.begins (K.answer_of answering.kind) n lines };
 
-    ghost cut = { λ answering n lines outcome front rest comes split. laws.cut K.answer_of n lines outcome front rest comes split };
+    ghost cut = { λ answering n lines outcome front rest comes split. laws.cut (K.answer_of answering.kind) n lines outcome front rest comes split };
 
     fn serve_line(
         &mut self,

@@ -18,11 +18,14 @@ impl WordLines {
 }
 
 impl AnswersLines for WordLines {
+    ghost use Rattle.std.specs.Prelude.{refl};
     ghost use Rattle.words.specs.LineAnswers.{answer_of};
 
-    ghost answer_of = { answer_of };
+    ghost answer_of = { λ lines. answer_of };
 
-    fn say_line(&mut self, line: &[u8], reply: &mut String) -> Result<bool, AllocError> {
+    ghost alike = { λ one other line. refl };
+
+    fn say_line(&self, line: &[u8], reply: &mut String) -> Result<bool, AllocError> {
         say_line(self.alloc, line, reply)
     }
 

@@ -9,12 +9,15 @@ use std::alloc::AllocError;
 pub(crate) struct DumpLines;
 
 impl AnswersLines for DumpLines {
+    ghost use Rattle.std.specs.Prelude.{refl};
     ghost use Rattle.words.specs.DumpAnswers.{dump_answer};
 
-    ghost answer_of = { dump_answer };
+    ghost answer_of = { λ lines. dump_answer };
+
+    ghost alike = { λ one other line. refl };
 
     #[tactic(auto, unfolding(crate::specs::DumpAnswers::dump_answer))]
-    fn say_line(&mut self, line: &[u8], reply: &mut String) -> Result<bool, AllocError> {
+    fn say_line(&self, line: &[u8], reply: &mut String) -> Result<bool, AllocError> {
         match dump_line(line) {
             Dumped::Nothing => Ok(true),
             Dumped::Slot(slot) => say_raw(slot.raw, reply),

@@ -12,5 +12,6 @@ mod log_line;
 mod serving;
 
 pub use dump::hex_dump_with_notes;
+pub use line::hex_number;
 pub use log::log_with_notes;
 pub use serving::{words, words_with_notes};

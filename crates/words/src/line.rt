@@ -66,7 +66,7 @@ fn is_hex(word: &[u8]) -> bool
 
 /// Parses `0x` and 1 to 16 hexadecimal digits of either case.
 #[tactic(auto, unfolding(crate::specs::LineAnswers::hex_number))]
-pub(crate) fn hex_number(word: &[u8]) -> Option<u64>
+pub fn hex_number(word: &[u8]) -> Option<u64>
     ensures { result ≡ hex_number word.now }
 {
     if is_hex(word) { number(word) } else { None }

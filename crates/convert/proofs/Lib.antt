@@ -1,0 +1,2 @@
+mod ConversionLemmas
+mod GuestLemmas

@@ -1,0 +1,5 @@
+pub mod Faults
+pub mod Guests
+pub mod Answers
+pub mod Laws
+pub mod Tellings
