@@ -17,7 +17,7 @@ use Rattle.command_line.proofs.Walks.{In}
 use Rattle.command_line.specs.CommandLine as spec
 use Rattle.command_line.specs.CommandLine.{AreNumbers, AskFor, Asks, IsNumber, Reads, ReadsNumber, ReadsOf}
 use Rattle.command_line.specs.declared.subcommand.Subcommand.{Subcommand}
-use Rattle.command_line.specs.declared.subcommand.Subcommand.TheVariants.{Replay, Schedule, Decode, Stress, Words, Image, Encode, Trace, Range}
+use Rattle.command_line.specs.declared.subcommand.Subcommand.TheVariants.{Replay, Schedule, Decode, Stress, Words, Image, Encode, Trace, Range, Convert}
 
 -- a subcommand as clap builds it
 abbrev leaf : App → Shape
@@ -50,6 +50,7 @@ of_replay rows (Image asked) h = absurd (differ _ _ refl h.0)
 of_replay rows Encode h = absurd (differ _ _ refl h)
 of_replay rows Trace h = absurd (differ _ _ refl h)
 of_replay rows (Range asked) h = absurd (differ _ _ refl h.0)
+of_replay rows (Convert asked) h = absurd (differ _ _ refl h.0)
 
 of_schedule : (rows : List Row) (subcommand : Subcommand) → ReadsOf (codes "schedule") rows subcommand → Asks (codes "schedule") rows subcommand
 of_schedule rows Replay h = absurd (h.0 refl)
@@ -61,9 +62,10 @@ of_schedule rows (Image asked) h = absurd (differ _ _ refl h.0)
 of_schedule rows Encode h = absurd (differ _ _ refl h)
 of_schedule rows Trace h = absurd (differ _ _ refl h)
 of_schedule rows (Range asked) h = absurd (differ _ _ refl h.0)
+of_schedule rows (Convert asked) h = absurd (differ _ _ refl h.0)
 
 of_decode : (rows : List Row) (subcommand : Subcommand) → HasValue (codes "HEX") (made spec.hex) rows → ReadsOf (codes "decode") rows subcommand → Asks (codes "decode") rows subcommand
-of_decode rows Replay has h = absurd (true≢false (ap is_some (sym has.1 ∙ h.7 refl)))
+of_decode rows Replay has h = absurd (true≢false (ap is_some (sym has.1 ∙ h.8 refl)))
 of_decode rows Schedule has h = h
 of_decode rows (Decode word) has h = h
 of_decode rows (Stress numbers) has h = absurd (differ _ _ refl h.0)
@@ -72,6 +74,7 @@ of_decode rows (Image asked) has h = absurd (differ _ _ refl h.0)
 of_decode rows Encode has h = absurd (differ _ _ refl h)
 of_decode rows Trace has h = absurd (differ _ _ refl h)
 of_decode rows (Range asked) has h = absurd (differ _ _ refl h.0)
+of_decode rows (Convert asked) has h = absurd (differ _ _ refl h.0)
 
 record HasNumbers (rows : List Row) : Type 0 where
   log2 : HasValue (codes "log2") (made spec.log2) rows
@@ -89,6 +92,7 @@ of_stress rows (Image asked) has h = absurd (differ _ _ refl h.0)
 of_stress rows Encode has h = absurd (differ _ _ refl h)
 of_stress rows Trace has h = absurd (differ _ _ refl h)
 of_stress rows (Range asked) has h = absurd (differ _ _ refl h.0)
+of_stress rows (Convert asked) has h = absurd (differ _ _ refl h.0)
 of_stress rows (Stress numbers) has h = (
   refl,
   record {
@@ -110,6 +114,7 @@ of_words rows (Image asked) h = absurd (differ _ _ refl h.0)
 of_words rows Encode h = absurd (differ _ _ refl h)
 of_words rows Trace h = absurd (differ _ _ refl h)
 of_words rows (Range asked) h = absurd (differ _ _ refl h.0)
+of_words rows (Convert asked) h = absurd (differ _ _ refl h.0)
 
 of_image : (rows : List Row) (subcommand : Subcommand) → ReadsOf (codes "image") rows subcommand → Asks (codes "image") rows subcommand
 of_image rows Replay h = absurd (h.3 refl)
@@ -121,6 +126,7 @@ of_image rows (Image asked) h = (refl, h.1)
 of_image rows Encode h = absurd (differ _ _ refl h)
 of_image rows Trace h = absurd (differ _ _ refl h)
 of_image rows (Range asked) h = absurd (differ _ _ refl h.0)
+of_image rows (Convert asked) h = absurd (differ _ _ refl h.0)
 
 of_encode : (rows : List Row) (subcommand : Subcommand) → ReadsOf (codes "encode") rows subcommand → Asks (codes "encode") rows subcommand
 of_encode rows Replay h = absurd (h.4 refl)
@@ -132,6 +138,7 @@ of_encode rows (Image asked) h = absurd (differ _ _ refl h.0)
 of_encode rows Encode h = refl
 of_encode rows Trace h = absurd (differ _ _ refl h)
 of_encode rows (Range asked) h = absurd (differ _ _ refl h.0)
+of_encode rows (Convert asked) h = absurd (differ _ _ refl h.0)
 
 of_trace : (rows : List Row) (subcommand : Subcommand) → ReadsOf (codes "trace") rows subcommand → Asks (codes "trace") rows subcommand
 of_trace rows Replay h = absurd (h.5 refl)
@@ -143,6 +150,7 @@ of_trace rows (Image asked) h = absurd (differ _ _ refl h.0)
 of_trace rows Encode h = absurd (differ _ _ refl h)
 of_trace rows Trace h = refl
 of_trace rows (Range asked) h = absurd (differ _ _ refl h.0)
+of_trace rows (Convert asked) h = absurd (differ _ _ refl h.0)
 
 of_range : (rows : List Row) (subcommand : Subcommand) → ReadsOf (codes "range") rows subcommand → Asks (codes "range") rows subcommand
 of_range rows Replay h = absurd (h.6 refl)
@@ -154,6 +162,19 @@ of_range rows (Image asked) h = absurd (differ _ _ refl h.0)
 of_range rows Encode h = absurd (differ _ _ refl h)
 of_range rows Trace h = absurd (differ _ _ refl h)
 of_range rows (Range asked) h = (refl, h.1)
+of_range rows (Convert asked) h = absurd (differ _ _ refl h.0)
+
+of_convert : (rows : List Row) (subcommand : Subcommand) → ReadsOf (codes "convert") rows subcommand → Asks (codes "convert") rows subcommand
+of_convert rows Replay h = absurd (h.7 refl)
+of_convert rows Schedule h = h
+of_convert rows (Decode word) h = h
+of_convert rows (Stress numbers) h = absurd (differ _ _ refl h.0)
+of_convert rows (Words asked) h = absurd (differ _ _ refl h.0)
+of_convert rows (Image asked) h = absurd (differ _ _ refl h.0)
+of_convert rows Encode h = absurd (differ _ _ refl h)
+of_convert rows Trace h = absurd (differ _ _ refl h)
+of_convert rows (Range asked) h = absurd (differ _ _ refl h.0)
+of_convert rows (Convert asked) h = (refl, h.1)
 
 decode_has : (words : List Text) → level_fault (leaf spec.decode) [] nothing_held words false [] ≡ [] → HasValue (codes "HEX") (made spec.hex) (rows_of_leaf spec.decode words)
 decode_has words e = leaf_value (leaf spec.decode) refl refl refl refl words (codes "HEX") (made spec.hex) e refl refl refl
@@ -189,9 +210,10 @@ by_shape s met subcommand (inr (inr (inr (inr (inr (inl is)))))) answers unlike 
 by_shape s met subcommand (inr (inr (inr (inr (inr (inr (inl is))))))) answers unlike = subst (Follows subcommand met.1) is (λ e h. of_encode (rows_of_leaf spec.encode met.1) subcommand h)
 by_shape s met subcommand (inr (inr (inr (inr (inr (inr (inr (inl is)))))))) answers unlike = subst (Follows subcommand met.1) is (λ e h. of_trace (rows_of_leaf spec.trace met.1) subcommand h)
 by_shape s met subcommand (inr (inr (inr (inr (inr (inr (inr (inr (inl is))))))))) answers unlike = subst (Follows subcommand met.1) is (λ e h. of_range (rows_of_leaf spec.range met.1) subcommand h)
-by_shape s met subcommand (inr (inr (inr (inr (inr (inr (inr (inr (inr (inl is)))))))))) answers unlike =
+by_shape s met subcommand (inr (inr (inr (inr (inr (inr (inr (inr (inr (inl is)))))))))) answers unlike = subst (Follows subcommand met.1) is (λ e h. of_convert (rows_of_leaf spec.convert met.1) subcommand h)
+by_shape s met subcommand (inr (inr (inr (inr (inr (inr (inr (inr (inr (inr (inl is))))))))))) answers unlike =
     absurd (help_no met.0 s (subst (λ (x : Shape). x.name ≡ codes "help") is refl) (subst (λ (x : Shape). x.aliases ≡ []) is refl) answers unlike)
-by_shape s met subcommand (inr (inr (inr (inr (inr (inr (inr (inr (inr (inr none)))))))))) answers unlike = absurd none
+by_shape s met subcommand (inr (inr (inr (inr (inr (inr (inr (inr (inr (inr (inr none))))))))))) answers unlike = absurd none
 
 pub asked : (words : List Text) (subcommand : Subcommand) → fault_of spec.smmuq words ≡ [] → Reads (subcommand_of spec.smmuq words) subcommand → AskFor words subcommand
 asked words subcommand none reads =

@@ -3,12 +3,13 @@ use Rattle.std.proofs.Common.{◌≡◌, ◌∙◌, List, Option, Some, None, re
 use Rattle.std.specs.Borrow.{Bor}
 use Rattle.std.proofs.lemmas.Option.{same_Some}
 use Rattle.clap.specs.Words.{Row, Text, first_of}
-use Rattle.command_line.specs.CommandLine.{Reads, ReadsImage, ReadsNumbers, ReadsRange, ReadsWords}
+use Rattle.command_line.specs.CommandLine.{Reads, ReadsConvert, ReadsImage, ReadsNumbers, ReadsRange, ReadsWords}
+use Rattle.command_line.specs.declared.convert_arguments.ConvertArguments.{ConvertArguments}
 use Rattle.command_line.specs.declared.image_arguments.ImageArguments.{ImageArguments}
 use Rattle.command_line.specs.declared.range_arguments.RangeArguments.{RangeArguments}
 use Rattle.command_line.specs.declared.stress_numbers.StressNumbers.{StressNumbers}
 use Rattle.command_line.specs.declared.words_arguments.WordsArguments.{WordsArguments}
-use Rattle.command_line.specs.declared.subcommand.Subcommand.TheVariants.{Replay, Schedule, Decode, Stress, Words, Image, Encode, Trace, Range}
+use Rattle.command_line.specs.declared.subcommand.Subcommand.TheVariants.{Replay, Schedule, Decode, Stress, Words, Image, Encode, Trace, Range, Convert}
 
 abbrev pub name_in : Option (Text × List Row) → Option Text
 name_in = option_map (λ p. p.0)
@@ -52,6 +53,11 @@ pub ranged : (o : Option (Text × List Row)) (rows : List Row) (asked : RangeArg
 ranged None rows asked name has h = cc
 ranged (Some p) rows asked name has h = (same_Some _ _ name, subst (λ rs. ReadsRange rs asked) (same_Some _ _ (sym has)) h)
 
+pub converted : (o : Option (Text × List Row)) (rows : List Row) (asked : ConvertArguments) → name_in o ≡ Some (codes "convert") → rows_in o ≡ Some rows → ReadsConvert rows asked
+    → Reads o (Convert asked)
+converted None rows asked name has h = cc
+converted (Some p) rows asked name has h = (same_Some _ _ name, subst (λ rs. ReadsConvert rs asked) (same_Some _ _ (sym has)) h)
+
 pub decoded : (o : Option (Text × List Row)) (rows : List Row) (word : Bor Text) → name_in o ≡ Some (codes "decode") → rows_in o ≡ Some rows → first_of (codes "HEX") rows ≡ Some word.now
     → Reads o (Decode word)
 decoded None rows word name has h = cc
@@ -59,10 +65,10 @@ decoded (Some p) rows word name has h = (same_Some _ _ name, ap (first_of (codes
 
 pub replayed : (o : Option (Text × List Row)) → (name_in o ≡ Some (codes "schedule") → ⊥) → (name_in o ≡ Some (codes "stress") → ⊥) → (name_in o ≡ Some (codes "words") → ⊥)
     → (name_in o ≡ Some (codes "image") → ⊥) → (name_in o ≡ Some (codes "encode") → ⊥)
-    → (name_in o ≡ Some (codes "trace") → ⊥) → (name_in o ≡ Some (codes "range") → ⊥)
+    → (name_in o ≡ Some (codes "trace") → ⊥) → (name_in o ≡ Some (codes "range") → ⊥) → (name_in o ≡ Some (codes "convert") → ⊥)
     → (name_in o ≡ Some (codes "decode") → (rows : List Row) × (rows_in o ≡ Some rows) × (first_of (codes "HEX") rows ≡ None)) → Reads o Replay
-replayed None schedule stress words image encode trace range decode = refl
-replayed (Some p) schedule stress words image encode trace range decode = (
+replayed None schedule stress words image encode trace range convert decode = refl
+replayed (Some p) schedule stress words image encode trace range convert decode = (
   λ e. schedule (ap Some e),
   λ e. stress (ap Some e),
   λ e. words (ap Some e),
@@ -70,5 +76,6 @@ replayed (Some p) schedule stress words image encode trace range decode = (
   λ e. encode (ap Some e),
   λ e. trace (ap Some e),
   λ e. range (ap Some e),
+  λ e. convert (ap Some e),
   λ e. let has = decode (ap Some e) in ap (first_of (codes "HEX")) (same_Some _ _ has.1) ∙ has.2,
 )

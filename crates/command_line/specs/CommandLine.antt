@@ -1,21 +1,22 @@
 -- What a command line may say, and what it asks for.
-use Rattle.std.specs.Prelude.{◌≡◌, ◌≢◌, ◌⊎◌, ◌<◌, ◌≤◌, ◌^◌, ℕ, Bool, true, false, List, ◌∷◌, [], Option, Some, None, Result, MatchResult, codes, pos, option_map}
+use Rattle.std.specs.Prelude.{◌≡◌, ◌≢◌, ◌⊎◌, ◌<◌, ◌≤◌, ◌^◌, ℕ, Bool, true, false, List, ◌∷◌, [], Option, Some, None, Result, MatchResult, codes, map, pos, option_map, unwrap_or}
 use Rattle.std.specs.Borrow.{Bor}
 use Rattle.std.specs.Str.Parse.{IsNumeral, digits_value, without_leading_plus}
-use Rattle.clap.specs.Words.{App, Kinds, Row, Rule, first_of, new_app, new_rule, one_of, subcommand_of, with_rule, with_subcommand}
+use Rattle.clap.specs.Words.{App, Kinds, Row, Rule, all_of, first_of, new_app, new_rule, one_of, subcommand_of, with_rule, with_subcommand}
 pub use Rattle.clap.specs.Words.{IsAmong, Text, fault_of}
 pub use Rattle.clap.specs.Walk.{texts}
 use Rattle.clap.specs.declared.builder.value_parser.ValueParser.{ValueParser}
 use Rattle.clap.specs.declared.builder.value_parser.ValueParser.TheVariants.{Signed}
 pub use Rattle.clap.specs.declared.error.kind.ErrorKind.{ErrorKind}
 pub use Rattle.clap.specs.declared.error.kind.ErrorKind.TheVariants.{DisplayHelp, DisplayVersion, OutOfMemory}
-use Rattle.clap.specs.declared.builder.action.ArgAction.TheVariants.{SetTrue}
+use Rattle.clap.specs.declared.builder.action.ArgAction.TheVariants.{Append, SetTrue}
+use Rattle.command_line.specs.declared.convert_arguments.ConvertArguments.{ConvertArguments}
 use Rattle.command_line.specs.declared.image_arguments.ImageArguments.{ImageArguments}
 use Rattle.command_line.specs.declared.range_arguments.RangeArguments.{RangeArguments}
 use Rattle.command_line.specs.declared.stress_numbers.StressNumbers.{StressNumbers}
 use Rattle.command_line.specs.declared.subcommand.Subcommand.{Subcommand}
 use Rattle.command_line.specs.declared.words_arguments.WordsArguments.{WordsArguments}
-use Rattle.command_line.specs.declared.subcommand.Subcommand.TheVariants.{Replay, Schedule, Decode, Stress, Words, Image, Encode, Trace, Range}
+use Rattle.command_line.specs.declared.subcommand.Subcommand.TheVariants.{Replay, Schedule, Decode, Stress, Words, Image, Encode, Trace, Range, Convert}
 
 -- ---- what it may say
 
@@ -122,14 +123,29 @@ range_of_tables =
 abbrev pub range : App
 range = with_rule (with_rule range_of_tables (flag (codes "no-ril"))) (number (codes "limit") (between 0 100000))
 
+-- the option `--name` with its text, which may be given any number of times
+abbrev pub repeated : Text → Rule
+repeated name = record (text name) { action = Some Append }
+
+-- which guest it is
+abbrev pub convert_of_guest : App
+convert_of_guest = with_rule (with_rule (new_app (codes "convert")) (wanted_text (codes "vmid"))) (repeated (codes "stream"))
+
+-- with what the host's SMMU lacks
+abbrev pub convert_without_features : App
+convert_without_features = with_rule (with_rule convert_of_guest (flag (codes "no-range"))) (flag (codes "no-ats"))
+
+abbrev pub convert : App
+convert = with_rule (with_rule convert_without_features (flag (codes "short-ids"))) (number (codes "substream-bits") (between 0 20))
+
 -- `smmuq` itself, before its subcommands: it has a version, no word or option of its own, and requires a subcommand
 abbrev pub alone : App
 alone = record (new_app (codes "smmuq")) { top = record (new_app (codes "smmuq")).top { no_binary_name = true; subcommand_required = true; has_version = true } }
 
 abbrev pub smmuq : App
 smmuq =
-    with_subcommand (with_subcommand (with_subcommand (with_subcommand (with_subcommand (with_subcommand (with_subcommand (with_subcommand (with_subcommand alone
-    replay.top) schedule.top) decode.top) stress.top) words.top) image.top) encode.top) trace.top) range.top
+    with_subcommand (with_subcommand (with_subcommand (with_subcommand (with_subcommand (with_subcommand (with_subcommand (with_subcommand (with_subcommand (with_subcommand alone
+    replay.top) schedule.top) decode.top) stress.top) words.top) image.top) encode.top) trace.top) range.top) convert.top
 
 -- ---- what it asks for
 
@@ -194,6 +210,18 @@ pub record ReadsRange (rows : List Row) (asked : RangeArguments) : Type 0 where
   pub no_ril : IsFlag (codes "no-ril") rows asked.no_ril
   pub limit : MayReadNumber rows (codes "limit") asked.limit
 
+-- All texts that were found for an option that may be given again, in order.
+abbrev pub ReadsTexts : List Row → Text → List (Bor Text) → Type 0
+ReadsTexts rows name texts = map (λ text. text.now) texts ≡ unwrap_or (all_of name rows) []
+
+pub record ReadsConvert (rows : List Row) (asked : ConvertArguments) : Type 0 where
+  pub vmid : ReadsText rows (codes "vmid") asked.vmid.now
+  pub streams : ReadsTexts rows (codes "stream") asked.streams.items
+  pub no_range : IsFlag (codes "no-range") rows asked.no_range
+  pub no_ats : IsFlag (codes "no-ats") rows asked.no_ats
+  pub short_ids : IsFlag (codes "short-ids") rows asked.short_ids
+  pub substream_bits : MayReadNumber rows (codes "substream-bits") asked.substream_bits
+
 -- what a subcommand of this name asks for, given what was found for its arguments
 abbrev pub Asks : Text → List Row → Subcommand → Type 0
 Asks name rows Replay = name ≡ codes "replay"
@@ -205,6 +233,7 @@ Asks name rows (Image asked) = (name ≡ codes "image") × ReadsImage rows asked
 Asks name rows Encode = name ≡ codes "encode"
 Asks name rows Trace = name ≡ codes "trace"
 Asks name rows (Range asked) = (name ≡ codes "range") × ReadsRange rows asked
+Asks name rows (Convert asked) = (name ≡ codes "convert") × ReadsConvert rows asked
 
 -- The subcommand is what the words ask for: by clap's definition they name one, and give its arguments what is found
 -- for them.
@@ -233,7 +262,7 @@ pub record ReadsNumbers (rows : List Row) (numbers : StressNumbers) : Type 0 whe
 abbrev pub ReadsOf : Text → List Row → Subcommand → Type 0
 ReadsOf name rows Replay =
     (name ≢ codes "schedule") × (name ≢ codes "stress") × (name ≢ codes "words") × (name ≢ codes "image") × (name ≢ codes "encode")
-    × (name ≢ codes "trace") × (name ≢ codes "range")
+    × (name ≢ codes "trace") × (name ≢ codes "range") × (name ≢ codes "convert")
     × (name ≡ codes "decode" → first_of (codes "HEX") rows ≡ None)
 ReadsOf name rows Schedule = name ≡ codes "schedule"
 ReadsOf name rows (Decode word) = (name ≡ codes "decode") × (first_of (codes "HEX") rows ≡ Some word.now)
@@ -243,6 +272,7 @@ ReadsOf name rows (Image asked) = (name ≡ codes "image") × ReadsImage rows as
 ReadsOf name rows Encode = name ≡ codes "encode"
 ReadsOf name rows Trace = name ≡ codes "trace"
 ReadsOf name rows (Range asked) = (name ≡ codes "range") × ReadsRange rows asked
+ReadsOf name rows (Convert asked) = (name ≡ codes "convert") × ReadsConvert rows asked
 
 abbrev pub Reads : Option (Text × List Row) → Subcommand → Type 0
 Reads None subcommand = subcommand ≡ Replay

@@ -281,6 +281,38 @@ Refused, with exit status 1 and one of these lines alone:
     bad granule     it isn't 4K, 16K or 64K
     past the end    bytes past the last: of 2^64, or of 2^52 at stage 2";
 
+pub(crate) const CONVERT: &str = "\
+Reads a guest's commands from standard input, in lines as 'smmuq words' reads them,
+and writes a line for each to standard output, as soon as it was read: what a
+hypervisor sends to the host's queue for it, or what it is instead.
+
+Each --stream says that a stream of the guest is this one of the host; one that is
+several of the host is given for each. With ',ats' its endpoint caches translations.
+The host's SMMU has all that no option takes from it.
+
+Example:
+    smmuq convert --vmid 33 --stream 3=0x103,ats --no-range < WORDS
+
+Lines begin with:
+    HEX             the 32 hexadecimal digits of the host's command and its text;
+                    more behind '; '
+    nothing         it means nothing on the host
+    sync            a CMD_SYNC: complete when all before it is
+    configure       the hypervisor writes these streams' entries first, and then
+                    sends this; or 'nothing', if the guest has none of them
+    illegal         a label and what it means; the guest's queue stops there
+    refused         it's of EL2, of stage 2 or an answer: the guest's queue stops
+    bad line        no command
+
+The last three make exit status 1. Numbers are decimal or 0x and hexadecimal.
+
+Refused, with exit status 1 and one of these lines alone, before anything is read:
+    bad vmid        it is no VMID of the host
+    bad stream      it isn't GUEST=HOST or GUEST=HOST,ats
+    refused V1      the host has no such stream
+    refused V2      this stream of the host was given before
+    refused V3      the guest's stream is 63 of the host already";
+
 pub(crate) const IMAGE: &str = "\
 Reads the memory of a queue from standard input, 16 bytes a slot in the order of
 the slots. Writes five lines to standard output, size, prod, cons, err and

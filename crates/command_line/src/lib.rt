@@ -1,6 +1,7 @@
 //! The words of a command line, and what they ask for.
 #![tactic(auto)]
 
+mod convert_arguments;
 mod help;
 mod image_arguments;
 mod misunderstood;
@@ -9,6 +10,7 @@ mod stress_numbers;
 mod subcommand;
 mod words_arguments;
 
+pub use convert_arguments::ConvertArguments;
 pub use image_arguments::ImageArguments;
 pub use misunderstood::Misunderstood;
 pub use range_arguments::RangeArguments;

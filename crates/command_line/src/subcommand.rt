@@ -4,12 +4,13 @@ ghost use Rattle.clap.specs.Words.{FailsBy, app_of, fault_of, rule_of, subcomman
 ghost use Rattle.clap.specs.Walk.{texts};
 ghost use Rattle.command_line.specs.CommandLine as spec;
 
+use crate::convert_arguments::{CONVERT, ConvertArguments, convert};
 use crate::image_arguments::{IMAGE, ImageArguments, image};
 use crate::misunderstood::Misunderstood;
 use crate::range_arguments::{RANGE, RangeArguments, range};
 use crate::stress_numbers::{STRESS, StressNumbers, numbers_in, stress};
 use crate::words_arguments::{WORDS, WordsArguments, words};
-use crate::{help, image_arguments, range_arguments, words_arguments};
+use crate::{convert_arguments, help, image_arguments, range_arguments, words_arguments};
 use clap::{Arg, ArgMatches, Command, Error};
 use std::alloc::{AllocError, Global};
 
@@ -28,7 +29,7 @@ const ENCODE: &str = "encode";
 const TRACE: &str = "trace";
 
 /// What the words of a command line ask for.
-#[derive(Clone, Copy)]
+#[derive(Drop)]
 pub enum Subcommand<'a> {
     /// Serve a script.
     Replay,
@@ -48,6 +49,8 @@ pub enum Subcommand<'a> {
     Trace,
     /// Write the commands of an invalidation.
     Range(RangeArguments<'a>),
+    /// Convert a guest's commands for the host's queue.
+    Convert(ConvertArguments<'a>),
 }
 
 fn replay<'a>(alloc: Global) -> Command<'a>
@@ -123,40 +126,48 @@ fn command_line<'a>(alloc: Global) -> Result<Command<'a>, AllocError>
         .subcommand(image(alloc)?)?
         .subcommand(encode(alloc))?
         .subcommand(trace(alloc))?
-        .subcommand(range(alloc)?)
+        .subcommand(range(alloc)?)?
+        .subcommand(convert(alloc)?)
 }
 
-fn subcommand_in<'a>(matches: &ArgMatches<'a>) -> Subcommand<'a>
-    ensures { spec.Reads (subcommand_rows_of matches.now) result }
+fn subcommand_in<'a>(
+    alloc: Global,
+    matches: &ArgMatches<'a>,
+) -> Result<Subcommand<'a>, AllocError>
+    ensures { IfOk result (spec.Reads (subcommand_rows_of matches.now)) }
 {
     if matches.subcommand_matches(SCHEDULE).is_some() {
-        return Subcommand::Schedule;
+        return Ok(Subcommand::Schedule);
     }
     if let Some(stress) = matches.subcommand_matches(STRESS) {
-        return Subcommand::Stress(numbers_in(stress));
+        return Ok(Subcommand::Stress(numbers_in(stress)));
     }
     if let Some(words) = matches.subcommand_matches(WORDS) {
-        return Subcommand::Words(words_arguments::arguments_in(words));
+        return Ok(Subcommand::Words(words_arguments::arguments_in(words)));
     }
     if let Some(image) = matches.subcommand_matches(IMAGE) {
-        return Subcommand::Image(image_arguments::arguments_in(image));
+        return Ok(Subcommand::Image(image_arguments::arguments_in(image)));
     }
     if let Some(range) = matches.subcommand_matches(RANGE) {
-        return Subcommand::Range(range_arguments::arguments_in(range));
+        return Ok(Subcommand::Range(range_arguments::arguments_in(range)));
+    }
+    if let Some(convert) = matches.subcommand_matches(CONVERT) {
+        let arguments = convert_arguments::arguments_in(alloc, convert)?;
+        return Ok(Subcommand::Convert(arguments));
     }
     if matches.subcommand_matches(ENCODE).is_some() {
-        return Subcommand::Encode;
+        return Ok(Subcommand::Encode);
     }
     if matches.subcommand_matches(TRACE).is_some() {
-        return Subcommand::Trace;
+        return Ok(Subcommand::Trace);
     }
     let Some(decode) = matches.subcommand_matches(DECODE) else {
-        return Subcommand::Replay;
+        return Ok(Subcommand::Replay);
     };
     // A `decode` without its word isn't understood, so each has one.
     match decode.get_str(HEX) {
-        Some(word) => Subcommand::Decode(word),
-        None => Subcommand::Replay,
+        Some(word) => Ok(Subcommand::Decode(word)),
+        None => Ok(Subcommand::Replay),
     }
 }
 
@@ -165,7 +176,7 @@ fn parse<'a>(alloc: Global, words: &'a [&'a str]) -> Result<Subcommand<'a>, Erro
     ensures kinds { FailsBy (fault_of spec.smmuq (texts words.entry.now)) result }
 {
     let matches = command_line(alloc)?.try_get_matches_from(words)?;
-    Ok(subcommand_in(&matches))
+    Ok(subcommand_in(alloc, &matches)?)
 }
 
 /// Returns what the words ask for, without the program's own name.

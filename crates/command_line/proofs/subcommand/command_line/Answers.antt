@@ -1,4 +1,4 @@
-use Rattle.std.proofs.Common.{rules, ap, ap₂, ◌≡◌, ◌∙◌, true}
+use Rattle.std.proofs.Common.{ap, ap₂, ◌≡◌, ◌∙◌, true}
 use Rattle.std.proofs.lemmas.Result.{IfOk-weaker}
 use Rattle.std.specs.Prelude.{codes}
 use Rattle.clap.specs.Words.{App, app_of, new_app, with_subcommand}
@@ -26,8 +26,8 @@ returns c =
     ap app_of_fields c.version.ensures ∙ ap (λ (a : App). record a { top = record a.top { has_version = true } }) without in
     let replay_is : app_of c.replay.result ≡ spec.replay = c.replay.ensures in
     let schedule_is : app_of c.schedule.result ≡ spec.schedule = c.schedule.ensures in
-    let decode_is : app_of c.in_ok-decode.field-0 ≡ spec.decode = search rules in
-    let stress_is : app_of c.in_ok-stress.field-0 ≡ spec.stress = search rules in
+    let decode_is : app_of c.in_ok-decode.field-0 ≡ spec.decode = c.in_ok-decode.ensures in
+    let stress_is : app_of c.in_ok-stress.field-0 ≡ spec.stress = c.in_ok-stress.ensures in
     let first : app_of c.in_ok-subcommand.field-0 ≡ with_subcommand spec.alone spec.replay.top =
     c.in_ok-subcommand.ensures.shape (is_false _ (both _ _ (both _ _ (both _ _ (ap (λ (a : App). a.top.is_plain) replay_is)).1).1).0)
     ∙ ap₂ with_subcommand alone (ap (λ (a : App). a.top) replay_is) in
@@ -37,8 +37,8 @@ returns c =
     let third : app_of c.in_ok-subcommand-3.field-0 ≡ with_subcommand (with_subcommand (with_subcommand spec.alone spec.replay.top) spec.schedule.top) spec.decode.top =
     c.in_ok-subcommand-3.ensures.shape (is_false _ (both _ _ (both _ _ (both _ _ (ap (λ (a : App). a.top.is_plain) decode_is)).1).1).0)
     ∙ ap₂ with_subcommand second (ap (λ (a : App). a.top) decode_is) in
-    let words_is : app_of c.in_ok-words.field-0 ≡ spec.words = search rules in
-    let image_is : app_of c.in_ok-image.field-0 ≡ spec.image = search rules in
+    let words_is : app_of c.in_ok-words.field-0 ≡ spec.words = c.in_ok-words.ensures in
+    let image_is : app_of c.in_ok-image.field-0 ≡ spec.image = c.in_ok-image.ensures in
     let fourth : app_of c.in_ok-subcommand-4.field-0 ≡ with_subcommand (with_subcommand (with_subcommand (with_subcommand spec.alone spec.replay.top) spec.schedule.top) spec.decode.top) spec.stress.top =
     c.in_ok-subcommand-4.ensures.shape (is_false _ (both _ _ (both _ _ (both _ _ (ap (λ (a : App). a.top.is_plain) stress_is)).1).1).0)
     ∙ ap₂ with_subcommand third (ap (λ (a : App). a.top) stress_is) in
@@ -64,7 +64,13 @@ returns c =
     ≡ with_subcommand (with_subcommand (with_subcommand (with_subcommand (with_subcommand (with_subcommand (with_subcommand (with_subcommand spec.alone spec.replay.top) spec.schedule.top) spec.decode.top) spec.stress.top) spec.words.top) spec.image.top) spec.encode.top) spec.trace.top =
     c.in_ok-subcommand-8.ensures.shape (is_false _ (both _ _ (both _ _ (both _ _ (ap (λ (a : App). a.top.is_plain) trace_is)).1).1).0)
     ∙ ap₂ with_subcommand seventh (ap (λ (a : App). a.top) trace_is) in
-    let range_is : app_of c.in_ok-range.field-0 ≡ spec.range = search rules in
-    IfOk-weaker c.subcommand-9.result _ _ (λ command h.
-    h.shape (is_false _ (both _ _ (both _ _ (both _ _ (ap (λ (a : App). a.top.is_plain) range_is)).1).1).0)
-    ∙ ap₂ with_subcommand eighth (ap (λ (a : App). a.top) range_is)) c.subcommand-9.ensures
+    let range_is : app_of c.in_ok-range.field-0 ≡ spec.range = c.in_ok-range.ensures in
+    let ninth :
+    app_of c.in_ok-subcommand-9.field-0
+    ≡ with_subcommand (with_subcommand (with_subcommand (with_subcommand (with_subcommand (with_subcommand (with_subcommand (with_subcommand (with_subcommand spec.alone spec.replay.top) spec.schedule.top) spec.decode.top) spec.stress.top) spec.words.top) spec.image.top) spec.encode.top) spec.trace.top) spec.range.top =
+    c.in_ok-subcommand-9.ensures.shape (is_false _ (both _ _ (both _ _ (both _ _ (ap (λ (a : App). a.top.is_plain) range_is)).1).1).0)
+    ∙ ap₂ with_subcommand eighth (ap (λ (a : App). a.top) range_is) in
+    let convert_is : app_of c.in_ok-convert.field-0 ≡ spec.convert = c.in_ok-convert.ensures in
+    IfOk-weaker c.subcommand-10.result _ _ (λ command h.
+    h.shape (is_false _ (both _ _ (both _ _ (both _ _ (ap (λ (a : App). a.top.is_plain) convert_is)).1).1).0)
+    ∙ ap₂ with_subcommand ninth (ap (λ (a : App). a.top) convert_is)) c.subcommand-10.ensures

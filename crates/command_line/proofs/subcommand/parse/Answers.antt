@@ -30,8 +30,8 @@ pub returns-clause-asked : goal.returns-clause-asked
 returns-clause-asked c =
     let app : app_of c.in_ok-command_line.field-0 ≡ spec.smmuq = c.in_ok-command_line.ensures in
     let is = (c.in_ok-matches.ensures.matches (ap is_simple app ∙ is_plain)).1 ∙ ap (λ (a : App). subcommand_of a (texts c.args.words.now)) app in
-    asked (texts c.args.words.now) c.subcommand_in.result (no_fault _ _ app c.in_ok-matches.ensures.kinds)
-    (subst (λ o. spec.Reads o c.subcommand_in.result) is c.subcommand_in.ensures)
+    asked (texts c.args.words.now) c.in_ok-subcommand_in.field-0 (no_fault _ _ app c.in_ok-matches.ensures.kinds)
+    (subst (λ o. spec.Reads o c.in_ok-subcommand_in.field-0) is c.in_ok-subcommand_in.ensures)
 
 pub returns-clause-kinds : goal.returns-clause-kinds
 returns-clause-kinds c =

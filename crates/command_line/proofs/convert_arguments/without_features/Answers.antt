@@ -1,0 +1,9 @@
+use Rattle.std.proofs.Common.{ap₂, ◌∙◌}
+use Rattle.std.proofs.lemmas.Result.{IfOk-weaker}
+use Rattle.clap.specs.Words.{with_rule}
+use Rattle.command_line.proofs.convert_arguments.without_features.Goals as goal
+
+pub returns : goal.returns
+returns c =
+    let one = c.in_ok-arg.ensures.shape c.flag.ensures.local ∙ ap₂ with_rule c.in_ok-of_guest.ensures c.flag.ensures.rule in
+    IfOk-weaker c.arg-2.result _ _ (λ command h. h.shape c.flag-2.ensures.local ∙ ap₂ with_rule one c.flag-2.ensures.rule) c.arg-2.ensures
