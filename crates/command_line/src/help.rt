@@ -304,7 +304,8 @@ Lines begin with:
     refused         it's of EL2, of stage 2 or an answer: the guest's queue stops
     bad line        no command
 
-The last three make exit status 1. Numbers are decimal or 0x and hexadecimal.
+The last three make exit status 1. Numbers are decimal without a leading 0, or
+hexadecimal behind 0x.
 
 Refused, with exit status 1 and one of these lines alone, before anything is read:
     bad vmid        it is no VMID of the host

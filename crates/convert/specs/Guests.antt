@@ -1,5 +1,5 @@
 -- The guest that a command line means.
-use Rattle.std.specs.Prelude.{◌≡◌, ◌⊎◌, ℕ, ◌^◌, ◌==◌, ◌<◌, nat_lt, List, [], ◌∷◌, length, map, Bool, true, false, Option, Some, None, Result, Ok, Err, MatchResult, codes, if◌then◌else◌}
+use Rattle.std.specs.Prelude.{◌≡◌, ◌⊎◌, ℕ, ◌^◌, ◌==◌, ◌&&◌, nat_le, nat_lt, List, [], ◌∷◌, length, map, Bool, true, false, Option, Some, None, Result, Ok, Err, MatchResult, codes, if◌then◌else◌}
 use Rattle.std.specs.Borrow.{Bor}
 use Rattle.std.specs.List.{before_first, after_first, position_or_len}
 use Rattle.std.specs.Str.{bytes_eq}
@@ -21,20 +21,36 @@ abbrev pub substream_bits_of : Option ℕ → ℕ
 substream_bits_of None = 20
 substream_bits_of (Some bits) = bits
 
-abbrev pub smmu_of : Asked → Smmu
-smmu_of asked = record {
-  range_invalidation = asked.range_invalidation;
+-- with or without range invalidation, ATS, and VMIDs and ASIDs of 16 bits; it has all else
+abbrev pub smmu_with : (range_invalidation ats wide_ids : Bool) → Option ℕ → Smmu
+smmu_with range_invalidation ats wide_ids substream_bits = record {
+  range_invalidation = range_invalidation;
   stage_1 = true;
   stage_2 = true;
-  ats = asked.ats;
+  ats = ats;
   pri = true;
   hypervisor = true;
-  wide_asids = asked.wide_ids;
-  wide_vmids = asked.wide_ids;
-  substream_bits = substream_bits_of asked.substream_bits;
+  wide_asids = wide_ids;
+  wide_vmids = wide_ids;
+  substream_bits = substream_bits_of substream_bits;
   stream_bits = 32;
   granules = record { kib4 = true; kib16 = true; kib64 = true };
 }
+
+abbrev pub smmu_of : Asked → Smmu
+smmu_of asked = smmu_with asked.range_invalidation asked.ats asked.wide_ids asked.substream_bits
+
+-- ---- Numbers.
+
+-- two decimal digits and more, of which the first is 0: they may be meant as hexadecimal ones
+abbrev pub is_zero_led : List ℕ → Bool
+is_zero_led [] = false
+is_zero_led (a ∷ []) = false
+is_zero_led (a ∷ b ∷ digits) = a == 48 && (nat_le 48 b && nat_le b 57)
+
+-- decimal without a leading 0, or 0x and hexadecimal
+abbrev pub clear_number : List ℕ → Option ℕ
+clear_number text = if is_zero_led text then None else number_of text
 
 -- ---- A stream.
 
@@ -47,7 +63,7 @@ parted_at byte text =
 -- the number of a stream, 32 bits
 abbrev pub sid_named : List ℕ → Option ℕ
 sid_named text = do
-  number ← number_of text
+  number ← clear_number text
   guard (nat_lt number (2 ^ 32)) number
 
 abbrev pub attachment_with : Option ℕ → Option ℕ → Bool → Option Attachment
@@ -91,7 +107,7 @@ with_streams (Ok mapping) (text ∷ texts) = with_streams (with_stream mapping t
 -- a VMID of 16 bits that the SMMU has
 abbrev pub vmid_named : Smmu → List ℕ → Option ℕ
 vmid_named smmu text = do
-  number ← number_of text
+  number ← clear_number text
   vmid ← guard (nat_lt number (2 ^ 16)) number
   guard (has_vmid smmu vmid) vmid
 
@@ -102,9 +118,12 @@ without_attachments smmu (Some vmid) = Ok (without_streams vmid smmu)
 abbrev pub streams_of : Asked → List (List ℕ)
 streams_of asked = map (λ text. text.now) asked.streams.now
 
--- the guest that is asked for, or why there is none
+-- the guest of an SMMU with this VMID and these streams, as texts, or why there is none
+abbrev pub guest_of : Smmu → List ℕ → List (List ℕ) → Result Mapping GuestFault
+guest_of smmu vmid streams = with_streams (without_attachments smmu (vmid_named smmu vmid)) streams
+
 abbrev pub guest_asked : Asked → Result Mapping GuestFault
-guest_asked asked = with_streams (without_attachments (smmu_of asked) (vmid_named (smmu_of asked) asked.vmid.now)) (streams_of asked)
+guest_asked asked = guest_of (smmu_of asked) asked.vmid.now (streams_of asked)
 
 -- It is that guest, or that fault; or memory ran out.
 abbrev pub IsOrNoMemory : Result Mapping GuestFault → Result Mapping GuestFault → Type 0

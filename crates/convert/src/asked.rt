@@ -7,7 +7,8 @@ use smmu_features::{Granules, Smmu};
 /// The bits of a SubstreamID where nothing is said of them, the most that an SMMU has (SMMU_IDR1.SSIDSIZE).
 const MOST_SUBSTREAM_BITS: u32 = 20;
 
-/// What a command line says of a guest and the host's SMMU: numbers as text, decimal or 0x and hexadecimal.
+/// What a command line says of a guest and the host's SMMU: numbers as text, decimal without a
+/// leading 0, or 0x and hexadecimal.
 #[derive(Clone, Copy, Debug, PartialEq, Eq)]
 pub struct Asked<'a> {
     /// The VMID that the guest has on the host.

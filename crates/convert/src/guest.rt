@@ -6,17 +6,17 @@ ghost use Rattle.convert.specs.Guests.{guest_asked, smmu_of, vmid_named, with_st
 
 use crate::asked::Asked;
 use crate::fault::GuestFault;
+use crate::number::clear_number;
 use crate::stream::attachment;
 use cmdcodec::Vmid;
 use guest_commands::{AttachFault, Guest};
-use script::number;
 use std::alloc::Global;
 
 /// Returns the guest before its streams are attached.
 fn without_streams(alloc: Global, asked: &Asked<'_>) -> Result<Guest, GuestFault>
     ensures { result ≡ without_attachments (smmu_of asked.now) (vmid_named (smmu_of asked.now) asked.now.vmid.now) }
 {
-    let Some(vmid) = number(asked.vmid.as_bytes()).and_then(Vmid::new) else {
+    let Some(vmid) = clear_number(asked.vmid).and_then(Vmid::new) else {
         return Err(GuestFault::BadVmid);
     };
     match Guest::new(alloc, vmid, asked.smmu()) {

@@ -9,6 +9,7 @@ mod guest;
 mod host_commands;
 mod line;
 mod lines;
+mod number;
 mod stream;
 
 pub use asked::Asked;

@@ -2,9 +2,9 @@
 ghost use Rattle.std.specs.Prelude.{◌≡◌, MatchOption, Some, None};
 ghost use Rattle.convert.specs.Guests.{attachment_named, attachment_of, attachment_with, parted_at, sid_named};
 
+use crate::number::clear_number;
 use cmdcodec::Sid;
 use guest_commands::{Attachment, HostStream};
-use script::number;
 
 /// Parts a text at its first `=`.
 fn at_equals(text: &str) -> Option<(&str, &str)>
@@ -23,7 +23,7 @@ fn at_comma(text: &str) -> Option<(&str, &str)>
 fn sid(text: &str) -> Option<Sid>
     ensures { result ≡ sid_named text.now }
 {
-    Sid::new(number(text.as_bytes())?)
+    Sid::new(clear_number(text)?)
 }
 
 fn attachment_with(sid: Option<Sid>, host: Option<Sid>, ats: bool) -> Option<Attachment>

@@ -2,7 +2,7 @@
 use Rattle.std.proofs.Common.{List}
 use Rattle.command_line.specs.CommandLine.{AskFor, Text}
 use Rattle.command_line.specs.declared.subcommand.Subcommand.{Subcommand}
-use Rattle.command_line.specs.declared.subcommand.Subcommand.TheVariants.{Replay, Schedule, Decode, Stress, Words, Image, Encode, Trace, Range}
+use Rattle.command_line.specs.declared.subcommand.Subcommand.TheVariants.{Replay, Schedule, Decode, Stress, Words, Image, Encode, Trace, Range, Convert}
 use Rattle.program.specs.Stressing.{HasPlan}
 
 pub has_plan : (words : List Text) (subcommand : Subcommand) → AskFor words subcommand → HasPlan subcommand
@@ -14,6 +14,7 @@ has_plan words (Image arguments) asked = tt
 has_plan words Encode asked = tt
 has_plan words Trace asked = tt
 has_plan words (Range arguments) asked = tt
+has_plan words (Convert arguments) asked = tt
 has_plan words (Stress numbers) asked =
     let are = asked.3.1 in
     record {

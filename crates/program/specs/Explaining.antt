@@ -1,7 +1,7 @@
 -- What is told on standard error of lines that can't be served.
 use Rattle.std.specs.Prelude.{◌≡◌, ◌≢◌, ℕ, List, ◌⊎◌, Option, None, Some}
 use Rattle.command_line.specs.declared.subcommand.Subcommand.{Subcommand}
-use Rattle.command_line.specs.declared.subcommand.Subcommand.TheVariants.{Encode, Image, Replay, Schedule, Words}
+use Rattle.command_line.specs.declared.subcommand.Subcommand.TheVariants.{Convert, Encode, Image, Replay, Schedule, Words}
 use Rattle.explanations.specs.Explaining.{IsSaidOf}
 use Rattle.image.specs.declared.asked.Asked.{Asked}
 use Rattle.image.specs.declared.hint.Hint.{Hint}
@@ -71,4 +71,5 @@ Explains Schedule exit input output written before after = TellsOfScript (Answer
 Explains (Words asked) exit input output written before after = TellsOfRefusal exit before after
 Explains (Image asked) exit input output written before after = TellsOfHint (asked_of asked) exit input before after
 Explains Encode exit input output written before after = TellsOfRefusal exit before after
+Explains (Convert asked) exit input output written before after = TellsOfRefusal exit before after
 Explains other exit input output written before after = after ≡ before

@@ -1,3 +1,4 @@
+pub mod Conversion
 pub mod Explaining
 pub mod Images
 pub mod Unclear

@@ -3,7 +3,7 @@ use Rattle.std.specs.Prelude.{◌≡◌, ℕ, List, ◌⊎◌, Bool, true, false
 use Rattle.std.specs.Io.KnownBytes.{Keeps}
 use Rattle.command_line.specs.CommandLine.{AskFor, IsAmong, MisunderstoodValue, OutOfMemory, Text, fault_of, smmuq}
 use Rattle.command_line.specs.declared.subcommand.Subcommand.{Subcommand}
-use Rattle.command_line.specs.declared.subcommand.Subcommand.TheVariants.{Replay, Schedule, Decode, Stress, Words, Image, Encode, Trace, Range}
+use Rattle.command_line.specs.declared.subcommand.Subcommand.TheVariants.{Replay, Schedule, Decode, Stress, Words, Image, Encode, Trace, Range, Convert}
 use Rattle.script.specs.Writing.{no_memory_line}
 use Rattle.script.specs.declared.status.Status.{Status}
 use Rattle.script.specs.declared.status.Status.TheVariants.{Good, Refused, NoMemory, ReadFailed, WriteFailed, Endless}
@@ -15,6 +15,7 @@ use Rattle.encode.specs.Tellings.{ExitsAsEncode}
 use Rattle.image.specs.Tellings.{ExitsAsImage}
 use Rattle.trace.specs.Tellings.{ExitsAsTrace}
 use Rattle.words.specs.Tellings.{ExitsAsWords, ExitsAsLog, ExitsAsDump}
+use Rattle.program.specs.Conversion.{ExitsAsConvert, guest_asked_of}
 use Rattle.program.specs.Explaining.{Explains}
 use Rattle.program.specs.Images.{asked_of}
 use Rattle.program.specs.Ranging.{ExitsAsRange, range_asked_of}
@@ -46,7 +47,8 @@ ExitsInForm false true exit input rest before after = ExitsAsDump exit input res
 ExitsInForm false false exit input rest before after = ExitsAsWords exit input rest before after
 
 -- It did what was asked for: a script was replayed, or played as a schedule; or nothing was read, and a word was
--- decoded, a stress run made or the commands of a range written; or lines of words or of text were answered, an image was shown, or a log was judged.
+-- decoded, a stress run made or the commands of a range written; or lines of words, of text or of a guest's commands were
+-- answered, an image was shown, or a log was judged.
 abbrev pub ExitsAs : Subcommand → ℕ → Option (List ℕ) → Option (List ℕ) → Seen → Seen → Type 0
 ExitsAs Replay exit input rest before after = ExitsAsReplay exit input rest before.bytes after.bytes
 ExitsAs Schedule exit input rest before after = ExitsAsSchedule exit input rest before.bytes after.bytes
@@ -58,6 +60,7 @@ ExitsAs Encode exit input rest before after = ExitsAsEncode exit input rest befo
 ExitsAs Trace exit input rest before after = ExitsAsTrace exit input rest before.bytes after.bytes
 ExitsAs (Range arguments) exit input rest before after =
     Keeps input rest × ExitsAsRange exit (range_asked_of arguments) before after
+ExitsAs (Convert arguments) exit input rest before after = ExitsAsConvert (guest_asked_of arguments) exit input rest before after
 
 -- The words have no fault, and it did what they ask for; on standard error it told first of the line that ended a
 -- script, or why lines were refused, and then only of memory, or of a stream that failed.

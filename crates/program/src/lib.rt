@@ -1,6 +1,7 @@
 //! The program over any reader and any writers, which smmuq runs on standard input and output.
 #![tactic(auto)]
 
+mod conversion;
 mod explaining;
 mod ranging;
 mod reading;

@@ -5,6 +5,7 @@ ghost use Rattle.program.specs.Explaining.{Explains};
 ghost use Rattle.program.specs.Stressing.{HasPlan};
 ghost use Rattle.program.specs.Program.{Decodes, ExitsAs, ExitsAsDecode, ExitsAsProgram};
 
+use crate::conversion::convert_to_exit;
 use crate::explaining::{exit_of_lines, exit_of_script};
 use crate::ranging::range_to_exit;
 use crate::reading::{image_to_exit, words_to_exit};
@@ -82,6 +83,13 @@ fn serve<'a, A: Threads + AllocGlobal + Sync, I: Read, O: Write, F: Write>(
         }
         Subcommand::Trace => trace(rt.alloc(), input, output).exit_status(),
         Subcommand::Range(arguments) => range_to_exit(rt.alloc(), &arguments, output),
+        Subcommand::Convert(arguments) => convert_to_exit(
+            rt.alloc(),
+            &arguments,
+            input,
+            output,
+            faults,
+        ),
     }
 }
 

@@ -90,6 +90,7 @@ help replay =     Q2  the ring has too little room
 help schedule =     F10  a reservation is open, or no batch left
 help stress = A turn of a sender is one try to reserve a batch
 help range =     bad granule     it isn't 4K, 16K or 64K
+help convert =     bad stream      it isn't GUEST=HOST or GUEST=HOST,ats
 --version = smmuq 0.1.0 (rattle-kit-
 -V = smmuq 0.1.0 (rattle-kit-";
     for line in asked.lines() {

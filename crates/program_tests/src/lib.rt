@@ -7,6 +7,8 @@ mod command_line_caller;
 #[cfg(test)]
 mod command_line_tests;
 #[cfg(test)]
+mod convert_tests;
+#[cfg(test)]
 mod decode_caller;
 #[cfg(test)]
 mod decoding_tests;

@@ -1,0 +1,2 @@
+pub mod WorkedGuests
+pub mod WorkedAnswers
