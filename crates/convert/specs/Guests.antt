@@ -9,7 +9,8 @@ use Rattle.smmu_features.specs.declared.smmu.Smmu.{Smmu}
 use Rattle.guest_commands.specs.declared.fault.AttachFault.{AttachFault}
 use Rattle.guest_commands.specs.declared.streams.Attachment.{Attachment}
 use Rattle.guest_commands.specs.Limits.{has_vmid}
-use Rattle.guest_commands.specs.Mappings.{Mapping, attached, refusal, without_streams}
+pub use Rattle.guest_commands.specs.Mappings.{Mapping}
+use Rattle.guest_commands.specs.Mappings.{attached, refusal, without_streams}
 use Rattle.convert.specs.declared.asked.Asked.{Asked}
 use Rattle.convert.specs.declared.fault.GuestFault.{GuestFault}
 use Rattle.convert.specs.declared.fault.GuestFault.TheVariants.{BadVmid, BadStream, Refused, NoMemory}

@@ -5,9 +5,8 @@ use Rattle.command_line.specs.declared.convert_arguments.ConvertArguments.{Conve
 use Rattle.convert.specs.declared.fault.GuestFault.{GuestFault}
 use Rattle.convert.specs.declared.fault.GuestFault.TheVariants.{NoMemory as NoMemoryForGuest}
 use Rattle.convert.specs.Faults.{fault_line}
-use Rattle.convert.specs.Guests.{guest_of, smmu_with}
+use Rattle.convert.specs.Guests.{Mapping, guest_of, smmu_with}
 use Rattle.convert.specs.Tellings.{TellsOfGuest}
-use Rattle.guest_commands.specs.Mappings.{Mapping}
 use Rattle.script.specs.Writing.{no_memory_line}
 use Rattle.script.specs.declared.status.Status.{Status}
 use Rattle.script.specs.declared.status.Status.TheVariants.{Good, Refused, NoMemory, ReadFailed, WriteFailed, Endless}
