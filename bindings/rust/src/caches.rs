@@ -1,4 +1,5 @@
 // SPDX-License-Identifier: MIT OR Apache-2.0
+use self::sealed::Inside;
 use crate::error::{done, Error};
 use crate::sys;
 pub use crate::sys::{Held, Registers};
@@ -175,8 +176,11 @@ pub enum Acknowledged {
 }
 
 pub(crate) mod sealed {
+    /// Nobody outside this crate has one, so nobody else gets at a handle by way of `Caches`.
+    pub struct Inside(pub(crate) ());
+
     pub trait HasHandle {
-        fn handle(&mut self) -> &mut crate::handle::Owned;
+        fn handle(&mut self, inside: Inside) -> &mut crate::handle::Owned;
     }
 }
 
@@ -185,7 +189,7 @@ pub trait Caches: sealed::HasHandle {
     /// Puts an entry in, in place of the one under its tag, if any. `BadField`, `BadBlock`, `CachesFull`, `CachesNoMemory`.
     fn fill(&mut self, tag: Tag, value: u64) -> Result<(), Error> {
         // SAFETY: a live handle and a live tag.
-        done(unsafe { sys::smmuq_fill(self.handle().at(), &tag.words(), value) })
+        done(unsafe { sys::smmuq_fill(self.handle(Inside(())).at(), &tag.words(), value) })
     }
 
     /// What is held under a tag. `BadField`.
@@ -193,7 +197,7 @@ pub trait Caches: sealed::HasHandle {
         let mut held = Held::default();
         // SAFETY: as above, and the answer is live.
         found(
-            unsafe { sys::smmuq_lookup(self.handle().at(), &tag.words(), &mut held) },
+            unsafe { sys::smmuq_lookup(self.handle(Inside(())).at(), &tag.words(), &mut held) },
             held,
         )
     }
@@ -203,7 +207,7 @@ pub trait Caches: sealed::HasHandle {
         let mut held = Held::default();
         // SAFETY: as above.
         found(
-            unsafe { sys::smmuq_evict(self.handle().at(), &tag.words(), &mut held) },
+            unsafe { sys::smmuq_evict(self.handle(Inside(())).at(), &tag.words(), &mut held) },
             held,
         )
     }
@@ -212,7 +216,7 @@ pub trait Caches: sealed::HasHandle {
     fn count(&mut self) -> Result<usize, Error> {
         let mut count = 0;
         // SAFETY: as above.
-        done(unsafe { sys::smmuq_count(self.handle().at(), &mut count) })?;
+        done(unsafe { sys::smmuq_count(self.handle(Inside(())).at(), &mut count) })?;
         Ok(count)
     }
 
@@ -223,7 +227,7 @@ pub trait Caches: sealed::HasHandle {
         // SAFETY: the buffer has the length that is passed.
         done(unsafe {
             sys::smmuq_entries(
-                self.handle().at(),
+                self.handle(Inside(())).at(),
                 buffer.as_mut_ptr(),
                 buffer.len(),
                 &mut count,
@@ -238,7 +242,9 @@ pub trait Caches: sealed::HasHandle {
     /// Software writes SMMU_GERRORN, of which only bit 0 counts.
     fn acknowledge(&mut self, gerrorn: u32, remedy: Remedy) -> Result<Acknowledged, Error> {
         // SAFETY: a live handle.
-        match unsafe { sys::smmuq_acknowledge(self.handle().at(), gerrorn, remedy as u32) } {
+        match unsafe {
+            sys::smmuq_acknowledge(self.handle(Inside(())).at(), gerrorn, remedy as u32)
+        } {
             0x51 => Ok(Acknowledged::NoError),
             0x52 => Ok(Acknowledged::OtherBit),
             status => done(status).map(|()| Acknowledged::GoesOn),
@@ -249,7 +255,7 @@ pub trait Caches: sealed::HasHandle {
     fn registers(&mut self) -> Result<Registers, Error> {
         let (mut errors, mut tallies) = (Registers::default(), sys::Tallies::default());
         // SAFETY: as above, and both answers are live.
-        done(unsafe { sys::smmuq_state(self.handle().at(), &mut errors, &mut tallies) })?;
+        done(unsafe { sys::smmuq_state(self.handle(Inside(())).at(), &mut errors, &mut tallies) })?;
         Ok(errors)
     }
 }

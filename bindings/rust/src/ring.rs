@@ -1,5 +1,5 @@
 // SPDX-License-Identifier: MIT OR Apache-2.0
-use crate::caches::{sealed::HasHandle, Caches};
+use crate::caches::{sealed, Caches};
 use crate::error::{done, Error, Illegal};
 use crate::handle::Owned;
 pub use crate::sys::Control;
@@ -176,8 +176,8 @@ pub enum Run {
 /// ```
 pub struct Engine(Owned);
 
-impl HasHandle for Engine {
-    fn handle(&mut self) -> &mut Owned {
+impl sealed::HasHandle for Engine {
+    fn handle(&mut self, _: sealed::Inside) -> &mut Owned {
         &mut self.0
     }
 }

@@ -1,5 +1,5 @@
 // SPDX-License-Identifier: MIT OR Apache-2.0
-use crate::caches::{sealed::HasHandle, Caches};
+use crate::caches::{sealed, Caches};
 use crate::error::{done, Error, Illegal};
 use crate::handle::Owned;
 use crate::{sys, Command};
@@ -33,8 +33,8 @@ pub enum Judged {
 /// ```
 pub struct Unit(Owned);
 
-impl HasHandle for Unit {
-    fn handle(&mut self) -> &mut Owned {
+impl sealed::HasHandle for Unit {
+    fn handle(&mut self, _: sealed::Inside) -> &mut Owned {
         &mut self.0
     }
 }
