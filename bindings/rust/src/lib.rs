@@ -1,0 +1,43 @@
+// SPDX-License-Identifier: MIT OR Apache-2.0
+//! The command queue and invalidation engine of the Arm System MMU version 3, proved: a safe wrapper of the C library
+//! libsmmuq. What `include/smmuq.h` asks of a C caller is asked by types here: there is one handle of each object, it is freed
+//! once, and one call at a time is made on it.
+//!
+//! - [`Unit`] is for a device model, which reads commands from a queue of its own.
+//! - [`ring`] makes a queue of many senders and an [`Engine`]; [`consumer_ring`] one whose commands the caller carries out.
+//!
+//! The contracts are those of the header, which has more calls than are wrapped here. No call may be made from a signal
+//! handler, nor from the forked child of a process with threads: no type can keep that.
+//!
+//! ```
+//! use smmuq::{Block, Caches, Command, Judged, Scope, Tag, Unit};
+//!
+//! let mut unit = Unit::new(64)?;
+//! let page = Tag::Stage1 { vmid: 1, scope: Scope::Asid(2), block: Block::page(0x3000) };
+//! unit.fill(page, 0x1000)?;
+//! let tlbi_nh_va = Command::new(0x0002_0001_0000_0012, 0x3001);
+//! assert_eq!(unit.judge(tlbi_nh_va)?, Judged::Applied { removed: 1 });
+//! assert_eq!(unit.lookup(page)?, None);
+//! # Ok::<(), smmuq::Error>(())
+//! ```
+mod caches;
+mod command;
+mod consumer;
+mod error;
+mod handle;
+mod ring;
+mod sys;
+mod unit;
+
+pub use caches::{Acknowledged, Block, Caches, Held, Registers, Remedy, Scope, Tag};
+pub use command::{Batch, Command};
+pub use consumer::{consumer_ring, Completed, Consumer, Ready, Taken};
+pub use error::{Error, Illegal};
+pub use ring::{ring, Control, Engine, Reservation, Run, Sender};
+pub use unit::{Judged, Unit};
+
+/// The version of the C library's interface.
+pub fn version() -> u32 {
+    // SAFETY: it takes nothing.
+    unsafe { sys::smmuq_version() }
+}

@@ -1,0 +1,176 @@
+// SPDX-License-Identifier: MIT OR Apache-2.0
+//! The types and calls of smmuq.h that are wrapped here. Every handle is one pointer, so one type serves for all of them.
+
+/// `smmuq_handle`, and the `smmuq_unit`, `smmuq_sender`, `smmuq_engine` and `smmuq_consumer` round it.
+#[repr(C)]
+pub struct Handle {
+    at: *mut core::ffi::c_void,
+}
+
+impl Handle {
+    /// A handle that holds nothing.
+    pub const EMPTY: Handle = Handle {
+        at: core::ptr::null_mut(),
+    };
+}
+
+/// `smmuq_tag`.
+#[repr(C)]
+#[derive(Clone, Copy, Default)]
+pub struct Tag {
+    pub kind: u32,
+    pub sid: u32,
+    pub has_ssid: u32,
+    pub ssid: u32,
+    pub vmid: u32,
+    pub scope: u32,
+    pub asid: u32,
+    pub span: u32,
+    pub address: u64,
+}
+
+/// `smmuq_held`.
+#[repr(C)]
+#[derive(Clone, Copy, Debug, Default, PartialEq, Eq)]
+pub struct Held {
+    /// What was filled in.
+    pub value: u64,
+    /// How many commands were taken before.
+    pub born: u64,
+}
+
+/// `smmuq_entry`.
+#[repr(C)]
+#[derive(Clone, Copy, Default)]
+pub struct Entry {
+    pub tag: Tag,
+    pub held: Held,
+}
+
+/// `smmuq_verdict`.
+#[repr(C)]
+#[derive(Default)]
+pub struct Verdict {
+    pub removed: u32,
+    pub ill: u32,
+    pub waiting: u32,
+}
+
+/// `smmuq_errors`.
+#[repr(C)]
+#[derive(Clone, Copy, Debug, Default, PartialEq, Eq)]
+pub struct Registers {
+    /// SMMU_CMDQ_CONS.ERR.
+    pub err: u32,
+    /// Bit 0, CMDQ_ERR, of SMMU_GERROR.
+    pub gerror: u32,
+    /// Bit 0, CMDQ_ERR, of SMMU_GERRORN.
+    pub gerrorn: u32,
+}
+
+/// `smmuq_tallies`.
+#[repr(C)]
+#[derive(Default)]
+pub struct Tallies {
+    pub applied: u64,
+    pub replaced: u64,
+    pub syncs: u64,
+    pub removed: u64,
+}
+
+/// `smmuq_run_answer`.
+#[repr(C)]
+#[derive(Default)]
+pub struct RunAnswer {
+    pub count: u32,
+    pub removed: u32,
+    pub ill: u32,
+}
+
+/// `smmuq_queue_control`.
+#[repr(C)]
+#[derive(Clone, Copy, Debug, Default, PartialEq, Eq)]
+pub struct Control {
+    /// SMMU_CMDQ_PROD.
+    pub prod: u32,
+    /// SMMU_CMDQ_CONS without ERR.
+    pub cons: u32,
+    /// 1 if the ring is closed, else 0.
+    pub closed: u32,
+}
+
+use crate::Command;
+
+unsafe extern "C" {
+    pub fn smmuq_version() -> u32;
+    pub fn smmuq_check(lo: u64, hi: u64) -> u32;
+    pub fn smmuq_text(lo: u64, hi: u64, buffer: *mut u8, length: usize, written: *mut usize)
+        -> u32;
+    pub fn smmuq_status_text(
+        status: u32,
+        buffer: *mut u8,
+        length: usize,
+        written: *mut usize,
+    ) -> u32;
+    pub fn smmuq_free(handle: *mut Handle) -> u32;
+
+    pub fn smmuq_unit_new(capacity: u32, unit: *mut Handle) -> u32;
+    pub fn smmuq_unit_judge(unit: *mut Handle, lo: u64, hi: u64, verdict: *mut Verdict) -> u32;
+    pub fn smmuq_unit_reset(unit: *mut Handle) -> u32;
+
+    pub fn smmuq_fill(handle: *mut Handle, tag: *const Tag, value: u64) -> u32;
+    pub fn smmuq_lookup(handle: *mut Handle, tag: *const Tag, held: *mut Held) -> u32;
+    pub fn smmuq_evict(handle: *mut Handle, tag: *const Tag, held: *mut Held) -> u32;
+    pub fn smmuq_count(handle: *mut Handle, count: *mut usize) -> u32;
+    pub fn smmuq_entries(
+        handle: *mut Handle,
+        buffer: *mut Entry,
+        length: usize,
+        count: *mut usize,
+    ) -> u32;
+    pub fn smmuq_acknowledge(handle: *mut Handle, gerrorn: u32, remedy: u32) -> u32;
+    pub fn smmuq_state(handle: *mut Handle, errors: *mut Registers, tallies: *mut Tallies) -> u32;
+
+    pub fn smmuq_ring_new(
+        log2: u32,
+        max_batches: u32,
+        capacity: u32,
+        senders: *mut Handle,
+        count: usize,
+        engine: *mut Handle,
+    ) -> u32;
+    pub fn smmuq_send(
+        sender: *mut Handle,
+        commands: *const Command,
+        count: usize,
+        tries: u32,
+        number: *mut u32,
+    ) -> u32;
+    pub fn smmuq_reserve(
+        sender: *mut Handle,
+        commands: *const Command,
+        count: usize,
+        tries: u32,
+    ) -> u32;
+    pub fn smmuq_publish(sender: *mut Handle, number: *mut u32) -> u32;
+    pub fn smmuq_done_up_to(sender: *mut Handle, number: *mut u32) -> u32;
+    pub fn smmuq_left(sender: *mut Handle, batches: *mut u32) -> u32;
+    pub fn smmuq_look(sender: *mut Handle, found: *mut Control) -> u32;
+    pub fn smmuq_close(sender: *mut Handle) -> u32;
+    pub fn smmuq_run(engine: *mut Handle, most: u32, answer: *mut RunAnswer) -> u32;
+
+    pub fn smmuq_consumer_ring_new(
+        log2: u32,
+        max_batches: u32,
+        senders: *mut Handle,
+        count: usize,
+        consumer: *mut Handle,
+    ) -> u32;
+    pub fn smmuq_take_run(
+        consumer: *mut Handle,
+        buffer: *mut Command,
+        length: usize,
+        count: *mut usize,
+    ) -> u32;
+    pub fn smmuq_complete(consumer: *mut Handle, count: usize) -> u32;
+}

@@ -1,0 +1,3 @@
+/* SPDX-License-Identifier: MIT OR Apache-2.0 */
+/* The kernel has none of C's headers, and its own names for what they define. */
+#include <linux/types.h>
