@@ -1,5 +1,5 @@
 -- A guest of a hypervisor, and its commands as they are converted, for C.
-use Rattle.std.specs.Prelude.{◌≡◌, ◌<◌, ◌^◌, ℕ, ◌++◌, Bool, true, List, length, take, drop, All, Option, None, Some, map, Result, Ok, Err}
+use Rattle.std.specs.Prelude.{◌≡◌, ◌<◌, ◌≤◌, ◌^◌, ℕ, ◌++◌, Bool, true, List, length, take, drop, All, Option, None, Some, map, Result, Ok, Err}
 use Rattle.cmdcodec.specs.declared.raw.Raw.{Raw}
 use Rattle.cmdcodec.specs.declared.ill.Ill.{Ill}
 use Rattle.cmdcodec.specs.declared.command.Command.{Command}
@@ -43,13 +43,17 @@ HasMadeGuest vmid smmu old new NoMemory = IsHad vmid smmu × (new ≡ old)
 HasMadeGuest vmid smmu old new BadField = ¬ IsHad vmid smmu × (new ≡ old)
 HasMadeGuest vmid smmu old new other = ⊥
 
+-- It says whether an endpoint caches translations: 1 or 0.
+abbrev pub IsFlag : ℕ → Type 0
+IsFlag ats = (has : Bool) × (ats ≡ bit has)
+
 -- The stream of the host is one of those that this stream of the guest is; or it is refused, and nothing changed.
 abbrev pub HasAttached : ℕ → ℕ → ℕ → Mapping → Mapping → Status → Type 0
 HasAttached sid host ats old new Done =
     (refusal old sid host ≡ None) × ((has : Bool) × (ats ≡ bit has) × (new ≡ attached old sid (record { sid = host; ats = has })))
-HasAttached sid host ats old new BadField = ((has : Bool) → ¬ (ats ≡ bit has)) × (new ≡ old)
-HasAttached sid host ats old new (NotAttached OutOfMemory) = (refusal old sid host ≡ None) × (new ≡ old)
-HasAttached sid host ats old new (NotAttached fault) = (refusal old sid host ≡ Some fault) × (new ≡ old)
+HasAttached sid host ats old new BadField = ¬ IsFlag ats × (new ≡ old)
+HasAttached sid host ats old new (NotAttached OutOfMemory) = IsFlag ats × (refusal old sid host ≡ None) × (new ≡ old)
+HasAttached sid host ats old new (NotAttached fault) = IsFlag ats × (refusal old sid host ≡ Some fault) × (new ≡ old)
 HasAttached sid host ats old new other = ⊥
 
 -- It has none of the streams of the host that this one was.
@@ -87,10 +91,10 @@ pub record HasConvertedTo (commands old_buffer new_buffer : List Raw) (told : Co
   pub isolated : All (IsIsolated mapping) conversion.commands
   pub complete : All (IsReachedBy mapping conversion.commands) (take conversion.taken commands)
 
--- The first 63 are converted; or the buffer has no room for 63.
+-- The first 63 are converted, and the buffer has room for 63; or it hasn't.
 abbrev pub HasConverted : List Raw → List Raw → List Raw → ConvertedWords → Mapping → Mapping → Status → Type 0
 HasConverted commands old_buffer new_buffer told old new Done =
-    HasConvertedTo (take 63 commands) old_buffer new_buffer told old × (new ≡ old)
+    (63 ≤ length old_buffer) × HasConvertedTo (take 63 commands) old_buffer new_buffer told old × (new ≡ old)
 HasConverted commands old_buffer new_buffer told old new ShortBuffer = (length old_buffer < 63) × (new ≡ old)
 HasConverted commands old_buffer new_buffer told old new other = ⊥
 

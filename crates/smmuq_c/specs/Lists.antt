@@ -1,5 +1,5 @@
 -- The list of entries in a buffer of C.
-use Rattle.std.specs.Prelude.{◌≡◌, ◌*◌, ℕ, List, Option, Some, None, map}
+use Rattle.std.specs.Prelude.{◌≡◌, ◌≤◌, ◌*◌, ℕ, length, List, Option, Some, None, map}
 use Rattle.std.specs.FinMap as finite
 use Rattle.std.specs.List.Sorted.{IsPermutation}
 use Rattle.cmdcodec.specs.declared.command.Command.{Command}
@@ -57,9 +57,10 @@ pub record HasListed (old_buffer new_buffer : List EntryWords) (told : ℕ) (old
 
 -- ---- those that a command covers
 
--- These entries come first in the buffer, each once, in some order; or it is too short, or memory ran out, and it stays.
+-- These entries come first in the buffer, each once, in some order; or it is too short, or memory ran out for as many as
+-- fit, and it stays.
 abbrev pub AreListedInSomeOrder : List Entry → List EntryWords → List EntryWords → ℕ → Status → Type 0
-AreListedInSomeOrder entries old new told (Cache NoMemory) = new ≡ old
+AreListedInSomeOrder entries old new told (Cache NoMemory) = (length entries ≤ length old) × (new ≡ old)
 AreListedInSomeOrder entries old new told status =
     (list : List Entry) × IsPermutation entries list × IsGiven (map listed list) old new told status
 

@@ -46,6 +46,7 @@ impl SeatedSender {
     }
 
     /// Reserves a batch of these commands with its closing CMD_SYNC, in at most `tries` tries, 0 meaning 1.
+    #[inline(never)]
     pub(crate) fn reserve(
         self,
         commands: &[Raw],

@@ -1,4 +1,4 @@
-use Rattle.std.proofs.Common.{◌≡◌, ◌++◌, ◌∙◌, take, drop, length, All, refl, ap, subst}
+use Rattle.std.proofs.Common.{◌≡◌, ◌++◌, ◌∙◌, take, drop, length, All, arith, refl, ap, subst}
 use Rattle.guest_commands.specs.Conversions.{IsConverted}
 use Rattle.guest_commands.specs.Theorems.{IsReachedBy}
 use Rattle.smmuq_c.proofs.guest_calls.convert_for.Goals as goal
@@ -9,6 +9,7 @@ returns-clause-called c =
     let e = c.convert_all-conversion.ensures in
     let made = c.commands-made.ensures in
     let read : c.as_slice.result.now ≡ take 63 c.args.commands.now = c.as_slice.ensures.value ∙ c.first_commands-commands.ensures in (
+      omega arith,
       record {
         conversion = own;
         converted = subst (λ raws. IsConverted c.args.guest.now raws own) read e.converted;
