@@ -9,7 +9,7 @@ use Rattle.cmdcodec.specs.declared.ill.Ill.{Ill}
 use Rattle.cmdcodec.specs.Legality.{first_ill}
 use Rattle.ringcore.specs.declared.world.event.Outcome.{Outcome}
 use Rattle.ringcore.specs.declared.world.event.Outcome.TheVariants.{Applied, Replaced}
-use Rattle.ringcore.specs.world.Trails.{Trail}
+use Rattle.ringcore.specs.world.Trails.{Trail, Run}
 use Rattle.ringcore.specs.world.World.{Taken, outcome_of}
 use Rattle.ring.specs.consumer.Consumers.{ConsumerValue}
 use Rattle.ring.specs.consumer.Pendings.{PendingValue, reads_from}
@@ -17,7 +17,8 @@ use Rattle.ring.specs.consumer.Taking.{TookRun}
 use Rattle.ring.specs.consumer.Completing.{taken_of, with_outcome, HasOutcome}
 use Rattle.hardware_queue.specs.Queues.{QueueValue}
 use Rattle.hardware_queue.specs.Owners.{HasPushed, HasConsumed}
-use Rattle.hardware_queue.specs.Flights.{hardware_form, passed_as, passed_on, HasConsumedAll, IsPassing, Begins, IsInFlight, IsConsumedInFlight, IsOtherAt, NoSyncIsLost}
+use Rattle.hardware_queue.specs.Flights.{hardware_form, passed_as, passed_on, HasConsumedAll, IsPassing, Begins, IsInFlight, IsConsumedInFlight, IsOtherAt, NoSyncIsLost, owed}
+use Rattle.hardware_queue.specs.Forwarders.{IsForwarder}
 
 -- ---- what the hardware gets
 
@@ -202,6 +203,10 @@ shown_length q taken flight is =
 pub in_flight_is : (q : QueueValue) (taken : List Taken) (flight : List Raw) → IsInFlight q taken flight → drop (length (passed_on taken)) q.shown ≡ flight
 in_flight_is q taken flight is = ap (drop (length (passed_on taken))) is.shown ∙ drop-append_seam (passed_on taken) flight
 
+pub shown_taken : (m r : QueueValue) (taken : List Taken) (flight all : List Raw) → IsInFlight m taken flight → Begins all flight → r.shown ≡ m.shown → r.shown ≡ passed_on taken ++ take (length flight) all
+shown_taken m r taken flight all is (rest, all_is) same =
+    same ∙ is.shown ∙ ap (λ (l : List Raw). passed_on taken ++ l) (sym (ap (take (length flight)) all_is ∙ take-append_seam flight rest))
+
 get_longer : (xs ys : List Raw) (i : ℕ) (x : Raw) → slice_get xs i ≡ Some x → slice_get (xs ++ ys) i ≡ Some x
 get_longer [] ys i x at = absurd (cc)
 get_longer (y ∷ xs) ys zero x at = at
@@ -211,3 +216,19 @@ pub syncs_kept : (q r : QueueValue) (more : List Raw) → r.shown ≡ q.shown ++
 syncs_kept q r more shown lost none position lost_there =
     let at = none position (subst (λ (l : List ℕ). Contains l position) lost lost_there) in
     record { raw = at.raw; shown = ap (λ (l : List Raw). slice_get l position) shown ∙ get_longer q.shown more position at.raw at.shown; other = at.other }
+
+-- ---- before the first step
+
+no_lost : (q : QueueValue) (position : ℕ) → q.lost ≡ [] → Contains q.lost position → IsOtherAt q position
+no_lost q position none there = let at : Contains (none_of ℕ) position = subst (λ (l : List ℕ). Contains l position) none there in let inside = at.1 in absurd (omega (arith, inside))
+
+pub forwarder_begins : (q : QueueValue) (taken : List Taken) (run : Run) (flight : List Raw) → taken ≡ [] → q.shown ≡ [] → q.consumed ≡ 0 → q.lost ≡ [] → flight ≡ [] → IsForwarder q taken run flight 0
+forwarder_begins q taken run flight taken_is shown consumed lost flight_is = record {
+  in_flight = record {
+    shown = shown ∙ ap₂ (λ (ts : List Taken) (xs : List Raw). passed_on ts ++ xs) (sym taken_is) (sym flight_is);
+    consumed = consumed ∙ ap (λ (ts : List Taken). length (passed_on ts)) (sym taken_is);
+  };
+  order = (owed run, ap (λ (xs : List Raw). xs ++ owed run) (sym shown));
+  syncs = λ position there. no_lost q position lost there;
+  lost_are = let none : length q.lost ≡ 0 = ap (λ (l : List ℕ). length l) lost in omega (arith, none);
+}

@@ -62,3 +62,7 @@ left_by run new all raws q between r count found told pushed looked =
       lost = after.lost ∙ ap (λ (x : QueueValue). x.lost) pushed.new_is;
       repeated = after.repeated ∙ ap (λ (x : QueueValue). x.repeated) pushed.new_is;
     }
+
+pub look_leaves_shown : {D : Type 0} (run : PendingValue D) (new : ConsumerValue D) (all : List Raw) (between r : QueueValue) (found : QueueState) (told : Forwarded) → HasLooked run new all between r found told
+    → r.shown ≡ between.shown
+look_leaves_shown run new all between r found told looked = (left between r looked.progress looked.polled).shown

@@ -5,7 +5,9 @@ use Rattle.cmdcodec.specs.Opcodes.{is_sync}
 use Rattle.cmdcodec.specs.Legality.{first_ill}
 use Rattle.ringcore.specs.declared.world.event.Outcome.{Outcome}
 use Rattle.ringcore.specs.declared.world.event.Outcome.TheVariants.{Applied, Replaced}
-use Rattle.ringcore.specs.world.World.{Taken, outcome_of}
+use Rattle.ringcore.specs.world.World.{Taken, taken_as, outcome_of}
+use Rattle.ringcore.specs.world.Trails.{Run}
+use Rattle.ringcore.specs.world.Delivery.{batches, joined}
 use Rattle.ring.specs.consumer.Completing.{HasOutcome}
 use Rattle.hardware_queue.specs.Queues.{QueueValue, plain_sync}
 
@@ -58,6 +60,18 @@ pub record IsConsumedInFlight (q : QueueValue) (taken : List Taken) (flight : Li
   pub shown : q.shown ≡ passed_on taken ++ flight
   pub consumed : q.consumed ≡ length (passed_on taken) + count
   pub few : count ≤ length flight
+
+-- ---- the order
+
+-- what the hardware gets for all that was reserved in a run, in the order of its reservation
+abbrev pub owed : Run → List Raw
+owed run = passed_on (map taken_as (joined (batches run)))
+
+-- All that the hardware was ever shown is a beginning of that.
+abbrev pub IsInOrder : QueueValue → Run → Type 0
+IsInOrder q run = Begins (owed run) q.shown
+
+-- ---- what may be written over
 
 -- A command that isn't a CMD_SYNC was shown here.
 pub record IsOtherAt (q : QueueValue) (position : ℕ) : Type 0 where

@@ -20,7 +20,7 @@ use Rattle.hardware_queue.specs.declared.state.QueueState.{QueueState}
 use Rattle.hardware_queue.specs.declared.state.QueueState.TheVariants as state
 use Rattle.hardware_queue.specs.Queues.{QueueValue, MayBeUnanswered}
 use Rattle.hardware_queue.specs.Owners.{OwnerValue, HasAcknowledged, IsStoppedState}
-use Rattle.hardware_queue.specs.Flights.{passed_on, IsInFlight, NoSyncIsLost}
+use Rattle.hardware_queue.specs.Flights.{passed_on, IsInFlight, IsInOrder, NoSyncIsLost}
 
 -- a forwarder: the consumer of its ring, and the owner of the hardware's queue
 pub record ForwarderValue (Q : Type 0) : Type 0 where
@@ -31,8 +31,10 @@ pub record ForwarderValue (Q : Type 0) : Type 0 where
 abbrev pub count_lost : QueueValue → ℕ
 count_lost q = min (length q.lost) (2 ^ 64 - 1)
 
-pub record IsForwarder (q : QueueValue) (taken : List Taken) (flight : List Raw) (lost : ℕ) : Type 0 where
+-- What it keeps: what the hardware was shown, in the order of the run that it knows, and how far that is taken.
+pub record IsForwarder (q : QueueValue) (taken : List Taken) (run : Run) (flight : List Raw) (lost : ℕ) : Type 0 where
   pub in_flight : IsInFlight q taken flight
+  pub order : IsInOrder q run
   pub syncs : NoSyncIsLost q
   pub lost_are : lost ≡ count_lost q
 

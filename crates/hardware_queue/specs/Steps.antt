@@ -113,3 +113,7 @@ HasForwarded old new s t q r answer.Unwritten = TookUnwritten 64 old new × IsUn
 HasForwarded old new s t q r answer.Changed = HasChanged old new q × IsUntouched s t q r
 HasForwarded old new s t q r (answer.Broken word) = StaysBroken old new s t q r word ⊎ HasServed old new q r t (answer.Broken word)
 HasForwarded old new s t q r other = HasServed old new q r t other
+
+-- Once something that no working queue has was found, nothing is done any more, and the answer says so.
+abbrev pub NothingIsDone : {D : Type 0} → ConsumerValue D → ConsumerValue D → QueueState → QueueState → QueueValue → QueueValue → Forwarded → Type 0
+NothingIsDone old new s t q r told = (word : ℕ) → s ≡ state.Broken word → (told ≡ answer.Broken word) × StaysBroken old new s t q r word

@@ -5,8 +5,8 @@ ghost use Rattle.ring.specs.table.Rule.{WentOn};
 ghost use Rattle.ring.specs.table.Histories.{IsHistory, Grew};
 ghost use Rattle.ring.specs.consumer.Completing.{taken_of};
 ghost use Rattle.hardware_queue.specs.declared.state.QueueState.TheVariants.{Running};
-ghost use Rattle.hardware_queue.specs.Flights.{HasConsumedAll};
-ghost use Rattle.hardware_queue.specs.Steps.{HasForwarded};
+ghost use Rattle.hardware_queue.specs.Flights.{HasConsumedAll, IsInOrder};
+ghost use Rattle.hardware_queue.specs.Steps.{HasForwarded, NothingIsDone};
 ghost use Rattle.hardware_queue.specs.Forwarders.{IsStoppedAt, IsRefused, HasRemedied, WasToldAllTruly, count_lost};
 ghost use Rattle.hardware_queue.specs.Owners.{IsStoppedState};
 
@@ -40,7 +40,7 @@ impl<Q: CommandQueue> Model for Forwarder<Q> {
 
     ghost view = { λ f. record { consumer = f.consumer; owner = f.owner } };
 
-    ghost invariant = { λ f. IsForwarder (Q.queue f.owner.queue) (taken_of f.consumer.trail) f.flight.items f.lost };
+    ghost invariant = { λ f. IsForwarder (Q.queue f.owner.queue) (taken_of f.consumer.trail) f.consumer.history f.flight.items f.lost };
 }
 
 impl<Q: CommandQueue> Forwarder<Q> {
@@ -66,6 +66,8 @@ impl<Q: CommandQueue> Forwarder<Q> {
     pub fn step(self, ring: &Ring) -> (Forwarder<Q>, Forwarded)
         requires { self.consumer.ring ≡ ring.now }
         ensures forwarded { HasForwarded self.consumer result.0.consumer self.owner.state result.0.owner.state (Q.queue self.owner.queue) (Q.queue result.0.owner.queue) result.1 }
+        ensures broken { NothingIsDone self.consumer result.0.consumer self.owner.state result.0.owner.state (Q.queue self.owner.queue) (Q.queue result.0.owner.queue) result.1 }
+        ensures order { IsInOrder (Q.queue result.0.owner.queue) result.0.consumer.history }
         ensures settled { HasConsumedAll (Q.queue result.0.owner.queue) (taken_of result.0.consumer.trail) }
         ensures lost { (Q.queue result.0.owner.queue).lost ≡ (Q.queue self.owner.queue).lost }
         ensures repeated { (Q.queue result.0.owner.queue).repeated ≡ (Q.queue self.owner.queue).repeated }
@@ -138,6 +140,7 @@ impl<Q: CommandQueue> Forwarder<Q> {
         requires ring { self.old.consumer.ring ≡ ring.now }
         requires sender { sender.old.ring ≡ ring.now }
         ensures told { WasToldAllTruly (Q.has_effect self.new.owner.queue) (Q.queue self.new.owner.queue) self.new.consumer.history sender.old.number sender.old.trail }
+        ensures order { IsInOrder (Q.queue self.new.owner.queue) self.new.consumer.history }
         ensures owner { self.new.owner ≡ self.old.owner }
         ensures consumer { record self.new.consumer { history = [] } ≡ record self.old.consumer { history = [] } }
         ensures sender { record sender.new { history = [] } ≡ record sender.old { history = [] } }

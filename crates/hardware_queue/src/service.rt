@@ -5,8 +5,8 @@ ghost use Rattle.ringcore.specs.world.World.{Taken as TakenOf};
 ghost use Rattle.ring.specs.table.Histories.{Grew};
 ghost use Rattle.ring.specs.consumer.Completing.{taken_of};
 ghost use Rattle.hardware_queue.specs.Owners.{IsBroken, HasPushed};
-ghost use Rattle.hardware_queue.specs.Flights.{IsInFlight, Begins, IsPassing, IsConsumedInFlight, NoSyncIsLost};
-ghost use Rattle.hardware_queue.specs.Steps.{HasLooked, HasForwarded, IsTaken};
+ghost use Rattle.hardware_queue.specs.Flights.{IsInFlight, Begins, IsPassing, IsConsumedInFlight, IsInOrder, NoSyncIsLost};
+ghost use Rattle.hardware_queue.specs.Steps.{HasLooked, HasForwarded, NothingIsDone, IsTaken};
 ghost use Rattle.ringcore.specs.declared.world.event.Outcome.TheVariants.{Applied};
 
 use crate::command_queue::CommandQueue;
@@ -17,6 +17,7 @@ use crate::progress::Progress;
 use crate::state::QueueState;
 use cmdcodec::RawList;
 use ring::{Consumer, Outcome, PendingRun, Ring, TakenRun, growth_adds_up};
+use ringcore::laws;
 
 /// Shows the hardware as many as fit of the commands that aren't in flight. Returns how many.
 fn show_more<Q: CommandQueue>(owner: &mut Owner<Q>, flight: &mut RawList, all: &RawList) -> u32
@@ -116,7 +117,10 @@ pub fn forward_with<Q: CommandQueue>(
 ) -> (Consumer<Owner<Q>>, Forwarded)
     requires ring { consumer.ring ≡ ring.now }
     requires flight { IsInFlight (Q.queue owner.old.queue) (taken_of consumer.trail) flight.old.items }
+    requires order { IsInOrder (Q.queue owner.old.queue) consumer.history }
+    ensures order { IsInOrder (Q.queue owner.new.queue) result.0.history }
     ensures forwarded { HasForwarded consumer result.0 owner.old.state owner.new.state (Q.queue owner.old.queue) (Q.queue owner.new.queue) result.1 }
+    ensures broken { NothingIsDone consumer result.0 owner.old.state owner.new.state (Q.queue owner.old.queue) (Q.queue owner.new.queue) result.1 }
     ensures flight { IsInFlight (Q.queue owner.new.queue) (taken_of result.0.trail) flight.new.items }
     ensures lost { (Q.queue owner.new.queue).lost ≡ (Q.queue owner.old.queue).lost }
     ensures repeated { (Q.queue owner.new.queue).repeated ≡ (Q.queue owner.old.queue).repeated }
@@ -125,6 +129,9 @@ pub fn forward_with<Q: CommandQueue>(
     ensures ring { result.0.ring ≡ consumer.ring }
 {
     growth_adds_up();
+    laws::world_law();
+    laws::batches_law();
+    laws::consumer_trail();
     if let QueueState::Broken(word) = owner.state() {
         return (consumer, Forwarded::Broken(word));
     }
@@ -138,7 +145,9 @@ pub fn forward_with<Q: CommandQueue>(
                 return (run.put_back(), Forwarded::Changed);
             }
             let _shown = show_more(owner, flight, &all);
-            settle(run, owner, flight, &all, ring)
+            let (consumer, answer) = settle(run, owner, flight, &all, ring);
+            consumer.trail_stands_in_a_run();
+            (consumer, answer)
         }
     }
 }

@@ -7,8 +7,9 @@ use Rattle.ring.specs.consumer.Completing.{taken_of}
 use Rattle.hardware_queue.specs.Queues.{QueueValue}
 use Rattle.hardware_queue.specs.Owners.{HasPushed}
 use Rattle.hardware_queue.specs.Flights.{IsInFlight, Begins}
-use Rattle.hardware_queue.proofs.Forwards.{taken_before, shown_length, in_flight_is, syncs_kept, never}
-use Rattle.hardware_queue.proofs.Stepping.{forwarded_of, left_by}
+use Rattle.hardware_queue.proofs.Forwards.{taken_before, shown_length, in_flight_is, syncs_kept, never, shown_taken}
+use Rattle.hardware_queue.proofs.Stepping.{forwarded_of, left_by, look_leaves_shown}
+use Rattle.hardware_queue.proofs.Orders.{order_later, in_order}
 use Rattle.hardware_queue.proofs.service.forward_with.Goals as goal
 
 pub returns-then-not-begins-clause-forwarded : goal.returns-then-not-begins-clause-forwarded
@@ -30,12 +31,12 @@ returns-then-not-begins-clause-flight g c =
     let same = ap (λ (e : ConsumerValue _). taken_of e.trail) c.put_back.ensures.consumer ∙ taken_before _ _ _ c.in-Ready.ensures.taken in
     subst (λ (l : List Taken). IsInFlight (g.Q.CommandQueue.queue c.args.owner.now.queue) l c.args.flight.now.items) (sym same) c.requires.flight
 
-pub settle-requires-clause-flight : goal.settle-requires-clause-flight
-settle-requires-clause-flight g c =
+pub settle-consumer-requires-clause-flight : goal.settle-consumer-requires-clause-flight
+settle-consumer-requires-clause-flight g c =
     c.show_more-shown.ensures.flight _ (subst (λ (l : List Taken). IsInFlight (g.Q.CommandQueue.queue c.args.owner.now.queue) l c.args.flight.now.items) (sym (taken_before _ _ _ c.in-Ready.ensures.taken)) c.requires.flight)
 
-pub settle-requires-clause-unbroken : goal.settle-requires-clause-unbroken
-settle-requires-clause-unbroken g c broken = c.in_default.not-Broken broken.0 (c.state.ensures ∙ sym c.show_more-shown.ensures.state ∙ broken.1)
+pub settle-consumer-requires-clause-unbroken : goal.settle-consumer-requires-clause-unbroken
+settle-consumer-requires-clause-unbroken g c broken = c.in_default.not-Broken broken.0 (c.state.ensures ∙ sym c.show_more-shown.ensures.state ∙ broken.1)
 
 pub returns-else-not-begins-clause-forwarded : goal.returns-else-not-begins-clause-forwarded
 returns-else-not-begins-clause-forwarded g c =
@@ -48,22 +49,52 @@ returns-else-not-begins-clause-forwarded g c =
       count = c.show_more-shown.result;
       between = _;
       pushed = subst (λ (n : ℕ). HasPushed (drop n c.pass_run-all.result.items) q (g.Q.CommandQueue.queue c.show_more-shown.new.owner.queue) c.show_more-shown.result) (sym (shown_length q _ _ c.requires.flight)) c.show_more-shown.ensures.pushed;
-      looked = c.settle.ensures.looked;
+      looked = c.settle-consumer.ensures.looked;
     })
 
 pub returns-else-not-begins-clause-history : goal.returns-else-not-begins-clause-history
-returns-else-not-begins-clause-history g c = c.growth_adds_up.ensures.sum _ _ _ _ _ _ _ c.in-Ready.ensures.taken.grew c.settle.ensures.history
+returns-else-not-begins-clause-history g c = c.growth_adds_up.ensures.sum _ _ _ _ _ _ _ c.in-Ready.ensures.taken.grew c.settle-consumer.ensures.history
 
 pub returns-else-not-begins-clause-lost : goal.returns-else-not-begins-clause-lost
 returns-else-not-begins-clause-lost g c =
-    (left_by _ _ _ _ (g.Q.CommandQueue.queue c.args.owner.now.queue) _ _ _ _ _ c.show_more-shown.ensures.pushed c.settle.ensures.looked).lost
+    (left_by _ _ _ _ (g.Q.CommandQueue.queue c.args.owner.now.queue) _ _ _ _ _ c.show_more-shown.ensures.pushed c.settle-consumer.ensures.looked).lost
 
 pub returns-else-not-begins-clause-repeated : goal.returns-else-not-begins-clause-repeated
 returns-else-not-begins-clause-repeated g c =
-    (left_by _ _ _ _ (g.Q.CommandQueue.queue c.args.owner.now.queue) _ _ _ _ _ c.show_more-shown.ensures.pushed c.settle.ensures.looked).repeated
+    (left_by _ _ _ _ (g.Q.CommandQueue.queue c.args.owner.now.queue) _ _ _ _ _ c.show_more-shown.ensures.pushed c.settle-consumer.ensures.looked).repeated
 
 pub returns-else-not-begins-clause-syncs : goal.returns-else-not-begins-clause-syncs
 returns-else-not-begins-clause-syncs g c none =
     let q : QueueValue = g.Q.CommandQueue.queue c.args.owner.now.queue in
-    let kept = left_by _ _ _ _ q _ _ _ _ _ c.show_more-shown.ensures.pushed c.settle.ensures.looked in
+    let kept = left_by _ _ _ _ q _ _ _ _ _ c.show_more-shown.ensures.pushed c.settle-consumer.ensures.looked in
     syncs_kept q _ _ kept.shown kept.lost none
+
+pub returns-else-not-begins-clause-order : goal.returns-else-not-begins-clause-order
+returns-else-not-begins-clause-order g c =
+    let q : QueueValue = g.Q.CommandQueue.queue c.args.owner.now.queue in
+    let m : QueueValue = g.Q.CommandQueue.queue c.show_more-shown.new.owner.queue in
+    let r : QueueValue = g.Q.CommandQueue.queue c.settle-consumer.new.owner.queue in
+    let flight = c.show_more-shown.ensures.flight _ c.requires.flight in
+    in_order c.world_law.ensures.taken c.batches_law.ensures.commands c.consumer_trail.ensures.head c.consumer_trail.ensures.advanced c.consumer_trail.ensures.count c.consumer_trail.ensures.read
+    _ r c.args.consumer c.settle-consumer.result.0 c.in-Ready.run' c.pass_run-all.result.items _ c.trail_stands_in_a_run.ensures.history c.in-Ready.ensures.taken c.settle-consumer.ensures.history c.pass_run-all.ensures
+    (shown_taken m r _ _ _ flight c.show_more-shown.ensures.begins (look_leaves_shown _ _ _ m r _ _ c.settle-consumer.ensures.looked))
+
+pub returns-in-Empty-clause-order : goal.returns-in-Empty-clause-order
+returns-in-Empty-clause-order g c =
+    let grew = c.in-Empty.ensures.taken.grew in
+    order_later (g.Q.CommandQueue.queue c.args.owner.now.queue) grew.newer _ _ grew.run_is c.requires.order
+
+pub returns-in-Drained-clause-order : goal.returns-in-Drained-clause-order
+returns-in-Drained-clause-order g c =
+    let grew = c.in-Drained.ensures.taken.grew in
+    order_later (g.Q.CommandQueue.queue c.args.owner.now.queue) grew.newer _ _ grew.run_is c.requires.order
+
+pub returns-in-Unwritten-clause-order : goal.returns-in-Unwritten-clause-order
+returns-in-Unwritten-clause-order g c =
+    let grew = c.in-Unwritten.ensures.taken.grew in
+    order_later (g.Q.CommandQueue.queue c.args.owner.now.queue) grew.newer _ _ grew.run_is c.requires.order
+
+pub returns-then-not-begins-clause-order : goal.returns-then-not-begins-clause-order
+returns-then-not-begins-clause-order g c =
+    let grew = c.in-Ready.ensures.taken.grew in
+    order_later (g.Q.CommandQueue.queue c.args.owner.now.queue) grew.newer _ _ (ap (λ (e : ConsumerValue _). e.history) c.put_back.ensures.consumer ∙ grew.run_is) c.requires.order
