@@ -5,6 +5,7 @@ ghost use Rattle.std.specs.FinMap as finite;
 ghost use Rattle.caches.specs.Held.{held};
 ghost use Rattle.hardware_queue.specs.Owners.{IsNew};
 ghost use Rattle.unit_queue.specs.Queued.{HasMoved, IsStopped, IsConsOf};
+ghost use Rattle.unit_queue.specs.Laws.{ToldMeansNoneIsOlder};
 ghost use Rattle.engine.specs.Units.{new_unit, filled, with_entries};
 ghost use Rattle.caches.specs.Stored.{IsFillAnswer};
 
@@ -124,6 +125,15 @@ impl UnitQueue {
         ensures { result ≡ finite.get self.now.unit.caches.entries tag.now }
     {
         self.unit.lookup(tag)
+    }
+
+    /// A witness, for whoever has it behind a `Forwarder`: where `Forwarder::told` says that a sender was told truly, no
+    /// entry is older than a command that was reserved before that CMD_SYNC and covers it, unless the command was written
+    /// over. It does nothing.
+    pub fn no_older_entry_is_held(&self)
+        ensures { ToldMeansNoneIsOlder self.now }
+    {
+        let _ = &self.cons;
     }
 
     /// Whether it is stopped at an illegal command.
