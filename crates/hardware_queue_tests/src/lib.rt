@@ -1,0 +1,9 @@
+//! Tests of the hardware queue and its owner, forwarder and unit.
+#![tactic(auto)]
+
+#[cfg(test)]
+mod forwarder;
+#[cfg(test)]
+mod owner;
+#[cfg(test)]
+mod words;
