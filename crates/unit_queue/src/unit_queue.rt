@@ -1,7 +1,7 @@
 //! The queue of a unit.
-ghost use Rattle.std.specs.Prelude.{◌≡◌, ◌↔◌, [], IfOk, IsTrue, OnOk, OnErr};
-ghost use Rattle.cmdcodec.specs.declared.raw.Raw.{Raw as RawOf};
+ghost use Rattle.std.specs.Prelude.{◌≡◌, ◌↔◌, [], None, false, IfOk, IsTrue, OnOk, OnErr};
 ghost use Rattle.std.specs.FinMap as finite;
+ghost use Rattle.cmdcodec.specs.Legality.{first_ill as first_ill_of};
 ghost use Rattle.caches.specs.Held.{held};
 ghost use Rattle.hardware_queue.specs.Owners.{IsNew};
 ghost use Rattle.unit_queue.specs.Queued.{HasMoved, IsStopped, IsConsOf};
@@ -34,6 +34,8 @@ pub struct UnitQueue {
     gerrorn: u32,
     /// Whether the error was read since it is active.
     seen: bool,
+    /// Legal words that it calls illegal.
+    unsupported: Option<Raw>,
     shown: Tape,
     lost: Positions,
     read: Reads,
@@ -101,6 +103,7 @@ impl UnitQueue {
             error: false,
             gerrorn: 0,
             seen: false,
+            unsupported: None,
             shown: Tape::new(),
             lost: Positions::new(),
             read: Reads::new(),
@@ -118,6 +121,13 @@ impl UnitQueue {
         ensures err { OnErr result (self.new ≡ self.old) }
     {
         self.unit.fill(tag, value)
+    }
+
+    /// Has it call these words illegal from now on, as an SMMU does that lacks what they ask for.
+    pub fn set_unsupported(&mut self, raw: Raw)
+        ensures { self.new ≡ self.old }
+    {
+        self.unsupported = Some(raw);
     }
 
     /// Returns the entry held under `tag`, if any.
@@ -143,6 +153,13 @@ impl UnitQueue {
         self.error != (self.gerrorn % 2 == 1)
     }
 
+    /// Whether it calls a command illegal.
+    fn calls_illegal(&self, raw: Raw) -> bool
+        ensures { result ≡ false → first_ill_of raw ≡ None }
+    {
+        first_ill(raw).is_some() || self.unsupported == Some(raw)
+    }
+
     /// Consumes the next command if it is legal, and else stops at it.
     fn consume(&mut self)
         ensures { HasMoved self.old self.new }
@@ -154,7 +171,7 @@ impl UnitQueue {
             return;
         }
         let raw = self.memory[self.cons.place() as usize];
-        if first_ill(raw).is_some() {
+        if self.calls_illegal(raw) {
             self.error = !self.error;
             return;
         }
