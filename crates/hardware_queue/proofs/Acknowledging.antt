@@ -1,5 +1,5 @@
 -- What an acknowledgement does.
-use Rattle.std.proofs.Common.{◌≡◌, ℕ, Bool, List, ◌∷◌, length, Option, Some, None, refl, ap, ap₂, sym, subst, ◌∙◌}
+use Rattle.std.proofs.Common.{◌≡◌, ℕ, List, ◌∷◌, None, refl, ap, ap₂, sym, ◌∙◌}
 use Rattle.hardware_queue.specs.declared.command_error.CommandError.{CommandError}
 use Rattle.hardware_queue.specs.declared.command_error.CommandError.TheVariants.{Illegal, Abort, AtcInvSync, Reserved}
 use Rattle.hardware_queue.specs.declared.reading.Reading.{Reading}
@@ -8,8 +8,8 @@ use Rattle.hardware_queue.specs.declared.remedy.Remedy.{Remedy}
 use Rattle.hardware_queue.specs.declared.remedy.Remedy.TheVariants.{Retry, Replace}
 use Rattle.hardware_queue.specs.declared.state.QueueState.{QueueState}
 use Rattle.hardware_queue.specs.declared.state.QueueState.TheVariants as state
-use Rattle.hardware_queue.specs.Queues.{QueueValue, HasReadAcknowledged, MayAcknowledge, acknowledged_by, repeated_after, with_repeated, with_reading, toggled, command_queue_error}
-use Rattle.hardware_queue.specs.Owners.{IsStoppedHere, without_memory, remedied, refusal, HasAcknowledged, IsAcknowledged}
+use Rattle.hardware_queue.specs.Queues.{QueueValue, HasReadAcknowledged, MayAcknowledge, acknowledged_by, repeated_after, toggled, command_queue_error}
+use Rattle.hardware_queue.specs.Owners.{IsStoppedHere, without_memory, remedied, refusal, HasAcknowledged}
 
 -- A remedy that isn't refused is for a stop.
 pub fits : (remedy : Remedy) (found : QueueState) → None ≡ refusal remedy found → (error : CommandError) × (found ≡ state.Stopped error) × (remedy ≡ Replace → error ≡ Illegal)

@@ -1,6 +1,6 @@
 -- What is in flight, and what may be completed.
 use Rattle.std.proofs.Common.{◌≡◌, ℕ, Bool, true, false, zero, suc, ◌+◌, ◌-◌, ◌<◌, ◌≤◌, List, [], ◌∷◌, ◌++◌, length, map, Option, Some, refl, ap, ap₂, sym, subst, ◌∙◌, arith, append_assoc, length-append}
-use Rattle.std.proofs.lemmas.List.{append-nil, length-map, length-take-le, take-append-drop, take-append-le, take-map}
+use Rattle.std.proofs.lemmas.List.{append-nil, length-take-le, take-append-drop, take-append-le, take-map}
 use Rattle.std.proofs.Math.Seq.{take-append_seam, take-add, drop-append_seam}
 use Rattle.std.specs.Prelude.{slice_get, slice_index_or, take, drop, Contains, is_none, if◌then◌else◌, ◌==◌, IsTrue, ◌↔◌}
 use Rattle.std.proofs.lemmas.Bool.Decides.{Decides-eqb}

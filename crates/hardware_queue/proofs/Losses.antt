@@ -14,7 +14,6 @@ use Rattle.hardware_queue.specs.declared.state.QueueState.{QueueState}
 use Rattle.hardware_queue.specs.declared.state.QueueState.TheVariants as state
 use Rattle.hardware_queue.specs.Queues.{QueueValue}
 use Rattle.hardware_queue.specs.Owners.{HasAcknowledged, IsAcknowledged}
-use Rattle.hardware_queue.specs.Flights.{passed_on, IsInFlight, IsOtherAt, NoSyncIsLost}
 use Rattle.hardware_queue.specs.Forwarders.{IsForwarder, refusal_at, refusal_to_replace, lost_by, IsStoppedAt}
 
 no_sync : (error : CommandError) (sync : Bool) → refusal_to_replace error sync ≡ None → sync ≡ false

@@ -1,5 +1,5 @@
 -- What the hardware was shown is a beginning of what was reserved, in its order.
-use Rattle.std.proofs.Common.{◌≡◌, ◌≢◌, ℕ, zero, suc, ◌+◌, ◌-◌, ◌<◌, ◌≤◌, Bool, true, false, List, [], ◌∷◌, ◌++◌, length, map, Some, refl, ap, ap₂, sym, subst, ◌∙◌, arith, append_assoc, eq-eqb, ne_eqb}
+use Rattle.std.proofs.Common.{◌≡◌, ℕ, zero, suc, ◌+◌, ◌<◌, Bool, true, false, List, [], ◌∷◌, ◌++◌, length, map, Some, refl, ap, ap₂, sym, subst, ◌∙◌, arith, append_assoc, eq-eqb, ne_eqb}
 use Rattle.std.proofs.lemmas.List.{append-nil, map-append, take-append-drop}
 use Rattle.std.specs.Prelude.{slice_get, take, drop, cond, ◌&&◌}
 use Rattle.cmdcodec.specs.declared.raw.Raw.{Raw}
@@ -11,8 +11,8 @@ use Rattle.ringcore.specs.declared.world.event.Outcome.{Outcome}
 use Rattle.ringcore.specs.declared.world.event.Outcome.TheVariants.{Applied}
 use Rattle.ringcore.specs.declared.world.event.Who.{Who}
 use Rattle.ringcore.specs.declared.world.event.Who.TheVariants.{Consumer, Sender}
-use Rattle.ringcore.specs.world.Trails.{Run, Trail, trail_of, same, same_half, half_read, raws_by, taken_by}
-use Rattle.ringcore.specs.world.World.{Item, World, Taken, taken_as, outcome_of, world, head, half_of}
+use Rattle.ringcore.specs.world.Trails.{Run, Trail, trail_of, same, same_half, half_read, raws_by}
+use Rattle.ringcore.specs.world.World.{Item, taken_as, world, head, half_of}
 use Rattle.ringcore.specs.world.Allowed.{Ring, IsRun}
 use Rattle.ringcore.specs.world.Delivery.{Batch, batches, joined, advanced, TakenInOrder}
 use Rattle.ringcore.specs.world.Laws.{EveryRun, CommandsOfBatches}
@@ -42,9 +42,10 @@ owed_append a b = ap passed_on (map-append taken_as a b) ∙ passed_on-append (m
 
 owed_later : (newer older : Run) → Begins (owed (newer ++ older)) (owed older)
 owed_later newer older =
-    let more = batches_later newer older in
-    (passed_on (map taken_as (joined more.0)),
-    ap (λ (l : List Raw). passed_on (map taken_as l)) (ap joined more.1 ∙ joined_append (batches older) more.0) ∙ owed_append (joined (batches older)) (joined more.0))
+    let more = batches_later newer older in (
+      passed_on (map taken_as (joined more.0)),
+      ap (λ (l : List Raw). passed_on (map taken_as l)) (ap joined more.1 ∙ joined_append (batches older) more.0) ∙ owed_append (joined (batches older)) (joined more.0),
+    )
 
 pub order_later : (q : QueueValue) (newer older run : Run) → run ≡ newer ++ older → IsInOrder q older → IsInOrder q run
 order_later q newer older run run_is (rest, is) =
@@ -172,8 +173,10 @@ module _ (taken_in_order : EveryRun TakenInOrder) (commands : EveryRun CommandsO
       ap (λ (l : List Raw). passed_on (map taken_as l)) next.1 ∙ owed_append (advanced run ++ p.raws) next.0
       ∙ ap (λ (l : List Raw). l ++ behind) (owed_append (advanced run) p.raws ∙ ap₂ (λ (l m : List Raw). l ++ m) (ap passed_on taken) front) in
       let split : all ++ rest ≡ take n all ++ (drop n all ++ rest) = ap (λ (l : List Raw). l ++ rest) (sym (take-append-drop n all)) ∙ append_assoc (take n all) (drop n all) rest in
-      let at : IsInOrder q run = ((drop n all ++ rest) ++ behind,
-      whole ∙ ap (λ (l : List Raw). (a ++ l) ++ behind) split
-      ∙ ap (λ (l : List Raw). l ++ behind) (sym (append_assoc a (take n all) (drop n all ++ rest)) ∙ ap (λ (l : List Raw). l ++ (drop n all ++ rest)) (sym shown))
-      ∙ append_assoc q.shown (drop n all ++ rest) behind) in
+      let at : IsInOrder q run = (
+        (drop n all ++ rest) ++ behind,
+        whole ∙ ap (λ (l : List Raw). (a ++ l) ++ behind) split
+            ∙ ap (λ (l : List Raw). l ++ behind) (sym (append_assoc a (take n all) (drop n all ++ rest)) ∙ ap (λ (l : List Raw). l ++ (drop n all ++ rest)) (sym shown))
+            ∙ append_assoc q.shown (drop n all ++ rest) behind,
+      ) in
       order_later q grew.newer run e.history grew.run_is at

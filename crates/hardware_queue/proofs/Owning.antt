@@ -9,8 +9,8 @@ use Rattle.qindex.specs.Positions.{IndexValue, size, place, index_of}
 use Rattle.qindex.specs.Indexes.{IsGeometry, IsQueue, distance}
 use Rattle.qindex.specs.Laws.{SlotsAreApart, IndexesTellTheQueue}
 use Rattle.hardware_queue.specs.declared.state.QueueState.{QueueState}
-use Rattle.hardware_queue.specs.Queues.{QueueValue, IsFree, plain_sync, written, in_memory, rd_of, newly_consumed, IsBelievable, HasReadCons, newly_shown, MayShow, shown_up_to}
-use Rattle.hardware_queue.specs.Owners.{IsOwner, IsStoppedHere, HasConsumed, without_memory, room}
+use Rattle.hardware_queue.specs.Queues.{QueueValue, IsFree, plain_sync, written, in_memory, rd_of, newly_consumed, IsBelievable, newly_shown, MayShow, shown_up_to}
+use Rattle.hardware_queue.specs.Owners.{IsOwner, without_memory, room}
 
 -- ---- what stands in memory
 
@@ -155,4 +155,3 @@ unbelievable q word count e order more = λ b. let w = b.within in absurd (omega
 pub believable : (q : QueueValue) (word count : ℕ) → count ≡ newly_consumed word q → q.consumed ≤ length q.shown → count ≤ length q.shown - q.consumed → rd_of word < 2 * size q.geometry
     → IsBelievable word q
 believable q word count e order few index = record { index = index; within = omega (arith, e, order, few) }
-

@@ -1,5 +1,5 @@
 -- What a look at the registers tells.
-use Rattle.std.proofs.Common.{◌≡◌, ◌≢◌, ℕ, ◌+◌, ◌-◌, ◌<◌, ◌≤◌, Bool, true, false, List, ◌∷◌, length, Option, Some, None, refl, ap, ap₂, sym, subst, ◌∙◌, arith}
+use Rattle.std.proofs.Common.{◌≡◌, ◌≢◌, ℕ, ◌+◌, ◌-◌, ◌≤◌, Bool, true, false, List, ◌∷◌, length, Option, Some, ap, ap₂, sym, subst, ◌∙◌, arith}
 use Rattle.std.specs.Prelude.{IsTrue, ◌↔◌}
 use Rattle.qindex.specs.Positions.{IndexValue, size, index_of}
 use Rattle.qindex.specs.Indexes.{IsQueue}
@@ -8,7 +8,7 @@ use Rattle.hardware_queue.specs.declared.reading.Reading.{Reading}
 use Rattle.hardware_queue.specs.declared.reading.Reading.TheVariants.{Gerror, Cons}
 use Rattle.hardware_queue.specs.declared.state.QueueState.{QueueState}
 use Rattle.hardware_queue.specs.declared.state.QueueState.TheVariants as state
-use Rattle.hardware_queue.specs.Queues.{QueueValue, Stop, IsBelievable, IsErrorActive, IsStoppedWithin, HasReadErrors, HasReadCons, newly_consumed, error_in, with_reading, consumed_up_to, command_queue_error}
+use Rattle.hardware_queue.specs.Queues.{QueueValue, Stop, IsBelievable, IsErrorActive, HasReadErrors, HasReadCons, newly_consumed, error_in, with_reading, consumed_up_to, command_queue_error}
 use Rattle.hardware_queue.specs.Owners.{IsOwner, IsStoppedHere, HasConsumed, IsSameButSeen}
 
 pub believed : (q s : QueueValue) (gerror word : ℕ) → HasReadErrors q s gerror → IsBelievable word s → IsBelievable word q

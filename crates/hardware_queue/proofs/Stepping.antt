@@ -1,5 +1,5 @@
 -- What a step did.
-use Rattle.std.proofs.Common.{◌≡◌, ℕ, List, ◌++◌, length, inl, inr, ap, sym, subst, ◌∙◌}
+use Rattle.std.proofs.Common.{◌≡◌, ℕ, List, ◌++◌, inr, ap, ◌∙◌}
 use Rattle.std.specs.Prelude.{take}
 use Rattle.cmdcodec.specs.declared.raw.Raw.{Raw}
 use Rattle.ring.specs.consumer.Consumers.{ConsumerValue}

@@ -11,6 +11,7 @@ use Rattle.ring.specs.consumer.Consumers.{ConsumerValue}
 use Rattle.ring.specs.Finishing.{WasTold}
 use Rattle.hardware_queue.specs.declared.command_error.CommandError.{CommandError}
 use Rattle.hardware_queue.specs.declared.command_error.CommandError.TheVariants.{Illegal}
+use Rattle.hardware_queue.specs.declared.forwarded.Forwarded.{Forwarded}
 use Rattle.hardware_queue.specs.declared.forwarded.Stopped.{Stopped}
 use Rattle.hardware_queue.specs.declared.remedy.Remedy.{Remedy}
 use Rattle.hardware_queue.specs.declared.remedy.Remedy.TheVariants.{Retry, Replace}
@@ -20,12 +21,23 @@ use Rattle.hardware_queue.specs.declared.state.QueueState.{QueueState}
 use Rattle.hardware_queue.specs.declared.state.QueueState.TheVariants as state
 use Rattle.hardware_queue.specs.Queues.{QueueValue, MayBeUnanswered}
 use Rattle.hardware_queue.specs.Owners.{OwnerValue, HasAcknowledged, IsStoppedState}
+use Rattle.hardware_queue.specs.Steps.{HasForwarded, NothingIsDone}
 use Rattle.hardware_queue.specs.Flights.{passed_on, IsInFlight, IsInOrder, NoSyncIsLost}
 
 -- a forwarder: the consumer of its ring, and the owner of the hardware's queue
 pub record ForwarderValue (Q : Type 0) : Type 0 where
   pub consumer : ConsumerValue (OwnerValue Q)
   pub owner : OwnerValue Q
+
+-- a step, for a queue that is seen as `queue` says
+abbrev pub HasStepped : {Q : Type 0} → (Q → QueueValue) → ForwarderValue Q → ForwarderValue Q → Forwarded → Type 0
+HasStepped queue old new answer =
+    HasForwarded old.consumer new.consumer old.owner.state new.owner.state (queue old.owner.queue) (queue new.owner.queue) answer
+
+-- Once something that no working queue has was found, nothing is done any more, and the answer says so.
+abbrev pub StaysBroken : {Q : Type 0} → (Q → QueueValue) → ForwarderValue Q → ForwarderValue Q → Forwarded → Type 0
+StaysBroken queue old new answer =
+    NothingIsDone old.consumer new.consumer old.owner.state new.owner.state (queue old.owner.queue) (queue new.owner.queue) answer
 
 -- how many commands were lost at the hardware, 2^64 - 1 if more
 abbrev pub count_lost : QueueValue → ℕ

@@ -1,5 +1,5 @@
 -- What a step of a forwarder did.
-use Rattle.std.specs.Prelude.{◌≡◌, ℕ, ◌≤◌, ◌<◌, ◌++◌, ◌⊎◌, ◌-◌, true, false, List, map, take, drop, length, Option, Some, None, slice_get}
+use Rattle.std.specs.Prelude.{◌≡◌, ℕ, ◌≤◌, ◌++◌, ◌⊎◌, ◌-◌, true, false, List, map, take, drop, length, Option, Some, None, slice_get}
 use Rattle.cmdcodec.specs.declared.raw.Raw.{Raw}
 use Rattle.cmdcodec.specs.declared.ill.Ill.{Ill}
 use Rattle.cmdcodec.specs.Legality.{first_ill}
@@ -101,7 +101,7 @@ abbrev pub IsUntouched : QueueState → QueueState → QueueValue → QueueValue
 IsUntouched s t q r = (t ≡ s) × (r ≡ q)
 
 -- It was broken before, and nothing was done.
-pub record StaysBroken {D : Type 0} (old new : ConsumerValue D) (s t : QueueState) (q r : QueueValue) (word : ℕ) : Type 0 where
+pub record IsUndone {D : Type 0} (old new : ConsumerValue D) (s t : QueueState) (q r : QueueValue) (word : ℕ) : Type 0 where
   pub broken : s ≡ state.Broken word
   pub untouched : IsUntouched s t q r
   pub kept : new ≡ old
@@ -111,9 +111,9 @@ HasForwarded old new s t q r answer.Empty = TookNone false old new × IsUntouche
 HasForwarded old new s t q r answer.Drained = TookNone true old new × IsUntouched s t q r
 HasForwarded old new s t q r answer.Unwritten = TookUnwritten 64 old new × IsUntouched s t q r
 HasForwarded old new s t q r answer.Changed = HasChanged old new q × IsUntouched s t q r
-HasForwarded old new s t q r (answer.Broken word) = StaysBroken old new s t q r word ⊎ HasServed old new q r t (answer.Broken word)
+HasForwarded old new s t q r (answer.Broken word) = IsUndone old new s t q r word ⊎ HasServed old new q r t (answer.Broken word)
 HasForwarded old new s t q r other = HasServed old new q r t other
 
 -- Once something that no working queue has was found, nothing is done any more, and the answer says so.
 abbrev pub NothingIsDone : {D : Type 0} → ConsumerValue D → ConsumerValue D → QueueState → QueueState → QueueValue → QueueValue → Forwarded → Type 0
-NothingIsDone old new s t q r told = (word : ℕ) → s ≡ state.Broken word → (told ≡ answer.Broken word) × StaysBroken old new s t q r word
+NothingIsDone old new s t q r told = (word : ℕ) → s ≡ state.Broken word → (told ≡ answer.Broken word) × IsUndone old new s t q r word

@@ -6,8 +6,7 @@ ghost use Rattle.ring.specs.table.Histories.{IsHistory, Grew};
 ghost use Rattle.ring.specs.consumer.Completing.{taken_of};
 ghost use Rattle.hardware_queue.specs.declared.state.QueueState.TheVariants.{Running};
 ghost use Rattle.hardware_queue.specs.Flights.{HasConsumedAll, IsInOrder};
-ghost use Rattle.hardware_queue.specs.Steps.{HasForwarded, NothingIsDone};
-ghost use Rattle.hardware_queue.specs.Forwarders.{IsStoppedAt, IsRefused, HasRemedied, WasToldAllTruly, count_lost};
+ghost use Rattle.hardware_queue.specs.Forwarders.{HasStepped, StaysBroken, IsStoppedAt, IsRefused, HasRemedied, WasToldAllTruly, count_lost};
 ghost use Rattle.hardware_queue.specs.Owners.{IsStoppedState};
 
 use crate::command_queue::CommandQueue;
@@ -65,13 +64,14 @@ impl<Q: CommandQueue> Forwarder<Q> {
     /// the hardware stopped. Nothing is skipped.
     pub fn step(self, ring: &Ring) -> (Forwarder<Q>, Forwarded)
         requires { self.consumer.ring ≡ ring.now }
-        ensures forwarded { HasForwarded self.consumer result.0.consumer self.owner.state result.0.owner.state (Q.queue self.owner.queue) (Q.queue result.0.owner.queue) result.1 }
-        ensures broken { NothingIsDone self.consumer result.0.consumer self.owner.state result.0.owner.state (Q.queue self.owner.queue) (Q.queue result.0.owner.queue) result.1 }
+        ensures forwarded { HasStepped Q.queue self result.0 result.1 }
+        ensures broken { StaysBroken Q.queue self result.0 result.1 }
         ensures order { IsInOrder (Q.queue result.0.owner.queue) result.0.consumer.history }
         ensures settled { HasConsumedAll (Q.queue result.0.owner.queue) (taken_of result.0.consumer.trail) }
         ensures lost { (Q.queue result.0.owner.queue).lost ≡ (Q.queue self.owner.queue).lost }
         ensures repeated { (Q.queue result.0.owner.queue).repeated ≡ (Q.queue self.owner.queue).repeated }
-        ensures history { Grew ConsumerOf self.consumer.trail result.0.consumer.trail self.consumer.history result.0.consumer.history }
+        ensures history { Grew ConsumerOf self.consumer.trail result.0.consumer.trail
+            self.consumer.history result.0.consumer.history }
         ensures ring { result.0.consumer.ring ≡ self.consumer.ring }
     {
         let Forwarder {
@@ -92,7 +92,7 @@ impl<Q: CommandQueue> Forwarder<Q> {
 
     /// Returns at which command the last step found the hardware stopped, and why, until that is acknowledged.
     pub fn stopped(&self) -> Option<Stopped>
-        ensures some { IfSome result (λ stopped. IsStoppedAt (Q.queue self.now.owner.queue) self.now.owner.state stopped) }
+        ensures some { IfSome result (IsStoppedAt (Q.queue self.now.owner.queue) self.now.owner.state) }
         ensures none { IfNone result (¬ IsStoppedState self.now.owner.state) }
     {
         let QueueState::Stopped(error) = self.owner.state() else {
@@ -109,9 +109,10 @@ impl<Q: CommandQueue> Forwarder<Q> {
     ///
     /// Errors, in this order, each changing nothing: `NotStopped`; `NotIllegal`; `IsSync`.
     pub fn acknowledge(&mut self, remedy: Remedy) -> Result<Stopped, RemedyFault>
-        ensures done { IfOk result (λ stopped. HasRemedied remedy self.old.owner.state (Q.queue self.old.owner.queue) (Q.queue self.new.owner.queue) stopped) }
+        ensures done { IfOk result (HasRemedied remedy self.old.owner.state
+            (Q.queue self.old.owner.queue) (Q.queue self.new.owner.queue)) }
         ensures running { OnOk result (self.new.owner.state ≡ Running) }
-        ensures refused { IfErr result (λ fault. IsRefused remedy self.old.owner.state (Q.queue self.old.owner.queue) fault) }
+        ensures refused { IfErr result (IsRefused remedy self.old.owner.state (Q.queue self.old.owner.queue)) }
         ensures kept { OnErr result (self.new ≡ self.old) }
         ensures consumer { self.new.consumer ≡ self.old.consumer }
     {
@@ -139,14 +140,17 @@ impl<Q: CommandQueue> Forwarder<Q> {
     pub fn told(&mut self, ring: &Ring, sender: &mut Sender)
         requires ring { self.old.consumer.ring ≡ ring.now }
         requires sender { sender.old.ring ≡ ring.now }
-        ensures told { WasToldAllTruly (Q.has_effect self.new.owner.queue) (Q.queue self.new.owner.queue) self.new.consumer.history sender.old.number sender.old.trail }
+        ensures told { WasToldAllTruly (Q.has_effect self.new.owner.queue) (Q.queue self.new.owner.queue)
+            self.new.consumer.history sender.old.number sender.old.trail }
         ensures order { IsInOrder (Q.queue self.new.owner.queue) self.new.consumer.history }
         ensures owner { self.new.owner ≡ self.old.owner }
         ensures consumer { record self.new.consumer { history = [] } ≡ record self.old.consumer { history = [] } }
         ensures sender { record sender.new { history = [] } ≡ record sender.old { history = [] } }
         ensures one { sender.new.history ≡ self.new.consumer.history }
-        ensures of_consumer { IsHistory self.old.consumer.ring.made_with ConsumerOf self.old.consumer.trail self.new.consumer.history }
-        ensures of_sender { IsHistory sender.old.ring.made_with (SenderOf sender.old.number) sender.old.trail self.new.consumer.history }
+        ensures of_consumer { IsHistory self.old.consumer.ring.made_with ConsumerOf
+            self.old.consumer.trail self.new.consumer.history }
+        ensures of_sender { IsHistory sender.old.ring.made_with (SenderOf sender.old.number)
+            sender.old.trail self.new.consumer.history }
         ensures known_to_consumer { WentOn ConsumerOf self.old.consumer.history self.new.consumer.history }
         ensures known_to_sender { WentOn (SenderOf sender.old.number) sender.old.history self.new.consumer.history }
     {

@@ -133,7 +133,8 @@ impl<Q: CommandQueue> Owner<Q> {
         ensures refused { IfErr result (λ fault. refusal_of remedy self.old.state ≡ Some fault) }
         ensures kept { OnErr result (self.new ≡ self.old) }
         ensures fits { OnOk result (refusal_of remedy self.old.state ≡ None) }
-        ensures done { OnOk result (IsAcknowledged remedy self.old.state (Q.queue self.old.queue) (Q.queue self.new.queue)) }
+        ensures done { OnOk result (IsAcknowledged remedy self.old.state
+            (Q.queue self.old.queue) (Q.queue self.new.queue)) }
         ensures running { OnOk result (self.new.state ≡ Running) }
     {
         if let Some(fault) = refusal(remedy, self.state) {
@@ -156,7 +157,8 @@ impl<Q: CommandQueue> Owner<Q> {
 
     /// A witness that the command at which it is stopped was shown and isn't consumed. It does nothing.
     pub fn stopped_is_in_flight(&self)
-        ensures { (error : CommandErrorOf) → self.now.state ≡ StoppedWith error → IsStoppedHere (Q.queue self.now.queue) error }
+        ensures { (error : CommandErrorOf) → self.now.state ≡ StoppedWith error
+            → IsStoppedHere (Q.queue self.now.queue) error }
     {
         let _ = &self.cons;
     }

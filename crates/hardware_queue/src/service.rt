@@ -22,9 +22,11 @@ use ringcore::laws;
 /// Shows the hardware as many as fit of the commands that aren't in flight. Returns how many.
 fn show_more<Q: CommandQueue>(owner: &mut Owner<Q>, flight: &mut RawList, all: &RawList) -> u32
     requires { Begins all.now.items flight.old.items }
-    ensures pushed { HasPushed (drop (length flight.old.items) all.now.items) (Q.queue owner.old.queue) (Q.queue owner.new.queue) result }
+    ensures pushed { HasPushed (drop (length flight.old.items) all.now.items)
+        (Q.queue owner.old.queue) (Q.queue owner.new.queue) result }
     ensures state { owner.new.state ≡ owner.old.state }
-    ensures flight { (taken : List TakenOf) → IsInFlight (Q.queue owner.old.queue) taken flight.old.items → IsInFlight (Q.queue owner.new.queue) taken flight.new.items }
+    ensures flight { (taken : List TakenOf) → IsInFlight (Q.queue owner.old.queue) taken flight.old.items
+        → IsInFlight (Q.queue owner.new.queue) taken flight.new.items }
     ensures begins { Begins all.now.items flight.new.items }
 {
     let there = flight.len();
@@ -79,7 +81,8 @@ fn settle<Q: CommandQueue>(
     requires begins { Begins all.now.items flight.old.items }
     requires flight { IsInFlight (Q.queue owner.old.queue) (taken_of run.consumer.trail) flight.old.items }
     requires unbroken { ¬ IsBroken owner.old.state }
-    ensures looked { HasLooked run result.0 all.now.items (Q.queue owner.old.queue) (Q.queue owner.new.queue) owner.new.state result.1 }
+    ensures looked { HasLooked run result.0 all.now.items
+        (Q.queue owner.old.queue) (Q.queue owner.new.queue) owner.new.state result.1 }
     ensures flight { IsInFlight (Q.queue owner.new.queue) (taken_of result.0.trail) flight.new.items }
     ensures history { Grew ConsumerOf run.consumer.trail result.0.trail run.consumer.history result.0.history }
     ensures ring { result.0.ring ≡ run.consumer.ring }
@@ -119,8 +122,10 @@ pub fn forward_with<Q: CommandQueue>(
     requires flight { IsInFlight (Q.queue owner.old.queue) (taken_of consumer.trail) flight.old.items }
     requires order { IsInOrder (Q.queue owner.old.queue) consumer.history }
     ensures order { IsInOrder (Q.queue owner.new.queue) result.0.history }
-    ensures forwarded { HasForwarded consumer result.0 owner.old.state owner.new.state (Q.queue owner.old.queue) (Q.queue owner.new.queue) result.1 }
-    ensures broken { NothingIsDone consumer result.0 owner.old.state owner.new.state (Q.queue owner.old.queue) (Q.queue owner.new.queue) result.1 }
+    ensures forwarded { HasForwarded consumer result.0 owner.old.state owner.new.state
+        (Q.queue owner.old.queue) (Q.queue owner.new.queue) result.1 }
+    ensures broken { NothingIsDone consumer result.0 owner.old.state owner.new.state
+        (Q.queue owner.old.queue) (Q.queue owner.new.queue) result.1 }
     ensures flight { IsInFlight (Q.queue owner.new.queue) (taken_of result.0.trail) flight.new.items }
     ensures lost { (Q.queue owner.new.queue).lost ≡ (Q.queue owner.old.queue).lost }
     ensures repeated { (Q.queue owner.new.queue).repeated ≡ (Q.queue owner.old.queue).repeated }

@@ -1,10 +1,9 @@
 //! Senders, a ring, a forwarder, and a unit as the hardware.
 ghost use Rattle.std.specs.Prelude.{◌≡◌};
 
-use crate::words::{CFGI_STE, ILLEGAL, owner};
+use crate::words::{CFGI_STE, ILLEGAL, UNSUPPORTED, owner};
 use batch::Batch;
-use cmdcodec::Raw;
-use hardware_queue::{CommandError, Forwarded, Forwarder, Remedy, RemedyFault, Stopped};
+use hardware_queue::{CommandError, Forwarded, Forwarder, Remedy, Stopped};
 use ring::{Ring, RingFault};
 use std::process::Abort;
 use unit_queue::UnitQueue;
@@ -56,5 +55,29 @@ fn an_illegal_command_stays_here(rt: HostRuntime) -> Result<(), RingFault> {
     let forwarder = step(&rt, &ring, forwarder, Forwarded::Replaced(ILLEGAL));
     let forwarder = step(&rt, &ring, forwarder, Forwarded::Completed(1));
     assert_eq!(rt; forwarder.lost(), 0);
+    Ok(())
+}
+
+#[test]
+fn an_unsupported_command_is_lost(rt: HostRuntime) -> Result<(), RingFault> {
+    let (ring, mut senders, consumer) = Ring::new(rt.alloc(), 3, 1, 100)?;
+    let sender = senders.pop().expect(&rt, "one sender");
+    let forwarder = Forwarder::new(consumer, owner(&rt, 1));
+    let batch = Batch::new(UNSUPPORTED).expect(&rt, "no CMD_SYNC");
+    let Ok((_sender, _receipt)) = sender.send(&ring, &batch, 1) else {
+        panic!(rt; "the batch is refused");
+    };
+    let forwarder = step(&rt, &ring, forwarder, Forwarded::Waiting);
+    let stopped = Stopped {
+        command: UNSUPPORTED,
+        error: CommandError::Illegal,
+    };
+    let mut forwarder = step(&rt, &ring, forwarder, Forwarded::Stopped(stopped));
+    assert_eq!(rt; forwarder.stopped(), Some(stopped));
+    assert_eq!(rt; forwarder.acknowledge(Remedy::Replace), Ok(stopped));
+    assert_eq!(rt; forwarder.lost(), 1);
+    // The CMD_SYNC in its place, and then the sender's own.
+    let forwarder = step(&rt, &ring, forwarder, Forwarded::Completed(1));
+    let _forwarder = step(&rt, &ring, forwarder, Forwarded::Completed(1));
     Ok(())
 }

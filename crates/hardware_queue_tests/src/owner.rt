@@ -20,7 +20,10 @@ fn six_commands_in_four_slots(rt: HostRuntime) {
 fn an_illegal_command_is_replaced(rt: HostRuntime) {
     let mut owner = owner(&rt, 2);
     assert_eq!(rt; owner.push([ILLEGAL, CFGI_STE].as_slice()), 2);
-    assert_eq!(rt; owner.acknowledge(Remedy::Retry), Err(RemedyFault::NotStopped));
+    assert_eq!(rt;
+        owner.acknowledge(Remedy::Retry),
+        Err(RemedyFault::NotStopped)
+    );
     // The unit stops as it reads it, and the next look finds that.
     assert_eq!(rt; owner.poll(), Progress::Consumed(0));
     let error = CommandError::Illegal;

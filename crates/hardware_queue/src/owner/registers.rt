@@ -12,7 +12,8 @@ const RD: u32 = 1 << 20;
 
 /// Reads SMMU_CMDQ_CONS once. Returns its value, and how many more were consumed if the value can be believed.
 pub fn look_at_cons<Q: CommandQueue>(queue: &mut Q, prod: Index, cons: Index) -> (u32, Option<u32>)
-    requires { IsQueue prod cons (Q.queue queue.old).geometry (length (Q.queue queue.old).shown) (Q.queue queue.old).consumed }
+    requires { IsQueue prod cons (Q.queue queue.old).geometry
+        (length (Q.queue queue.old).shown) (Q.queue queue.old).consumed }
     ensures read { HasReadCons (Q.queue queue.old) (Q.queue queue.new) result.0 }
     ensures found { IsLookedAt (Q.queue queue.old) result.0 result.1 }
 {

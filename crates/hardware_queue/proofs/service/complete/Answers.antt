@@ -1,4 +1,4 @@
-use Rattle.std.proofs.Common.{ℕ, List, ◌++◌, ap, ap₂, ◌∙◌}
+use Rattle.std.proofs.Common.{List, ◌++◌, ap, ap₂, ◌∙◌}
 use Rattle.std.proofs.lemmas.List.{take_rest}
 use Rattle.std.specs.Prelude.{drop}
 use Rattle.cmdcodec.specs.declared.raw.Raw.{Raw}

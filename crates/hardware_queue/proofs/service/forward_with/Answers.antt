@@ -1,5 +1,5 @@
-use Rattle.std.proofs.Common.{◌≡◌, ℕ, List, refl, ap, ap₂, subst, sym, ◌∙◌}
-use Rattle.std.specs.Prelude.{drop, length}
+use Rattle.std.proofs.Common.{ℕ, List, refl, ap, subst, sym, ◌∙◌}
+use Rattle.std.specs.Prelude.{drop}
 use Rattle.cmdcodec.specs.declared.raw.Raw.{Raw}
 use Rattle.ringcore.specs.world.World.{Taken}
 use Rattle.ring.specs.consumer.Consumers.{ConsumerValue}
@@ -14,17 +14,19 @@ use Rattle.hardware_queue.proofs.service.forward_with.Goals as goal
 
 pub returns-then-not-begins-clause-forwarded : goal.returns-then-not-begins-clause-forwarded
 returns-then-not-begins-clause-forwarded g c =
-    let q : QueueValue = g.Q.CommandQueue.queue c.args.owner.now.queue in
-    (record {
-      run = c.in-Ready.run';
-      took = c.in-Ready.ensures.taken;
-      all = c.pass_run-all.result.items;
-      passing = c.pass_run-all.ensures;
-      others = λ begins. never _ _ c.begins.ensures c.if-not-begins.true
-          (subst (λ (l : List Raw). Begins l c.as_slice-in-Ready.result.now) (sym c.as_slice.ensures.value)
-          (subst (λ (l : List Raw). Begins c.pass_run-all.result.items l) (in_flight_is q _ _ c.requires.flight ∙ sym c.as_slice-in-Ready.ensures.value) begins));
-      kept = c.put_back.ensures.consumer;
-    }, (refl, refl))
+    let q : QueueValue = g.Q.CommandQueue.queue c.args.owner.now.queue in (
+      record {
+        run = c.in-Ready.run';
+        took = c.in-Ready.ensures.taken;
+        all = c.pass_run-all.result.items;
+        passing = c.pass_run-all.ensures;
+        others = λ begins. never _ _ c.begins.ensures c.if-not-begins.true
+            (subst (λ (l : List Raw). Begins l c.as_slice-in-Ready.result.now) (sym c.as_slice.ensures.value)
+            (subst (λ (l : List Raw). Begins c.pass_run-all.result.items l) (in_flight_is q _ _ c.requires.flight ∙ sym c.as_slice-in-Ready.ensures.value) begins));
+        kept = c.put_back.ensures.consumer;
+      },
+      (refl, refl),
+    )
 
 pub returns-then-not-begins-clause-flight : goal.returns-then-not-begins-clause-flight
 returns-then-not-begins-clause-flight g c =

@@ -1,5 +1,3 @@
-use Rattle.std.proofs.Common.{[], length, refl, ap, sym, ◌∙◌, arith}
-use Rattle.hardware_queue.specs.Queues.{QueueValue}
 use Rattle.hardware_queue.proofs.Forwards.{forwarder_begins}
 use Rattle.hardware_queue.proofs.forwarder.Forwarder.new.Goals as goal
 

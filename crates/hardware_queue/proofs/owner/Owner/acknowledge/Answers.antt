@@ -1,4 +1,4 @@
-use Rattle.std.proofs.Common.{◌∙◌, ap, sym}
+use Rattle.std.proofs.Common.{◌∙◌, sym}
 use Rattle.hardware_queue.specs.Queues.{QueueValue}
 use Rattle.hardware_queue.proofs.Acknowledging.{fits, may_acknowledge, acknowledged}
 use Rattle.hardware_queue.proofs.owner.Owner.acknowledge.Goals as goal
@@ -13,5 +13,9 @@ pub returns-clause-done : goal.returns-clause-done
 returns-clause-done g c =
     let q : QueueValue = g.Q.CommandQueue.queue c.self.inside.queue in
     let fit = fits _ _ (sym c.in_default.is ∙ c.refusal.ensures) in
-    rw (← c.self.view_is) ((fit.0, fit.1, acknowledged c.args.remedy fit.0 q _ _ _ _ _ (c.self.invariant.stopped fit.0 fit.1) c.apply.ensures.new c.read_gerrorn.ensures c.toggle-word.ensures
-    c.write_gerrorn.ensures))
+    rw (← c.self.view_is) ((
+      fit.0,
+      fit.1,
+      acknowledged c.args.remedy fit.0 q _ _ _ _ _ (c.self.invariant.stopped fit.0 fit.1) c.apply.ensures.new c.read_gerrorn.ensures c.toggle-word.ensures
+          c.write_gerrorn.ensures,
+    ))

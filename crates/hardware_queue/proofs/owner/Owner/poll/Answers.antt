@@ -1,4 +1,4 @@
-use Rattle.std.proofs.Common.{◌≡◌, false, true, ap, refl, sym, ◌∙◌}
+use Rattle.std.proofs.Common.{refl}
 use Rattle.hardware_queue.specs.Queues.{QueueValue}
 use Rattle.hardware_queue.proofs.Polls as polls
 use Rattle.hardware_queue.proofs.owner.Owner.poll.Goals as goal
