@@ -1,17 +1,16 @@
 -- The queue of a unit meets what a driver takes for granted.
-use Rattle.std.proofs.Common.{◌≡◌, ◌≢◌, ℕ, zero, suc, ◌+◌, ◌-◌, ◌*◌, ◌<◌, ◌≤◌, Bool, true, false, not, List, [], ◌∷◌, ◌++◌, length, Some, Result, Ok, Err, OnOk, OnErr, inl, inr, refl, ap, sym, subst, ◌∙◌, arith, add-one, length-append, append_assoc}
+use Rattle.std.proofs.Common.{◌≡◌, ◌≢◌, ℕ, zero, suc, ◌+◌, ◌-◌, ◌<◌, ◌≤◌, Bool, true, false, List, [], ◌∷◌, ◌++◌, length, Some, Result, Ok, Err, OnOk, OnErr, inl, inr, refl, ap, sym, subst, ◌∙◌, arith, add-one, length-append, append_assoc}
 use Rattle.std.proofs.lemmas.Bool.{cases_lt}
 use Rattle.std.proofs.lemmas.List.{append-nil}
 use Rattle.std.proofs.lemmas.Option.{slice_get_within, slice_get-get_or, slice_get_read}
 use Rattle.std.proofs.lemmas.Nat.{pow_pos, mod_below}
 use Rattle.std.proofs.Math.ListN.{length-set}
 use Rattle.std.specs.Prelude.{slice_get, slice_set, slice_index_or, Contains, IsTrue, ◌↔◌}
-use mathlib.Core.Bool.{beq}
 use Rattle.cmdcodec.specs.declared.raw.Raw.{Raw}
 use Rattle.cmdcodec.specs.declared.command.Command.{Command}
 use Rattle.qindex.specs.Positions.{IndexValue, size, place, index_of}
-use Rattle.qindex.specs.Indexes.{IsGeometry, IsQueue, distance}
-use Rattle.qindex.specs.Laws.{SlotsAreApart, IndexesTellTheQueue}
+use Rattle.qindex.specs.Indexes.{IsQueue}
+use Rattle.qindex.specs.Laws.{SlotsAreApart}
 use Rattle.ringcore.specs.declared.world.event.Outcome.TheVariants.{Applied}
 use Rattle.ringcore.specs.world.World.{Taken}
 use Rattle.engine.specs.Settled.{IsSettled}
@@ -19,11 +18,8 @@ use Rattle.engine.specs.Stops.{StopValue}
 use Rattle.engine.specs.Counting.{taken}
 use Rattle.engine.specs.Units.{UnitValue, StaysSettled, IsApplied, with_entries}
 use Rattle.caches.specs.Held.{Entries}
-use Rattle.hardware_queue.specs.Queues.{QueueValue, plain_sync, Stop, IsFree, SyncsComplete, in_memory, HasReadCons, rd_of, error_in, newly_consumed, IsBelievable, with_reading, consumed_up_to, command_queue_error, repeated_after, MayAcknowledge}
-use Rattle.unit_queue.specs.Queued.{Queued, IsQueued, IsStopped, IsConsOf, Stands, HasEffect, HasMoved, seen_at}
-use Rattle.hardware_queue.specs.declared.command_error.CommandError.TheVariants.{Illegal}
-use Rattle.hardware_queue.specs.declared.reading.Reading.{Reading}
-use Rattle.hardware_queue.specs.declared.reading.Reading.TheVariants.{Cons}
+use Rattle.hardware_queue.specs.Queues.{plain_sync, IsFree, SyncsComplete, in_memory, command_queue_error}
+use Rattle.unit_queue.specs.Queued.{Queued, IsQueued, Stands, HasEffect, seen_at}
 
 pub same_flags : (b x y : Bool) → IsTrue b ↔ (x ≢ y) → b ≡ false → x ≡ y
 same_flags b true true tells e = refl
