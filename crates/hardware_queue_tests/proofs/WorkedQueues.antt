@@ -2,11 +2,10 @@
 use Rattle.std.proofs.Common.{◌≡◌, ◌≢◌, ℕ, zero, suc, ◌+◌, ◌*◌, ◌^◌, ◌<◌, ◌≤◌, Bool, true, false, List, [], ◌∷◌, length, Option, Some, None, refl, ap, sym, subst, ◌∙◌, arith}
 use Rattle.std.specs.Prelude.{Contains, slice_get}
 use Rattle.cmdcodec.specs.declared.raw.Raw.{Raw}
-use Rattle.cmdcodec.specs.Opcodes.{opcode_of}
+use Rattle.cmdcodec.specs.Opcodes.{opcode_of, opcode_named}
 use Rattle.ringcore.specs.declared.world.event.Event.TheVariants.{Won}
 use Rattle.ringcore.specs.declared.world.event.Who.TheVariants.{Sender}
 use Rattle.ringcore.specs.world.Trails.{Run}
-use Rattle.ringcore.specs.world.World.{sync_raw}
 use Rattle.ring.specs.consumer.Consumers.{ConsumerValue}
 use Rattle.ring.specs.consumer.Pendings.{PendingValue}
 use Rattle.hardware_queue.specs.declared.command_error.CommandError.TheVariants.{Illegal, Abort, AtcInvSync}
@@ -55,8 +54,14 @@ a_slot_in_flight_is_not_free is = is.unread (record { position = 0; unconsumed =
 pub a_slot_beyond_is_not_free : ¬ IsFree (queue [] 0) 2
 a_slot_beyond_is_not_free is = let inside = is.in_memory in absurd (omega (arith, inside))
 
+one_stop : (a b : Stop) → Some a ≡ Some b → a ≡ b
+one_stop a b is = cc
+
 pub an_abort_is_not_written_over : ¬ IsOfIllegal (record (queue (cfgi_ste ∷ []) 0) { stopped = Some (record { position = 0; error = Abort }) }) 0
-an_abort_is_not_written_over is = let stopped = is.stopped in absurd (cc)
+an_abort_is_not_written_over is =
+    let same = one_stop _ _ is.stopped in
+    let error : Abort ≡ Illegal = ap (λ (x : Stop). x.error) same in
+    absurd (cc)
 
 -- ---- registers
 
@@ -115,12 +120,14 @@ abbrev pub reserved : List Raw → Run
 reserved body = (Sender 0, Won body None) ∷ []
 
 pub illegal_commands_are_left_out : owed (reserved (illegal ∷ cfgi_ste ∷ [])) ≡ cfgi_ste ∷ []
+unfolding opcode_named
 illegal_commands_are_left_out = refl
 
-pub a_sync_asks_for_no_signal : hardware_form (sync_raw 3 7) ≡ plain_sync
+pub a_sync_asks_for_no_signal : hardware_form (record { lo = 0x0000000700001046; hi = 0x4000000c }) ≡ plain_sync
 a_sync_asks_for_no_signal = refl
 
 pub the_second_is_not_first : ¬ IsInOrder (queue (atc_inv ∷ []) 0) (reserved (cfgi_ste ∷ atc_inv ∷ []))
+unfolding opcode_named
 the_second_is_not_first is =
     let e : cfgi_ste ∷ atc_inv ∷ [] ≡ atc_inv ∷ is.0 = is.1 in
     let first : cfgi_ste ≡ atc_inv = cc in
@@ -128,6 +135,7 @@ the_second_is_not_first is =
     absurd (omega (arith, other))
 
 pub no_more_than_reserved : ¬ IsInOrder (queue (cfgi_ste ∷ cfgi_ste ∷ []) 0) (reserved (cfgi_ste ∷ []))
+unfolding opcode_named
 no_more_than_reserved is = let long : 1 ≡ suc (suc (length is.0)) = ap (λ (l : List Raw). length l) is.1 in absurd (omega (arith, long))
 
 -- ---- steps
@@ -158,6 +166,7 @@ no_sync_is_replaced = refl
 -- ---- what a sender is told
 
 pub another_command_was_not_carried_out : (HasEffect : ℕ → Type 0) → ¬ IsCarriedOut HasEffect (queue (atc_inv ∷ []) 1) (cfgi_ste ∷ [])
+unfolding opcode_named
 another_command_was_not_carried_out HasEffect is =
     let e : atc_inv ∷ [] ≡ cfgi_ste ∷ is.rest = is.shown in
     let first : atc_inv ≡ cfgi_ste = cc in
