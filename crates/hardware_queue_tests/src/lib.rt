@@ -6,4 +6,6 @@ mod forwarder;
 #[cfg(test)]
 mod owner;
 #[cfg(test)]
+mod threads;
+#[cfg(test)]
 mod words;
