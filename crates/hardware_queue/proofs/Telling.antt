@@ -8,14 +8,13 @@ use Rattle.ringcore.specs.declared.world.event.Event.TheVariants.{Advance, Ask}
 use Rattle.ringcore.specs.declared.world.event.Outcome.{Outcome}
 use Rattle.ringcore.specs.declared.world.event.Outcome.TheVariants.{Applied}
 use Rattle.ringcore.specs.declared.world.event.Who.TheVariants.{Consumer, Sender}
-use Rattle.ringcore.specs.world.Trails.{Run, Trail}
+use Rattle.ringcore.specs.world.Trails.{Run, Trail, trail_of}
 use Rattle.ringcore.specs.world.World.{Taken, taken_as, outcome_of, world, sync_raw}
 use Rattle.ringcore.specs.world.Allowed.{Ring, IsRun}
 use Rattle.ringcore.specs.world.Delivery.{advanced, Begins}
 use Rattle.ringcore.specs.world.Laws.{EveryRun, SyncsTellTheirBatch}
 use Rattle.ringcore.specs.world.ConsumerLaws.{TellsWhatIsAdvanced, TellsTheOutcomes}
 use Rattle.ring.specs.consumer.Completing.{taken_of}
-use Rattle.ring.specs.table.Histories.{IsHistory}
 use Rattle.ring.specs.Finishing.{WasTold, WasToldAll}
 use Rattle.hardware_queue.specs.Queues.{QueueValue, plain_sync, IsSyncAt, SyncsComplete}
 use Rattle.hardware_queue.specs.Flights.{hardware_form, passed_as, passed_on, HasConsumedAll, NoSyncIsLost}
@@ -107,11 +106,11 @@ same_some : (a b : Taken) → Some a ≡ Some b → a ≡ b
 same_some a b is = cc
 
 module _ (words : SyncsTellTheirBatch) (advances : EveryRun TellsWhatIsAdvanced) (outcomes : EveryRun TellsTheOutcomes) (ring : Ring) (run : Run) (trail : Trail)
-    (HasEffect : ℕ → Type 0) (q : QueueValue) (is : IsHistory ring Consumer trail run) (none : NoSyncIsLost q) (settled : HasConsumedAll q (taken_of trail)) (completes : SyncsComplete HasEffect q) where
+    (HasEffect : ℕ → Type 0) (q : QueueValue) (is_a_run : IsRun ring run) (trail_is : trail_of Consumer run ≡ trail) (none : NoSyncIsLost q) (settled : HasConsumedAll q (taken_of trail)) (completes : SyncsComplete HasEffect q) where
   all_is : taken_of trail ≡ map taken_as (advanced run)
-  all_is = ap taken_of (sym is.stands.trail_is) ∙ ap (map taken_as) (sym (advances ring run is.stands.after.run_is))
+  all_is = ap taken_of (sym trail_is) ∙ ap (map taken_as) (sym (advances ring run is_a_run))
 
-  told_truly : (s told : ℕ) (older : Trail) → WasTold run s told older → WasToldTruly HasEffect q run s told older
+  pub told_truly : (s told : ℕ) (older : Trail) → WasTold run s told older → WasToldTruly HasEffect q run s told older
   told_truly s told older was = record {
     was_told = was;
     carried_out = λ number some most.
@@ -124,7 +123,7 @@ module _ (words : SyncsTellTheirBatch) (advances : EveryRun TellsWhatIsAdvanced)
         let at : slice_get (advanced run) (length first) ≡ Some sync =
         subst (λ (l : List Raw). slice_get l (length first) ≡ Some sync) (sym up_to_now.1) (get_longer (advanced was.earlier) up_to_now.0 (length first) sync applied.completed.sync) in
         let is_run : IsRun ring was.earlier =
-        (earlier_run ring was.later ((Sender s, Ask told) ∷ was.earlier) (subst (IsRun ring) was.run_is is.stands.after.run_is)).0 in
+        (earlier_run ring was.later ((Sender s, Ask told) ∷ was.earlier) (subst (IsRun ring) was.run_is is_a_run)).0 in
         let taken_earlier : (world was.earlier).taken ≡ map taken_as (advanced was.earlier) =
         outcomes ring was.earlier is_run ∙ ap (map taken_as) (sym (advances ring was.earlier is_run)) in
         let both : taken_as sync ≡ record { raw = sync; outcome = Applied } =

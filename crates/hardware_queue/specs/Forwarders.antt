@@ -8,7 +8,9 @@ use Rattle.ringcore.specs.world.World.{Taken, taken_as}
 use Rattle.ringcore.specs.world.Delivery.{joined}
 use Rattle.ringcore.specs.world.Laws.{IsApplied}
 use Rattle.ring.specs.consumer.Consumers.{ConsumerValue}
-use Rattle.ring.specs.Finishing.{WasTold}
+use Rattle.ring.specs.Rings.{RingValue}
+use Rattle.ring.specs.sender.Senders.{SenderValue}
+use Rattle.ring.specs.Finishing.{SummaryValue, IsEnd, WasTold}
 use Rattle.hardware_queue.specs.declared.command_error.CommandError.{CommandError}
 use Rattle.hardware_queue.specs.declared.command_error.CommandError.TheVariants.{Illegal}
 use Rattle.hardware_queue.specs.declared.forwarded.Forwarded.{Forwarded}
@@ -108,3 +110,11 @@ pub record WasToldTruly (HasEffect : ℕ → Type 0) (q : QueueValue) (run : Run
 abbrev pub WasToldAllTruly : (ℕ → Type 0) → QueueValue → Run → ℕ → Trail → Type 0
 WasToldAllTruly HasEffect q run s trail =
     (newer older : Trail) (number : ℕ) → trail ≡ newer ++ Ask number ∷ older → WasToldTruly HasEffect q run s number older
+
+-- One run has all steps. What the hardware was shown is a beginning of what is owed to it in that run, and whatever a sender
+-- was told in it was true.
+pub record IsForwarderEnd {Q : Type 0} (queue : Q → QueueValue) (has_effect : Q → ℕ → Type 0) (ring : RingValue) (senders : List SenderValue) (forwarder : ForwarderValue Q) (end : SummaryValue) : Type 0 where
+  pub end_is : IsEnd ring senders forwarder.consumer end
+  pub order : IsInOrder (queue forwarder.owner.queue) end_is.run
+  pub told : (k : ℕ) (s : SenderValue) → slice_get senders k ≡ Some s → (newer older : Trail) (number : ℕ) → s.trail ≡ newer ++ Ask number ∷ older
+      → WasToldTruly (has_effect forwarder.owner.queue) (queue forwarder.owner.queue) end_is.run k number older

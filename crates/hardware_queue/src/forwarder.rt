@@ -6,7 +6,8 @@ ghost use Rattle.ring.specs.table.Histories.{IsHistory, Grew};
 ghost use Rattle.ring.specs.consumer.Completing.{taken_of};
 ghost use Rattle.hardware_queue.specs.declared.state.QueueState.TheVariants.{Running};
 ghost use Rattle.hardware_queue.specs.Flights.{HasConsumedAll, IsInOrder};
-ghost use Rattle.hardware_queue.specs.Forwarders.{HasStepped, StaysBroken, IsStoppedAt, IsRefused, HasRemedied, WasToldAllTruly, count_lost};
+ghost use Rattle.hardware_queue.specs.Forwarders.{HasStepped, StaysBroken, IsStoppedAt, IsRefused, HasRemedied, WasToldAllTruly, IsForwarderEnd, count_lost};
+ghost use Rattle.ring.specs.Finishing.{AreAll};
 ghost use Rattle.hardware_queue.specs.Owners.{IsStoppedState};
 
 use crate::command_queue::CommandQueue;
@@ -16,7 +17,7 @@ use crate::remedy::{Remedy, RemedyFault};
 use crate::service::forward_with;
 use crate::state::QueueState;
 use cmdcodec::RawList;
-use ring::{Consumer, Ring, Sender};
+use ring::{Consumer, Ring, Sender, Summary};
 use ringcore::laws;
 use std::marker::Model;
 
@@ -158,6 +159,26 @@ impl<Q: CommandQueue> Forwarder<Q> {
         laws::counts_law();
         self.owner.syncs_complete();
         self.consumer.meet(ring, sender);
+    }
+
+    /// Joins the forwarder and all senders of its ring, and returns the hardware's queue. `senders` has them in the order of
+    /// their numbers. One run has all their steps, and whatever a sender was told in it was true.
+    pub fn finish(self, ring: Ring, senders: Vec<Sender>) -> (Summary, Q)
+        requires senders { AreAll ring senders.items }
+        requires ring { self.consumer.ring ≡ ring }
+        ensures end { IsForwarderEnd Q.queue Q.has_effect ring senders.items self result.0 }
+        ensures queue { result.1 ≡ self.owner.queue }
+    {
+        laws::consumer_trail();
+        laws::counts_law();
+        let Forwarder {
+            consumer,
+            owner,
+            flight: _,
+            lost: _,
+        } = self;
+        owner.syncs_complete();
+        (ring.finish(senders, consumer), owner.into_queue())
     }
 
     /// Returns the hardware's queue.

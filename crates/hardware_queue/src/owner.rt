@@ -163,6 +163,13 @@ impl<Q: CommandQueue> Owner<Q> {
         let _ = &self.cons;
     }
 
+    /// Gives the queue back.
+    pub fn into_queue(self) -> Q
+        ensures { result ≡ self.queue }
+    {
+        self.queue
+    }
+
     /// Returns the queue.
     pub fn queue(&self) -> &Q
         ensures { result.now ≡ self.now.queue }

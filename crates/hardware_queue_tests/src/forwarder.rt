@@ -1,10 +1,11 @@
 //! Senders, a ring, a forwarder, and a unit as the hardware.
-ghost use Rattle.std.specs.Prelude.{◌≡◌};
+ghost use Rattle.std.specs.Prelude.{◌≡◌, []};
 
 use crate::words::{CFGI_STE, ILLEGAL, UNSUPPORTED, owner};
 use batch::Batch;
 use hardware_queue::{CommandError, Forwarded, Forwarder, Remedy, Stopped};
-use ring::{Ring, RingFault};
+use ring::{Ring, RingFault, Sender, Summary};
+use std::alloc::AllocError;
 use std::process::Abort;
 use unit_queue::UnitQueue;
 
@@ -21,6 +22,23 @@ fn step<R: AllocGlobal + Abort>(
     let (forwarder, answer) = forwarder.step(ring);
     assert_eq!(rt; answer, wanted);
     forwarder
+}
+
+/// Puts the sender back into the list, and ends.
+fn finish(
+    ring: Ring,
+    mut senders: Vec<Sender>,
+    sender: Sender,
+    forwarder: Forwarder<UnitQueue>,
+) -> Result<(Summary, UnitQueue), AllocError>
+    requires senders { senders.items ≡ [] }
+    requires one { ring.made_with.senders ≡ 1 }
+    requires sender { sender.ring ≡ ring }
+    requires number { sender.number ≡ 0 }
+    requires forwarder { forwarder.consumer.ring ≡ ring }
+{
+    senders.push(sender)?;
+    Ok(forwarder.finish(ring, senders))
 }
 
 #[test]
@@ -49,12 +67,14 @@ fn an_illegal_command_stays_here(rt: HostRuntime) -> Result<(), RingFault> {
     let forwarder = Forwarder::new(consumer, owner(&rt, 1));
     let commands = [ILLEGAL, CFGI_STE];
     let batch = Batch::from_raws(commands.as_slice()).expect(&rt, "no CMD_SYNC");
-    let Ok((_sender, _receipt)) = sender.send(&ring, &batch, 1) else {
+    let Ok((sender, _receipt)) = sender.send(&ring, &batch, 1) else {
         panic!(rt; "the batch is refused");
     };
     let forwarder = step(&rt, &ring, forwarder, Forwarded::Replaced(ILLEGAL));
     let forwarder = step(&rt, &ring, forwarder, Forwarded::Completed(1));
-    assert_eq!(rt; forwarder.lost(), 0);
+    let (summary, _queue) = finish(ring, senders, sender, forwarder).expect(&rt, "memory");
+    // Its CMD_SYNC is in flight.
+    assert_eq!(rt; (summary.reserved(), summary.taken()), (3, 2));
     Ok(())
 }
 

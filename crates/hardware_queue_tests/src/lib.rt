@@ -8,4 +8,6 @@ mod owner;
 #[cfg(test)]
 mod threads;
 #[cfg(test)]
+mod unit;
+#[cfg(test)]
 mod words;

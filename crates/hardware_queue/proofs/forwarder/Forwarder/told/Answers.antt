@@ -14,7 +14,7 @@ pub returns-clause-told : goal.returns-clause-told
 returns-clause-told g c =
     let q : QueueValue = g.Q.CommandQueue.queue c.self.inside.owner.queue in
     told_all_truly c.counts_law.ensures.words c.consumer_trail.ensures.advanced c.consumer_trail.ensures.taken _ _ _ (g.Q.CommandQueue.has_effect c.self.inside.owner.queue) q
-    c.meet.ensures.of_consumer c.self.invariant.syncs (settled_of q _ _ c.self.invariant.in_flight) c.syncs_complete.ensures _ _ c.meet.ensures.told
+    c.meet.ensures.of_consumer.stands.after.run_is c.meet.ensures.of_consumer.stands.trail_is c.self.invariant.syncs (settled_of q _ _ c.self.invariant.in_flight) c.syncs_complete.ensures _ _ c.meet.ensures.told
 
 pub returns-clause-order : goal.returns-clause-order
 returns-clause-order g c =
