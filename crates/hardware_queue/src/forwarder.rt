@@ -62,7 +62,8 @@ impl<Q: CommandQueue> Forwarder<Q> {
 
     /// Shows the hardware as many as fit of the commands that are ready and not in flight, 64 at most, and then looks at
     /// the registers once: it completes what the hardware has consumed, or an illegal command at the head, or tells where
-    /// the hardware stopped. Nothing is skipped.
+    /// the hardware stopped. Nothing is skipped: a command that was written over is completed with the others, once the
+    /// CMD_SYNC in its place is consumed, and had no effect.
     pub fn step(self, ring: &Ring) -> (Forwarder<Q>, Forwarded)
         requires { self.consumer.ring ≡ ring.now }
         ensures forwarded { HasStepped Q.queue self result.0 result.1 }
@@ -136,8 +137,9 @@ impl<Q: CommandQueue> Forwarder<Q> {
     }
 
     /// A witness, while the ring runs, that a sender was told truly: whatever number it was told, all that was reserved
-    /// before that CMD_SYNC is carried out. From then on both know the run as it is at this moment, which has the steps
-    /// of both. Otherwise both stay as they are.
+    /// before that CMD_SYNC is carried out: it has its effect, unless it was written over or is a CMD_ATC_INV that may be
+    /// unanswered. From then on both know the run as it is at this moment, which has the steps of both. Otherwise both
+    /// stay as they are.
     pub fn told(&mut self, ring: &Ring, sender: &mut Sender)
         requires ring { self.old.consumer.ring ≡ ring.now }
         requires sender { sender.old.ring ≡ ring.now }

@@ -25,11 +25,7 @@ fn send_many(ring: &Ring, sender: Sender, batch: &Batch, count: u32) -> (Sender,
 }
 
 /// Takes so many steps, and replaces each command at which the hardware stops.
-fn forward_many(
-    ring: &Ring,
-    forwarder: Forwarder<UnitQueue>,
-    turns: u32,
-) -> Forwarder<UnitQueue>
+fn forward_many(ring: &Ring, forwarder: Forwarder<UnitQueue>, turns: u32) -> Forwarder<UnitQueue>
     requires { forwarder.consumer.ring ≡ ring.now }
     ensures { result.consumer.ring ≡ ring.now }
 {
@@ -100,7 +96,10 @@ fn two_senders_and_a_slow_unit(rt: HostRuntime) -> Result<(), RingFault> {
     // The rest on one thread.
     let (mut first, forwarder) = send_rest(&ring, first, forwarder, &legal, 40 - sent);
     let (mut second, forwarder) = send_rest(&ring, second, forwarder, &stopping, 40 - sent_too);
-    assert_eq!(rt; (first.done_up_to(&ring), second.done_up_to(&ring)), (40, 40));
+    assert_eq!(rt;
+        (first.done_up_to(&ring), second.done_up_to(&ring)),
+        (40, 40)
+    );
     assert_eq!(rt; forwarder.lost(), 40);
     Ok(())
 }
