@@ -1,0 +1,5 @@
+pub mod Queues
+pub mod Owners
+pub mod Flights
+pub mod Steps
+pub mod Forwarders

@@ -1,0 +1,56 @@
+//! What a step of a forwarder does.
+ghost use Rattle.std.specs.Prelude.{◌≡◌};
+ghost use Rattle.hardware_queue.specs.Forwarders.{refusal_at};
+
+use crate::command_error::CommandError;
+use crate::remedy::{Remedy, RemedyFault};
+use cmdcodec::Raw;
+
+/// The command at which the hardware stopped, as it was shown, and the error.
+#[derive(Clone, Copy, Debug, PartialEq, Eq)]
+pub struct Stopped {
+    pub command: Raw,
+    pub error: CommandError,
+}
+
+impl Stopped {
+    /// Returns why a remedy is refused at this stop, if it is: only an illegal command is replaced, and no CMD_SYNC.
+    pub fn refusal(self, remedy: Remedy) -> Option<RemedyFault>
+        ensures { result ≡ refusal_at remedy self }
+    {
+        match (remedy, self.error) {
+            (Remedy::Retry, _) => None,
+            (Remedy::Replace, CommandError::Illegal) => {
+                if self.command.is_sync() {
+                    Some(RemedyFault::IsSync)
+                } else {
+                    None
+                }
+            }
+            (Remedy::Replace, _) => Some(RemedyFault::NotIllegal),
+        }
+    }
+}
+
+/// What a step of a forwarder did.
+#[derive(Clone, Copy, Debug, PartialEq, Eq)]
+pub enum Forwarded {
+    /// Nothing is reserved.
+    Empty,
+    /// Nothing is reserved, and nothing will be.
+    Drained,
+    /// The command at the head isn't handed over.
+    Unwritten,
+    /// The hardware has consumed nothing more.
+    Waiting,
+    /// So many commands, which the hardware has consumed, were completed.
+    Completed(u32),
+    /// This illegal command was completed without effect, and the hardware wasn't shown it.
+    Replaced(Raw),
+    /// The hardware is stopped, and goes on only once the error is acknowledged.
+    Stopped(Stopped),
+    /// SMMU_CMDQ_CONS had this value, which no working queue has. Nothing is completed any more.
+    Broken(u32),
+    /// The ring has other commands at its head than those in flight. It can't be, which isn't proved.
+    Changed,
+}

@@ -1,0 +1,31 @@
+//! The owner of a hardware command queue: it takes commands out of the ring, copies them into the hardware's own queue,
+//! and completes them once the hardware has consumed them.
+//!
+//! 1. [`CommandQueue`] is the hardware: its memory, SMMU_CMDQ_PROD, SMMU_CMDQ_CONS, SMMU_GERROR and SMMU_GERRORN. Its
+//!    clauses are all that is taken for granted of it.
+//! 2. [`Owner`] keeps both indexes: it writes no slot that the hardware may read, shows what it wrote by one write of
+//!    PROD, and believes CONS only between the two.
+//! 3. [`Forwarder`] is the consumer of a ring: what the hardware has consumed it completes, and nothing else.
+#![tactic(auto)]
+
+mod command_error;
+mod command_queue;
+mod forwarded;
+mod forwarder;
+mod hardware_form;
+mod owner;
+mod progress;
+mod reading;
+mod remedy;
+mod service;
+mod state;
+
+pub use command_error::CommandError;
+pub use command_queue::CommandQueue;
+pub use forwarded::{Forwarded, Stopped};
+pub use forwarder::Forwarder;
+pub use owner::Owner;
+pub use progress::Progress;
+pub use reading::Reading;
+pub use remedy::{Remedy, RemedyFault};
+pub use state::QueueState;

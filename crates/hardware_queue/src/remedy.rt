@@ -1,0 +1,35 @@
+//! How software acknowledges an error of the queue.
+ghost use Rattle.std.specs.Prelude.{◌≡◌};
+ghost use Rattle.hardware_queue.specs.Forwarders.{lost_by};
+
+/// What is to become of the command at which the hardware stopped.
+#[derive(Clone, Copy, Debug, PartialEq, Eq)]
+pub enum Remedy {
+    /// The hardware reads it again.
+    Retry,
+    /// A CMD_SYNC without a signal takes its place, and the command is lost.
+    Replace,
+}
+
+impl Remedy {
+    /// Returns how many commands are lost by it.
+    pub fn lost(self) -> u64
+        ensures { result ≡ lost_by self }
+    {
+        match self {
+            Remedy::Retry => 0,
+            Remedy::Replace => 1,
+        }
+    }
+}
+
+/// Why an error isn't acknowledged: the first that applies. Nothing changes.
+#[derive(Clone, Copy, Debug, PartialEq, Eq)]
+pub enum RemedyFault {
+    /// The last look found no stop, or it is acknowledged.
+    NotStopped,
+    /// The command would be replaced, but the error isn't CERROR_ILL.
+    NotIllegal,
+    /// The command would be replaced, but it is a CMD_SYNC, which would be replaced by itself.
+    IsSync,
+}

@@ -1,0 +1,174 @@
+-- What the definitions say of a hardware queue.
+use Rattle.std.proofs.Common.{◌≡◌, ◌≢◌, ℕ, zero, suc, ◌+◌, ◌*◌, ◌^◌, ◌<◌, ◌≤◌, Bool, true, false, List, [], ◌∷◌, length, Option, Some, None, refl, ap, sym, subst, ◌∙◌, arith}
+use Rattle.std.specs.Prelude.{Contains, slice_get}
+use Rattle.cmdcodec.specs.declared.raw.Raw.{Raw}
+use Rattle.cmdcodec.specs.Opcodes.{opcode_of, opcode_named}
+use Rattle.ringcore.specs.declared.world.event.Event.TheVariants.{Won}
+use Rattle.ringcore.specs.declared.world.event.Who.TheVariants.{Sender}
+use Rattle.ringcore.specs.world.Trails.{Run}
+use Rattle.ring.specs.consumer.Consumers.{ConsumerValue}
+use Rattle.ring.specs.consumer.Pendings.{PendingValue}
+use Rattle.hardware_queue.specs.declared.command_error.CommandError.TheVariants.{Illegal, Abort, AtcInvSync}
+use Rattle.hardware_queue.specs.declared.forwarded.Forwarded.TheVariants as answer
+use Rattle.hardware_queue.specs.declared.progress.Progress.TheVariants as progress
+use Rattle.hardware_queue.specs.declared.remedy.Remedy.TheVariants.{Retry, Replace}
+use Rattle.hardware_queue.specs.declared.remedy.RemedyFault.TheVariants.{NotStopped, NotIllegal, IsSync}
+use Rattle.hardware_queue.specs.declared.state.QueueState.{QueueState}
+use Rattle.hardware_queue.specs.declared.state.QueueState.TheVariants as state
+use Rattle.hardware_queue.specs.Queues.{QueueValue, Stop, plain_sync, MayBeRead, IsFree, IsOfIllegal, IsBelievable, error_in, toggled, MayAcknowledge, IsErrorActive, IsSyncAt, MayBeUnanswered, SyncsComplete}
+use Rattle.hardware_queue.specs.Owners.{HasPushed, HasFound, refusal}
+use Rattle.hardware_queue.specs.Flights.{hardware_form, owed, IsInOrder, IsPassing}
+use Rattle.hardware_queue.specs.Steps.{HasCompleted, HasWaited, NothingIsDone}
+use Rattle.hardware_queue.specs.Forwarders.{refusal_to_replace, IsCarriedOut}
+
+-- CMD_CFGI_STE of stream 5 with Leaf 1, and CMD_ATC_INV of stream 5 with SSV 0 and Size 52
+abbrev pub cfgi_ste : Raw
+cfgi_ste = record { lo = 0x0000000500000003; hi = 1 }
+
+abbrev pub atc_inv : Raw
+atc_inv = record { lo = 0x0000000500000040; hi = 52 }
+
+-- no command
+abbrev pub illegal : Raw
+illegal = record { lo = 0xff; hi = 0 }
+
+-- a queue of two slots that was shown these, of which so many are consumed
+abbrev pub queue : List Raw → ℕ → QueueValue
+queue shown consumed = record {
+  geometry = 1;
+  memory = plain_sync ∷ plain_sync ∷ [];
+  shown = shown;
+  consumed = consumed;
+  stopped = None;
+  gerrorn = 0;
+  lost = [];
+  repeated = [];
+  read = [];
+}
+
+-- ---- memory
+
+pub a_slot_in_flight_is_not_free : ¬ IsFree (queue (cfgi_ste ∷ []) 0) 0
+a_slot_in_flight_is_not_free is = is.unread (record { position = 0; unconsumed = omega arith; shown = omega arith; there = refl })
+
+pub a_slot_beyond_is_not_free : ¬ IsFree (queue [] 0) 2
+a_slot_beyond_is_not_free is = let inside = is.in_memory in absurd (omega (arith, inside))
+
+one_stop : (a b : Stop) → Some a ≡ Some b → a ≡ b
+one_stop a b is = cc
+
+pub an_abort_is_not_written_over : ¬ IsOfIllegal (record (queue (cfgi_ste ∷ []) 0) { stopped = Some (record { position = 0; error = Abort }) }) 0
+an_abort_is_not_written_over is =
+    let same = one_stop _ _ is.stopped in
+    let error : Abort ≡ Illegal = ap (λ (x : Stop). x.error) same in
+    absurd (cc)
+
+-- ---- registers
+
+pub ahead_of_prod_is_not_believed : ¬ IsBelievable 1 (queue [] 0)
+ahead_of_prod_is_not_believed is = let within = is.within in absurd (omega (arith, within))
+
+pub no_index_is_not_believed : ¬ IsBelievable 4 (queue [] 0)
+no_index_is_not_believed is = let index = is.index in absurd (omega (arith, index))
+
+pub err_is_bits_30_to_24 : error_in (3 * 2 ^ 24 + 1) ≡ AtcInvSync
+err_is_bits_30_to_24 = refl
+
+pub bit_31_is_not_err : error_in (2 ^ 31 + 2 ^ 24) ≡ Illegal
+bit_31_is_not_err = refl
+
+pub other_errors_stay : toggled 4 ≡ 5
+other_errors_stay = refl
+
+pub another_error_is_not_acknowledged : ¬ MayAcknowledge 5 (queue (cfgi_ste ∷ []) 0)
+another_error_is_not_acknowledged is = let toggles = is.toggles in absurd (omega (arith, toggles))
+
+pub a_stop_is_told : ¬ HasFound 1 0 (queue (cfgi_ste ∷ []) 0) (queue (cfgi_ste ∷ []) 0) (progress.Consumed 0)
+a_stop_is_told is = is.1 (record { differ = λ same. cc; in_flight = omega arith })
+
+-- ---- effects
+
+pub a_lost_command_needs_no_effect : SyncsComplete (λ position. ⊥) (record (queue (illegal ∷ plain_sync ∷ []) 2) { lost = 0 ∷ [] })
+a_lost_command_needs_no_effect position sync before inside at unlost answered =
+    let first : 0 ≡ position = omega (arith, before, inside) in
+    unlost (subst (Contains (0 ∷ [])) first (0, omega arith, refl))
+
+pub an_unanswered_invalidation_needs_no_effect : SyncsComplete (λ position. ⊥) (record (queue (atc_inv ∷ plain_sync ∷ []) 2) { repeated = 1 ∷ [] })
+an_unanswered_invalidation_needs_no_effect position sync before inside at unlost answered =
+    let first : 0 ≡ position = omega (arith, before, inside) in
+    answered (subst (MayBeUnanswered (record (queue (atc_inv ∷ plain_sync ∷ []) 2) { repeated = 1 ∷ [] })) first (record {
+      raw = atc_inv;
+      shown = refl;
+      invalidation = refl;
+      sync = 1;
+      behind = omega arith;
+      repeated = (0, omega arith, refl);
+      first = λ between after ahead. absurd (omega (arith, after, ahead));
+    }))
+
+pub another_command_is_answered : ¬ MayBeUnanswered (record (queue (cfgi_ste ∷ plain_sync ∷ []) 2) { repeated = 1 ∷ [] }) 0
+another_command_is_answered is =
+    let same : Some cfgi_ste ≡ Some is.raw = is.shown in
+    let one : cfgi_ste ≡ is.raw = cc in
+    let other : 3 ≡ 0x40 = ap (λ (r : Raw). opcode_of r) one ∙ is.invalidation in
+    absurd (omega (arith, other))
+
+-- ---- order
+
+-- a sender reserved these without a CMD_SYNC
+abbrev pub reserved : List Raw → Run
+reserved body = (Sender 0, Won body None) ∷ []
+
+pub illegal_commands_are_left_out : owed (reserved (illegal ∷ cfgi_ste ∷ [])) ≡ cfgi_ste ∷ []
+unfolding opcode_named
+illegal_commands_are_left_out = refl
+
+pub a_sync_asks_for_no_signal : hardware_form (record { lo = 0x0000000700001046; hi = 0x4000000c }) ≡ plain_sync
+a_sync_asks_for_no_signal = refl
+
+pub the_second_is_not_first : ¬ IsInOrder (queue (atc_inv ∷ []) 0) (reserved (cfgi_ste ∷ atc_inv ∷ []))
+unfolding opcode_named
+the_second_is_not_first is =
+    let e : cfgi_ste ∷ atc_inv ∷ [] ≡ atc_inv ∷ is.0 = is.1 in
+    let first : cfgi_ste ≡ atc_inv = cc in
+    let other : 0x0000000500000003 ≡ 0x0000000500000040 = ap (λ (r : Raw). r.lo) first in
+    absurd (omega (arith, other))
+
+pub no_more_than_reserved : ¬ IsInOrder (queue (cfgi_ste ∷ cfgi_ste ∷ []) 0) (reserved (cfgi_ste ∷ []))
+unfolding opcode_named
+no_more_than_reserved is = let long : 1 ≡ suc (suc (length is.0)) = ap (λ (l : List Raw). length l) is.1 in absurd (omega (arith, long))
+
+-- ---- steps
+
+pub room_is_used : ¬ HasPushed (cfgi_ste ∷ []) (queue [] 0) (queue [] 0) 0
+room_is_used is = let count = is.count_is in absurd (omega (arith, count))
+
+pub broken_completes_nothing : {D : Type 0} (run : PendingValue D) (new : ConsumerValue D) → ¬ HasCompleted run new (progress.Broken 7) 1
+broken_completes_nothing run new is = let none = is.consumed in absurd (cc)
+
+pub an_illegal_command_is_not_waited_for : {D : Type 0} (run : PendingValue D) (new : ConsumerValue D) → ¬ HasWaited run new (progress.Consumed 0) []
+an_illegal_command_is_not_waited_for run new is = let some = is.some in absurd (omega (arith, some))
+
+pub broken_tells_nobody : {D : Type 0} (old new : ConsumerValue D) (t : QueueState) (q r : QueueValue) → ¬ NothingIsDone old new (state.Broken 7) t q r (answer.Completed 1)
+broken_tells_nobody old new t q r is = let told = (is 7 refl).0 in absurd (cc)
+
+-- ---- remedies
+
+pub nothing_is_replaced_at_an_abort : refusal Replace (state.Stopped Abort) ≡ Some NotIllegal
+nothing_is_replaced_at_an_abort = refl
+
+pub nothing_is_acknowledged_without_a_stop : refusal Retry state.Running ≡ Some NotStopped
+nothing_is_acknowledged_without_a_stop = refl
+
+pub no_sync_is_replaced : refusal_to_replace Illegal true ≡ Some IsSync
+no_sync_is_replaced = refl
+
+-- ---- what a sender is told
+
+pub another_command_was_not_carried_out : (HasEffect : ℕ → Type 0) → ¬ IsCarriedOut HasEffect (queue (atc_inv ∷ []) 1) (cfgi_ste ∷ [])
+unfolding opcode_named
+another_command_was_not_carried_out HasEffect is =
+    let e : atc_inv ∷ [] ≡ cfgi_ste ∷ is.rest = is.shown in
+    let first : atc_inv ≡ cfgi_ste = cc in
+    let other : 0x0000000500000040 ≡ 0x0000000500000003 = ap (λ (r : Raw). r.lo) first in
+    absurd (omega (arith, other))
