@@ -67,9 +67,7 @@ fn without_options<'a>(alloc: Global) -> Command<'a>
 {
     Command::new(alloc, CONVERT)
         .about("Converts a guest's commands for the host's queue")
-        .override_usage(
-            "smmuq convert --vmid <V> [--stream <GUEST=HOST>].. [OPTIONS] < WORDS",
-        )
+        .override_usage("smmuq convert --vmid <V> [--stream <GUEST=HOST>].. [OPTIONS] < WORDS")
         .after_help(help::CONVERT)
 }
 

@@ -130,10 +130,7 @@ fn command_line<'a>(alloc: Global) -> Result<Command<'a>, AllocError>
         .subcommand(convert(alloc)?)
 }
 
-fn subcommand_in<'a>(
-    alloc: Global,
-    matches: &ArgMatches<'a>,
-) -> Result<Subcommand<'a>, AllocError>
+fn subcommand_in<'a>(alloc: Global, matches: &ArgMatches<'a>) -> Result<Subcommand<'a>, AllocError>
     ensures { IfOk result (spec.Reads (subcommand_rows_of matches.now)) }
 {
     if matches.subcommand_matches(SCHEDULE).is_some() {

@@ -12,10 +12,12 @@ use std::alloc::{AllocError, Global};
 use std::io::{Read, Write};
 
 /// Why a line is bad.
-const BAD_LINE_MEANS: &str = "a command is 32 hexadecimal digits, or twice 0x and 1 to 16 hexadecimal digits, lo and then hi";
+const BAD_LINE_MEANS: &str =
+    "a command is 32 hexadecimal digits, or twice 0x and 1 to 16 hexadecimal digits, lo and then hi";
 
 /// Why a command is refused.
-const REFUSED_MEANS: &str = "the guest has neither EL2 nor stage 2, and is asked no pages and has no stalls to answer";
+const REFUSED_MEANS: &str =
+    "the guest has neither EL2 nor stage 2, and is asked no pages and has no stalls to answer";
 
 /// Answers lines that bring a command of a guest each.
 #[derive(Drop)]

@@ -13,7 +13,9 @@ fn a_guests_log(rt: HostRuntime) {
         wide_ids: true,
         substream_bits: None,
     };
-    let guest = asked.guest(rt.alloc()).expect(&rt, "a VMID and a stream of the host");
+    let guest = asked
+        .guest(rt.alloc())
+        .expect(&rt, "a VMID and a stream of the host");
     // CMD_TLBI_NH_ASID, and a CMD_SYNC.
     let mut input = "0x0005000700000011 0x0\n0x46 0x0\n".as_bytes();
     let mut output = Vec::new(rt.alloc());

@@ -5,12 +5,7 @@ use guest_commands::AttachFault;
 use std::process::Abort;
 
 /// Expects a fault, and the line that tells it.
-fn expect_fault<A: AllocGlobal + Abort>(
-    rt: &A,
-    asked: &Asked<'_>,
-    fault: GuestFault,
-    line: &str,
-) {
+fn expect_fault<A: AllocGlobal + Abort>(rt: &A, asked: &Asked<'_>, fault: GuestFault, line: &str) {
     assert!(rt; matches!(asked.guest(rt.alloc()), Err(why) if why == fault && why.line() == line));
 }
 
@@ -42,7 +37,16 @@ fn vmids(rt: HostRuntime) {
 
 #[test]
 fn bad_streams(rt: HostRuntime) {
-    for stream in ["3", "3=", "=3", "3=4,", "3=4,no", "3=4,ats,", "03=4", "3=0x100000000"] {
+    for stream in [
+        "3",
+        "3=",
+        "=3",
+        "3=4,",
+        "3=4,no",
+        "3=4,ats,",
+        "03=4",
+        "3=0x100000000",
+    ] {
         let streams = [stream];
         expect_fault(&rt, &full(&streams), GuestFault::BadStream, "bad stream\n");
     }
@@ -64,7 +68,11 @@ fn a_stream_of_64(rt: HostRuntime) {
         let text = format!(in rt.alloc(); "3={host}").expect(&rt, "there is memory");
         streams.push(text).expect(&rt, "there is memory");
     }
-    let texts: Vec<&str> = streams.iter().map(|text| text.as_str()).collect(rt.alloc()).expect(&rt, "there is memory");
+    let texts: Vec<&str> = streams
+        .iter()
+        .map(|text| text.as_str())
+        .collect(rt.alloc())
+        .expect(&rt, "there is memory");
     let fault = GuestFault::Refused(AttachFault::Full);
     expect_fault(&rt, &full(texts.as_slice()), fault, "refused V3\n");
 }

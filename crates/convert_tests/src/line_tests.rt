@@ -41,7 +41,12 @@ fn streams(rt: HostRuntime) {
         substream_bits: Some(1),
         ..full(&STREAMS)
     };
-    expect(&rt, &without, lines, ("nothing\nnothing\nnothing\n", Status::Good));
+    expect(
+        &rt,
+        &without,
+        lines,
+        ("nothing\nnothing\nnothing\n", Status::Good),
+    );
 }
 
 #[test]
@@ -52,12 +57,18 @@ fn short_ids(rt: HostRuntime) {
     };
     let answer = "13302000210000000157341200000000 \
                   TLBI_NH_VAA vmid=33 leaf=1 addr=0x12345000 tg=1 num=3 scale=2\n";
-    expect(&rt, &short, "0x0100000700203012 0x12345701\n", (answer, Status::Good));
+    expect(
+        &rt,
+        &short,
+        "0x0100000700203012 0x12345701\n",
+        (answer, Status::Good),
+    );
 }
 
 #[test]
 fn not_converted(rt: HostRuntime) {
-    let lines = "# a comment\n\n0x1046 0x1000\n0x0000000400000003 0x1\n0x0000000900000003 0x1\n0x1 0x0\n";
+    let lines =
+        "# a comment\n\n0x1046 0x1000\n0x0000000400000003 0x1\n0x0000000900000003 0x1\n0x1 0x0\n";
     let answers = "sync\n\
                    configure 03000000040100000000000000000000 CFGI_STE sid=260 leaf=0; \
                    03000000050100000000000000000000 CFGI_STE sid=261 leaf=0\n\
@@ -70,10 +81,20 @@ fn not_converted(rt: HostRuntime) {
 fn at_which_the_queue_stops(rt: HostRuntime) {
     let (illegal, refused, bad) = ("0x0000000300000405 0x0\n", "0x20 0x0\n", "0x20\n");
     let asked = full(&STREAMS);
-    expect(&rt, &asked, illegal, ("illegal ILL2: a Secure stream\n", Status::Refused));
+    expect(
+        &rt,
+        &asked,
+        illegal,
+        ("illegal ILL2: a Secure stream\n", Status::Refused),
+    );
     expect(&rt, &asked, refused, ("refused\n", Status::Refused));
     expect(&rt, &asked, bad, ("bad line\n", Status::Refused));
-    expect(&rt, &asked, "0x30 0x0 0x0\n", ("bad line\n", Status::Refused));
+    expect(
+        &rt,
+        &asked,
+        "0x30 0x0 0x0\n",
+        ("bad line\n", Status::Refused),
+    );
 }
 
 /// Of an illegal command nothing is noted, since its answer says what is illegal.
@@ -82,7 +103,8 @@ fn notes(rt: HostRuntime) {
     let guest = full(&STREAMS).guest(rt.alloc()).expect(&rt, "a guest");
     let mut lines = "0x0000000300000405 0x0\n0x20 0x0\n0x20\n".as_bytes();
     let (_, notes) = status_of(rt.alloc(), guest, &mut lines, &mut Vec::new(rt.alloc()));
-    let wanted = "line 2: the guest has neither EL2 nor stage 2, and is asked no pages and has no stalls to answer\n\
+    let wanted =
+        "line 2: the guest has neither EL2 nor stage 2, and is asked no pages and has no stalls to answer\n\
                   line 3: a command is 32 hexadecimal digits, or twice 0x and 1 to 16 hexadecimal digits, lo and then hi\n";
     assert!(rt; notes.as_str() == wanted);
 }

@@ -33,5 +33,7 @@ fn long_line(rt: HostRuntime) {
     let guest = full(&STREAMS).guest(rt.alloc()).expect(&rt, "a guest");
     let mut output = Vec::new(rt.alloc());
     let (status, _) = status_of(rt.alloc(), guest, &mut lines.as_slice(), &mut output);
-    assert!(rt; status == Status::Refused && output.as_slice() == b"line 1: long line\n".as_slice());
+    assert!(rt;
+        status == Status::Refused && output.as_slice() == b"line 1: long line\n".as_slice()
+    );
 }

@@ -57,6 +57,7 @@ fn guests_that_are_refused(rt: HostRuntime) {
 
 #[test]
 fn lines_that_are_refused(rt: HostRuntime) {
-    let why = "line 1: a command is 32 hexadecimal digits, or twice 0x and 1 to 16 hexadecimal digits, lo and then hi\n";
+    let why =
+        "line 1: a command is 32 hexadecimal digits, or twice 0x and 1 to 16 hexadecimal digits, lo and then hi\n";
     expect_convert(&rt, "--vmid 1", "0x30\n", (1, "bad line\n", why));
 }
