@@ -1,10 +1,8 @@
 -- The conversion of one command.
-use Rattle.std.proofs.Common.{◌≡◌, ◌<◌, ◌≤◌, ◌+◌, ℕ, zero, suc, List, [], ◌∷◌, ◌++◌, length, take, Option, Some, None, ap, arith, refl, sym, ◌∙◌, append-nil, slice_get}
-use Rattle.std.specs.List.{flat_map}
+use Rattle.std.proofs.Common.{◌≡◌, ◌≤◌, ℕ, zero, suc, List, [], ◌∷◌, length, Some, None, ap, arith, refl, sym, ◌∙◌, append-nil, slice_get}
 use Rattle.std.proofs.lemmas.List.Concat.{flat_map-cons}
 use Rattle.std.proofs.lemmas.Option.{same_Some}
 use Rattle.cmdcodec.specs.declared.raw.Raw.{Raw}
-use Rattle.guest_commands.specs.declared.ended.Ended.{Ended}
 use Rattle.guest_commands.specs.declared.ended.Ended.TheVariants.{End, Full, At}
 use Rattle.guest_commands.specs.declared.ended.Stop.{Stop}
 use Rattle.guest_commands.specs.Mappings.{Mapping}

@@ -1,6 +1,5 @@
 //! The guest that a command line gives.
 ghost use Rattle.std.specs.Prelude.{◌≡◌, OnOk, Ok, Err, IfErr, ◌⊎◌};
-ghost use Rattle.std.specs.Option.{SomeIff};
 ghost use Rattle.convert.specs.declared.fault.GuestFault.TheVariants.{NoMemory};
 ghost use Rattle.convert.specs.Guests.{guest_asked, smmu_of, vmid_named, with_stream, without_attachments, IsOrNoMemory};
 

@@ -1,6 +1,6 @@
 //! The streams that a command line gives.
 ghost use Rattle.std.specs.Prelude.{◌≡◌, MatchOption, Some, None};
-ghost use Rattle.convert.specs.Guests.{attachment_named, attachment_of, attachment_with, parted_at, sid_named};
+ghost use Rattle.convert.specs.Guests.{attachment_named, attachment_with, parted_at, sid_named};
 
 use crate::number::clear_number;
 use cmdcodec::Sid;

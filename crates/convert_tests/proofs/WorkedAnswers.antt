@@ -1,10 +1,8 @@
 -- Worked rows of the definitions: what lines are answered with.
-use Rattle.std.proofs.Common.{◌≡◌, ◌≢◌, [], ◌∷◌, ◌++◌, true, false, None, Some, List, codes, refl}
+use Rattle.std.proofs.Common.{◌≡◌, [], ◌∷◌, ◌++◌, true, false, None, Some, codes, refl}
 use Rattle.cmdcodec.specs.declared.raw.Raw.{Raw}
-use Rattle.cmdcodec.specs.declared.command.Command.TheVariants.{CfgiSte, CfgiCdAll}
-use Rattle.cmdcodec.specs.declared.ill.Ill.TheVariants.{SecureStream}
-use Rattle.guest_commands.specs.declared.ended.Stop.TheVariants.{Sync, Configure, Illegal, Refused}
-use Rattle.guest_commands.specs.declared.streams.Attachment.{Attachment}
+use Rattle.cmdcodec.specs.declared.command.Command.TheVariants.{CfgiSte}
+use Rattle.guest_commands.specs.declared.ended.Stop.TheVariants.{Sync, Configure, Refused}
 use Rattle.guest_commands.specs.Mappings.{Mapping}
 use Rattle.script.specs.Words.{number_in, number_of}
 use Rattle.line_answers.specs.LineAnswers.{skipped}

@@ -3,7 +3,6 @@ use Rattle.std.proofs.Common.{◌≡◌, [], ◌∷◌, true, false, None, Some,
 use Rattle.script.specs.Words.{number_in, number_of}
 use Rattle.smmu_features.specs.declared.smmu.Smmu.{Smmu}
 use Rattle.guest_commands.specs.declared.fault.AttachFault.TheVariants.{Used}
-use Rattle.guest_commands.specs.Mappings.{Mapping}
 use Rattle.convert.specs.declared.fault.GuestFault.TheVariants.{BadVmid, BadStream, Refused}
 use Rattle.convert.specs.Guests.{attachment_named, clear_number, guest_of, smmu_with, substream_bits_of, vmid_named, with_streams}
 

@@ -1,6 +1,5 @@
 //! The subcommand that converts a guest's commands.
 ghost use Rattle.std.specs.Prelude.{◌≡◌};
-ghost use Rattle.std.specs.Io.KnownBytes.{Keeps};
 ghost use Rattle.convert.specs.Guests.{guest_asked};
 ghost use Rattle.program.specs.Conversion.{EndsUnread, ExitsAsConvert, guest_asked_of};
 ghost use Rattle.program.specs.Explaining.{TellsOfRefusal};

@@ -1,4 +1,4 @@
-use Rattle.std.proofs.Common.{◌≡◌, ◌∙◌, ◌++◌, inl, inr, ap, sym, string_bytes}
+use Rattle.std.proofs.Common.{◌∙◌, ◌++◌, inl, inr, ap, sym, string_bytes}
 use Rattle.convert.specs.Answers.{command_answer, commands_text, converted_answer}
 use Rattle.convert.proofs.ConversionLemmas.{IsTaken, not_full, stopped, taken}
 use Rattle.convert.proofs.answer.say_answer.Goals as goal

@@ -1,4 +1,4 @@
-use Rattle.std.proofs.Common.{◌≡◌, ◌∙◌, ◌++◌, ap, append_assoc, codes, string_bytes}
+use Rattle.std.proofs.Common.{◌∙◌, ◌++◌, ap, append_assoc, codes, string_bytes}
 use Rattle.hex.specs.Hex.{encode_lower}
 use Rattle.decode.specs.CommandText.{words_text}
 use Rattle.convert.proofs.host_commands.say_host.Goals as goal

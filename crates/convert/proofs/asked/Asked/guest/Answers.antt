@@ -1,5 +1,4 @@
-use Rattle.std.proofs.Common.{◌≡◌, Err, sym, ap, ◌∙◌, arith, ◌+◌, drop, inl, inr}
-use Rattle.std.specs.Borrow.{Bor}
+use Rattle.std.proofs.Common.{sym, ap, ◌∙◌, arith, ◌+◌, drop, inl, inr}
 use Rattle.std.proofs.lemmas.List.{length-map}
 use Rattle.convert.specs.Guests.{guest_asked, streams_of, with_streams}
 use Rattle.convert.proofs.GuestLemmas.{all_attached, failed, one_more, unattached, unmade}
