@@ -208,10 +208,19 @@ static void invalidate(void) {
         pthread_cond_wait(&model.changed, &model.lock);
 }
 
+/* Whether these rounds do. What a fault leads to comes by chance, so there are more of them until it was seen. */
+static int are_enough(uint32_t rounds) {
+    int seen;
+    pthread_mutex_lock(&model.lock);
+    seen = fault == NOTHING || (model.poisoned && (model.strayed || fault != EARLY));
+    pthread_mutex_unlock(&model.lock);
+    return rounds >= (seen ? ROUNDS : 100 * ROUNDS);
+}
+
 /* Maps a page, and frees it and its table while they are in use: they are another's once the driver was told. */
 static void *drive(void *unused) {
     uint32_t round;
-    for (round = 1; round <= ROUNDS; round++) {
+    for (round = 1; !are_enough(round - 1); round++) {
         uint64_t *page = guest.pages[round % PAGES], *table = guest.tables[round % PAGES];
         uint32_t before;
         fill_page(page, round);
