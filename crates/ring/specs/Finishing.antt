@@ -1,11 +1,11 @@
 -- What is known once all seats are joined.
 use Rattle.std.specs.Prelude.{◌≡◌, ℕ, ◌<◌, ◌≤◌, Bool, true, List, [], ◌∷◌, ◌++◌, map, length, Some, slice_get}
-use Rattle.ring.specs.Runs.{Consumer, Sender, Ask, Run, Trail, trail_of, raws_by, world, Ring, IsRun, Batch, batches, joined, has_close, Begins, IsOrderedDelivery, OnlyOf, batches_of, own_batches}
+use Rattle.ring.specs.Runs.{Raw, sync_raw, Consumer, Sender, Ask, Run, Trail, trail_of, raws_by, world, Ring, IsRun, Batch, batches, joined, has_close, Begins, IsOrderedDelivery, OnlyOf, batches_of, own_batches}
 use Rattle.ring.specs.Runs.{IsApplied, SawDrained}
 use Rattle.ring.specs.table.{Participant, participant, WentOn}
 use Rattle.ring.specs.Rings.{RingValue}
 use Rattle.ring.specs.sender.{SenderValue}
-use Rattle.ring.specs.consumer.{ConsumerValue, taken_of}
+use Rattle.ring.specs.consumer.{ConsumerValue, taken_of, DeferringValue, settled_raws}
 
 pub record SummaryValue : Type 0 where
   pub reserved : ℕ
@@ -52,6 +52,26 @@ pub record WasTold (run : Run) (s told : ℕ) (older : Trail) : Type 0 where
 abbrev pub WasToldAll : Run → ℕ → Trail → Type 0
 WasToldAll run s trail = (newer older : Trail) (number : ℕ) → trail ≡ newer ++ Ask number ∷ older → WasTold run s number older
 
+-- ---- what a sender was told, by a consumer that acknowledges later
+
+-- what was reserved before a closing sync that was applied
+abbrev pub reserved_ahead : {run : Run} {s number : ℕ} → IsApplied run s number → List Raw
+reserved_ahead applied = joined applied.completed.ahead ++ applied.completed.body
+
+-- The sender was told this number. For each of its batches up to that number, all that was reserved before its
+-- closing sync is settled, and so is that.
+pub record WasToldOfSettled (settled : List Raw) (run : Run) (s told : ℕ) (older : Trail) : Type 0 where
+  pub was_told : WasTold run s told older
+  pub settled_are : (number : ℕ) (some : 1 ≤ number) (most : number ≤ told)
+      → Begins (reserved_ahead (was_told.applied number some most) ++ sync_raw s number ∷ []) settled
+
+-- This holds for every number that the sender was told, by its trail.
+abbrev pub AllToldOfSettled : List Raw → Run → ℕ → Trail → Type 0
+AllToldOfSettled settled run s trail =
+    (newer older : Trail) (number : ℕ) → trail ≡ newer ++ Ask number ∷ older → WasToldOfSettled settled run s number older
+
+-- ---- the end
+
 -- One run has all trails. It is ordered delivery, of batches that are a merge of the senders'. The commands
 -- taken are a beginning of the merge, and the whole merge if as many were taken as reserved, which is so if
 -- the consumer saw the ring closed and empty.
@@ -68,3 +88,9 @@ pub record IsEnd {D : Type 0} (ring : RingValue) (senders : List SenderValue) (c
   pub closed : end.closed ≡ has_close run
   pub whole : end.taken ≡ end.reserved → raws_by consumer.trail ≡ joined (batches run)
   pub drained : SawDrained consumer.trail → (end.closed ≡ true) × (end.taken ≡ end.reserved)
+
+-- The end of a consumer that acknowledges later: whatever a sender was told in that run is settled.
+pub record IsDeferredEnd {D : Type 0} (ring : RingValue) (senders : List SenderValue) (consumer : DeferringValue D) (end : SummaryValue) : Type 0 where
+  pub end_is : IsEnd ring senders consumer.consumer end
+  pub settled : (k : ℕ) (s : SenderValue) → slice_get senders k ≡ Some s
+      → AllToldOfSettled (settled_raws consumer) end_is.run k s.trail

@@ -5,9 +5,11 @@ pub mod Pendings
 pub mod Taking
 pub mod Completing
 pub mod PendingConsumers
+pub mod Deferring
 pub use Lending.*
 pub use Consumers.*
 pub use Pendings.*
 pub use Taking.*
 pub use Completing.*
 pub use PendingConsumers.*
+pub use Deferring.*

@@ -4,7 +4,7 @@ ghost use Rattle.ring.specs.Runs.{Raw as RawOf, Look, Consumer as ConsumerOf, Se
 ghost use Rattle.qindex.specs.Positions.{size};
 ghost use Rattle.qindex.specs.ControlWord.{IsControl};
 ghost use Rattle.ringcore.specs.Limits.{most_reserved};
-ghost use Rattle.ring.specs.table.{StandsInARun, WentOn, IsHistory, GrewBy, SitsFor};
+ghost use Rattle.ring.specs.table.{StandsInARun, WentOn, IsHistory, GrewBy};
 ghost use Rattle.ring.specs.Finishing.{WasToldAll};
 ghost use Rattle.ring.specs.consumer.Pendings.{HasSeen, HasReadRun, reads_from};
 ghost use Rattle.ring.specs.consumer.Completing.{AreClosingSyncs};
@@ -12,6 +12,7 @@ ghost use Rattle.ring.specs.consumer.Taking.{HasTaken, HasTakenRun, IsReadyWith,
 
 mod commands;
 mod consumer_port;
+mod deferring_consumer;
 mod lent;
 mod pending;
 mod pending_consumer;
@@ -22,10 +23,9 @@ mod uncompleted;
 use crate::device::Device;
 use crate::ring::Ring;
 use crate::sender::Sender;
-use crate::table::Participants;
-use atomic_table::Seat;
 pub use commands::Commands;
 pub use consumer_port::ConsumerPort;
+pub use deferring_consumer::DeferringConsumer;
 pub use lent::Lent;
 pub use pending::Pending;
 pub use pending_consumer::PendingConsumer;
@@ -47,11 +47,13 @@ pub struct Consumer<D: Device> {
 }
 
 impl<D: Device> Model for Consumer<D> {
-    ghost use Rattle.ring.specs.consumer.Consumers.{ConsumerValue, consumer_of};
+    ghost use Rattle.ring.specs.consumer.Consumers.{ConsumerValue, consumer_of, IsCurrent};
 
     ghost Value = { ConsumerValue D };
 
     ghost view = { λ d. consumer_of d.port d.lent };
+
+    ghost invariant = { λ d. IsCurrent d.port.trail };
 }
 
 impl<D: Device> Consumer<D> {
@@ -68,22 +70,6 @@ impl<D: Device> Consumer<D> {
         ensures { AreClosingSyncs (raws_by self.now.trail) }
     {
         self.port.syncs_are_closing();
-    }
-
-    pub(crate) fn into_seat(self) -> Seat<(), Participants>
-        ensures { SitsFor result.table_id result.me self.ring ConsumerOf self.trail self.history }
-    {
-        let Consumer {
-            port,
-            commands: _,
-            lent: _,
-        } = self;
-        let ConsumerPort {
-            port,
-            head: _,
-            taken: _,
-        } = port;
-        port.into_seat()
     }
 
     /// Returns what the control word says at this moment: SMMU_CMDQ_PROD, SMMU_CMDQ_CONS, and whether the

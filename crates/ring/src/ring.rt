@@ -5,6 +5,7 @@ ghost use Rattle.ringcore.specs.Limits.{most_senders};
 ghost use Rattle.ringcore.specs.memory.Layout.{words_of};
 ghost use Rattle.ring.specs.table.{IsWithinLimits, first_participants, participants_from};
 ghost use Rattle.ring.specs.Finishing.{AreAll, IsEnd};
+ghost use Rattle.ring.specs.consumer.Consumers.{without_device};
 ghost use Rattle.ringcore.specs.RingFaults.{IsNotMade, number_fault};
 ghost use Rattle.ring.specs.NewRings.{IsNewRing, IsUnused, new_senders};
 
@@ -94,10 +95,24 @@ impl Ring {
 
     /// Joins all seats into one: one run of the ring has all their steps. `senders` has all senders of the
     /// ring in the order of their numbers.
-    pub fn finish<D: Device>(self, mut senders: Vec<Sender>, consumer: Consumer<D>) -> Summary
+    pub fn finish<D: Device>(self, senders: Vec<Sender>, consumer: Consumer<D>) -> Summary
         requires senders { AreAll self senders.items }
         requires consumer { consumer.ring ≡ self }
         ensures { IsEnd self senders.items consumer result }
+    {
+        let Consumer {
+            port,
+            commands: _,
+            lent: _,
+        } = consumer;
+        self.join(senders, port)
+    }
+
+    /// Joins the seats of all senders and of the consumer, whatever that has acknowledged.
+    pub(crate) fn join(self, mut senders: Vec<Sender>, consumer: ConsumerPort) -> Summary
+        requires senders { AreAll self senders.items }
+        requires consumer { consumer.ring ≡ self }
+        ensures { IsEnd self senders.items (without_device consumer) result }
     {
         world_law();
         batches_law();

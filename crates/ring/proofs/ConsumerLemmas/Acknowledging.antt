@@ -10,7 +10,7 @@ use Rattle.cmdcodec.specs.Opcodes.{is_sync}
 use Rattle.cmdcodec.specs.ClosingSync.{cell_address}
 use Rattle.qindex.specs.Positions.{IndexValue, index_of}
 use Rattle.ring.specs.table.{PortValue}
-use Rattle.ring.specs.consumer.{sync_sender, sync_number, acknowledged, all_acknowledged, without_newest, HasAdvanced, IsClosingSync, completed_trail, taken_of, with_outcome, HasOutcome, IsConsumer}
+use Rattle.ring.specs.consumer.{sync_sender, sync_number, acknowledged, all_acknowledged, without_newest, HasAdvanced, IsClosingSync, IsDue, completed_trail, taken_of, with_outcome, HasOutcome, IsAtHead}
 use Rattle.ring.proofs.Lists.{take_more, split_at}
 
 -- ---- acknowledgements change nothing else
@@ -25,13 +25,6 @@ acknowledged_snoc [] raw t = refl
 acknowledged_snoc (r ∷ rs) raw t = acknowledged_snoc rs raw (acknowledged r t)
 
 -- ---- one of them: those before it are acknowledged, and those after it aren't
-
--- it is a closing sync, the next of its sender, which the trail took
-pub record IsDue (senders : ℕ) (now : Trail) (raw : Raw) : Type 0 where
-  pub closing : IsClosingSync raw
-  pub known : sync_sender raw < senders
-  pub next : sync_number raw ≡ suc (acknowledged_by (sync_sender raw) now)
-  pub taken : sync_number raw ≤ syncs_taken (sync_sender raw) now
 
 module _ (add_up : SyncsAddUp) (by_raws : SyncsOfRawsAreCounted) (words : SyncsTellTheirBatch) (senders : ℕ) (few : senders ≤ 256) (before : Trail)
     (ahead behind : List Raw) (raw : Raw) (now : Trail) (acks : (s : ℕ) → acknowledged_by s now ≡ syncs_taken s before + syncs_in s ahead) where
@@ -158,16 +151,21 @@ taken_after t raws outcome is =
     ap (map taken_as) (acknowledged_keep raws_by (λ s n u. refl) raws (Advance raws ∷ t)) ∙ map-append taken_as (raws_by t) raws
     ∙ ap (λ (l : List Taken). taken_of t ++ l) (with_outcomes outcome raws is)
 
-pub is_consumer : (old passed new : PortValue) (head further : IndexValue) (taken many : ℕ) (raws : List Raw) → IsConsumer old head taken
-    → record passed { history = [] } ≡ record old { trail = Advance raws ∷ old.trail; history = [] } → (trail : Trail) → trail ≡ completed_trail raws old.trail → record new { history = [] } ≡ record old { trail = trail; history = [] }
-    → length raws ≡ many → further ≡ index_of old.ring.made_with.geometry (taken + many)
-    → ((s : ℕ) → acknowledged_by s new.trail ≡ syncs_taken s new.trail) → IsConsumer new further (taken + many)
-is_consumer old passed new head further taken many raws is passed_is trail trail_is new_is long further_is current = record {
+pub still_at_head : (old new : PortValue) (head : IndexValue) (taken : ℕ) (raws : List Raw) → IsAtHead old head taken
+    → record new { history = [] } ≡ record old { trail = all_acknowledged raws old.trail; history = [] } → IsAtHead new head taken
+still_at_head old new head taken raws is new_is = record {
+  who_is = ap (λ (p : PortValue). p.who) new_is ∙ is.who_is;
+  head_is = is.head_is ∙ ap (λ (p : PortValue). index_of p.ring.made_with.geometry taken) (sym new_is);
+  taken_is = is.taken_is ∙ sym (ap (λ (p : PortValue). taken_by p.trail) new_is ∙ acknowledged_keep taken_by (λ s n u. refl) raws old.trail);
+}
+
+pub further_at_head : (old new : PortValue) (head further : IndexValue) (taken many : ℕ) (raws : List Raw) → IsAtHead old head taken
+    → record new { history = [] } ≡ record old { trail = Advance raws ∷ old.trail; history = [] }
+    → length raws ≡ many → further ≡ index_of old.ring.made_with.geometry (taken + many) → IsAtHead new further (taken + many)
+further_at_head old new head further taken many raws is new_is long further_is = record {
   who_is = ap (λ (p : PortValue). p.who) new_is ∙ is.who_is;
   head_is = further_is ∙ ap (λ (p : PortValue). index_of p.ring.made_with.geometry (taken + many)) (sym new_is);
   taken_is =
-      let counted : taken_by new.trail ≡ taken_by old.trail + length raws =
-      ap (λ (p : PortValue). taken_by p.trail) new_is ∙ ap taken_by trail_is ∙ acknowledged_keep taken_by (λ s n u. refl) raws (Advance raws ∷ old.trail) in
+      let counted : taken_by new.trail ≡ taken_by old.trail + length raws = ap (λ (p : PortValue). taken_by p.trail) new_is in
       let before = is.taken_is in omega (arith, counted, before, long);
-  current = current;
 }

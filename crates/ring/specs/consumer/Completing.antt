@@ -1,5 +1,5 @@
 -- The events that a completion added, and what is taken after it.
-use Rattle.std.specs.Prelude.{◌≡◌, ◌<◌, ℕ, ◌-◌, ◌/◌, ◌^◌, true, cond, List, [], ◌∷◌, map, take, Some, slice_get}
+use Rattle.std.specs.Prelude.{◌≡◌, ◌<◌, ◌≤◌, ℕ, suc, ◌-◌, ◌/◌, ◌^◌, true, cond, List, [], ◌∷◌, map, take, Some, slice_get}
 use Rattle.ring.specs.Runs.{Raw, Outcome, Advance, Acknowledge, Trail, raws_by, acknowledged_by, syncs_taken, Taken, taken_as, outcome_of}
 use Rattle.cmdcodec.specs.Opcodes.{is_sync}
 use Rattle.cmdcodec.specs.ClosingSync.{cell_address}
@@ -43,7 +43,14 @@ pub record IsClosingSync (raw : Raw) : Type 0 where
   pub few : sender < most_senders
   pub address : raw.hi ≡ cell_address sender
 
--- Each CMD_SYNC among them is.
+-- A closing sync is due: it is the next of its sender, which the trail took.
+pub record IsDue (senders : ℕ) (trail : Trail) (raw : Raw) : Type 0 where
+  pub closing : IsClosingSync raw
+  pub known : sync_sender raw < senders
+  pub next : sync_number raw ≡ suc (acknowledged_by (sync_sender raw) trail)
+  pub taken : sync_number raw ≤ syncs_taken (sync_sender raw) trail
+
+-- Each CMD_SYNC among these is the closing sync of some sender.
 abbrev pub AreClosingSyncs : List Raw → Type 0
 AreClosingSyncs raws =
     (i : ℕ) (raw : Raw) → slice_get raws i ≡ Some raw → is_sync raw ≡ true → IsClosingSync raw

@@ -1,13 +1,14 @@
 //! The consumer's port: its steps, and the index of the head.
-ghost use Rattle.std.specs.Prelude.{◌≡◌, ◌∷◌, ◌≤◌, ◌<◌, ◌+◌, ℕ, false, length, take, []};
+ghost use Rattle.std.specs.Prelude.{◌≡◌, ◌∷◌, ◌≤◌, ◌<◌, ◌+◌, ℕ, true, false, length, take, []};
 ghost use Rattle.qindex.specs.Positions.{size};
+ghost use Rattle.cmdcodec.specs.Opcodes.{is_sync};
 ghost use Rattle.qindex.specs.ControlWord.{IsControl};
 ghost use Rattle.ringcore.specs.Limits.{most_reserved};
-ghost use Rattle.ring.specs.Runs.{Look, Test, Read, Consumer, same, raws_by, taken_by, found_ready, MayAdvance, world, head, control as control_of};
+ghost use Rattle.ring.specs.Runs.{Look, Test, Read, Advance, Consumer, same, raws_by, taken_by, found_ready, MayAdvance, world, head, control as control_of};
 ghost use Rattle.ring.specs.table.{StandsInARun, WentOn, IsHistory, GrewBy, Grew, EndsTellAll, SitsFor};
 ghost use Rattle.ring.specs.consumer.Pendings.{HasReadRun, reads_from};
-ghost use Rattle.ring.specs.consumer.Consumers.{KnowsItsSteps};
-ghost use Rattle.ring.specs.consumer.Completing.{completed_trail, AreClosingSyncs};
+ghost use Rattle.ring.specs.consumer.Consumers.{KnowsItsSteps, IsCurrent};
+ghost use Rattle.ring.specs.consumer.Completing.{completed_trail, acknowledged, AreClosingSyncs, IsDue};
 
 use crate::consumer::commands::Commands;
 use crate::ring::Ring;
@@ -18,7 +19,7 @@ use qindex::{Control, Index, indexes_tell_the_queue};
 use ringcore::{Half, counts_law, world_law};
 use std::marker::{Brand, Model};
 
-/// The consumer's port, which has acknowledged each CMD_SYNC that it took.
+/// The consumer's port, with the head that its steps made.
 #[derive(Drop)]
 pub struct ConsumerPort {
     pub(crate) port: Port,
@@ -30,13 +31,13 @@ pub struct ConsumerPort {
 
 impl Model for ConsumerPort {
     ghost use Rattle.ring.specs.table.{PortValue};
-    ghost use Rattle.ring.specs.consumer.Consumers.{IsConsumer};
+    ghost use Rattle.ring.specs.consumer.Consumers.{IsAtHead};
 
     ghost Value = { PortValue };
 
     ghost view = { λ p. p.port };
 
-    ghost invariant = { λ p. IsConsumer p.port p.head p.taken };
+    ghost invariant = { λ p. IsAtHead p.port p.head p.taken };
 }
 
 impl ConsumerPort {
@@ -121,21 +122,55 @@ impl ConsumerPort {
         requires count { count ≤ length commands.now }
         requires few { count ≤ size self.ring.made_with.geometry }
         requires may { MayAdvance self.trail (take count commands.now) }
+        requires current { IsCurrent self.trail }
+        ensures current { IsCurrent result.trail }
         ensures trail { record result { history = [] } ≡ record self { trail = completed_trail (take count commands.now) self.trail; history = [] } }
         ensures history { Grew Consumer self.trail result.trail self.history result.history }
     {
-        let ConsumerPort {
-            mut port,
-            head,
-            taken,
-        } = self;
-        port.advance::<Brand>(ring, head, commands, count);
-        port.knows_its_steps();
-        port.acknowledge_run(ring, commands, count);
-        ConsumerPort {
-            port,
-            head: head.forward(count),
-            taken: taken + u64::from(count),
+        let mut port = self;
+        port.advance(ring, commands, count);
+        port.port.acknowledge_run(ring, commands, count);
+        port
+    }
+
+    /// Takes the first `count` of these commands, and acknowledges none.
+    pub(crate) fn advance(&mut self, ring: &Ring, commands: &Commands, count: u32)
+        requires ring { self.old.ring ≡ ring.now }
+        requires count { count ≤ length commands.now }
+        requires few { count ≤ size self.old.ring.made_with.geometry }
+        requires may { MayAdvance self.old.trail (take count commands.now) }
+        ensures trail { record self.new { history = [] } ≡ record self.old
+            { trail = Advance (take count commands.now) ∷ self.old.trail; history = [] } }
+        ensures history { GrewBy Consumer (Advance (take count commands.now)) self.old.history self.new.history }
+    {
+        self.port.advance::<Brand>(ring, self.head, commands, count);
+        self.port.knows_its_steps();
+        self.head = self.head.forward(count);
+        self.taken += u64::from(count);
+    }
+
+    /// Acknowledges a command that is due if it is a CMD_SYNC.
+    pub(crate) fn acknowledge(&mut self, ring: &Ring, raw: Raw)
+        requires ring { self.old.ring ≡ ring.now }
+        requires due { is_sync raw ≡ true → IsDue ring.now.made_with.senders self.old.trail raw }
+        ensures trail { record self.new { history = [] } ≡ record self.old
+            { trail = acknowledged raw self.old.trail; history = [] } }
+        ensures history { Grew Consumer self.old.trail self.new.trail self.old.history self.new.history }
+    {
+        if raw.is_sync() {
+            self.port.acknowledge_sync(ring, raw);
         }
+    }
+
+    /// Returns its seat.
+    pub(crate) fn into_seat(self) -> Seat<(), Participants>
+        ensures { SitsFor result.table_id result.me self.ring Consumer self.trail self.history }
+    {
+        let ConsumerPort {
+            port,
+            head: _,
+            taken: _,
+        } = self;
+        port.into_seat()
     }
 }

@@ -21,14 +21,15 @@ pub struct PendingRun<D: Device> {
 }
 
 impl<D: Device> Model for PendingRun<D> {
-    ghost use Rattle.ring.specs.consumer.Consumers.{consumer_of};
+    ghost use Rattle.ring.specs.consumer.Consumers.{consumer_of, IsCurrent};
     ghost use Rattle.ring.specs.consumer.Pendings.{PendingValue, IsPending};
+    ghost use Rattle.std.specs.Prelude.{◌×◌};
 
     ghost Value = { PendingValue D };
 
     ghost view = { λ p. record { consumer = consumer_of p.port p.lent; raws = p.commands } };
 
-    ghost invariant = { λ p. IsPending p.port p.commands };
+    ghost invariant = { λ p. IsPending p.port p.commands × IsCurrent p.port.trail };
 }
 
 impl<D: Device> PendingRun<D> {

@@ -9,8 +9,8 @@ ghost use Rattle.ringcore.specs.memory.Layout.{cell};
 ghost use Rattle.ring.specs.table.Intents.{tests, reads, advances, acknowledges};
 ghost use Rattle.ring.specs.table.Rule.{IsWithinLimits};
 ghost use Rattle.ring.specs.table.Histories.{GrewBy, Grew};
-ghost use Rattle.ring.specs.consumer.Consumers.{KnowsItsSteps};
-ghost use Rattle.ring.specs.consumer.Completing.{all_acknowledged, HasAdvanced, sync_sender, sync_number, IsClosingSync};
+ghost use Rattle.ring.specs.consumer.Consumers.{KnowsItsSteps, IsCurrent};
+ghost use Rattle.ring.specs.consumer.Completing.{all_acknowledged, HasAdvanced, sync_sender, sync_number, IsClosingSync, IsDue};
 
 use crate::consumer::Commands;
 use crate::ring::Ring;
@@ -127,7 +127,7 @@ impl Port {
         requires count { count ≤ length commands.now }
         requires advanced { HasAdvanced self.old.trail (take count commands.now) }
         ensures trail { record self.new { history = [] } ≡ record self.old { trail = all_acknowledged (take count commands.now) self.old.trail; history = [] } }
-        ensures current { (s : ℕ) → acknowledged_by s self.new.trail ≡ syncs_taken s self.new.trail }
+        ensures current { IsCurrent self.new.trail }
         ensures history { Grew Consumer self.old.trail self.new.trail self.old.history self.new.history }
     {
         self.knows_its_steps();
@@ -136,9 +136,22 @@ impl Port {
         for place in 0..count {
             let raw = commands.get(place).unwrap();
             if raw.is_sync() {
-                self.acknowledge::<Brand>(ring, closing_sender(raw), closing_number(raw));
+                self.acknowledge_sync(ring, raw);
             }
         }
+    }
+
+    /// Acknowledges a CMD_SYNC that is due.
+    pub(crate) fn acknowledge_sync(&mut self, ring: &Ring, raw: Raw)
+        requires ring { self.old.ring ≡ ring.now }
+        requires who { self.old.who ≡ Consumer }
+        requires due { IsDue ring.now.made_with.senders self.old.trail raw }
+        ensures trail { record self.new { history = [] } ≡ record self.old
+            { trail = Acknowledge (sync_sender raw) (sync_number raw) ∷ self.old.trail; history = [] } }
+        ensures history { GrewBy Consumer (Acknowledge (sync_sender raw) (sync_number raw))
+            self.old.history self.new.history }
+    {
+        self.acknowledge::<Brand>(ring, closing_sender(raw), closing_number(raw));
     }
 }
 

@@ -3,7 +3,8 @@ use Rattle.ring.specs.Runs.{Consumer, Acknowledge, acknowledged_by, syncs_taken}
 use Rattle.ring.specs.Rings.{RingValue}
 use Rattle.ring.specs.table.{PortValue, Grew}
 use Rattle.ring.proofs.TableLemmas.Grown.{grew_step, grew_more}
-use Rattle.ring.proofs.ConsumerLemmas.Acknowledging.{all_are, IsDue, IsTurn, turn as turn_of}
+use Rattle.ring.specs.consumer.{IsDue}
+use Rattle.ring.proofs.ConsumerLemmas.Acknowledging.{all_are, IsTurn, turn as turn_of}
 use Rattle.ring.proofs.table.port.Port.acknowledge_run.Goals.{After-is_sync, Then-is_sync, then-is_sync, else-is_sync}
 use Rattle.ring.proofs.table.port.Port.acknowledge_run.Goals as goal
 
@@ -14,19 +15,9 @@ turn c = turn_of c.args.self.now _ _ c.requires.advanced c.counts_law.ensures.su
 due : (c : Then-is_sync) → IsDue c.args.self.now.ring.made_with.senders c.loop-place.self.trail c.unwrap-raw.result
 due c = (turn (goal.at.Then-is_sync c).After-is_sync).due (sym c.is_sync.ensures ∙ c.if-is_sync.true)
 
-pub closing_sender-requires : goal.closing_sender-requires
-closing_sender-requires c = (due (goal.at.closing_sender-requires c).Then-is_sync).closing
-
-pub acknowledge-requires-clause-known : goal.acknowledge-requires-clause-known
-acknowledge-requires-clause-known c = subst (λ (t : ℕ × RingValue). t.0 < t.1.made_with.senders) (λ k. (sym c.closing_sender.ensures k, c.requires.ring k)) (due (goal.at.acknowledge-requires-clause-known c).Then-is_sync).known
-
-pub acknowledge-requires-clause-next : goal.acknowledge-requires-clause-next
-acknowledge-requires-clause-next c =
-    c.closing_number.ensures ∙ (due (goal.at.acknowledge-requires-clause-next c).Then-is_sync).next ∙ ap (λ (s : ℕ). suc (acknowledged_by s c.loop-place.self.trail)) (sym c.closing_sender.ensures)
-
-pub acknowledge-requires-clause-taken : goal.acknowledge-requires-clause-taken
-acknowledge-requires-clause-taken c =
-    subst (λ (t : ℕ × ℕ). t.0 ≤ syncs_taken t.1 c.loop-place.self.trail) (λ k. (sym c.closing_number.ensures k, sym c.closing_sender.ensures k)) (due (goal.at.acknowledge-requires-clause-taken c).Then-is_sync).taken
+pub acknowledge_sync-requires-clause-due : goal.acknowledge_sync-requires-clause-due
+acknowledge_sync-requires-clause-due c =
+    subst (λ (r : RingValue). IsDue r.made_with.senders c.loop-place.self.trail c.unwrap-raw.result) c.requires.ring (due (goal.at.acknowledge_sync-requires-clause-due c).Then-is_sync)
 
 pub loop-place-preserved : goal.loop-place-preserved
 loop-place-preserved c =
@@ -34,9 +25,8 @@ loop-place-preserved c =
     elim c.if-is_sync.branch [
       | then-is_sync w ↦
           let kept = its.then_after (sym c.is_sync.ensures ∙ w.if-is_sync.true) c.if-is_sync.self
-          (ap (λ (p : PortValue). let q : PortValue = record p { history = [] } in q) w.self-is ∙ w.acknowledge.ensures.trail
-          ∙ (λ k. let q : PortValue = record mid { trail = Acknowledge (w.closing_sender.ensures k) (w.closing_number.ensures k) ∷ mid.trail; history = [] } in q)) in
-          let one = grew_step Consumer _ _ _ _ _ (ap (λ (p : PortValue). p.trail) w.acknowledge.ensures.trail) w.acknowledge.ensures.history in
+          (ap (λ (p : PortValue). let q : PortValue = record p { history = [] } in q) w.self-is ∙ w.acknowledge_sync.ensures.trail) in
+          let one = grew_step Consumer _ _ _ _ _ (ap (λ (p : PortValue). p.trail) w.acknowledge_sync.ensures.trail) w.acknowledge_sync.ensures.history in
           let grown = subst (λ (p : PortValue). Grew Consumer mid.trail p.trail mid.history p.history) (sym w.self-is) one in
           record { trail = kept.0; acks = kept.1; history = grew_more _ _ _ _ _ _ _ c.loop-place.invariant.history grown }
       | else-is_sync w ↦

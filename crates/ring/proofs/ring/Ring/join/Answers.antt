@@ -10,13 +10,13 @@ use Rattle.ring.proofs.TableLemmas.StepKinds.{control_inside}
 use Rattle.ring.proofs.TableLemmas.Steps.{gathers_at}
 use Rattle.ring.proofs.FinishLemmas.Ends.{last_ring, is_control_word, end_is, is_there, that_there}
 use Rattle.qindex.specs.ControlWord.{IsControlWord, control_in}
-use Rattle.ring.proofs.ring.Ring.finish.Given.{Over}
-use Rattle.ring.proofs.ring.Ring.finish.Goals as goal
+use Rattle.ring.proofs.ring.Ring.join.Goals as goal
 use Rattle.ring.specs.Rings.{RingValue}
 use Rattle.ring.specs.sender.{SenderValue}
+use Rattle.ring.specs.consumer.{without_device}
 
 pub join_seat-requires : goal.join_seat-requires
-join_seat-requires g c =
+join_seat-requires c =
     let i = c.loop-sender.invariant in
     let its = last_ring _ _ _ _ i.gathered.0 _ c.requires.senders i.gathered.1 c.in-Some.ensures.items in (
       search rules,
@@ -27,32 +27,32 @@ join_seat-requires g c =
     )
 
 -- the rule, by the ring that was handed in
-ended : (g : Over) (c : goal.After-unpack g) → Final (Seen (RuleHolds c.args.self.made_with) c.loop-sender.seat.id c.loop-sender.seat.me.0) (slots_items c.close_with-closed.result.words) (slots_items c.close_with-closed.result.slots)
-ended g c =
+ended : (c : goal.After-unpack) → Final (Seen (RuleHolds c.args.self.made_with) c.loop-sender.seat.id c.loop-sender.seat.me.0) (slots_items c.close_with-closed.result.words) (slots_items c.close_with-closed.result.slots)
+ended c =
     let key_is : c.self.inside.table.shared.key ≡ c.args.self.made_with = c.self.invariant.key_is ∙ ap (λ (r : RingValue). r.made_with) c.self.view_is in
     subst (λ (r : Ring). Final (Seen (RuleHolds r) c.loop-sender.seat.id c.loop-sender.seat.me.0) (slots_items c.close_with-closed.result.words) (slots_items c.close_with-closed.result.slots)) key_is c.close_with-closed.ensures.values.2
 
-all_joined : (g : Over) (c : goal.After-unpack g) → c.loop-sender.seat.me.0 ≡ all_in c.args.self.made_with c.args.consumer.trail c.args.consumer.history c.args.senders.items
-all_joined g c =
+all_joined : (c : goal.After-unpack) → c.loop-sender.seat.me.0 ≡ all_in c.args.self.made_with c.args.consumer.trail c.args.consumer.history c.args.senders.items
+all_joined c =
     let i = c.loop-sender.invariant in
     let none : c.loop-sender.senders.items ≡ [] = nil_from_length c.loop-sender.senders.items (search rules) in
     let all : c.args.senders.items ≡ i.gathered.0 = i.gathered.1 ∙ ap (λ (l : List SenderValue). l ++ i.gathered.0) none in
     let ours : c.args.consumer.ring ≡ c.args.self = c.requires.consumer in
     ap (λ (m : Holding). m.0) i.gathered.2 ∙ (λ k. all_in (ours k).made_with c.args.consumer.trail c.args.consumer.history (sym all k))
 
-same_geometry : (g : Over) (c : goal.After-unpack g) → c.made_with.inside.geometry ≡ c.args.self.made_with.geometry
-same_geometry g c = ap (λ (r : Ring). r.geometry) (c.made_with.view_is ∙ ap (λ (r : RingValue). r.made_with) c.self.view_is)
+same_geometry : (c : goal.After-unpack) → c.made_with.inside.geometry ≡ c.args.self.made_with.geometry
+same_geometry c = ap (λ (r : Ring). r.geometry) (c.made_with.view_is ∙ ap (λ (r : RingValue). r.made_with) c.self.view_is)
 
 pub unwrap-end-requires : goal.unwrap-end-requires
-unwrap-end-requires g c = is_there _ _ _ c.unpack.ensures.found
-    (subst (λ (g : ℕ). IsControlWord g c.word-word.result) (sym (same_geometry g c)) (is_control_word c.args.self c.args.senders.items c.args.consumer _ _ _ _ (ended g c) (all_joined g c) c.requires.senders c.look.ensures.word _ (subst (λ (n : ℕ). get_elem? (slots_items c.close_with-closed.result.words) n ≡ some c.word-word.result) c.control_word.ensures c.word-word.ensures)))
+unwrap-end-requires c = is_there _ _ _ c.unpack.ensures.found
+    (subst (λ (g : ℕ). IsControlWord g c.word-word.result) (sym (same_geometry g c)) (is_control_word c.args.self c.args.senders.items (without_device c.args.consumer) _ _ _ _ (ended g c) (all_joined g c) c.requires.senders c.look.ensures.word _ (subst (λ (n : ℕ). get_elem? (slots_items c.close_with-closed.result.words) n ≡ some c.word-word.result) c.control_word.ensures c.word-word.ensures)))
 
 pub returns : goal.returns
-returns g c =
-    let d : goal.After-unpack g = c.before.before.before.before in
+returns c =
+    let d : goal.After-unpack = c.before.before.before.before in
     let found : c.unwrap-end.result ≡ control_in c.args.self.made_with.geometry c.word-word.result =
-    that_there _ _ _ _ c.unpack.ensures.found c.unwrap-end.ensures ∙ ap (λ (g : ℕ). control_in g c.word-word.result) (same_geometry g d) in
-    end_is c.args.self c.args.senders.items c.args.consumer _ _ _ _ (ended g d) (all_joined g d) c.requires.senders
+    that_there _ _ _ _ c.unpack.ensures.found c.unwrap-end.ensures ∙ ap (λ (g : ℕ). control_in g c.word-word.result) (same_geometry d) in
+    end_is c.args.self c.args.senders.items (without_device c.args.consumer) _ _ _ _ (ended d) (all_joined d) c.requires.senders
     c.world_law.ensures.taken c.world_law.ensures.numbered c.world_law.ensures.closed c.world_law.ensures.told c.world_law.ensures.within c.world_law.ensures.told_of_all
     c.batches_law.ensures.senders_order c.batches_law.ensures.all c.batches_law.ensures.closed c.batches_law.ensures.owners
     c.consumer_trail.ensures.head c.consumer_trail.ensures.advanced c.consumer_trail.ensures.taken c.consumer_trail.ensures.count c.consumer_trail.ensures.drained
