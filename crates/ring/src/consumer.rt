@@ -81,7 +81,7 @@ impl<D: Device> Consumer<D> {
         ensures history { GrewBy ConsumerOf (Look result) self.old.history self.new.history }
         ensures current { result ≡ control_of self.old.ring.made_with.geometry (world self.new.history) }
     {
-        self.port.port.look(ring)
+        self.port.look(ring)
     }
 
     /// A witness, while the ring runs, that its steps and those of a sender are steps of one run, which both

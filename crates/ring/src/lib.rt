@@ -29,7 +29,8 @@ mod summary;
 mod table;
 
 pub use consumer::{
-    Consumer, DeferringConsumer, Found, Pending, PendingConsumer, PendingRun, Taken, TakenRun, Uncompleted,
+    Consumer, DeferringConsumer, Found, Pending, PendingConsumer, PendingRun, Taken, TakenRun,
+    Uncompleted,
 };
 pub use device::Device;
 pub use keeper::{IdleConsumer, IdleReservation, IdleSender, Keeper};

@@ -10,7 +10,7 @@ use Rattle.cmdcodec.specs.Opcodes.{is_sync}
 use Rattle.cmdcodec.specs.ClosingSync.{cell_address}
 use Rattle.qindex.specs.Positions.{IndexValue, index_of}
 use Rattle.ring.specs.table.{PortValue}
-use Rattle.ring.specs.consumer.{sync_sender, sync_number, acknowledged, all_acknowledged, without_newest, HasAdvanced, IsClosingSync, IsDue, completed_trail, taken_of, with_outcome, HasOutcome, IsAtHead}
+use Rattle.ring.specs.consumer.{sync_sender, sync_number, acknowledged, all_acknowledged, without_newest, HasAdvanced, IsDue, completed_trail, taken_of, with_outcome, HasOutcome, IsAtHead}
 use Rattle.ring.proofs.Lists.{take_more, split_at}
 
 -- ---- acknowledgements change nothing else

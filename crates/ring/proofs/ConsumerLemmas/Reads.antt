@@ -1,11 +1,11 @@
 -- Reads of a run, one command after another, and what is found again.
-use Rattle.std.proofs.Common.{◌≡◌, ◌≢◌, ◌<◌, ◌≤◌, ◌+◌, ℕ, suc, Bool, true, cond, ◌&&◌, List, [], ◌∷◌, ◌++◌, length, length-append, Some, refl, sym, ap, subst, ◌∙◌, inl, inr, eq-eqb, ne_eqb, arith}
+use Rattle.std.proofs.Common.{◌≡◌, ◌≢◌, ◌<◌, ◌≤◌, ◌+◌, ℕ, suc, Bool, true, cond, ◌&&◌, List, [], ◌∷◌, ◌++◌, length, length-append, take, Some, refl, sym, ap, subst, ◌∙◌, inl, inr, eq-eqb, ne_eqb, arith}
 use Rattle.std.proofs.lemmas.Bool.{cases_eq}
 use Rattle.std.proofs.lemmas.Option.{slice_get_within, same_Some}
 use Rattle.ring.proofs.Lists.{at_end, in_front}
 use Rattle.std.specs.Prelude.{slice_get}
-use Rattle.ring.specs.Runs.{Raw, Half, Lo, Hi, Look, Test, Read, Trail, half_read, same_half, head_read, half_of, IsSteady, Control}
-use Rattle.ring.specs.consumer.{HasSeen, reads_from}
+use Rattle.ring.specs.Runs.{Raw, Half, Lo, Hi, Look, Test, Read, Trail, half_read, same_half, head_read, half_of, IsSteady, Control, raws_by, taken_by, acknowledged_by, syncs_taken, syncs_in}
+use Rattle.ring.specs.consumer.{HasSeen, reads_from, IsCurrent, IsDeferring}
 use Rattle.ring.specs.table.{PortValue}
 
 -- ---- what was read at the head is found again
@@ -90,6 +90,22 @@ module _ (lo hi : ℕ) where
       → s2.trail ≡ Read i Hi hi ∷ Read i Lo lo ∷ s.trail
   trail_more s s1 s2 i s1_is s2_is =
       ap (λ (x : PortValue). x.trail) s2_is ∙ ap (λ (x : PortValue). let u : Trail = Read i Hi hi ∷ x.trail in u) s1_is
+
+-- Reads acknowledge nothing, and take nothing.
+pub reads_keep : {X : Type 0} (f : Trail → X) → ((o : ℕ) (h : Half) (w : ℕ) (t : Trail) → f (Read o h w ∷ t) ≡ f t) → (o : ℕ) (rs : List Raw) (t : Trail) → f (reads_from o rs t) ≡ f t
+reads_keep f same o [] t = refl
+reads_keep f same o (x ∷ xs) t =
+    reads_keep f same (suc o) xs (Read o Hi x.hi ∷ Read o Lo x.lo ∷ t) ∙ same o Hi x.hi (Read o Lo x.lo ∷ t) ∙ same o Lo x.lo t
+
+pub still_current : (o : ℕ) (rs : List Raw) (t : Trail) → IsCurrent t → IsCurrent (reads_from o rs t)
+still_current o rs t is s = reads_keep (acknowledged_by s) (λ o h w u. refl) o rs t ∙ is s ∙ sym (reads_keep (syncs_taken s) (λ o h w u. refl) o rs t)
+
+pub still_deferring : (o : ℕ) (rs : List Raw) (t : Trail) (settled : ℕ) → IsDeferring t settled → IsDeferring (reads_from o rs t) settled
+still_deferring o rs t settled is = record {
+  few = subst (λ (n : ℕ). settled ≤ n) (sym (reads_keep taken_by (λ o h w u. refl) o rs t)) is.few;
+  current = λ s. reads_keep (acknowledged_by s) (λ o h w u. refl) o rs t ∙ is.current s
+      ∙ ap (λ (l : List Raw). syncs_in s (take settled l)) (sym (reads_keep raws_by (λ o h w u. refl) o rs t));
+}
 
 -- A run that is read again begins with the command read before.
 pub run_again : (limit found : ℕ) (c : Control) (t u : Trail) (rs : List Raw) (raw : Raw) → u ≡ reads_from 0 rs (Test limit found ∷ Look c ∷ t) → 1 ≤ length rs

@@ -1,11 +1,13 @@
 -- What a sender was told is settled, where just the closing syncs that are settled were acknowledged.
-use Rattle.std.proofs.Common.{◌≡◌, ◌⊎◌, ⊎_elim, ℕ, zero, suc, ◌+◌, ◌<◌, ◌≤◌, Bool, true, false, cond, ◌==◌, List, [], ◌∷◌, ◌++◌, length, take, Some, refl, sym, ap, ◌∙◌, subst, append_assoc, append-nil, eqb-true, eq-eqb, arith}
+use Rattle.std.proofs.Common.{◌≡◌, ◌⊎◌, ⊎_elim, ℕ, zero, suc, ◌/◌, ◌^◌, ◌<◌, ◌≤◌, Bool, true, false, cond, ◌==◌, List, [], ◌∷◌, ◌++◌, length, take, Option, Some, refl, sym, ap, ◌∙◌, subst, append_assoc, append-nil, eqb-true, eq-eqb, arith}
 use Rattle.std.specs.Prelude.{slice_get, drop}
-use Rattle.cmdcodec.specs.Opcodes.{is_sync}
-use Rattle.ring.specs.Runs.{Raw, Consumer, Sender, Advance, Acknowledge, Ask, Run, Trail, trail_of, raws_by, acknowledged_by, world, sync_raw, Ring, Allowed, IsRun, OnlyOf, Begins}
+use Rattle.ring.specs.Runs.{Raw, Consumer, Sender, Advance, Acknowledge, Ask, Run, Trail, trail_of, raws_by, acknowledged_by, world, sync_raw, Ring, IsRun, OnlyOf, Begins}
 use Rattle.ring.specs.Runs.{advanced, EveryRun, TellsTheNumbers, TellsWhatIsAdvanced, TookSyncsInOrder, IsNextSync, SyncsTellTheirBatch, is_sync_to, syncs_in}
-use Rattle.ring.specs.Finishing.{WasTold, WasToldAll, reserved_ahead, WasToldOfSettled, AllToldOfSettled}
-use Rattle.ring.specs.consumer.{IsDeferring}
+use Rattle.ring.specs.Finishing.{SummaryValue, WasTold, WasToldAll, reserved_ahead, WasToldOfSettled, AllToldOfSettled, IsEnd, IsDeferredEnd}
+use Rattle.ring.specs.Rings.{RingValue}
+use Rattle.ring.specs.sender.{SenderValue}
+use Rattle.ring.specs.table.{PortValue}
+use Rattle.ring.specs.consumer.{IsDeferring, consumer_of, without_device}
 
 -- ---- a run goes on
 
@@ -108,17 +110,54 @@ module _ (words : SyncsTellTheirBatch) (advances : EveryRun TellsWhatIsAdvanced)
         let count : number ≡ suc (syncs_in s first) = counted words s number ring.senders first more next in
         let asked : told ≡ (world was.earlier).acknowledged s = (earlier_run ring was.later ask whole).1 in
         let kept : (world was.earlier).acknowledged s ≤ (world run).acknowledged s =
-        subst (λ (r : Run). (world was.earlier).acknowledged s ≤ (world r).acknowledged s) (sym was.run_is)
-        (acknowledged_later ring s (was.later ++ (Sender s, Ask told) ∷ []) was.earlier (subst (λ (r : Run). IsRun ring r) (sym (append_assoc was.later ((Sender s, Ask told) ∷ []) was.earlier)) whole)) in
+        subst (λ (r : Run). (world was.earlier).acknowledged s ≤ (world r).acknowledged s) (sym was.run_is) (acknowledged_later ring s was.later ask whole) in
         let now : (world run).acknowledged s ≡ syncs_in s (take settled all) = numbers ring run is_a_run s ∙ ap (acknowledged_by s) trail_is ∙ deferring.current s in
         subst (λ (l : List Raw). Begins (first ++ sync ∷ []) (take settled l)) (sym split)
         (⊎_elim
-          (λ (low : settled ≤ length first).
-              let part : syncs_in s (take settled all) ≤ syncs_in s first = subst (λ (l : List Raw). syncs_in s (take settled l) ≤ syncs_in s first) (sym split) (syncs_in_part s first (sync ∷ more) settled low) in
-              absurd (omega (arith, part, now, kept, asked, most, count)))
-          (λ (high : length first < settled). reaches first more sync settled high)
-          (by_order settled (length first)));
+        (λ (low : settled ≤ length first).
+        let part : syncs_in s (take settled all) ≤ syncs_in s first = subst (λ (l : List Raw). syncs_in s (take settled l) ≤ syncs_in s first) (sym split) (syncs_in_part s first (sync ∷ more) settled low) in
+        absurd (omega (arith, part, now, kept, asked, most, count)))
+        (λ (high : length first < settled). reaches first more sync settled high)
+        (by_order settled (length first)));
   }
 
   pub all_told_of_settled : (s : ℕ) (own : Trail) → WasToldAll run s own → AllToldOfSettled (take settled (raws_by trail)) run s own
   all_told_of_settled s own was newer older number at = told_of_settled s number older (was newer older number at)
+
+-- ---- the end
+
+-- The device that was lent last says nothing of the end.
+pub with_device : {D : Type 0} (ring : RingValue) (senders : List SenderValue) (p : PortValue) (lent : Option D) (end : SummaryValue) → IsEnd ring senders (without_device p) end
+    → IsEnd ring senders (consumer_of p lent) end
+with_device ring senders p lent end is = record {
+  run = is.run;
+  run_of = record {
+    run_is = is.run_of.run_is;
+    only = is.run_of.only;
+    of_senders = is.run_of.of_senders;
+    of_consumer = is.run_of.of_consumer;
+    known_to_senders = is.run_of.known_to_senders;
+    known_to_consumer = is.run_of.known_to_consumer;
+  };
+  delivery = is.delivery;
+  merge = is.merge;
+  taken_in_order = is.taken_in_order;
+  taken_list = is.taken_list;
+  told = is.told;
+  reserved = is.reserved;
+  taken = is.taken;
+  closed = is.closed;
+  whole = is.whole;
+  drained = is.drained;
+}
+
+pub deferred_end : {D : Type 0} → SyncsTellTheirBatch → EveryRun TellsWhatIsAdvanced → EveryRun TellsTheNumbers → TookSyncsInOrder → (ring : RingValue) (senders : List SenderValue) (p : PortValue) (lent : Option D) (raws : List Raw) (settled : ℕ)
+    (end : SummaryValue) → p.ring ≡ ring → IsDeferring p.trail settled → IsEnd ring senders (without_device p) end
+    → IsDeferredEnd ring senders (record { consumer = consumer_of p lent; raws = raws; settled = settled }) end
+unfolding with_device
+deferred_end words advances numbers order ring senders p lent raws settled end own is_deferring is = record {
+  end_is = with_device ring senders p lent end is;
+  settled = λ k s at newer older number told.
+      told_of_settled words advances numbers order ring.made_with is.run p.trail settled is.run_of.run_is is.run_of.only is.run_of.of_consumer is_deferring
+      k number older (is.told k s at newer older number told);
+}

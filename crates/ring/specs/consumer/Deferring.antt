@@ -1,5 +1,5 @@
 -- A consumer that acknowledges later: it takes commands first, and is told of each once it is settled.
-use Rattle.std.specs.Prelude.{◌≡◌, ◌≤◌, ◌++◌, ⊤, ℕ, List, [], ◌∷◌, take, drop}
+use Rattle.std.specs.Prelude.{◌≡◌, ◌≤◌, ⊤, ℕ, List, [], ◌∷◌, take, drop}
 use Rattle.ring.specs.Runs.{Raw, Trail, raws_by, taken_by, acknowledged_by, syncs_in}
 use Rattle.ring.specs.table.{PortValue}
 use Rattle.ring.specs.consumer.Consumers.{ConsumerValue}

@@ -5,7 +5,7 @@ ghost use Rattle.cmdcodec.specs.Opcodes.{is_sync};
 ghost use Rattle.qindex.specs.ControlWord.{IsControl};
 ghost use Rattle.ringcore.specs.Limits.{most_reserved};
 ghost use Rattle.ring.specs.Runs.{Look, Test, Read, Advance, Consumer, same, raws_by, taken_by, found_ready, MayAdvance, world, head, control as control_of};
-ghost use Rattle.ring.specs.table.{StandsInARun, WentOn, IsHistory, GrewBy, Grew, EndsTellAll, SitsFor};
+ghost use Rattle.ring.specs.table.{IsWithinLimits, StandsInARun, WentOn, IsHistory, GrewBy, Grew, EndsTellAll, SitsFor};
 ghost use Rattle.ring.specs.consumer.Pendings.{HasReadRun, reads_from};
 ghost use Rattle.ring.specs.consumer.Consumers.{KnowsItsSteps, IsCurrent};
 ghost use Rattle.ring.specs.consumer.Completing.{completed_trail, acknowledged, AreClosingSyncs, IsDue};
@@ -43,6 +43,23 @@ impl Model for ConsumerPort {
 impl ConsumerPort {
     pub(crate) fn knows_its_steps(&self)
         ensures { KnowsItsSteps self.now.ring.made_with self.now.trail }
+    {
+        self.port.knows_its_steps();
+    }
+
+    pub(crate) fn look(&mut self, ring: &Ring) -> Control
+        requires { self.old.ring ≡ ring.now }
+        ensures trail { record self.new { history = [] } ≡ record self.old { trail = Look result ∷ self.old.trail; history = [] } }
+        ensures control { IsControl self.old.ring.made_with.geometry result }
+        ensures history { GrewBy Consumer (Look result) self.old.history self.new.history }
+        ensures current { result ≡ control_of self.old.ring.made_with.geometry (world self.new.history) }
+    {
+        self.port.look(ring)
+    }
+
+    /// A witness of the limits of its ring. It does nothing.
+    pub(crate) fn is_within_limits(&self)
+        ensures { IsWithinLimits self.now.ring.made_with }
     {
         self.port.knows_its_steps();
     }
@@ -145,7 +162,8 @@ impl ConsumerPort {
     {
         self.port.advance::<Brand>(ring, self.head, commands, count);
         self.port.knows_its_steps();
-        self.head = self.head.forward(count);
+        let further = self.head.forward(count);
+        self.head = further;
         self.taken += u64::from(count);
     }
 

@@ -34,7 +34,6 @@ pub struct DeferringConsumer<D: Device> {
 }
 
 impl<D: Device> Model for DeferringConsumer<D> {
-    ghost use Rattle.std.specs.Prelude.{◌×◌};
     ghost use Rattle.ring.specs.consumer.Consumers.{consumer_of};
     ghost use Rattle.ring.specs.consumer.Deferring.{DeferringValue, IsDeferring, AreRead};
 
@@ -136,14 +135,13 @@ impl<D: Device> DeferringConsumer<D> {
         ensures ring { self.new.consumer.ring ≡ self.old.consumer.ring }
     {
         self.commands.clear();
-        let seen = self.port.port.look(ring);
+        let seen = self.port.look(ring);
         self.port.ends_tell_all();
         if seen.prod.get() == seen.cons.get() {
-            return if seen.closed {
-                Found::Drained
-            } else {
-                Found::Empty
-            };
+            if seen.closed {
+                return Found::Drained;
+            }
+            return Found::Empty;
         }
         let found = self.port.test(ring, most);
         if found == 0 {
@@ -191,6 +189,7 @@ impl<D: Device> DeferringConsumer<D> {
         laws::consumer_trail();
         counts_law();
         self.port.knows_its_steps();
+        self.port.is_within_limits();
         self.port.acknowledge(ring, raw);
         self.commands.clear();
         self.settled += 1;

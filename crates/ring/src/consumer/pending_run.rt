@@ -23,7 +23,6 @@ pub struct PendingRun<D: Device> {
 impl<D: Device> Model for PendingRun<D> {
     ghost use Rattle.ring.specs.consumer.Consumers.{consumer_of, IsCurrent};
     ghost use Rattle.ring.specs.consumer.Pendings.{PendingValue, IsPending};
-    ghost use Rattle.std.specs.Prelude.{◌×◌};
 
     ghost Value = { PendingValue D };
 

@@ -1,9 +1,9 @@
 use Rattle.std.proofs.Common.{rules, ◌≡◌, Bool, true, false, ◌∷◌, sym, ap, subst, ◌∙◌}
 use Rattle.ring.specs.Runs.{Raw, Look, Test, IsSteady, Consumer}
 use Rattle.ring.specs.table.{Grew, PortValue}
-use Rattle.ring.specs.consumer.{ConsumerValue, reads_from, HasSeen, TookNone}
+use Rattle.ring.specs.consumer.{ConsumerValue, reads_from, HasSeen, TookNone, IsCurrent}
 use Rattle.ring.proofs.TableLemmas.Grown.{grew_step, grew_more}
-use Rattle.ring.proofs.ConsumerLemmas.Reads.{look_again, test_again, run_again}
+use Rattle.ring.proofs.ConsumerLemmas.Reads.{look_again, test_again, run_again, still_current}
 use Rattle.ring.proofs.consumer.Consumer.take_run.Given.{Over}
 use Rattle.ring.proofs.consumer.Consumer.take_run.Goals.{After-look-seen, After-test-found, Then-get}
 use Rattle.ring.proofs.consumer.Consumer.take_run.Goals as goal
@@ -24,6 +24,12 @@ pub returns-then-found-eq0-clause-again : goal.returns-then-found-eq0-clause-aga
 returns-then-found-eq0-clause-again g c raw seen =
     let e : c.test-found.new.self.trail ≡ Test c.args.most c.test-found.result ∷ Look c.look-seen.result ∷ c.args.self.trail = search rules in
     test_again c.args.most c.test-found.result c.look-seen.result _ raw (subst IsSteady e c.knows_its_steps-2.ensures.steady) seen c.requires.some c.if-found-eq0.true
+
+pub invariant_of-result : goal.invariant_of-result
+invariant_of-result g c =
+    let tested : c.test-found.new.self.trail ≡ Test c.args.most c.test-found.result ∷ c.consumer.inside.port.trail = ap (λ (p : PortValue). p.trail) c.test-found.ensures.trail in
+    let read : c.read_run.new.self.trail ≡ reads_from 0 c.read_run.new.commands c.test-found.new.self.trail = ap (λ (p : PortValue). p.trail) c.read_run.ensures.trail in
+    (search rules, subst IsCurrent (sym read) (still_current 0 c.read_run.new.commands c.test-found.new.self.trail (subst IsCurrent (sym tested) c.consumer.invariant)))
 
 pub returns-clause-again : goal.returns-clause-again
 returns-clause-again g c raw seen =

@@ -45,7 +45,7 @@ same_geometry c = ap (λ (r : Ring). r.geometry) (c.made_with.view_is ∙ ap (λ
 
 pub unwrap-end-requires : goal.unwrap-end-requires
 unwrap-end-requires c = is_there _ _ _ c.unpack.ensures.found
-    (subst (λ (g : ℕ). IsControlWord g c.word-word.result) (sym (same_geometry g c)) (is_control_word c.args.self c.args.senders.items (without_device c.args.consumer) _ _ _ _ (ended g c) (all_joined g c) c.requires.senders c.look.ensures.word _ (subst (λ (n : ℕ). get_elem? (slots_items c.close_with-closed.result.words) n ≡ some c.word-word.result) c.control_word.ensures c.word-word.ensures)))
+    (subst (λ (g : ℕ). IsControlWord g c.word-word.result) (sym (same_geometry c)) (is_control_word c.args.self c.args.senders.items (without_device c.args.consumer) _ _ _ _ (ended c) (all_joined c) c.requires.senders c.look.ensures.word _ (subst (λ (n : ℕ). get_elem? (slots_items c.close_with-closed.result.words) n ≡ some c.word-word.result) c.control_word.ensures c.word-word.ensures)))
 
 pub returns : goal.returns
 returns c =

@@ -1,5 +1,5 @@
-use Rattle.std.proofs.Common.{[], arith, ◌≡◌, ◌<◌, ◌≤◌, ℕ, suc, ◌∷◌, sym, ap, subst, ◌∙◌}
-use Rattle.ring.specs.Runs.{Consumer, Acknowledge, acknowledged_by, syncs_taken}
+use Rattle.std.proofs.Common.{[], arith, ◌≡◌, sym, ap, subst, ◌∙◌}
+use Rattle.ring.specs.Runs.{Consumer}
 use Rattle.ring.specs.Rings.{RingValue}
 use Rattle.ring.specs.table.{PortValue, Grew}
 use Rattle.ring.proofs.TableLemmas.Grown.{grew_step, grew_more}

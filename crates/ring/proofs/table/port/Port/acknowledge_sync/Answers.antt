@@ -1,4 +1,4 @@
-use Rattle.std.proofs.Common.{◌≡◌, ◌<◌, ◌≤◌, ℕ, suc, sym, ap, subst, ◌∙◌}
+use Rattle.std.proofs.Common.{◌<◌, ◌≤◌, ℕ, suc, sym, ap, subst, ◌∙◌}
 use Rattle.ring.specs.Runs.{acknowledged_by, syncs_taken}
 use Rattle.ring.proofs.table.port.Port.acknowledge_sync.Goals as goal
 
