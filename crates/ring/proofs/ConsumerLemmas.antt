@@ -2,3 +2,4 @@ pub mod Acknowledging
 pub mod Reads
 pub mod Outcomes
 pub mod ClosingSyncs
+pub mod Waited
