@@ -3,3 +3,4 @@ pub mod Reads
 pub mod Outcomes
 pub mod ClosingSyncs
 pub mod Settling
+pub mod Waited

@@ -1,3 +1,4 @@
+pub mod Overtaken
 pub mod Tries
 pub mod GoingOn
 pub mod InOrder

@@ -30,6 +30,7 @@ pub use lent::Lent;
 pub use pending::Pending;
 pub use pending_consumer::PendingConsumer;
 pub use pending_run::PendingRun;
+use progress::waiting_law;
 use qindex::Control;
 use ringcore::world_law;
 use std::marker::Model;
@@ -157,6 +158,8 @@ impl<D: Device> Consumer<D> {
         let found = consumer.port.test(ring, most);
         consumer.port.knows_its_steps();
         if found == 0 {
+            waiting_law();
+            consumer.port.knows_a_run();
             return TakenRun::Unwritten(consumer);
         }
         let Consumer {

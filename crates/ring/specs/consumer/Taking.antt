@@ -6,6 +6,7 @@ use Rattle.ring.specs.declared.consumer.taken.Taken.TheVariants as one
 use Rattle.ring.specs.declared.consumer.taken.TakenRun.{TakenRun}
 use Rattle.ring.specs.declared.consumer.taken.TakenRun.TheVariants.{Empty, Drained, Unwritten, Ready}
 use Rattle.ring.specs.Rings.{RingValue}
+use Rattle.progress.specs.Waiting.{IsHeldBy}
 use Rattle.ring.specs.table.{Grew}
 use Rattle.ring.specs.consumer.Consumers.{ConsumerValue}
 use Rattle.ring.specs.consumer.Pendings.{PendingValue, run_of, reads_from}
@@ -24,11 +25,13 @@ pub record TookNone {D : Type 0} (closed : Bool) (d e : ConsumerValue D) : Type 
   pub grew : Grew Consumer d.trail e.trail d.history e.history
 
 -- a look that found something reserved, and a test that found the head not handed over: in the run known
--- then, it isn't flipped
+-- then, it isn't flipped, and the open reservation of one sender holds it
 pub record TookUnwritten {D : Type 0} (most : ℕ) (d e : ConsumerValue D) : Type 0 where
   pub seen : Control
   pub something : seen.prod.number ≢ seen.cons.number
   pub unturned : (world e.history).flipped (head (world e.history)) ≡ false
+  pub holder : ℕ
+  pub held : IsHeldBy e.history (head (world e.history)) holder
   pub trail_is : record e { history = [] } ≡ with_trail (record d { history = [] }) (Test most 0 ∷ Look seen ∷ d.trail)
   pub grew : Grew Consumer d.trail e.trail d.history e.history
 

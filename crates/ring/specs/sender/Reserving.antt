@@ -4,6 +4,7 @@ use Rattle.ring.specs.Runs.{Raw, Control, Look, Won, Lost, Sender, Trail, Run, b
 use Rattle.qindex.specs.Positions.{size}
 use Rattle.qindex.specs.Indexes.{distance}
 use Rattle.ringcore.specs.machine.StepAnswers.{next_number}
+use Rattle.progress.specs.Contention.{WasOvertaken}
 use Rattle.ring.specs.table.{GrewBy}
 use Rattle.ring.specs.declared.sender.cause.Cause.{Cause}
 use Rattle.ring.specs.declared.sender.cause.Cause.TheVariants.{TooLong, Exhausted, Closed, Full, Contended}
@@ -125,7 +126,8 @@ pub record IsFull (body : List Raw) (closes : Bool) (s t : SenderValue) : Type 0
   pub looked : HasLookedAt seen s t
   pub full_then : HasNoRoom (ring_size s) (length_with closes body) (world t.history)
 
--- a look that found the ring open with room, and an exchange that found something else
+-- a look that found the ring open with room, and an exchange that found something else: in between a step of
+-- somebody else changed the control word
 pub record IsContended (body : List Raw) (closes : Bool) (s t : SenderValue) : Type 0 where
   pub fits : Fits body closes s
   pub left : HasBatchLeft s
@@ -134,6 +136,7 @@ pub record IsContended (body : List Raw) (closes : Bool) (s t : SenderValue) : T
   pub after : SenderValue
   pub looked : HasLookedAt seen s after
   pub lost : IsLost body closes seen after t
+  pub overtaken : WasOvertaken s.ring.made_with.geometry (Sender s.number) after.history t.history
 
 abbrev pub IsRefused : List Raw → Bool → SenderValue → Cause → SenderValue → Type 0
 IsRefused body closes s TooLong t = IsTooLong body closes s t

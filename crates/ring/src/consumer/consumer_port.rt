@@ -87,6 +87,13 @@ impl ConsumerPort {
         self.port.looks_tell();
     }
 
+    /// A witness that the run that it knows is one of its ring's. It does nothing.
+    pub(crate) fn knows_a_run(&self)
+        ensures { IsHistory self.now.ring.made_with self.now.who self.now.trail self.now.history }
+    {
+        self.port.trail_stands_in_a_run();
+    }
+
     pub(crate) fn test(&mut self, ring: &Ring, limit: u32) -> u32
         requires ring { self.old.ring ≡ ring.now }
         requires some { 1 ≤ limit }

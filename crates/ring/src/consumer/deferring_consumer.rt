@@ -16,6 +16,7 @@ use crate::ring::Ring;
 use crate::sender::Sender;
 use crate::summary::Summary;
 use cmdcodec::Raw;
+use progress::waiting_law;
 use qindex::Control;
 use ringcore::{counts_law, laws, world_law};
 use std::marker::Model;
@@ -145,6 +146,8 @@ impl<D: Device> DeferringConsumer<D> {
         }
         let found = self.port.test(ring, most);
         if found == 0 {
+            waiting_law();
+            self.port.knows_a_run();
             return Found::Unwritten;
         }
         self.port.read_run(ring, found, &mut self.commands);

@@ -1,5 +1,7 @@
-use Rattle.std.proofs.Common.{rules, ◌≡◌, Bool, true, false, ◌∷◌, sym, ap, subst, ◌∙◌}
-use Rattle.ring.specs.Runs.{Raw, Look, Test, IsSteady, Consumer}
+use Rattle.std.proofs.Common.{rules, ◌≡◌, ◌≢◌, Bool, true, false, ◌∷◌, sym, ap, subst, ◌∙◌}
+use Rattle.ring.specs.Runs.{Raw, Control, Look, Test, Run, IsSteady, Consumer, world, control}
+use Rattle.ring.specs.Rings.{RingValue}
+use Rattle.ring.proofs.ConsumerLemmas.Waited.{waited}
 use Rattle.ring.specs.table.{Grew, PortValue}
 use Rattle.ring.specs.consumer.{ConsumerValue, reads_from, HasSeen, TookNone, IsCurrent}
 use Rattle.ring.proofs.TableLemmas.Grown.{grew_step, grew_more}
@@ -63,10 +65,27 @@ returns-else-seen-clause-taken g c = took_none g (goal.at.returns-else-seen-clau
 pub returns-then-found-eq0-clause-taken : goal.returns-then-found-eq0-clause-taken
 returns-then-found-eq0-clause-taken g c =
     let at = goal.at.returns-then-found-eq0-clause-taken g c in
+    let something : c.look-seen.result.prod.number ≢ c.look-seen.result.cons.number = search rules in
+    let known : PortValue = c.consumer.inside.port in
+    let tested_is : PortValue = c.test-found.new.self in
+    let now_seen : ConsumerValue g.row.D.Denot = c.look-seen.new.self in
+    let ring : tested_is.ring ≡ c.args.self.ring = ap (λ (p : PortValue). p.ring) c.test-found.ensures.trail
+    ∙ ap (λ (d : ConsumerValue g.row.D.Denot). d.ring) c.consumer.view_is
+    ∙ ap (λ (d : ConsumerValue g.row.D.Denot). d.ring) c.look-seen.ensures.trail in
+    let older : known.history ≡ now_seen.history = ap (λ (d : ConsumerValue g.row.D.Denot). d.history) c.consumer.view_is in
+    let seen_is : c.look-seen.result ≡ control tested_is.ring.made_with.geometry (world known.history) =
+    c.look-seen.ensures.current
+    ∙ ap (λ (r : RingValue). control r.made_with.geometry (world now_seen.history)) (sym ring)
+    ∙ ap (λ (r : Run). control tested_is.ring.made_with.geometry (world r)) (sym older) in
+    let held = waited c.waiting_law.ensures.since tested_is.ring.made_with c.args.most c.test-found.result known.history tested_is.history c.if-found-eq0.true
+    c.test-found.ensures.history c.knows_a_run.ensures.stands.after.run_is
+    (subst (λ (x : Control). x.prod.number ≢ x.cons.number) seen_is something) in
     record {
       seen = c.look-seen.result;
-      something = search rules;
+      something = something;
       unturned = c.test-found.ensures.unturned c.if-found-eq0.true;
+      holder = held.0;
+      held = held.1;
       trail_is = search rules;
       grew = grew_more _ _ _ _ _ _ _ (looked g at.After-look-seen) (tested g at.After-test-found);
     }

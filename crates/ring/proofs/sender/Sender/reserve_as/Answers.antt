@@ -2,6 +2,7 @@ use Rattle.std.proofs.Common.{rules, sym, subst}
 use Rattle.ring.specs.Runs.{world}
 use Rattle.ring.specs.sender.{Cause, SenderValue, HasLookedAt, IsFull, IsRefused, TellsRoom, WentOn}
 use Rattle.ring.proofs.SenderLemmas.Tries.{looked_on, exchanged_opened, exchanged_back, full_then}
+use Rattle.ring.proofs.SenderLemmas.Overtaken.{refused_then}
 use Rattle.ring.proofs.sender.Sender.reserve_as.Goals as goal
 
 pub returns-then-seen-clause-given_back : goal.returns-then-seen-clause-given_back
@@ -30,6 +31,11 @@ returns-then-distance-many-clause-refused g c =
     } in
     subst (λ (q : Cause × SenderValue). IsRefused c.args.batch g.K.BatchKind.closes c.args.self q.0 q.1)
     (λ k. (sym c.refused-then-distance-many.ensures.cause k, sym c.refused-then-distance-many.ensures.sender k)) full
+
+pub returns-clause-refused : goal.returns-clause-refused
+returns-clause-refused g c =
+    let looked : HasLookedAt c.look-seen.result c.args.self c.look-seen.new.self = search rules in
+    refused_then c.args.batch g.K.BatchKind.closes c.look-seen.result c.args.self c.look-seen.new.self looked (search rules) (search rules) (search rules) c.exchange.result (search rules)
 
 pub returns-clause-opened : goal.returns-clause-opened
 returns-clause-opened g c =

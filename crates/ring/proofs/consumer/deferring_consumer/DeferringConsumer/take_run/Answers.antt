@@ -1,5 +1,7 @@
-use Rattle.std.proofs.Common.{rules, ◌≡◌, Bool, true, false, List, [], ◌∷◌, sym, ap, subst}
-use Rattle.ring.specs.Runs.{Raw, Trail, Look, Test, Consumer}
+use Rattle.std.proofs.Common.{rules, ◌≡◌, ◌≢◌, Bool, true, false, List, [], ◌∷◌, sym, ap, ◌∙◌, subst}
+use Rattle.ring.specs.Runs.{Raw, Control, Trail, Look, Test, Consumer, world, control}
+use Rattle.ring.specs.Rings.{RingValue}
+use Rattle.ring.proofs.ConsumerLemmas.Waited.{waited}
 use Rattle.ring.specs.table.{Grew, PortValue}
 use Rattle.ring.specs.consumer.{DeferringValue, reads_from, consumer_of, IsDeferring, IsPending, AreRead, TookNone}
 use Rattle.ring.proofs.TableLemmas.Grown.{grew_step, grew_more}
@@ -36,11 +38,22 @@ returns-then-get-clause-found g c = (took_none g (goal.at.returns-then-get-claus
 
 pub returns-then-found-eq0-clause-found : goal.returns-then-found-eq0-clause-found
 returns-then-found-eq0-clause-found g c =
-    let at = goal.at.returns-then-found-eq0-clause-found g c in (
+    let at = goal.at.returns-then-found-eq0-clause-found g c in
+    let something : c.look-seen.result.prod.number ≢ c.look-seen.result.cons.number = search rules in
+    let known : PortValue = c.look-seen.new.self in
+    let now : PortValue = c.test-found.new.self in
+    let ring : now.ring ≡ c.self.inside.port.ring = ap (λ (p : PortValue). p.ring) c.test-found.ensures.trail ∙ ap (λ (p : PortValue). p.ring) c.look-seen.ensures.trail in
+    let seen_is : c.look-seen.result ≡ control now.ring.made_with.geometry (world known.history) =
+    c.look-seen.ensures.current ∙ ap (λ (r : RingValue). control r.made_with.geometry (world known.history)) (sym ring) in
+    let held = waited c.waiting_law.ensures.since now.ring.made_with c.args.most c.test-found.result known.history now.history c.if-found-eq0.true
+    c.test-found.ensures.history c.knows_a_run.ensures.stands.after.run_is
+    (subst (λ (x : Control). x.prod.number ≢ x.cons.number) seen_is something) in (
       record {
         seen = c.look-seen.result;
-        something = search rules;
+        something = something;
         unturned = c.test-found.ensures.unturned c.if-found-eq0.true;
+        holder = held.0;
+        held = held.1;
         trail_is = search rules;
         grew = grew_more _ _ _ _ _ _ _ (looked g at.After-look-seen) (tested g at.After-test-found);
       },

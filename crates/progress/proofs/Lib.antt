@@ -1,0 +1,14 @@
+pub mod Controls
+pub mod Changing
+pub mod Contending
+pub mod Overtaken
+pub mod Summing
+pub mod Lonely
+pub mod Held
+pub mod Taking
+pub mod Acknowledging
+pub mod Drained
+pub mod Unhindered
+pub mod Holding
+pub mod Publishing
+pub mod Worked
