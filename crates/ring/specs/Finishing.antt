@@ -1,7 +1,8 @@
 -- What is known once all seats are joined.
-use Rattle.std.specs.Prelude.{◌≡◌, ℕ, ◌<◌, ◌≤◌, Bool, true, List, [], ◌∷◌, ◌++◌, map, length, Some, slice_get}
+use Rattle.std.specs.Prelude.{◌≡◌, ℕ, ◌+◌, ◌*◌, ◌<◌, ◌≤◌, Bool, true, List, [], ◌∷◌, ◌++◌, map, length, Some, slice_get}
 use Rattle.ring.specs.Runs.{Raw, sync_raw, Consumer, Sender, Ask, Run, Trail, trail_of, raws_by, world, Ring, IsRun, Batch, batches, joined, has_close, Begins, IsOrderedDelivery, OnlyOf, batches_of, own_batches}
 use Rattle.ring.specs.Runs.{IsApplied, SawDrained}
+use Rattle.progress.specs.Contention.{all_losses}
 use Rattle.ring.specs.table.{Participant, participant, WentOn}
 use Rattle.ring.specs.Rings.{RingValue}
 use Rattle.ring.specs.sender.{SenderValue}
@@ -74,7 +75,8 @@ AllToldOfSettled settled run s trail =
 
 -- One run has all trails. It is ordered delivery, of batches that are a merge of the senders'. The commands
 -- taken are a beginning of the merge, and the whole merge if as many were taken as reserved, which is so if
--- the consumer saw the ring closed and empty.
+-- the consumer saw the ring closed and empty. All exchanges that senders lost are paid for by what was reserved
+-- and taken.
 pub record IsEnd {D : Type 0} (ring : RingValue) (senders : List SenderValue) (consumer : ConsumerValue D) (end : SummaryValue) : Type 0 where
   pub run : Run
   pub run_of : IsRunOf ring senders consumer run
@@ -88,6 +90,7 @@ pub record IsEnd {D : Type 0} (ring : RingValue) (senders : List SenderValue) (c
   pub closed : end.closed ≡ has_close run
   pub whole : end.taken ≡ end.reserved → raws_by consumer.trail ≡ joined (batches run)
   pub drained : SawDrained consumer.trail → (end.closed ≡ true) × (end.taken ≡ end.reserved)
+  pub lost : all_losses run ≤ length senders * (end.reserved + end.taken + 1)
 
 -- The end of a consumer that acknowledges later: whatever a sender was told in that run is settled.
 pub record IsDeferredEnd {D : Type 0} (ring : RingValue) (senders : List SenderValue) (consumer : DeferringValue D) (end : SummaryValue) : Type 0 where

@@ -15,6 +15,7 @@ use crate::sender::{Sender, Tally};
 use crate::summary::Summary;
 use crate::table::{Deals, Gathers, Parameters, Participants, Port, RingRule};
 use atomic_table::{Seat, Shared, Table};
+use progress::contention_law;
 use qindex::{Control, Geometry, Index, control_words_say_their_control, indexes_tell_the_queue};
 use ringcore::{RingFault, batches_law, control_word, laws, ring_geometry, words, world_law};
 use std::alloc::{AllocError, Global};
@@ -119,6 +120,7 @@ impl Ring {
         laws::look();
         laws::consumer_trail();
         control_words_say_their_control();
+        contention_law();
         indexes_tell_the_queue();
         let Ring { table, made_with } = self;
         let taken = consumer.taken();

@@ -1,8 +1,9 @@
 -- What the joined seat shows.
-use Rattle.std.proofs.Common.{◌≡◌, ℕ, zero, suc, ◌+◌, ◌-◌, ◌<◌, List, [], ◌∷◌, ◌++◌, append-nil, map, length, length-append, Option, Some, None, refl, sym, ap, ◌∙◌, subst, append_assoc, arith}
+use Rattle.std.proofs.Common.{◌≡◌, ℕ, zero, suc, ◌+◌, ◌-◌, ◌*◌, ◌<◌, ◌≤◌, List, [], ◌∷◌, ◌++◌, append-nil, map, length, length-append, Option, Some, None, refl, sym, ap, ◌∙◌, subst, append_assoc, arith}
 use Rattle.std.specs.Prelude.{slice_get, slice_index, SomeIff}
 use Rattle.std.specs.Option.{IsSome}
 use Rattle.std.proofs.lemmas.List.{nil_from_length}
+use Rattle.std.proofs.lemmas.Nat.{mul-le}
 use mathlib.Core.Option.{some, some-injective, some-ne-none}
 use lib.ListN.{get_elem?}
 use Rattle.ring.specs.table.{Final, Seen, Participant, participant, WentOn, IsIn, HasTrails, RuleHolds}
@@ -17,6 +18,7 @@ use Rattle.ring.specs.Rings.{RingValue}
 use Rattle.ring.specs.sender.{SenderValue}
 use Rattle.ring.specs.consumer.{ConsumerValue, taken_of}
 use Rattle.ring.specs.Finishing.{AreAll, sender_in, all_in, IsRunOf, IsEnd}
+use Rattle.progress.specs.Contention.{all_losses, changes, ChangesAreFew, AllLossesArePaidFor}
 use Rattle.ring.proofs.Lists.{at_end}
 use Rattle.ring.proofs.FinishLemmas.Told.{was_told}
 
@@ -94,10 +96,10 @@ module _ {D : Type 0} (ring : RingValue) (senders : List SenderValue) (consumer 
   pub end_is : EveryRun TakenInOrder → EveryRun NumberedInOrder → EveryRun NoneAfterClose → EveryRun ToldWhenCompleted → NeverMoreThanFull → EveryRun ToldOfAllUpTo
       → EveryRun SendersOrderIsKept → EveryRun AllOfBatches → EveryRun ClosedByAClose → BatchesHaveOwners
       → EveryRun TellsTheHead → EveryRun TellsWhatIsAdvanced → EveryRun TellsTheOutcomes → RawsAreCounted → DrainedIsTheEnd
-      → WordsSayTheirControl → QueuesHaveAControl → IndexesTellTheQueue
+      → WordsSayTheirControl → QueuesHaveAControl → IndexesTellTheQueue → ChangesAreFew → AllLossesArePaidFor
       → (word taken far : ℕ) (c : Control) → get_elem? ws 0 ≡ some word → c ≡ control_in key.geometry word → taken ≡ taken_by consumer.trail → far ≡ distance c.prod c.cons
       → IsEnd ring senders consumer record { reserved = taken + far; taken = taken; closed = c.closed }
-  end_is in_order numbered none_after told within told_of_all kept all_of closed_by owners tells_head tells_raws tells_outcomes counted the_end said queue tells word taken far c at c_is taken_is far_is =
+  end_is in_order numbered none_after told within told_of_all kept all_of closed_by owners tells_head tells_raws tells_outcomes counted the_end said queue tells few paid word taken far c at c_is taken_is far_is =
       let w = world run in let g : ℕ = key.geometry in
       let i = within key run ok in
       let good : IsControl g (control g w) = queue g (tail w) (head w) w.closed k.after.geometry_is i.behind i.within in
@@ -128,5 +130,10 @@ module _ {D : Type 0} (ring : RingValue) (senders : List SenderValue) (consumer 
             let all_taken = the_end key run k.after.geometry_is ok (subst SawDrained (sym device.0.trail) saw) in
             let agree : head w ≡ tail w = all_taken.whole in
             (ap (λ (x : Control). x.closed) same ∙ all_taken.closed, omega (arith, agree, h, t, reserved_is));
+        lost =
+            let each : all_losses run ≤ key.senders * changes run = paid key key.senders run k.only ok in
+            let all_changes : changes run ≤ taken + far + taken + 1 = (let n = few key run ok in omega (arith, n, t, h, reserved_is)) in
+            let many : key.senders * changes run ≤ key.senders * (taken + far + taken + 1) = mul-le _ _ _ _ (omega arith) all_changes in
+            subst (λ (n : ℕ). all_losses run ≤ n * (taken + far + taken + 1)) (sym all.many) (omega (arith, each, many));
         whole = λ agree. beginning_is_whole (raws_by consumer.trail) (joined (batches run)) begins (sym many ∙ agree ∙ reserved_is);
       }

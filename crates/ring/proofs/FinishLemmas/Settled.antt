@@ -149,6 +149,7 @@ with_device ring senders p lent end is = record {
   closed = is.closed;
   whole = is.whole;
   drained = is.drained;
+  lost = is.lost;
 }
 
 pub deferred_end : {D : Type 0} → SyncsTellTheirBatch → EveryRun TellsWhatIsAdvanced → EveryRun TellsTheNumbers → TookSyncsInOrder → (ring : RingValue) (senders : List SenderValue) (p : PortValue) (lent : Option D) (raws : List Raw) (settled : ℕ)

@@ -56,5 +56,5 @@ returns c =
     c.world_law.ensures.taken c.world_law.ensures.numbered c.world_law.ensures.closed c.world_law.ensures.told c.world_law.ensures.within c.world_law.ensures.told_of_all
     c.batches_law.ensures.senders_order c.batches_law.ensures.all c.batches_law.ensures.closed c.batches_law.ensures.owners
     c.consumer_trail.ensures.head c.consumer_trail.ensures.advanced c.consumer_trail.ensures.taken c.consumer_trail.ensures.count c.consumer_trail.ensures.drained
-    c.control_words_say_their_control.ensures.said c.indexes_tell_the_queue.ensures.control c.indexes_tell_the_queue.ensures.queue
+    c.control_words_say_their_control.ensures.said c.indexes_tell_the_queue.ensures.control c.indexes_tell_the_queue.ensures.queue c.contention_law.ensures.few c.contention_law.ensures.all
     _ _ _ c.unwrap-end.result (subst (λ (n : ℕ). get_elem? (slots_items d.close_with-closed.result.words) n ≡ some c.word-word.result) c.control_word.ensures c.word-word.ensures) found c.taken-taken.ensures.value (c.from.ensures ∙ c.distance.ensures.value)
