@@ -1,15 +1,18 @@
 -- What a take of a kept run may not say, and which CMD_SYNCs no sender closes a batch with.
-use Rattle.std.proofs.Common.{◌≡◌, ℕ, Bool, true, false, List, [], ◌∷◌, refl, ap, arith}
+use Rattle.std.proofs.Common.{◌≡◌, ℕ, Bool, true, false, List, [], ◌∷◌, None, refl, sym, ap, ◌∙◌, arith}
 use Rattle.std.proofs.lemmas.Option.{same_Some}
 use Rattle.cmdcodec.specs.declared.raw.Raw.{Raw}
 use Rattle.cmdcodec.specs.ClosingSync.{cell_address}
 use Rattle.qindex.specs.declared.control.Control.{Control}
-use Rattle.ringcore.specs.declared.world.event.Event.TheVariants.{Look}
-use Rattle.ringcore.specs.world.Trails.{Trail, looked}
+use Rattle.ringcore.specs.declared.world.event.Who.TheVariants.{Sender}
+use Rattle.ringcore.specs.declared.world.event.Event.TheVariants.{Look, Won}
+use Rattle.ringcore.specs.world.Trails.{Trail, Run, looked}
+use Rattle.ringcore.specs.world.World.{Item}
 use Rattle.ring.specs.declared.consumer.taken.Found.TheVariants.{Empty, Drained, Unwritten, Ready}
 use Rattle.ring.specs.consumer.Consumers.{ConsumerValue}
 use Rattle.ring.specs.consumer.Pendings.{PendingValue}
 use Rattle.ring.specs.consumer.Completing.{IsClosingSync, AreClosingSyncs}
+use Rattle.ring.specs.consumer.Taking.{TookUnwritten}
 use Rattle.ring.specs.consumer.PendingConsumers.{HasFoundRun, with_none}
 use Rattle.ringcore_tests.proofs.WorkedCases.{x, shows}
 
@@ -31,6 +34,16 @@ pending_is_not_drained old new it = nothing_is_none x [] it.1
 
 pub pending_is_not_unwritten : {D : Type 0} (old new : ConsumerValue D) → ¬ HasFoundRun 1 (with_none old) (pending new (x ∷ [])) Unwritten
 pending_is_not_unwritten old new it = nothing_is_none x [] it.1
+
+-- a run in which sender 3 reserved a command
+abbrev of_three : Run
+of_three = (Sender 3, Won (x ∷ []) None) ∷ []
+
+-- Who is waited for reserved the command at the head.
+pub waited_for_who_reserved : {D : Type 0} (d e : ConsumerValue D) (t : TookUnwritten 1 d (record e { history = of_three })) → t.holder ≡ 3
+waited_for_who_reserved d e t =
+    let it : Item = record { sender = 3; number = None; place = 0; raw = x } in
+    sym (ap (λ (i : Item). i.sender) (same_Some it t.held.item t.held.there) ∙ t.held.sender_is)
 
 -- Of at most one command two aren't found.
 pub two_are_not_one : {D : Type 0} (old new : ConsumerValue D) → ¬ HasFoundRun 1 (with_none old) (pending new (x ∷ x ∷ [])) Ready
