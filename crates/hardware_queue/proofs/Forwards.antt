@@ -27,9 +27,9 @@ use Rattle.hardware_queue.specs.declared.state.QueueState.{QueueState}
 use Rattle.hardware_queue.specs.declared.state.QueueState.TheVariants as state
 use Rattle.hardware_queue.specs.Queues.{QueueValue}
 use Rattle.hardware_queue.specs.Owners.{IsStoppedState, IsStoppedHere, HasPushed, room}
-use Rattle.hardware_queue.specs.Flights.{hardware_form, passed_as, passed_on, passed_for, HasConsumedAll, IsPassing, IsInFlight, IsOtherAt, NoSyncIsLost, BeginsLegal, in_flight}
+use Rattle.hardware_queue.specs.Flights.{hardware_form, passed_as, passed_on, passed_for, HasConsumedAll, IsPassing, IsOtherAt, NoSyncIsLost, BeginsLegal}
+use Rattle.hardware_queue.specs.Kept.{IsInFlight, in_flight, IsForwarder}
 use Rattle.hardware_queue.specs.Steps.{ForwarderValue, HasTaken, HasServed, HasForwarded, room_for}
-use Rattle.hardware_queue.specs.Forwarders.{IsForwarder}
 use Rattle.hardware_queue.proofs.PassLemmas.{take_more}
 
 -- ---- what the hardware gets

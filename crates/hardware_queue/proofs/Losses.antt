@@ -16,8 +16,8 @@ use Rattle.hardware_queue.specs.declared.state.QueueState.{QueueState}
 use Rattle.hardware_queue.specs.declared.state.QueueState.TheVariants as state
 use Rattle.hardware_queue.specs.Queues.{QueueValue}
 use Rattle.hardware_queue.specs.Owners.{HasAcknowledged, IsAcknowledged, IsStoppedState}
-use Rattle.hardware_queue.specs.Flights.{IsInFlight}
-use Rattle.hardware_queue.specs.Forwarders.{IsForwarder, refusal_at, refusal_to_replace, lost_by, IsStoppedAt}
+use Rattle.hardware_queue.specs.Kept.{IsInFlight, IsForwarder}
+use Rattle.hardware_queue.specs.Forwarders.{refusal_at, refusal_to_replace, lost_by, IsStoppedAt}
 
 no_sync : (error : CommandError) (sync : Bool) → refusal_to_replace error sync ≡ None → sync ≡ false
 no_sync Illegal true e = absurd (cc)

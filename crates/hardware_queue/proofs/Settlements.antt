@@ -20,7 +20,8 @@ use Rattle.hardware_queue.specs.declared.progress.Progress.{Progress}
 use Rattle.hardware_queue.specs.declared.progress.Progress.TheVariants as progress
 use Rattle.hardware_queue.specs.Queues.{QueueValue}
 use Rattle.hardware_queue.specs.Owners.{IsStoppedState, HasConsumed, HasPolled, IsSameButSeen}
-use Rattle.hardware_queue.specs.Flights.{count_passed, passed_for, HasConsumedAll, IsInFlight, IsBeingSettled, NoSyncIsLost, BeginsLegal, in_flight}
+use Rattle.hardware_queue.specs.Flights.{count_passed, passed_for, HasConsumedAll, NoSyncIsLost, BeginsLegal}
+use Rattle.hardware_queue.specs.Kept.{IsInFlight, IsBeingSettled, in_flight}
 use Rattle.hardware_queue.specs.Steps.{HasSettled, HasSettledOne, HasSettledAll}
 use Rattle.hardware_queue.proofs.Forwards.{passed_for-append, passed_applied, passed_replaced, passed_in_two, in_two, legal_of, syncs_kept}
 

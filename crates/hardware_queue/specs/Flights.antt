@@ -1,6 +1,5 @@
 -- What the hardware gets for the commands of a ring, and when a command of the ring may be completed.
-use Rattle.std.specs.Prelude.{◌≡◌, ℕ, ◌+◌, ◌≤◌, List, [], ◌∷◌, ◌++◌, length, map, take, Option, Some, None, is_none, slice_get, Contains, false, if◌then◌else◌}
-use Rattle.circular_buffer.specs.Buffer.{Buffer}
+use Rattle.std.specs.Prelude.{◌≡◌, ℕ, ◌≤◌, List, [], ◌∷◌, ◌++◌, length, map, take, Option, Some, None, is_none, slice_get, Contains, false, if◌then◌else◌}
 use Rattle.cmdcodec.specs.declared.raw.Raw.{Raw}
 use Rattle.cmdcodec.specs.Opcodes.{is_sync}
 use Rattle.cmdcodec.specs.Legality.{first_ill}
@@ -9,14 +8,9 @@ use Rattle.ringcore.specs.declared.world.event.Outcome.TheVariants.{Applied, Rep
 use Rattle.ringcore.specs.world.World.{Taken, taken_as, outcome_of}
 use Rattle.ringcore.specs.world.Trails.{Run}
 use Rattle.ringcore.specs.world.Delivery.{batches, joined, Begins}
-use Rattle.qindex.specs.Positions.{size}
-use Rattle.ring.specs.consumer.Completing.{HasOutcome, taken_of}
-use Rattle.ring.specs.consumer.Deferring.{DeferringValue, settled_raws, unsettled_raws}
+use Rattle.ring.specs.consumer.Completing.{HasOutcome}
 use Rattle.ring.specs.consumer.PendingConsumers.{IsFirst}
-use Rattle.hardware_queue.specs.declared.flight.InFlight.{InFlight}
-use Rattle.hardware_queue.specs.declared.state.QueueState.{QueueState}
 use Rattle.hardware_queue.specs.Queues.{QueueValue, plain_sync}
-use Rattle.hardware_queue.specs.Owners.{IsStoppedState}
 
 -- A CMD_SYNC asks for no signal: the cell that it writes to is the ring's own. All others stay as they are.
 abbrev pub hardware_form : Raw → Raw
@@ -68,26 +62,6 @@ IsConsumed q settled = q.consumed ≡ length (passed_for settled)
 -- The first of these, if any, is for the hardware.
 abbrev pub BeginsLegal : List Raw → Type 0
 BeginsLegal raws = (raw : Raw) → IsFirst raw raws → first_ill raw ≡ None
-
--- a command with its outcome in the ring
-abbrev pub in_flight : Raw → InFlight
-in_flight raw = record { raw = raw; outcome = outcome_of raw }
-
--- All that was taken was shown, as far as it is legal. What isn't settled is kept, with room for as many as the
--- hardware's queue has slots. At a stop the first of it is the command at which the hardware stopped.
-pub record IsInFlight {D : Type 0} (q : QueueValue) (found : QueueState) (consumer : DeferringValue D) (kept : Buffer InFlight) : Type 0 where
-  pub shown : q.shown ≡ passed_on (taken_of consumer.consumer.trail)
-  pub consumed : IsConsumed q (settled_raws consumer)
-  pub kept_are : kept.items ≡ map in_flight (unsettled_raws consumer)
-  pub capacity : kept.capacity ≡ size q.geometry
-  pub stopped : IsStoppedState found → BeginsLegal (unsettled_raws consumer)
-
--- The same while it is settled: `left` more were consumed than are settled.
-pub record IsBeingSettled {D : Type 0} (q : QueueValue) (consumer : DeferringValue D) (kept : Buffer InFlight) (left : ℕ) : Type 0 where
-  pub shown : q.shown ≡ passed_on (taken_of consumer.consumer.trail)
-  pub consumed : q.consumed ≡ length (passed_for (settled_raws consumer)) + left
-  pub kept_are : kept.items ≡ map in_flight (unsettled_raws consumer)
-  pub capacity : kept.capacity ≡ size q.geometry
 
 -- ---- the order
 

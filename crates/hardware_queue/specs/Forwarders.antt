@@ -4,14 +4,11 @@ use Rattle.cmdcodec.specs.declared.raw.Raw.{Raw}
 use Rattle.cmdcodec.specs.Opcodes.{is_sync}
 use Rattle.ringcore.specs.declared.world.event.Event.TheVariants.{Ask}
 use Rattle.ringcore.specs.world.Trails.{Run, Trail}
-use Rattle.circular_buffer.specs.Buffer.{Buffer}
-use Rattle.ring.specs.consumer.Deferring.{DeferringValue}
 use Rattle.ring.specs.Rings.{RingValue}
 use Rattle.ring.specs.sender.Senders.{SenderValue}
 use Rattle.ring.specs.Finishing.{SummaryValue, WasTold, IsDeferredEnd, reserved_ahead}
 use Rattle.hardware_queue.specs.declared.command_error.CommandError.{CommandError}
 use Rattle.hardware_queue.specs.declared.command_error.CommandError.TheVariants.{Illegal}
-use Rattle.hardware_queue.specs.declared.flight.InFlight.{InFlight}
 use Rattle.hardware_queue.specs.declared.forwarded.Stopped.{Stopped}
 use Rattle.hardware_queue.specs.declared.remedy.Remedy.{Remedy}
 use Rattle.hardware_queue.specs.declared.remedy.Remedy.TheVariants.{Retry, Replace}
@@ -21,18 +18,12 @@ use Rattle.hardware_queue.specs.declared.state.QueueState.{QueueState}
 use Rattle.hardware_queue.specs.declared.state.QueueState.TheVariants as state
 use Rattle.hardware_queue.specs.Queues.{QueueValue, MayBeUnanswered}
 use Rattle.hardware_queue.specs.Owners.{HasAcknowledged, IsStoppedState}
-use Rattle.hardware_queue.specs.Flights.{passed_for, IsInFlight, IsInOrder, NoSyncIsLost}
+use Rattle.hardware_queue.specs.Flights.{passed_for, IsInOrder}
 use Rattle.hardware_queue.specs.Steps.{ForwarderValue}
 
 -- how many commands were lost at the hardware, 2^64 - 1 if more
 abbrev pub count_lost : QueueValue → ℕ
 count_lost q = min (length q.lost) (2 ^ 64 - 1)
-
--- What it keeps: what is in flight, that no CMD_SYNC was written over, and how many commands were.
-pub record IsForwarder {D : Type 0} (q : QueueValue) (found : QueueState) (consumer : DeferringValue D) (kept : Buffer InFlight) (lost : ℕ) : Type 0 where
-  pub in_flight : IsInFlight q found consumer kept
-  pub syncs : NoSyncIsLost q
-  pub lost_are : lost ≡ count_lost q
 
 -- ---- a stop
 

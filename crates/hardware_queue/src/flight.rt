@@ -3,7 +3,7 @@ ghost use Rattle.std.specs.Prelude.{◌≡◌, ◌<◌, ◌≤◌, ◌+◌, ◌-
 ghost use Rattle.circular_buffer.specs.Buffer.{buffer};
 ghost use Rattle.ringcore.specs.declared.world.event.Outcome.TheVariants.{Applied};
 ghost use Rattle.ring.specs.consumer.Completing.{HasOutcome};
-ghost use Rattle.hardware_queue.specs.Flights.{in_flight};
+ghost use Rattle.hardware_queue.specs.Kept.{in_flight};
 
 use circular_buffer::HeapCircularBuffer;
 use cmdcodec::Raw;

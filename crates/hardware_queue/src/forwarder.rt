@@ -1,6 +1,7 @@
 //! The forwarder: the consumer of a ring with the hardware that carries its commands out.
-ghost use Rattle.std.specs.Prelude.{◌≡◌, ℕ, [], length, OnOk, OnErr, IfOk, IfErr, IfSome, IfNone};
+ghost use Rattle.std.specs.Prelude.{◌≡◌, ℕ, [], length, map, OnOk, OnErr, IfOk, IfErr, IfSome, IfNone};
 ghost use Rattle.ringcore.specs.declared.world.event.Who.TheVariants.{Consumer as ConsumerOf, Sender as SenderOf};
+ghost use Rattle.ringcore.specs.world.World.{taken_as};
 ghost use Rattle.ring.specs.table.Rule.{WentOn};
 ghost use Rattle.ring.specs.table.Histories.{IsHistory, Grew};
 ghost use Rattle.ring.specs.consumer.Completing.{taken_of};
@@ -8,7 +9,7 @@ ghost use Rattle.ring.specs.consumer.Deferring.{deferring, settled_raws, unsettl
 ghost use Rattle.ring.specs.Finishing.{AreAll};
 ghost use Rattle.hardware_queue.specs.declared.state.QueueState.TheVariants.{Running, Broken};
 ghost use Rattle.hardware_queue.specs.Owners.{HasPolled, IsBroken, IsStoppedState, state_after};
-ghost use Rattle.hardware_queue.specs.Flights.{IsInOrder};
+ghost use Rattle.hardware_queue.specs.Flights.{HasConsumedAll, IsInOrder};
 ghost use Rattle.hardware_queue.specs.Steps.{HasForwarded, HasSettledAt};
 ghost use Rattle.hardware_queue.specs.Forwarders.{IsStoppedAt, IsRefused, HasRemedied, WasToldAllTruly, IsForwarderEnd, count_lost};
 
@@ -40,7 +41,7 @@ pub struct Forwarder<Q: CommandQueue> {
 
 impl<Q: CommandQueue> Model for Forwarder<Q> {
     ghost use Rattle.hardware_queue.specs.Steps.{ForwarderValue};
-    ghost use Rattle.hardware_queue.specs.Forwarders.{IsForwarder};
+    ghost use Rattle.hardware_queue.specs.Kept.{IsForwarder};
 
     ghost Value = { ForwarderValue Q };
 
@@ -83,6 +84,8 @@ impl<Q: CommandQueue> Forwarder<Q> {
         ensures broken { (word : ℕ) → self.old.owner.state ≡ Broken word → result ≡ Forwarded.Broken word }
         ensures state { self.new.owner.state ≡ self.old.owner.state }
         ensures settled { settled_raws self.new.consumer ≡ settled_raws self.old.consumer }
+        ensures consumed { HasConsumedAll (Q.queue self.new.owner.queue)
+            (map taken_as (settled_raws self.new.consumer)) }
         ensures order { IsInOrder (Q.queue self.new.owner.queue) self.new.consumer.consumer.history }
         ensures lost { (Q.queue self.new.owner.queue).lost ≡ (Q.queue self.old.owner.queue).lost }
         ensures repeated { (Q.queue self.new.owner.queue).repeated ≡ (Q.queue self.old.owner.queue).repeated }
@@ -110,6 +113,8 @@ impl<Q: CommandQueue> Forwarder<Q> {
             → (result ≡ Progress.Broken word) × (self.new ≡ self.old) }
         ensures settled { HasSettledAt result (Q.queue self.new.owner.queue)
             self.old.consumer self.new.consumer }
+        ensures consumed { HasConsumedAll (Q.queue self.new.owner.queue)
+            (map taken_as (settled_raws self.new.consumer)) }
         ensures order { IsInOrder (Q.queue self.new.owner.queue) self.new.consumer.consumer.history }
         ensures lost { (Q.queue self.new.owner.queue).lost ≡ (Q.queue self.old.owner.queue).lost }
         ensures repeated { (Q.queue self.new.owner.queue).repeated ≡ (Q.queue self.old.owner.queue).repeated }

@@ -3,7 +3,8 @@ ghost use Rattle.std.specs.Prelude.{◌≡◌, ◌≤◌, ◌+◌, ℕ, length};
 ghost use Rattle.ringcore.specs.declared.world.event.Who.TheVariants.{Consumer as ConsumerOf};
 ghost use Rattle.ring.specs.table.Histories.{Grew};
 ghost use Rattle.ring.specs.consumer.Deferring.{settled_raws, pending_of};
-ghost use Rattle.hardware_queue.specs.Flights.{IsInFlight, NoSyncIsLost};
+ghost use Rattle.hardware_queue.specs.Flights.{NoSyncIsLost};
+ghost use Rattle.hardware_queue.specs.Kept.{IsInFlight};
 ghost use Rattle.hardware_queue.specs.Steps.{HasForwarded, IsDone};
 ghost use Rattle.hardware_queue.specs.declared.state.QueueState.TheVariants.{Broken};
 

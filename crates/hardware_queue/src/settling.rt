@@ -5,7 +5,8 @@ ghost use Rattle.ring.specs.table.Histories.{Grew};
 ghost use Rattle.ring.specs.consumer.Deferring.{unsettled_raws};
 ghost use Rattle.hardware_queue.specs.declared.state.QueueState.TheVariants.{Broken};
 ghost use Rattle.hardware_queue.specs.Owners.{HasPolled, IsBroken, state_after};
-ghost use Rattle.hardware_queue.specs.Flights.{count_passed, BeginsLegal, IsBeingSettled, IsInFlight, NoSyncIsLost};
+ghost use Rattle.hardware_queue.specs.Flights.{count_passed, BeginsLegal, NoSyncIsLost};
+ghost use Rattle.hardware_queue.specs.Kept.{IsBeingSettled, IsInFlight};
 ghost use Rattle.hardware_queue.specs.Steps.{HasSettled, HasSettledOne, HasSettledAll, HasSettledAt};
 
 use crate::command_queue::CommandQueue;

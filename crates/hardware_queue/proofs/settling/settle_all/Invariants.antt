@@ -3,7 +3,7 @@ use Rattle.cmdcodec.specs.declared.raw.Raw.{Raw}
 use Rattle.ringcore.specs.declared.world.event.Who.TheVariants.{Consumer}
 use Rattle.ring.specs.table.Histories.{Grew}
 use Rattle.ring.specs.consumer.Deferring.{unsettled_raws}
-use Rattle.hardware_queue.specs.Flights.{IsBeingSettled}
+use Rattle.hardware_queue.specs.Kept.{IsBeingSettled}
 use Rattle.hardware_queue.specs.Steps.{HasSettled}
 use Rattle.hardware_queue.proofs.settling.settle_all.Given as goal
 

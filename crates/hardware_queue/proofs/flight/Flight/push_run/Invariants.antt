@@ -1,7 +1,7 @@
 use Rattle.std.proofs.Common.{◌≡◌, ◌++◌, map}
 use Rattle.std.specs.Prelude.{take}
 use Rattle.circular_buffer.specs.Buffer.{buffer}
-use Rattle.hardware_queue.specs.Flights.{in_flight}
+use Rattle.hardware_queue.specs.Kept.{in_flight}
 use Rattle.hardware_queue.proofs.flight.Flight.push_run.Given as goal
 
 abbrev pub invariant-loop-place : goal.invariant-loop-place
