@@ -3,3 +3,4 @@ pub mod Owners
 pub mod Flights
 pub mod Steps
 pub mod Forwarders
+pub mod Kept

@@ -3,4 +3,4 @@ use Rattle.hardware_queue.proofs.forwarder.Forwarder.new.Goals as goal
 
 pub invariant_of-result : goal.invariant_of-result
 invariant_of-result g c =
-    forwarder_begins (g.Q.CommandQueue.queue c.args.owner.queue) _ _ _ c.requires.taken c.requires.shown c.requires.consumed c.requires.lost c.new.ensures
+    forwarder_begins (g.Q.CommandQueue.queue c.args.owner.queue) _ c.args.consumer _ _ _ c.new-2.ensures c.requires.taken c.requires.shown c.requires.consumed c.requires.lost c.slots.ensures.value c.in_ok-flight.ensures
