@@ -1,7 +1,7 @@
 //! Which batches lost commands.
 ghost use Rattle.std.specs.Prelude.{◌≡◌, ◌∷◌, ◌<◌, suc, [], IfOk};
 ghost use Rattle.batch_outcomes.specs.declared.settled.Settled.TheVariants.{Command, Sync};
-ghost use Rattle.batch_outcomes.specs.Settled.{last_of};
+ghost use Rattle.batch_outcomes.specs.Settled.{last_of, AreNumbered};
 ghost use Rattle.batch_outcomes.specs.Outcomes.{IsOutcome, lost_then};
 
 use crate::batch_outcome::BatchOutcome;
@@ -67,6 +67,13 @@ impl Outcomes {
         *told = told.then(number, self.lost);
         self.lost = 0;
         self.settled.add(Settled::Sync(sender, number));
+    }
+
+    /// A witness that the CMD_SYNCs of each sender are numbered. It does nothing.
+    pub fn are_numbered(&self)
+        ensures { AreNumbered self.now.settled }
+    {
+        let _ = &self.lost;
     }
 
     /// Returns what became of the commands between a sender's CMD_SYNC with this number and the CMD_SYNC ahead of it.

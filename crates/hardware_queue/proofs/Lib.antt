@@ -7,3 +7,4 @@ pub mod Settlements
 pub mod Orders
 pub mod Losses
 pub mod Telling
+pub mod FateLemmas

@@ -26,7 +26,7 @@ no_sync Abort sync e = absurd (cc)
 no_sync AtcInvSync sync e = absurd (cc)
 no_sync (Reserved number) sync e = absurd (cc)
 
-first_or_rest : (x y : ℕ) (xs : List ℕ) → Contains (x ∷ xs) y → (x ≡ y) ⊎ Contains xs y
+pub first_or_rest : (x y : ℕ) (xs : List ℕ) → Contains (x ∷ xs) y → (x ≡ y) ⊎ Contains xs y
 first_or_rest x y xs (zero, inside, is) = inl (cc)
 first_or_rest x y xs (suc k, inside, is) = inr (k, omega (arith, inside), is)
 

@@ -49,7 +49,7 @@ count_by : (o : Outcome) (raw : Raw) → o ≡ outcome_of raw → length (passed
 count_by Applied raw is = ap (λ (l : List Raw). length l) (passed_applied raw [] is)
 count_by Replaced raw is = ap (λ (l : List Raw). length l) (passed_replaced raw [] is)
 
-settled_more : (settled : List Raw) (raw : Raw) (o : Outcome) → o ≡ outcome_of raw → length (passed_for (settled ++ raw ∷ [])) ≡ length (passed_for settled) + count_passed o
+pub settled_more : (settled : List Raw) (raw : Raw) (o : Outcome) → o ≡ outcome_of raw → length (passed_for (settled ++ raw ∷ [])) ≡ length (passed_for settled) + count_passed o
 settled_more settled raw o is =
     ap (λ (l : List Raw). length l) (passed_for-append settled (raw ∷ []))
     ∙ length-append (passed_for settled) (passed_for (raw ∷ []))

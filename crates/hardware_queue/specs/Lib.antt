@@ -4,3 +4,4 @@ pub mod Flights
 pub mod Steps
 pub mod Forwarders
 pub mod Kept
+pub mod Fates

@@ -1,5 +1,5 @@
 //! The forwarder: the consumer of a ring with the hardware that carries its commands out.
-ghost use Rattle.std.specs.Prelude.{◌≡◌, ℕ, [], length, map, OnOk, OnErr, IfOk, IfErr, IfSome, IfNone};
+ghost use Rattle.std.specs.Prelude.{◌≡◌, ◌<◌, ℕ, [], length, map, OnOk, OnErr, IfOk, IfErr, IfSome, IfNone};
 ghost use Rattle.ringcore.specs.declared.world.event.Who.TheVariants.{Consumer as ConsumerOf, Sender as SenderOf};
 ghost use Rattle.ringcore.specs.world.World.{taken_as};
 ghost use Rattle.ring.specs.table.Rule.{WentOn};
@@ -9,11 +9,14 @@ ghost use Rattle.ring.specs.consumer.Deferring.{deferring, settled_raws, unsettl
 ghost use Rattle.ring.specs.Finishing.{AreAll};
 ghost use Rattle.hardware_queue.specs.declared.state.QueueState.TheVariants.{Running, Broken};
 ghost use Rattle.hardware_queue.specs.Owners.{HasPolled, IsBroken, IsStoppedState, state_after};
+ghost use Rattle.hardware_queue.specs.Fates.{IsOutcomeOf, IsWhole};
+ghost use Rattle.batch_outcomes.specs.declared.batch_outcome.BatchOutcome.TheVariants.{Complete};
 ghost use Rattle.hardware_queue.specs.Flights.{HasConsumedAll, IsInOrder};
 ghost use Rattle.hardware_queue.specs.Steps.{HasForwarded, HasSettledAt};
 ghost use Rattle.hardware_queue.specs.Forwarders.{IsStoppedAt, IsRefused, HasRemedied, WasToldAllTruly, IsForwarderEnd, count_lost};
 
 use crate::command_queue::CommandQueue;
+use crate::fates::Fates;
 use crate::flight::Flight;
 use crate::forwarded::{Forwarded, Stopped};
 use crate::forwarding::forward_with;
@@ -23,8 +26,9 @@ use crate::progress::Progress;
 use crate::remedy::{Remedy, RemedyFault};
 use crate::settling::poll_with;
 use crate::state::QueueState;
-use ring::{Consumer, DeferringConsumer, Ring, Sender, Summary};
-use ringcore::laws;
+use batch_outcomes::BatchOutcome;
+use ring::{Consumer, DeferringConsumer, Receipt, Ring, Sender, Summary};
+use ringcore::{counts_law, laws};
 use std::alloc::{AllocError, Global};
 use std::marker::Model;
 
@@ -35,6 +39,8 @@ pub struct Forwarder<Q: CommandQueue> {
     owner: Owner<Q>,
     /// What was taken and isn't settled.
     flight: Flight,
+    /// What became of what is settled.
+    fates: Fates,
     /// How many commands were written over.
     lost: u64,
 }
@@ -42,24 +48,29 @@ pub struct Forwarder<Q: CommandQueue> {
 impl<Q: CommandQueue> Model for Forwarder<Q> {
     ghost use Rattle.hardware_queue.specs.Steps.{ForwarderValue};
     ghost use Rattle.hardware_queue.specs.Kept.{IsForwarder};
+    ghost use Rattle.hardware_queue.specs.Fates.{IsKnown};
+    ghost use Rattle.ring.specs.consumer.Deferring.{settled_raws};
 
     ghost Value = { ForwarderValue Q };
 
     ghost view = { λ f. record { consumer = f.consumer; owner = f.owner } };
 
-    ghost invariant = { λ f. IsForwarder (Q.queue f.owner.queue) f.owner.state f.consumer f.flight f.lost };
+    ghost invariant = { λ f. IsForwarder (Q.queue f.owner.queue) f.owner.state f.consumer f.flight f.lost
+        × IsKnown (Q.queue f.owner.queue).lost (settled_raws f.consumer) f.consumer.consumer.ring.made_with.senders f.fates };
 }
 
 impl<Q: CommandQueue> Forwarder<Q> {
-    /// Creates a forwarder from a ring's consumer that has taken nothing and an owner that has shown nothing. It takes
-    /// memory for as many commands as the hardware's queue has slots, and no call takes more.
+    /// Creates a forwarder from a ring's consumer that has taken nothing and an owner that has shown nothing, for a ring of
+    /// `senders` senders. It takes memory for as many commands as the hardware's queue has slots, and no call takes more.
     pub fn new(
         alloc: Global,
         consumer: Consumer<Owner<Q>>,
         owner: Owner<Q>,
+        senders: u32,
     ) -> Result<Forwarder<Q>, AllocError>
     where
         Q: Drop,
+        requires senders { senders ≡ consumer.ring.made_with.senders }
         requires taken { taken_of consumer.trail ≡ [] }
         requires shown { (Q.queue owner.queue).shown ≡ [] }
         requires consumed { (Q.queue owner.queue).consumed ≡ 0 }
@@ -67,10 +78,12 @@ impl<Q: CommandQueue> Forwarder<Q> {
         ensures { IfOk result (λ f. f ≡ record { consumer = deferring consumer; owner = owner }) }
     {
         let flight = Flight::new(alloc, owner.slots())?;
+        let fates = Fates::new(alloc, senders)?;
         Ok(Forwarder {
             consumer: DeferringConsumer::new(consumer),
             owner,
             flight,
+            fates,
             lost: 0,
         })
     }
@@ -125,7 +138,13 @@ impl<Q: CommandQueue> Forwarder<Q> {
     {
         laws::world_law();
         laws::consumer_trail();
-        let found = poll_with(&mut self.consumer, &mut self.owner, &mut self.flight, ring);
+        let found = poll_with(
+            &mut self.consumer,
+            &mut self.owner,
+            &mut self.flight,
+            &mut self.fates,
+            ring,
+        );
         self.consumer.trail_stands_in_a_run();
         found
     }
@@ -172,6 +191,7 @@ impl<Q: CommandQueue> Forwarder<Q> {
         }
         self.owner.acknowledge(remedy)?;
         self.lost = self.lost.saturating_add(remedy.lost());
+        self.fates.remedy(remedy);
         Ok(stopped)
     }
 
@@ -180,6 +200,20 @@ impl<Q: CommandQueue> Forwarder<Q> {
         ensures { result ≡ count_lost (Q.queue self.now.owner.queue) }
     {
         self.lost
+    }
+
+    /// Returns what became of the batch that a receipt names, with those without a CMD_SYNC that were reserved between it
+    /// and the CMD_SYNC ahead of it: a command is lost if it is illegal, or was written over. Whether an endpoint answered
+    /// a CMD_ATC_INV isn't asked.
+    pub fn outcome(&self, receipt: &Receipt) -> BatchOutcome
+        requires { receipt.now.sender < self.now.consumer.consumer.ring.made_with.senders }
+        ensures outcome { IsOutcomeOf (Q.queue self.now.owner.queue).lost (settled_raws self.now.consumer)
+            receipt.now.sender receipt.now.number result }
+        ensures whole { result ≡ Complete → IsWhole (Q.queue self.now.owner.queue).lost
+            (settled_raws self.now.consumer) receipt.now.sender receipt.now.number }
+    {
+        counts_law();
+        self.fates.outcome(receipt.sender(), receipt.number())
     }
 
     /// A witness, while the ring runs, that a sender was told truly: whatever number it was told, all that was reserved
@@ -227,6 +261,7 @@ impl<Q: CommandQueue> Forwarder<Q> {
             consumer,
             owner,
             flight: _,
+            fates: _,
             lost: _,
         } = self;
         owner.syncs_complete();

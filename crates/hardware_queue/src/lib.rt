@@ -12,6 +12,7 @@
 
 mod command_error;
 mod command_queue;
+mod fates;
 mod flight;
 mod forwarded;
 mod forwarder;
@@ -24,6 +25,7 @@ mod remedy;
 mod settling;
 mod state;
 
+pub use batch_outcomes::BatchOutcome;
 pub use command_error::CommandError;
 pub use command_queue::CommandQueue;
 pub use forwarded::{Forwarded, Stopped};

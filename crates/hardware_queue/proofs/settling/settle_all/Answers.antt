@@ -11,5 +11,6 @@ loop-rest-preserved g c =
       ring = c.settle_first.ensures.ring ∙ c.loop-rest.invariant.ring;
       flight = c.in-Some.ensures.flight;
       settled = (so_far.0 ++ one.0 ∷ [], settled_then so_far.0 one.0 _ _ _ so_far.1 one.1);
+      fates = c.in-Some.ensures.fates;
       history = c.growth_adds_up.ensures.sum _ _ _ _ _ _ _ c.loop-rest.invariant.history c.in-Some.ensures.history;
     }
