@@ -1,5 +1,5 @@
 -- What the hardware gets, and what is in flight once more is taken.
-use Rattle.std.proofs.Common.{◌≡◌, ℕ, Bool, true, false, zero, suc, ◌+◌, ◌-◌, ◌<◌, ◌≤◌, List, [], ◌∷◌, ◌++◌, length, map, Option, Some, None, refl, ap, ap₂, sym, subst, ◌∙◌, arith, append_assoc, length-append}
+use Rattle.std.proofs.Common.{◌≡◌, ℕ, true, false, zero, suc, ◌+◌, ◌-◌, ◌<◌, ◌≤◌, List, [], ◌∷◌, ◌++◌, length, map, Option, Some, None, refl, ap, ap₂, sym, subst, ◌∙◌, arith, append_assoc, length-append}
 use Rattle.std.proofs.lemmas.List.{append-nil, map-append, length-map, length-take-le, take-append-drop}
 use Rattle.std.specs.Prelude.{slice_get, take, drop, Contains, is_none, min, if◌then◌else◌, ◌==◌}
 use Rattle.std.proofs.lemmas.Bool.Decides.{Decides-eqb}
@@ -11,12 +11,11 @@ use Rattle.qindex.specs.Positions.{size}
 use Rattle.ringcore.specs.declared.world.event.Outcome.{Outcome}
 use Rattle.ringcore.specs.declared.world.event.Outcome.TheVariants.{Applied, Replaced}
 use Rattle.ringcore.specs.declared.world.event.Event.TheVariants.{Advance}
-use Rattle.ringcore.specs.world.Trails.{Trail, Run, raws_by}
+use Rattle.ringcore.specs.world.Trails.{Trail, raws_by}
 use Rattle.ringcore.specs.world.World.{Taken, taken_as, outcome_of}
 use Rattle.ring.specs.consumer.Consumers.{ConsumerValue}
 use Rattle.ring.specs.consumer.Pendings.{PendingValue, reads_from}
 use Rattle.ring.specs.consumer.Taking.{TookRun}
-use Rattle.ring.specs.consumer.PendingConsumers.{IsFirst}
 use Rattle.ring.specs.consumer.Completing.{taken_of, with_outcome, HasOutcome}
 use Rattle.ring.specs.consumer.Deferring.{DeferringValue, deferring, settled_raws, unsettled_raws}
 use Rattle.hardware_queue.specs.declared.flight.InFlight.{InFlight}

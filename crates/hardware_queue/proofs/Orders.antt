@@ -1,8 +1,8 @@
 -- What the hardware was shown is a beginning of what was reserved, in its order.
-use Rattle.std.proofs.Common.{◌≡◌, List, ◌++◌, refl, ap, sym, ◌∙◌}
+use Rattle.std.proofs.Common.{◌≡◌, List, ◌++◌, ap, sym, ◌∙◌}
 use Rattle.cmdcodec.specs.declared.raw.Raw.{Raw}
 use Rattle.ringcore.specs.declared.world.event.Who.TheVariants.{Consumer}
-use Rattle.ringcore.specs.world.Trails.{Run, Trail, trail_of, raws_by}
+use Rattle.ringcore.specs.world.Trails.{Run, Trail, raws_by}
 use Rattle.ringcore.specs.world.Allowed.{Ring, IsRun}
 use Rattle.ringcore.specs.world.Delivery.{advanced, batches, joined, Begins, TakenInOrder}
 use Rattle.ringcore.specs.world.Laws.{EveryRun}

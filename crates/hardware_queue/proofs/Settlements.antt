@@ -1,7 +1,7 @@
 -- What is settled, command by command.
-use Rattle.std.proofs.Common.{◌≡◌, ℕ, zero, suc, ◌+◌, ◌-◌, ◌<◌, ◌≤◌, List, [], ◌∷◌, ◌++◌, length, map, Option, Some, None, refl, ap, ap₂, sym, subst, ◌∙◌, arith, append_assoc, length-append}
+use Rattle.std.proofs.Common.{◌≡◌, ℕ, suc, ◌+◌, ◌<◌, ◌≤◌, List, [], ◌∷◌, ◌++◌, length, map, Some, None, refl, ap, sym, subst, ◌∙◌, arith, append_assoc, length-append}
 use Rattle.std.proofs.lemmas.List.{append-nil}
-use Rattle.std.specs.Prelude.{slice_get, slice_index_or, drop}
+use Rattle.std.specs.Prelude.{slice_get, drop}
 use Rattle.circular_buffer.specs.Buffer.{Buffer, buffer}
 use Rattle.cmdcodec.specs.declared.raw.Raw.{Raw}
 use Rattle.cmdcodec.specs.Legality.{first_ill}
@@ -19,7 +19,7 @@ use Rattle.hardware_queue.specs.declared.state.QueueState.TheVariants as state
 use Rattle.hardware_queue.specs.declared.progress.Progress.{Progress}
 use Rattle.hardware_queue.specs.declared.progress.Progress.TheVariants as progress
 use Rattle.hardware_queue.specs.Queues.{QueueValue}
-use Rattle.hardware_queue.specs.Owners.{IsStoppedState, HasConsumed, HasPolled, IsSameButSeen}
+use Rattle.hardware_queue.specs.Owners.{HasConsumed, HasPolled, IsSameButSeen}
 use Rattle.hardware_queue.specs.Flights.{count_passed, passed_for, HasConsumedAll, NoSyncIsLost, BeginsLegal}
 use Rattle.hardware_queue.specs.Kept.{IsInFlight, IsBeingSettled, in_flight}
 use Rattle.hardware_queue.specs.Steps.{HasSettled, HasSettledOne, HasSettledAll}

@@ -3,7 +3,7 @@ ghost use Rattle.std.specs.Prelude.{◌≡◌, []};
 
 use crate::words::{CFGI_STE, ILLEGAL, UNSUPPORTED, owner};
 use batch::Batch;
-use hardware_queue::{CommandError, Forwarded, Forwarder, Progress, Remedy, Stopped};
+use hardware_queue::{BatchOutcome, CommandError, Forwarded, Forwarder, Progress, Remedy, Stopped};
 use ring::{Ring, RingFault, Sender, Summary};
 use std::alloc::AllocError;
 use std::process::Abort;
@@ -58,7 +58,7 @@ fn finish(
 fn told_only_behind_its_sync(rt: HostRuntime) -> Result<(), RingFault> {
     let (ring, mut senders, consumer) = Ring::new(rt.alloc(), 3, 1, 100)?;
     let sender = senders.pop().expect(&rt, "one sender");
-    let made = Forwarder::new(rt.alloc(), consumer, owner(&rt, 1));
+    let made = Forwarder::new(rt.alloc(), consumer, owner(&rt, 1), 1);
     let mut forwarder = made.expect(&rt, "memory");
     forward(&rt, &ring, &mut forwarder, Forwarded::Empty);
     let batch = Batch::new(CFGI_STE).expect(&rt, "no CMD_SYNC");
@@ -80,7 +80,7 @@ fn told_only_behind_its_sync(rt: HostRuntime) -> Result<(), RingFault> {
 fn an_illegal_command_stays_here(rt: HostRuntime) -> Result<(), RingFault> {
     let (ring, mut senders, consumer) = Ring::new(rt.alloc(), 3, 1, 100)?;
     let sender = senders.pop().expect(&rt, "one sender");
-    let made = Forwarder::new(rt.alloc(), consumer, owner(&rt, 1));
+    let made = Forwarder::new(rt.alloc(), consumer, owner(&rt, 1), 1);
     let mut forwarder = made.expect(&rt, "memory");
     let commands = [ILLEGAL, CFGI_STE];
     let batch = Batch::from_raws(commands.as_slice()).expect(&rt, "no CMD_SYNC");
@@ -103,7 +103,7 @@ fn an_illegal_command_stays_here(rt: HostRuntime) -> Result<(), RingFault> {
 fn an_unsupported_command_is_lost(rt: HostRuntime) -> Result<(), RingFault> {
     let (ring, mut senders, consumer) = Ring::new(rt.alloc(), 3, 1, 100)?;
     let sender = senders.pop().expect(&rt, "one sender");
-    let made = Forwarder::new(rt.alloc(), consumer, owner(&rt, 1));
+    let made = Forwarder::new(rt.alloc(), consumer, owner(&rt, 1), 1);
     let mut forwarder = made.expect(&rt, "memory");
     let batch = Batch::new(UNSUPPORTED).expect(&rt, "no CMD_SYNC");
     let Ok((mut sender, receipt)) = sender.send(&ring, &batch, 1) else {
@@ -124,6 +124,7 @@ fn an_unsupported_command_is_lost(rt: HostRuntime) -> Result<(), RingFault> {
     poll(&rt, &ring, &mut forwarder, Progress::Consumed(1));
     poll(&rt, &ring, &mut forwarder, Progress::Consumed(1));
     assert!(rt; sender.is_done(&ring, &receipt));
+    assert_eq!(rt; forwarder.outcome(&receipt), BatchOutcome::Lost(1));
     Ok(())
 }
 
@@ -131,15 +132,15 @@ fn an_unsupported_command_is_lost(rt: HostRuntime) -> Result<(), RingFault> {
 fn an_illegal_command_between_two_batches(rt: HostRuntime) -> Result<(), RingFault> {
     let (ring, mut senders, consumer) = Ring::new(rt.alloc(), 3, 1, 100)?;
     let sender = senders.pop().expect(&rt, "one sender");
-    let made = Forwarder::new(rt.alloc(), consumer, owner(&rt, 3));
+    let made = Forwarder::new(rt.alloc(), consumer, owner(&rt, 3), 1);
     let mut forwarder = made.expect(&rt, "memory");
     let legal = Batch::new(CFGI_STE).expect(&rt, "no CMD_SYNC");
-    let Ok((sender, _receipt)) = sender.send(&ring, &legal, 1) else {
+    let Ok((sender, first)) = sender.send(&ring, &legal, 1) else {
         panic!(rt; "the batch is refused");
     };
     let commands = [ILLEGAL, CFGI_STE];
     let batch = Batch::from_raws(commands.as_slice()).expect(&rt, "no CMD_SYNC");
-    let Ok((mut sender, _receipt)) = sender.send(&ring, &batch, 1) else {
+    let Ok((mut sender, second)) = sender.send(&ring, &batch, 1) else {
         panic!(rt; "the batch is refused");
     };
     forward(&rt, &ring, &mut forwarder, Forwarded::Shown(2));
@@ -150,9 +151,13 @@ fn an_illegal_command_between_two_batches(rt: HostRuntime) -> Result<(), RingFau
     // The illegal one is settled with the CMD_SYNC ahead of it.
     poll(&rt, &ring, &mut forwarder, Progress::Consumed(1));
     assert_eq!(rt; (forwarder.in_flight(), sender.done_up_to(&ring)), (2, 1));
+    assert_eq!(rt; forwarder.outcome(&first), BatchOutcome::Complete);
+    assert_eq!(rt; forwarder.outcome(&second), BatchOutcome::NotYet);
     poll(&rt, &ring, &mut forwarder, Progress::Consumed(1));
     poll(&rt, &ring, &mut forwarder, Progress::Consumed(1));
     assert_eq!(rt; (forwarder.in_flight(), sender.done_up_to(&ring)), (0, 2));
+    assert_eq!(rt; forwarder.outcome(&first), BatchOutcome::Complete);
+    assert_eq!(rt; forwarder.outcome(&second), BatchOutcome::Lost(1));
     Ok(())
 }
 
@@ -195,7 +200,7 @@ fn consume_many<R: Abort>(rt: &R, ring: &Ring, forwarder: &mut Forwarder<UnitQue
 fn the_ring_laps_while_all_is_in_flight(rt: HostRuntime) -> Result<(), RingFault> {
     let (ring, mut senders, consumer) = Ring::new(rt.alloc(), 4, 1, 100)?;
     let sender = senders.pop().expect(&rt, "one sender");
-    let made = Forwarder::new(rt.alloc(), consumer, owner(&rt, 8));
+    let made = Forwarder::new(rt.alloc(), consumer, owner(&rt, 8), 1);
     let mut forwarder = made.expect(&rt, "memory");
     let batch = Batch::from_raws(&[CFGI_STE; 7]).expect(&rt, "no CMD_SYNC");
     // 256 commands in flight, which went through a ring of 16 slots.

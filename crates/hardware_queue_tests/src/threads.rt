@@ -66,7 +66,7 @@ fn two_senders_and_a_slow_unit(rt: HostRuntime) -> Result<(), RingFault> {
     let (ring, mut senders, consumer) = Ring::new(rt.alloc(), 3, 2, 100)?;
     let second = senders.pop().expect(&rt, "two senders");
     let first = senders.pop().expect(&rt, "two senders");
-    let made = Forwarder::new(rt.alloc(), consumer, owner(&rt, 1));
+    let made = Forwarder::new(rt.alloc(), consumer, owner(&rt, 1), 2);
     let forwarder = made.expect(&rt, "memory");
     let legal = Batch::from_raws(&[CFGI_STE; 2]).expect(&rt, "no CMD_SYNC");
     let stopping = Batch::from_raws(&[CFGI_STE, UNSUPPORTED]).expect(&rt, "no CMD_SYNC");

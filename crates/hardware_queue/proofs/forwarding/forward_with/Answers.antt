@@ -1,4 +1,4 @@
-use Rattle.std.proofs.Common.{ℕ, ◌≡◌, ◌≤◌, length, sym, subst, ap, ◌∙◌, arith}
+use Rattle.std.proofs.Common.{ℕ, subst, ap, ◌∙◌, arith}
 use Rattle.std.specs.Prelude.{min}
 use Rattle.ring.specs.consumer.Taking.{TookRun}
 use Rattle.ring.specs.consumer.Deferring.{pending_of}

@@ -1,4 +1,4 @@
-use Rattle.std.proofs.Common.{◌∙◌, sym}
+use Rattle.std.proofs.Common.{◌∙◌}
 use Rattle.hardware_queue.proofs.Settlements.{left, syncs_left, broken_still, consumed_more, consumed_within, all_settled}
 use Rattle.hardware_queue.proofs.settling.poll_with.Goals as goal
 

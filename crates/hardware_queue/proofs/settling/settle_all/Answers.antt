@@ -1,6 +1,5 @@
-use Rattle.std.proofs.Common.{◌∙◌, ◌∷◌, ◌++◌, [], List}
-use Rattle.cmdcodec.specs.declared.raw.Raw.{Raw}
-use Rattle.hardware_queue.proofs.Settlements.{none_settled, settled_then, one_fewer}
+use Rattle.std.proofs.Common.{◌∙◌, ◌∷◌, ◌++◌, []}
+use Rattle.hardware_queue.proofs.Settlements.{settled_then}
 use Rattle.hardware_queue.proofs.settling.settle_all.Goals as goal
 
 pub loop-rest-preserved : goal.loop-rest-preserved

@@ -1,4 +1,4 @@
-use Rattle.std.proofs.Common.{ℕ, Some, ap, subst, sym, ◌∙◌, ◌≤◌, ◌≡◌, ◌-◌, ◌+◌, arith}
+use Rattle.std.proofs.Common.{ℕ, ap, subst, sym, ◌∙◌, arith}
 use Rattle.std.proofs.Common.{List, [], ◌∷◌, ◌++◌, ◌<◌, refl}
 use Rattle.cmdcodec.specs.declared.raw.Raw.{Raw}
 use Rattle.ringcore.specs.world.Trails.{raws_by}
@@ -7,7 +7,6 @@ use Rattle.ring.specs.consumer.Consumers.{ConsumerValue}
 use Rattle.ring.specs.consumer.Completing.{sync_sender}
 use Rattle.ring.specs.consumer.PendingConsumers.{IsFirst}
 use Rattle.ring.specs.consumer.Deferring.{settled_raws, unsettled_raws}
-use Rattle.hardware_queue.specs.Flights.{count_passed}
 use Rattle.hardware_queue.specs.Fates.{FatesValue, IsKnown}
 use Rattle.hardware_queue.proofs.Forwards.{in_two}
 use Rattle.hardware_queue.proofs.FateLemmas.{known_more, known_still, is_closing, is_known, is_next, is_itself}

@@ -1,12 +1,6 @@
-use Rattle.std.proofs.Common.{◌≡◌, ℕ, List, Some, sym, ap, subst, ◌∙◌}
-use Rattle.cmdcodec.specs.declared.raw.Raw.{Raw}
-use Rattle.ring.specs.consumer.Deferring.{settled_raws}
-use Rattle.batch_outcomes.specs.declared.settled.Settled.{Settled}
+use Rattle.std.proofs.Common.{ℕ, subst}
 use Rattle.batch_outcomes.specs.declared.batch_outcome.BatchOutcome.{BatchOutcome}
-use Rattle.batch_outcomes.specs.declared.batch_outcome.BatchOutcome.TheVariants.{Complete}
 use Rattle.batch_outcomes.specs.Outcomes.{IsOutcome}
-use Rattle.hardware_queue.specs.Steps.{ForwarderValue}
-use Rattle.hardware_queue.specs.Fates.{AreFates, IsOutcomeOf, IsWhole}
 use Rattle.hardware_queue.proofs.FateLemmas.{whole}
 use Rattle.hardware_queue.proofs.forwarder.Forwarder.outcome.Given.{Over}
 use Rattle.hardware_queue.proofs.forwarder.Forwarder.outcome.Goals.{After-outcome}
