@@ -3,7 +3,8 @@ pub mod Polls
 pub mod Acknowledging
 pub mod PassLemmas
 pub mod Forwards
+pub mod Settlements
 pub mod Orders
-pub mod Stepping
 pub mod Losses
 pub mod Telling
+pub mod FateLemmas

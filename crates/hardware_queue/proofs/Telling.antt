@@ -1,39 +1,26 @@
 -- What a sender's number tells of the hardware.
 use Rattle.std.proofs.Common.{◌≡◌, ℕ, zero, suc, ◌+◌, Bool, true, false, List, [], ◌∷◌, ◌++◌, length, map, Some, refl, sym, ap, subst, ◌∙◌, arith, length-append, append_assoc}
-use Rattle.std.proofs.lemmas.List.{append-nil, map-append}
+use Rattle.std.proofs.lemmas.List.{map-append}
 use Rattle.std.specs.Prelude.{slice_get, drop, if◌then◌else◌}
 use Rattle.cmdcodec.specs.declared.raw.Raw.{Raw}
 use Rattle.cmdcodec.specs.Opcodes.{is_sync}
-use Rattle.ringcore.specs.declared.world.event.Event.TheVariants.{Advance, Ask}
+use Rattle.ringcore.specs.declared.world.event.Event.TheVariants.{Ask}
 use Rattle.ringcore.specs.declared.world.event.Outcome.{Outcome}
 use Rattle.ringcore.specs.declared.world.event.Outcome.TheVariants.{Applied}
-use Rattle.ringcore.specs.declared.world.event.Who.TheVariants.{Consumer, Sender}
-use Rattle.ringcore.specs.world.Trails.{Run, Trail, trail_of}
+use Rattle.ringcore.specs.declared.world.event.Who.TheVariants.{Sender}
+use Rattle.ringcore.specs.world.Trails.{Run, Trail}
 use Rattle.ringcore.specs.world.World.{Taken, taken_as, outcome_of, world, sync_raw}
 use Rattle.ringcore.specs.world.Allowed.{Ring, IsRun}
 use Rattle.ringcore.specs.world.Delivery.{advanced, Begins}
 use Rattle.ringcore.specs.world.Laws.{EveryRun, SyncsTellTheirBatch}
 use Rattle.ringcore.specs.world.ConsumerLaws.{TellsWhatIsAdvanced, TellsTheOutcomes}
-use Rattle.ring.specs.consumer.Completing.{taken_of}
-use Rattle.ring.specs.Finishing.{WasTold, WasToldAll}
+use Rattle.ring.specs.Finishing.{reserved_ahead, WasToldOfSettled, AllToldOfSettled}
 use Rattle.hardware_queue.specs.Queues.{QueueValue, plain_sync, IsSyncAt, SyncsComplete}
 use Rattle.hardware_queue.specs.Flights.{hardware_form, passed_as, passed_on, HasConsumedAll, NoSyncIsLost}
-use Rattle.hardware_queue.specs.Forwarders.{IsCarriedOut, reserved_ahead, WasToldTruly, WasToldAllTruly}
+use Rattle.hardware_queue.specs.Forwarders.{IsCarriedOut, WasToldTruly, WasToldAllTruly}
 use Rattle.hardware_queue.proofs.Forwards.{passed_on-append}
 
 -- ---- lists
-
-begins_later : (later earlier : Run) → Begins (advanced earlier) (advanced (later ++ earlier))
-begins_later [] earlier = ([], sym (append-nil (advanced earlier)))
-begins_later ((who, Advance raws) ∷ later) earlier =
-    let so_far = begins_later later earlier in
-    (so_far.0 ++ raws, ap (λ (l : List Raw). l ++ raws) so_far.1 ∙ append_assoc (advanced earlier) so_far.0 raws)
-begins_later ((who, e) ∷ later) earlier = begins_later later earlier
-
-get_longer : (xs ys : List Raw) (i : ℕ) (x : Raw) → slice_get xs i ≡ Some x → slice_get (xs ++ ys) i ≡ Some x
-get_longer [] ys i x at = absurd (cc)
-get_longer (y ∷ xs) ys zero x at = at
-get_longer (y ∷ xs) ys (suc i) x at = get_longer xs ys i x at
 
 get_map : (xs : List Raw) (i : ℕ) (x : Raw) → slice_get xs i ≡ Some x → slice_get (map taken_as xs) i ≡ Some (taken_as x)
 get_map [] i x at = absurd (cc)
@@ -105,32 +92,28 @@ earlier_run ring (x ∷ later) earlier is = earlier_run ring later earlier is.0
 same_some : (a b : Taken) → Some a ≡ Some b → a ≡ b
 same_some a b is = cc
 
-module _ (words : SyncsTellTheirBatch) (advances : EveryRun TellsWhatIsAdvanced) (outcomes : EveryRun TellsTheOutcomes) (ring : Ring) (run : Run) (trail : Trail)
-    (HasEffect : ℕ → Type 0) (q : QueueValue) (is_a_run : IsRun ring run) (trail_is : trail_of Consumer run ≡ trail) (none : NoSyncIsLost q) (settled : HasConsumedAll q (taken_of trail)) (completes : SyncsComplete HasEffect q) where
-  all_is : taken_of trail ≡ map taken_as (advanced run)
-  all_is = ap taken_of (sym trail_is) ∙ ap (map taken_as) (sym (advances ring run is_a_run))
-
-  pub told_truly : (s told : ℕ) (older : Trail) → WasTold run s told older → WasToldTruly HasEffect q run s told older
+module _ (words : SyncsTellTheirBatch) (advances : EveryRun TellsWhatIsAdvanced) (outcomes : EveryRun TellsTheOutcomes) (ring : Ring) (run : Run) (settled : List Raw)
+    (HasEffect : ℕ → Type 0) (q : QueueValue) (is_a_run : IsRun ring run) (none : NoSyncIsLost q) (consumed : HasConsumedAll q (map taken_as settled)) (completes : SyncsComplete HasEffect q) where
+  told_truly : (s told : ℕ) (older : Trail) → WasToldOfSettled settled run s told older → WasToldTruly HasEffect q run s told older
   told_truly s told older was = record {
-    was_told = was;
+    was_told = was.was_told;
     carried_out = λ number some most.
-        let applied = was.applied number some most in
+        let before = was.was_told in
+        let applied = before.applied number some most in
         let first : List Raw = reserved_ahead applied in
         let sync : Raw = sync_raw s number in
-        let up_to_now = subst (λ (r : Run). Begins (advanced was.earlier) (advanced r)) (sym was.run_is) (begins_later was.later ((Sender s, Ask told) ∷ was.earlier)) in
-        let ahead = applied.completed.all_ahead in
-        let begins : Begins first (advanced run) = (ahead.0 ++ up_to_now.0, up_to_now.1 ∙ ap (λ (l : List Raw). l ++ up_to_now.0) ahead.1 ∙ append_assoc first ahead.0 up_to_now.0) in
-        let at : slice_get (advanced run) (length first) ≡ Some sync =
-        subst (λ (l : List Raw). slice_get l (length first) ≡ Some sync) (sym up_to_now.1) (get_longer (advanced was.earlier) up_to_now.0 (length first) sync applied.completed.sync) in
-        let is_run : IsRun ring was.earlier =
-        (earlier_run ring was.later ((Sender s, Ask told) ∷ was.earlier) (subst (IsRun ring) was.run_is is_a_run)).0 in
-        let taken_earlier : (world was.earlier).taken ≡ map taken_as (advanced was.earlier) =
-        outcomes ring was.earlier is_run ∙ ap (map taken_as) (sym (advances ring was.earlier is_run)) in
+        let begins = was.settled_are number some most in
+        let whole : settled ≡ first ++ (sync ∷ begins.0) = begins.1 ∙ append_assoc first (sync ∷ []) begins.0 in
+        let at : slice_get settled (length first) ≡ Some sync = ap (λ (l : List Raw). slice_get l (length first)) whole ∙ at_seam first begins.0 sync in
+        let is_run : IsRun ring before.earlier =
+        (earlier_run ring before.later ((Sender s, Ask told) ∷ before.earlier) (subst (IsRun ring) before.run_is is_a_run)).0 in
+        let taken_earlier : (world before.earlier).taken ≡ map taken_as (advanced before.earlier) =
+        outcomes ring before.earlier is_run ∙ ap (map taken_as) (sym (advances ring before.earlier is_run)) in
         let both : taken_as sync ≡ record { raw = sync; outcome = Applied } =
-        same_some (taken_as sync) (record { raw = sync; outcome = Applied }) (sym (get_map (advanced was.earlier) (length first) sync applied.completed.sync)
+        same_some (taken_as sync) (record { raw = sync; outcome = Applied }) (sym (get_map (advanced before.earlier) (length first) sync applied.completed.sync)
         ∙ sym (ap (λ (l : List Taken). slice_get l (length first)) taken_earlier) ∙ applied.applied) in
-        carried_out HasEffect q first (advanced run) sync none completes (subst (HasConsumedAll q) all_is settled) begins at (ap (λ (t : Taken). t.outcome) both) ((words s number).opcode);
+        carried_out HasEffect q first settled sync none completes consumed (sync ∷ begins.0, whole) at (ap (λ (t : Taken). t.outcome) both) ((words s number).opcode);
   }
 
-  pub told_all_truly : (s : ℕ) (mine : Trail) → WasToldAll run s mine → WasToldAllTruly HasEffect q run s mine
+  pub told_all_truly : (s : ℕ) (mine : Trail) → AllToldOfSettled settled run s mine → WasToldAllTruly HasEffect q run s mine
   told_all_truly s mine was newer older number at = told_truly s number older (was newer older number at)

@@ -1,19 +1,14 @@
 -- What contracts see of a forwarder, and what a sender's number tells once it has one.
-use Rattle.std.specs.Prelude.{◌≡◌, ℕ, ◌<◌, ◌≤◌, ◌-◌, ◌^◌, List, ◌∷◌, ◌++◌, length, map, min, Bool, Contains, ◌⊎◌, Option, Some, None, slice_get, true, false}
+use Rattle.std.specs.Prelude.{◌≡◌, ℕ, ◌<◌, ◌≤◌, ◌-◌, ◌^◌, List, ◌∷◌, ◌++◌, length, min, Bool, Contains, ◌⊎◌, Option, Some, None, slice_get, true, false}
 use Rattle.cmdcodec.specs.declared.raw.Raw.{Raw}
 use Rattle.cmdcodec.specs.Opcodes.{is_sync}
 use Rattle.ringcore.specs.declared.world.event.Event.TheVariants.{Ask}
 use Rattle.ringcore.specs.world.Trails.{Run, Trail}
-use Rattle.ringcore.specs.world.World.{Taken, taken_as}
-use Rattle.ringcore.specs.world.Delivery.{joined}
-use Rattle.ringcore.specs.world.Laws.{IsApplied}
-use Rattle.ring.specs.consumer.Consumers.{ConsumerValue}
 use Rattle.ring.specs.Rings.{RingValue}
 use Rattle.ring.specs.sender.Senders.{SenderValue}
-use Rattle.ring.specs.Finishing.{SummaryValue, IsEnd, WasTold}
+use Rattle.ring.specs.Finishing.{SummaryValue, WasTold, IsDeferredEnd, reserved_ahead}
 use Rattle.hardware_queue.specs.declared.command_error.CommandError.{CommandError}
 use Rattle.hardware_queue.specs.declared.command_error.CommandError.TheVariants.{Illegal}
-use Rattle.hardware_queue.specs.declared.forwarded.Forwarded.{Forwarded}
 use Rattle.hardware_queue.specs.declared.forwarded.Stopped.{Stopped}
 use Rattle.hardware_queue.specs.declared.remedy.Remedy.{Remedy}
 use Rattle.hardware_queue.specs.declared.remedy.Remedy.TheVariants.{Retry, Replace}
@@ -22,35 +17,13 @@ use Rattle.hardware_queue.specs.declared.remedy.RemedyFault.TheVariants.{NotStop
 use Rattle.hardware_queue.specs.declared.state.QueueState.{QueueState}
 use Rattle.hardware_queue.specs.declared.state.QueueState.TheVariants as state
 use Rattle.hardware_queue.specs.Queues.{QueueValue, MayBeUnanswered}
-use Rattle.hardware_queue.specs.Owners.{OwnerValue, HasAcknowledged, IsStoppedState}
-use Rattle.hardware_queue.specs.Steps.{HasForwarded, NothingIsDone}
-use Rattle.hardware_queue.specs.Flights.{passed_on, IsInFlight, IsInOrder, NoSyncIsLost}
-
--- a forwarder: the consumer of its ring, and the owner of the hardware's queue
-pub record ForwarderValue (Q : Type 0) : Type 0 where
-  pub consumer : ConsumerValue (OwnerValue Q)
-  pub owner : OwnerValue Q
-
--- a step, for a queue that is seen as `queue` says
-abbrev pub HasStepped : {Q : Type 0} → (Q → QueueValue) → ForwarderValue Q → ForwarderValue Q → Forwarded → Type 0
-HasStepped queue old new answer =
-    HasForwarded old.consumer new.consumer old.owner.state new.owner.state (queue old.owner.queue) (queue new.owner.queue) answer
-
--- Once something that no working queue has was found, nothing is done any more, and the answer says so.
-abbrev pub StaysBroken : {Q : Type 0} → (Q → QueueValue) → ForwarderValue Q → ForwarderValue Q → Forwarded → Type 0
-StaysBroken queue old new answer =
-    NothingIsDone old.consumer new.consumer old.owner.state new.owner.state (queue old.owner.queue) (queue new.owner.queue) answer
+use Rattle.hardware_queue.specs.Owners.{HasAcknowledged, IsStoppedState}
+use Rattle.hardware_queue.specs.Flights.{passed_for, IsInOrder}
+use Rattle.hardware_queue.specs.Steps.{ForwarderValue}
 
 -- how many commands were lost at the hardware, 2^64 - 1 if more
 abbrev pub count_lost : QueueValue → ℕ
 count_lost q = min (length q.lost) (2 ^ 64 - 1)
-
--- What it keeps: what the hardware was shown, in the order of the run that it knows, and how far that is taken.
-pub record IsForwarder (q : QueueValue) (taken : List Taken) (run : Run) (flight : List Raw) (lost : ℕ) : Type 0 where
-  pub in_flight : IsInFlight q taken flight
-  pub order : IsInOrder q run
-  pub syncs : NoSyncIsLost q
-  pub lost_are : lost ≡ count_lost q
 
 -- ---- a stop
 
@@ -93,12 +66,8 @@ IsRefused remedy found q fault =
 -- or may be unanswered.
 pub record IsCarriedOut (HasEffect : ℕ → Type 0) (q : QueueValue) (first : List Raw) : Type 0 where
   pub rest : List Raw
-  pub shown : q.shown ≡ passed_on (map taken_as first) ++ rest
-  pub effect : (position : ℕ) → position < length (passed_on (map taken_as first)) → ¬ Contains q.lost position → ¬ MayBeUnanswered q position → HasEffect position
-
--- what was reserved before the closing sync of a batch that was applied
-abbrev pub reserved_ahead : {run : Run} {s number : ℕ} → IsApplied run s number → List Raw
-reserved_ahead applied = joined applied.completed.ahead ++ applied.completed.body
+  pub shown : q.shown ≡ passed_for first ++ rest
+  pub effect : (position : ℕ) → position < length (passed_for first) → ¬ Contains q.lost position → ¬ MayBeUnanswered q position → HasEffect position
 
 -- The sender was told this number. For each of its batches up to that number, all that was reserved before its
 -- closing sync is carried out.
@@ -114,7 +83,7 @@ WasToldAllTruly HasEffect q run s trail =
 -- One run has all steps. What the hardware was shown is a beginning of what is owed to it in that run, and whatever a sender
 -- was told in it was true.
 pub record IsForwarderEnd {Q : Type 0} (queue : Q → QueueValue) (has_effect : Q → ℕ → Type 0) (ring : RingValue) (senders : List SenderValue) (forwarder : ForwarderValue Q) (end : SummaryValue) : Type 0 where
-  pub end_is : IsEnd ring senders forwarder.consumer end
-  pub order : IsInOrder (queue forwarder.owner.queue) end_is.run
-  pub told : (k : ℕ) (s : SenderValue) → slice_get senders k ≡ Some s → (newer older : Trail) (number : ℕ) → s.trail ≡ newer ++ Ask number ∷ older
-      → WasToldTruly (has_effect forwarder.owner.queue) (queue forwarder.owner.queue) end_is.run k number older
+  pub end_is : IsDeferredEnd ring senders forwarder.consumer end
+  pub order : IsInOrder (queue forwarder.owner.queue) end_is.end_is.run
+  pub told : (k : ℕ) (s : SenderValue) → slice_get senders k ≡ Some s
+      → WasToldAllTruly (has_effect forwarder.owner.queue) (queue forwarder.owner.queue) end_is.end_is.run k s.trail

@@ -3,3 +3,5 @@ pub mod Owners
 pub mod Flights
 pub mod Steps
 pub mod Forwarders
+pub mod Kept
+pub mod Fates

@@ -1,119 +1,118 @@
--- What a step of a forwarder did.
-use Rattle.std.specs.Prelude.{◌≡◌, ℕ, ◌≤◌, ◌++◌, ◌⊎◌, ◌-◌, true, false, List, map, take, drop, length, Option, Some, None, slice_get}
+-- What a forwarder is, and what its calls do.
+use Rattle.std.specs.Prelude.{◌≡◌, ℕ, ◌≤◌, ◌++◌, ◌∷◌, ◌-◌, true, false, List, [], map, take, length, min, Some, slice_get}
 use Rattle.cmdcodec.specs.declared.raw.Raw.{Raw}
 use Rattle.cmdcodec.specs.declared.ill.Ill.{Ill}
 use Rattle.cmdcodec.specs.Legality.{first_ill}
+use Rattle.qindex.specs.Positions.{size}
+use Rattle.ringcore.specs.declared.world.event.Event.TheVariants.{Advance}
 use Rattle.ringcore.specs.declared.world.event.Outcome.{Outcome}
 use Rattle.ringcore.specs.declared.world.event.Outcome.TheVariants.{Applied, Replaced}
-use Rattle.ringcore.specs.world.World.{Taken}
 use Rattle.ring.specs.consumer.Consumers.{ConsumerValue}
 use Rattle.ring.specs.consumer.Pendings.{PendingValue}
 use Rattle.ring.specs.consumer.Taking.{TookNone, TookUnwritten, TookRun}
-use Rattle.ring.specs.consumer.Completing.{taken_of, with_outcome}
-use Rattle.hardware_queue.specs.declared.forwarded.Stopped.{Stopped}
+use Rattle.ring.specs.consumer.Completing.{taken_of, with_outcome, all_acknowledged}
+use Rattle.ring.specs.consumer.Deferring.{DeferringValue, settled_raws, unsettled_raws}
 use Rattle.hardware_queue.specs.declared.forwarded.Forwarded.{Forwarded}
 use Rattle.hardware_queue.specs.declared.forwarded.Forwarded.TheVariants as answer
 use Rattle.hardware_queue.specs.declared.progress.Progress.{Progress}
 use Rattle.hardware_queue.specs.declared.progress.Progress.TheVariants as progress
-use Rattle.hardware_queue.specs.declared.state.QueueState.{QueueState}
 use Rattle.hardware_queue.specs.declared.state.QueueState.TheVariants as state
 use Rattle.hardware_queue.specs.Queues.{QueueValue}
-use Rattle.hardware_queue.specs.Owners.{HasPushed, HasPolled, state_after}
-use Rattle.hardware_queue.specs.Flights.{IsPassing, Begins, passed_on}
+use Rattle.hardware_queue.specs.Owners.{OwnerValue, HasPushed}
+use Rattle.hardware_queue.specs.Flights.{IsPassing, IsConsumed, BeginsLegal}
 
--- The first `count` of a run were taken with this outcome.
-abbrev pub IsTaken : {D : Type 0} → Outcome → ℕ → PendingValue D → ConsumerValue D → Type 0
-IsTaken outcome count run new = taken_of new.trail ≡ taken_of run.consumer.trail ++ map (with_outcome outcome) (take count run.raws)
+-- a forwarder: the consumer of its ring, and the owner of the hardware's queue
+pub record ForwarderValue (Q : Type 0) : Type 0 where
+  pub consumer : DeferringValue (OwnerValue Q)
+  pub owner : OwnerValue Q
 
--- how many were consumed by a look
-abbrev pub consumed_by : Progress → Option ℕ
-consumed_by (progress.Consumed count) = Some count
-consumed_by (progress.Stopped count error) = Some count
-consumed_by (progress.Broken word) = None
+-- ---- forward
 
--- What was consumed is completed, all of it.
-pub record HasCompleted {D : Type 0} (run : PendingValue D) (new : ConsumerValue D) (found : Progress) (count : ℕ) : Type 0 where
-  pub consumed : consumed_by found ≡ Some count
+-- how many more commands it may take: as many may be unsettled as the hardware's queue has slots
+abbrev pub room_for : {D : Type 0} → QueueValue → DeferringValue D → ℕ
+room_for q consumer = size q.geometry - length (unsettled_raws consumer)
+
+-- as many as fit, and no more than a run has
+abbrev pub most_taken : {D : Type 0} → QueueValue → DeferringValue D → ℕ
+most_taken q consumer = min (room_for q consumer) 64
+
+-- Of a run the first `count` commands were taken, in one step, and all with this outcome. Nothing was acknowledged.
+pub record HasTaken {D : Type 0} (outcome : Outcome) (count : ℕ) (run : PendingValue D) (new : ConsumerValue D) : Type 0 where
+  pub advanced : record new { history = [] } ≡ record run.consumer
+      { trail = Advance (take count run.raws) ∷ run.consumer.trail; history = [] }
+  pub taken : taken_of new.trail
+      ≡ taken_of run.consumer.trail ++ map (with_outcome outcome) (take count run.raws)
+
+-- Its commands up to the first illegal one were taken, at least one, and the hardware was shown what it gets for them.
+pub record IsShown {D : Type 0} (run : PendingValue D) (new : ConsumerValue D) (q r : QueueValue) (count : ℕ) : Type 0 where
+  pub all : List Raw
+  pub passing : IsPassing run.raws all
   pub some : 1 ≤ count
-  pub taken : IsTaken Applied count run new
+  pub whole : count ≡ length all
+  pub pushed : HasPushed all q r count
+  pub taken : HasTaken Applied count run new
 
--- Nothing was consumed, and the command that comes next is the one at which it stopped.
-pub record HasStopped {D : Type 0} (run : PendingValue D) (new : ConsumerValue D) (q : QueueValue) (found : Progress) (stopped : Stopped) : Type 0 where
-  pub found_is : found ≡ progress.Stopped 0 stopped.error
-  pub command : slice_get q.shown q.consumed ≡ Some stopped.command
-  pub kept : new ≡ run.consumer
-
--- The command at the head is illegal, and was completed without effect.
-pub record HasReplaced {D : Type 0} (run : PendingValue D) (new : ConsumerValue D) (found : Progress) (raw : Raw) : Type 0 where
-  pub found_is : found ≡ progress.Consumed 0
+-- It begins with this command, which is illegal, and that alone was taken. The hardware wasn't shown it.
+pub record IsReplaced {D : Type 0} (run : PendingValue D) (new : ConsumerValue D) (q r : QueueValue) (raw : Raw) : Type 0 where
   pub first : slice_get run.raws 0 ≡ Some raw
   pub ill : Ill
   pub illegal : first_ill raw ≡ Some ill
-  pub taken : IsTaken Replaced 1 run new
+  pub taken : HasTaken Replaced 1 run new
+  pub untouched : r ≡ q
 
--- Nothing was consumed, and the command at the head is for the hardware.
-pub record HasWaited {D : Type 0} (run : PendingValue D) (new : ConsumerValue D) (found : Progress) (all : List Raw) : Type 0 where
-  pub found_is : found ≡ progress.Consumed 0
-  pub some : 1 ≤ length all
-  pub kept : new ≡ run.consumer
+-- what was done with a run, by the answer
+abbrev pub IsDone : {D : Type 0} → PendingValue D → ConsumerValue D → QueueValue → QueueValue → Forwarded → Type 0
+IsDone run new q r (answer.Shown count) = IsShown run new q r count
+IsDone run new q r (answer.Replaced raw) = IsReplaced run new q r raw
+IsDone run new q r other = ⊥
 
-abbrev pub HasAnswered : {D : Type 0} → PendingValue D → ConsumerValue D → QueueValue → Progress → List Raw → Forwarded → Type 0
-HasAnswered run new q found all (answer.Completed count) = HasCompleted run new found count
-HasAnswered run new q found all (answer.Stopped stopped) = HasStopped run new q found stopped
-HasAnswered run new q found all (answer.Replaced raw) = HasReplaced run new found raw
-HasAnswered run new q found all answer.Waiting = HasWaited run new found all
-HasAnswered run new q found all (answer.Broken word) = (found ≡ progress.Broken word) × (new ≡ run.consumer)
-HasAnswered run new q found all other = ⊥
-
--- It looked at the registers once, and answered by what it found.
-pub record HasLooked {D : Type 0} (run : PendingValue D) (new : ConsumerValue D) (all : List Raw) (old_queue new_queue : QueueValue) (found : QueueState) (answer : Forwarded) : Type 0 where
-  pub progress : Progress
-  pub polled : HasPolled old_queue new_queue progress
-  pub state_is : found ≡ state_after progress
-  pub answered : HasAnswered run new new_queue progress all answer
-
--- what of these isn't in flight, if so much was shown
-abbrev pub not_shown : List Taken → QueueValue → List Raw → List Raw
-not_shown taken q all = drop (length q.shown - length (passed_on taken)) all
-
--- It found a run at the head, showed as many of what isn't in flight as fit, and looked.
-pub record HasServed {D : Type 0} (old new : ConsumerValue D) (q r : QueueValue) (found : QueueState) (answer : Forwarded) : Type 0 where
+-- It found a run at the head, of as many commands as fit at most.
+pub record HasServed {D : Type 0} (old new : DeferringValue D) (q r : QueueValue) (answer : Forwarded) : Type 0 where
   pub run : PendingValue D
-  pub took : TookRun 64 old run
-  pub all : List Raw
-  pub passing : IsPassing run.raws all
-  pub count : ℕ
-  pub between : QueueValue
-  pub pushed : HasPushed (not_shown (taken_of old.trail) q all) q between count
-  pub looked : HasLooked run new all between r found answer
+  pub took : TookRun (most_taken q old) old.consumer run
+  pub done : IsDone run new.consumer q r answer
 
--- The run at the head doesn't begin with what is in flight, and nothing was done.
-pub record HasChanged {D : Type 0} (old new : ConsumerValue D) (q : QueueValue) : Type 0 where
-  pub run : PendingValue D
-  pub took : TookRun 64 old run
-  pub all : List Raw
-  pub passing : IsPassing run.raws all
-  pub others : ¬ Begins all (drop (length (passed_on (taken_of old.trail))) q.shown)
-  pub kept : new ≡ run.consumer
+-- There was room, and nothing to take, as this says.
+pub record HasFoundNone {D : Type 0} (Found : ConsumerValue D → ConsumerValue D → Type 0) (old new : DeferringValue D) (q r : QueueValue) : Type 0 where
+  pub room : 1 ≤ room_for q old
+  pub found : Found old.consumer new.consumer
+  pub untouched : r ≡ q
 
--- the state and the queue stayed as they were
-abbrev pub IsUntouched : QueueState → QueueState → QueueValue → QueueValue → Type 0
-IsUntouched s t q r = (t ≡ s) × (r ≡ q)
+-- what a call of `forward` did, for a queue that is seen as `queue` says
+abbrev pub HasForwarded : {Q : Type 0} → (Q → QueueValue) → ForwarderValue Q → ForwarderValue Q → Forwarded → Type 0
+HasForwarded queue old new answer.Empty =
+    HasFoundNone (TookNone false) old.consumer new.consumer (queue old.owner.queue) (queue new.owner.queue)
+HasForwarded queue old new answer.Drained =
+    HasFoundNone (TookNone true) old.consumer new.consumer (queue old.owner.queue) (queue new.owner.queue)
+HasForwarded queue old new answer.Unwritten =
+    HasFoundNone (TookUnwritten (most_taken (queue old.owner.queue) old.consumer)) old.consumer new.consumer
+    (queue old.owner.queue) (queue new.owner.queue)
+HasForwarded queue old new answer.Full = (room_for (queue old.owner.queue) old.consumer ≡ 0) × (new ≡ old)
+HasForwarded queue old new (answer.Broken word) = (old.owner.state ≡ state.Broken word) × (new ≡ old)
+HasForwarded queue old new served =
+    HasServed old.consumer new.consumer (queue old.owner.queue) (queue new.owner.queue) served
 
--- It was broken before, and nothing was done.
-pub record IsUndone {D : Type 0} (old new : ConsumerValue D) (s t : QueueState) (q r : QueueValue) (word : ℕ) : Type 0 where
-  pub broken : s ≡ state.Broken word
-  pub untouched : IsUntouched s t q r
-  pub kept : new ≡ old
+-- ---- poll
 
-abbrev pub HasForwarded : {D : Type 0} → ConsumerValue D → ConsumerValue D → QueueState → QueueState → QueueValue → QueueValue → Forwarded → Type 0
-HasForwarded old new s t q r answer.Empty = TookNone false old new × IsUntouched s t q r
-HasForwarded old new s t q r answer.Drained = TookNone true old new × IsUntouched s t q r
-HasForwarded old new s t q r answer.Unwritten = TookUnwritten 64 old new × IsUntouched s t q r
-HasForwarded old new s t q r answer.Changed = HasChanged old new q × IsUntouched s t q r
-HasForwarded old new s t q r (answer.Broken word) = IsUndone old new s t q r word ⊎ HasServed old new q r t (answer.Broken word)
-HasForwarded old new s t q r other = HasServed old new q r t other
+-- These were settled, and each CMD_SYNC among them was acknowledged, in order. Nothing was taken.
+pub record HasSettled {D : Type 0} (now : List Raw) (old new : DeferringValue D) : Type 0 where
+  pub settled : settled_raws new ≡ settled_raws old ++ now
+  pub unsettled : unsettled_raws old ≡ now ++ unsettled_raws new
+  pub acknowledged : new.consumer.trail ≡ all_acknowledged now old.consumer.trail
 
--- Once something that no working queue has was found, nothing is done any more, and the answer says so.
-abbrev pub NothingIsDone : {D : Type 0} → ConsumerValue D → ConsumerValue D → QueueState → QueueState → QueueValue → QueueValue → Forwarded → Type 0
-NothingIsDone old new s t q r told = (word : ℕ) → s ≡ state.Broken word → (told ≡ answer.Broken word) × IsUndone old new s t q r word
+-- One command was settled.
+abbrev pub HasSettledOne : {D : Type 0} → DeferringValue D → DeferringValue D → Type 0
+HasSettledOne old new = (raw : Raw) × HasSettled (raw ∷ []) old new
+
+-- What the hardware has consumed is settled, no more and no less, and with it each illegal command ahead of the next
+-- that is for the hardware.
+pub record HasSettledAll {D : Type 0} (q : QueueValue) (old new : DeferringValue D) : Type 0 where
+  pub now : List Raw
+  pub settled : HasSettled now old new
+  pub consumed : IsConsumed q (settled_raws new)
+  pub next : BeginsLegal (unsettled_raws new)
+
+-- what was settled, by what a look found: nothing where it found what no working queue has
+abbrev pub HasSettledAt : {D : Type 0} → Progress → QueueValue → DeferringValue D → DeferringValue D → Type 0
+HasSettledAt (progress.Broken word) q old new = new ≡ old
+HasSettledAt other q old new = HasSettledAll q old new

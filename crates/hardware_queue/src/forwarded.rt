@@ -1,4 +1,4 @@
-//! What a step of a forwarder does.
+//! What a call of a forwarder does.
 ghost use Rattle.std.specs.Prelude.{◌≡◌};
 ghost use Rattle.hardware_queue.specs.Forwarders.{refusal_at};
 
@@ -32,7 +32,7 @@ impl Stopped {
     }
 }
 
-/// What a step of a forwarder did.
+/// What a call of `Forwarder::forward` did.
 #[derive(Clone, Copy, Debug, PartialEq, Eq)]
 pub enum Forwarded {
     /// Nothing is reserved.
@@ -41,16 +41,12 @@ pub enum Forwarded {
     Drained,
     /// The command at the head isn't handed over.
     Unwritten,
-    /// The hardware has consumed nothing more.
-    Waiting,
-    /// So many commands, which the hardware has consumed, were completed.
-    Completed(u32),
-    /// This illegal command was completed without effect, and the hardware wasn't shown it.
+    /// As many commands as the hardware's queue has slots aren't settled, and nothing was done.
+    Full,
+    /// So many commands were taken, and the hardware was shown what it gets for them.
+    Shown(u32),
+    /// This illegal command was taken, and the hardware wasn't shown it.
     Replaced(Raw),
-    /// The hardware is stopped, and goes on only once the error is acknowledged.
-    Stopped(Stopped),
-    /// SMMU_CMDQ_CONS had this value, which no working queue has. Nothing is completed any more.
+    /// SMMU_CMDQ_CONS had this value, which no working queue has. Nothing is done any more.
     Broken(u32),
-    /// The ring has other commands at its head than those in flight. It can't be, which isn't proved.
-    Changed,
 }

@@ -1,12 +1,19 @@
 //! What the hardware gets for the commands of a ring.
-ghost use Rattle.std.specs.Prelude.{◌≡◌, ◌↔◌, IsTrue};
-ghost use Rattle.hardware_queue.specs.Flights.{passed, IsPassing, Begins};
+ghost use Rattle.std.specs.Prelude.{◌≡◌};
+ghost use Rattle.hardware_queue.specs.Flights.{passed, hardware_form as form_of, IsPassing};
 
 use cmdcodec::{Raw, RawList, first_ill};
-use ring::{Device, PendingRun};
+use ring::{DeferringConsumer, Device};
 
 /// A CMD_SYNC that asks for no signal.
 const PLAIN_SYNC: Raw = Raw { lo: 0x46, hi: 0 };
+
+/// Returns what the hardware gets for a legal command.
+pub fn hardware_form(raw: Raw) -> Raw
+    ensures { result ≡ form_of raw }
+{
+    if raw.is_sync() { PLAIN_SYNC } else { raw }
+}
 
 /// Returns what the hardware gets for a command, or `None` for an illegal one.
 fn pass(raw: Raw) -> Option<Raw>
@@ -15,11 +22,11 @@ fn pass(raw: Raw) -> Option<Raw>
     if first_ill(raw).is_some() {
         return None;
     }
-    Some(if raw.is_sync() { PLAIN_SYNC } else { raw })
+    Some(hardware_form(raw))
 }
 
-/// Returns what the hardware gets for the commands of a run up to the first illegal one.
-pub fn pass_run<D: Device>(run: &PendingRun<D>) -> RawList
+/// Returns what the hardware gets for the commands that were read, up to the first illegal one.
+pub fn pass_run<D: Device>(run: &DeferringConsumer<D>) -> RawList
     ensures { IsPassing run.now.raws result.items }
 {
     let mut out = RawList::new();
@@ -30,11 +37,4 @@ pub fn pass_run<D: Device>(run: &PendingRun<D>) -> RawList
         out.push(command);
     }
     out
-}
-
-/// Whether the one begins with the other.
-pub fn begins(all: &[Raw], first: &[Raw]) -> bool
-    ensures { IsTrue result ↔ Begins all.now first.now }
-{
-    all.starts_with(first)
 }

@@ -5,21 +5,27 @@
 //!    clauses are all that is taken for granted of it.
 //! 2. [`Owner`] keeps both indexes: it writes no slot that the hardware may read, shows what it wrote by one write of
 //!    PROD, and believes CONS only between the two.
-//! 3. [`Forwarder`] is the consumer of a ring: what the hardware has consumed it completes, and nothing else.
+//! 3. [`Forwarder`] is the consumer of a ring. It takes commands before they are carried out, as many as the hardware's
+//!    queue has slots, so that the ring's slots are free at once. What the hardware has consumed is settled, and nothing
+//!    else: then the CMD_SYNCs among it are acknowledged.
 #![tactic(auto)]
 
 mod command_error;
 mod command_queue;
+mod fates;
+mod flight;
 mod forwarded;
 mod forwarder;
+mod forwarding;
 mod hardware_form;
 mod owner;
 mod progress;
 mod reading;
 mod remedy;
-mod service;
+mod settling;
 mod state;
 
+pub use batch_outcomes::BatchOutcome;
 pub use command_error::CommandError;
 pub use command_queue::CommandQueue;
 pub use forwarded::{Forwarded, Stopped};

@@ -1,5 +1,6 @@
 //! The owner of a hardware queue.
-ghost use Rattle.std.specs.Prelude.{◌≡◌, ◌≤◌, [], length, None, Some, OnOk, OnErr, IfErr};
+ghost use Rattle.std.specs.Prelude.{◌≡◌, ◌≤◌, ◌^◌, [], length, None, Some, OnOk, OnErr, IfErr};
+ghost use Rattle.qindex.specs.Positions.{size};
 ghost use Rattle.hardware_queue.specs.Queues.{SyncsComplete};
 ghost use Rattle.hardware_queue.specs.declared.state.QueueState.TheVariants.{Running, Stopped as StoppedWith};
 ghost use Rattle.hardware_queue.specs.declared.command_error.CommandError.{CommandError as CommandErrorOf};
@@ -74,6 +75,14 @@ impl<Q: CommandQueue> Owner<Q> {
         ensures { result ≡ self.now.state }
     {
         self.state
+    }
+
+    /// Returns how many slots the queue has.
+    pub fn slots(&self) -> u32
+        ensures value { result ≡ size (Q.queue self.now.queue).geometry }
+        ensures few { result ≤ 2 ^ 19 }
+    {
+        self.prod.geometry().size()
     }
 
     /// Returns how many more commands fit.

@@ -8,17 +8,17 @@ use Rattle.ringcore.specs.declared.world.event.Who.TheVariants.{Sender}
 use Rattle.ringcore.specs.world.Trails.{Run}
 use Rattle.ring.specs.consumer.Consumers.{ConsumerValue}
 use Rattle.ring.specs.consumer.Pendings.{PendingValue}
+use Rattle.ring.specs.consumer.Deferring.{DeferringValue}
 use Rattle.hardware_queue.specs.declared.command_error.CommandError.TheVariants.{Illegal, Abort, AtcInvSync}
 use Rattle.hardware_queue.specs.declared.forwarded.Forwarded.TheVariants as answer
 use Rattle.hardware_queue.specs.declared.progress.Progress.TheVariants as progress
 use Rattle.hardware_queue.specs.declared.remedy.Remedy.TheVariants.{Retry, Replace}
 use Rattle.hardware_queue.specs.declared.remedy.RemedyFault.TheVariants.{NotStopped, NotIllegal, IsSync}
-use Rattle.hardware_queue.specs.declared.state.QueueState.{QueueState}
 use Rattle.hardware_queue.specs.declared.state.QueueState.TheVariants as state
 use Rattle.hardware_queue.specs.Queues.{QueueValue, Stop, plain_sync, MayBeRead, IsFree, IsOfIllegal, IsBelievable, error_in, toggled, MayAcknowledge, IsErrorActive, IsSyncAt, MayBeUnanswered, SyncsComplete}
-use Rattle.hardware_queue.specs.Owners.{HasPushed, HasFound, refusal}
-use Rattle.hardware_queue.specs.Flights.{hardware_form, owed, IsInOrder, IsPassing}
-use Rattle.hardware_queue.specs.Steps.{HasCompleted, HasWaited, NothingIsDone}
+use Rattle.hardware_queue.specs.Owners.{HasPushed, HasFound, refusal, room}
+use Rattle.hardware_queue.specs.Flights.{hardware_form, owed, IsInOrder, IsConsumed, BeginsLegal}
+use Rattle.hardware_queue.specs.Steps.{ForwarderValue, HasForwarded, IsShown, IsReplaced, HasSettledAt, room_for}
 use Rattle.hardware_queue.specs.Forwarders.{refusal_to_replace, IsCarriedOut}
 
 -- CMD_CFGI_STE of stream 5 with Leaf 1, and CMD_ATC_INV of stream 5 with SSV 0 and Size 52
@@ -143,14 +143,43 @@ no_more_than_reserved is = let long : 1 ≡ suc (suc (length is.0)) = ap (λ (l 
 pub room_is_used : ¬ HasPushed (cfgi_ste ∷ []) (queue [] 0) (queue [] 0) 0
 room_is_used is = let count = is.count_is in absurd (omega (arith, count))
 
-pub broken_completes_nothing : {D : Type 0} (run : PendingValue D) (new : ConsumerValue D) → ¬ HasCompleted run new (progress.Broken 7) 1
-broken_completes_nothing run new is = let none = is.consumed in absurd (cc)
+pub full_only_without_room : {Q : Type 0} (seen : Q → QueueValue) (old new : ForwarderValue Q) → room_for (seen old.owner.queue) old.consumer ≡ 1 → ¬ HasForwarded seen old new answer.Full
+full_only_without_room seen old new room is = let none = is.0 in absurd (omega (arith, room, none))
 
-pub an_illegal_command_is_not_waited_for : {D : Type 0} (run : PendingValue D) (new : ConsumerValue D) → ¬ HasWaited run new (progress.Consumed 0) []
-an_illegal_command_is_not_waited_for run new is = let some = is.some in absurd (omega (arith, some))
+pub nothing_shown_is_no_answer : {D : Type 0} (run : PendingValue D) (new : ConsumerValue D) (q r : QueueValue) → ¬ IsShown run new q r 0
+nothing_shown_is_no_answer run new q r is = let some = is.some in absurd (omega (arith, some))
 
-pub broken_tells_nobody : {D : Type 0} (old new : ConsumerValue D) (t : QueueState) (q r : QueueValue) → ¬ NothingIsDone old new (state.Broken 7) t q r (answer.Completed 1)
-broken_tells_nobody old new t q r is = let told = (is 7 refl).0 in absurd (cc)
+-- All that is legal ahead of the first illegal command is shown, whatever room there is.
+pub a_run_is_shown_whole : {D : Type 0} (run : PendingValue D) (new : ConsumerValue D) (q r : QueueValue) → room q ≡ 1 → ¬ IsShown run new q r 2
+a_run_is_shown_whole run new q r few is =
+    let count = is.pushed.count_is in
+    absurd (omega (arith, count, few))
+
+pub a_legal_command_is_not_replaced : {D : Type 0} (run : PendingValue D) (new : ConsumerValue D) (q r : QueueValue) → ¬ IsReplaced run new q r cfgi_ste
+unfolding opcode_named
+a_legal_command_is_not_replaced run new q r is = let never = is.illegal in absurd (cc)
+
+pub broken_forwards_nothing : {Q : Type 0} (seen : Q → QueueValue) (old new : ForwarderValue Q) → old.owner.state ≡ state.Running → ¬ HasForwarded seen old new (answer.Broken 7)
+broken_forwards_nothing seen old new running is = let broken = is.0 in absurd (cc)
+
+-- ---- settling
+
+pub what_is_not_consumed_is_not_settled : ¬ IsConsumed (queue (cfgi_ste ∷ []) 0) (cfgi_ste ∷ [])
+unfolding opcode_named
+what_is_not_consumed_is_not_settled is = let count : 0 ≡ 1 = is in absurd (omega (arith, count))
+
+pub what_is_consumed_is_settled : ¬ IsConsumed (queue (cfgi_ste ∷ []) 1) []
+what_is_consumed_is_settled is = let count : 1 ≡ 0 = is in absurd (omega (arith, count))
+
+pub an_illegal_command_is_not_left : ¬ BeginsLegal (illegal ∷ [])
+unfolding opcode_named
+an_illegal_command_is_not_left is = let never = is illegal ([], refl) in absurd (cc)
+
+pub broken_settles_nothing : {D : Type 0} (c : ConsumerValue D) (q : QueueValue)
+    → ¬ HasSettledAt (progress.Broken 7) q (record { consumer = c; raws = []; settled = 0 }) (record { consumer = c; raws = []; settled = 1 })
+broken_settles_nothing {D} c q is =
+    let count : 1 ≡ 0 = ap (λ (x : DeferringValue D). x.settled) is in
+    absurd (omega (arith, count))
 
 -- ---- remedies
 

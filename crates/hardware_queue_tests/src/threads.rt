@@ -3,7 +3,7 @@ ghost use Rattle.std.specs.Prelude.{◌≡◌, ◌≤◌};
 
 use crate::words::{CFGI_STE, UNSUPPORTED, owner};
 use batch::Batch;
-use hardware_queue::{Forwarded, Forwarder, Remedy};
+use hardware_queue::{Forwarder, Progress, Remedy};
 use ring::{Ring, RingFault, Sender};
 use std::thread::{Threads, join};
 use unit_queue::UnitQueue;
@@ -24,23 +24,22 @@ fn send_many(ring: &Ring, sender: Sender, batch: &Batch, count: u32) -> (Sender,
     (sender, count)
 }
 
-/// Takes so many steps, and replaces each command at which the hardware stops.
+/// Forwards and looks so often, and replaces each command at which the hardware stops.
 fn forward_many(ring: &Ring, forwarder: Forwarder<UnitQueue>, turns: u32) -> Forwarder<UnitQueue>
-    requires { forwarder.consumer.ring ≡ ring.now }
-    ensures { result.consumer.ring ≡ ring.now }
+    requires { forwarder.consumer.consumer.ring ≡ ring.now }
+    ensures { result.consumer.consumer.ring ≡ ring.now }
 {
     let mut forwarder = forwarder;
     for _ in 0..turns {
-        let (mut again, answer) = forwarder.step(ring);
-        if let Forwarded::Stopped(_) = answer {
-            let _stopped = again.acknowledge(Remedy::Replace);
+        let _forwarded = forwarder.forward(ring);
+        if let Progress::Stopped { .. } = forwarder.poll(ring) {
+            let _stopped = forwarder.acknowledge(Remedy::Replace);
         }
-        forwarder = again;
     }
     forwarder
 }
 
-/// Sends what is left of so many batches, each after steps that make room.
+/// Sends what is left of so many batches, each after calls that make room.
 fn send_rest(
     ring: &Ring,
     sender: Sender,
@@ -49,9 +48,9 @@ fn send_rest(
     left: u32,
 ) -> (Sender, Forwarder<UnitQueue>)
     requires sender { sender.ring ≡ ring.now }
-    requires forwarder { forwarder.consumer.ring ≡ ring.now }
+    requires forwarder { forwarder.consumer.consumer.ring ≡ ring.now }
     ensures sender { result.0.ring ≡ ring.now }
-    ensures forwarder { result.1.consumer.ring ≡ ring.now }
+    ensures forwarder { result.1.consumer.consumer.ring ≡ ring.now }
 {
     let (mut sender, mut forwarder) = (sender, forwarder);
     for _ in 0..left {
@@ -67,7 +66,8 @@ fn two_senders_and_a_slow_unit(rt: HostRuntime) -> Result<(), RingFault> {
     let (ring, mut senders, consumer) = Ring::new(rt.alloc(), 3, 2, 100)?;
     let second = senders.pop().expect(&rt, "two senders");
     let first = senders.pop().expect(&rt, "two senders");
-    let forwarder = Forwarder::new(consumer, owner(&rt, 1));
+    let made = Forwarder::new(rt.alloc(), consumer, owner(&rt, 1), 2);
+    let forwarder = made.expect(&rt, "memory");
     let legal = Batch::from_raws(&[CFGI_STE; 2]).expect(&rt, "no CMD_SYNC");
     let stopping = Batch::from_raws(&[CFGI_STE, UNSUPPORTED]).expect(&rt, "no CMD_SYNC");
     let (((first, sent), (second, sent_too)), forwarder) = join(
@@ -89,8 +89,8 @@ fn two_senders_and_a_slow_unit(rt: HostRuntime) -> Result<(), RingFault> {
             )
         },
         || -> Forwarder<UnitQueue>
-            requires { forwarder.consumer.ring ≡ ring }
-            ensures { result.consumer.ring ≡ ring }
+            requires { forwarder.consumer.consumer.ring ≡ ring }
+            ensures { result.consumer.consumer.ring ≡ ring }
         { forward_many(&ring, forwarder, 2_000) },
     );
     // The rest on one thread.

@@ -1,22 +1,22 @@
 -- What a sender's number tells of the entries of a unit whose queue serves the ring.
-use Rattle.std.specs.Prelude.{◌≡◌, ℕ, ◌<◌, ◌≤◌, true, List, length, None, Some, slice_get, map, take, Contains}
+use Rattle.std.specs.Prelude.{◌≡◌, ℕ, ◌<◌, ◌≤◌, true, List, length, None, Some, slice_get, take, Contains}
 use Rattle.std.specs.FinMap as finite
 use Rattle.cmdcodec.specs.declared.raw.Raw.{Raw}
 use Rattle.cmdcodec.specs.declared.command.Command.{Command}
 use Rattle.cmdcodec.specs.Spelling.{Spells}
 use Rattle.cmdcodec.specs.Legality.{first_ill}
 use Rattle.ringcore.specs.world.Trails.{Run, Trail}
-use Rattle.ringcore.specs.world.World.{taken_as}
 use Rattle.caches.specs.declared.tag.Tag.{Tag}
 use Rattle.caches.specs.declared.tag.Entry.{Entry}
 use Rattle.caches.specs.Covers.{covers}
-use Rattle.hardware_queue.specs.Flights.{passed_on}
-use Rattle.hardware_queue.specs.Forwarders.{reserved_ahead, WasToldTruly}
+use Rattle.ring.specs.Finishing.{reserved_ahead}
+use Rattle.hardware_queue.specs.Flights.{passed_for}
+use Rattle.hardware_queue.specs.Forwarders.{WasToldTruly}
 use Rattle.unit_queue.specs.Queued.{Queued, HasEffect}
 
 -- the position at which the hardware was shown the command that has this place among these, if it is legal
 abbrev pub position_of : List Raw → ℕ → ℕ
-position_of first place = length (passed_on (map taken_as (take place first)))
+position_of first place = length (passed_for (take place first))
 
 -- Each entry that a legal one of these commands covers was filled after the unit took that command, unless that was
 -- written over.

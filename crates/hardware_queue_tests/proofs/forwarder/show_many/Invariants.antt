@@ -1,0 +1,8 @@
+use Rattle.std.proofs.Common.{◌≡◌}
+use Rattle.hardware_queue_tests.proofs.forwarder.show_many.Given as goal
+
+abbrev pub invariant-loop : goal.invariant-loop
+invariant-loop g l = record {
+  sender : l.sender.ring ≡ l.ring;
+  forwarder : l.forwarder.consumer.consumer.ring ≡ l.ring;
+}
