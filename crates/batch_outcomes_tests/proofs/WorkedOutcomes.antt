@@ -8,7 +8,6 @@ use Rattle.batch_outcomes.specs.Settled.{losses_of}
 abbrev pub two_batches : List Settled
 two_batches = Sync 0 2 ∷ Command true ∷ Sync 0 1 ∷ Command false ∷ []
 
-
 pub its_loss_is_told : losses_of 0 1 two_batches ≡ Some 1
 its_loss_is_told = refl
 
@@ -16,7 +15,6 @@ its_loss_is_told = refl
 
 pub a_later_batch_lost_none : losses_of 0 2 two_batches ≡ Some 0
 a_later_batch_lost_none = refl
-
 
 pub another_sender_has_none : losses_of 1 1 two_batches ≡ None
 another_sender_has_none = refl

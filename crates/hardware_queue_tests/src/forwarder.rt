@@ -10,12 +10,7 @@ use std::process::Abort;
 use unit_queue::UnitQueue;
 
 /// A call of `forward` that must answer this.
-fn forward<R: Abort>(
-    rt: &R,
-    ring: &Ring,
-    forwarder: &mut Forwarder<UnitQueue>,
-    wanted: Forwarded,
-)
+fn forward<R: Abort>(rt: &R, ring: &Ring, forwarder: &mut Forwarder<UnitQueue>, wanted: Forwarded)
     requires { forwarder.old.consumer.consumer.ring ≡ ring.now }
     ensures { forwarder.new.consumer.consumer.ring ≡ ring.now }
 {
@@ -24,12 +19,7 @@ fn forward<R: Abort>(
 }
 
 /// A look that must find this.
-fn poll<R: Abort>(
-    rt: &R,
-    ring: &Ring,
-    forwarder: &mut Forwarder<UnitQueue>,
-    wanted: Progress,
-)
+fn poll<R: Abort>(rt: &R, ring: &Ring, forwarder: &mut Forwarder<UnitQueue>, wanted: Progress)
     requires { forwarder.old.consumer.consumer.ring ≡ ring.now }
     ensures { forwarder.new.consumer.consumer.ring ≡ ring.now }
 {
