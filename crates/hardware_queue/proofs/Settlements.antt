@@ -16,8 +16,8 @@ use Rattle.ring.specs.consumer.Deferring.{DeferringValue, settled_raws, unsettle
 use Rattle.hardware_queue.specs.declared.flight.InFlight.{InFlight}
 use Rattle.hardware_queue.specs.declared.state.QueueState.{QueueState}
 use Rattle.hardware_queue.specs.declared.state.QueueState.TheVariants as state
-use Rattle.hardware_queue.specs.declared.progress.Progress.{Progress}
-use Rattle.hardware_queue.specs.declared.progress.Progress.TheVariants as progress
+use Rattle.hardware_queue.specs.declared.queue_progress.Progress.{Progress}
+use Rattle.hardware_queue.specs.declared.queue_progress.Progress.TheVariants as progress
 use Rattle.hardware_queue.specs.Queues.{QueueValue}
 use Rattle.hardware_queue.specs.Owners.{HasConsumed, HasPolled, IsSameButSeen}
 use Rattle.hardware_queue.specs.Flights.{count_passed, passed_for, HasConsumedAll, NoSyncIsLost, BeginsLegal}

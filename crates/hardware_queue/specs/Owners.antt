@@ -8,8 +8,8 @@ use Rattle.hardware_queue.specs.declared.command_error.CommandError.TheVariants.
 use Rattle.hardware_queue.specs.declared.reading.Reading.TheVariants.{Gerror, Gerrorn, Cons}
 use Rattle.hardware_queue.specs.declared.state.QueueState.{QueueState}
 use Rattle.hardware_queue.specs.declared.state.QueueState.TheVariants as state
-use Rattle.hardware_queue.specs.declared.progress.Progress.{Progress}
-use Rattle.hardware_queue.specs.declared.progress.Progress.TheVariants.{Consumed, Stopped, Broken}
+use Rattle.hardware_queue.specs.declared.queue_progress.Progress.{Progress}
+use Rattle.hardware_queue.specs.declared.queue_progress.Progress.TheVariants.{Consumed, Stopped, Broken}
 use Rattle.hardware_queue.specs.declared.remedy.Remedy.{Remedy}
 use Rattle.hardware_queue.specs.declared.remedy.Remedy.TheVariants.{Retry, Replace}
 use Rattle.hardware_queue.specs.declared.remedy.RemedyFault.{RemedyFault}

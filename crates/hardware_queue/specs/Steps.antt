@@ -14,8 +14,8 @@ use Rattle.ring.specs.consumer.Completing.{taken_of, with_outcome, all_acknowled
 use Rattle.ring.specs.consumer.Deferring.{DeferringValue, settled_raws, unsettled_raws}
 use Rattle.hardware_queue.specs.declared.forwarded.Forwarded.{Forwarded}
 use Rattle.hardware_queue.specs.declared.forwarded.Forwarded.TheVariants as answer
-use Rattle.hardware_queue.specs.declared.progress.Progress.{Progress}
-use Rattle.hardware_queue.specs.declared.progress.Progress.TheVariants as progress
+use Rattle.hardware_queue.specs.declared.queue_progress.Progress.{Progress}
+use Rattle.hardware_queue.specs.declared.queue_progress.Progress.TheVariants as progress
 use Rattle.hardware_queue.specs.declared.state.QueueState.TheVariants as state
 use Rattle.hardware_queue.specs.Queues.{QueueValue}
 use Rattle.hardware_queue.specs.Owners.{OwnerValue, HasPushed}

@@ -22,7 +22,7 @@ use crate::forwarded::{Forwarded, Stopped};
 use crate::forwarding::forward_with;
 use crate::hardware_form::hardware_form;
 use crate::owner::Owner;
-use crate::progress::Progress;
+use crate::queue_progress::Progress;
 use crate::remedy::{Remedy, RemedyFault};
 use crate::settling::poll_with;
 use crate::state::QueueState;

@@ -12,7 +12,7 @@ mod slots;
 
 use crate::command_error::CommandError;
 use crate::command_queue::CommandQueue;
-use crate::progress::Progress;
+use crate::queue_progress::Progress;
 use crate::remedy::{Remedy, RemedyFault};
 use crate::state::QueueState;
 use cmdcodec::Raw;

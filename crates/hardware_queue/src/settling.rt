@@ -14,7 +14,7 @@ use crate::command_queue::CommandQueue;
 use crate::fates::Fates;
 use crate::flight::Flight;
 use crate::owner::Owner;
-use crate::progress::Progress;
+use crate::queue_progress::Progress;
 use crate::state::QueueState;
 use ring::{DeferringConsumer, Outcome, Ring, growth_adds_up};
 use ringcore::{counts_law, laws};

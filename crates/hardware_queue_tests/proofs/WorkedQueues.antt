@@ -11,7 +11,7 @@ use Rattle.ring.specs.consumer.Pendings.{PendingValue}
 use Rattle.ring.specs.consumer.Deferring.{DeferringValue}
 use Rattle.hardware_queue.specs.declared.command_error.CommandError.TheVariants.{Illegal, Abort, AtcInvSync}
 use Rattle.hardware_queue.specs.declared.forwarded.Forwarded.TheVariants as answer
-use Rattle.hardware_queue.specs.declared.progress.Progress.TheVariants as progress
+use Rattle.hardware_queue.specs.declared.queue_progress.Progress.TheVariants as progress
 use Rattle.hardware_queue.specs.declared.remedy.Remedy.TheVariants.{Retry, Replace}
 use Rattle.hardware_queue.specs.declared.remedy.RemedyFault.TheVariants.{NotStopped, NotIllegal, IsSync}
 use Rattle.hardware_queue.specs.declared.state.QueueState.TheVariants as state
