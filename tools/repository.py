@@ -1,0 +1,88 @@
+# SPDX-License-Identifier: MIT OR Apache-2.0
+"""What the tools share: where the repository and the toolchain are, and what crates.txt says."""
+import functools
+import os
+import subprocess
+from dataclasses import dataclass
+
+TOP = os.path.dirname(os.path.dirname(os.path.realpath(__file__)))
+
+
+@functools.lru_cache(None)
+def kit():
+    """The toolchain's folder."""
+    page = subprocess.run(["rt", "doc"], capture_output=True, text=True, check=True).stdout.strip()
+    return os.path.dirname(page)
+
+
+def rattle():
+    """The path of the compiler and prover."""
+    return os.path.join(kit(), "bin", "rattle")
+
+
+@dataclass(frozen=True)
+class Crate:
+    """A line of crates.txt."""
+
+    name: str
+    uses: tuple
+    is_static_library: bool
+
+
+def crates_in(text):
+    """The crates of a text like crates.txt, by their names. # begins a comment."""
+    found = {}
+    for line in text.splitlines():
+        head, colon, uses = line.partition("#")[0].partition(":")
+        name, *words = head.split() or [""]
+        if colon:
+            found[name] = Crate(name, tuple(uses.split()), "staticlib" in words)
+    return found
+
+
+def crates(top=TOP):
+    """The crates of crates.txt, by their names."""
+    with open(os.path.join(top, "crates.txt"), encoding="utf-8") as file:
+        return crates_in(file.read())
+
+
+def libraries(top=TOP):
+    """What each crate uses."""
+    return {name: list(crate.uses) for name, crate in crates(top).items()}
+
+
+def static_libraries(top=TOP):
+    return {name for name, crate in crates(top).items() if crate.is_static_library}
+
+
+def below(names, uses):
+    """These crates and all of crates/ that they stand on, each behind those that it uses."""
+    found = []
+
+    def add(name):
+        if name in uses and name not in found:
+            for other in uses[name]:
+                add(other)
+            found.append(name)
+
+    for name in names:
+        add(name)
+    return found
+
+
+def crate_folder(crate, top=TOP):
+    return os.path.join(top, "crates", crate)
+
+
+def root_file(crate, top=TOP):
+    """The file of a crate at which the compiler begins, in its folder."""
+    program = os.path.join("src", "main.rt")
+    return program if os.path.exists(os.path.join(crate_folder(crate, top), program)) else os.path.join("src", "lib.rt")
+
+
+def sources(crate, top=TOP):
+    """The paths of a crate's files, in their order."""
+    for part in ("src", "specs", "proofs"):
+        for at, folders, names in os.walk(os.path.join(crate_folder(crate, top), part)):
+            folders.sort()
+            yield from (os.path.join(at, name) for name in sorted(names))
