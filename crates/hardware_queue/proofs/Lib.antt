@@ -1,4 +1,5 @@
 pub mod Owning
+pub mod Memory
 pub mod Polls
 pub mod Acknowledging
 pub mod PassLemmas
@@ -8,3 +9,4 @@ pub mod Orders
 pub mod Losses
 pub mod Telling
 pub mod FateLemmas
+pub mod Supplies

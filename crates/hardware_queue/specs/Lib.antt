@@ -1,7 +1,10 @@
 pub mod Queues
 pub mod Owners
+pub mod Standing
+pub mod Tapes
 pub mod Flights
 pub mod Steps
 pub mod Forwarders
+pub mod Supplying
 pub mod Kept
 pub mod Fates

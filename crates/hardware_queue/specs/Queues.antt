@@ -8,11 +8,18 @@ use Rattle.hardware_queue.specs.declared.command_error.CommandError.{CommandErro
 use Rattle.hardware_queue.specs.declared.command_error.CommandError.TheVariants.{Illegal, Abort, AtcInvSync, Reserved}
 use Rattle.hardware_queue.specs.declared.reading.Reading.{Reading}
 use Rattle.hardware_queue.specs.declared.reading.Reading.TheVariants.{Gerror, Gerrorn, Cons}
+use Rattle.hardware_queue.specs.declared.register_words.RegisterWords.{RegisterWords}
 
 -- the position at which consumption stopped, and the error
 pub record Stop : Type 0 where
   pub position : ℕ
   pub error : CommandError
+
+-- what somebody else read for a queue that doesn't read its registers itself, and all that had been read of it until then
+pub record Supplied : Type 0 where
+  pub words : RegisterWords
+  pub gerrorn : ℕ
+  pub before : List Reading
 
 -- A queue with its registers. Positions count from 0 and never wrap: the command at position p is the one
 -- that was shown after p others.
@@ -34,6 +41,8 @@ pub record QueueValue : Type 0 where
   pub repeated : List ℕ
   -- all that was read of the registers, the newest first
   pub read : List Reading
+  -- what it answers with, if somebody else reads the registers; else it stays as it is
+  pub supplied : Supplied
 
 -- a CMD_SYNC that asks for no signal
 abbrev pub plain_sync : Raw

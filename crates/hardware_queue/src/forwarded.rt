@@ -32,6 +32,17 @@ impl Stopped {
     }
 }
 
+/// What the caller of `Forwarder::acknowledge_words` does, in this order, to acknowledge an error.
+#[derive(Clone, Copy, Debug, PartialEq, Eq)]
+pub struct Acknowledgement {
+    /// Where the hardware stopped, and why.
+    pub stopped: Stopped,
+    /// The slot that gets a CMD_SYNC without a signal, 0x46 and 0, if the command is replaced.
+    pub slot: Option<u32>,
+    /// The word for SMMU_GERRORN.
+    pub gerrorn: u32,
+}
+
 /// What a call of `Forwarder::forward` did.
 #[derive(Clone, Copy, Debug, PartialEq, Eq)]
 pub enum Forwarded {

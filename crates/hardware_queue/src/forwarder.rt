@@ -15,6 +15,8 @@ ghost use Rattle.hardware_queue.specs.Flights.{HasConsumedAll, IsInOrder};
 ghost use Rattle.hardware_queue.specs.Steps.{HasForwarded, HasSettledAt};
 ghost use Rattle.hardware_queue.specs.Forwarders.{IsStoppedAt, IsRefused, HasRemedied, WasToldAllTruly, IsForwarderEnd, count_lost};
 
+mod supplied;
+
 use crate::command_queue::CommandQueue;
 use crate::fates::Fates;
 use crate::flight::Flight;

@@ -6,9 +6,10 @@ ghost use Rattle.hardware_queue.specs.declared.state.QueueState.TheVariants.{Run
 ghost use Rattle.hardware_queue.specs.declared.command_error.CommandError.{CommandError as CommandErrorOf};
 ghost use Rattle.hardware_queue.specs.Owners.{IsNew, HasPushed, HasPolled, IsAcknowledged, IsBroken, room, refusal as refusal_of, state_after, IsOwned, IsStoppedHere};
 
-mod registers;
+pub mod registers;
 mod remedies;
 mod slots;
+mod supplies;
 
 use crate::command_error::CommandError;
 use crate::command_queue::CommandQueue;

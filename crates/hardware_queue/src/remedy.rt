@@ -1,6 +1,7 @@
 //! How software acknowledges an error of the queue.
 ghost use Rattle.std.specs.Prelude.{◌≡◌};
 ghost use Rattle.hardware_queue.specs.Forwarders.{lost_by};
+ghost use Rattle.hardware_queue.specs.Supplying.{slot_overwritten};
 
 /// What is to become of the command at which the hardware stopped.
 #[derive(Clone, Copy, Debug, PartialEq, Eq)]
@@ -19,6 +20,16 @@ impl Remedy {
         match self {
             Remedy::Retry => 0,
             Remedy::Replace => 1,
+        }
+    }
+
+    /// Returns the slot that is written over, where the hardware stopped at this one.
+    pub fn overwritten(self, slot: u32) -> Option<u32>
+        ensures { result ≡ slot_overwritten self slot }
+    {
+        match self {
+            Remedy::Retry => None,
+            Remedy::Replace => Some(slot),
         }
     }
 }

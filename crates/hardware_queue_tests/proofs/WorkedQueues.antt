@@ -1,6 +1,6 @@
 -- What the definitions say of a hardware queue.
-use Rattle.std.proofs.Common.{◌≡◌, ◌≢◌, ℕ, zero, suc, ◌+◌, ◌*◌, ◌^◌, ◌<◌, ◌≤◌, Bool, true, false, List, [], ◌∷◌, length, Option, Some, None, refl, ap, sym, subst, ◌∙◌, arith}
-use Rattle.std.specs.Prelude.{Contains, slice_get}
+use Rattle.std.proofs.Common.{◌≡◌, ◌≢◌, ℕ, zero, suc, ◌+◌, ◌*◌, ◌^◌, ◌<◌, ◌≤◌, Bool, true, false, List, [], ◌∷◌, length, Option, Some, None, refl, ap, sym, subst, ◌∙◌, append-nil, arith}
+use Rattle.std.specs.Prelude.{All, Contains, slice_get}
 use Rattle.cmdcodec.specs.declared.raw.Raw.{Raw}
 use Rattle.cmdcodec.specs.Opcodes.{opcode_of, opcode_named}
 use Rattle.ringcore.specs.declared.world.event.Event.TheVariants.{Won}
@@ -11,15 +11,21 @@ use Rattle.ring.specs.consumer.Pendings.{PendingValue}
 use Rattle.ring.specs.consumer.Deferring.{DeferringValue}
 use Rattle.hardware_queue.specs.declared.command_error.CommandError.TheVariants.{Illegal, Abort, AtcInvSync}
 use Rattle.hardware_queue.specs.declared.forwarded.Forwarded.TheVariants as answer
+use Rattle.hardware_queue.specs.declared.forwarded.Acknowledgement.{Acknowledgement}
 use Rattle.hardware_queue.specs.declared.queue_progress.Progress.TheVariants as progress
+use Rattle.hardware_queue.specs.declared.reading.Reading.TheVariants.{Gerror, Gerrorn, Cons}
+use Rattle.hardware_queue.specs.declared.register_words.RegisterWords.{RegisterWords}
+use Rattle.hardware_queue.specs.declared.remedy.Remedy.{Remedy}
 use Rattle.hardware_queue.specs.declared.remedy.Remedy.TheVariants.{Retry, Replace}
 use Rattle.hardware_queue.specs.declared.remedy.RemedyFault.TheVariants.{NotStopped, NotIllegal, IsSync}
+use Rattle.hardware_queue.specs.declared.state.QueueState.{QueueState}
 use Rattle.hardware_queue.specs.declared.state.QueueState.TheVariants as state
-use Rattle.hardware_queue.specs.Queues.{QueueValue, Stop, plain_sync, MayBeRead, IsFree, IsOfIllegal, IsBelievable, error_in, toggled, MayAcknowledge, IsErrorActive, IsSyncAt, MayBeUnanswered, SyncsComplete}
+use Rattle.hardware_queue.specs.Queues.{QueueValue, Supplied, Stop, plain_sync, MayBeRead, IsFree, IsOfIllegal, IsBelievable, error_in, newly_consumed, toggled, MayAcknowledge, IsErrorActive, IsSyncAt, MayBeUnanswered, SyncsComplete}
 use Rattle.hardware_queue.specs.Owners.{HasPushed, HasFound, refusal, room}
 use Rattle.hardware_queue.specs.Flights.{hardware_form, owed, IsInOrder, IsConsumed, BeginsLegal}
 use Rattle.hardware_queue.specs.Steps.{ForwarderValue, HasForwarded, IsShown, IsReplaced, HasSettledAt, room_for}
 use Rattle.hardware_queue.specs.Forwarders.{refusal_to_replace, IsCarriedOut}
+use Rattle.hardware_queue.specs.Supplying.{CanHave, IsSupplied, AreSupplied, HasLooked, slot_overwritten, HasRemediedWith}
 
 -- CMD_CFGI_STE of stream 5 with Leaf 1, and CMD_ATC_INV of stream 5 with SSV 0 and Size 52
 abbrev pub cfgi_ste : Raw
@@ -44,6 +50,7 @@ queue shown consumed = record {
   lost = [];
   repeated = [];
   read = [];
+  supplied = record { words = record { gerror = 0; cons = 0 }; gerrorn = 0; before = [] };
 }
 
 -- ---- memory
@@ -201,3 +208,97 @@ another_command_was_not_carried_out HasEffect is =
     let first : atc_inv ≡ cfgi_ste = cc in
     let other : 0x0000000500000040 ≡ 0x0000000500000003 = ap (λ (r : Raw). r.lo) first in
     absurd (omega (arith, other))
+
+-- ---- registers that somebody else reads
+
+-- GERROR and CONS with these words
+abbrev pub words : ℕ → ℕ → RegisterWords
+words gerror cons = record { gerror = gerror; cons = cons }
+
+-- two commands, at the first of which it was seen stopped with CERROR_ILL
+abbrev pub stopped_queue : QueueValue
+stopped_queue = record (queue (cfgi_ste ∷ cfgi_ste ∷ []) 0) { stopped = Some (record { position = 0; error = Illegal }) }
+
+pub words_ahead_of_prod_cannot_be : ¬ CanHave (words 0 1) (queue [] 0)
+words_ahead_of_prod_cannot_be can = let within = can.believable.within in absurd (omega (arith, within))
+
+pub a_stop_that_moved_cannot_be : ¬ CanHave (words 0 1) stopped_queue
+a_stop_that_moved_cannot_be can = let moved : 1 ≡ 0 = (can.at_stop (record { position = 0; error = Illegal }) refl).0 in absurd (omega (arith, moved))
+
+pub an_error_with_nothing_left_cannot_be : ¬ CanHave (words 1 1) (queue (cfgi_ste ∷ []) 0)
+an_error_with_nothing_left_cannot_be can =
+    let within = can.within (record { differ = λ same. cc; in_flight = omega arith }) in
+    absurd (omega (arith, within))
+
+pub no_queue_consumes_2_to_the_64 : (q : QueueValue) → q.consumed + newly_consumed 0 q ≡ 2 ^ 64 → ¬ CanHave (words 0 0) q
+no_queue_consumes_2_to_the_64 q many can = let few = can.few in absurd (omega (arith, many, few))
+
+-- what it got: GERROR 0, CONS 0 and GERRORN 0
+abbrev pub got : Supplied
+got = record { words = words 0 0; gerrorn = 0; before = [] }
+
+pub another_cons_was_not_supplied : ¬ IsSupplied got (Cons 1)
+another_cons_was_not_supplied is = let same : 1 ≡ 0 = is in absurd (omega (arith, same))
+
+pub another_gerror_was_not_supplied : ¬ IsSupplied got (Gerror 1)
+another_gerror_was_not_supplied is = let same : 1 ≡ 0 = is in absurd (omega (arith, same))
+
+pub another_gerrorn_was_not_supplied : ¬ IsSupplied got (Gerrorn 4)
+another_gerrorn_was_not_supplied is = let same : 2 ≡ 0 = is in absurd (omega (arith, same))
+
+pub what_was_read_since_was_supplied : ¬ AreSupplied (record (queue [] 0) { read = Cons 1 ∷ [] })
+what_was_read_since_was_supplied is =
+    let newer : Cons 1 ∷ [] ≡ is.newer = is.read ∙ append-nil is.newer in
+    let all : All (IsSupplied got) (Cons 1 ∷ []) = subst (All (IsSupplied got)) (sym newer) is.are in
+    let same : 1 ≡ 0 = all 0 (Cons 1) (omega arith) in
+    absurd (omega (arith, same))
+
+pub words_that_can_be_are_not_broken : (w : RegisterWords) (q r : QueueValue) → CanHave w q → ¬ HasLooked w q r (progress.Broken 7)
+words_that_can_be_are_not_broken w q r can looked = looked.1 can
+
+pub broken_words_are_told : (q r : QueueValue) → ¬ HasLooked (words 0 1) q r (progress.Broken 7)
+broken_words_are_told q r looked = let told : 7 ≡ 1 = looked.0 in absurd (omega (arith, told))
+
+pub broken_words_change_nothing : ¬ HasLooked (words 0 7) (queue [] 0) (queue [] 1) (progress.Broken 7)
+broken_words_change_nothing looked =
+    let count : 1 ≡ 0 = ap (λ (q : QueueValue). q.consumed) looked.2 in
+    absurd (omega (arith, count))
+
+pub words_that_cannot_be_tell_nothing : (r : QueueValue) → ¬ HasLooked (words 0 1) stopped_queue r (progress.Consumed 1)
+words_that_cannot_be_tell_nothing r looked = a_stop_that_moved_cannot_be looked.0
+
+pub a_stop_by_words_is_told : (r : QueueValue) → ¬ HasLooked (words 1 0) (queue (cfgi_ste ∷ []) 0) r (progress.Consumed 0)
+a_stop_by_words_is_told r looked = looked.1.1 (record { differ = λ same. cc; in_flight = omega arith })
+
+pub words_tell_how_many_are_consumed : (r : QueueValue) → ¬ HasLooked (words 0 1) (queue (cfgi_ste ∷ []) 0) r (progress.Consumed 0)
+words_tell_how_many_are_consumed r looked = let count : 0 ≡ 1 = looked.1.0.count_is in absurd (omega (arith, count))
+
+pub no_slot_is_told_at_a_retry : slot_overwritten Retry 3 ≡ None
+no_slot_is_told_at_a_retry = refl
+
+one_slot : (a b : ℕ) → Some a ≡ Some b → a ≡ b
+one_slot a b is = cc
+
+pub another_slot_is_not_told : (found : QueueState) (new : QueueValue) (told : Acknowledgement) → told.slot ≡ Some 1
+    → ¬ HasRemediedWith Replace 0 found (queue (illegal ∷ []) 0) new told
+another_slot_is_not_told found new told other is =
+    let same : 1 ≡ 0 = one_slot 1 0 (sym other ∙ is.slot) in
+    absurd (omega (arith, same))
+
+pub other_errors_are_told_as_they_were_read : (remedy : Remedy) (found : QueueState) (old new : QueueValue) (told : Acknowledgement)
+    → told.gerrorn ≡ 5 → ¬ HasRemediedWith remedy 0 found old new told
+other_errors_are_told_as_they_were_read remedy found old new told other is =
+    let others = is.others in
+    absurd (omega (arith, others, other))
+
+pub gerrorn_is_told_as_it_is_written : (remedy : Remedy) (found : QueueState) (old new : QueueValue) (told : Acknowledgement)
+    → told.gerrorn ≡ 0 → new.gerrorn ≡ 1 → ¬ HasRemediedWith remedy 0 found old new told
+gerrorn_is_told_as_it_is_written remedy found old new told clear set is =
+    let same = is.gerrorn_is in
+    absurd (omega (arith, same, clear, set))
+
+pub nothing_is_remedied_by_words_without_a_stop : (remedy : Remedy) (old new : QueueValue) (told : Acknowledgement)
+    → ¬ HasRemediedWith remedy 0 state.Running old new told
+nothing_is_remedied_by_words_without_a_stop remedy old new told is =
+    let stopped : state.Running ≡ state.Stopped told.stopped.error = is.remedied.stopped_at.state_is in
+    absurd (cc)

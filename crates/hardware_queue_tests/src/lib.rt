@@ -6,6 +6,8 @@ mod forwarder;
 #[cfg(test)]
 mod owner;
 #[cfg(test)]
+mod shadow;
+#[cfg(test)]
 mod threads;
 #[cfg(test)]
 mod unit;

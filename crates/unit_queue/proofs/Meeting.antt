@@ -10,7 +10,6 @@ use Rattle.cmdcodec.specs.declared.raw.Raw.{Raw}
 use Rattle.cmdcodec.specs.declared.command.Command.{Command}
 use Rattle.qindex.specs.Positions.{IndexValue, size, place, index_of}
 use Rattle.qindex.specs.Indexes.{IsQueue}
-use Rattle.qindex.specs.Laws.{SlotsAreApart}
 use Rattle.ringcore.specs.declared.world.event.Outcome.TheVariants.{Applied}
 use Rattle.ringcore.specs.world.World.{Taken}
 use Rattle.engine.specs.Settled.{IsSettled}
@@ -19,7 +18,9 @@ use Rattle.engine.specs.Counting.{taken}
 use Rattle.engine.specs.Units.{UnitValue, StaysSettled, IsApplied, with_entries}
 use Rattle.caches.specs.Held.{Entries}
 use Rattle.hardware_queue.specs.Queues.{plain_sync, IsFree, SyncsComplete, in_memory, command_queue_error}
-use Rattle.unit_queue.specs.Queued.{Queued, IsQueued, Stands, HasEffect, seen_at}
+use Rattle.hardware_queue.specs.Owners.{IsOwned}
+use Rattle.hardware_queue.specs.Standing.{StandsOnceWritten, StandsOnceOverwritten, StandsOnceShown}
+use Rattle.unit_queue.specs.Queued.{Queued, IsQueued, HasEffect, seen_at}
 
 pub same_flags : (b x y : Bool) → IsTrue b ↔ (x ≢ y) → b ≡ false → x ≡ y
 same_flags b true true tells e = refl
@@ -28,13 +29,6 @@ same_flags b false true tells e = let differ : b ≡ true = tells.1 (λ same. cc
 same_flags b false false tells e = refl
 
 -- ---- lists
-
-get_set_other : {A : Type 0} (xs : List A) (i j : ℕ) (x : A) → j ≢ i → slice_get (slice_set xs i x) j ≡ slice_get xs j
-get_set_other [] i j x other = refl
-get_set_other (y ∷ xs) zero zero x other = absurd (other refl)
-get_set_other (y ∷ xs) zero (suc j) x other = refl
-get_set_other (y ∷ xs) (suc i) zero x other = refl
-get_set_other (y ∷ xs) (suc i) (suc j) x other = get_set_other xs i j x (λ same. other (ap suc same))
 
 get_longer : {A : Type 0} (xs ys : List A) (i : ℕ) (x : A) → slice_get xs i ≡ Some x → slice_get (xs ++ ys) i ≡ Some x
 get_longer [] ys i x at = absurd (cc)
@@ -45,24 +39,19 @@ at_seam : {A : Type 0} (xs ys : List A) (y : A) → slice_get (xs ++ (y ∷ ys))
 at_seam [] ys y = refl
 at_seam (x ∷ xs) ys y = at_seam xs ys y
 
-contains_first : (x : ℕ) (xs : List ℕ) → Contains (x ∷ xs) x
-contains_first x xs = (0, omega arith, refl)
-
 contains_rest : (x y : ℕ) (xs : List ℕ) → Contains xs y → Contains (x ∷ xs) y
 contains_rest x y xs (k, inside, is) = (suc k, omega (arith, inside), is)
 
 -- ---- memory is written
 
-pub queued_written : (u : Queued) (prod cons : IndexValue) (seen : Bool) (slot : ℕ) (raw : Raw) → IsQueued u prod cons seen → IsFree u.queue slot
+pub queued_written : StandsOnceWritten → (u : Queued) (prod cons : IndexValue) (seen : Bool) (slot : ℕ) (raw : Raw) → IsQueued u prod cons seen → IsFree u.queue slot
     → IsQueued (record u { queue = record u.queue { memory = slice_set u.queue.memory slot raw } }) prod cons seen
-queued_written u prod cons seen slot raw is free = record {
+queued_written written u prod cons seen slot raw is free = record {
   geometry = is.geometry;
   memory = length-set u.queue.memory slot raw ∙ is.memory;
   indexes = is.indexes;
   consumed = is.consumed;
-  stands = λ p shown unconsumed at unlost.
-      get_set_other u.queue.memory slot (place u.queue.geometry p) raw (λ same. free.unread (record { position = p; unconsumed = unconsumed; shown = slice_get_within u.queue.shown p shown at; there = sym same }))
-      ∙ is.stands p shown unconsumed at unlost;
+  stands = written u.queue slot raw free is.stands;
   took = record { list = is.took.list; many = is.took.many; settled = is.took.settled; are = is.took.are };
   running = is.running;
   anything_next = is.anything_next;
@@ -70,24 +59,18 @@ queued_written u prod cons seen slot raw is free = record {
   seen_is = is.seen_is;
 }
 
-pub queued_overwritten : SlotsAreApart → (u : Queued) (prod cons : IndexValue) (seen : Bool) (slot : ℕ) (lost : List ℕ) → IsQueued u prod cons seen
+pub queued_overwritten : StandsOnceOverwritten → (u : Queued) (prod cons : IndexValue) (seen : Bool) (slot : ℕ) (lost : List ℕ) → IsQueued u prod cons seen
     → slot ≡ place u.queue.geometry u.queue.consumed → lost ≡ u.queue.consumed ∷ u.queue.lost
     → IsQueued (record u { queue = record u.queue { memory = slice_set u.queue.memory slot plain_sync; lost = lost } }) prod cons seen
-queued_overwritten apart u prod cons seen slot lost is there lost_is =
+queued_overwritten overwritten u prod cons seen slot lost is there lost_is =
     let c : ℕ = u.queue.consumed in
+    let owned : IsOwned u.queue = record { geometry = is.geometry; memory = is.memory; order = is.indexes.order; within = is.indexes.within } in
     subst (λ (r : List ℕ). IsQueued (record u { queue = record u.queue { memory = slice_set u.queue.memory slot plain_sync; lost = r } }) prod cons seen) (sym lost_is) (record {
       geometry = is.geometry;
       memory = length-set u.queue.memory slot plain_sync ∙ is.memory;
       indexes = is.indexes;
       consumed = is.consumed;
-      stands = λ p shown unconsumed at unlost.
-          let inside = slice_get_within u.queue.shown p shown at in
-          let w = is.indexes.within in
-          get_set_other u.queue.memory slot (place u.queue.geometry p) plain_sync (λ same.
-          let some = pow_pos u.queue.geometry in
-          let one : p ≡ c = apart u.queue.geometry c p c unconsumed (omega (arith, inside, w)) (omega arith) (omega (arith, some)) (same ∙ there) in
-          unlost (subst (Contains (c ∷ u.queue.lost)) (sym one) (contains_first c u.queue.lost)))
-          ∙ is.stands p shown unconsumed at (λ r. unlost (contains_rest c p u.queue.lost r));
+      stands = overwritten u.queue slot owned there is.stands;
       took = record { list = is.took.list; many = is.took.many; settled = is.took.settled; are = λ p raw inside at unlost. is.took.are p raw inside at (λ r. unlost (contains_rest c p u.queue.lost r)) };
       running = is.running;
       anything_next = is.anything_next;
@@ -100,65 +83,19 @@ queued_overwritten apart u prod cons seen slot lost is there lost_is =
 some_same : {A : Type 0} (a b : A) → Some a ≡ Some b → a ≡ b
 some_same a b is = cc
 
--- Inside a list it doesn't matter what would be outside.
-any_default : (xs : List Raw) (i : ℕ) (d e : Raw) → i < length xs → slice_index_or xs i d ≡ slice_index_or xs i e
-any_default xs i d e inside = some_same (slice_index_or xs i d) (slice_index_or xs i e) (sym (slice_get-get_or xs i d inside) ∙ slice_get-get_or xs i e inside)
-
-in_memory_more : (g : ℕ) (m : List Raw) (t n : ℕ) → in_memory g m t (suc n) ≡ in_memory g m t n ++ slice_index_or m (place g (t + n)) plain_sync ∷ []
-in_memory_more g m t zero = ap (λ (p : ℕ). slice_index_or m (place g p) plain_sync ∷ []) (omega arith)
-in_memory_more g m t (suc n) =
-    ap (λ (xs : List Raw). slice_index_or m (place g t) plain_sync ∷ xs)
-    (in_memory_more g m (suc t) n ∙ ap (λ (p : ℕ). in_memory g m (suc t) n ++ slice_index_or m (place g p) plain_sync ∷ []) (omega arith))
-
 length-in_memory : (g : ℕ) (m : List Raw) (t n : ℕ) → length (in_memory g m t n) ≡ n
 length-in_memory g m t zero = refl
 length-in_memory g m t (suc n) = ap suc (length-in_memory g m (suc t) n)
-
-pub shown_more : (g : ℕ) (m first so_far new : List Raw) (n slot : ℕ) (d : Raw) → so_far ≡ first ++ in_memory g m (length first) n → new ≡ so_far ++ slice_index_or m slot d ∷ []
-    → slot ≡ place g (length first + n) → slot < length m → new ≡ first ++ in_memory g m (length first) (n + 1)
-shown_more g m first so_far new n slot d is new_is there inside =
-    new_is
-    ∙ ap (λ (xs : List Raw). xs ++ slice_index_or m slot d ∷ []) is
-    ∙ ap (λ (x : Raw). (first ++ in_memory g m (length first) n) ++ x ∷ []) (any_default m slot d plain_sync inside ∙ ap (λ (i : ℕ). slice_index_or m i plain_sync) there)
-    ∙ append_assoc first (in_memory g m (length first) n) (slice_index_or m (place g (length first + n)) plain_sync ∷ [])
-    ∙ ap (λ (xs : List Raw). first ++ xs) (sym (in_memory_more g m (length first) n) ∙ ap (in_memory g m (length first)) (sym (add-one n)))
 
 get_shorter : {A : Type 0} (xs ys : List A) (i : ℕ) (x : A) → i < length xs → slice_get (xs ++ ys) i ≡ Some x → slice_get xs i ≡ Some x
 get_shorter [] ys i x inside at = absurd (omega (arith, inside))
 get_shorter (y ∷ xs) ys zero x inside at = at
 get_shorter (y ∷ xs) ys (suc i) x inside at = get_shorter xs ys i x (omega (arith, inside)) at
 
-get_behind : {A : Type 0} (xs ys : List A) (i : ℕ) (x : A) → slice_get (xs ++ ys) (length xs + i) ≡ Some x → slice_get ys i ≡ Some x
-get_behind {A} [] ys i x at = subst (λ (k : ℕ). slice_get ys k ≡ Some x) (let e : 0 + i ≡ i = omega arith in e) at
-get_behind {A} (y ∷ xs) ys i x at = get_behind xs ys i x (subst (λ (k : ℕ). slice_get (y ∷ (xs ++ ys)) k ≡ Some x) (let e : suc (length xs) + i ≡ suc (length xs + i) = omega arith in e) at)
-
-in_memory_get : (g : ℕ) (m : List Raw) (t n i : ℕ) (raw : Raw) → slice_get (in_memory g m t n) i ≡ Some raw → raw ≡ slice_index_or m (place g (t + i)) plain_sync
-in_memory_get g m t zero i raw at = absurd (cc)
-in_memory_get g m t (suc n) zero raw at =
-    sym (some_same (slice_index_or m (place g t) plain_sync) raw at) ∙ ap (λ (p : ℕ). slice_index_or m (place g p) plain_sync) (omega arith)
-in_memory_get g m t (suc n) (suc i) raw at = in_memory_get g m (suc t) n i raw at ∙ ap (λ (p : ℕ). slice_index_or m (place g p) plain_sync) (omega arith)
-
-stands_shown : (u : Queued) (prod cons : IndexValue) (seen : Bool) (count : ℕ) → IsQueued u prod cons seen
-    → Stands (record u.queue { shown = u.queue.shown ++ in_memory u.queue.geometry u.queue.memory (length u.queue.shown) count })
-stands_shown u prod cons seen count is p raw unconsumed at unlost =
-    let g : ℕ = u.queue.geometry in
-    let m : List Raw = u.queue.memory in
-    let t : ℕ = length u.queue.shown in
-    elim (cases_lt p t) [
-      | inl earlier ↦ is.stands p raw unconsumed (get_shorter u.queue.shown (in_memory g m t count) p raw earlier at) unlost
-      | inr later ↦
-          let whole : p ≡ t + (p - t) = omega (arith, later) in
-          let new = in_memory_get g m t count (p - t) raw (get_behind u.queue.shown (in_memory g m t count) (p - t) raw
-          (subst (λ (k : ℕ). slice_get (u.queue.shown ++ in_memory g m t count) k ≡ Some raw) whole at)) in
-          let inside : place g p < length m = subst (λ (k : ℕ). place g p < k) (sym is.memory) (mod_below p (size g) (pow_pos g)) in
-          let here : raw ≡ slice_index_or m (place g p) plain_sync = new ∙ ap (λ (k : ℕ). slice_index_or m (place g k) plain_sync) (sym whole) in
-          slice_get-get_or m (place g p) plain_sync inside ∙ ap Some (sym here)
-    ]
-
-pub queued_shown : (u : Queued) (prod cons next : IndexValue) (seen : Bool) (count : ℕ) (shown : List Raw) → IsQueued u prod cons seen
+pub queued_shown : StandsOnceShown → (u : Queued) (prod cons next : IndexValue) (seen : Bool) (count : ℕ) (shown : List Raw) → IsQueued u prod cons seen
     → shown ≡ u.queue.shown ++ in_memory u.queue.geometry u.queue.memory (length u.queue.shown) count → length u.queue.shown + count ≤ u.queue.consumed + size u.queue.geometry
     → next ≡ index_of u.queue.geometry (length u.queue.shown + count) → IsQueued (record u { queue = record u.queue { geometry = next.geometry; shown = shown } }) next cons seen
-queued_shown u prod cons next seen count shown is shown_is room next_is =
+queued_shown stays u prod cons next seen count shown is shown_is room next_is =
     let g : ℕ = u.queue.geometry in
     let t : ℕ = length u.queue.shown in
     let new : List Raw = u.queue.shown ++ in_memory g u.queue.memory t count in
@@ -171,7 +108,7 @@ queued_shown u prod cons next seen count shown is shown_is room next_is =
       memory = is.memory;
       indexes = record { prod_is = next_is ∙ ap (index_of g) (sym long); cons_is = is.indexes.cons_is; order = omega (arith, long, o); within = omega (arith, long, room) };
       consumed = is.consumed;
-      stands = stands_shown u prod cons seen count is;
+      stands = stays u.queue count is.memory is.stands;
       took = record {
         list = is.took.list;
         many = is.took.many;

@@ -1,5 +1,5 @@
 -- A queue whose hardware is a unit.
-use Rattle.std.specs.Prelude.{◌≡◌, ◌≢◌, ℕ, ◌+◌, ◌<◌, ◌≤◌, Bool, true, false, List, length, Option, Some, None, slice_get, Contains}
+use Rattle.std.specs.Prelude.{◌≡◌, ◌≢◌, ℕ, ◌+◌, ◌<◌, ◌≤◌, Bool, true, false, List, [], length, Option, Some, None, slice_get, Contains}
 use Rattle.std.specs.FinMap as finite
 use Rattle.cmdcodec.specs.declared.raw.Raw.{Raw}
 use Rattle.cmdcodec.specs.declared.command.Command.{Command}
@@ -16,7 +16,8 @@ use Rattle.engine.specs.Settled.{IsSettled}
 use Rattle.engine.specs.Counting.{taken}
 use Rattle.engine.specs.Units.{UnitValue}
 use Rattle.hardware_queue.specs.declared.command_error.CommandError.TheVariants.{Illegal}
-use Rattle.hardware_queue.specs.Queues.{QueueValue, Stop, command_queue_error, rd_of, error_in}
+use Rattle.hardware_queue.specs.Queues.{QueueValue, Stop, Supplied, command_queue_error, rd_of, error_in}
+use Rattle.hardware_queue.specs.Standing.{Stands}
 
 -- the queue, its unit, and CMDQ_ERR of SMMU_GERROR
 pub record Queued : Type 0 where
@@ -28,6 +29,10 @@ pub record Queued : Type 0 where
 abbrev pub seen_at : Bool → ℕ → Option Stop
 seen_at true position = Some (record { position = position; error = Illegal })
 seen_at false position = None
+
+-- It reads its registers itself.
+abbrev pub none_supplied : Supplied
+none_supplied = record { words = record { gerror = 0; cons = 0 }; gerrorn = 0; before = [] }
 
 -- No entry is held that is older than the command shown at this position and that the command covers.
 abbrev pub HasEffect : Queued → ℕ → Type 0
@@ -42,10 +47,6 @@ pub record HasTakenAll (q : QueueValue) (unit : UnitValue) : Type 0 where
   pub many : length list ≡ taken unit.counts
   pub settled : IsSettled unit.caches.entries list
   pub are : (p : ℕ) (raw : Raw) → p < length list → slice_get q.shown p ≡ Some raw → ¬ Contains q.lost p → slice_get list p ≡ Some record { raw = raw; outcome = Applied }
-
--- What it may still read is what was shown, except where it was written over.
-abbrev pub Stands : QueueValue → Type 0
-Stands q = (p : ℕ) (raw : Raw) → q.consumed ≤ p → slice_get q.shown p ≡ Some raw → ¬ Contains q.lost p → slice_get q.memory (place q.geometry p) ≡ Some raw
 
 -- CMDQ_ERR isn't that of SMMU_GERRORN.
 abbrev pub IsStopped : Queued → Type 0

@@ -2,9 +2,6 @@
 //! so nothing is proved of hardware that can't be.
 #![tactic(auto)]
 
-mod log;
-mod shown;
-mod tape;
 mod unit_queue;
 
 pub use unit_queue::UnitQueue;

@@ -9,13 +9,11 @@ ghost use Rattle.unit_queue.specs.Laws.{ToldMeansNoneIsOlder};
 ghost use Rattle.engine.specs.Units.{new_unit, filled, with_entries};
 ghost use Rattle.caches.specs.Stored.{IsFillAnswer};
 
-use crate::shown::note_shown;
-use crate::tape::{Positions, Reads, Tape};
 use caches::{CacheFault, Caches, Entry, Tag};
 use cmdcodec::{Raw, first_ill};
 use engine::{Unit, Verdict};
-use hardware_queue::{CommandQueue, Reading};
-use qindex::{Geometry, Index, indexes_tell_place_and_wrap_bit, indexes_tell_the_queue};
+use hardware_queue::{CommandQueue, Positions, Reading, Reads, Tape, memory_stands, note_shown};
+use qindex::{Geometry, Index, indexes_tell_the_queue};
 use ringcore::MOST_RESERVED;
 use std::alloc::{AllocError, Global};
 use std::marker::Model;
@@ -46,7 +44,7 @@ impl Model for UnitQueue {
     ghost use Rattle.std.specs.Coded.{codes};
     ghost use Rattle.caches.specs.Stored.{stored_code};
     ghost use Rattle.engine.specs.Counting.{taken};
-    ghost use Rattle.unit_queue.specs.Queued.{Queued, IsQueued, seen_at};
+    ghost use Rattle.unit_queue.specs.Queued.{Queued, IsQueued, seen_at, none_supplied};
 
     ghost Value = { Queued };
 
@@ -63,6 +61,7 @@ impl Model for UnitQueue {
         lost = u.lost;
         repeated = [];
         read = u.read;
+        supplied = none_supplied;
       };
       unit = u.unit;
       error = u.error;
@@ -79,6 +78,7 @@ impl Model for UnitQueue {
         lost = u.lost;
         repeated = [];
         read = u.read;
+        supplied = none_supplied;
       };
       unit = u.unit;
       error = u.error;
@@ -202,16 +202,18 @@ impl CommandQueue for UnitQueue {
     ghost has_effect = { HasEffect };
 
     fn write(&mut self, slot: u32, raw: Raw) {
+        memory_stands();
         self.memory[slot as usize] = raw;
     }
 
     fn overwrite(&mut self, slot: u32) {
-        indexes_tell_place_and_wrap_bit();
+        memory_stands();
         self.memory[slot as usize] = Raw { lo: 0x46, hi: 0 };
         self.lost.add(self.unit.counts().taken());
     }
 
     fn show_prod(&mut self, prod: u32) {
+        memory_stands();
         let index = Index::new(self.prod.geometry(), prod).unwrap();
         let count = index.distance(self.prod);
         note_shown(&mut self.shown, self.memory.as_slice(), self.prod, count);

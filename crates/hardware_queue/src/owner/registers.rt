@@ -1,7 +1,7 @@
 //! The registers.
-ghost use Rattle.std.specs.Prelude.{◌≡◌, ◌≢◌, ◌≤◌, ◌↔◌, IsTrue, length};
+ghost use Rattle.std.specs.Prelude.{◌≡◌, ◌≢◌, ◌≤◌, ◌/◌, ◌↔◌, IsTrue, length};
 ghost use Rattle.qindex.specs.Indexes.{IsQueue};
-ghost use Rattle.hardware_queue.specs.Queues.{HasReadCons, command_queue_error, toggled};
+ghost use Rattle.hardware_queue.specs.Queues.{QueueValue, HasReadCons, command_queue_error, toggled};
 ghost use Rattle.hardware_queue.specs.Owners.{IsLookedAt};
 
 use crate::command_queue::CommandQueue;
@@ -9,6 +9,21 @@ use qindex::Index;
 
 /// RD of SMMU_CMDQ_CONS.
 const RD: u32 = 1 << 20;
+
+/// Returns how many more were consumed by a value of SMMU_CMDQ_CONS, for a queue with these indexes, if the value can be
+/// believed: RD is neither behind what was consumed nor ahead of PROD.
+pub fn newly_consumed(word: u32, prod: Index, cons: Index) -> Option<u32>
+    requires { prod.geometry ≡ cons.geometry }
+    ensures { (q : QueueValue) → IsQueue prod cons q.geometry (length q.shown) q.consumed
+        → IsLookedAt q word result }
+{
+    let found = Index::new(cons.geometry(), word % RD)?;
+    let count = found.distance(cons);
+    if count > prod.distance(cons) {
+        return None;
+    }
+    Some(count)
+}
 
 /// Reads SMMU_CMDQ_CONS once. Returns its value, and how many more were consumed if the value can be believed.
 pub fn look_at_cons<Q: CommandQueue>(queue: &mut Q, prod: Index, cons: Index) -> (u32, Option<u32>)
@@ -18,14 +33,7 @@ pub fn look_at_cons<Q: CommandQueue>(queue: &mut Q, prod: Index, cons: Index) ->
     ensures found { IsLookedAt (Q.queue queue.old) result.0 result.1 }
 {
     let word = queue.read_cons();
-    let Some(found) = Index::new(cons.geometry(), word % RD) else {
-        return (word, None);
-    };
-    let count = found.distance(cons);
-    if count > prod.distance(cons) {
-        return (word, None);
-    }
-    (word, Some(count))
+    (word, newly_consumed(word, prod, cons))
 }
 
 /// Whether SMMU_GERROR tells of an error that isn't acknowledged, with so many commands in flight.
@@ -41,4 +49,16 @@ pub fn toggle(word: u32) -> u32
     ensures { result ≡ toggled word }
 {
     if word % 2 == 1 { word - 1 } else { word + 1 }
+}
+
+/// Returns the word with this CMDQ_ERR, and all other bits as they are.
+pub fn with_error(word: u32, error: bool) -> u32
+    ensures bit { command_queue_error result ≡ error }
+    ensures others { result / 2 ≡ word / 2 }
+{
+    if error {
+        word - word % 2 + 1
+    } else {
+        word - word % 2
+    }
 }

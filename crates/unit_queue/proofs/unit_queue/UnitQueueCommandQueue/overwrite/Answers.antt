@@ -8,5 +8,5 @@ use Rattle.unit_queue.proofs.unit_queue.UnitQueueCommandQueue.overwrite.Goals as
 pub invariant_of-self : goal.invariant_of-self
 invariant_of-self c =
     let of = subst (λ (u : Queued). IsOfIllegal u.queue c.args.slot) (sym c.self.view_is) c.requires in
-    queued_overwritten c.indexes_tell_place_and_wrap_bit.ensures.apart _ _ _ _ c.args.slot _ c.self.invariant of.there
+    queued_overwritten c.memory_stands.ensures.overwritten _ _ _ _ c.args.slot _ c.self.invariant of.there
     (c.add.ensures ∙ ap (λ (n : ℕ). n ∷ c.self.inside.lost) (c.taken.ensures.value ∙ ap taken c.counts.ensures))

@@ -2,8 +2,8 @@
 ghost use Rattle.std.specs.Prelude.{◌≡◌, ◌∷◌, ◌++◌, []};
 
 use crate::log::{Log, Numbers, Readings};
+use crate::reading::Reading;
 use cmdcodec::Raw;
-use hardware_queue::Reading;
 use std::marker::Model;
 use std::mem;
 use std::snapshot::Snapshot;
@@ -17,7 +17,7 @@ pub struct Tape {
 impl Model for Tape {
     ghost use Rattle.std.specs.Prelude.{List};
     ghost use Rattle.cmdcodec.specs.declared.raw.Raw.{Raw as RawOf};
-    ghost use Rattle.unit_queue.specs.Tapes.{commands_of};
+    ghost use Rattle.hardware_queue.specs.Tapes.{commands_of};
 
     ghost Value = { List RawOf };
 
@@ -50,7 +50,7 @@ pub struct Positions {
 
 impl Model for Positions {
     ghost use Rattle.std.specs.Prelude.{ℕ, List};
-    ghost use Rattle.unit_queue.specs.Tapes.{numbers_of};
+    ghost use Rattle.hardware_queue.specs.Tapes.{numbers_of};
 
     ghost Value = { List ℕ };
 
@@ -83,7 +83,7 @@ pub struct Reads {
 impl Model for Reads {
     ghost use Rattle.std.specs.Prelude.{List};
     ghost use Rattle.hardware_queue.specs.declared.reading.Reading.{Reading as ReadingOf};
-    ghost use Rattle.unit_queue.specs.Tapes.{readings_of};
+    ghost use Rattle.hardware_queue.specs.Tapes.{readings_of};
 
     ghost Value = { List ReadingOf };
 

@@ -1,6 +1,6 @@
 //! What tapes hold.
+use crate::reading::Reading;
 use cmdcodec::Raw;
-use hardware_queue::Reading;
 use std::snapshot::Snapshot;
 
 /// Commands, of which only clauses see the earlier ones.

@@ -1,7 +1,7 @@
 use Rattle.std.proofs.Common.{ap, arith}
 use Rattle.qindex.specs.Positions.{IndexValue, size}
-use Rattle.unit_queue.proofs.Meeting.{shown_more}
-use Rattle.unit_queue.proofs.shown.note_shown.Goals as goal
+use Rattle.hardware_queue.proofs.Memory.{shown_more}
+use Rattle.hardware_queue.proofs.showing.note_shown.Goals as goal
 
 pub loop-offset-preserved : goal.loop-offset-preserved
 loop-offset-preserved c =

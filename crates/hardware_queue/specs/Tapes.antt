@@ -1,10 +1,10 @@
 -- What tapes hold.
 use Rattle.std.specs.Prelude.{ℕ, List, [], ◌∷◌, ◌++◌}
 use Rattle.cmdcodec.specs.declared.raw.Raw.{Raw}
-use Rattle.unit_queue.specs.declared.log.Log.{Log, Nothing, Next'}
+use Rattle.hardware_queue.specs.declared.log.Log.{Log, Nothing, Next'}
 use Rattle.hardware_queue.specs.declared.reading.Reading.{Reading}
-use Rattle.unit_queue.specs.declared.log.Numbers.{Numbers, NoNumber, Number'}
-use Rattle.unit_queue.specs.declared.log.Readings.{Readings, NoReading, Read'}
+use Rattle.hardware_queue.specs.declared.log.Numbers.{Numbers, NoNumber, Number'}
+use Rattle.hardware_queue.specs.declared.log.Readings.{Readings, NoReading, Read'}
 
 -- the oldest first
 abbrev pub commands_of : Log → List Raw

@@ -1,0 +1,2 @@
+pub mod Shadowing
+pub mod Copying

@@ -1,0 +1,2 @@
+pub mod Shadows
+pub mod Placing
