@@ -1,13 +1,13 @@
 /* SPDX-License-Identifier: MIT OR Apache-2.0 */
-/* Passes commands on: drivers' threads send batches into a ring, whose consumer copies the commands into the queue of some
- * hardware. It completes what that hardware's CONS has passed, and nothing else, so no driver is told too early. The
- * hardware is played by a thread with a unit of its own.
+/* A driver of real hardware: drivers' threads send batches into a ring, and one thread owns the hardware's queue. It writes
+ * what the forwarder says into the queue's memory, shows PROD, reads SMMU_GERROR and SMMU_CMDQ_CONS, and acknowledges errors.
+ * Each driver is told once the hardware has consumed its CMD_SYNC. The hardware is played by a thread with a unit of its own,
+ * which calls TLBI_EL2_ALL illegal, as an SMMU without EL2 does.
  *
  *     forwarder [SENDERS [BATCHES]]
  *
- * Two things aren't passed on. An illegal command would stop the hardware for all, and is completed without effect. The
- * CMD_SYNC behind a batch asks for a write to an address of the ring's own, and another goes to the hardware in its place.
- */
+ * The registers are atomic words here, and their order is that of acquire and release; beside hardware they are its own, with
+ * the barriers of docs/C.md. */
 #define _POSIX_C_SOURCE 200809L
 #include "smmuq.h"
 
@@ -17,7 +17,7 @@
 #include <stdio.h>
 #include <stdlib.h>
 
-enum { MOST_SENDERS = 256, RING_LOG2 = 6, LOG2 = 4, SLOTS = 1 << LOG2, PAGES = 4 };
+enum { MOST_SENDERS = 256, RING_LOG2 = 6, LOG2 = 4, SLOTS = 1 << LOG2, PAGES = 4, RUN = 64, CERROR_ILL = 1 };
 
 static void check(smmuq_status status, const char *what) {
     if (status != SMMUQ_OK) {
@@ -26,11 +26,11 @@ static void check(smmuq_status status, const char *what) {
     }
 }
 
-/* ---- the hardware: its queue's memory, and its two registers, which count on and are cut to a slot where one is meant */
+/* ---- the hardware: its queue's memory and its registers */
 
 static struct {
     smmuq_command queue[SLOTS];
-    uint32_t prod, cons, ended;
+    uint32_t prod, cons, gerror, gerrorn, ended;
     uint32_t pages[MOST_SENDERS]; /* how many pages it has invalidated, by their VMID */
     smmuq_unit unit;
 } hardware = {.unit = SMMUQ_EMPTY};
@@ -43,89 +43,85 @@ static void set(uint32_t *word, uint32_t value) {
     __atomic_store_n(word, value, __ATOMIC_RELEASE);
 }
 
-static int is_sync(smmuq_command command) {
-    return (command.lo & 0xff) == SMMUQ_OPCODE_CMD_SYNC;
+static void consume(smmuq_command command) {
+    smmuq_verdict verdict;
+    check(smmuq_unit_judge(&hardware.unit, command.lo, command.hi, &verdict), "judge");
+    if ((command.lo & 0xff) == SMMUQ_OPCODE_TLBI_NH_VA) {
+        uint32_t *pages = &hardware.pages[(command.lo >> 32) % MOST_SENDERS];
+        set(pages, *pages + 1);
+    }
 }
 
 static void *play_hardware(void *argument) {
-    uint32_t cons = 0;
-    for (;;) {
-        const uint32_t ended = get(&hardware.ended);
-        if (cons != get(&hardware.prod)) {
-            const smmuq_command command = hardware.queue[cons % SLOTS];
-            smmuq_verdict verdict;
-            check(smmuq_unit_judge(&hardware.unit, command.lo, command.hi, &verdict), "judge");
-            if (!is_sync(command)) {
-                uint32_t *pages = &hardware.pages[(command.lo >> 32) % MOST_SENDERS];
-                set(pages, *pages + 1);
-            }
-            set(&hardware.cons, ++cons);
-        } else if (ended) {
-            return argument;
-        } else {
+    uint32_t cons = 0; /* RD: the slot, and above it the wrap bit */
+    while (!get(&hardware.ended)) {
+        const uint32_t stopped = (hardware.gerror ^ get(&hardware.gerrorn)) & 1;
+        if (stopped || cons == get(&hardware.prod)) {
             sched_yield();
+        } else if ((hardware.queue[cons % SLOTS].lo & 0xff) == SMMUQ_OPCODE_TLBI_EL2_ALL) {
+            set(&hardware.cons, CERROR_ILL << 24 | cons);
+            set(&hardware.gerror, hardware.gerror ^ 1);
+        } else {
+            consume(hardware.queue[cons % SLOTS]);
+            cons = (cons + 1) % (2 * SLOTS);
+            set(&hardware.cons, cons);
         }
     }
+    return argument;
 }
 
-/* ---- the forwarder: the consumer of the ring */
+/* ---- the owner of its queue */
 
 static struct {
-    smmuq_consumer consumer;
-    uint32_t passed_on, completed, refused; /* counts of commands */
-} forwarder = {.consumer = SMMUQ_EMPTY};
+    smmuq_forwarder forwarder;
+    uint32_t shown, consumed, refused, lost; /* counts of commands */
+} owner = {.forwarder = SMMUQ_EMPTY};
 
-/* Copies the run into the hardware's queue, up to an illegal command. The first ones may be there already, since what isn't
- * completed is found again. */
-static void pass_on(const smmuq_command *run, size_t count) {
-    const size_t there = forwarder.passed_on - forwarder.completed;
+/* Writes a run into the queue, and then shows it. */
+static void show(const smmuq_command *run, const smmuq_placement *placement) {
+    uint32_t place;
+    for (place = 0; place < placement->count; place++)
+        hardware.queue[(placement->slot + place) % SLOTS] = run[place];
+    set(&hardware.prod, placement->prod);
+    owner.shown += placement->count;
+}
+
+/* Replaces the command at which the hardware stopped. */
+static void acknowledge(void) {
     const smmuq_command sync = {SMMUQ_OPCODE_CMD_SYNC, 0};
-    size_t place;
-    for (place = 0; place < count; place++) {
-        smmuq_command *slot = &hardware.queue[(forwarder.completed + place) % SLOTS];
-        const smmuq_command command = is_sync(run[place]) ? sync : run[place];
-        if (place < there) {
-            if (slot->lo != command.lo || slot->hi != command.hi)
-                check(SMMUQ_OTHER_COMMAND, "find again");
-        } else if (smmuq_check(command.lo, command.hi) == SMMUQ_OK) {
-            *slot = command;
-            set(&hardware.prod, ++forwarder.passed_on);
-        } else {
-            return;
-        }
-    }
+    smmuq_acknowledgement acknowledgement;
+    check(smmuq_forwarder_acknowledge(&owner.forwarder, hardware.gerrorn, SMMUQ_REPLACE, &acknowledgement), "acknowledge");
+    hardware.queue[acknowledgement.slot] = sync;
+    set(&hardware.gerrorn, acknowledgement.gerrorn);
+    owner.lost++;
 }
 
-/* Completes what the hardware has taken, or an illegal command that nothing is waited for ahead of. */
-static void complete(const smmuq_command *run) {
-    const uint32_t taken = get(&hardware.cons) - forwarder.completed;
-    if (taken > 0) {
-        check(smmuq_complete(&forwarder.consumer, taken), "complete");
-        forwarder.completed += taken;
-    } else if (forwarder.passed_on == forwarder.completed && smmuq_check(run[0].lo, run[0].hi) != SMMUQ_OK) {
-        if (smmuq_complete(&forwarder.consumer, 1) != SMMUQ_REPLACED)
-            check(SMMUQ_BAD_FIELD, "complete an illegal command");
-        forwarder.refused++;
-    } else {
-        sched_yield();
-    }
+static void poll(void) {
+    const uint32_t gerror = get(&hardware.gerror), cons = get(&hardware.cons);
+    uint32_t consumed;
+    const smmuq_status status = smmuq_forwarder_poll(&owner.forwarder, gerror, cons, &consumed);
+    if (status == SMMUQ_QUEUE_STOPPED)
+        acknowledge();
+    else
+        check(status, "poll");
+    owner.consumed += consumed;
 }
 
-static void *forward(void *argument) {
-    smmuq_command run[SLOTS];
-    size_t count;
+static void *own(void *argument) {
+    smmuq_command run[RUN];
+    smmuq_placement placement;
     smmuq_status status;
-    /* No more are taken than the hardware's queue has slots. */
-    while ((status = smmuq_take_run(&forwarder.consumer, run, SLOTS, &count)) != SMMUQ_RING_DRAINED) {
-        if (status == SMMUQ_OK) {
-            pass_on(run, count);
-            complete(run);
-        } else if (status == SMMUQ_RING_EMPTY || status == SMMUQ_RING_UNWRITTEN) {
-            sched_yield();
-        } else {
-            check(status, "take");
-        }
-    }
+    do {
+        status = smmuq_forward(&owner.forwarder, run, RUN, &placement);
+        if (status == SMMUQ_OK)
+            show(run, &placement);
+        else if (status == SMMUQ_REPLACED)
+            owner.refused++;
+        else if (status != SMMUQ_QUEUE_FULL && status != SMMUQ_RING_EMPTY && status != SMMUQ_RING_UNWRITTEN && status != SMMUQ_RING_DRAINED)
+            check(status, "forward");
+        poll();
+        sched_yield();
+    } while (status != SMMUQ_RING_DRAINED || owner.consumed < owner.shown);
     set(&hardware.ended, 1);
     return argument;
 }
@@ -155,11 +151,12 @@ static void wait_for(struct driver *driver, uint32_t number) {
 
 static void *drive(void *argument) {
     struct driver *driver = argument;
-    const smmuq_command illegal = {0xff, 0};
+    /* one that no SMMU has, and one that this hardware lacks */
+    const smmuq_command others[] = {{0xff, 0}, {SMMUQ_OPCODE_TLBI_EL2_ALL, 0}};
     uint32_t batch, number = 0;
     size_t page;
     if (driver->number == 0)
-        send(driver, &illegal, 1);
+        send(driver, others, 2);
     for (batch = 1; batch <= driver->batches; batch++) {
         smmuq_command commands[PAGES];
         for (page = 0; page < PAGES; page++) {
@@ -178,22 +175,21 @@ static void *drive(void *argument) {
     return NULL;
 }
 
-/* The totals: of each batch PAGES commands and a CMD_SYNC, and the CMD_SYNC behind the illegal command. */
+/* The totals: of each batch PAGES commands and a CMD_SYNC; of the batch of two others one command and the CMD_SYNC. */
 static int print_totals(const struct driver *drivers, uint32_t senders, uint32_t batches) {
-    const uint32_t syncs = senders * batches + 1, wanted = senders * batches * PAGES + syncs;
+    const uint32_t syncs = senders * batches + 1, wanted = senders * batches * PAGES + syncs + 1;
     smmuq_errors errors;
     smmuq_tallies tallies;
     uint32_t sender, early = 0;
     for (sender = 0; sender < senders; sender++)
         early += drivers[sender].early;
     check(smmuq_state(&hardware.unit.handle, &errors, &tallies), "state");
-    printf("%" PRIu32 " senders, %" PRIu32 " batches each: passed on %" PRIu32 " completed %" PRIu32 " without effect %" PRIu32
-           " told too early %" PRIu32 "\n",
-           senders, batches, forwarder.passed_on, forwarder.completed, forwarder.refused, early);
-    printf("hardware: prod %" PRIu32 " cons %" PRIu32 " applied %" PRIu64 " syncs %" PRIu64 "\n", hardware.prod, hardware.cons,
-           tallies.applied, tallies.syncs);
-    return forwarder.passed_on == wanted && forwarder.completed == wanted && forwarder.refused == 1 && early == 0
-        && hardware.cons == wanted && tallies.applied == wanted && tallies.syncs == syncs && tallies.replaced == 0;
+    printf("%" PRIu32 " senders, %" PRIu32 " batches each: shown %" PRIu32 " consumed %" PRIu32 " without effect %" PRIu32
+           " lost at the hardware %" PRIu32 " told too early %" PRIu32 "\n",
+           senders, batches, owner.shown, owner.consumed, owner.refused, owner.lost, early);
+    printf("hardware: applied %" PRIu64 " syncs %" PRIu64 "\n", tallies.applied, tallies.syncs);
+    return owner.shown == wanted && owner.consumed == wanted && owner.refused == 1 && owner.lost == 1 && early == 0
+        && tallies.applied == wanted && tallies.syncs == syncs + 1;
 }
 
 int main(int argc, char **argv) {
@@ -201,15 +197,15 @@ int main(int argc, char **argv) {
     const uint32_t batches = argc > 2 ? (uint32_t)strtoul(argv[2], NULL, 0) : 1000;
     static smmuq_sender handles[MOST_SENDERS];
     static struct driver drivers[MOST_SENDERS];
-    pthread_t taker, player;
+    pthread_t owning, player;
     uint32_t sender;
     int right;
     if (senders < 1 || senders > MOST_SENDERS)
         return 2;
-    check(smmuq_consumer_ring_new(RING_LOG2, batches + 1, handles, senders, &forwarder.consumer), "ring");
+    check(smmuq_forwarder_ring_new(RING_LOG2, batches + 1, LOG2, handles, senders, &owner.forwarder), "ring");
     check(smmuq_unit_new(1024, &hardware.unit), "unit");
     pthread_create(&player, NULL, play_hardware, NULL);
-    pthread_create(&taker, NULL, forward, NULL);
+    pthread_create(&owning, NULL, own, NULL);
     for (sender = 0; sender < senders; sender++) {
         /* A handle is moved, never copied: the old place isn't used again. */
         drivers[sender] = (struct driver){.sender = handles[sender], .number = sender, .batches = batches};
@@ -219,12 +215,12 @@ int main(int argc, char **argv) {
     for (sender = 0; sender < senders; sender++)
         pthread_join(drivers[sender].thread, NULL);
     check(smmuq_close(&drivers[0].sender), "close");
-    pthread_join(taker, NULL);
+    pthread_join(owning, NULL);
     pthread_join(player, NULL);
     right = print_totals(drivers, senders, batches);
     for (sender = 0; sender < senders; sender++)
         smmuq_free(&drivers[sender].sender.handle);
-    smmuq_free(&forwarder.consumer.handle);
+    smmuq_free(&owner.forwarder.handle);
     smmuq_free(&hardware.unit.handle);
     return right ? 0 : 1;
 }

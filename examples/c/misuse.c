@@ -40,11 +40,11 @@ static void misuse_words(void) {
     WANT(smmuq_range(1, 2, 0x10000, 33, room, 1, &count), SMMUQ_SHORT_BUFFER);
     WANT(smmuq_detach(5, room, 2, &count), SMMUQ_SHORT_BUFFER);
     WANT(smmuq_status_text(SMMUQ_RING_FULL, text, 8, &length), SMMUQ_SHORT_BUFFER);
-    WANT(smmuq_status_text(0x7f, text, sizeof text, &length), SMMUQ_BAD_FIELD);
+    WANT(smmuq_status_text(0x7fff, text, sizeof text, &length), SMMUQ_BAD_FIELD);
     WANT(smmuq_status_text(SMMUQ_RING_FULL, text, sizeof text, &length), SMMUQ_OK);
     WANT(strcmp(text, "Q2: too little room") != 0, 0);
     WANT(strcmp(smmuq_status_name(SMMUQ_RING_FULL), "SMMUQ_RING_FULL") != 0, 0);
-    WANT(strcmp(smmuq_status_name((smmuq_status)0x7f), "unknown status") != 0, 0);
+    WANT(strcmp(smmuq_status_name((smmuq_status)0x7fff), "unknown status") != 0, 0);
 }
 
 static void misuse_a_unit(void) {

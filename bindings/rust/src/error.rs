@@ -101,6 +101,12 @@ errors! {
     BadBatches = 0x43,
     /// N4: there is no memory for the ring.
     RingNoMemory = 0x44,
+    /// G1: no error is active.
+    NoError = 0x51,
+    /// Another error than CERROR_ILL: nothing is replaced.
+    NotIllegal = 0x53,
+    /// A CMD_SYNC isn't replaced: it would be by itself.
+    SyncStays = 0x54,
     /// A number that is out of its range, as a span over 52.
     BadField = 0x62,
     /// There is no memory.

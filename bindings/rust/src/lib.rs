@@ -4,7 +4,8 @@
 //! once, and one call at a time is made on it.
 //!
 //! - [`Unit`] is for a device model, which reads commands from a queue of its own.
-//! - [`ring`] makes a queue of many senders and an [`Engine`]; [`consumer_ring`] one whose commands the caller carries out.
+//! - [`ring`] makes a queue of many senders and an [`Engine`]; [`consumer_ring`] one whose commands the caller carries out,
+//!   and [`forwarder_ring`] one whose commands a hardware queue gets.
 //!
 //! The contracts are those of the header, which has more calls than are wrapped here. No call may be made from a signal
 //! handler, nor from the forked child of a process with threads: no type can keep that.
@@ -24,6 +25,7 @@ mod caches;
 mod command;
 mod consumer;
 mod error;
+mod forwarder;
 mod handle;
 mod ring;
 mod sys;
@@ -33,6 +35,7 @@ pub use caches::{Acknowledged, Block, Caches, Held, Registers, Remedy, Scope, Ta
 pub use command::{Batch, Command};
 pub use consumer::{consumer_ring, Completed, Consumer, Ready, Taken};
 pub use error::{Error, Illegal};
+pub use forwarder::{forwarder_ring, Forwarded, Forwarder, Hardware, Polled};
 pub use ring::{ring, Control, Engine, Reservation, Run, Sender};
 pub use unit::{Judged, Unit};
 

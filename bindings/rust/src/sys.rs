@@ -1,7 +1,7 @@
 // SPDX-License-Identifier: MIT OR Apache-2.0
 //! The types and calls of smmuq.h that are wrapped here. Every handle is one pointer, so one type serves for all of them.
 
-/// `smmuq_handle`, and the `smmuq_unit`, `smmuq_sender`, `smmuq_engine` and `smmuq_consumer` round it.
+/// `smmuq_handle`, and the `smmuq_unit`, `smmuq_sender`, `smmuq_engine`, `smmuq_consumer` and `smmuq_forwarder` round it.
 #[repr(C)]
 pub struct Handle {
     at: *mut core::ffi::c_void,
@@ -101,6 +101,24 @@ pub struct Control {
 
 use crate::Command;
 
+/// `smmuq_placement`.
+#[repr(C)]
+#[derive(Default)]
+pub struct Placement {
+    pub slot: u32,
+    pub count: u32,
+    pub prod: u32,
+}
+
+/// `smmuq_acknowledgement`.
+#[repr(C)]
+#[derive(Default)]
+pub struct Acknowledgement {
+    pub command: Command,
+    pub slot: u32,
+    pub gerrorn: u32,
+}
+
 unsafe extern "C" {
     pub fn smmuq_version() -> u32;
     pub fn smmuq_check(lo: u64, hi: u64) -> u32;
@@ -173,4 +191,31 @@ unsafe extern "C" {
         count: *mut usize,
     ) -> u32;
     pub fn smmuq_complete(consumer: *mut Handle, count: usize) -> u32;
+
+    pub fn smmuq_forwarder_ring_new(
+        log2: u32,
+        max_batches: u32,
+        queue_log2: u32,
+        senders: *mut Handle,
+        count: usize,
+        forwarder: *mut Handle,
+    ) -> u32;
+    pub fn smmuq_forward(
+        forwarder: *mut Handle,
+        buffer: *mut Command,
+        length: usize,
+        placement: *mut Placement,
+    ) -> u32;
+    pub fn smmuq_forwarder_poll(
+        forwarder: *mut Handle,
+        gerror: u32,
+        cons: u32,
+        consumed: *mut u32,
+    ) -> u32;
+    pub fn smmuq_forwarder_acknowledge(
+        forwarder: *mut Handle,
+        gerrorn: u32,
+        remedy: u32,
+        acknowledgement: *mut Acknowledgement,
+    ) -> u32;
 }

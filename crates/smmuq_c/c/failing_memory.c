@@ -39,9 +39,10 @@ struct handles {
     smmuq_sender senders[2], forwarded, idle_sender, empty_senders[2];
     smmuq_engine engine, idle_engine, empty_engine;
     smmuq_consumer consumer, empty_consumer;
+    smmuq_forwarder empty_forwarder;
 };
 
-#define HANDLES 14
+#define HANDLES 15
 
 static const smmuq_tag FILLED = {.kind = SMMUQ_S1, .vmid = 1, .scope = SMMUQ_SCOPE_ASID, .asid = 2, .address = 0x1000};
 static const smmuq_tag OTHER = {.kind = SMMUQ_S1, .vmid = 1, .scope = SMMUQ_SCOPE_ASID, .asid = 2, .address = 0x2000};
@@ -70,7 +71,7 @@ static smmuq_handle *nth(struct handles *handles, size_t n) {
         &handles->senders[1].handle,     &handles->engine.handle,           &handles->forwarded.handle,
         &handles->consumer.handle,       &handles->idle_sender.handle,      &handles->idle_engine.handle,
         &handles->empty_unit.handle,     &handles->empty_senders[0].handle, &handles->empty_senders[1].handle,
-        &handles->empty_engine.handle,   &handles->empty_consumer.handle};
+        &handles->empty_engine.handle,   &handles->empty_consumer.handle,   &handles->empty_forwarder.handle};
     return all[n];
 }
 
@@ -132,6 +133,30 @@ static uint32_t consumer_ring_new(struct handles *handles) {
 static uint32_t consumer_ring_again(struct handles *handles) {
     return smmuq_consumer_ring_new(5, 9, &handles->forwarded, 1, &handles->consumer);
 }
+static uint32_t forwarder_ring_new(struct handles *handles) {
+    return smmuq_forwarder_ring_new(5, 9, 3, handles->empty_senders, 2, &handles->empty_forwarder);
+}
+
+// All calls of a forwarder: of a batch the first command is consumed, and the hardware stops at the CMD_SYNC.
+static uint32_t forward(struct handles *handles) {
+    smmuq_command buffer[64];
+    smmuq_placement placement;
+    smmuq_acknowledgement acknowledgement;
+    uint32_t number, consumed, status = forwarder_ring_new(handles);
+    if (status)
+        return status;
+    const size_t before = asked;
+    if (smmuq_send(&handles->empty_senders[0], &TLBI_NSNH_ALL, 1, 1, &number) ||
+        smmuq_forward(&handles->empty_forwarder, buffer, 64, &placement) || placement.count != 2 ||
+        smmuq_forwarder_poll(&handles->empty_forwarder, 1, 3u << 24 | 1, &consumed) != SMMUQ_QUEUE_STOPPED ||
+        smmuq_forwarder_acknowledge(&handles->empty_forwarder, 0, SMMUQ_RETRY, &acknowledgement) ||
+        smmuq_forwarder_poll(&handles->empty_forwarder, 1, 2, &consumed) || consumed != 1)
+        fail("refused", "a forwarder's calls");
+    if (asked != before)
+        fail("takes memory", "a forwarder's calls");
+    return SMMUQ_OK;
+}
+
 static uint32_t fill_unit(struct handles *handles) { return smmuq_fill(&handles->unused.handle, &OTHER, 9); }
 static uint32_t fill_engine(struct handles *handles) { return smmuq_fill(&handles->engine.handle, &OTHER, 9); }
 static uint32_t fill_in_place(struct handles *handles) { return smmuq_fill(&handles->unit.handle, &FILLED, 9); }
@@ -328,6 +353,8 @@ static const struct {
     {"smmuq_ring_new over a ring", ring_again, SMMUQ_OK, {SMMUQ_RING_NO_MEMORY, SMMUQ_NO_MEMORY}},
     {"smmuq_consumer_ring_new", consumer_ring_new, SMMUQ_OK, {SMMUQ_RING_NO_MEMORY, SMMUQ_NO_MEMORY}},
     {"smmuq_consumer_ring_new over a ring", consumer_ring_again, SMMUQ_OK, {SMMUQ_RING_NO_MEMORY, SMMUQ_NO_MEMORY}},
+    {"smmuq_forwarder_ring_new", forwarder_ring_new, SMMUQ_OK, {SMMUQ_RING_NO_MEMORY, SMMUQ_NO_MEMORY}},
+    {"smmuq_forwarder_ring_new, and a forwarder's calls", forward, SMMUQ_OK, {SMMUQ_RING_NO_MEMORY, SMMUQ_NO_MEMORY}},
     {"smmuq_renew", renew, SMMUQ_OK, {SMMUQ_RING_NO_MEMORY, SMMUQ_CACHES_NO_MEMORY, SMMUQ_NO_MEMORY}},
     {"smmuq_renew where a command waits", renew_too_early, SMMUQ_COMMAND_WAITS, {0}},
     {"smmuq_fill of a unit", fill_unit, SMMUQ_OK, {SMMUQ_CACHES_NO_MEMORY}},

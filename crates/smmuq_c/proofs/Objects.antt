@@ -12,15 +12,16 @@ use Rattle.engine.specs.Units.{UnitValue}
 use Rattle.engine.specs.Engines.{EngineValue}
 use Rattle.transactions.specs.TrackedQueueUnits.{TrackedQueueValue, with_queue, with_its_unit}
 use Rattle.smmuq_c.specs.HeldConsumers.{HeldConsumer}
+use Rattle.smmuq_c.specs.HeldForwarders.{HeldForwarder}
 use Rattle.smmuq_c.specs.declared.status.Status.{Status}
 use Rattle.smmuq_c.specs.declared.status.Status.TheVariants.{WrongHandle, BadField}
 use Rattle.smmuq_c.specs.declared.object.Object.{Object}
-use Rattle.smmuq_c.specs.declared.object.Object.TheVariants.{Unit as UnitOf, Sender as SenderOf, Reservation as ReservationOf, Engine as EngineOf, Consumer as ConsumerOf, Guest as GuestOf}
+use Rattle.smmuq_c.specs.declared.object.Object.TheVariants.{Unit as UnitOf, Sender as SenderOf, Reservation as ReservationOf, Engine as EngineOf, Consumer as ConsumerOf, Guest as GuestOf, Forwarder as ForwarderOf}
 use Rattle.smmuq_c.specs.Registers.{HasAcknowledged, HasAcknowledgedQueue, IsRemedyOf}
 use Rattle.smmuq_c.specs.Kept.{has_unit, unit_in, IsSettledObject}
 use Rattle.smmuq_c.proofs.Unchanged.{takes_none}
 use Rattle.smmuq_c.specs.Statuses.{number_of}
-use Rattle.smmuq_c.specs.Calls.{HasCalledOn, OfUnit, OfQueue, OfSender, OfEngine, OfConsumer, OfAnyUnit, OfStop, TakesNone, BySaid, OfSaid}
+use Rattle.smmuq_c.specs.Calls.{HasCalledOn, OfUnit, OfQueue, OfSender, OfEngine, OfConsumer, OfForwarder, OfAnyUnit, OfStop, TakesNone, BySaid, OfSaid}
 
 -- what is done to an object is done to the handle that holds it
 pub called : (does : Object → Object → Status → Type 0) {held new : Option Object} {old after : Object} {number : ℕ} {status : Status}
@@ -55,6 +56,10 @@ of_engine does {object} {old} {new} {status} is done = subst (λ (o : Object). O
 pub of_consumer : (does : HeldConsumer → HeldConsumer → Status → Type 0) {object : Object} {old new : HeldConsumer} {status : Status}
     → object ≡ ConsumerOf old → does old new status → OfConsumer does object (ConsumerOf new) status
 of_consumer does {object} {old} {new} {status} is done = subst (λ (o : Object). OfConsumer does o (ConsumerOf new) status) (sym is) (new, refl, done)
+
+pub of_forwarder : (does : HeldForwarder → HeldForwarder → Status → Type 0) {object : Object} {old new : HeldForwarder} {status : Status}
+    → object ≡ ForwarderOf old → does old new status → OfForwarder does object (ForwarderOf new) status
+of_forwarder does {object} {old} {new} {status} is done = subst (λ (o : Object). OfForwarder does o (ForwarderOf new) status) (sym is) (new, refl, done)
 
 pub any_unit : (does : UnitValue → UnitValue → Status → Type 0) {object : Object} {old new : TrackedQueueValue} {status : Status}
     → object ≡ UnitOf old → new ≡ with_its_unit new.queue.unit old → TakesNone old new → does old.queue.unit new.queue.unit status
@@ -93,6 +98,7 @@ said_to_another said does (ReservationOf r) none = (refl, refl)
 said_to_another said does (EngineOf e) none = absurd (true≢false none)
 said_to_another said does (ConsumerOf c) none = (refl, refl)
 said_to_another said does (GuestOf g) none = (refl, refl)
+said_to_another said does (ForwarderOf f) none = (refl, refl)
 
 -- if the words say nothing
 pub unsaid : {X : Type 0} (said : Option X → Type 0) (does : X → Object → Object → Status → Type 0) (object : Object)
@@ -103,6 +109,7 @@ unsaid said does (ReservationOf r) has none = absurd (true≢false (sym has))
 unsaid said does (EngineOf e) has none = (None, none, (refl, refl))
 unsaid said does (ConsumerOf c) has none = absurd (true≢false (sym has))
 unsaid said does (GuestOf g) has none = absurd (true≢false (sym has))
+unsaid said does (ForwarderOf f) has none = absurd (true≢false (sym has))
 
 -- ---- a stop that is acknowledged
 
@@ -135,6 +142,7 @@ read_unit does (ReservationOf r) unit is settled done = absurd (cc)
 read_unit does (EngineOf e) unit {status} is settled done = (e.unit, refl, settled, subst (λ (u : UnitValue). does u u status) (sym (same_unit e.unit unit is)) done)
 read_unit does (ConsumerOf c) unit is settled done = absurd (cc)
 read_unit does (GuestOf g) unit is settled done = absurd (cc)
+read_unit does (ForwarderOf f) unit is settled done = absurd (cc)
 
 -- one without a unit is of another kind
 pub read_of_another : (does : UnitValue → UnitValue → Status → Type 0) (object : Object) → has_unit object ≡ false → OfAnyUnit does object object WrongHandle
@@ -144,6 +152,7 @@ read_of_another does (ReservationOf r) none = (refl, refl)
 read_of_another does (EngineOf e) none = absurd (true≢false none)
 read_of_another does (ConsumerOf c) none = (refl, refl)
 read_of_another does (GuestOf g) none = (refl, refl)
+read_of_another does (ForwarderOf f) none = (refl, refl)
 
 pub has_one : (object : Object) (unit : UnitValue) → unit_in object ≡ Some unit → has_unit object ≡ true
 has_one (UnitOf q) unit is = refl
@@ -152,6 +161,7 @@ has_one (ReservationOf r) unit is = absurd (cc)
 has_one (EngineOf e) unit is = refl
 has_one (ConsumerOf c) unit is = absurd (cc)
 has_one (GuestOf g) unit is = absurd (cc)
+has_one (ForwarderOf f) unit is = absurd (cc)
 
 -- what is done to a unit or an engine by what words say
 pub said_any : {X : Type 0} (said : Option X → Type 0) (does : X → UnitValue → UnitValue → Status → Type 0) (object new : Object) (status : Status) (x : X)
@@ -162,6 +172,7 @@ said_any said does (ReservationOf r) new status x has says done = absurd (true�
 said_any said does (EngineOf e) new status x has says done = (Some x, says, done)
 said_any said does (ConsumerOf c) new status x has says done = absurd (true≢false (sym has))
 said_any said does (GuestOf g) new status x has says done = absurd (true≢false (sym has))
+said_any said does (ForwarderOf f) new status x has says done = absurd (true≢false (sym has))
 
 pub said_read : {X : Type 0} (said : Option X → Type 0) (does : X → UnitValue → UnitValue → Status → Type 0) (object : Object) (unit : UnitValue) (status : Status) (x : X)
     → unit_in object ≡ Some unit → IsSettledObject object → said (Some x) → does x unit unit status → OfSaid said does object object status

@@ -12,6 +12,7 @@ use Rattle.transactions.specs.Tracking.{StaysTracked}
 use Rattle.transactions.specs.TrackedQueueUnits.{TrackedQueueValue, tracked_in, with_queue}
 use Rattle.transactions.specs.TrackedQueueUnits.{with_its_unit}
 use Rattle.smmuq_c.specs.HeldConsumers.{HeldConsumer}
+use Rattle.smmuq_c.specs.HeldForwarders.{HeldForwarder}
 use Rattle.smmuq_c.specs.Registers.{HasAcknowledged, HasAcknowledgedQueue, error_words, queue_error_words, count_words}
 use Rattle.smmuq_c.specs.Statuses.{number_of}
 use Rattle.smmuq_c.specs.declared.handle.Handle.{Handle}
@@ -20,7 +21,7 @@ use Rattle.smmuq_c.specs.declared.status.Status.TheVariants.{Done, EmptyHandle, 
 use Rattle.smmuq_c.specs.declared.words.Errors.{Errors}
 use Rattle.smmuq_c.specs.declared.words.Tallies.{Tallies}
 use Rattle.smmuq_c.specs.declared.object.Object.{Object}
-use Rattle.smmuq_c.specs.declared.object.Object.TheVariants.{Unit as UnitOf, Sender as SenderOf, Reservation as ReservationOf, Engine as EngineOf, Consumer as ConsumerOf}
+use Rattle.smmuq_c.specs.declared.object.Object.TheVariants.{Unit as UnitOf, Sender as SenderOf, Reservation as ReservationOf, Engine as EngineOf, Consumer as ConsumerOf, Forwarder as ForwarderOf}
 
 -- A status has this number, and this is so of it.
 abbrev pub Answers : (Status → Type 0) → ℕ → Type 0
@@ -57,6 +58,10 @@ OfEngine does other new status = (new ≡ other) × (status ≡ WrongHandle)
 abbrev pub OfConsumer : (HeldConsumer → HeldConsumer → Status → Type 0) → Object → Object → Status → Type 0
 OfConsumer does (ConsumerOf old) new status = (after : HeldConsumer) × (new ≡ ConsumerOf after) × does old after status
 OfConsumer does other new status = (new ≡ other) × (status ≡ WrongHandle)
+
+abbrev pub OfForwarder : (HeldForwarder → HeldForwarder → Status → Type 0) → Object → Object → Status → Type 0
+OfForwarder does (ForwarderOf old) new status = (after : HeldForwarder) × (new ≡ ForwarderOf after) × does old after status
+OfForwarder does other new status = (new ≡ other) × (status ≡ WrongHandle)
 
 -- Nothing was taken: entries that were settled stay so, and transactions and walks stay tracked.
 pub record TakesNone (old new : TrackedQueueValue) : Type 0 where

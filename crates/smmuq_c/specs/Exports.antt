@@ -9,8 +9,12 @@ use Rattle.smmuq_c.specs.declared.tags.TagWords.{TagWords}
 use Rattle.smmuq_c.specs.declared.words.Held.{Held}
 use Rattle.smmuq_c.specs.declared.words.RunWords.{RunWords}
 use Rattle.smmuq_c.specs.declared.words.VerdictWords.{VerdictWords}
-use Rattle.smmuq_c.specs.Calls.{OfUnit, OfSender, OfEngine, OfConsumer, OfAnyUnit, OfSaid}
+use Rattle.smmuq_c.specs.Calls.{OfUnit, OfSender, OfEngine, OfConsumer, OfForwarder, OfAnyUnit, OfSaid, DoesSaid}
 use Rattle.smmuq_c.specs.Entries.{HasFilled, HasLookedUp, HasEvicted}
+use Rattle.hardware_queue.specs.declared.register_words.RegisterWords.{RegisterWords}
+use Rattle.smmuq_c.specs.declared.forwarder_calls.AcknowledgementWords.{AcknowledgementWords}
+use Rattle.smmuq_c.specs.declared.forwarder_calls.PlacementWords.{PlacementWords}
+use Rattle.smmuq_c.specs.Forwarding.{HasForwardedFor, HasPolledFor, HasAcknowledgedFor, remedy_numbered}
 use Rattle.smmuq_c.specs.Judging.{HasJudgedFor}
 use Rattle.smmuq_c.specs.Lists.{HasListed}
 use Rattle.smmuq_c.specs.Runs.{HasRunCompletions}
@@ -45,3 +49,13 @@ RunsTelling most told before after count = OfEngine (HasRunCompletions most told
 
 abbrev pub TakesRun : List Raw → List Raw → ℕ → Object → Object → Status → Type 0
 TakesRun before after count = OfConsumer (HasTakenRun before after count)
+
+abbrev pub Forwards : List Raw → List Raw → PlacementWords → Object → Object → Status → Type 0
+Forwards before after told = OfForwarder (HasForwardedFor before after told)
+
+abbrev pub Polls : RegisterWords → ℕ → ℕ → Object → Object → Status → Type 0
+Polls words before told = OfForwarder (HasPolledFor words before told)
+
+-- by the number of the remedy
+abbrev pub Remedies : ℕ → ℕ → AcknowledgementWords → Object → Object → Status → Type 0
+Remedies remedy gerrorn told = OfForwarder (DoesSaid (remedy_numbered remedy) (λ r. HasAcknowledgedFor gerrorn r told))

@@ -5,7 +5,7 @@ use Rattle.engine.specs.Units.{UnitValue}
 use Rattle.engine.specs.Engines.{IsSettledEngine}
 use Rattle.smmuq_c.specs.Statuses.{number_of}
 use Rattle.smmuq_c.specs.declared.object.Object.{Object}
-use Rattle.smmuq_c.specs.declared.object.Object.TheVariants.{Unit as UnitOf, Engine as EngineOf, Consumer as ConsumerOf}
+use Rattle.smmuq_c.specs.declared.object.Object.TheVariants.{Unit as UnitOf, Engine as EngineOf, Consumer as ConsumerOf, Forwarder as ForwarderOf}
 use Rattle.smmuq_c.specs.declared.status.Status.{Status}
 use Rattle.smmuq_c.specs.declared.status.Status.TheVariants.{Done, ShortBuffer}
 
@@ -44,6 +44,10 @@ has_unit other = false
 abbrev pub is_consumer : Object → Bool
 is_consumer (ConsumerOf c) = true
 is_consumer other = false
+
+abbrev pub is_forwarder : Object → Bool
+is_forwarder (ForwarderOf f) = true
+is_forwarder other = false
 
 -- It is told only if the handle holds an object of the call's kind.
 abbrev pub KeptOfOthers : {X : Type 0} → (Object → Bool) → Option Object → X → X → Type 0

@@ -3,7 +3,7 @@ use Rattle.std.specs.Prelude.{◌≡◌, ℕ, Bool, true, false, Option, None, S
 use Rattle.smmuq_c.specs.declared.status.Status.{Status}
 use Rattle.smmuq_c.specs.declared.status.Status.TheVariants.{Done, OpenReservation}
 use Rattle.smmuq_c.specs.declared.object.Object.{Object}
-use Rattle.smmuq_c.specs.declared.object.Object.TheVariants.{Unit as UnitOf, Sender as SenderOf, Reservation as ReservationOf, Engine as EngineOf, Consumer as ConsumerOf, Guest as GuestOf}
+use Rattle.smmuq_c.specs.declared.object.Object.TheVariants.{Unit as UnitOf, Sender as SenderOf, Reservation as ReservationOf, Engine as EngineOf, Consumer as ConsumerOf, Guest as GuestOf, Forwarder as ForwarderOf}
 
 abbrev pub kind_of : Object → ℕ
 kind_of (UnitOf u) = 1
@@ -12,6 +12,7 @@ kind_of (ReservationOf r) = 2
 kind_of (EngineOf e) = 3
 kind_of (ConsumerOf c) = 4
 kind_of (GuestOf g) = 5
+kind_of (ForwarderOf f) = 6
 
 -- 0 if it is empty
 abbrev pub kind_in : Option Object → ℕ

@@ -10,12 +10,17 @@ use Rattle.ring.specs.consumer.Consumers.{ConsumerValue}
 use Rattle.engine.specs.Units.{UnitValue}
 use Rattle.caches.specs.Limits.{IsCapacity}
 use Rattle.smmuq_c.specs.declared.status.Status.{Status}
-use Rattle.smmuq_c.specs.declared.status.Status.TheVariants.{Done, Cache, Ring, NoMemory}
+use Rattle.smmuq_c.specs.declared.status.Status.TheVariants.{Done, Cache, Ring, NoMemory, BadField}
 use Rattle.smmuq_c.specs.declared.object.Object.{Object}
-use Rattle.smmuq_c.specs.declared.object.Object.TheVariants.{Sender as SenderOf, Engine as EngineOf, Consumer as ConsumerOf}
+use Rattle.smmuq_c.specs.declared.object.Object.TheVariants.{Sender as SenderOf, Engine as EngineOf, Consumer as ConsumerOf, Forwarder as ForwarderOf}
 use Rattle.smmuq_c.specs.declared.seated_consumer.CallersDevice.{CallersDevice}
 use Rattle.smmuq_c.specs.declared.handle.Handle.{Handle}
 use Rattle.ring.specs.consumer.PendingConsumers.{with_none}
+use Rattle.qindex.specs.Indexes.{IsGeometry}
+use Rattle.ring.specs.consumer.Deferring.{deferring}
+use Rattle.hardware_queue.specs.declared.state.QueueState.TheVariants.{Running}
+use Rattle.hardware_queue.specs.Queues.{QueueValue}
+use Rattle.hardware_queue.specs.Owners.{OwnerValue, IsNew}
 use Rattle.smmuq_c.specs.Making.{IsNewUnit}
 
 -- ---- what takes a new ring's commands
@@ -27,6 +32,13 @@ IsNewEngine capacity consumer object = (unit : UnitValue) × IsNewUnit capacity 
 -- the consumer, with nothing pending
 abbrev pub IsNewConsumer : ConsumerValue CallersDevice → Object → Type 0
 IsNewConsumer consumer object = object ≡ ConsumerOf (with_none consumer)
+
+-- the forwarder, with a queue of its own that has not begun
+pub record IsNewForwarder (queue_log2 : ℕ) (consumer : ConsumerValue (OwnerValue QueueValue)) (object : Object) : Type 0 where
+  pub queue : QueueValue
+  pub in_range : IsGeometry queue_log2
+  pub queue_is : IsNew queue queue_log2
+  pub object_is : object ≡ ForwarderOf (record { consumer = deferring consumer; owner = record { queue = queue; state = Running } })
 
 -- ---- a ring
 
@@ -63,6 +75,11 @@ abbrev pub IsNoEngineRing : ℕ → ℕ → ℕ → ℕ → Status → Type 0
 IsNoEngineRing log2 senders max_batches capacity (Cache BadCapacity) = ¬ IsCapacity capacity
 IsNoEngineRing log2 senders max_batches capacity other = IsCapacity capacity × IsNoRing log2 senders max_batches other
 
+-- why none is made with a forwarder
+abbrev pub IsNoForwarderRing : ℕ → ℕ → ℕ → ℕ → Status → Type 0
+IsNoForwarderRing log2 senders max_batches queue_log2 BadField = ¬ IsGeometry queue_log2
+IsNoForwarderRing log2 senders max_batches queue_log2 other = IsGeometry queue_log2 × IsNoRing log2 senders max_batches other
+
 -- All handles hold what they are for; or all are as before, and this is why.
 abbrev pub HasMade : (List Handle → Option Object → Type 0) → (Status → Type 0) → List Handle → List Handle → Option Object → Option Object → Status → Type 0
 HasMade is_made is_none old new old_taker new_taker Done = is_made new new_taker
@@ -75,6 +92,10 @@ HasMadeRing log2 max_batches capacity old new old_engine new_engine status =
 abbrev pub HasMadeConsumerRing : ℕ → ℕ → List Handle → List Handle → Option Object → Option Object → Status → Type 0
 HasMadeConsumerRing log2 max_batches old new old_consumer new_consumer status =
     HasMade (IsRing IsNewConsumer log2 max_batches) (IsNoRing log2 (sender_count old) max_batches) old new old_consumer new_consumer status
+
+abbrev pub HasMadeForwarderRing : ℕ → ℕ → ℕ → List Handle → List Handle → Option Object → Option Object → Status → Type 0
+HasMadeForwarderRing log2 max_batches queue_log2 old new old_forwarder new_forwarder status =
+    HasMade (IsRing (IsNewForwarder queue_log2) log2 max_batches) (IsNoForwarderRing log2 (sender_count old) max_batches queue_log2) old new old_forwarder new_forwarder status
 
 -- ---- in between
 

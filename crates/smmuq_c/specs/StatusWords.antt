@@ -8,7 +8,7 @@ use Rattle.ringcore.specs.declared.ring_fault.RingFault.TheVariants as ring
 use Rattle.engine.specs.declared.remedy.AckFault.TheVariants.{NoError, OtherBit}
 use Rattle.guest_commands.specs.declared.fault.AttachFault.TheVariants as attach
 use Rattle.smmuq_c.specs.declared.status.Status.{Status}
-use Rattle.smmuq_c.specs.declared.status.Status.TheVariants.{Done, Illegal, Cache, Batch, Refused, Waiting, Ring, Acknowledgement, Attachment, EmptyHandle, WrongHandle, BadField, ShortBuffer, NoMemory, NotHeld, OpenReservation, NoReservation, StillStopped, OtherCommand, Exhausted, RingEmpty, RingDrained, RingUnwritten, Replaced, SyncWaiting, Overtaken, TooOld, OtherWalk, TransactionsFull, NotOutstanding, Unsupported}
+use Rattle.smmuq_c.specs.declared.status.Status.TheVariants.{Done, Illegal, Cache, Batch, Refused, Waiting, Ring, Acknowledgement, Attachment, EmptyHandle, WrongHandle, BadField, ShortBuffer, NoMemory, NotHeld, OpenReservation, NoReservation, StillStopped, OtherCommand, Exhausted, RingEmpty, RingDrained, RingUnwritten, Replaced, SyncWaiting, Overtaken, TooOld, OtherWalk, TransactionsFull, NotOutstanding, Unsupported, QueueFull, QueueStopped, QueueBroken, NotIllegal, SyncStays}
 use Rattle.smmuq_c.specs.Statuses.{number_of}
 use Rattle.smmuq_c.specs.Texts.{IsCopied}
 
@@ -66,6 +66,11 @@ words_of TooOld = codes "more than 64 invalidations were taken since the walk be
 words_of OtherWalk = codes "the walk isn't one of this unit since its last reset"
 words_of TransactionsFull = codes "as many transactions are outstanding as there is room for"
 words_of NotOutstanding = codes "no transaction of this number is outstanding"
+words_of QueueFull = codes "as many commands as the hardware's queue has slots are in flight"
+words_of QueueStopped = codes "the hardware is stopped by an error"
+words_of QueueBroken = codes "no working queue can have these words in its registers"
+words_of NotIllegal = codes "the error isn't CERROR_ILL"
+words_of SyncStays = codes "a CMD_SYNC isn't replaced"
 
 -- It is the status of this number, or there is none.
 abbrev pub IsNumbered : ℕ → Option Status → Type 0

@@ -15,7 +15,7 @@ use Rattle.engine.specs.declared.remedy.AckFault.TheVariants.{NoError, OtherBit}
 use Rattle.guest_commands.specs.declared.fault.AttachFault.{AttachFault}
 use Rattle.guest_commands.specs.declared.fault.AttachFault.TheVariants as attach
 use Rattle.smmuq_c.specs.declared.status.Status.{Status}
-use Rattle.smmuq_c.specs.declared.status.Status.TheVariants.{Done, Illegal, Cache, Batch, Refused, Waiting, Ring, Acknowledgement, Attachment, EmptyHandle, WrongHandle, BadField, ShortBuffer, NoMemory, NotHeld, OpenReservation, NoReservation, StillStopped, OtherCommand, Exhausted, RingEmpty, RingDrained, RingUnwritten, Replaced, SyncWaiting, Overtaken, TooOld, OtherWalk, TransactionsFull, NotOutstanding, Unsupported}
+use Rattle.smmuq_c.specs.declared.status.Status.TheVariants.{Done, Illegal, Cache, Batch, Refused, Waiting, Ring, Acknowledgement, Attachment, EmptyHandle, WrongHandle, BadField, ShortBuffer, NoMemory, NotHeld, OpenReservation, NoReservation, StillStopped, OtherCommand, Exhausted, RingEmpty, RingDrained, RingUnwritten, Replaced, SyncWaiting, Overtaken, TooOld, OtherWalk, TransactionsFull, NotOutstanding, Unsupported, QueueFull, QueueStopped, QueueBroken, NotIllegal, SyncStays}
 
 abbrev pub ill_number : Ill → ℕ
 ill_number UnknownOpcode = 1
@@ -91,3 +91,8 @@ number_of TooOld = 0x79
 number_of OtherWalk = 0x7a
 number_of TransactionsFull = 0x7b
 number_of NotOutstanding = 0x7c
+number_of QueueFull = 0x7d
+number_of QueueStopped = 0x7e
+number_of QueueBroken = 0x7f
+number_of NotIllegal = 0x53
+number_of SyncStays = 0x54

@@ -40,7 +40,8 @@ fn take_run(object: &mut Object, buffer: &mut [Raw], count: &mut usize) -> Statu
         | Object::Sender(_)
         | Object::Reservation(_)
         | Object::Engine(_)
-        | Object::Guest(_) => Status::WrongHandle,
+        | Object::Guest(_)
+        | Object::Forwarder(_) => Status::WrongHandle,
     }
 }
 
@@ -67,6 +68,7 @@ fn complete(object: &mut Object, count: usize) -> Status
         | Object::Sender(_)
         | Object::Reservation(_)
         | Object::Engine(_)
-        | Object::Guest(_) => Status::WrongHandle,
+        | Object::Guest(_)
+        | Object::Forwarder(_) => Status::WrongHandle,
     }
 }

@@ -35,7 +35,8 @@ fn run(object: &mut Object, most: u32, answer: &mut RunWords) -> Status
         | Object::Sender(_)
         | Object::Reservation(_)
         | Object::Consumer(_)
-        | Object::Guest(_) => Status::WrongHandle,
+        | Object::Guest(_)
+        | Object::Forwarder(_) => Status::WrongHandle,
     }
 }
 
@@ -80,7 +81,8 @@ fn run_completions(
         | Object::Sender(_)
         | Object::Reservation(_)
         | Object::Consumer(_)
-        | Object::Guest(_) => Status::WrongHandle,
+        | Object::Guest(_)
+        | Object::Forwarder(_) => Status::WrongHandle,
     }
 }
 
@@ -106,6 +108,7 @@ fn tell_registers(object: &mut Object, told: &mut RegisterWords) -> Status
         | Object::Sender(_)
         | Object::Reservation(_)
         | Object::Consumer(_)
-        | Object::Guest(_) => Status::WrongHandle,
+        | Object::Guest(_)
+        | Object::Forwarder(_) => Status::WrongHandle,
     }
 }

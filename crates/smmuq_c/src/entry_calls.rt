@@ -36,8 +36,11 @@ fn fill(object: &mut Object, tag: &TagWords, value: u64) -> Status
     match object {
         Object::Unit(unit) => fill_status(unit.fill(tag, value)),
         Object::Engine(seated) => seated.fill(tag, value),
-        Object::Sender(_) | Object::Reservation(_) | Object::Consumer(_) | Object::Guest(_) =>
-            Status::WrongHandle,
+        Object::Sender(_)
+        | Object::Reservation(_)
+        | Object::Consumer(_)
+        | Object::Guest(_)
+        | Object::Forwarder(_) => Status::WrongHandle,
     }
 }
 
@@ -94,8 +97,11 @@ fn evict(object: &mut Object, tag: &TagWords, held: &mut Held) -> Status
     match object {
         Object::Unit(unit) => tell_entry(unit.evict(&tag), held),
         Object::Engine(seated) => seated.evict(&tag, held),
-        Object::Sender(_) | Object::Reservation(_) | Object::Consumer(_) | Object::Guest(_) =>
-            Status::WrongHandle,
+        Object::Sender(_)
+        | Object::Reservation(_)
+        | Object::Consumer(_)
+        | Object::Guest(_)
+        | Object::Forwarder(_) => Status::WrongHandle,
     }
 }
 

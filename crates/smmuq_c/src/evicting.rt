@@ -124,8 +124,11 @@ fn evict_older(object: &mut Object, born: u64, count: &mut usize) -> Status
             *count = seated.evict_older(born) as usize;
             Status::Done
         }
-        Object::Sender(_) | Object::Reservation(_) | Object::Consumer(_) | Object::Guest(_) =>
-            Status::WrongHandle,
+        Object::Sender(_)
+        | Object::Reservation(_)
+        | Object::Consumer(_)
+        | Object::Guest(_)
+        | Object::Forwarder(_) => Status::WrongHandle,
     }
 }
 
@@ -143,7 +146,10 @@ fn evict_passing<T: TagTest>(object: &mut Object, test: &T, count: &mut usize) -
             *count = seated.evict_all(test) as usize;
             Status::Done
         }
-        Object::Sender(_) | Object::Reservation(_) | Object::Consumer(_) | Object::Guest(_) =>
-            Status::WrongHandle,
+        Object::Sender(_)
+        | Object::Reservation(_)
+        | Object::Consumer(_)
+        | Object::Guest(_)
+        | Object::Forwarder(_) => Status::WrongHandle,
     }
 }

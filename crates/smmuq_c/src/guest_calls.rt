@@ -78,7 +78,8 @@ fn attach(object: &mut Object, sid: u32, host: u32, ats: u32) -> Status
         | Object::Sender(_)
         | Object::Reservation(_)
         | Object::Engine(_)
-        | Object::Consumer(_) => Status::WrongHandle,
+        | Object::Consumer(_)
+        | Object::Forwarder(_) => Status::WrongHandle,
     }
 }
 
@@ -123,7 +124,8 @@ fn detach(object: &mut Object, sid: u32) -> Status
         | Object::Sender(_)
         | Object::Reservation(_)
         | Object::Engine(_)
-        | Object::Consumer(_) => Status::WrongHandle,
+        | Object::Consumer(_)
+        | Object::Forwarder(_) => Status::WrongHandle,
     }
 }
 
@@ -164,7 +166,8 @@ fn convert(
         | Object::Sender(_)
         | Object::Reservation(_)
         | Object::Engine(_)
-        | Object::Consumer(_) => Status::WrongHandle,
+        | Object::Consumer(_)
+        | Object::Forwarder(_) => Status::WrongHandle,
     }
 }
 
@@ -273,7 +276,8 @@ fn tell(object: &Object, raw: Raw, buffer: &mut [StreamWords], count: &mut usize
         | Object::Sender(_)
         | Object::Reservation(_)
         | Object::Engine(_)
-        | Object::Consumer(_) => Status::WrongHandle,
+        | Object::Consumer(_)
+        | Object::Forwarder(_) => Status::WrongHandle,
     }
 }
 

@@ -51,5 +51,6 @@ fn kind_of(object: &Object) -> u32
         Object::Engine(_) => 3,
         Object::Consumer(_) => 4,
         Object::Guest(_) => 5,
+        Object::Forwarder(_) => 6,
     }
 }

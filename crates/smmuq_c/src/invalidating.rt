@@ -53,7 +53,10 @@ fn invalidate_by(object: &mut Object, command: &Command, count: &mut usize) -> S
             *count = seated.invalidate(command) as usize;
             Status::Done
         }
-        Object::Sender(_) | Object::Reservation(_) | Object::Consumer(_) | Object::Guest(_) =>
-            Status::WrongHandle,
+        Object::Sender(_)
+        | Object::Reservation(_)
+        | Object::Consumer(_)
+        | Object::Guest(_)
+        | Object::Forwarder(_) => Status::WrongHandle,
     }
 }

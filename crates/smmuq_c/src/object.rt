@@ -4,6 +4,7 @@ ghost use Rattle.smmuq_c.specs.Kept.{has_unit, unit_in, IsSettledObject};
 
 use crate::seated_consumer::SeatedConsumer;
 use crate::seated_engine::SeatedEngine;
+use crate::seated_forwarder::SeatedForwarder;
 use crate::seated_reservation::SeatedReservation;
 use crate::seated_sender::SeatedSender;
 use engine::Unit;
@@ -20,6 +21,7 @@ pub(crate) enum Object {
     Engine(SeatedEngine),
     Consumer(SeatedConsumer),
     Guest(Guest),
+    Forwarder(SeatedForwarder),
 }
 
 fn may_cross_threads<T: Send>(_value: &T) {}
@@ -45,8 +47,11 @@ impl Object {
         match self {
             Object::Unit(unit) => Some(unit.unit()),
             Object::Engine(seated) => Some(seated.unit()),
-            Object::Sender(_) | Object::Reservation(_) | Object::Consumer(_) | Object::Guest(_) =>
-                None,
+            Object::Sender(_)
+            | Object::Reservation(_)
+            | Object::Consumer(_)
+            | Object::Guest(_)
+            | Object::Forwarder(_) => None,
         }
     }
 }

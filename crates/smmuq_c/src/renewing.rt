@@ -46,6 +46,7 @@ fn renew(alloc: Global, object: &mut Object, sizes: Sizes, senders: &mut [Handle
         | Object::Sender(_)
         | Object::Reservation(_)
         | Object::Consumer(_)
-        | Object::Guest(_) => Status::WrongHandle,
+        | Object::Guest(_)
+        | Object::Forwarder(_) => Status::WrongHandle,
     }
 }

@@ -1,22 +1,31 @@
 //! The exports that make a ring: a handle for each sender and one for what takes the commands, each for a thread of its
 //! own.
-ghost use Rattle.std.specs.Prelude.{◌≡◌, ◌≤◌, Some, IfOk, IfErr, OnOk, length, map};
+ghost use Rattle.std.specs.Prelude.{◌≡◌, ◌≤◌, [], Some, IfOk, IfErr, OnOk, length, map};
 ghost use Rattle.std.specs.List.{All};
 ghost use Rattle.std.specs.Arc.{arc_value};
 ghost use Rattle.ringcore.specs.Limits.{most_senders};
 ghost use Rattle.smmuq_c.specs.declared.object.Object.TheVariants.{Sender as SenderOf};
+ghost use Rattle.ring.specs.consumer.Completing.{taken_of};
+ghost use Rattle.ring.specs.consumer.Deferring.{deferring};
+ghost use Rattle.hardware_queue.specs.declared.state.QueueState.TheVariants.{Running};
+ghost use Rattle.hardware_queue.specs.Queues.{QueueValue};
+ghost use Rattle.hardware_queue.specs.Owners.{IsNew};
 ghost use Rattle.smmuq_c.specs.Calls.{Answers};
-ghost use Rattle.smmuq_c.specs.MakingRings.{HasMadeRing, HasMadeConsumerRing, AreNewSeats, IsNewEngine, IsNewConsumer, IsNoEngineRing, IsNoRing, objects_in, sender_count, boxed};
+ghost use Rattle.smmuq_c.specs.MakingRings.{HasMadeRing, HasMadeConsumerRing, HasMadeForwarderRing, AreNewSeats, IsNewEngine, IsNewConsumer, IsNewForwarder, IsNoEngineRing, IsNoForwarderRing, IsNoRing, objects_in, sender_count, boxed};
 
 use crate::handle::{Handle, put};
 use crate::object::Object;
 use crate::seated_consumer::{CallersDevice, SeatedConsumer};
 use crate::seated_engine::SeatedEngine;
+use crate::seated_forwarder::SeatedForwarder;
 use crate::seated_sender::SeatedSender;
 use crate::status::Status;
 use crate::unit_calls::new_caches;
 use engine::{Engine, Unit};
-use ring::{Ring, Sender};
+use hardware_queue::{Forwarder, Owner};
+use qindex::Geometry;
+use ring::{Consumer, Ring, Sender};
+use shadow_queue::ShadowQueue;
 use std::alloc::{AllocError, Global};
 use std::sync::Arc;
 
@@ -97,6 +106,44 @@ fn make_consumer_ring(
     }
 }
 
+/// The same with a forwarder's handle instead of the engine's, for a hardware queue of `2^queue_log2` slots that has not
+/// begun: SMMU_CMDQ_PROD and SMMU_CMDQ_CONS are 0, and CMDQ_ERR of SMMU_GERROR and SMMU_GERRORN too. `BAD_FIELD` if
+/// `queue_log2` isn't 1 to 19, N1, N2, N3, N4 or `NO_MEMORY` if none is made: then all handles are as before.
+#[unsafe(no_mangle)]
+pub extern "C" fn smmuq_forwarder_ring_new(
+    alloc: Global,
+    log2: u32,
+    max_batches: u32,
+    queue_log2: u32,
+    senders: &mut [Handle],
+    forwarder: &mut Handle,
+) -> u32
+    ensures { Answers (HasMadeForwarderRing log2 max_batches queue_log2 senders.old senders.new
+        forwarder.old.object forwarder.new.object) result }
+{
+    make_forwarder_ring(alloc, log2, max_batches, queue_log2, senders, forwarder).number()
+}
+
+fn make_forwarder_ring(
+    alloc: Global,
+    log2: u32,
+    max_batches: u32,
+    queue_log2: u32,
+    senders: &mut [Handle],
+    forwarder: &mut Handle,
+) -> Status
+    ensures { HasMadeForwarderRing log2 max_batches queue_log2 senders.old senders.new
+        forwarder.old.object forwarder.new.object result }
+{
+    match forwarder_seats(alloc, log2, count_of(senders), max_batches, queue_log2) {
+        Ok(seats) => {
+            fill_all(senders, forwarder, seats);
+            Status::Done
+        }
+        Err(status) => status,
+    }
+}
+
 pub(crate) fn count_of(handles: &[Handle]) -> u32
     ensures { result ≡ sender_count handles.now }
 {
@@ -158,6 +205,66 @@ fn consumer_seats(alloc: Global, log2: u32, senders: u32, max_batches: u32) -> R
         Ok(taker) => Ok(Seats { senders, taker }),
         Err(_) => Err(Status::NoMemory),
     }
+}
+
+/// Allocates all that a ring with a forwarder needs.
+fn forwarder_seats(
+    alloc: Global,
+    log2: u32,
+    senders: u32,
+    max_batches: u32,
+    queue_log2: u32,
+) -> Result<Seats, Status>
+    ensures made { IfOk result (λ s.
+        AreNewSeats (IsNewForwarder queue_log2) log2 senders max_batches
+        (boxed s.senders.items) s.taker.value) }
+    ensures refused { IfErr result (λ status.
+        IsNoForwarderRing log2 senders max_batches queue_log2 status) }
+    ensures count { IfOk result (λ s. length s.senders.items ≡ senders) }
+    ensures few { OnOk result (senders ≤ most_senders) }
+{
+    let Some(geometry) = Geometry::new(queue_log2) else {
+        return Err(Status::BadField);
+    };
+    let (ring, all, consumer) = match Ring::new::<Owner<ShadowQueue>>(
+        alloc,
+        log2,
+        senders,
+        max_batches,
+    ) {
+        Ok(parts) => parts,
+        Err(fault) => return Err(Status::Ring(fault)),
+    };
+    let Ok(forwarder) = new_forwarder(alloc, consumer, geometry, senders) else {
+        return Err(Status::NoMemory);
+    };
+    let Ok((ring, senders)) = share(alloc, ring, all) else {
+        return Err(Status::NoMemory);
+    };
+    let seated = SeatedForwarder::new(ring, forwarder);
+    match Box::new(alloc, Object::Forwarder(seated)) {
+        Ok(taker) => Ok(Seats { senders, taker }),
+        Err(_) => Err(Status::NoMemory),
+    }
+}
+
+/// Creates a forwarder of a new ring's consumer, for a queue that has not begun.
+fn new_forwarder(
+    alloc: Global,
+    consumer: Consumer<Owner<ShadowQueue>>,
+    geometry: Geometry,
+    senders: u32,
+) -> Result<Forwarder<ShadowQueue>, AllocError>
+    requires senders { senders ≡ consumer.ring.made_with.senders }
+    requires taken { taken_of consumer.trail ≡ [] }
+    ensures { IfOk result (λ f. ((q : QueueValue) × IsNew q geometry
+        × (f ≡ record {
+          consumer = deferring consumer;
+          owner = record { queue = q; state = Running };
+        }))) }
+{
+    let queue = ShadowQueue::new(alloc, geometry)?;
+    Forwarder::new(alloc, consumer, Owner::new(queue, geometry), senders)
 }
 
 /// Shares the ring among its seats, and makes a seat for each sender.

@@ -36,8 +36,11 @@ fn send(object: &mut Object, commands: &[Raw], tries: u32, number: &mut u32) -> 
     match object {
         Object::Sender(sender) => sender.send(commands, tries, number),
         Object::Reservation(_) => Status::OpenReservation,
-        Object::Unit(_) | Object::Engine(_) | Object::Consumer(_) | Object::Guest(_) =>
-            Status::WrongHandle,
+        Object::Unit(_)
+        | Object::Engine(_)
+        | Object::Consumer(_)
+        | Object::Guest(_)
+        | Object::Forwarder(_) => Status::WrongHandle,
     }
 }
 
@@ -58,8 +61,11 @@ fn send_bare(object: &mut Object, commands: &[Raw], tries: u32) -> Status
     match object {
         Object::Sender(sender) => sender.send_bare(commands, tries),
         Object::Reservation(_) => Status::OpenReservation,
-        Object::Unit(_) | Object::Engine(_) | Object::Consumer(_) | Object::Guest(_) =>
-            Status::WrongHandle,
+        Object::Unit(_)
+        | Object::Engine(_)
+        | Object::Consumer(_)
+        | Object::Guest(_)
+        | Object::Forwarder(_) => Status::WrongHandle,
     }
 }
 
@@ -82,8 +88,11 @@ fn done_up_to(object: &mut Object, number: &mut u32) -> Status
     match object {
         Object::Sender(sender) => sender.done_up_to(number),
         Object::Reservation(_) => Status::OpenReservation,
-        Object::Unit(_) | Object::Engine(_) | Object::Consumer(_) | Object::Guest(_) =>
-            Status::WrongHandle,
+        Object::Unit(_)
+        | Object::Engine(_)
+        | Object::Consumer(_)
+        | Object::Guest(_)
+        | Object::Forwarder(_) => Status::WrongHandle,
     }
 }
 
@@ -106,8 +115,11 @@ fn left(object: &mut Object, batches: &mut u32) -> Status
     match object {
         Object::Sender(sender) => sender.left(batches),
         Object::Reservation(_) => Status::OpenReservation,
-        Object::Unit(_) | Object::Engine(_) | Object::Consumer(_) | Object::Guest(_) =>
-            Status::WrongHandle,
+        Object::Unit(_)
+        | Object::Engine(_)
+        | Object::Consumer(_)
+        | Object::Guest(_)
+        | Object::Forwarder(_) => Status::WrongHandle,
     }
 }
 
@@ -128,8 +140,11 @@ fn close(object: &mut Object) -> Status
     match object {
         Object::Sender(sender) => sender.close(),
         Object::Reservation(_) => Status::OpenReservation,
-        Object::Unit(_) | Object::Engine(_) | Object::Consumer(_) | Object::Guest(_) =>
-            Status::WrongHandle,
+        Object::Unit(_)
+        | Object::Engine(_)
+        | Object::Consumer(_)
+        | Object::Guest(_)
+        | Object::Forwarder(_) => Status::WrongHandle,
     }
 }
 
@@ -152,7 +167,10 @@ fn look(object: &mut Object, told: &mut ControlWords) -> Status
     match object {
         Object::Sender(sender) => sender.look(told),
         Object::Reservation(_) => Status::OpenReservation,
-        Object::Unit(_) | Object::Engine(_) | Object::Consumer(_) | Object::Guest(_) =>
-            Status::WrongHandle,
+        Object::Unit(_)
+        | Object::Engine(_)
+        | Object::Consumer(_)
+        | Object::Guest(_)
+        | Object::Forwarder(_) => Status::WrongHandle,
     }
 }

@@ -71,6 +71,16 @@ pub(crate) enum Status {
     TransactionsFull,
     /// No transaction of this number is outstanding.
     NotOutstanding,
+    /// As many commands as the hardware's queue has slots aren't settled.
+    QueueFull,
+    /// The hardware is stopped by an error.
+    QueueStopped,
+    /// The registers had words that no working queue has.
+    QueueBroken,
+    /// The command would be replaced, but the error isn't CERROR_ILL.
+    NotIllegal,
+    /// The command would be replaced, but it is a CMD_SYNC.
+    SyncStays,
 }
 
 impl Status {
@@ -110,6 +120,11 @@ impl Status {
             Status::OtherWalk => 0x7a,
             Status::TransactionsFull => 0x7b,
             Status::NotOutstanding => 0x7c,
+            Status::QueueFull => 0x7d,
+            Status::QueueStopped => 0x7e,
+            Status::QueueBroken => 0x7f,
+            Status::NotIllegal => 0x53,
+            Status::SyncStays => 0x54,
         }
     }
 }

@@ -73,6 +73,11 @@ impl Status {
             Status::OtherWalk => "the walk isn't one of this unit since its last reset",
             Status::TransactionsFull => "as many transactions are outstanding as there is room for",
             Status::NotOutstanding => "no transaction of this number is outstanding",
+            Status::QueueFull => "as many commands as the hardware's queue has slots are in flight",
+            Status::QueueStopped => "the hardware is stopped by an error",
+            Status::QueueBroken => "no working queue can have these words in its registers",
+            Status::NotIllegal => "the error isn't CERROR_ILL",
+            Status::SyncStays => "a CMD_SYNC isn't replaced",
         }
     }
 }
@@ -108,6 +113,8 @@ fn numbered(number: u32) -> Option<Status>
         0x44 => Some(Status::Ring(RingFault::Memory(AllocError))),
         0x51 => Some(Status::Acknowledgement(AckFault::NoError)),
         0x52 => Some(Status::Acknowledgement(AckFault::OtherBit)),
+        0x53 => Some(Status::NotIllegal),
+        0x54 => Some(Status::SyncStays),
         0x60 => Some(Status::EmptyHandle),
         0x61 => Some(Status::WrongHandle),
         0x62 => Some(Status::BadField),
@@ -130,6 +137,9 @@ fn numbered(number: u32) -> Option<Status>
         0x7a => Some(Status::OtherWalk),
         0x7b => Some(Status::TransactionsFull),
         0x7c => Some(Status::NotOutstanding),
+        0x7d => Some(Status::QueueFull),
+        0x7e => Some(Status::QueueStopped),
+        0x7f => Some(Status::QueueBroken),
         0x81 => Some(Status::Attachment(AttachFault::OutOfRange)),
         0x82 => Some(Status::Attachment(AttachFault::Used)),
         0x83 => Some(Status::Attachment(AttachFault::Full)),

@@ -49,8 +49,11 @@ fn acknowledge(object: &mut Object, gerrorn: u32, remedy: u32) -> Status
     match object {
         Object::Unit(unit) => acknowledgement_status(unit.acknowledge(gerrorn, remedy)),
         Object::Engine(seated) => seated.acknowledge(gerrorn, remedy.until_then()),
-        Object::Sender(_) | Object::Reservation(_) | Object::Consumer(_) | Object::Guest(_) =>
-            Status::WrongHandle,
+        Object::Sender(_)
+        | Object::Reservation(_)
+        | Object::Consumer(_)
+        | Object::Guest(_)
+        | Object::Forwarder(_) => Status::WrongHandle,
     }
 }
 
@@ -87,8 +90,11 @@ fn tell_state(object: &Object, errors: &mut Errors, tallies: &mut Tallies) -> St
             *tallies = Tallies::from(seated.unit().counts());
             Status::Done
         }
-        Object::Sender(_) | Object::Reservation(_) | Object::Consumer(_) | Object::Guest(_) =>
-            Status::WrongHandle,
+        Object::Sender(_)
+        | Object::Reservation(_)
+        | Object::Consumer(_)
+        | Object::Guest(_)
+        | Object::Forwarder(_) => Status::WrongHandle,
     }
 }
 
@@ -124,7 +130,8 @@ fn stop(object: &mut Object, err: u32) -> Status
         | Object::Reservation(_)
         | Object::Engine(_)
         | Object::Consumer(_)
-        | Object::Guest(_) => Status::WrongHandle,
+        | Object::Guest(_)
+        | Object::Forwarder(_) => Status::WrongHandle,
     }
 }
 
@@ -164,7 +171,8 @@ fn restore(object: &mut Object, err: u32, gerror: u32, gerrorn: u32) -> Status
         | Object::Reservation(_)
         | Object::Engine(_)
         | Object::Consumer(_)
-        | Object::Guest(_) => Status::WrongHandle,
+        | Object::Guest(_)
+        | Object::Forwarder(_) => Status::WrongHandle,
     }
 }
 
@@ -206,6 +214,7 @@ fn reset(object: &mut Object) -> Status
         | Object::Reservation(_)
         | Object::Engine(_)
         | Object::Consumer(_)
-        | Object::Guest(_) => Status::WrongHandle,
+        | Object::Guest(_)
+        | Object::Forwarder(_) => Status::WrongHandle,
     }
 }

@@ -41,7 +41,8 @@ fn begin_walk(object: &Object, walk: &mut u64) -> Status
         | Object::Reservation(_)
         | Object::Engine(_)
         | Object::Consumer(_)
-        | Object::Guest(_) => Status::WrongHandle,
+        | Object::Guest(_)
+        | Object::Forwarder(_) => Status::WrongHandle,
     }
 }
 
@@ -76,7 +77,8 @@ fn begin_outstanding_walk(object: &mut Object, walk: &mut u64, transaction: &mut
         | Object::Reservation(_)
         | Object::Engine(_)
         | Object::Consumer(_)
-        | Object::Guest(_) => Status::WrongHandle,
+        | Object::Guest(_)
+        | Object::Forwarder(_) => Status::WrongHandle,
     }
 }
 
@@ -123,7 +125,8 @@ fn fill_walked(object: &mut Object, walk: u64, tag: &TagWords, value: u64) -> St
         | Object::Reservation(_)
         | Object::Engine(_)
         | Object::Consumer(_)
-        | Object::Guest(_) => Status::WrongHandle,
+        | Object::Guest(_)
+        | Object::Forwarder(_) => Status::WrongHandle,
     }
 }
 
@@ -173,7 +176,8 @@ fn begin(object: &mut Object, tag: &TagWords, held: &mut Held, transaction: &mut
         | Object::Reservation(_)
         | Object::Engine(_)
         | Object::Consumer(_)
-        | Object::Guest(_) => Status::WrongHandle,
+        | Object::Guest(_)
+        | Object::Forwarder(_) => Status::WrongHandle,
     }
 }
 
@@ -232,7 +236,8 @@ fn begin_walked(object: &mut Object, walk: u64, tag: &TagWords, transaction: &mu
         | Object::Reservation(_)
         | Object::Engine(_)
         | Object::Consumer(_)
-        | Object::Guest(_) => Status::WrongHandle,
+        | Object::Guest(_)
+        | Object::Forwarder(_) => Status::WrongHandle,
     }
 }
 
@@ -281,7 +286,8 @@ fn end(object: &mut Object, transaction: u64, last: &mut u32) -> Status
         | Object::Reservation(_)
         | Object::Engine(_)
         | Object::Consumer(_)
-        | Object::Guest(_) => Status::WrongHandle,
+        | Object::Guest(_)
+        | Object::Forwarder(_) => Status::WrongHandle,
     }
 }
 
@@ -335,6 +341,7 @@ fn tell_outstanding(object: &Object, counts: &mut TransactionCounts) -> Status
         | Object::Reservation(_)
         | Object::Engine(_)
         | Object::Consumer(_)
-        | Object::Guest(_) => Status::WrongHandle,
+        | Object::Guest(_)
+        | Object::Forwarder(_) => Status::WrongHandle,
     }
 }

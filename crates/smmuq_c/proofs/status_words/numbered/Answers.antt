@@ -6,7 +6,7 @@ use Rattle.ring.specs.declared.sender.cause.Cause.TheVariants as cause
 use Rattle.ringcore.specs.declared.ring_fault.RingFault.TheVariants as ring
 use Rattle.engine.specs.declared.remedy.AckFault.TheVariants.{NoError, OtherBit}
 use Rattle.guest_commands.specs.declared.fault.AttachFault.TheVariants as attach
-use Rattle.smmuq_c.specs.declared.status.Status.TheVariants.{Done, Illegal, Cache, Batch, Refused, Waiting, Ring, Acknowledgement, Attachment, EmptyHandle, WrongHandle, BadField, ShortBuffer, NoMemory, NotHeld, OpenReservation, NoReservation, StillStopped, OtherCommand, Exhausted, RingEmpty, RingDrained, RingUnwritten, Replaced, SyncWaiting, Overtaken, TooOld, OtherWalk, TransactionsFull, NotOutstanding, Unsupported}
+use Rattle.smmuq_c.specs.declared.status.Status.TheVariants.{Done, Illegal, Cache, Batch, Refused, Waiting, Ring, Acknowledgement, Attachment, EmptyHandle, WrongHandle, BadField, ShortBuffer, NoMemory, NotHeld, OpenReservation, NoReservation, StillStopped, OtherCommand, Exhausted, RingEmpty, RingDrained, RingUnwritten, Replaced, SyncWaiting, Overtaken, TooOld, OtherWalk, TransactionsFull, NotOutstanding, Unsupported, QueueFull, QueueStopped, QueueBroken, NotIllegal, SyncStays}
 use Rattle.smmuq_c.proofs.status_words.numbered.Goals as goal
 
 pub returns-in_default : goal.returns-in_default
@@ -62,3 +62,8 @@ returns-in_default c TooOld is = omega arith
 returns-in_default c OtherWalk is = omega arith
 returns-in_default c TransactionsFull is = omega arith
 returns-in_default c NotOutstanding is = omega arith
+returns-in_default c QueueFull is = omega arith
+returns-in_default c QueueStopped is = omega arith
+returns-in_default c QueueBroken is = omega arith
+returns-in_default c NotIllegal is = omega arith
+returns-in_default c SyncStays is = omega arith

@@ -1,0 +1,172 @@
+//! A forwarder with its share of its ring.
+ghost use Rattle.std.specs.Prelude.{◌≡◌, ◌≤◌, ◌++◌, length, drop};
+ghost use Rattle.std.specs.Arc.{arc_value};
+ghost use Rattle.smmuq_c.specs.Forwarding.{HasForwardedFor, TellsAnswer, HasPolledFor, HasAcknowledgedFor, polled_status, consumed_by, forwarded_status, acknowledgement_words, fault_status};
+ghost use Rattle.smmuq_c.specs.Kept.{IsKept};
+
+use crate::forwarder_calls::{AcknowledgementWords, PlacementWords};
+use crate::status::Status;
+use cmdcodec::{Raw, RawList};
+use engine::AckFault;
+use hardware_queue::{
+    Acknowledgement, Forwarded, Forwarder, Progress, RegisterWords, Remedy, RemedyFault,
+};
+use ring::Ring;
+use shadow_queue::{Placement, ShadowQueue, forward};
+use std::marker::Model;
+use std::sync::Arc;
+
+/// How many commands a run has at most.
+const MOST: usize = 64;
+
+/// A forwarder with its ring.
+#[derive(Drop)]
+pub(crate) struct SeatedForwarder {
+    ring: Arc<Ring>,
+    forwarder: Forwarder<ShadowQueue>,
+}
+
+impl Model for SeatedForwarder {
+    ghost use Rattle.std.specs.Prelude.{◌≡◌};
+    ghost use Rattle.std.specs.Arc.{arc_value};
+    ghost use Rattle.smmuq_c.specs.HeldForwarders.{HeldForwarder};
+
+    ghost Value = { HeldForwarder };
+
+    ghost view = { λ s. s.forwarder };
+
+    ghost invariant = { λ s. s.forwarder.consumer.consumer.ring ≡ arc_value s.ring };
+}
+
+impl SeatedForwarder {
+    pub(crate) fn new(ring: Arc<Ring>, forwarder: Forwarder<ShadowQueue>) -> SeatedForwarder
+        requires { forwarder.consumer.consumer.ring ≡ arc_value ring }
+        ensures { result ≡ forwarder }
+    {
+        SeatedForwarder { ring, forwarder }
+    }
+
+    /// Forwards a run, and tells what is to be written.
+    pub(crate) fn forward(&mut self, buffer: &mut [Raw], told: &mut PlacementWords) -> Status
+        ensures called { HasForwardedFor buffer.old buffer.new told.new self.old self.new result }
+        ensures told { IsKept result told.old told.new }
+    {
+        if buffer.len() < MOST {
+            return Status::ShortBuffer;
+        }
+        let (answer, placement) = forward(&mut self.forwarder, &self.ring);
+        tell(answer, &placement, buffer, told);
+        status_of(answer)
+    }
+
+    /// Polls by the words that the caller read.
+    pub(crate) fn poll(&mut self, words: RegisterWords, consumed: &mut u32) -> Status
+        ensures { HasPolledFor words consumed.old consumed.new self.old self.new result }
+    {
+        let progress = self.forwarder.poll_words(&self.ring, words);
+        *consumed = told_consumed(progress, *consumed);
+        polled(progress)
+    }
+
+    /// Acknowledges an error, by SMMU_GERRORN as the caller read it.
+    pub(crate) fn acknowledge(
+        &mut self,
+        remedy: Remedy,
+        gerrorn: u32,
+        told: &mut AcknowledgementWords,
+    ) -> Status
+        ensures called { HasAcknowledgedFor gerrorn remedy told.new self.old self.new result }
+        ensures told { IsKept result told.old told.new }
+    {
+        let acknowledgement = match self.forwarder.acknowledge_words(remedy, gerrorn) {
+            Ok(acknowledgement) => acknowledgement,
+            Err(fault) => return refused(fault),
+        };
+        *told = words_of(acknowledgement);
+        Status::Done
+    }
+}
+
+/// Tells what a run was forwarded to, or the illegal command that was taken.
+fn tell(answer: Forwarded, placement: &Placement, buffer: &mut [Raw], told: &mut PlacementWords)
+    requires some { 1 ≤ length buffer.old }
+    requires room { length placement.now.commands.items ≤ length buffer.old }
+    ensures { TellsAnswer answer placement.now buffer.old buffer.new told.old told.new }
+{
+    match answer {
+        Forwarded::Shown(_) => {
+            copy_to(buffer, &placement.commands);
+            *told = PlacementWords {
+                slot: placement.slot,
+                count: placement.commands.len() as u32,
+                prod: placement.prod,
+            };
+        }
+        Forwarded::Replaced(raw) => buffer[0] = raw,
+        _ => {}
+    }
+}
+
+/// Writes the commands to the beginning of a buffer.
+fn copy_to(buffer: &mut [Raw], commands: &RawList)
+    requires { length commands.now.items ≤ length buffer.old }
+    ensures { buffer.new ≡ commands.now.items ++ drop (length commands.now.items) buffer.old }
+{
+    for place in 0..commands.len() {
+        buffer[place] = commands[place];
+    }
+}
+
+fn status_of(answer: Forwarded) -> Status
+    ensures { result ≡ forwarded_status answer }
+{
+    match answer {
+        Forwarded::Empty => Status::RingEmpty,
+        Forwarded::Drained => Status::RingDrained,
+        Forwarded::Unwritten => Status::RingUnwritten,
+        Forwarded::Full => Status::QueueFull,
+        Forwarded::Shown(_) => Status::Done,
+        Forwarded::Replaced(_) => Status::Replaced,
+        Forwarded::Broken(_) => Status::QueueBroken,
+    }
+}
+
+fn polled(progress: Progress) -> Status
+    ensures { result ≡ polled_status progress }
+{
+    match progress {
+        Progress::Consumed(_) => Status::Done,
+        Progress::Stopped { .. } => Status::QueueStopped,
+        Progress::Broken(_) => Status::QueueBroken,
+    }
+}
+
+/// Returns how many more were consumed, and what was there where that isn't known.
+fn told_consumed(progress: Progress, before: u32) -> u32
+    ensures { result ≡ consumed_by progress before }
+{
+    match progress {
+        Progress::Consumed(consumed) | Progress::Stopped { consumed, .. } => consumed,
+        Progress::Broken(_) => before,
+    }
+}
+
+fn words_of(acknowledgement: Acknowledgement) -> AcknowledgementWords
+    ensures { result ≡ acknowledgement_words acknowledgement }
+{
+    AcknowledgementWords {
+        command: acknowledgement.stopped.command,
+        slot: acknowledgement.slot.unwrap_or(0),
+        gerrorn: acknowledgement.gerrorn,
+    }
+}
+
+fn refused(fault: RemedyFault) -> Status
+    ensures { result ≡ fault_status fault }
+{
+    match fault {
+        RemedyFault::NotStopped => Status::Acknowledgement(AckFault::NoError),
+        RemedyFault::NotIllegal => Status::NotIllegal,
+        RemedyFault::IsSync => Status::SyncStays,
+    }
+}
