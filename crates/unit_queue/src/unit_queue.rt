@@ -36,6 +36,7 @@ pub struct UnitQueue {
     unsupported: Option<Raw>,
     shown: Tape,
     lost: Positions,
+    repeated: Positions,
     read: Reads,
 }
 
@@ -59,7 +60,7 @@ impl Model for UnitQueue {
         stopped = seen_at u.seen (taken u.unit.counts);
         gerrorn = u.gerrorn;
         lost = u.lost;
-        repeated = [];
+        repeated = u.repeated;
         read = u.read;
         supplied = none_supplied;
       };
@@ -76,7 +77,7 @@ impl Model for UnitQueue {
         stopped = seen_at u.seen (taken u.unit.counts);
         gerrorn = u.gerrorn;
         lost = u.lost;
-        repeated = [];
+        repeated = u.repeated;
         read = u.read;
         supplied = none_supplied;
       };
@@ -106,6 +107,7 @@ impl UnitQueue {
             unsupported: None,
             shown: Tape::new(),
             lost: Positions::new(),
+            repeated: Positions::new(),
             read: Reads::new(),
         })
     }
@@ -245,6 +247,16 @@ impl CommandQueue for UnitQueue {
     fn write_gerrorn(&mut self, word: u32) {
         self.seen = false;
         self.gerrorn = word;
+    }
+
+    fn restart(&mut self, _prod: u32, _cons: u32) -> u32 {
+        if self.is_stopped() {
+            self.gerrorn ^= 1;
+        }
+        self.seen = false;
+        self.repeated.add(self.unit.counts().taken());
+        self.read.add(Reading::Gerrorn(self.gerrorn));
+        self.gerrorn
     }
 
     fn syncs_complete(&self) {
