@@ -215,6 +215,13 @@ impl<Q: CommandQueue> Forwarder<Q> {
         self.lost
     }
 
+    /// Returns how many senders its ring has.
+    pub fn senders(&self) -> usize
+        ensures { result ≡ self.now.consumer.consumer.ring.made_with.senders }
+    {
+        self.fates.senders()
+    }
+
     /// Returns what became of the batch that a receipt names, with those without a CMD_SYNC that were reserved between it
     /// and the CMD_SYNC ahead of it: a command is lost if it is illegal, or was written over. Whether an endpoint answered
     /// a CMD_ATC_INV isn't asked.

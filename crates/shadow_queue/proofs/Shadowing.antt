@@ -259,14 +259,15 @@ none_newly q word there =
     ap (λ (k : ℕ). (k + m - r) % m) there ∙ ap (λ (k : ℕ). k % m) (let e : r + m - r ≡ m = omega arith in e) ∙ mod_self m
 
 -- No error is active by the words that it has then, and CONS stands where it is known to be.
-pub shadow_restarted : (q : QueueValue) (prod cons : IndexValue) (word gerrorn : ℕ) (repeated : List ℕ) (read : List Reading) → IsShadow q prod cons → cons.number < 2 ^ 20 → q.consumed < 2 ^ 64
+pub shadow_restarted : (q : QueueValue) (prod cons : IndexValue) (word gerrorn : ℕ) (repeated : List ℕ) (read : List Reading) → IsShadow q prod cons → cons.number < 2 ^ 20
     → IsShadow (record q { stopped = None; gerrorn = word; repeated = repeated; read = read; supplied = record { words = record { gerror = word; cons = cons.number }; gerrorn = gerrorn; before = read } }) prod cons
-shadow_restarted q prod cons word gerrorn repeated read is small few =
+shadow_restarted q prod cons word gerrorn repeated read is small =
     let at : cons.number ≡ (index_of q.geometry q.consumed).number = ap (λ (i : IndexValue). i.number) is.indexes.cons_is in
     let low = mod_below q.consumed (2 * size q.geometry) (let some = pow_pos q.geometry in omega (arith, some)) in
     let rd : rd_of cons.number ≡ cons.number = mod-eq_of_lt small in
     let none = none_newly q cons.number (rd ∙ at) in
     let o = is.indexes.order in
+    let few = is.can.few in
     record {
       geometry = is.geometry;
       memory = is.memory;
