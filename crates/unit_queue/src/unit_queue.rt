@@ -3,6 +3,7 @@ ghost use Rattle.std.specs.Prelude.{◌≡◌, ◌↔◌, [], None, false, IfOk,
 ghost use Rattle.std.specs.FinMap as finite;
 ghost use Rattle.cmdcodec.specs.Legality.{first_ill as first_ill_of};
 ghost use Rattle.caches.specs.Held.{held};
+ghost use Rattle.hardware_queue.specs.Queues.{command_queue_error};
 ghost use Rattle.hardware_queue.specs.Owners.{IsNew};
 ghost use Rattle.unit_queue.specs.Queued.{HasMoved, IsStopped, IsConsOf};
 ghost use Rattle.unit_queue.specs.Laws.{ToldMeansNoneIsOlder};
@@ -155,6 +156,14 @@ impl UnitQueue {
         self.error != (self.gerrorn % 2 == 1)
     }
 
+    /// SMMU_GERRORN with CMDQ_ERR as SMMU_GERROR has it.
+    fn acknowledged(&self) -> u32
+        ensures { self.now.error ≡ command_queue_error result }
+    {
+        let others = self.gerrorn - self.gerrorn % 2;
+        if self.error { others + 1 } else { others }
+    }
+
     /// Whether it calls a command illegal.
     fn calls_illegal(&self, raw: Raw) -> bool
         ensures { result ≡ false → first_ill_of raw ≡ None }
@@ -250,9 +259,7 @@ impl CommandQueue for UnitQueue {
     }
 
     fn restart(&mut self, _prod: u32, _cons: u32) -> u32 {
-        if self.is_stopped() {
-            self.gerrorn ^= 1;
-        }
+        self.gerrorn = self.acknowledged();
         self.seen = false;
         self.repeated.add(self.unit.counts().taken());
         self.read.add(Reading::Gerrorn(self.gerrorn));
