@@ -1,16 +1,15 @@
 -- A forwarder whose queue was restarted.
-use Rattle.std.proofs.Common.{◌≡◌, ℕ, List, ◌∷◌, None, ap, sym, subst}
+use Rattle.std.proofs.Common.{◌≡◌, ℕ, List, ap, sym, subst}
 use Rattle.circular_buffer.specs.Buffer.{Buffer}
 use Rattle.cmdcodec.specs.declared.raw.Raw.{Raw}
 use Rattle.ring.specs.consumer.Deferring.{DeferringValue}
 use Rattle.hardware_queue.specs.declared.command_error.CommandError.{CommandError}
 use Rattle.hardware_queue.specs.declared.flight.InFlight.{InFlight}
-use Rattle.hardware_queue.specs.declared.reading.Reading.TheVariants.{Gerrorn}
 use Rattle.hardware_queue.specs.declared.state.QueueState.{QueueState}
 use Rattle.hardware_queue.specs.declared.state.QueueState.TheVariants.{Running, Stopped}
 use Rattle.hardware_queue.specs.Fates.{FatesValue, IsKnown}
 use Rattle.hardware_queue.specs.Kept.{IsForwarder}
-use Rattle.hardware_queue.specs.Queues.{QueueValue, Supplied, HasRestarted, with_reading}
+use Rattle.hardware_queue.specs.Queues.{QueueValue, HasRestarted}
 
 runs : (error : CommandError) → Running ≡ Stopped error → ⊥
 runs error is = cc

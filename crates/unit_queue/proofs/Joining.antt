@@ -1,7 +1,7 @@
 -- What was shown of a sender's commands, and what that tells of the unit's entries.
 use Rattle.std.proofs.Common.{◌≡◌, ℕ, zero, suc, ◌+◌, Bool, true, false, List, [], ◌∷◌, ◌++◌, length, map, Option, Some, None, refl, ap, sym, subst, ◌∙◌, arith, length-append}
 use Rattle.std.proofs.lemmas.Option.{slice_get_within}
-use Rattle.std.specs.Prelude.{slice_get, take, Contains, is_none, if◌then◌else◌}
+use Rattle.std.specs.Prelude.{slice_get, take, is_none, if◌then◌else◌}
 use Rattle.cmdcodec.specs.declared.raw.Raw.{Raw}
 use Rattle.cmdcodec.specs.declared.ill.Ill.{Ill}
 use Rattle.cmdcodec.specs.Legality.{first_ill}

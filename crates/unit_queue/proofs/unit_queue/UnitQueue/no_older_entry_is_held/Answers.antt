@@ -1,5 +1,4 @@
 use Rattle.std.proofs.Common.{subst}
-use Rattle.unit_queue.specs.Queued.{Queued}
 use Rattle.unit_queue.specs.Laws.{ToldMeansNoneIsOlder}
 use Rattle.unit_queue.proofs.Joining.{told_means}
 use Rattle.unit_queue.proofs.unit_queue.UnitQueue.no_older_entry_is_held.Goals as goal
