@@ -1,4 +1,5 @@
 //! The export that tells what became of a batch.
+ghost use Rattle.std.specs.Prelude.{◌≡◌};
 ghost use Rattle.smmuq_c.specs.Calls.{HasCalled};
 ghost use Rattle.smmuq_c.specs.Exports.{TellsOutcome};
 ghost use Rattle.smmuq_c.specs.Kept.{IsKept, KeptUnlessDone};

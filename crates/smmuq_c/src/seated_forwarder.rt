@@ -109,7 +109,7 @@ impl SeatedForwarder {
         if sender as usize >= self.forwarder.senders() {
             return Status::BadField;
         }
-        *told = self.forwarder.outcome_of(sender, number).into();
+        *told = OutcomeWords::from(self.forwarder.outcome_of(sender, number));
         Status::Done
     }
 }
