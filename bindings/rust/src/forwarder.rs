@@ -50,6 +50,11 @@ pub trait Hardware {
     fn gerrorn(&mut self) -> u32;
     /// Writes SMMU_GERRORN, behind a write barrier.
     fn acknowledge(&mut self, gerrorn: u32);
+    /// Disables the queue, waits until the hardware reads no more of it, and acknowledges CMDQ_ERR if it is active. If the
+    /// whole SMMU was reset, invalidates all that it caches.
+    fn disable(&mut self);
+    /// Writes SMMU_CMDQ_PROD and SMMU_CMDQ_CONS, and enables the queue.
+    fn enable(&mut self, prod: u32, cons: u32);
 }
 
 /// What a call of [`Forwarder::forward`] did.
@@ -78,8 +83,21 @@ pub enum Polled {
     Consumed(u32),
     /// The hardware stopped behind these by an error, SMMU_CMDQ_CONS.ERR, until that is acknowledged.
     Stopped { consumed: u32, error: u32 },
-    /// No working queue has these registers. From then on nobody is told anything.
+    /// No working queue has these registers. Until a restart nobody is told anything.
     Broken,
+}
+
+/// What became of a batch.
+#[derive(Clone, Copy, Debug, PartialEq, Eq)]
+pub enum Outcome {
+    /// Each of its commands was carried out.
+    Complete,
+    /// So many were illegal or written over, `u32::MAX` if more.
+    Lost(u32),
+    /// Its CMD_SYNC isn't consumed.
+    NotYet,
+    /// It or a later batch of its sender lost commands, and one behind that, too.
+    Unknown,
 }
 
 /// What stands between a ring and a hardware queue, for the thread that owns the latter.
@@ -162,5 +180,29 @@ impl Forwarder {
         }
         hardware.acknowledge(told.gerrorn);
         Ok(told.command)
+    }
+    /// Begins the hardware's queue again: it reads again what isn't known to be consumed, whatever the last poll found.
+    pub fn restart(&mut self, hardware: &mut impl Hardware) -> Result<(), Error> {
+        hardware.disable();
+        let mut told = sys::Restart::default();
+        let gerrorn = hardware.gerrorn();
+        // SAFETY: a live handle and a live answer.
+        done(unsafe { sys::smmuq_forwarder_restart(self.handle.at(), gerrorn, &mut told) })?;
+        hardware.enable(told.prod, told.cons);
+        Ok(())
+    }
+
+    /// Returns what became of the batch of the sender with this number, from 0, that `send` told as `number`. What was sent
+    /// bare between its CMD_SYNC and the one ahead of it counts, too. `BadField` if there is no such sender.
+    pub fn outcome(&mut self, sender: u32, number: u32) -> Result<Outcome, Error> {
+        let mut told = sys::BatchOutcome::default();
+        // SAFETY: a live handle and a live answer.
+        done(unsafe { sys::smmuq_forwarder_outcome(self.handle.at(), sender, number, &mut told) })?;
+        Ok(match told.outcome {
+            0 => Outcome::Complete,
+            1 => Outcome::Lost(told.lost),
+            2 => Outcome::NotYet,
+            _ => Outcome::Unknown,
+        })
     }
 }

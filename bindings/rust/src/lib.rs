@@ -35,7 +35,7 @@ pub use caches::{Acknowledged, Block, Caches, Held, Registers, Remedy, Scope, Ta
 pub use command::{Batch, Command};
 pub use consumer::{consumer_ring, Completed, Consumer, Ready, Taken};
 pub use error::{Error, Illegal};
-pub use forwarder::{forwarder_ring, Forwarded, Forwarder, Hardware, Polled};
+pub use forwarder::{forwarder_ring, Forwarded, Forwarder, Hardware, Outcome, Polled};
 pub use ring::{ring, Control, Engine, Reservation, Run, Sender};
 pub use unit::{Judged, Unit};
 

@@ -119,6 +119,22 @@ pub struct Acknowledgement {
     pub gerrorn: u32,
 }
 
+/// `smmuq_restart`.
+#[repr(C)]
+#[derive(Default)]
+pub struct Restart {
+    pub prod: u32,
+    pub cons: u32,
+}
+
+/// `smmuq_batch_outcome`.
+#[repr(C)]
+#[derive(Default)]
+pub struct BatchOutcome {
+    pub outcome: u32,
+    pub lost: u32,
+}
+
 unsafe extern "C" {
     pub fn smmuq_version() -> u32;
     pub fn smmuq_check(lo: u64, hi: u64) -> u32;
@@ -217,5 +233,16 @@ unsafe extern "C" {
         gerrorn: u32,
         remedy: u32,
         acknowledgement: *mut Acknowledgement,
+    ) -> u32;
+    pub fn smmuq_forwarder_restart(
+        forwarder: *mut Handle,
+        gerrorn: u32,
+        restart: *mut Restart,
+    ) -> u32;
+    pub fn smmuq_forwarder_outcome(
+        forwarder: *mut Handle,
+        sender: u32,
+        number: u32,
+        outcome: *mut BatchOutcome,
     ) -> u32;
 }

@@ -1,7 +1,8 @@
 // SPDX-License-Identifier: MIT OR Apache-2.0
 //! A driver of real hardware, which is played here: it consumes what it was shown, and stops at an illegal command.
 use smmuq::{
-    forwarder_ring, Batch, Command, Error, Forwarded, Forwarder, Hardware, Polled, Remedy, Sender,
+    forwarder_ring, Batch, Command, Error, Forwarded, Forwarder, Hardware, Outcome, Polled, Remedy,
+    Sender,
 };
 
 const SLOTS: u32 = 4;
@@ -58,6 +59,14 @@ impl Hardware for Played {
 
     fn acknowledge(&mut self, gerrorn: u32) {
         self.gerrorn = gerrorn;
+    }
+
+    fn disable(&mut self) {
+        self.gerrorn = self.gerror;
+    }
+
+    fn enable(&mut self, prod: u32, cons: u32) {
+        (self.prod, self.cons, self.error) = (prod, cons, 0);
     }
 }
 
@@ -118,9 +127,12 @@ fn an_illegal_command_is_replaced() -> Result<(), Error> {
         TLBI_EL2_ALL
     );
     assert_eq!((hardware.gerrorn, hardware.queue[1]), (1, Command::SYNC));
+    assert_eq!(forwarder.outcome(0, 1)?, Outcome::NotYet);
     hardware.consume();
     assert_eq!(forwarder.poll(&mut hardware)?, Polled::Consumed(2));
     assert_eq!(sender.done_up_to()?, 1);
+    assert_eq!(forwarder.outcome(0, 1)?, Outcome::Lost(1));
+    assert_eq!(forwarder.outcome(1, 1), Err(Error::BadField));
     Ok(())
 }
 
@@ -150,5 +162,27 @@ fn registers_of_no_working_queue_are_believed_by_nobody() -> Result<(), Error> {
     assert_eq!(forwarder.poll(&mut hardware)?, Polled::Broken);
     assert_eq!(forwarder.forward(&mut hardware)?, Forwarded::Broken);
     assert_eq!(sender.done_up_to()?, 0);
+    Ok(())
+}
+
+#[test]
+fn a_restart_sends_again_what_is_not_consumed() -> Result<(), Error> {
+    let (mut sender, mut forwarder) = one_sender()?;
+    let mut hardware = Played::default();
+    sender.send(&Batch::new([CFGI_STE])?, 64)?;
+    assert_eq!(forwarder.forward(&mut hardware)?, Forwarded::Shown(2));
+    hardware.cons = 1;
+    assert_eq!(forwarder.poll(&mut hardware)?, Polled::Consumed(1));
+    // The device is gone.
+    (hardware.gerror, hardware.cons) = (u32::MAX, 0xf_ffff);
+    assert_eq!(forwarder.poll(&mut hardware)?, Polled::Broken);
+    forwarder.restart(&mut hardware)?;
+    assert_eq!((hardware.prod, hardware.cons), (2, 1));
+    assert_eq!(forwarder.poll(&mut hardware)?, Polled::Consumed(0));
+    assert_eq!(sender.done_up_to()?, 0);
+    hardware.consume();
+    assert_eq!(forwarder.poll(&mut hardware)?, Polled::Consumed(1));
+    assert_eq!(sender.done_up_to()?, 1);
+    assert_eq!(forwarder.outcome(0, 1)?, Outcome::Complete);
     Ok(())
 }

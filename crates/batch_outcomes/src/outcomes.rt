@@ -69,6 +69,13 @@ impl Outcomes {
         self.settled.add(Settled::Sync(sender, number));
     }
 
+    /// Returns how many senders there are.
+    pub fn senders(&self) -> usize
+        ensures { result ≡ self.now.senders }
+    {
+        self.told.len()
+    }
+
     /// A witness that the CMD_SYNCs of each sender are numbered. It does nothing.
     pub fn are_numbered(&self)
         ensures { AreNumbered self.now.settled }

@@ -10,3 +10,4 @@ pub mod Losses
 pub mod Telling
 pub mod FateLemmas
 pub mod Supplies
+pub mod Restarts

@@ -80,6 +80,8 @@ carried_out HasEffect q first all sync none completes settled (rest, all_is) at 
     record {
       rest = hardware_form sync ∷ (r ++ settled.rest);
       shown = shown;
+      sync = here;
+      passed = omega (arith, long, c);
       effect = λ position inside unlost answered. completes position (length p) inside (omega (arith, long, c)) here unlost answered;
     }
 

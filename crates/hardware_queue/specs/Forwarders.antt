@@ -16,7 +16,7 @@ use Rattle.hardware_queue.specs.declared.remedy.RemedyFault.{RemedyFault}
 use Rattle.hardware_queue.specs.declared.remedy.RemedyFault.TheVariants.{NotStopped, NotIllegal, IsSync}
 use Rattle.hardware_queue.specs.declared.state.QueueState.{QueueState}
 use Rattle.hardware_queue.specs.declared.state.QueueState.TheVariants as state
-use Rattle.hardware_queue.specs.Queues.{QueueValue, MayBeUnanswered}
+use Rattle.hardware_queue.specs.Queues.{QueueValue, IsSyncAt, MayBeUnanswered}
 use Rattle.hardware_queue.specs.Owners.{HasAcknowledged, IsStoppedState}
 use Rattle.hardware_queue.specs.Flights.{passed_for, IsInOrder}
 use Rattle.hardware_queue.specs.Steps.{ForwarderValue}
@@ -62,11 +62,13 @@ IsRefused remedy found q fault =
 
 -- ---- what a sender is told
 
--- The hardware was first of all shown what it gets for these, and each of that has its effect, unless it was written over
--- or may be unanswered.
+-- The hardware was first of all shown what it gets for these, and has passed a CMD_SYNC right behind that. Each of it has its
+-- effect, unless it was written over or may be unanswered.
 pub record IsCarriedOut (HasEffect : ℕ → Type 0) (q : QueueValue) (first : List Raw) : Type 0 where
   pub rest : List Raw
   pub shown : q.shown ≡ passed_for first ++ rest
+  pub sync : IsSyncAt q (length (passed_for first))
+  pub passed : length (passed_for first) < q.consumed
   pub effect : (position : ℕ) → position < length (passed_for first) → ¬ Contains q.lost position → ¬ MayBeUnanswered q position → HasEffect position
 
 -- The sender was told this number. For each of its batches up to that number, all that was reserved before its

@@ -14,7 +14,7 @@ use Rattle.hardware_queue.specs.declared.remedy.Remedy.{Remedy}
 use Rattle.hardware_queue.specs.declared.remedy.Remedy.TheVariants.{Retry, Replace}
 use Rattle.hardware_queue.specs.declared.remedy.RemedyFault.{RemedyFault}
 use Rattle.hardware_queue.specs.declared.remedy.RemedyFault.TheVariants.{NotStopped, NotIllegal}
-use Rattle.hardware_queue.specs.Queues.{QueueValue, IsBelievable, IsErrorActive, newly_consumed, command_queue_error, toggled, with_repeated}
+use Rattle.hardware_queue.specs.Queues.{QueueValue, IsBelievable, IsErrorActive, newly_consumed, command_queue_error, toggled, with_repeated, HasRestarted}
 
 -- an owner: the hardware's queue, and what its last look found
 pub record OwnerValue (Q : Type 0) : Type 0 where
@@ -139,3 +139,9 @@ pub record HasAcknowledged (remedy : Remedy) (error : CommandError) (old new : Q
 -- It was stopped with some error, which is acknowledged.
 abbrev pub IsAcknowledged : Remedy → QueueState → QueueValue → QueueValue → Type 0
 IsAcknowledged remedy found old new = (error : CommandError) × (found ≡ state.Stopped error) × HasAcknowledged remedy error old new
+
+-- ---- restart
+
+-- It was restarted, and GERRORN has some word then.
+abbrev pub WasRestarted : QueueValue → QueueValue → Type 0
+WasRestarted old new = (word : ℕ) × HasRestarted old new word

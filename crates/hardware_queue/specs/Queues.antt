@@ -37,7 +37,8 @@ pub record QueueValue : Type 0 where
   pub gerrorn : ℕ
   -- the positions whose command was written over with a CMD_SYNC, the newest first
   pub lost : List ℕ
-  -- the positions at which it stopped with CERROR_ATC_INV_SYNC and which it repeats, the newest first
+  -- the positions from which it reads again, the newest first: a CMD_SYNC at which it stopped with CERROR_ATC_INV_SYNC, and
+  -- where it was restarted
   pub repeated : List ℕ
   -- all that was read of the registers, the newest first
   pub read : List Reading
@@ -189,6 +190,26 @@ repeated_after (Some stop) repeated = with_repeated stop.error stop.position rep
 abbrev pub acknowledged_by : ℕ → QueueValue → QueueValue
 acknowledged_by word q = record q { stopped = None; gerrorn = word; repeated = repeated_after q.stopped q.repeated }
 
+-- ---- a restart
+
+abbrev pub head_index : QueueValue → IndexValue
+head_index q = index_of q.geometry q.consumed
+
+-- What isn't known to be consumed lies between these values of PROD and CONS.
+pub record MayRestart (prod cons : ℕ) (q : QueueValue) : Type 0 where
+  pub prod_is : prod ≡ (tail_index q).number
+  pub cons_is : cons ≡ (head_index q).number
+
+-- The queue was disabled, and is enabled again with no error active, and with this word in GERRORN. The hardware reads again
+-- what isn't known to be consumed.
+pub record HasRestarted (old new : QueueValue) (word : ℕ) : Type 0 where
+  pub new_is : new ≡ record (with_reading (Gerrorn word) old) {
+    stopped = None;
+    gerrorn = word;
+    repeated = old.consumed ∷ old.repeated;
+    supplied = new.supplied;
+  }
+
 -- ---- effects
 
 -- A CMD_SYNC was shown here, and nobody wrote over it.
@@ -199,15 +220,15 @@ pub record IsSyncAt (q : QueueValue) (position : ℕ) : Type 0 where
   pub stands : ¬ Contains q.lost position
 
 -- A CMD_ATC_INV whose endpoint may not have answered: the hardware stopped with CERROR_ATC_INV_SYNC at the first CMD_SYNC
--- behind it. It stays so once that is repeated.
+-- behind it, or was restarted ahead of that. It stays so.
 pub record MayBeUnanswered (q : QueueValue) (position : ℕ) : Type 0 where
   pub raw : Raw
   pub shown : slice_get q.shown position ≡ Some raw
   pub invalidation : opcode_of raw ≡ 0x40
-  pub sync : ℕ
-  pub behind : position < sync
-  pub repeated : Contains q.repeated sync
-  pub first : (between : ℕ) → position < between → between < sync → ¬ IsSyncAt q between
+  pub again : ℕ
+  pub behind : position < again
+  pub repeated : Contains q.repeated again
+  pub first : (between : ℕ) → position < between → between < again → ¬ IsSyncAt q between
 
 -- Each command that was consumed with a CMD_SYNC behind it has its effect, unless it was written over or is an
 -- invalidation that may be unanswered.

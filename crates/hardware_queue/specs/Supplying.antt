@@ -2,6 +2,7 @@
 use Rattle.std.specs.Prelude.{◌≡◌, ℕ, ◌+◌, ◌/◌, ◌^◌, ◌<◌, List, ◌++◌, length, All, Option, Some, None}
 use Rattle.qindex.specs.Positions.{place}
 use Rattle.hardware_queue.specs.declared.forwarded.Acknowledgement.{Acknowledgement}
+use Rattle.hardware_queue.specs.declared.restart.Restart.{Restart}
 use Rattle.hardware_queue.specs.declared.remedy.Remedy.{Remedy}
 use Rattle.hardware_queue.specs.declared.remedy.Remedy.TheVariants.{Retry, Replace}
 use Rattle.hardware_queue.specs.declared.state.QueueState.{QueueState}
@@ -10,7 +11,7 @@ use Rattle.hardware_queue.specs.declared.queue_progress.Progress.TheVariants.{Br
 use Rattle.hardware_queue.specs.declared.reading.Reading.{Reading}
 use Rattle.hardware_queue.specs.declared.reading.Reading.TheVariants.{Gerror, Gerrorn, Cons}
 use Rattle.hardware_queue.specs.declared.register_words.RegisterWords.{RegisterWords}
-use Rattle.hardware_queue.specs.Queues.{QueueValue, Supplied, Stop, IsBelievable, IsAtStop, IsErrorActive, newly_consumed}
+use Rattle.hardware_queue.specs.Queues.{QueueValue, Supplied, Stop, IsBelievable, IsAtStop, IsErrorActive, newly_consumed, tail_index, head_index, HasRestarted}
 use Rattle.hardware_queue.specs.Owners.{HasFound}
 use Rattle.hardware_queue.specs.Forwarders.{HasRemedied}
 
@@ -58,3 +59,10 @@ pub record HasRemediedWith (remedy : Remedy) (gerrorn : ℕ) (found : QueueState
   pub slot : told.slot ≡ slot_overwritten remedy (place old.geometry old.consumed)
   pub gerrorn_is : told.gerrorn ≡ new.gerrorn
   pub others : told.gerrorn / 2 ≡ gerrorn / 2
+
+-- It was restarted, GERRORN was read with this word then, and the caller is told PROD and CONS: what isn't known to be consumed
+-- lies between them.
+pub record HasRestartedWith (gerrorn : ℕ) (old new : QueueValue) (told : Restart) : Type 0 where
+  pub restarted : HasRestarted old new gerrorn
+  pub prod : told.prod ≡ (tail_index new).number
+  pub cons : told.cons ≡ (head_index new).number

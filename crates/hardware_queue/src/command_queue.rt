@@ -6,6 +6,7 @@ pub trait CommandQueue {
     ghost use Rattle.std.specs.Prelude.{◌≡◌, ℕ};
     ghost use Rattle.hardware_queue.specs.Queues.{QueueValue, IsFree, IsOfIllegal, written, overwritten, MayShow, shown_up_to};
     ghost use Rattle.hardware_queue.specs.Queues.{HasReadCons, HasReadErrors, HasReadAcknowledged, MayAcknowledge, acknowledged_by, SyncsComplete};
+    ghost use Rattle.hardware_queue.specs.Queues.{MayRestart, HasRestarted};
 
     /// The queue as its driver knows it.
     ghost queue: { Self → QueueValue };
@@ -44,6 +45,13 @@ pub trait CommandQueue {
     fn write_gerrorn(&mut self, word: u32)
         requires { MayAcknowledge word (queue self.old) }
         ensures { queue self.new ≡ acknowledged_by word (queue self.old) };
+
+    /// Disables the queue, waits until the hardware reads no more of it, acknowledges CMDQ_ERR if it is active, sets
+    /// SMMU_CMDQ_PROD and SMMU_CMDQ_CONS, and enables the queue. What lies between the two stands in its slots. Whoever
+    /// resets the whole SMMU invalidates all that it holds first. Returns SMMU_GERRORN as it was read then.
+    fn restart(&mut self, prod: u32, cons: u32) -> u32
+        requires { MayRestart prod cons (queue self.old) }
+        ensures { HasRestarted (queue self.old) (queue self.new) result };
 
     /// A witness of what a consumed CMD_SYNC tells. It does nothing.
     fn syncs_complete(&self)

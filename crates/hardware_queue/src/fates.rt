@@ -39,6 +39,13 @@ impl Fates {
         })
     }
 
+    /// Returns how many senders there are.
+    pub fn senders(&self) -> usize
+        ensures { result ≡ self.now.senders }
+    {
+        self.outcomes.senders()
+    }
+
     /// A witness that the CMD_SYNCs of each sender are numbered. It does nothing.
     pub fn are_numbered(&self)
         ensures { AreNumbered self.now.settled }

@@ -58,6 +58,6 @@ pub enum Forwarded {
     Shown(u32),
     /// This illegal command was taken, and the hardware wasn't shown it.
     Replaced(Raw),
-    /// SMMU_CMDQ_CONS had this value, which no working queue has. Nothing is done any more.
+    /// SMMU_CMDQ_CONS had this value, which no working queue has. Nothing is done until `restart`.
     Broken(u32),
 }

@@ -8,7 +8,7 @@ ghost use Rattle.ring.specs.consumer.Completing.{taken_of};
 ghost use Rattle.ring.specs.consumer.Deferring.{deferring, settled_raws, unsettled_raws};
 ghost use Rattle.ring.specs.Finishing.{AreAll};
 ghost use Rattle.hardware_queue.specs.declared.state.QueueState.TheVariants.{Running, Broken};
-ghost use Rattle.hardware_queue.specs.Owners.{HasPolled, IsBroken, IsStoppedState, state_after};
+ghost use Rattle.hardware_queue.specs.Owners.{HasPolled, IsBroken, IsStoppedState, WasRestarted, state_after};
 ghost use Rattle.hardware_queue.specs.Fates.{IsOutcomeOf, IsWhole};
 ghost use Rattle.batch_outcomes.specs.declared.batch_outcome.BatchOutcome.TheVariants.{Complete};
 ghost use Rattle.hardware_queue.specs.Flights.{HasConsumedAll, IsInOrder};
@@ -197,11 +197,29 @@ impl<Q: CommandQueue> Forwarder<Q> {
         Ok(stopped)
     }
 
+    /// Has the hardware begin again, whatever the last look found: the queue is disabled and enabled again, and reads again
+    /// what isn't known to be consumed, in order. Nothing is taken or settled by it, and what was written over stays so.
+    pub fn restart(&mut self)
+        ensures restarted { WasRestarted
+            (Q.queue self.old.owner.queue) (Q.queue self.new.owner.queue) }
+        ensures running { self.new.owner.state ≡ Running }
+        ensures consumer { self.new.consumer ≡ self.old.consumer }
+    {
+        self.owner.restart();
+    }
+
     /// Returns how many commands were lost at the hardware, written over by `acknowledge`; `2^64 - 1` if more.
     pub fn lost(&self) -> u64
         ensures { result ≡ count_lost (Q.queue self.now.owner.queue) }
     {
         self.lost
+    }
+
+    /// Returns how many senders its ring has.
+    pub fn senders(&self) -> usize
+        ensures { result ≡ self.now.consumer.consumer.ring.made_with.senders }
+    {
+        self.fates.senders()
     }
 
     /// Returns what became of the batch that a receipt names, with those without a CMD_SYNC that were reserved between it
@@ -214,8 +232,19 @@ impl<Q: CommandQueue> Forwarder<Q> {
         ensures whole { result ≡ Complete → IsWhole (Q.queue self.now.owner.queue).lost
             (settled_raws self.now.consumer) receipt.now.sender receipt.now.number }
     {
+        self.outcome_of(receipt.sender(), receipt.number())
+    }
+
+    /// Returns what `outcome` does, for the batch of a sender with this number, which counts from 1.
+    pub fn outcome_of(&self, sender: u32, number: u32) -> BatchOutcome
+        requires { sender < self.now.consumer.consumer.ring.made_with.senders }
+        ensures outcome { IsOutcomeOf (Q.queue self.now.owner.queue).lost
+            (settled_raws self.now.consumer) sender number result }
+        ensures whole { result ≡ Complete → IsWhole (Q.queue self.now.owner.queue).lost
+            (settled_raws self.now.consumer) sender number }
+    {
         counts_law();
-        self.fates.outcome(receipt.sender(), receipt.number())
+        self.fates.outcome(sender, number)
     }
 
     /// A witness, while the ring runs, that a sender was told truly: whatever number it was told, all that was reserved

@@ -4,7 +4,7 @@ ghost use Rattle.qindex.specs.Positions.{size};
 ghost use Rattle.hardware_queue.specs.Queues.{SyncsComplete};
 ghost use Rattle.hardware_queue.specs.declared.state.QueueState.TheVariants.{Running, Stopped as StoppedWith};
 ghost use Rattle.hardware_queue.specs.declared.command_error.CommandError.{CommandError as CommandErrorOf};
-ghost use Rattle.hardware_queue.specs.Owners.{IsNew, HasPushed, HasPolled, IsAcknowledged, IsBroken, room, refusal as refusal_of, state_after, IsOwned, IsStoppedHere};
+ghost use Rattle.hardware_queue.specs.Owners.{IsNew, HasPushed, HasPolled, IsAcknowledged, IsBroken, room, refusal as refusal_of, state_after, IsOwned, IsStoppedHere, WasRestarted};
 
 pub mod registers;
 mod remedies;
@@ -71,7 +71,7 @@ impl<Q: CommandQueue> Owner<Q> {
         }
     }
 
-    /// Returns what the last look found. From `QueueState::Broken` on it stays so.
+    /// Returns what the last look found. From `QueueState::Broken` on it stays so until `restart`.
     pub fn state(&self) -> QueueState
         ensures { result ≡ self.now.state }
     {
@@ -110,7 +110,7 @@ impl<Q: CommandQueue> Owner<Q> {
     }
 
     /// Reads SMMU_GERROR and then SMMU_CMDQ_CONS, once each. CONS is believed only if it is neither behind what was
-    /// consumed nor ahead of what was shown, and else never again.
+    /// consumed nor ahead of what was shown, and else not again until `restart`.
     pub fn poll(&mut self) -> Progress
         requires { ¬ IsBroken self.old.state }
         ensures polled { HasPolled (Q.queue self.old.queue) (Q.queue self.new.queue) result }
@@ -156,6 +156,17 @@ impl<Q: CommandQueue> Owner<Q> {
         self.acknowledged = word % 2 == 1;
         self.state = QueueState::Running;
         Ok(())
+    }
+
+    /// Disables the queue and enables it again: the hardware reads again what isn't known to be consumed, in order, and
+    /// then what is shown next.
+    pub fn restart(&mut self)
+        ensures restarted { WasRestarted (Q.queue self.old.queue) (Q.queue self.new.queue) }
+        ensures running { self.new.state ≡ Running }
+    {
+        let word = self.queue.restart(self.prod.get(), self.cons.get());
+        self.acknowledged = word % 2 == 1;
+        self.state = QueueState::Running;
     }
 
     /// A witness of what a consumed CMD_SYNC tells. It does nothing.

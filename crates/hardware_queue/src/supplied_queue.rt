@@ -7,6 +7,7 @@ use crate::register_words::RegisterWords;
 /// A queue that answers each read of a register with words that it got before: whoever holds it reads the registers.
 pub trait SuppliedQueue: CommandQueue {
     ghost use Rattle.std.specs.Prelude.{◌≡◌, ◌↔◌, IsTrue};
+    ghost use Rattle.hardware_queue.specs.Queues.{MayRestart, HasRestarted};
     ghost use Rattle.hardware_queue.specs.Supplying.{CanHave, supplied_with, supplied_gerrorn, AreSupplied};
 
     /// Whether the registers of a working queue can have these words.
@@ -21,6 +22,11 @@ pub trait SuppliedQueue: CommandQueue {
     /// Gets SMMU_GERRORN, with which it answers from now on. Of CMDQ_ERR it knows better, since nobody else writes it.
     fn supply_gerrorn(&mut self, word: u32)
         ensures { Self.queue self.new ≡ supplied_gerrorn word (Self.queue self.old) };
+
+    /// Does what `restart` does, by SMMU_GERRORN as it was read then.
+    fn restart_with(&mut self, prod: u32, cons: u32, gerrorn: u32)
+        requires { MayRestart prod cons (Self.queue self.old) }
+        ensures { HasRestarted (Self.queue self.old) (Self.queue self.new) gerrorn };
 
     /// A witness that it answered with the words that it got last, whatever was read since. It does nothing.
     fn answers_are_supplied(&self)

@@ -20,7 +20,7 @@ use Rattle.hardware_queue.specs.declared.remedy.Remedy.TheVariants.{Retry, Repla
 use Rattle.hardware_queue.specs.declared.remedy.RemedyFault.TheVariants.{NotStopped, NotIllegal, IsSync}
 use Rattle.hardware_queue.specs.declared.state.QueueState.{QueueState}
 use Rattle.hardware_queue.specs.declared.state.QueueState.TheVariants as state
-use Rattle.hardware_queue.specs.Queues.{QueueValue, Supplied, Stop, plain_sync, MayBeRead, IsFree, IsOfIllegal, IsBelievable, error_in, newly_consumed, toggled, MayAcknowledge, IsErrorActive, IsSyncAt, MayBeUnanswered, SyncsComplete}
+use Rattle.hardware_queue.specs.Queues.{QueueValue, Supplied, Stop, plain_sync, MayBeRead, IsFree, IsOfIllegal, IsBelievable, error_in, newly_consumed, toggled, MayAcknowledge, IsErrorActive, IsSyncAt, MayBeUnanswered, SyncsComplete, MayRestart, HasRestarted}
 use Rattle.hardware_queue.specs.Owners.{HasPushed, HasFound, refusal, room}
 use Rattle.hardware_queue.specs.Flights.{hardware_form, owed, IsInOrder, IsConsumed, BeginsLegal}
 use Rattle.hardware_queue.specs.Steps.{ForwarderValue, HasForwarded, IsShown, IsReplaced, HasSettledAt, room_for}
@@ -107,11 +107,36 @@ an_unanswered_invalidation_needs_no_effect position sync before inside at unlost
       raw = atc_inv;
       shown = refl;
       invalidation = refl;
-      sync = 1;
+      again = 1;
       behind = omega arith;
       repeated = (0, omega arith, refl);
       first = λ between after ahead. absurd (omega (arith, after, ahead));
     }))
+
+-- a command was shown, and then the hardware was restarted behind it; the CMD_SYNC was shown later
+pub an_invalidation_ahead_of_a_restart_may_be_unanswered : MayBeUnanswered (record (queue (atc_inv ∷ cfgi_ste ∷ plain_sync ∷ []) 3) { repeated = 1 ∷ [] }) 0
+an_invalidation_ahead_of_a_restart_may_be_unanswered = record {
+  raw = atc_inv;
+  shown = refl;
+  invalidation = refl;
+  again = 1;
+  behind = omega arith;
+  repeated = (0, omega arith, refl);
+  first = λ between after ahead. absurd (omega (arith, after, ahead));
+}
+
+-- ---- a restart
+
+pub a_restart_keeps_its_place : ¬ MayRestart 2 1 (queue (cfgi_ste ∷ plain_sync ∷ []) 0)
+a_restart_keeps_its_place is = let c = is.cons_is in absurd (omega (arith, c))
+
+pub a_restart_shows_all_again : ¬ MayRestart 1 0 (queue (cfgi_ste ∷ plain_sync ∷ []) 0)
+a_restart_shows_all_again is = let p = is.prod_is in absurd (omega (arith, p))
+
+pub a_restart_is_told : (new : QueueValue) → HasRestarted (queue (cfgi_ste ∷ []) 0) new 0 → new.repeated ≡ 0 ∷ []
+a_restart_is_told new is = ap (λ (q : QueueValue). q.repeated) is.new_is
+
+-- ---- effects of other commands
 
 pub another_command_is_answered : ¬ MayBeUnanswered (record (queue (cfgi_ste ∷ plain_sync ∷ []) 2) { repeated = 1 ∷ [] }) 0
 another_command_is_answered is =
@@ -200,6 +225,10 @@ pub no_sync_is_replaced : refusal_to_replace Illegal true ≡ Some IsSync
 no_sync_is_replaced = refl
 
 -- ---- what a sender is told
+
+pub what_is_not_passed_is_not_carried_out : (HasEffect : ℕ → Type 0) → ¬ IsCarriedOut HasEffect (queue (cfgi_ste ∷ plain_sync ∷ []) 1) (cfgi_ste ∷ [])
+unfolding opcode_named
+what_is_not_passed_is_not_carried_out HasEffect is = let p = is.passed in absurd (omega (arith, p))
 
 pub another_command_was_not_carried_out : (HasEffect : ℕ → Type 0) → ¬ IsCarriedOut HasEffect (queue (atc_inv ∷ []) 1) (cfgi_ste ∷ [])
 unfolding opcode_named

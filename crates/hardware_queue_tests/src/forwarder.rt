@@ -119,6 +119,40 @@ fn an_unsupported_command_is_lost(rt: HostRuntime) -> Result<(), RingFault> {
 }
 
 #[test]
+fn a_restart_reads_again_what_is_not_consumed(rt: HostRuntime) -> Result<(), RingFault> {
+    let (ring, mut senders, consumer) = Ring::new(rt.alloc(), 3, 1, 100)?;
+    let sender = senders.pop().expect(&rt, "one sender");
+    let made = Forwarder::new(rt.alloc(), consumer, owner(&rt, 2), 1);
+    let mut forwarder = made.expect(&rt, "memory");
+    let commands = [CFGI_STE, UNSUPPORTED];
+    let batch = Batch::from_raws(commands.as_slice()).expect(&rt, "no CMD_SYNC");
+    let Ok((mut sender, receipt)) = sender.send(&ring, &batch, 1) else {
+        panic!(rt; "the batch is refused");
+    };
+    forward(&rt, &ring, &mut forwarder, Forwarded::Shown(3));
+    poll(&rt, &ring, &mut forwarder, Progress::Consumed(1));
+    poll(&rt, &ring, &mut forwarder, Progress::Consumed(0));
+    let error = CommandError::Illegal;
+    let stop = Progress::Stopped { consumed: 0, error };
+    poll(&rt, &ring, &mut forwarder, stop);
+    // Nobody acknowledged the error: it stops there again.
+    forwarder.restart();
+    assert_eq!(rt; forwarder.in_flight(), 2);
+    poll(&rt, &ring, &mut forwarder, Progress::Consumed(0));
+    poll(&rt, &ring, &mut forwarder, stop);
+    assert!(rt; forwarder.acknowledge(Remedy::Replace).is_ok());
+    // What was written over stays so.
+    forwarder.restart();
+    poll(&rt, &ring, &mut forwarder, Progress::Consumed(1));
+    assert!(rt; !sender.is_done(&ring, &receipt));
+    poll(&rt, &ring, &mut forwarder, Progress::Consumed(1));
+    assert!(rt; sender.is_done(&ring, &receipt));
+    assert_eq!(rt; forwarder.outcome(&receipt), BatchOutcome::Lost(1));
+    assert_eq!(rt; forwarder.outcome_of(0, 1), BatchOutcome::Lost(1));
+    Ok(())
+}
+
+#[test]
 fn an_illegal_command_between_two_batches(rt: HostRuntime) -> Result<(), RingFault> {
     let (ring, mut senders, consumer) = Ring::new(rt.alloc(), 3, 1, 100)?;
     let sender = senders.pop().expect(&rt, "one sender");

@@ -5,7 +5,7 @@ use crate::words::{CFGI_STE, UNSUPPORTED};
 use batch::Batch;
 use hardware_queue::{
     Acknowledgement, CommandError, Forwarded, Forwarder, Owner, Progress, RegisterWords, Remedy,
-    Stopped,
+    Restart, Stopped,
 };
 use qindex::Geometry;
 use ring::{Ring, RingFault};
@@ -109,5 +109,28 @@ fn nobody_is_told_by_words_that_no_queue_has(rt: HostRuntime) -> Result<(), Ring
     look(&rt, &ring, &mut forwarder, 0, 3, Progress::Broken(3));
     look(&rt, &ring, &mut forwarder, 0, 2, Progress::Broken(3));
     assert!(rt; !sender.is_done(&ring, &receipt));
+    Ok(())
+}
+
+#[test]
+fn a_broken_queue_is_restarted(rt: HostRuntime) -> Result<(), RingFault> {
+    let (ring, mut senders, consumer) = Ring::new(rt.alloc(), 3, 1, 100)?;
+    let sender = senders.pop().expect(&rt, "one sender");
+    let made = Forwarder::new(rt.alloc(), consumer, owner(&rt), 1);
+    let mut forwarder = made.expect(&rt, "memory");
+    let batch = Batch::new(CFGI_STE).expect(&rt, "no CMD_SYNC");
+    let Ok((mut sender, receipt)) = sender.send(&ring, &batch, 1) else {
+        panic!(rt; "the batch is refused");
+    };
+    forward(&rt, &ring, &mut forwarder, Forwarded::Shown(2));
+    look(&rt, &ring, &mut forwarder, 0, 1, Progress::Consumed(1));
+    look(&rt, &ring, &mut forwarder, 0, 3, Progress::Broken(3));
+    // From the CMD_SYNC on, with CMDQ_ERR of SMMU_GERRORN set.
+    let restart = forwarder.restart_words(1);
+    assert_eq!(rt; restart, Restart { prod: 2, cons: 1 });
+    look(&rt, &ring, &mut forwarder, 1, 1, Progress::Consumed(0));
+    assert!(rt; !sender.is_done(&ring, &receipt));
+    look(&rt, &ring, &mut forwarder, 1, 2, Progress::Consumed(1));
+    assert!(rt; sender.is_done(&ring, &receipt));
     Ok(())
 }

@@ -90,6 +90,80 @@ fn two_senders_at_a_time(rt: HostRuntime) {
     expect_refused(&rt, &ring, second, &one, Cause::Full);
 }
 
+/// What a sender's tries came to.
+#[derive(Drop)]
+struct Tries {
+    sender: Sender,
+    sent: u32,
+    /// How many of its exchanges were lost.
+    lost: u32,
+}
+
+/// Sends a batch by a single try, so often.
+fn try_many(ring: &Ring, sender: Sender, batch: &Batch, tries: u32) -> Tries
+    requires { sender.ring ≡ ring.now }
+    ensures { result.sender.ring ≡ ring.now }
+{
+    let mut all = Tries {
+        sender,
+        sent: 0,
+        lost: 0,
+    };
+    for _ in 0..tries {
+        let Tries { sender, sent, lost } = all;
+        all = match sender.send(ring, batch, 1) {
+            Ok((sender, _receipt)) => Tries {
+                sender,
+                sent: sent.saturating_add(1),
+                lost,
+            },
+            Err(refused) => Tries {
+                lost: lost.saturating_add(u32::from(refused.cause == Cause::Contended)),
+                sender: refused.sender,
+                sent,
+            },
+        };
+    }
+    all
+}
+
+/// Has two senders try at the same time, 1,000 times each.
+fn try_at_a_time(
+    rt: &impl Threads,
+    ring: &Ring,
+    first: Sender,
+    second: Sender,
+    batch: &Batch,
+) -> (Tries, Tries)
+    requires first { first.ring ≡ ring.now }
+    requires second { second.ring ≡ ring.now }
+{
+    join(
+        rt,
+        || -> Tries
+            requires { first.ring ≡ ring.now }
+        { try_many(ring, first, batch, 1_000) },
+        || -> Tries
+            requires { second.ring ≡ ring.now }
+        { try_many(ring, second, batch, 1_000) },
+    )
+}
+
+// Nothing is taken, so all lost exchanges are at most senders times (reserved commands, and one).
+#[test]
+fn lost_exchanges_are_paid_for(rt: HostRuntime) {
+    let (ring, first, seats) = ring_of_two(&rt, 12, 1_000);
+    let Seats { sender, consumer } = seats;
+    let one = batch_of(&rt, 1);
+    let (some, others) = try_at_a_time(&rt, &ring, first, sender, &one);
+    let batches = some.sent.saturating_add(others.sent);
+    let lost = some.lost.saturating_add(others.lost);
+    assert_eq!(rt; batches.saturating_add(lost), 2_000);
+    let reserved = batches.saturating_mul(2);
+    assert!(rt; lost <= reserved.saturating_add(1).saturating_mul(2));
+    assert_eq!(rt; consumer.taken(), 0);
+}
+
 /// Sends up to `count` batches, with 50 tries each, and returns how many were sent.
 fn send_many(ring: &Ring, sender: Sender, batch: &Batch, count: u32) -> (Sender, u32)
     requires { sender.ring ≡ ring.now }

@@ -250,6 +250,43 @@ shadow_acknowledged q prod cons stop word repeated is at = record {
     never : (other : Stop) → None ≡ Some other → ⊥
     never other none = cc
 
+-- ---- it is restarted
+
+none_newly : (q : QueueValue) (word : ℕ) → rd_of word ≡ (index_of q.geometry q.consumed).number → newly_consumed word q ≡ 0
+none_newly q word there =
+    let m : ℕ = 2 * size q.geometry in
+    let r : ℕ = q.consumed % m in
+    ap (λ (k : ℕ). (k + m - r) % m) there ∙ ap (λ (k : ℕ). k % m) (let e : r + m - r ≡ m = omega arith in e) ∙ mod_self m
+
+-- No error is active by the words that it has then, and CONS stands where it is known to be.
+pub shadow_restarted : (q : QueueValue) (prod cons : IndexValue) (word gerrorn : ℕ) (repeated : List ℕ) (read : List Reading) → IsShadow q prod cons → cons.number < 2 ^ 20
+    → IsShadow (record q { stopped = None; gerrorn = word; repeated = repeated; read = read; supplied = record { words = record { gerror = word; cons = cons.number }; gerrorn = gerrorn; before = read } }) prod cons
+shadow_restarted q prod cons word gerrorn repeated read is small =
+    let at : cons.number ≡ (index_of q.geometry q.consumed).number = ap (λ (i : IndexValue). i.number) is.indexes.cons_is in
+    let low = mod_below q.consumed (2 * size q.geometry) (let some = pow_pos q.geometry in omega (arith, some)) in
+    let rd : rd_of cons.number ≡ cons.number = mod-eq_of_lt small in
+    let none = none_newly q cons.number (rd ∙ at) in
+    let o = is.indexes.order in
+    let few = is.can.few in
+    record {
+      geometry = is.geometry;
+      memory = is.memory;
+      indexes = is.indexes;
+      stands = is.stands;
+      lost = is.lost;
+      stop = λ stop at. absurd (never stop at);
+      can = record {
+        believable = record { index = omega (arith, rd, at, low); within = omega (arith, none, o) };
+        at_stop = λ stop at. absurd (never stop at);
+        within = λ active. absurd (active.differ refl);
+        few = omega (arith, none, few);
+      };
+      supplied = record { newer = []; read = refl; are = λ k d inside. absurd (omega (arith, inside)) };
+    }
+  where
+    never : (other : Stop) → None ≡ Some other → ⊥
+    never other none = cc
+
 -- ---- it is given words
 
 pub shadow_supplied : (q : QueueValue) (prod cons : IndexValue) (words : RegisterWords) (gerrorn : ℕ) → IsShadow q prod cons → CanHave words q

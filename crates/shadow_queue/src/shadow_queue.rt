@@ -264,6 +264,12 @@ impl CommandQueue for ShadowQueue {
         self.gerrorn = word;
     }
 
+    fn restart(&mut self, prod: u32, cons: u32) -> u32 {
+        let gerrorn = self.gerrorn_word;
+        self.restart_with(prod, cons, gerrorn);
+        gerrorn
+    }
+
     fn syncs_complete(&self) {
         let _ = &self.cons;
     }
@@ -286,6 +292,18 @@ impl SuppliedQueue for ShadowQueue {
 
     fn supply_gerrorn(&mut self, word: u32) {
         self.gerrorn_word = word;
+        self.before = Snapshot::of(&self.read);
+    }
+
+    fn restart_with(&mut self, _prod: u32, _cons: u32, gerrorn: u32) {
+        self.repeated.add(self.consumed);
+        self.stopped = None;
+        self.gerrorn = gerrorn;
+        self.read.add(Reading::Gerrorn(gerrorn));
+        self.words = RegisterWords {
+            gerror: gerrorn,
+            cons: self.cons.get(),
+        };
         self.before = Snapshot::of(&self.read);
     }
 

@@ -27,6 +27,8 @@ struct driver {
     smmuq_command run[RUN];
     smmuq_placement placement;
     smmuq_acknowledgement acknowledgement;
+    smmuq_restart restart;
+    smmuq_batch_outcome outcome;
     uint32_t consumed;
 };
 
@@ -34,6 +36,8 @@ static void forget(struct driver *driver) {
     memset(driver->run, 0x5a, sizeof driver->run);
     memset(&driver->placement, 0x5a, sizeof driver->placement);
     memset(&driver->acknowledgement, 0x5a, sizeof driver->acknowledgement);
+    memset(&driver->restart, 0x5a, sizeof driver->restart);
+    memset(&driver->outcome, 0x5a, sizeof driver->outcome);
     driver->consumed = UNTOLD;
 }
 
@@ -75,11 +79,23 @@ static uint32_t acknowledge(struct driver *driver, uint32_t gerrorn, uint32_t re
     return smmuq_forwarder_acknowledge(&driver->forwarder, gerrorn, remedy, &driver->acknowledgement);
 }
 
+static uint32_t restart(struct driver *driver, uint32_t gerrorn) {
+    return smmuq_forwarder_restart(&driver->forwarder, gerrorn, &driver->restart);
+}
+
+/* What became of the only sender's batch with this number. */
+static uint32_t outcome(struct driver *driver, uint32_t number) {
+    WANT(smmuq_forwarder_outcome(&driver->forwarder, 0, number, &driver->outcome), SMMUQ_OK);
+    return driver->outcome.outcome;
+}
+
 /* Nothing was told since `forget`. */
 static void nothing_told(const struct driver *driver) {
     WANT(driver->run[0].lo, 0x5a5a5a5a5a5a5a5a);
     WANT(driver->placement.prod, UNTOLD);
     WANT(driver->acknowledgement.gerrorn, UNTOLD);
+    WANT(driver->restart.prod, UNTOLD);
+    WANT(driver->outcome.outcome, UNTOLD);
     WANT(driver->consumed, UNTOLD);
 }
 
@@ -92,6 +108,12 @@ static void wrong_handles(void) {
     WANT(smmuq_forwarder_poll(other, 0, 0, &driver.consumed), SMMUQ_WRONG_HANDLE);
     WANT(smmuq_forwarder_acknowledge(&empty, 0, 9, &driver.acknowledgement), SMMUQ_EMPTY_HANDLE);
     WANT(smmuq_forwarder_acknowledge(other, 0, 9, &driver.acknowledgement), SMMUQ_WRONG_HANDLE);
+    WANT(smmuq_forwarder_restart(&empty, 0, &driver.restart), SMMUQ_EMPTY_HANDLE);
+    WANT(smmuq_forwarder_restart(other, 0, &driver.restart), SMMUQ_WRONG_HANDLE);
+    WANT(smmuq_forwarder_outcome(&empty, 9, 0, &driver.outcome), SMMUQ_EMPTY_HANDLE);
+    WANT(smmuq_forwarder_outcome(other, 9, 0, &driver.outcome), SMMUQ_WRONG_HANDLE);
+    WANT(smmuq_forwarder_outcome(&driver.forwarder, 1, 1, &driver.outcome), SMMUQ_BAD_FIELD);
+    WANT(smmuq_forwarder_outcome(&driver.forwarder, 0xffffffff, 1, &driver.outcome), SMMUQ_BAD_FIELD);
     nothing_told(&driver);
     WANT(smmuq_forwarder_ring_new(4, 100, 0, &driver.sender, 1, &driver.forwarder), SMMUQ_BAD_FIELD);
     WANT(smmuq_forwarder_ring_new(4, 100, 20, &driver.sender, 1, &driver.forwarder), SMMUQ_BAD_FIELD);
@@ -171,12 +193,18 @@ static void stops(void) {
     WANT(done(&driver), 0);
     WANT(acknowledge(&driver, 1, SMMUQ_RETRY), SMMUQ_OK); /* CMDQ_ERR of the word isn't asked for */
     WANT(driver.acknowledgement.gerrorn, 1);
+    WANT(outcome(&driver, 1), SMMUQ_OUTCOME_NOT_YET);
     WANT(poll(&driver, 1, 2), SMMUQ_OK);
     WANT(done(&driver), 1);
+    WANT(outcome(&driver, 1), SMMUQ_OUTCOME_LOST);
+    WANT(driver.outcome.lost, 1);
+    WANT(outcome(&driver, 0), SMMUQ_OUTCOME_NOT_YET);
+    WANT(outcome(&driver, 2), SMMUQ_OUTCOME_NOT_YET);
     drop(&driver);
 }
 
-/* Words that no working queue has, with two commands in flight, and then what a working one has. */
+/* Words that no working queue has, with two commands in flight, and then what a working one has, which is believed only
+ * after a restart. */
 static void broken(uint32_t gerror, uint32_t cons) {
     struct driver driver = new_driver();
     send(&driver, &TLBI);
@@ -188,6 +216,38 @@ static void broken(uint32_t gerror, uint32_t cons) {
     WANT(acknowledge(&driver, 0, SMMUQ_RETRY), SMMUQ_NO_ERROR);
     nothing_told(&driver);
     WANT(done(&driver), 0);
+    WANT(restart(&driver, 0xf1), SMMUQ_OK);
+    WANT(driver.restart.prod, 2);
+    WANT(driver.restart.cons, 0);
+    WANT(poll(&driver, 0xf1, 1), SMMUQ_OK); /* CMDQ_ERR is that of the word */
+    WANT(done(&driver), 0);
+    WANT(poll(&driver, 1, 2), SMMUQ_OK);
+    WANT(done(&driver), 1);
+    WANT(outcome(&driver, 1), SMMUQ_OUTCOME_COMPLETE);
+    drop(&driver);
+}
+
+/* A queue is restarted in an error stop, behind a command that was consumed, at any time again, and full. */
+static void restarts(void) {
+    struct driver driver = new_driver();
+    WANT(restart(&driver, 0), SMMUQ_OK);
+    WANT(driver.restart.prod, 0);
+    send(&driver, &TLBI);
+    send(&driver, &TLBI);
+    WANT(forward(&driver, RUN), SMMUQ_OK);
+    WANT(poll(&driver, 1, 2u << 24 | 1), SMMUQ_QUEUE_STOPPED); /* CERROR_ABT */
+    WANT(restart(&driver, 0), SMMUQ_OK);
+    WANT(restart(&driver, 0), SMMUQ_OK);
+    WANT(driver.restart.prod, 4);
+    WANT(driver.restart.cons, 1);
+    WANT(acknowledge(&driver, 0, SMMUQ_RETRY), SMMUQ_NO_ERROR);
+    WANT(forward(&driver, RUN), SMMUQ_RING_EMPTY);
+    WANT(done(&driver), 0);
+    WANT(poll(&driver, 0, 0), SMMUQ_QUEUE_BROKEN); /* behind what was consumed */
+    WANT(restart(&driver, 0), SMMUQ_OK);
+    WANT(poll(&driver, 0, 4), SMMUQ_OK);
+    WANT(driver.consumed, 3);
+    WANT(done(&driver), 2);
     drop(&driver);
 }
 
@@ -213,6 +273,7 @@ int main(void) {
     broken(0, 7);           /* behind what was consumed */
     broken(0, 0xffffffff);  /* a device that is gone */
     broken(1, 1u << 24 | 2); /* an error, and nothing left at which it can be */
+    restarts();
     moved();
     printf("hostile_forwarder: all told\n");
     return 0;

@@ -1,5 +1,5 @@
 -- What a send of a seat's own sender did.
-use Rattle.std.proofs.Common.{◌≡◌, ℕ, List, Option, None, Some, Ok, sym, ap, subst, ◌∙◌, true}
+use Rattle.std.proofs.Common.{◌≡◌, ℕ, List, Option, None, Some, Ok, refl, sym, ap, subst, ◌∙◌, true}
 use Rattle.cmdcodec.specs.declared.raw.Raw.{Raw}
 use Rattle.batch.specs.declared.fault.BatchFault.{BatchFault}
 use Rattle.batch.specs.Refusals.{unless, list_refusal}
@@ -55,6 +55,11 @@ sent_bare commands tries {batch} {most} {sender} {own} {new} made most_is same i
 )
 
 -- ---- a reservation that is kept
+
+-- what isn't refused is a batch
+pub remade : (refusal : Option BatchFault) (commands : List Raw) (made answer : Unit {0}) → Ok made ≡ unless refusal answer → Ok commands ≡ unless refusal commands
+remade None commands made answer e = refl
+remade (Some fault) commands made answer e = absurd (cc)
 
 pub opened : (commands : List Raw) (tries : ℕ) {batch : List Raw} {most : ℕ} {sender own : SenderValue} {reservation new : ReservationValue}
     → Ok batch ≡ unless (list_refusal commands) commands → most ≡ tries_of tries → sender ≡ own → new ≡ reservation

@@ -15,8 +15,12 @@ use Rattle.hardware_queue.specs.declared.register_words.RegisterWords.{RegisterW
 use Rattle.smmuq_c.specs.declared.forwarder_calls.AcknowledgementWords.{AcknowledgementWords}
 use Rattle.smmuq_c.specs.declared.forwarder_calls.PlacementWords.{PlacementWords}
 use Rattle.smmuq_c.specs.Forwarding.{HasForwardedFor, HasPolledFor, HasAcknowledgedFor, remedy_numbered}
+use Rattle.smmuq_c.specs.declared.outcome_calls.OutcomeWords.{OutcomeWords}
+use Rattle.smmuq_c.specs.declared.restarting.RestartWords.{RestartWords}
 use Rattle.smmuq_c.specs.Judging.{HasJudgedFor}
 use Rattle.smmuq_c.specs.Lists.{HasListed}
+use Rattle.smmuq_c.specs.Outcomes.{HasToldOutcome}
+use Rattle.smmuq_c.specs.Restarting.{HasRestartedFor}
 use Rattle.smmuq_c.specs.Runs.{HasRunCompletions}
 use Rattle.smmuq_c.specs.Sends.{HasSent}
 use Rattle.smmuq_c.specs.Tags.{IsTagOf}
@@ -59,3 +63,9 @@ Polls words before told = OfForwarder (HasPolledFor words before told)
 -- by the number of the remedy
 abbrev pub Remedies : ℕ → ℕ → AcknowledgementWords → Object → Object → Status → Type 0
 Remedies remedy gerrorn told = OfForwarder (DoesSaid (remedy_numbered remedy) (λ r. HasAcknowledgedFor gerrorn r told))
+
+abbrev pub Restarts : ℕ → RestartWords → Object → Object → Status → Type 0
+Restarts gerrorn told = OfForwarder (HasRestartedFor gerrorn told)
+
+abbrev pub TellsOutcome : ℕ → ℕ → OutcomeWords → Object → Object → Status → Type 0
+TellsOutcome sender number told = OfForwarder (HasToldOutcome sender number told)

@@ -18,7 +18,7 @@ use crate::object::Object;
 use crate::seated_consumer::{CallersDevice, SeatedConsumer};
 use crate::seated_engine::SeatedEngine;
 use crate::seated_forwarder::SeatedForwarder;
-use crate::seated_sender::SeatedSender;
+use crate::seated_sender::{SeatedSender, new_room};
 use crate::status::Status;
 use crate::unit_calls::new_caches;
 use engine::{Engine, Unit};
@@ -295,7 +295,8 @@ fn seat_all(
     let mut seats = Vec::new(alloc);
     while let Some(sender) = all.pop() {
         let own = Arc::try_clone(ring)?;
-        let seat = Box::new(alloc, Object::Sender(SeatedSender::new(own, sender)))?;
+        let room = new_room(alloc)?;
+        let seat = Box::new(alloc, Object::Sender(SeatedSender::new(own, sender, room)))?;
         seats.push(seat)?;
     }
     Ok(seats)

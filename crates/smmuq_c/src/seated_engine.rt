@@ -1,8 +1,13 @@
 //! An engine with its share of its own ring.
-ghost use Rattle.std.specs.Prelude.{◌≡◌, ◌⊎◌, length};
+ghost use Rattle.std.specs.Prelude.{◌≡◌, ◌⊎◌, IfOk, IfErr, OnOk, length};
 ghost use Rattle.std.specs.Arc.{arc_value};
 ghost use Rattle.engine.specs.Engines.{IsSettledEngine};
 ghost use Rattle.caches.specs.Covers.{covers};
+ghost use Rattle.caches.specs.Limits.{IsCapacity};
+ghost use Rattle.ring.specs.NewRings.{IsNewRing};
+ghost use Rattle.renewal.specs.Queues.{IsWhole};
+ghost use Rattle.renewal.specs.Carried.{IsCarried};
+ghost use Rattle.renewal.specs.Renewing.{IsUnmade};
 ghost use Rattle.engine.specs.Units.{HasLost, HasLostOlder};
 ghost use Rattle.smmuq_c.specs.Entries.{HasFilled, HasEvicted};
 ghost use Rattle.smmuq_c.specs.Registers.{HasAcknowledged};
@@ -18,7 +23,7 @@ use crate::words::{Held, RegisterWords, RunWords};
 use caches::{Tag, TagTest};
 use cmdcodec::Command;
 use engine::{Completion, Engine, Remedy, Unit};
-use renewal::{Queue, Sizes, sees_waiting, successor};
+use renewal::{Queue, RenewalFault, Sizes, sees_waiting};
 use ring::Ring;
 use std::alloc::Global;
 use std::marker::Model;
@@ -182,4 +187,19 @@ impl SeatedEngine {
     {
         acknowledgement_status(self.engine.acknowledge(gerrorn, remedy))
     }
+}
+
+/// Does what `renewal::successor` does. It isn't inlined, so that what it moves is off the stack when the senders are
+/// seated.
+#[inline(never)]
+fn successor(alloc: Global, old: &Engine, senders: u32, sizes: Sizes) -> Result<Queue, RenewalFault>
+    ensures unused { IfOk result (λ q.
+        IsNewRing sizes.log2 senders sizes.max_batches q.ring q.senders.items q.engine.consumer) }
+    ensures entries { IfOk result (λ q. IsCarried sizes.capacity old.now.unit q.engine.unit) }
+    ensures sizes { OnOk result (IsCapacity sizes.capacity) }
+    ensures unmade { IfErr result (λ fault.
+        IsUnmade sizes senders old.now.unit.caches.entries fault) }
+    ensures whole { IfOk result IsWhole }
+{
+    renewal::successor(alloc, old, senders, sizes)
 }

@@ -2,9 +2,13 @@
 ghost use Rattle.std.specs.Prelude.{◌≡◌, ◌≤◌, ◌++◌, length, drop};
 ghost use Rattle.std.specs.Arc.{arc_value};
 ghost use Rattle.smmuq_c.specs.Forwarding.{HasForwardedFor, TellsAnswer, HasPolledFor, HasAcknowledgedFor, polled_status, consumed_by, forwarded_status, acknowledgement_words, fault_status};
+ghost use Rattle.smmuq_c.specs.Outcomes.{HasToldOutcome};
+ghost use Rattle.smmuq_c.specs.Restarting.{HasRestartedFor};
 ghost use Rattle.smmuq_c.specs.Kept.{IsKept};
 
 use crate::forwarder_calls::{AcknowledgementWords, PlacementWords};
+use crate::outcome_calls::OutcomeWords;
+use crate::restarting::RestartWords;
 use crate::status::Status;
 use cmdcodec::{Raw, RawList};
 use engine::AckFault;
@@ -83,6 +87,29 @@ impl SeatedForwarder {
             Err(fault) => return refused(fault),
         };
         *told = words_of(acknowledgement);
+        Status::Done
+    }
+    /// Begins the hardware's queue again, and tells with which indexes.
+    pub(crate) fn restart(&mut self, gerrorn: u32, told: &mut RestartWords) -> Status
+        ensures { HasRestartedFor gerrorn told.new self.old self.new result }
+    {
+        let restart = self.forwarder.restart_words(gerrorn);
+        *told = RestartWords {
+            prod: restart.prod,
+            cons: restart.cons,
+        };
+        Status::Done
+    }
+
+    /// Tells what became of a sender's batch.
+    pub(crate) fn outcome(&self, sender: u32, number: u32, told: &mut OutcomeWords) -> Status
+        ensures called { HasToldOutcome sender number told.new self.now self.now result }
+        ensures told { IsKept result told.old told.new }
+    {
+        if sender as usize >= self.forwarder.senders() {
+            return Status::BadField;
+        }
+        *told = OutcomeWords::from(self.forwarder.outcome_of(sender, number));
         Status::Done
     }
 }

@@ -1,5 +1,5 @@
 //! A sender that has an open reservation, with its batch and its share of its own ring.
-ghost use Rattle.std.specs.Prelude.{◌≡◌};
+ghost use Rattle.std.specs.Prelude.{◌≡◌, Some};
 ghost use Rattle.std.specs.Arc.{arc_value};
 ghost use Rattle.smmuq_c.specs.Reserving.{IsPublished};
 
@@ -12,12 +12,13 @@ use std::sync::Arc;
 /// An open reservation with its batch and its ring. Dropping it publishes it first, so that nothing is lost.
 pub(crate) struct SeatedReservation {
     ring: Arc<Ring>,
-    batch: Batch,
+    /// The sender's, with the batch in it.
+    room: Box<Option<Batch>>,
     reservation: UnboundReservation<Closing>,
 }
 
 impl Model for SeatedReservation {
-    ghost use Rattle.std.specs.Prelude.{◌≡◌};
+    ghost use Rattle.std.specs.Prelude.{◌≡◌, Some};
     ghost use Rattle.std.specs.Arc.{arc_value};
     ghost use Rattle.ring.specs.sender.Reservations.{ReservationValue};
 
@@ -25,22 +26,23 @@ impl Model for SeatedReservation {
 
     ghost view = { λ s. s.reservation };
 
-    ghost invariant = { λ s. (s.reservation.ring ≡ arc_value s.ring) × (s.batch ≡ s.reservation.body) };
+    ghost invariant = { λ s. (s.reservation.ring ≡ arc_value s.ring)
+        × (s.room.value ≡ Some s.reservation.body) };
 }
 
 impl SeatedReservation {
     pub(crate) fn new(
         ring: Arc<Ring>,
-        batch: Batch,
+        room: Box<Option<Batch>>,
         reservation: UnboundReservation<Closing>,
     ) -> SeatedReservation
         requires ring { reservation.ring ≡ arc_value ring }
-        requires batch { batch ≡ reservation.body }
+        requires batch { room.value ≡ Some reservation.body }
         ensures { result ≡ reservation }
     {
         SeatedReservation {
             ring,
-            batch,
+            room,
             reservation,
         }
     }
@@ -51,11 +53,14 @@ impl SeatedReservation {
     {
         let SeatedReservation {
             ring,
-            batch,
+            room,
             reservation,
         } = self;
-        let (sender, receipt) = reservation.bind(&batch).publish(&ring);
-        (SeatedSender::new(ring, sender), receipt.number())
+        let Some(batch) = &*room else {
+            unreachable!();
+        };
+        let (sender, receipt) = reservation.bind(batch).publish(&ring);
+        (SeatedSender::new(ring, sender, room), receipt.number())
     }
 }
 

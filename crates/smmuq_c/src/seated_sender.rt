@@ -1,6 +1,7 @@
 //! A sender with its share of its own ring.
-ghost use Rattle.std.specs.Prelude.{◌≡◌, IfOk, IfErr};
+ghost use Rattle.std.specs.Prelude.{◌≡◌, IfOk, IfErr, OnOk, Some};
 ghost use Rattle.std.specs.Arc.{arc_value};
+ghost use Rattle.batch.specs.Refusals.{unless, list_refusal};
 ghost use Rattle.smmuq_c.specs.Reserving.{IsOpened, IsUnreserved};
 ghost use Rattle.smmuq_c.specs.Sends.{HasSent, HasSentBare, HasTold, HasToldLeft, HasClosed, HasLookedFor};
 ghost use Rattle.smmuq_c.specs.Kept.{IsKept};
@@ -8,9 +9,10 @@ ghost use Rattle.smmuq_c.specs.Kept.{IsKept};
 use crate::seated_reservation::SeatedReservation;
 use crate::status::Status;
 use crate::words::ControlWords;
-use batch::{Batch, BatchBuffer};
+use batch::{Batch, BatchBuffer, BatchFault};
 use cmdcodec::Raw;
 use ring::{Closing, Refused, Ring, Sender};
+use std::alloc::{AllocError, Global};
 use std::marker::Model;
 use std::sync::Arc;
 
@@ -20,6 +22,8 @@ pub(crate) struct SeatedSender {
     ring: Arc<Ring>,
     /// It is lent to a send, and comes back.
     sender: Option<Sender>,
+    /// For the batch of a reservation: a kilobyte, which stays where it is.
+    room: Box<Option<Batch>>,
 }
 
 impl Model for SeatedSender {
@@ -35,13 +39,14 @@ impl Model for SeatedSender {
 }
 
 impl SeatedSender {
-    pub(crate) fn new(ring: Arc<Ring>, sender: Sender) -> SeatedSender
+    pub(crate) fn new(ring: Arc<Ring>, sender: Sender, room: Box<Option<Batch>>) -> SeatedSender
         requires { sender.ring ≡ arc_value ring }
         ensures { result ≡ sender }
     {
         SeatedSender {
             ring,
             sender: Some(sender),
+            room,
         }
     }
 
@@ -55,20 +60,25 @@ impl SeatedSender {
         ensures opened { IfOk result (λ reservation. IsOpened commands.now tries self reservation) }
         ensures refused { IfErr result (λ e. IsUnreserved commands.now tries self e.0 e.1) }
     {
-        let batch = match Batch::from_raws(commands) {
-            Ok(batch) => batch,
-            Err(fault) => return Err((self, Status::Batch(fault))),
-        };
-        let SeatedSender { ring, sender } = self;
+        let SeatedSender { ring, sender, room } = self;
+        let mut room = room;
+        if let Err(fault) = fill(&mut room, commands) {
+            let seat = SeatedSender { ring, sender, room };
+            return Err((seat, Status::Batch(fault)));
+        }
         let sender = sender.unwrap();
+        let Some(batch) = &*room else {
+            unreachable!();
+        };
         match sender.reserve_within::<Closing>(&ring, batch.as_borrowed(), tries.max(1)) {
             Ok(reservation) => {
                 let reservation = reservation.unbind();
-                Ok(SeatedReservation::new(ring, batch, reservation))
+                Ok(SeatedReservation::new(ring, room, reservation))
             }
-            Err(Refused { sender, cause }) => {
-                Err((SeatedSender::new(ring, sender), Status::Refused(cause)))
-            }
+            Err(Refused { sender, cause }) => Err((
+                SeatedSender::new(ring, sender, room),
+                Status::Refused(cause),
+            )),
         }
     }
 
@@ -122,7 +132,7 @@ impl SeatedSender {
         ensures told { HasTold number.new self.old self.new result }
         ensures done { result ≡ Status.Done }
     {
-        let SeatedSender { ring, sender } = self;
+        let SeatedSender { ring, sender, .. } = self;
         let Some(sender) = sender else {
             unreachable!();
         };
@@ -135,7 +145,7 @@ impl SeatedSender {
         ensures told { HasToldLeft batches.new self.old self.new result }
         ensures done { result ≡ Status.Done }
     {
-        let SeatedSender { ring, sender } = self;
+        let SeatedSender { ring, sender, .. } = self;
         let Some(sender) = sender else {
             unreachable!();
         };
@@ -146,7 +156,7 @@ impl SeatedSender {
     pub(crate) fn close(&mut self) -> Status
         ensures { HasClosed self.old self.new result }
     {
-        let SeatedSender { ring, sender } = self;
+        let SeatedSender { ring, sender, .. } = self;
         let Some(sender) = sender else {
             unreachable!();
         };
@@ -158,11 +168,28 @@ impl SeatedSender {
         ensures looked { HasLookedFor told.new self.old self.new result }
         ensures done { result ≡ Status.Done }
     {
-        let SeatedSender { ring, sender } = self;
+        let SeatedSender { ring, sender, .. } = self;
         let Some(sender) = sender else {
             unreachable!();
         };
         *told = ControlWords::of(&sender.look(ring));
         Status::Done
     }
+}
+
+/// Makes room for a batch, with none in it.
+#[inline(never)]
+pub(crate) fn new_room(alloc: Global) -> Result<Box<Option<Batch>>, AllocError> {
+    Ok(Box::new(alloc, None)?)
+}
+
+/// Makes a batch of these commands in a room. It isn't inlined, so that what it moves is off the stack when the batch is
+/// reserved.
+#[inline(never)]
+fn fill(room: &mut Option<Batch>, commands: &[Raw]) -> Result<(), BatchFault>
+    ensures answer { result ≡ unless (list_refusal commands.now) tt }
+    ensures filled { OnOk result (room.new ≡ Some commands.now) }
+{
+    *room = Some(Batch::from_raws(commands)?);
+    Ok(())
 }

@@ -1,7 +1,7 @@
 -- What was shown of a sender's commands, and what that tells of the unit's entries.
 use Rattle.std.proofs.Common.{◌≡◌, ℕ, zero, suc, ◌+◌, Bool, true, false, List, [], ◌∷◌, ◌++◌, length, map, Option, Some, None, refl, ap, sym, subst, ◌∙◌, arith, length-append}
 use Rattle.std.proofs.lemmas.Option.{slice_get_within}
-use Rattle.std.specs.Prelude.{slice_get, take, Contains, is_none, if◌then◌else◌}
+use Rattle.std.specs.Prelude.{slice_get, take, is_none, if◌then◌else◌}
 use Rattle.cmdcodec.specs.declared.raw.Raw.{Raw}
 use Rattle.cmdcodec.specs.declared.ill.Ill.{Ill}
 use Rattle.cmdcodec.specs.Legality.{first_ill}
@@ -10,11 +10,13 @@ use Rattle.ringcore.specs.declared.world.event.Outcome.{Outcome}
 use Rattle.ringcore.specs.declared.world.event.Outcome.TheVariants.{Applied, Replaced}
 use Rattle.ringcore.specs.world.World.{taken_as, outcome_of}
 use Rattle.engine.proofs.Syncs.{covers_none}
-use Rattle.hardware_queue.specs.Queues.{QueueValue, MayBeUnanswered, plain_sync}
+use Rattle.hardware_queue.specs.Queues.{plain_sync}
 use Rattle.hardware_queue.specs.Flights.{hardware_form, passed_as, passed_on}
 use Rattle.hardware_queue.specs.Forwarders.{IsCarriedOut}
-use Rattle.unit_queue.specs.Queued.{Queued, HasEffect}
+use Rattle.qindex.specs.Positions.{IndexValue}
+use Rattle.unit_queue.specs.Queued.{Queued, IsQueued, HasEffect}
 use Rattle.unit_queue.specs.Laws.{position_of, NoneIsOlder, ToldMeansNoneIsOlder}
+use Rattle.unit_queue.proofs.Meeting.{consumed_effect}
 
 get_behind : (xs ys : List Raw) (i : ℕ) → slice_get (xs ++ ys) (length xs + i) ≡ slice_get ys i
 get_behind [] ys i = ap (slice_get ys) (let e : 0 + i ≡ i = omega arith in e)
@@ -45,19 +47,15 @@ no_sync : (b covered : Bool) → (b ≡ true → covered ≡ false) → covered 
 no_sync true covered none is = let never = none refl in absurd (cc)
 no_sync false covered none is = refl
 
-none_unanswered : (q : QueueValue) (position : ℕ) → q.repeated ≡ [] → ¬ MayBeUnanswered q position
-none_unanswered q position none m =
-    let at : Contains [] m.sync = subst (λ (l : List ℕ). Contains l m.sync) none m.repeated in
-    let inside = at.1 in absurd (omega (arith, inside))
-
-pub none_is_older : (u : Queued) (first : List Raw) → u.queue.repeated ≡ [] → IsCarriedOut (HasEffect u) u.queue first → NoneIsOlder u first
-none_is_older u first none carried tag entry held place raw command at legal spelled covered unlost =
+pub none_is_older : (u : Queued) (prod cons : IndexValue) (seen : Bool) (first : List Raw) → IsQueued u prod cons seen → IsCarriedOut (HasEffect u) u.queue first → NoneIsOlder u first
+none_is_older u prod cons seen first is carried tag entry held place raw command at legal spelled covered unlost =
     let other = no_sync (is_sync raw) _ (λ is. covers_none raw command spelled is tag) covered in
     let there = at_place first place raw at (applied_of (first_ill raw) legal) ∙ ap Some (same_form (is_sync raw) raw other) in
     let inside = slice_get_within (passed_on (map taken_as first)) (position_of first place) raw there in
     let shown : slice_get u.queue.shown (position_of first place) ≡ Some raw =
     ap (λ (l : List Raw). slice_get l (position_of first place)) carried.shown ∙ get_longer (passed_on (map taken_as first)) carried.rest (position_of first place) raw there in
-    carried.effect (position_of first place) inside unlost (none_unanswered u.queue (position_of first place) none) raw command tag entry shown spelled covered held
+    let passed = carried.passed in
+    consumed_effect u prod cons seen is (position_of first place) (omega (arith, inside, passed)) unlost raw command tag entry shown spelled covered held
 
-pub told_means : (u : Queued) → u.queue.repeated ≡ [] → ToldMeansNoneIsOlder u
-told_means u none run s told older was number some most = none_is_older u _ none (was.carried_out number some most)
+pub told_means : (u : Queued) (prod cons : IndexValue) (seen : Bool) → IsQueued u prod cons seen → ToldMeansNoneIsOlder u
+told_means u prod cons seen is run s told older was number some most = none_is_older u prod cons seen _ is (was.carried_out number some most)

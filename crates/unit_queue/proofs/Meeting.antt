@@ -1,9 +1,8 @@
 -- The queue of a unit meets what a driver takes for granted.
-use Rattle.std.proofs.Common.{◌≡◌, ◌≢◌, ℕ, zero, suc, ◌+◌, ◌-◌, ◌<◌, ◌≤◌, Bool, true, false, List, [], ◌∷◌, ◌++◌, length, Some, Result, Ok, Err, OnOk, OnErr, inl, inr, refl, ap, sym, subst, ◌∙◌, arith, add-one, length-append, append_assoc}
+use Rattle.std.proofs.Common.{◌≡◌, ◌≢◌, ℕ, zero, suc, ◌+◌, ◌<◌, ◌≤◌, Bool, true, false, List, [], ◌∷◌, ◌++◌, length, Option, Some, Result, Ok, Err, OnOk, OnErr, inl, inr, refl, ap, sym, subst, ◌∙◌, arith, length-append}
 use Rattle.std.proofs.lemmas.Bool.{cases_lt}
 use Rattle.std.proofs.lemmas.List.{append-nil}
-use Rattle.std.proofs.lemmas.Option.{slice_get_within, slice_get-get_or, slice_get_read}
-use Rattle.std.proofs.lemmas.Nat.{pow_pos, mod_below}
+use Rattle.std.proofs.lemmas.Option.{slice_get_read}
 use Rattle.std.proofs.Math.ListN.{length-set}
 use Rattle.std.specs.Prelude.{slice_get, slice_set, slice_index_or, Contains, IsTrue, ◌↔◌}
 use Rattle.cmdcodec.specs.declared.raw.Raw.{Raw}
@@ -17,7 +16,8 @@ use Rattle.engine.specs.Stops.{StopValue}
 use Rattle.engine.specs.Counting.{taken}
 use Rattle.engine.specs.Units.{UnitValue, StaysSettled, IsApplied, with_entries}
 use Rattle.caches.specs.Held.{Entries}
-use Rattle.hardware_queue.specs.Queues.{plain_sync, IsFree, SyncsComplete, in_memory, command_queue_error}
+use Rattle.hardware_queue.specs.declared.reading.Reading.{Reading}
+use Rattle.hardware_queue.specs.Queues.{Stop, plain_sync, IsFree, SyncsComplete, in_memory, command_queue_error}
 use Rattle.hardware_queue.specs.Owners.{IsOwned}
 use Rattle.hardware_queue.specs.Standing.{StandsOnceWritten, StandsOnceOverwritten, StandsOnceShown}
 use Rattle.unit_queue.specs.Queued.{Queued, IsQueued, HasEffect, seen_at}
@@ -220,10 +220,33 @@ queued_filled u prod cons seen new is same keeps =
 by_order : (a b : ℕ) → ¬ (b ≤ a) → a < b
 by_order a b never = omega (arith, never)
 
-pub effects : (u : Queued) (prod cons : IndexValue) (seen : Bool) → IsQueued u prod cons seen → SyncsComplete (HasEffect u) u.queue
-effects u prod cons seen is position sync before inside issync unlost answered raw command tag entry there spelled covered held =
+-- What it consumed has its effect, unless it was written over.
+pub consumed_effect : (u : Queued) (prod cons : IndexValue) (seen : Bool) → IsQueued u prod cons seen → (position : ℕ) → position < u.queue.consumed → ¬ Contains u.queue.lost position → HasEffect u position
+consumed_effect u prod cons seen is position inside unlost raw command tag entry there spelled covered held =
     let c = is.consumed in
     let many = is.took.many in
     by_order position entry.born (λ later.
-    (is.took.settled tag entry held).uncovered position (record { raw = raw; outcome = Applied }) (is.took.are position raw (omega (arith, before, inside, c, many)) there unlost) later
+    (is.took.settled tag entry held).uncovered position (record { raw = raw; outcome = Applied }) (is.took.are position raw (omega (arith, inside, c, many)) there unlost) later
     (record { applied = refl; command = command; spelled = spelled; covered = covered }))
+
+pub effects : (u : Queued) (prod cons : IndexValue) (seen : Bool) → IsQueued u prod cons seen → SyncsComplete (HasEffect u) u.queue
+effects u prod cons seen is position sync before inside issync unlost answered = consumed_effect u prod cons seen is position (omega (arith, before, inside)) unlost
+
+-- ---- it is restarted
+
+-- No error is active, and none was seen.
+pub queued_restarted : (u : Queued) (prod cons : IndexValue) (seen : Bool) (stopped : Option Stop) (gerrorn : ℕ) (repeated : List ℕ) (read : List Reading) → IsQueued u prod cons seen
+    → u.error ≡ command_queue_error gerrorn
+    → IsQueued (record u { queue = record u.queue { stopped = stopped; gerrorn = gerrorn; repeated = repeated; read = read } }) prod cons false
+queued_restarted u prod cons seen stopped gerrorn repeated read is same = record {
+  geometry = is.geometry;
+  memory = is.memory;
+  indexes = is.indexes;
+  consumed = is.consumed;
+  stands = is.stands;
+  took = record { list = is.took.list; many = is.took.many; settled = is.took.settled; are = is.took.are };
+  running = is.running;
+  anything_next = is.anything_next;
+  stopped = λ active. absurd (active same);
+  seen_is = λ never. absurd (cc);
+}

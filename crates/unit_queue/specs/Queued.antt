@@ -4,7 +4,7 @@ use Rattle.std.specs.FinMap as finite
 use Rattle.cmdcodec.specs.declared.raw.Raw.{Raw}
 use Rattle.cmdcodec.specs.declared.command.Command.{Command}
 use Rattle.cmdcodec.specs.Spelling.{Spells}
-use Rattle.qindex.specs.Positions.{IndexValue, size, place, index_of}
+use Rattle.qindex.specs.Positions.{IndexValue, size, index_of}
 use Rattle.qindex.specs.Indexes.{IsGeometry, IsQueue}
 use Rattle.ringcore.specs.declared.world.event.Outcome.TheVariants.{Applied}
 use Rattle.ringcore.specs.world.World.{Taken}

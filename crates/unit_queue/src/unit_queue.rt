@@ -3,6 +3,7 @@ ghost use Rattle.std.specs.Prelude.{◌≡◌, ◌↔◌, [], None, false, IfOk,
 ghost use Rattle.std.specs.FinMap as finite;
 ghost use Rattle.cmdcodec.specs.Legality.{first_ill as first_ill_of};
 ghost use Rattle.caches.specs.Held.{held};
+ghost use Rattle.hardware_queue.specs.Queues.{command_queue_error};
 ghost use Rattle.hardware_queue.specs.Owners.{IsNew};
 ghost use Rattle.unit_queue.specs.Queued.{HasMoved, IsStopped, IsConsOf};
 ghost use Rattle.unit_queue.specs.Laws.{ToldMeansNoneIsOlder};
@@ -36,6 +37,7 @@ pub struct UnitQueue {
     unsupported: Option<Raw>,
     shown: Tape,
     lost: Positions,
+    repeated: Positions,
     read: Reads,
 }
 
@@ -59,7 +61,7 @@ impl Model for UnitQueue {
         stopped = seen_at u.seen (taken u.unit.counts);
         gerrorn = u.gerrorn;
         lost = u.lost;
-        repeated = [];
+        repeated = u.repeated;
         read = u.read;
         supplied = none_supplied;
       };
@@ -76,7 +78,7 @@ impl Model for UnitQueue {
         stopped = seen_at u.seen (taken u.unit.counts);
         gerrorn = u.gerrorn;
         lost = u.lost;
-        repeated = [];
+        repeated = u.repeated;
         read = u.read;
         supplied = none_supplied;
       };
@@ -106,6 +108,7 @@ impl UnitQueue {
             unsupported: None,
             shown: Tape::new(),
             lost: Positions::new(),
+            repeated: Positions::new(),
             read: Reads::new(),
         })
     }
@@ -151,6 +154,14 @@ impl UnitQueue {
         ensures { IsTrue result ↔ IsStopped self.now }
     {
         self.error != (self.gerrorn % 2 == 1)
+    }
+
+    /// SMMU_GERRORN with CMDQ_ERR as SMMU_GERROR has it.
+    fn acknowledged(&self) -> u32
+        ensures { self.now.error ≡ command_queue_error result }
+    {
+        let others = self.gerrorn - self.gerrorn % 2;
+        if self.error { others + 1 } else { others }
     }
 
     /// Whether it calls a command illegal.
@@ -245,6 +256,14 @@ impl CommandQueue for UnitQueue {
     fn write_gerrorn(&mut self, word: u32) {
         self.seen = false;
         self.gerrorn = word;
+    }
+
+    fn restart(&mut self, _prod: u32, _cons: u32) -> u32 {
+        self.gerrorn = self.acknowledged();
+        self.seen = false;
+        self.repeated.add(self.unit.counts().taken());
+        self.read.add(Reading::Gerrorn(self.gerrorn));
+        self.gerrorn
     }
 
     fn syncs_complete(&self) {

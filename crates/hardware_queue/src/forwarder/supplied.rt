@@ -9,13 +9,14 @@ ghost use Rattle.hardware_queue.specs.Owners.{IsBroken, state_after};
 ghost use Rattle.hardware_queue.specs.Flights.{HasConsumedAll, IsInOrder};
 ghost use Rattle.hardware_queue.specs.Steps.{HasSettledAt};
 ghost use Rattle.hardware_queue.specs.Forwarders.{IsRefused};
-ghost use Rattle.hardware_queue.specs.Supplying.{HasLooked, HasRemediedWith};
+ghost use Rattle.hardware_queue.specs.Supplying.{HasLooked, HasRemediedWith, HasRestartedWith};
 
 use crate::forwarded::Acknowledgement;
 use crate::forwarder::Forwarder;
 use crate::queue_progress::Progress;
 use crate::register_words::RegisterWords;
 use crate::remedy::{Remedy, RemedyFault};
+use crate::restart::Restart;
 use crate::state::QueueState;
 use crate::supplied_queue::SuppliedQueue;
 use ring::Ring;
@@ -91,5 +92,15 @@ impl<Q: SuppliedQueue> Forwarder<Q> {
             slot,
             gerrorn,
         })
+    }
+    /// Does what `restart` does, by SMMU_GERRORN as the caller read it once the queue was disabled and no error was active.
+    /// Returns the values for PROD and CONS that he writes before he enables it.
+    pub fn restart_words(&mut self, gerrorn: u32) -> Restart
+        ensures restarted { HasRestartedWith gerrorn
+            (Q.queue self.old.owner.queue) (Q.queue self.new.owner.queue) result }
+        ensures running { self.new.owner.state ≡ Running }
+        ensures consumer { self.new.consumer ≡ self.old.consumer }
+    {
+        self.owner.restart_with(gerrorn)
     }
 }

@@ -1,14 +1,15 @@
 //! What the owner of a queue does whose registers somebody else reads.
 ghost use Rattle.std.specs.Prelude.{◌≡◌, ◌/◌, false, IsTrue};
 ghost use Rattle.qindex.specs.Positions.{place};
-ghost use Rattle.hardware_queue.specs.declared.state.QueueState.TheVariants.{Broken};
+ghost use Rattle.hardware_queue.specs.declared.state.QueueState.TheVariants.{Broken, Running};
 ghost use Rattle.hardware_queue.specs.Queues.{command_queue_error};
-ghost use Rattle.hardware_queue.specs.Supplying.{CanHave, supplied_with, supplied_gerrorn, AreSupplied};
+ghost use Rattle.hardware_queue.specs.Supplying.{CanHave, supplied_with, supplied_gerrorn, AreSupplied, HasRestartedWith};
 
 use crate::command_queue::CommandQueue;
 use crate::owner::Owner;
 use crate::owner::registers::with_error;
 use crate::register_words::RegisterWords;
+use crate::restart::Restart;
 use crate::state::QueueState;
 use crate::supplied_queue::SuppliedQueue;
 
@@ -56,6 +57,19 @@ impl<Q: SuppliedQueue> Owner<Q> {
         ensures state { self.new.state ≡ self.old.state }
     {
         self.queue.supply_gerrorn(word);
+    }
+
+    /// Restarts the queue, by SMMU_GERRORN as it was read then.
+    pub fn restart_with(&mut self, gerrorn: u32) -> Restart
+        ensures restarted { HasRestartedWith gerrorn
+            (Q.queue self.old.queue) (Q.queue self.new.queue) result }
+        ensures running { self.new.state ≡ Running }
+    {
+        let (prod, cons) = (self.prod.get(), self.cons.get());
+        self.queue.restart_with(prod, cons, gerrorn);
+        self.acknowledged = gerrorn % 2 == 1;
+        self.state = QueueState::Running;
+        Restart { prod, cons }
     }
 
     /// A witness that whatever was read was of the words that it got. It does nothing.

@@ -5,7 +5,7 @@ use Rattle.smmuq_c.specs.Reserving.{IsPublished}
 use Rattle.smmuq_c.proofs.seated_reservation.SeatedReservation.publish.Goals as goal
 
 pub publish-sender-requires : goal.publish-sender-requires
-publish-sender-requires c = ap (λ (r : ReservationValue). r.ring) c.bind.ensures ∙ c.self.invariant.0 ∙ sym c.deref.ensures
+publish-sender-requires c = ap (λ (r : ReservationValue). r.ring) c.bind.ensures ∙ c.self.invariant.0 ∙ sym c.deref-2.ensures
 
 pub new-requires : goal.new-requires
 new-requires c = c.publish-sender.ensures.ring ∙ ap (λ (r : ReservationValue). r.ring) c.bind.ensures ∙ c.self.invariant.0
