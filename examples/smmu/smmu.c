@@ -1,7 +1,8 @@
 /* SPDX-License-Identifier: MIT OR Apache-2.0 */
 /* A driver of QEMU's SMMUv3 on a bare machine of two processors: both send batches into a ring, and the first owns the command
  * queue in memory. It writes what the forwarder says, shows SMMU_CMDQ_PROD, reads SMMU_GERROR and SMMU_CMDQ_CONS, and
- * acknowledges errors. One command in a while is written as words that QEMU calls illegal, and then replaced. */
+ * acknowledges errors. One command in a while is written as words that QEMU calls illegal. At the first stop there the queue is
+ * restarted, and at the second the command is replaced. */
 #include "host.h"
 #include "smmuq.h"
 
@@ -37,21 +38,31 @@ static void read_barrier(void) {
 }
 
 static void enable(void) {
+    write_register(CR0, CMDQEN);
+    while (!(read_register(CR0ACK) & CMDQEN))
+        ;
+}
+
+static void disable(void) {
+    write_register(CR0, 0);
+    while (read_register(CR0ACK) & CMDQEN)
+        ;
+}
+
+static void begin(void) {
     const uint64_t base = (uint64_t)(uintptr_t)queue | LOG2;
     write_register(CMDQ_BASE, (uint32_t)base);
     write_register(CMDQ_BASE + 4, (uint32_t)(base >> 32));
     write_register(CMDQ_PROD, 0);
     write_register(CMDQ_CONS, 0);
     owe(((read_register(GERROR) | read_register(GERRORN)) & 1) == 0, "a queue without an error");
-    write_register(CR0, CMDQEN);
-    while (!(read_register(CR0ACK) & CMDQEN))
-        ;
+    enable();
 }
 
 /* ---- the owner of its queue */
 
 static smmuq_forwarder forwarder = SMMUQ_EMPTY;
-static uint64_t shown, consumed, stops, full;
+static uint64_t shown, consumed, replaced, restarts, full;
 
 static void show(const smmuq_command *run, const smmuq_placement *placement) {
     for (uint32_t place = 0; place < placement->count; place++) {
@@ -72,7 +83,21 @@ static void acknowledge(void) {
     queue[acknowledgement.slot].hi = 0;
     write_barrier();
     write_register(GERRORN, acknowledgement.gerrorn);
-    stops++;
+    replaced++;
+}
+
+/* Disables the queue and enables it again: QEMU reads what isn't consumed once more. */
+static void restart(void) {
+    smmuq_restart indexes;
+    disable();
+    if ((read_register(GERROR) ^ read_register(GERRORN)) & 1)
+        write_register(GERRORN, read_register(GERRORN) ^ 1);
+    owe(smmuq_forwarder_restart(&forwarder, read_register(GERRORN), &indexes) == SMMUQ_OK, "a restart");
+    owe(indexes.prod == shown % (2 * SLOTS) && indexes.cons == consumed % (2 * SLOTS), "the indexes of a restart");
+    write_register(CMDQ_PROD, indexes.prod);
+    write_register(CMDQ_CONS, indexes.cons);
+    enable();
+    restarts++;
 }
 
 static void poll(void) {
@@ -80,11 +105,13 @@ static void poll(void) {
     uint32_t count;
     read_barrier();
     const smmuq_status status = smmuq_forwarder_poll(&forwarder, gerror, cons, &count);
-    if (status == SMMUQ_QUEUE_STOPPED)
-        acknowledge();
-    else
-        owe(status == SMMUQ_OK, "a poll");
     consumed += count;
+    if (status != SMMUQ_QUEUE_STOPPED)
+        owe(status == SMMUQ_OK, "a poll");
+    else if (restarts == replaced)
+        restart();
+    else
+        acknowledge();
 }
 
 static smmuq_status forward(void) {
@@ -158,7 +185,7 @@ static void tell(const char *what, uint64_t number) {
 
 void first(void);
 void first(void) {
-    enable();
+    begin();
     owe(smmuq_forwarder_ring_new(RING_LOG2, BATCHES, LOG2, senders, 2, &forwarder) == SMMUQ_OK, "a new ring");
     owe(start_second() == 0, "the second processor");
     serve();
@@ -168,7 +195,8 @@ void first(void) {
     owe(((read_register(GERROR) ^ read_register(GERRORN)) & 1) == 0, "no error is active");
     tell("sent ", sent[0] + sent[1]);
     tell("consumed ", consumed);
-    tell("replaced ", stops);
+    tell("replaced ", replaced);
+    tell("restarted ", restarts);
     owe(smmuq_free(&senders[0].handle) == SMMUQ_OK && smmuq_free(&senders[1].handle) == SMMUQ_OK, "the end of the senders");
     owe(smmuq_free(&forwarder.handle) == SMMUQ_OK && heap_blocks() == 0, "all memory was given back");
     print("passed\n");
