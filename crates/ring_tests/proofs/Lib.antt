@@ -6,3 +6,4 @@ pub mod WorkedEnds
 pub mod WorkedRuns
 pub mod Kept
 pub mod Crossing
+pub mod Holding

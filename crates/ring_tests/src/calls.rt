@@ -95,8 +95,11 @@ pub fn ring_of_two<R: AllocGlobal + Abort>(
     max_batches: u32,
 ) -> (Ring, Sender, Seats)
     ensures first { result.1.ring ≡ result.0 }
+    ensures first_id { result.1.number ≡ 0 }
     ensures sender { result.2.sender.ring ≡ result.0 }
+    ensures id { result.2.sender.number ≡ 1 }
     ensures consumer { result.2.consumer.ring ≡ result.0 }
+    ensures two { result.0.made_with.senders ≡ 2 }
 {
     let (ring, mut senders, consumer) = Ring::new::<NoEntries>(
         rt.alloc(),

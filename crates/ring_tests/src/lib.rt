@@ -12,6 +12,8 @@ mod consumer_tests;
 #[cfg(test)]
 mod device;
 #[cfg(test)]
+mod held_tests;
+#[cfg(test)]
 mod keeper_calls;
 #[cfg(test)]
 mod keeper_tests;

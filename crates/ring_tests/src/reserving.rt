@@ -1,6 +1,6 @@
 //! What is expected of a sender that sends a batch or reserves slots for it.
 ghost use Rattle.std.specs.Prelude.{◌≡◌, ◌+◌};
-ghost use Rattle.ringcore.specs.world.Trails.{reserved_length};
+ghost use Rattle.ringcore.specs.world.Trails.{IsSettled, reserved_length};
 
 use crate::sender_calls::send;
 use batch::Batch;
@@ -19,6 +19,7 @@ pub fn send_at_once(
     requires { sender.ring ≡ ring.now }
     ensures ring { result.0.ring ≡ ring.now }
     ensures id { result.0.number ≡ sender.number }
+    ensures settled { IsSettled result.0.trail }
     ensures receipt { result.1.sender ≡ sender.number }
 {
     match sender.send(ring, batch, 1) {

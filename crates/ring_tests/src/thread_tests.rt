@@ -90,6 +90,61 @@ fn two_senders_at_a_time(rt: HostRuntime) {
     expect_refused(&rt, &ring, second, &one, Cause::Full);
 }
 
+/// Tries so often to send a batch. Returns how many tries sent it, and how many lost their exchange.
+fn try_many(ring: &Ring, sender: Sender, batch: &Batch, tries: u32) -> (u32, u32)
+    requires { sender.ring ≡ ring.now }
+{
+    let mut sender = sender;
+    let (mut sent, mut lost) = (0u32, 0u32);
+    for _ in 0..tries {
+        let (again, answer) = send(ring, sender, batch);
+        sender = again;
+        match answer {
+            Ok(_) => sent = sent.saturating_add(1),
+            Err(Cause::Contended) => lost = lost.saturating_add(1),
+            Err(_) => {}
+        }
+    }
+    (sent, lost)
+}
+
+/// Has two senders try at the same time, 1,000 times each.
+fn try_at_a_time(
+    rt: &impl Threads,
+    ring: &Ring,
+    first: Sender,
+    second: Sender,
+    batch: &Batch,
+) -> ((u32, u32), (u32, u32))
+    requires first { first.ring ≡ ring.now }
+    requires second { second.ring ≡ ring.now }
+{
+    join(
+        rt,
+        || -> (u32, u32)
+            requires { first.ring ≡ ring.now }
+        { try_many(ring, first, batch, 1_000) },
+        || -> (u32, u32)
+            requires { second.ring ≡ ring.now }
+        { try_many(ring, second, batch, 1_000) },
+    )
+}
+
+// Nothing is taken, so all lost exchanges are at most senders times (reserved commands, and one).
+#[test]
+fn lost_exchanges_are_paid_for(rt: HostRuntime) {
+    let (ring, first, seats) = ring_of_two(&rt, 12, 1_000);
+    let Seats { sender, consumer } = seats;
+    let one = batch_of(&rt, 1);
+    let ((sent, lost), (sent_too, lost_too)) = try_at_a_time(&rt, &ring, first, sender, &one);
+    let batches = sent.saturating_add(sent_too);
+    let lost = lost.saturating_add(lost_too);
+    assert_eq!(rt; batches.saturating_add(lost), 2_000);
+    let reserved = batches.saturating_mul(2);
+    assert!(rt; lost <= reserved.saturating_add(1).saturating_mul(2));
+    assert_eq!(rt; consumer.taken(), 0);
+}
+
 /// Sends up to `count` batches, with 50 tries each, and returns how many were sent.
 fn send_many(ring: &Ring, sender: Sender, batch: &Batch, count: u32) -> (Sender, u32)
     requires { sender.ring ≡ ring.now }
@@ -194,7 +249,7 @@ fn close_and_send(ring: &Ring, sender: Sender, batch: &Batch) -> (Sender, Result
 }
 
 /// Takes a command, if there is one, in each of `turns` turns, and returns whether each turn found the head unwritten.
-fn find_unwritten(
+pub fn find_unwritten(
     ring: &Ring,
     consumer: Consumer<NoEntries>,
     turns: u32,
