@@ -14,7 +14,8 @@ pub trait CommandQueue {
     /// The command that was shown at this position has all its effect.
     ghost has_effect: { Self → ℕ → Type 0 };
 
-    /// Writes a command into a slot that the hardware doesn't read.
+    /// Writes a command into a slot that the hardware doesn't read. In place of a CMD_SYNC without a signal it may write one
+    /// with any, as an MSI: `queue` has it without.
     fn write(&mut self, slot: u32, raw: Raw)
         requires { IsFree (queue self.old) slot }
         ensures { queue self.new ≡ written slot raw (queue self.old) };
