@@ -4,7 +4,10 @@
  * Each driver is told once the hardware has consumed its CMD_SYNC. The hardware is played by a thread with a unit of its own,
  * which calls TLBI_EL2_ALL illegal, as an SMMU without EL2 does.
  *
- *     forwarder [SENDERS [BATCHES]]
+ *     forwarder [messages] [SENDERS [BATCHES]]
+ *
+ * With `messages` each CMD_SYNC asks for an MSI, which the hardware writes into a word of the driver's, and registers are read
+ * only where that word stands still.
  *
  * The registers are atomic words here, and their order is that of acquire and release; beside hardware they are its own, with
  * the barriers of docs/C.md. */
@@ -16,8 +19,9 @@
 #include <sched.h>
 #include <stdio.h>
 #include <stdlib.h>
+#include <string.h>
 
-enum { MOST_SENDERS = 256, RING_LOG2 = 6, LOG2 = 4, SLOTS = 1 << LOG2, PAGES = 4, RUN = 64, CERROR_ILL = 1 };
+enum { MOST_SENDERS = 256, RING_LOG2 = 6, LOG2 = 4, SLOTS = 1 << LOG2, PAGES = 4, RUN = 64, CERROR_ILL = 1, PATIENCE = 1000 };
 
 static void check(smmuq_status status, const char *what) {
     if (status != SMMUQ_OK) {
@@ -45,7 +49,11 @@ static void set(uint32_t *word, uint32_t value) {
 
 static void consume(smmuq_command command) {
     smmuq_verdict verdict;
+    smmuq_fields fields;
     check(smmuq_unit_judge(&hardware.unit, command.lo, command.hi, &verdict), "judge");
+    check(smmuq_decode(command.lo, command.hi, &fields), "decode");
+    if (fields.opcode == SMMUQ_OPCODE_CMD_SYNC && fields.cs == 1)
+        set((uint32_t *)(uintptr_t)fields.address, fields.data);
     if ((command.lo & 0xff) == SMMUQ_OPCODE_TLBI_NH_VA) {
         uint32_t *pages = &hardware.pages[(command.lo >> 32) % MOST_SENDERS];
         set(pages, *pages + 1);
@@ -75,15 +83,26 @@ static void *play_hardware(void *argument) {
 static struct {
     smmuq_forwarder forwarder;
     uint32_t shown, consumed, refused, lost; /* counts of commands */
+    int messages;                            /* whether CMD_SYNCs ask for MSIs */
+    uint32_t message, still;                 /* the word that these write, and how long it stood still */
 } owner = {.forwarder = SMMUQ_EMPTY};
+
+/* A command as the hardware gets it: a CMD_SYNC asks for an MSI whose data is how many commands were shown with it. */
+static smmuq_command signalled(smmuq_command command) {
+    const smmuq_fields fields = {.opcode = SMMUQ_OPCODE_CMD_SYNC, .cs = 1, .data = owner.shown, .address = (uintptr_t)&owner.message};
+    if (owner.messages && (command.lo & 0xff) == SMMUQ_OPCODE_CMD_SYNC)
+        check(smmuq_encode(&fields, &command), "encode");
+    return command;
+}
 
 /* Writes a run into the queue, and then shows it. */
 static void show(const smmuq_command *run, const smmuq_placement *placement) {
     uint32_t place;
-    for (place = 0; place < placement->count; place++)
-        hardware.queue[(placement->slot + place) % SLOTS] = run[place];
+    for (place = 0; place < placement->count; place++) {
+        owner.shown++;
+        hardware.queue[(placement->slot + place) % SLOTS] = signalled(run[place]);
+    }
     set(&hardware.prod, placement->prod);
-    owner.shown += placement->count;
 }
 
 /* Replaces the command at which the hardware stopped. */
@@ -96,7 +115,7 @@ static void acknowledge(void) {
     owner.lost++;
 }
 
-static void poll(void) {
+static void read_registers(void) {
     const uint32_t gerror = get(&hardware.gerror), cons = get(&hardware.cons);
     uint32_t consumed;
     const smmuq_status status = smmuq_forwarder_poll(&owner.forwarder, gerror, cons, &consumed);
@@ -105,6 +124,20 @@ static void poll(void) {
     else
         check(status, "poll");
     owner.consumed += consumed;
+}
+
+/* Settles what an MSI tells, and reads the registers only where none came for long: then there may be an error, or nothing
+ * but commands without a CMD_SYNC. */
+static void poll(void) {
+    uint32_t consumed = 0;
+    if (owner.messages)
+        check(smmuq_forwarder_poll_msi(&owner.forwarder, get(&owner.message), &consumed), "poll_msi");
+    owner.consumed += consumed;
+    owner.still = consumed ? 0 : owner.still + 1;
+    if (!owner.messages || owner.still == PATIENCE) {
+        owner.still = 0;
+        read_registers();
+    }
 }
 
 static void *own(void *argument) {
@@ -193,8 +226,9 @@ static int print_totals(const struct driver *drivers, uint32_t senders, uint32_t
 }
 
 int main(int argc, char **argv) {
-    const uint32_t senders = argc > 1 ? (uint32_t)strtoul(argv[1], NULL, 0) : 3;
-    const uint32_t batches = argc > 2 ? (uint32_t)strtoul(argv[2], NULL, 0) : 1000;
+    const int messages = argc > 1 && strcmp(argv[1], "messages") == 0;
+    const uint32_t senders = argc > messages + 1 ? (uint32_t)strtoul(argv[messages + 1], NULL, 0) : 3;
+    const uint32_t batches = argc > messages + 2 ? (uint32_t)strtoul(argv[messages + 2], NULL, 0) : 1000;
     static smmuq_sender handles[MOST_SENDERS];
     static struct driver drivers[MOST_SENDERS];
     pthread_t owning, player;
@@ -202,6 +236,7 @@ int main(int argc, char **argv) {
     int right;
     if (senders < 1 || senders > MOST_SENDERS)
         return 2;
+    owner.messages = messages;
     check(smmuq_forwarder_ring_new(RING_LOG2, batches + 1, LOG2, handles, senders, &owner.forwarder), "ring");
     check(smmuq_unit_new(1024, &hardware.unit), "unit");
     pthread_create(&player, NULL, play_hardware, NULL);

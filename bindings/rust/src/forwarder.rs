@@ -160,6 +160,17 @@ impl Forwarder {
         }
     }
 
+    /// Settles what the hardware has consumed by an MSI, with no register read, and returns how many more these are. In place
+    /// of a CMD_SYNC that [`Hardware::write`] gets it may write one with an MSI, whose data is the count of all commands that it
+    /// ever got, with that one, modulo 2^32; `data` is the word that this wrote. What is known already, or wasn't shown, counts
+    /// 0. Errors are found by [`Forwarder::poll`] alone.
+    pub fn poll_msi(&mut self, data: u32) -> Result<u32, Error> {
+        let mut consumed = 0;
+        // SAFETY: a live handle and a live answer.
+        done(unsafe { sys::smmuq_forwarder_poll_msi(self.handle.at(), data, &mut consumed) })?;
+        Ok(consumed)
+    }
+
     /// Acknowledges the error that the last poll found, and returns the command at which the hardware stopped. `Retry`: it
     /// reads that again. `Replace`: a CMD_SYNC takes its place; it has no effect, though its sender is told. `NoError` if the
     /// poll found none; `NotIllegal` and `SyncStays` if the command isn't to be replaced; `BadField` for `Reread`. Nothing is

@@ -234,6 +234,7 @@ unsafe extern "C" {
         remedy: u32,
         acknowledgement: *mut Acknowledgement,
     ) -> u32;
+    pub fn smmuq_forwarder_poll_msi(forwarder: *mut Handle, data: u32, consumed: *mut u32) -> u32;
     pub fn smmuq_forwarder_restart(
         forwarder: *mut Handle,
         gerrorn: u32,

@@ -166,6 +166,20 @@ fn registers_of_no_working_queue_are_believed_by_nobody() -> Result<(), Error> {
 }
 
 #[test]
+fn an_msi_tells_what_is_consumed() -> Result<(), Error> {
+    let (mut sender, mut forwarder) = one_sender()?;
+    let mut hardware = Played::default();
+    sender.send(&Batch::new([CFGI_STE])?, 64)?;
+    assert_eq!(forwarder.forward(&mut hardware)?, Forwarded::Shown(2));
+    assert_eq!(forwarder.poll_msi(0)?, 0);
+    assert_eq!(forwarder.poll_msi(3)?, 0);
+    assert_eq!(sender.done_up_to()?, 0);
+    assert_eq!(forwarder.poll_msi(2)?, 2);
+    assert_eq!(sender.done_up_to()?, 1);
+    Ok(())
+}
+
+#[test]
 fn a_restart_sends_again_what_is_not_consumed() -> Result<(), Error> {
     let (mut sender, mut forwarder) = one_sender()?;
     let mut hardware = Played::default();

@@ -1,1 +1,2 @@
 pub mod WorkedQueues
+pub mod WorkedMessages

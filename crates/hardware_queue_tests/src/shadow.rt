@@ -9,7 +9,7 @@ use hardware_queue::{
 };
 use qindex::Geometry;
 use ring::{Ring, RingFault};
-use shadow_queue::ShadowQueue;
+use shadow_queue::{ShadowQueue, poll_msi};
 use std::process::Abort;
 
 /// The owner of a queue of four slots, whose registers the test reads.
@@ -132,5 +132,24 @@ fn a_broken_queue_is_restarted(rt: HostRuntime) -> Result<(), RingFault> {
     assert!(rt; !sender.is_done(&ring, &receipt));
     look(&rt, &ring, &mut forwarder, 1, 2, Progress::Consumed(1));
     assert!(rt; sender.is_done(&ring, &receipt));
+    Ok(())
+}
+
+#[test]
+fn told_by_an_msi(rt: HostRuntime) -> Result<(), RingFault> {
+    let (ring, mut senders, consumer) = Ring::new(rt.alloc(), 3, 1, 100)?;
+    let sender = senders.pop().expect(&rt, "one sender");
+    let made = Forwarder::new(rt.alloc(), consumer, owner(&rt), 1);
+    let mut forwarder = made.expect(&rt, "memory");
+    let batch = Batch::new(CFGI_STE).expect(&rt, "no CMD_SYNC");
+    let Ok((mut sender, receipt)) = sender.send(&ring, &batch, 1) else {
+        panic!(rt; "the batch is refused");
+    };
+    forward(&rt, &ring, &mut forwarder, Forwarded::Shown(2));
+    assert_eq!(rt; poll_msi(&mut forwarder, &ring, 3), None);
+    assert!(rt; !sender.is_done(&ring, &receipt));
+    assert_eq!(rt; poll_msi(&mut forwarder, &ring, 2), Some(2));
+    assert!(rt; sender.is_done(&ring, &receipt));
+    assert_eq!(rt; poll_msi(&mut forwarder, &ring, 0), None);
     Ok(())
 }

@@ -1,5 +1,5 @@
 -- What is copied out of memory.
-use Rattle.std.proofs.Common.{◌≡◌, ℕ, zero, suc, ◌+◌, ◌-◌, ◌<◌, ◌≤◌, List, [], ◌∷◌, ◌++◌, length, Some, refl, ap, ap₂, sym, subst, ◌∙◌, arith, add-one, append-nil, length-append}
+use Rattle.std.proofs.Common.{◌≡◌, ℕ, zero, suc, ◌+◌, ◌-◌, ◌<◌, ◌≤◌, List, [], ◌∷◌, ◌++◌, length, Some, refl, ap, ap₂, sym, subst, ◌∙◌, arith, add-one, append-nil, length-append, length-drop}
 use Rattle.std.proofs.lemmas.List.{drop_all, drop_more, length-take-le}
 use Rattle.std.proofs.lemmas.Option.{slice_get-get_or, slice_get_within}
 use Rattle.std.specs.Prelude.{slice_get, slice_index_or, Contains, drop, take}
@@ -10,7 +10,8 @@ use Rattle.hardware_queue.specs.declared.forwarded.Forwarded.{Forwarded}
 use Rattle.hardware_queue.specs.declared.forwarded.Forwarded.TheVariants.{Empty, Drained, Unwritten, Full, Shown, Replaced, Broken}
 use Rattle.hardware_queue.specs.Standing.{Stands}
 use Rattle.hardware_queue.specs.Steps.{ForwarderValue, HasForwarded}
-use Rattle.shadow_queue.specs.Placing.{count_shown}
+use Rattle.shadow_queue.specs.declared.placement.Placement.{Placement}
+use Rattle.shadow_queue.specs.Placing.{IsPlaced, count_shown}
 use Rattle.shadow_queue.specs.Shadows.{IsUnlostFrom, IsShadow}
 
 some_same : {A : Type 0} (a b : A) → Some a ≡ Some b → a ≡ b
@@ -21,9 +22,6 @@ in_memory_more g m t zero = ap (λ (p : ℕ). slice_index_or m (place g p) plain
 in_memory_more g m t (suc n) =
     ap (λ (xs : List Raw). slice_index_or m (place g t) plain_sync ∷ xs)
     (in_memory_more g m (suc t) n ∙ ap (λ (p : ℕ). in_memory g m (suc t) n ++ slice_index_or m (place g p) plain_sync ∷ []) (omega arith))
-
-pub one_longer : (old new : List Raw) (x : Raw) {n : ℕ} → new ≡ old ++ x ∷ [] → length old ≡ n → length new ≡ n + 1
-one_longer old new x {n} is long = ap (λ (l : List Raw). length l) is ∙ length-append old (x ∷ []) ∙ ap (λ (k : ℕ). k + 1) long
 
 pub copied_more : (g : ℕ) (m so_far new : List Raw) (t : ℕ) (n slot : ℕ) (d : Raw) → so_far ≡ in_memory g m t n → new ≡ so_far ++ slice_index_or m slot d ∷ [] → slot ≡ place g (t + n) → slot < length m
     → new ≡ in_memory g m t (n + 1)
@@ -50,42 +48,76 @@ drop-append : (xs ys : List Raw) → drop (length xs) (xs ++ ys) ≡ ys
 drop-append [] ys = refl
 drop-append (x ∷ xs) ys = drop-append xs ys
 
--- What is behind what was shown before is what was shown since.
-pub shown_since : (old new since told : List Raw) (count : ℕ) → new ≡ old ++ since → length since ≡ count → told ≡ drop (length new - count) new → new ≡ old ++ told
-shown_since old new since told count is long told_is =
-    let all : length new - count ≡ length old = let l = ap (λ (l : List Raw). length l) is ∙ length-append old since in omega (arith, l, long) in
-    is ∙ ap (λ (l : List Raw). old ++ l) (sym (told_is ∙ ap (λ (k : ℕ). drop k new) all ∙ ap (drop (length old)) is ∙ drop-append old since))
-
 pub own_geometry : (i : IndexValue) (g p : ℕ) → i ≡ index_of g p → i ≡ index_of i.geometry p
 own_geometry i g p is = is ∙ ap (λ (k : ℕ). index_of k p) (sym (ap (λ (j : IndexValue). j.geometry) is))
 
 -- ---- a call of forward
 
-untouched : (q r : QueueValue) (told : List Raw) → r ≡ q → (IsUnlostFrom (length r.shown - 0) r → told ≡ drop (length r.shown - 0) r.shown) → IsUnlostFrom (length q.shown) q → r.shown ≡ q.shown ++ told
-untouched q r told same tells unlost =
-    let all : length r.shown - 0 ≡ length r.shown = omega arith in
-    let none = tells (subst (λ (k : ℕ). IsUnlostFrom k r) (sym all) (subst (λ (x : QueueValue). IsUnlostFrom (length x.shown) x) (sym same) unlost)) in
-    let empty : told ≡ [] = none ∙ drop_all (length r.shown - 0) r.shown (omega (arith, all)) in
-    ap (λ (x : QueueValue). x.shown) same ∙ sym (append-nil q.shown) ∙ ap (λ (l : List Raw). q.shown ++ l) (sym empty)
+as_long : (q r : QueueValue) → r ≡ q → length r.shown ≡ length q.shown + 0
+as_long q r same = let l = ap (λ (x : QueueValue). length x.shown) same in omega (arith, l)
 
-pub told_is_shown : (old new : ForwarderValue QueueValue) (answer : Forwarded) (told : List Raw) → HasForwarded (λ (q : QueueValue). q) old new answer → IsUnlostFrom (length old.owner.queue.shown) old.owner.queue
-    → (IsUnlostFrom (length new.owner.queue.shown - count_shown answer) new.owner.queue → told ≡ drop (length new.owner.queue.shown - count_shown answer) new.owner.queue.shown)
-    → new.owner.queue.shown ≡ old.owner.queue.shown ++ told
-told_is_shown old new Empty told has unlost tells = untouched _ _ told has.untouched tells unlost
-told_is_shown old new Drained told has unlost tells = untouched _ _ told has.untouched tells unlost
-told_is_shown old new Unwritten told has unlost tells = untouched _ _ told has.untouched tells unlost
-told_is_shown old new Full told has unlost tells = untouched _ _ told (ap (λ (f : ForwarderValue QueueValue). f.owner.queue) has.1) tells unlost
-told_is_shown old new (Broken word) told has unlost tells = untouched _ _ told (ap (λ (f : ForwarderValue QueueValue). f.owner.queue) has.1) tells unlost
-told_is_shown old new (Replaced raw) told has unlost tells = untouched _ _ told has.done.untouched tells unlost
-told_is_shown old new (Shown count) told has unlost tells =
+-- So many more were shown as the answer says.
+pub longer : (old new : ForwarderValue QueueValue) (answer : Forwarded) → HasForwarded (λ (q : QueueValue). q) old new answer → length new.owner.queue.shown ≡ length old.owner.queue.shown + count_shown answer
+longer old new Empty has = as_long _ _ has.untouched
+longer old new Drained has = as_long _ _ has.untouched
+longer old new Unwritten has = as_long _ _ has.untouched
+longer old new Full has = as_long _ _ (ap (λ (f : ForwarderValue QueueValue). f.owner.queue) has.1)
+longer old new (Broken word) has = as_long _ _ (ap (λ (f : ForwarderValue QueueValue). f.owner.queue) has.1)
+longer old new (Replaced raw) has = as_long _ _ has.done.untouched
+longer old new (Shown count) has =
+    let done = has.done in
+    let w = done.whole in
+    let l = ap (λ (x : QueueValue). length x.shown) done.pushed.new_is ∙ length-append old.owner.queue.shown (take count done.all) in
+    let long : length (take count done.all) ≡ count = length-take-le count done.all (omega (arith, w)) in
+    omega (arith, l, long)
+
+same_shown : (q r : QueueValue) → r ≡ q → r.shown ≡ q.shown ++ []
+same_shown q r same = ap (λ (x : QueueValue). x.shown) same ∙ sym (append-nil q.shown)
+
+-- What was shown before stands ahead of what was shown since.
+shown_since : (old new : ForwarderValue QueueValue) (answer : Forwarded) → HasForwarded (λ (q : QueueValue). q) old new answer → (since : List Raw) × (new.owner.queue.shown ≡ old.owner.queue.shown ++ since)
+shown_since old new Empty has = ([], same_shown _ _ has.untouched)
+shown_since old new Drained has = ([], same_shown _ _ has.untouched)
+shown_since old new Unwritten has = ([], same_shown _ _ has.untouched)
+shown_since old new Full has = ([], same_shown _ _ (ap (λ (f : ForwarderValue QueueValue). f.owner.queue) has.1))
+shown_since old new (Broken word) has = ([], same_shown _ _ (ap (λ (f : ForwarderValue QueueValue). f.owner.queue) has.1))
+shown_since old new (Replaced raw) has = ([], same_shown _ _ has.done.untouched)
+shown_since old new (Shown count) has = (take count has.done.all, ap (λ (x : QueueValue). x.shown) has.done.pushed.new_is)
+
+pub shown_more : (old new : ForwarderValue QueueValue) (answer : Forwarded) → HasForwarded (λ (q : QueueValue). q) old new answer
+    → new.owner.queue.shown ≡ old.owner.queue.shown ++ drop (length new.owner.queue.shown - count_shown answer) new.owner.queue.shown
+shown_more old new answer has =
     let q : QueueValue = old.owner.queue in
     let r : QueueValue = new.owner.queue in
-    let done = has.done in
-    let pushed = done.pushed in
-    let is : r.shown ≡ q.shown ++ take count done.all = ap (λ (x : QueueValue). x.shown) pushed.new_is in
-    let lost : r.lost ≡ q.lost = ap (λ (x : QueueValue). x.lost) pushed.new_is in
-    let w = done.whole in
-    let long : length (take count done.all) ≡ count = length-take-le count done.all (omega (arith, w)) in
-    let more : length r.shown - count ≡ length q.shown = let l = ap (λ (l : List Raw). length l) is ∙ length-append q.shown (take count done.all) in omega (arith, l, long) in
-    shown_since q.shown r.shown (take count done.all) told count is long
-    (tells (λ p gone. let low = unlost p (subst (λ (l : List ℕ). Contains l p) lost gone) in omega (arith, low, more)))
+    let l = longer old new answer has in
+    let start : length r.shown - count_shown answer ≡ length q.shown = omega (arith, l) in
+    let is = shown_since old new answer has in
+    is.1 ∙ ap (λ (l : List Raw). q.shown ++ l) (sym (ap (λ (k : ℕ). drop k r.shown) start ∙ ap (drop (length q.shown)) is.1 ∙ drop-append q.shown is.0))
+
+-- None of those that were shown since is lost.
+pub unlost_since : (old new : ForwarderValue QueueValue) (answer : Forwarded) → HasForwarded (λ (q : QueueValue). q) old new answer → IsUnlostFrom (length old.owner.queue.shown) old.owner.queue
+    → new.owner.queue.lost ≡ old.owner.queue.lost → IsUnlostFrom (length new.owner.queue.shown - count_shown answer) new.owner.queue
+unlost_since old new answer has unlost lost p gone =
+    let l = longer old new answer has in
+    let low = unlost p (subst (λ (l : List ℕ). Contains l p) lost gone) in
+    omega (arith, l, low)
+
+-- What is told of them.
+pub placed : (old new : ForwarderValue QueueValue) (answer : Forwarded) (before after : List Raw) (told : Placement) → HasForwarded (λ (q : QueueValue). q) old new answer → IsUnlostFrom (length old.owner.queue.shown) old.owner.queue
+    → new.owner.queue.lost ≡ old.owner.queue.lost → told.count ≡ count_shown answer
+    → (IsUnlostFrom (length new.owner.queue.shown - told.count) new.owner.queue → after ≡ drop (length new.owner.queue.shown - told.count) new.owner.queue.shown ++ drop told.count before)
+    → told.slot ≡ place old.owner.queue.geometry (length old.owner.queue.shown) → told.prod ≡ (index_of new.owner.queue.geometry (length new.owner.queue.shown)).number
+    → IsPlaced before after old.owner.queue new.owner.queue told
+placed old new answer before after told has unlost lost count tells slot prod =
+    let r : QueueValue = new.owner.queue in
+    let commands : List Raw = drop (length r.shown - told.count) r.shown in
+    let l = longer old new answer has in
+    let many : told.count ≡ length commands = let d = length-drop (length r.shown - told.count) r.shown in omega (arith, l, count, d) in
+    record {
+      commands = commands;
+      shown = subst (λ (k : ℕ). r.shown ≡ old.owner.queue.shown ++ drop (length r.shown - k) r.shown) (sym count) (shown_more old new answer has);
+      count = many;
+      buffer = tells (subst (λ (k : ℕ). IsUnlostFrom (length r.shown - k) r) (sym count) (unlost_since old new answer has unlost lost)) ∙ ap (λ (k : ℕ). commands ++ drop k before) many;
+      slot = slot;
+      prod = prod;
+    }

@@ -1,2 +1,3 @@
 pub mod Shadowing
 pub mod Copying
+pub mod Counting

@@ -1,2 +1,3 @@
 pub mod Shadows
 pub mod Placing
+pub mod Messages

@@ -1,5 +1,5 @@
 //! A forwarder whose caller writes the queue's memory and registers.
-ghost use Rattle.std.specs.Prelude.{◌≡◌, ℕ, map};
+ghost use Rattle.std.specs.Prelude.{◌≡◌, ◌≤◌, ℕ, length, map};
 ghost use Rattle.ringcore.specs.declared.world.event.Who.TheVariants.{Consumer as ConsumerOf};
 ghost use Rattle.ringcore.specs.world.World.{taken_as};
 ghost use Rattle.ring.specs.table.Histories.{Grew};
@@ -11,15 +11,24 @@ ghost use Rattle.shadow_queue.specs.Placing.{IsPlaced, count_shown};
 
 use crate::placement::Placement;
 use crate::shadow_queue::ShadowQueue;
+use cmdcodec::Raw;
 use hardware_queue::{Forwarded, Forwarder};
 use ring::Ring;
 
-/// Does what `Forwarder::forward` does, and returns beside its answer what the caller has to write: each command into its
-/// slot, and then, behind a write barrier, SMMU_CMDQ_PROD; none but after `Shown`.
-pub fn forward(forwarder: &mut Forwarder<ShadowQueue>, ring: &Ring) -> (Forwarded, Placement)
-    requires { forwarder.old.consumer.consumer.ring ≡ ring.now }
+/// Does what `Forwarder::forward` does, and returns beside its answer what the caller has to write: each command, which it
+/// finds at the beginning of the buffer, into its slot, and then, behind a write barrier, SMMU_CMDQ_PROD; none but after
+/// `Shown`.
+pub fn forward(
+    forwarder: &mut Forwarder<ShadowQueue>,
+    ring: &Ring,
+    buffer: &mut [Raw],
+) -> (Forwarded, Placement)
+    requires ring { forwarder.old.consumer.consumer.ring ≡ ring.now }
+    requires room { 64 ≤ length buffer.old }
     ensures forwarded { HasForwarded (λ q. q) forwarder.old forwarder.new result.0 }
-    ensures placed { IsPlaced forwarder.old.owner.queue forwarder.new.owner.queue result.1 }
+    ensures placed { IsPlaced buffer.old buffer.new
+        forwarder.old.owner.queue forwarder.new.owner.queue result.1 }
+    ensures count { result.1.count ≡ count_shown result.0 }
     ensures broken { (word : ℕ) → forwarder.old.owner.state ≡ Broken word
         → result.0 ≡ Forwarded.Broken word }
     ensures state { forwarder.new.owner.state ≡ forwarder.old.owner.state }
@@ -38,16 +47,9 @@ pub fn forward(forwarder: &mut Forwarder<ShadowQueue>, ring: &Ring) -> (Forwarde
     let slot = forwarder.queue().free_slot();
     let answer = forwarder.forward(ring);
     let count = shown_by(answer);
-    let commands = forwarder.queue().newest(count);
+    forwarder.queue().copy_newest(count, buffer);
     let prod = forwarder.queue().prod();
-    (
-        answer,
-        Placement {
-            commands,
-            slot,
-            prod,
-        },
-    )
+    (answer, Placement { slot, count, prod })
 }
 
 /// Returns how many commands the hardware was shown by this answer.

@@ -3,11 +3,13 @@
 #![tactic(auto)]
 
 mod forwarding;
+mod messages;
 mod newest;
 mod placement;
 mod seen_stop;
 mod shadow_queue;
 
 pub use forwarding::forward;
+pub use messages::poll_msi;
 pub use placement::Placement;
 pub use shadow_queue::ShadowQueue;

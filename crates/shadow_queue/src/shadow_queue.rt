@@ -1,13 +1,14 @@
 //! The copy of a queue.
-ghost use Rattle.std.specs.Prelude.{◌≡◌, ◌+◌, ◌-◌, ◌<◌, ◌≤◌, ◌↔◌, ◌≢◌, ℕ, IsTrue, IfOk, Some, drop, length};
+ghost use Rattle.std.specs.Prelude.{◌≡◌, ◌+◌, ◌-◌, ◌<◌, ◌≤◌, ◌↔◌, ◌≢◌, ◌++◌, ℕ, IsTrue, IfOk, IfSome, IfNone, Some, drop, length};
 ghost use Rattle.qindex.specs.Positions.{place, index_of};
 ghost use Rattle.hardware_queue.specs.Queues.{IsAtStop, IsErrorActive, Stop, newly_consumed, repeated_after};
 ghost use Rattle.hardware_queue.specs.Owners.{IsNew};
 ghost use Rattle.shadow_queue.specs.Shadows.{IsStopWithin, IsUnlostFrom, stop_of};
+ghost use Rattle.shadow_queue.specs.Messages.{IsToldUpTo, AreToldBy};
 
-use crate::newest::copied;
+use crate::newest::copy_from;
 use crate::seen_stop::SeenStop;
-use cmdcodec::{Raw, RawList};
+use cmdcodec::Raw;
 use hardware_queue::{
     CommandError, CommandQueue, Positions, Reading, Reads, RegisterWords, SuppliedQueue, Tape,
     memory_stands, newly_consumed, note_shown,
@@ -16,6 +17,9 @@ use qindex::{Geometry, Index, indexes_tell_place_and_wrap_bit, indexes_tell_the_
 use std::alloc::{AllocError, Global};
 use std::marker::Model;
 use std::snapshot::Snapshot;
+
+/// How many values the data of an MSI has.
+const STRIDE: u64 = 1 << 32;
 
 /// A copy of a queue's memory, and what its owner knows of its registers.
 #[derive(Drop)]
@@ -114,15 +118,15 @@ impl ShadowQueue {
         })
     }
 
-    /// Returns the commands that the hardware was shown last, so many.
-    pub fn newest(&self, count: u32) -> RawList
-        requires few { count ≤ 64 }
+    /// Copies the commands that the hardware was shown last, so many, to the beginning of a buffer.
+    pub fn copy_newest(&self, count: u32, buffer: &mut [Raw])
+        requires room { count ≤ length buffer.old }
         requires shown { self.now.consumed + count ≤ length self.now.shown }
         ensures { IsUnlostFrom (length self.now.shown - count) self.now
-            → result.items ≡ drop (length self.now.shown - count) self.now.shown }
+            → buffer.new ≡ drop (length self.now.shown - count) self.now.shown ++ drop count buffer.old }
     {
         let start = self.cons.forward(self.in_flight() - count);
-        copied(self.memory.as_slice(), start, count)
+        copy_from(self.memory.as_slice(), start, count, buffer);
     }
 
     /// Returns the slot of the command that is shown next.
@@ -137,6 +141,26 @@ impl ShadowQueue {
         ensures { result ≡ (index_of self.now.geometry (length self.now.shown)).number }
     {
         self.prod.get()
+    }
+
+    /// Returns what the registers have, with no error active, once the hardware has consumed what an MSI tells: as many
+    /// commands as `message` says, modulo 2^32. `None` if that is behind what is known to be consumed, or ahead of what
+    /// was shown.
+    pub fn words_told(&self, message: u32) -> Option<RegisterWords>
+        ensures told { IfSome result (AreToldBy message self.now) }
+        ensures untold { IfNone result ((position : ℕ) → ¬ IsToldUpTo position message self.now) }
+    {
+        indexes_tell_the_queue();
+        let known = self.consumed % STRIDE;
+        let count = (u64::from(message) + STRIDE - known) % STRIDE;
+        if count > u64::from(self.in_flight()) {
+            return None;
+        }
+        let cons = self.cons.forward(count as u32).get();
+        Some(RegisterWords {
+            gerror: self.gerrorn,
+            cons,
+        })
     }
 
     /// A witness that what is lost was shown, and what is consumed too. It does nothing.

@@ -75,6 +75,11 @@ static uint32_t poll(struct driver *driver, uint32_t gerror, uint32_t cons) {
     return smmuq_forwarder_poll(&driver->forwarder, gerror, cons, &driver->consumed);
 }
 
+static uint32_t poll_msi(struct driver *driver, uint32_t data) {
+    WANT(smmuq_forwarder_poll_msi(&driver->forwarder, data, &driver->consumed), SMMUQ_OK);
+    return driver->consumed;
+}
+
 static uint32_t acknowledge(struct driver *driver, uint32_t gerrorn, uint32_t remedy) {
     return smmuq_forwarder_acknowledge(&driver->forwarder, gerrorn, remedy, &driver->acknowledgement);
 }
@@ -106,6 +111,8 @@ static void wrong_handles(void) {
     WANT(smmuq_forward(other, driver.run, RUN, &driver.placement), SMMUQ_WRONG_HANDLE);
     WANT(smmuq_forwarder_poll(&empty, 0, 0, &driver.consumed), SMMUQ_EMPTY_HANDLE);
     WANT(smmuq_forwarder_poll(other, 0, 0, &driver.consumed), SMMUQ_WRONG_HANDLE);
+    WANT(smmuq_forwarder_poll_msi(&empty, 0, &driver.consumed), SMMUQ_EMPTY_HANDLE);
+    WANT(smmuq_forwarder_poll_msi(other, 0, &driver.consumed), SMMUQ_WRONG_HANDLE);
     WANT(smmuq_forwarder_acknowledge(&empty, 0, 9, &driver.acknowledgement), SMMUQ_EMPTY_HANDLE);
     WANT(smmuq_forwarder_acknowledge(other, 0, 9, &driver.acknowledgement), SMMUQ_WRONG_HANDLE);
     WANT(smmuq_forwarder_restart(&empty, 0, &driver.restart), SMMUQ_EMPTY_HANDLE);
@@ -251,6 +258,41 @@ static void restarts(void) {
     drop(&driver);
 }
 
+/* What MSIs tell: nothing that is older than what is known, wasn't shown, or lies behind a stop. */
+static void messages(void) {
+    struct driver driver = new_driver();
+    uint32_t batch;
+    WANT(poll_msi(&driver, 0), 0);
+    WANT(poll_msi(&driver, 1), 0);
+    WANT(poll_msi(&driver, 0xffffffff), 0);
+    for (batch = 1; batch <= 6; batch++) {
+        send(&driver, &TLBI);
+        WANT(forward(&driver, RUN), SMMUQ_OK);
+        WANT(poll_msi(&driver, 2 * batch + 1), 0);
+        WANT(done(&driver), batch - 1);
+        WANT(poll_msi(&driver, 2 * batch), 2);
+        WANT(done(&driver), batch);
+        WANT(poll_msi(&driver, 2 * batch), 0);
+        WANT(poll_msi(&driver, 2 * batch - 2), 0);
+        WANT(poll_msi(&driver, 2 * batch - 8), 0); /* the index of a lap ago */
+    }
+    send(&driver, &TLBI);
+    WANT(forward(&driver, RUN), SMMUQ_OK);
+    WANT(poll(&driver, 1, 1u << 24 | 4), SMMUQ_QUEUE_STOPPED);
+    WANT(poll_msi(&driver, 14), 0);
+    WANT(acknowledge(&driver, 0, SMMUQ_RETRY), SMMUQ_OK);
+    WANT(poll_msi(&driver, 14), 2);
+    WANT(done(&driver), 7);
+    send(&driver, &TLBI);
+    WANT(forward(&driver, RUN), SMMUQ_OK);
+    WANT(poll(&driver, 0, 0xffffffff), SMMUQ_QUEUE_BROKEN);
+    WANT(poll_msi(&driver, 16), 0);
+    WANT(restart(&driver, 0), SMMUQ_OK);
+    WANT(poll_msi(&driver, 16), 2);
+    WANT(done(&driver), 8);
+    drop(&driver);
+}
+
 /* A stop that moved before it was acknowledged. */
 static void moved(void) {
     struct driver driver = new_driver();
@@ -274,6 +316,7 @@ int main(void) {
     broken(0, 0xffffffff);  /* a device that is gone */
     broken(1, 1u << 24 | 2); /* an error, and nothing left at which it can be */
     restarts();
+    messages();
     moved();
     printf("hostile_forwarder: all told\n");
     return 0;

@@ -19,6 +19,7 @@ use Rattle.smmuq_c.specs.declared.outcome_calls.OutcomeWords.{OutcomeWords}
 use Rattle.smmuq_c.specs.declared.restarting.RestartWords.{RestartWords}
 use Rattle.smmuq_c.specs.Judging.{HasJudgedFor}
 use Rattle.smmuq_c.specs.Lists.{HasListed}
+use Rattle.smmuq_c.specs.Messages.{HasPolledMessage}
 use Rattle.smmuq_c.specs.Outcomes.{HasToldOutcome}
 use Rattle.smmuq_c.specs.Restarting.{HasRestartedFor}
 use Rattle.smmuq_c.specs.Runs.{HasRunCompletions}
@@ -69,3 +70,6 @@ Restarts gerrorn told = OfForwarder (HasRestartedFor gerrorn told)
 
 abbrev pub TellsOutcome : ℕ → ℕ → OutcomeWords → Object → Object → Status → Type 0
 TellsOutcome sender number told = OfForwarder (HasToldOutcome sender number told)
+
+abbrev pub PollsMessage : ℕ → ℕ → Object → Object → Status → Type 0
+PollsMessage message told = OfForwarder (HasPolledMessage message told)

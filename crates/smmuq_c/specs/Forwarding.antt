@@ -1,5 +1,5 @@
 -- What calls on a forwarder do.
-use Rattle.std.specs.Prelude.{◌≡◌, ℕ, ◌+◌, ◌<◌, ◌≤◌, ◌⊎◌, List, [], ◌∷◌, ◌++◌, length, map, drop, Option, None, Some}
+use Rattle.std.specs.Prelude.{◌≡◌, ℕ, ◌+◌, ◌<◌, ◌≤◌, ◌⊎◌, List, [], ◌∷◌, length, map, drop, Option, None, Some}
 use Rattle.cmdcodec.specs.declared.raw.Raw.{Raw}
 use Rattle.ringcore.specs.world.World.{taken_as}
 use Rattle.ring.specs.consumer.Deferring.{settled_raws}
@@ -45,13 +45,12 @@ forwarded_status (answer.Replaced raw) = status.Replaced
 forwarded_status (answer.Broken word) = status.QueueBroken
 
 abbrev pub placement_words : Placement → PlacementWords
-placement_words p = record { slot = p.slot; count = length p.commands.items; prod = p.prod }
+placement_words p = record { slot = p.slot; count = p.count; prod = p.prod }
 
--- The buffer begins with the commands that the hardware is shown.
+-- The buffer begins with the commands that the hardware is shown, and is told where they go.
 pub record IsToldPlacement (before after : List Raw) (told : PlacementWords) (old new : HeldForwarder) : Type 0 where
   pub placement : Placement
-  pub placed : IsPlaced old.owner.queue new.owner.queue placement
-  pub buffer : after ≡ placement.commands.items ++ drop (length placement.commands.items) before
+  pub placed : IsPlaced before after old.owner.queue new.owner.queue placement
   pub told_is : told ≡ placement_words placement
 
 -- What is told: with an illegal command that was taken the buffer begins.
@@ -60,10 +59,9 @@ IsToldOf (answer.Shown count) before after told old new = IsToldPlacement before
 IsToldOf (answer.Replaced raw) before after told old new = after ≡ raw ∷ drop 1 before
 IsToldOf other before after told old new = after ≡ before
 
--- what is told of an answer
+-- what is told of an answer, where the buffer has the commands
 abbrev pub TellsAnswer : Forwarded → Placement → List Raw → List Raw → PlacementWords → PlacementWords → Type 0
-TellsAnswer (answer.Shown count) p before after old new =
-    (after ≡ p.commands.items ++ drop (length p.commands.items) before) × (new ≡ placement_words p)
+TellsAnswer (answer.Shown count) p before after old new = (after ≡ before) × (new ≡ placement_words p)
 TellsAnswer (answer.Replaced raw) p before after old new = (after ≡ raw ∷ drop 1 before) × (new ≡ old)
 TellsAnswer other p before after old new = (after ≡ before) × (new ≡ old)
 

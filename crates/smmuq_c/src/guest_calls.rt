@@ -1,11 +1,11 @@
 //! The exports of a guest, whose commands a hypervisor sends on.
-ghost use Rattle.std.specs.Prelude.{◌≡◌, ◌≤◌, ◌++◌, length, take, drop, map};
+ghost use Rattle.std.specs.Prelude.{◌≡◌, ◌≤◌, [], length, take, map};
 ghost use Rattle.cmdcodec.specs.Words.{decoding};
 ghost use Rattle.smmu_features.specs.IdRegisters.{smmu_of};
 ghost use Rattle.guest_commands.specs.Configurations.{concerned};
 ghost use Rattle.smmuq_c.specs.Batches.{IsGiven};
 ghost use Rattle.smmuq_c.specs.Calls.{Answers, HasCalled};
-ghost use Rattle.smmuq_c.specs.Guests.{HasAttached, HasConverted, HasDetached, HasMadeGuest, HasToldFor, HasWritten, OfGuest, TellsConcerned, conversion_words, end_number, ill_at, stream_words};
+ghost use Rattle.smmuq_c.specs.Guests.{HasAttached, HasConverted, HasConvertedTo, HasDetached, HasMadeGuest, HasToldFor, HasWritten, OfGuest, TellsConcerned, conversion_words, end_number, ill_at, stream_words};
 ghost use Rattle.smmuq_c.specs.Kept.{CountKept, IsCountKept, IsKept, KeptUnlessDone};
 
 use crate::fields::flag;
@@ -184,24 +184,33 @@ fn convert_for(
     if buffer.len() < MOST_BODY_COMMANDS {
         return Status::ShortBuffer;
     }
-    let commands = first_commands(commands);
-    let conversion = guest.convert_all(commands.as_slice());
-    let made = conversion.commands();
-    buffer[..made.len()].copy_from_slice(made);
-    *converted = Converted::of(&conversion);
+    let mut copy = Body::new();
+    copy_first(commands, &mut copy);
+    give(guest, copy.as_slice(), buffer, converted);
     Status::Done
 }
 
 /// Copies the first commands, 63 at most, each word by a single read. It isn't inlined, so that no read of the copy is made
 /// a second read of the caller's memory.
 #[inline(never)]
-fn first_commands(commands: &[Raw]) -> Body
-    ensures { result.items ≡ take 63 commands.now }
+fn copy_first(commands: &[Raw], copy: &mut Body)
+    requires { copy.old.items ≡ [] }
+    ensures { copy.new.items ≡ take 63 commands.now }
 {
-    let mut copy = Body::new();
     let count = MOST_BODY_COMMANDS.min(commands.len());
     copy.try_extend_from_slice(&commands[..count]).unwrap();
-    copy
+}
+
+/// Gives the host's commands for a beginning of these.
+fn give(guest: &Guest, commands: &[Raw], buffer: &mut [Raw], converted: &mut Converted)
+    requires few { length commands.now ≤ 63 }
+    requires room { 63 ≤ length buffer.old }
+    ensures { HasConvertedTo commands.now buffer.old buffer.new converted.new guest.now }
+{
+    let conversion = &guest.convert_all(commands);
+    let made = conversion.commands();
+    buffer[..made.len()].copy_from_slice(made);
+    *converted = Converted::of(conversion);
 }
 
 impl Converted {

@@ -1,7 +1,8 @@
 //! A forwarder with its share of its ring.
-ghost use Rattle.std.specs.Prelude.{◌≡◌, ◌≤◌, ◌++◌, length, drop};
+ghost use Rattle.std.specs.Prelude.{◌≡◌, ◌≤◌, length};
 ghost use Rattle.std.specs.Arc.{arc_value};
 ghost use Rattle.smmuq_c.specs.Forwarding.{HasForwardedFor, TellsAnswer, HasPolledFor, HasAcknowledgedFor, polled_status, consumed_by, forwarded_status, acknowledgement_words, fault_status};
+ghost use Rattle.smmuq_c.specs.Messages.{HasPolledMessage};
 ghost use Rattle.smmuq_c.specs.Outcomes.{HasToldOutcome};
 ghost use Rattle.smmuq_c.specs.Restarting.{HasRestartedFor};
 ghost use Rattle.smmuq_c.specs.Kept.{IsKept};
@@ -10,13 +11,13 @@ use crate::forwarder_calls::{AcknowledgementWords, PlacementWords};
 use crate::outcome_calls::OutcomeWords;
 use crate::restarting::RestartWords;
 use crate::status::Status;
-use cmdcodec::{Raw, RawList};
+use cmdcodec::Raw;
 use engine::AckFault;
 use hardware_queue::{
     Acknowledgement, Forwarded, Forwarder, Progress, RegisterWords, Remedy, RemedyFault,
 };
 use ring::Ring;
-use shadow_queue::{Placement, ShadowQueue, forward};
+use shadow_queue::{Placement, ShadowQueue, forward, poll_msi};
 use std::marker::Model;
 use std::sync::Arc;
 
@@ -58,8 +59,8 @@ impl SeatedForwarder {
         if buffer.len() < MOST {
             return Status::ShortBuffer;
         }
-        let (answer, placement) = forward(&mut self.forwarder, &self.ring);
-        tell(answer, &placement, buffer, told);
+        let (answer, placement) = forward(&mut self.forwarder, &self.ring, buffer);
+        tell(answer, placement, buffer, told);
         status_of(answer)
     }
 
@@ -70,6 +71,14 @@ impl SeatedForwarder {
         let progress = self.forwarder.poll_words(&self.ring, words);
         *consumed = told_consumed(progress, *consumed);
         polled(progress)
+    }
+
+    /// Polls by the data of an MSI.
+    pub(crate) fn poll_msi(&mut self, message: u32, consumed: &mut u32) -> Status
+        ensures { HasPolledMessage message consumed.new self.old self.new result }
+    {
+        *consumed = poll_msi(&mut self.forwarder, &self.ring, message).unwrap_or(0);
+        Status::Done
     }
 
     /// Acknowledges an error, by SMMU_GERRORN as the caller read it.
@@ -114,33 +123,21 @@ impl SeatedForwarder {
     }
 }
 
-/// Tells what a run was forwarded to, or the illegal command that was taken.
-fn tell(answer: Forwarded, placement: &Placement, buffer: &mut [Raw], told: &mut PlacementWords)
-    requires some { 1 ≤ length buffer.old }
-    requires room { length placement.now.commands.items ≤ length buffer.old }
-    ensures { TellsAnswer answer placement.now buffer.old buffer.new told.old told.new }
+/// Tells where the commands go that the buffer has, or the illegal command that was taken.
+fn tell(answer: Forwarded, placement: Placement, buffer: &mut [Raw], told: &mut PlacementWords)
+    requires { 1 ≤ length buffer.old }
+    ensures { TellsAnswer answer placement buffer.old buffer.new told.old told.new }
 {
     match answer {
         Forwarded::Shown(_) => {
-            copy_to(buffer, &placement.commands);
             *told = PlacementWords {
                 slot: placement.slot,
-                count: placement.commands.len() as u32,
+                count: placement.count,
                 prod: placement.prod,
             };
         }
         Forwarded::Replaced(raw) => buffer[0] = raw,
         _ => {}
-    }
-}
-
-/// Writes the commands to the beginning of a buffer.
-fn copy_to(buffer: &mut [Raw], commands: &RawList)
-    requires { length commands.now.items ≤ length buffer.old }
-    ensures { buffer.new ≡ commands.now.items ++ drop (length commands.now.items) buffer.old }
-{
-    for place in 0..commands.len() {
-        buffer[place] = commands[place];
     }
 }
 
