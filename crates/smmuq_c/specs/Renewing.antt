@@ -1,5 +1,5 @@
 -- What a renewal of a ring does to its engine, and to the handles of its senders.
-use Rattle.std.specs.Prelude.{◌≡◌, ◌≤◌, ℕ, List, Some, None}
+use Rattle.std.specs.Prelude.{◌≡◌, ◌≤◌, ◌⊎◌, ℕ, List, map, Some, None}
 use Rattle.std.specs.FinMap as finite
 use Rattle.ringcore.specs.RingFaults.{number_fault}
 use Rattle.ringcore.specs.world.World.{world, control}
@@ -11,6 +11,7 @@ use Rattle.engine.specs.Engines.{EngineValue}
 use Rattle.renewal.specs.declared.fault.RenewalFault.{RenewalFault}
 use Rattle.renewal.specs.declared.fault.RenewalFault.TheVariants as fault
 use Rattle.renewal.specs.declared.queue.Sizes.{Sizes}
+use Rattle.renewal.specs.declared.queue.Queue.{Queue}
 use Rattle.renewal.specs.Queues.{EngineHasLooked, AreAtOnePlace, SawWaiting}
 use Rattle.renewal.specs.Carried.{IsCarried}
 use Rattle.caches.specs.Limits.{IsCapacity}
@@ -19,9 +20,9 @@ use Rattle.renewal.specs.Renewing.{IsUnmade}
 use Rattle.smmuq_c.specs.declared.status.Status.{Status}
 use Rattle.smmuq_c.specs.declared.status.Status.TheVariants.{Done, Cache, Ring, Waiting, NoMemory}
 use Rattle.smmuq_c.specs.declared.object.Object.{Object}
-use Rattle.smmuq_c.specs.declared.object.Object.TheVariants.{Engine as EngineOf}
+use Rattle.smmuq_c.specs.declared.object.Object.TheVariants.{Engine as EngineOf, Sender as SenderOf}
 use Rattle.smmuq_c.specs.declared.handle.Handle.{Handle}
-use Rattle.smmuq_c.specs.MakingRings.{IsRing, sender_count}
+use Rattle.smmuq_c.specs.MakingRings.{IsRing, objects_in, sender_count}
 
 abbrev pub renewal_status : RenewalFault → Status
 renewal_status fault.Waiting = Waiting
@@ -49,6 +50,12 @@ IsNotRenewed sizes senders old (Cache why) = IsUnmade sizes senders old.unit.cac
 IsNotRenewed sizes senders old NoMemory =
     IsCapacity sizes.capacity × (number_fault sizes.log2 senders sizes.max_batches ≡ None) × (finite.len old.unit.caches.entries ≤ sizes.capacity)
 IsNotRenewed sizes senders old other = ⊥
+
+-- The engine goes on with that of a new queue, whose senders are in the handles; or there is no memory, and all is as before.
+abbrev pub HasGoneOn : Queue → List Handle → List Handle → EngineValue → EngineValue → Status → Type 0
+HasGoneOn queue old_senders senders old new status =
+    ((status ≡ Done) × (new ≡ queue.engine) × (objects_in senders ≡ map Some (map SenderOf queue.senders.items)))
+    ⊎ ((status ≡ NoMemory) × (new ≡ old) × (senders ≡ old_senders))
 
 -- It is renewed; or the engine has looked and goes on, and all handles are as before: a command waits, by that look, or
 -- no new ring was made.

@@ -26,7 +26,7 @@ use hardware_queue::{Forwarder, Owner};
 use qindex::Geometry;
 use ring::{Consumer, Ring, Sender};
 use shadow_queue::ShadowQueue;
-use std::alloc::{AllocError, Global};
+use std::alloc::{AllocError, AllocFailed, Global};
 use std::sync::Arc;
 
 /// What goes into the handles of a ring.
@@ -294,12 +294,32 @@ fn seat_all(
     let mut all = all;
     let mut seats = Vec::new(alloc);
     while let Some(sender) = all.pop() {
-        let own = Arc::try_clone(ring)?;
-        let room = new_room(alloc)?;
-        let seat = Box::new(alloc, Object::Sender(SeatedSender::new(own, sender, room)))?;
+        let seat = seat(alloc, ring, sender)?;
         seats.push(seat)?;
     }
     Ok(seats)
+}
+
+/// Makes a seat for a sender.
+///
+/// It isn't inlined, and drops what has no room as the sender that it is: so it takes a third of the stack.
+#[inline(never)]
+fn seat(alloc: Global, ring: &Arc<Ring>, sender: Sender) -> Result<Box<Object>, AllocError>
+    requires { sender.ring ≡ arc_value ring.now }
+    ensures { IfOk result (λ seat. seat.value ≡ SenderOf sender) }
+{
+    let own = Arc::try_clone(ring)?;
+    let room = new_room(alloc)?;
+    match Box::new(alloc, Object::Sender(SeatedSender::new(own, sender, room))) {
+        Ok(seat) => Ok(seat),
+        Err(AllocFailed {
+            value: Object::Sender(seated),
+        }) => {
+            drop(seated);
+            Err(AllocError)
+        }
+        Err(_) => unreachable!(),
+    }
 }
 
 /// Fills the handles of all seats.

@@ -3,16 +3,16 @@ ghost use Rattle.std.specs.Prelude.{◌≡◌, ◌⊎◌, IfOk, IfErr, OnOk, len
 ghost use Rattle.std.specs.Arc.{arc_value};
 ghost use Rattle.engine.specs.Engines.{IsSettledEngine};
 ghost use Rattle.caches.specs.Covers.{covers};
+ghost use Rattle.caches.specs.Held.{AreOwn};
 ghost use Rattle.caches.specs.Limits.{IsCapacity};
 ghost use Rattle.ring.specs.NewRings.{IsNewRing};
 ghost use Rattle.renewal.specs.Queues.{IsWhole};
 ghost use Rattle.renewal.specs.Carried.{IsCarried};
-ghost use Rattle.renewal.specs.Renewing.{IsUnmade};
 ghost use Rattle.engine.specs.Units.{HasLost, HasLostOlder};
 ghost use Rattle.smmuq_c.specs.Entries.{HasFilled, HasEvicted};
 ghost use Rattle.smmuq_c.specs.Registers.{HasAcknowledged};
 ghost use Rattle.smmuq_c.specs.Runs.{HasRunFor, HasRunCompletions, HasToldRegisters};
-ghost use Rattle.smmuq_c.specs.Renewing.{HasRenewed};
+ghost use Rattle.smmuq_c.specs.Renewing.{HasGoneOn, HasRenewed, IsNotRenewed};
 ghost use Rattle.smmuq_c.specs.Kept.{IsKept};
 
 use crate::answers::{acknowledgement_status, fill_status, tell_entry};
@@ -23,7 +23,7 @@ use crate::words::{Held, RegisterWords, RunWords};
 use caches::{Tag, TagTest};
 use cmdcodec::Command;
 use engine::{Completion, Engine, Remedy, Unit};
-use renewal::{Queue, RenewalFault, Sizes, sees_waiting};
+use renewal::{Queue, Sizes, sees_waiting};
 use ring::Ring;
 use std::alloc::Global;
 use std::marker::Model;
@@ -111,14 +111,25 @@ impl SeatedEngine {
         if sees_waiting(&mut self.engine, &self.ring) {
             return Status::Waiting;
         }
+        match successor(alloc, &self.engine, count_of(senders), sizes) {
+            Ok(queue) => self.go_on(alloc, queue, senders),
+            Err(status) => status,
+        }
+    }
+
+    /// Goes on with a new queue's engine, and fills the handles with its senders.
+    #[inline(never)]
+    fn go_on(&mut self, alloc: Global, queue: Box<Queue>, senders: &mut [Handle]) -> Status
+        requires whole { IsWhole queue.value }
+        requires many { length queue.value.senders.items ≡ length senders.old }
+        ensures gone_on { HasGoneOn queue.value senders.old senders.new self.old self.new result }
+        ensures many { length senders.new ≡ length senders.old }
+    {
         let Queue {
             ring,
             senders: all,
             engine,
-        } = match successor(alloc, &self.engine, count_of(senders), sizes) {
-            Ok(queue) => queue,
-            Err(fault) => return Status::from(fault),
-        };
+        } = Box::into_inner(queue);
         let Ok((ring, seats)) = share(alloc, ring, all) else {
             return Status::NoMemory;
         };
@@ -189,17 +200,29 @@ impl SeatedEngine {
     }
 }
 
-/// Does what `renewal::successor` does. It isn't inlined, so that what it moves is off the stack when the senders are
-/// seated.
+/// Makes what an engine goes on with, in a box. It isn't inlined, so that what it moves is off the stack when the
+/// senders are seated.
 #[inline(never)]
-fn successor(alloc: Global, old: &Engine, senders: u32, sizes: Sizes) -> Result<Queue, RenewalFault>
-    ensures unused { IfOk result (λ q.
-        IsNewRing sizes.log2 senders sizes.max_batches q.ring q.senders.items q.engine.consumer) }
-    ensures entries { IfOk result (λ q. IsCarried sizes.capacity old.now.unit q.engine.unit) }
+fn successor(
+    alloc: Global,
+    old: &Engine,
+    senders: u32,
+    sizes: Sizes,
+) -> Result<Box<Queue>, Status>
+    requires { AreOwn old.now.unit.caches.entries }
+    ensures unused { IfOk result (λ q. IsNewRing sizes.log2 senders sizes.max_batches
+        q.value.ring q.value.senders.items q.value.engine.consumer) }
+    ensures entries { IfOk result (λ q.
+        IsCarried sizes.capacity old.now.unit q.value.engine.unit) }
     ensures sizes { OnOk result (IsCapacity sizes.capacity) }
-    ensures unmade { IfErr result (λ fault.
-        IsUnmade sizes senders old.now.unit.caches.entries fault) }
-    ensures whole { IfOk result IsWhole }
+    ensures whole { IfOk result (λ q. IsWhole q.value) }
+    ensures refused { IfErr result (λ status. IsNotRenewed sizes senders old.now status) }
 {
-    renewal::successor(alloc, old, senders, sizes)
+    match renewal::successor(alloc, old, senders, sizes) {
+        Ok(queue) => match Box::new(alloc, queue) {
+            Ok(queue) => Ok(queue),
+            Err(_) => Err(Status::NoMemory),
+        },
+        Err(fault) => Err(Status::from(fault)),
+    }
 }
