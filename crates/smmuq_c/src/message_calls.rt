@@ -8,9 +8,9 @@ use crate::handle::Handle;
 use crate::object::Object;
 use crate::status::Status;
 
-/// Settles what the hardware has consumed, as `smmuq_forwarder_poll` does, by `message`, the data of an MSI that completed a CMD_SYNC:
-/// how many commands the hardware had been shown with it, modulo 2^32. Tells how many more were consumed: 0, and nothing
-/// changes, if it is older than what is known, or ahead of what was shown.
+/// Settles what the hardware has consumed, as `smmuq_forwarder_poll` does, by `message`, the data of an MSI that
+/// completed a CMD_SYNC: how many commands the hardware had been shown with it, modulo 2^32. Tells how many more were
+/// consumed: 0, and nothing changes, if it is older than what is known, or ahead of what was shown.
 #[unsafe(no_mangle)]
 pub extern "C" fn smmuq_forwarder_poll_msi(
     forwarder: &mut Handle,

@@ -22,7 +22,9 @@ pub extern "C" fn smmuq_renew(
     senders: &mut [Handle],
     engine: &mut Handle,
 ) -> u32
-    ensures renewed { HasCalled (OfEngine (HasRenewed (record { log2 = log2; max_batches = max_batches; capacity = capacity }) senders.old senders.new)) engine.old engine.new result }
+    ensures renewed { HasCalled (OfEngine (HasRenewed
+        (record { log2 = log2; max_batches = max_batches; capacity = capacity })
+        senders.old senders.new)) engine.old engine.new result }
     ensures senders { (result ≡ 0) ⊎ (senders.new ≡ senders.old) }
 {
     let sizes = Sizes {
@@ -37,7 +39,8 @@ pub extern "C" fn smmuq_renew(
 }
 
 fn renew(alloc: Global, object: &mut Object, sizes: Sizes, senders: &mut [Handle]) -> Status
-    ensures renewed { OfEngine (HasRenewed sizes senders.old senders.new) object.old object.new result }
+    ensures renewed { OfEngine (HasRenewed sizes senders.old senders.new)
+        object.old object.new result }
     ensures senders { (result ≡ Status.Done) ⊎ (senders.new ≡ senders.old) }
 {
     match object {

@@ -49,7 +49,8 @@ pub extern "C" fn smmuq_ring_new(
     senders: &mut [Handle],
     engine: &mut Handle,
 ) -> u32
-    ensures { Answers (HasMadeRing log2 max_batches capacity senders.old senders.new engine.old.object engine.new.object) result }
+    ensures { Answers (HasMadeRing log2 max_batches capacity senders.old senders.new
+        engine.old.object engine.new.object) result }
 {
     make_ring(alloc, log2, max_batches, capacity, senders, engine).number()
 }
@@ -62,7 +63,8 @@ fn make_ring(
     senders: &mut [Handle],
     engine: &mut Handle,
 ) -> Status
-    ensures { HasMadeRing log2 max_batches capacity senders.old senders.new engine.old.object engine.new.object result }
+    ensures { HasMadeRing log2 max_batches capacity senders.old senders.new
+        engine.old.object engine.new.object result }
 {
     match engine_seats(alloc, log2, count_of(senders), max_batches, capacity) {
         Ok(seats) => {
@@ -83,7 +85,8 @@ pub extern "C" fn smmuq_consumer_ring_new(
     senders: &mut [Handle],
     consumer: &mut Handle,
 ) -> u32
-    ensures { Answers (HasMadeConsumerRing log2 max_batches senders.old senders.new consumer.old.object consumer.new.object) result }
+    ensures { Answers (HasMadeConsumerRing log2 max_batches senders.old senders.new
+        consumer.old.object consumer.new.object) result }
 {
     make_consumer_ring(alloc, log2, max_batches, senders, consumer).number()
 }
@@ -95,7 +98,8 @@ fn make_consumer_ring(
     senders: &mut [Handle],
     consumer: &mut Handle,
 ) -> Status
-    ensures { HasMadeConsumerRing log2 max_batches senders.old senders.new consumer.old.object consumer.new.object result }
+    ensures { HasMadeConsumerRing log2 max_batches senders.old senders.new
+        consumer.old.object consumer.new.object result }
 {
     match consumer_seats(alloc, log2, count_of(senders), max_batches) {
         Ok(seats) => {
@@ -158,8 +162,10 @@ fn engine_seats(
     max_batches: u32,
     capacity: u32,
 ) -> Result<Seats, Status>
-    ensures made { IfOk result (λ s. AreNewSeats (IsNewEngine capacity) log2 senders max_batches (boxed s.senders.items) s.taker.value) }
-    ensures refused { IfErr result (λ status. IsNoEngineRing log2 senders max_batches capacity status) }
+    ensures made { IfOk result (λ s. AreNewSeats (IsNewEngine capacity) log2 senders max_batches
+        (boxed s.senders.items) s.taker.value) }
+    ensures refused { IfErr result (λ status.
+        IsNoEngineRing log2 senders max_batches capacity status) }
     ensures count { IfOk result (λ s. length s.senders.items ≡ senders) }
     ensures few { OnOk result (senders ≤ most_senders) }
 {
@@ -183,7 +189,8 @@ fn engine_seats(
 
 /// Allocates all that a ring without an engine needs.
 fn consumer_seats(alloc: Global, log2: u32, senders: u32, max_batches: u32) -> Result<Seats, Status>
-    ensures made { IfOk result (λ s. AreNewSeats IsNewConsumer log2 senders max_batches (boxed s.senders.items) s.taker.value) }
+    ensures made { IfOk result (λ s. AreNewSeats IsNewConsumer log2 senders max_batches
+        (boxed s.senders.items) s.taker.value) }
     ensures refused { IfErr result (λ status. IsNoRing log2 senders max_batches status) }
     ensures count { IfOk result (λ s. length s.senders.items ≡ senders) }
     ensures few { OnOk result (senders ≤ most_senders) }
@@ -302,7 +309,7 @@ fn seat_all(
 
 /// Makes a seat for a sender.
 ///
-/// It isn't inlined, and drops what has no room as the sender that it is: so it takes a third of the stack.
+/// It isn't inlined, and a seat that has no room is dropped as the sender that it is: so it takes less stack.
 #[inline(never)]
 fn seat(alloc: Global, ring: &Arc<Ring>, sender: Sender) -> Result<Box<Object>, AllocError>
     requires { sender.ring ≡ arc_value ring.now }
@@ -312,9 +319,11 @@ fn seat(alloc: Global, ring: &Arc<Ring>, sender: Sender) -> Result<Box<Object>, 
     let room = new_room(alloc)?;
     match Box::new(alloc, Object::Sender(SeatedSender::new(own, sender, room))) {
         Ok(seat) => Ok(seat),
-        Err(AllocFailed {
-            value: Object::Sender(seated),
-        }) => {
+        Err(
+            AllocFailed {
+                value: Object::Sender(seated),
+            },
+        ) => {
             drop(seated);
             Err(AllocError)
         }

@@ -203,12 +203,7 @@ impl SeatedEngine {
 /// Makes what an engine goes on with, in a box. It isn't inlined, so that what it moves is off the stack when the
 /// senders are seated.
 #[inline(never)]
-fn successor(
-    alloc: Global,
-    old: &Engine,
-    senders: u32,
-    sizes: Sizes,
-) -> Result<Box<Queue>, Status>
+fn successor(alloc: Global, old: &Engine, senders: u32, sizes: Sizes) -> Result<Box<Queue>, Status>
     requires { AreOwn old.now.unit.caches.entries }
     ensures unused { IfOk result (λ q. IsNewRing sizes.log2 senders sizes.max_batches
         q.value.ring q.value.senders.items q.value.engine.consumer) }
