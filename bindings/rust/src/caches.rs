@@ -1,8 +1,8 @@
 // SPDX-License-Identifier: MIT OR Apache-2.0
 use self::sealed::Inside;
-use crate::error::{done, Error};
-use crate::sys;
-pub use crate::sys::{Held, Registers};
+use crate::error::{done, listed, Error};
+pub use crate::sys::{Held, Registers, Tallies};
+use crate::{sys, Command, Kinds, Space, Spans};
 
 /// A block of 2^`span` pages of 4,096 bytes. The span is 0 to 52, and the address a multiple of the block's size.
 #[derive(Clone, Copy, Debug, PartialEq, Eq)]
@@ -65,7 +65,7 @@ fn scope_of(words: &sys::Tag) -> Scope {
 }
 
 impl Tag {
-    fn words(self) -> sys::Tag {
+    pub(crate) fn words(self) -> sys::Tag {
         let block = match self {
             Tag::StreamTableEntry { .. } | Tag::ContextDescriptor { .. } => Block::page(0),
             Tag::Stage1 { block, .. }
@@ -212,31 +212,94 @@ pub trait Caches: sealed::HasHandle {
         )
     }
 
+    /// Removes all entries of some kinds, and tells how many they were: say at `CachesFull`.
+    fn evict_all(&mut self, kinds: Kinds) -> Result<usize, Error> {
+        let handle = self.handle(Inside(())).at();
+        // SAFETY: a live handle, and a live answer.
+        counted(|count| unsafe { sys::smmuq_evict_all(handle, kinds.mask(), count) })
+    }
+
+    /// Removes all that is held of a stream, as when its device is unplugged: its stream table entry, its context descriptors
+    /// and its endpoint's translations; and tells how many they were.
+    fn evict_stream(&mut self, sid: u32) -> Result<usize, Error> {
+        let handle = self.handle(Inside(())).at();
+        // SAFETY: as above.
+        counted(|count| unsafe { sys::smmuq_evict_stream(handle, sid, count) })
+    }
+
+    /// Removes the stage 1 and stage 2 translations of a VMID, and tells how many they were.
+    fn evict_machine(&mut self, vmid: u16) -> Result<usize, Error> {
+        let handle = self.handle(Inside(())).at();
+        // SAFETY: as above.
+        counted(|count| unsafe { sys::smmuq_evict_machine(handle, vmid.into(), count) })
+    }
+
+    /// Removes what was filled in when fewer than `born` commands had been taken, and tells how many they were.
+    fn evict_older(&mut self, born: u64) -> Result<usize, Error> {
+        let handle = self.handle(Inside(())).at();
+        // SAFETY: as above.
+        counted(|count| unsafe { sys::smmuq_evict_older(handle, born, count) })
+    }
+
+    /// Removes the entries that a legal command covers, without taking it, and tells how many they were. `Illegal`.
+    fn invalidate(&mut self, command: Command) -> Result<usize, Error> {
+        let handle = self.handle(Inside(())).at();
+        // SAFETY: as above.
+        counted(|count| unsafe { sys::smmuq_invalidate(handle, command.lo, command.hi, count) })
+    }
+
+    /// The entries that `invalidate` would remove, in no particular order. `Illegal`, `CachesNoMemory`.
+    fn covered(&mut self, command: Command) -> Result<Vec<(Tag, Held)>, Error> {
+        let handle = self.handle(Inside(())).at();
+        // SAFETY: a live handle, a buffer of the length that is passed, and a live answer.
+        let found: Vec<sys::Entry> = listed(|buffer, length, count| unsafe {
+            sys::smmuq_covered(handle, command.lo, command.hi, buffer, length, count)
+        })?;
+        Ok(entries_of(&found))
+    }
+
+    /// The entry that holds an address: each of the sizes is tried, the largest first, and at each the entry of the space
+    /// before the global one. `BadField` for a span over 52.
+    fn find(
+        &mut self,
+        space: Space,
+        address: u64,
+        spans: Spans,
+    ) -> Result<Option<(Tag, Held)>, Error> {
+        let (kind, owner, of) = space.words();
+        let mut entry = sys::Entry::default();
+        // SAFETY: a live handle, and live answers.
+        let status = unsafe {
+            sys::smmuq_find(
+                self.handle(Inside(())).at(),
+                kind,
+                owner,
+                of,
+                address,
+                spans.mask(),
+                &mut entry.tag,
+                &mut entry.held,
+            )
+        };
+        let held = found(status, entry.held)?;
+        Ok(held.and_then(|held| Some((Tag::of(&entry.tag)?, held))))
+    }
+
     /// How many entries are held.
     fn count(&mut self) -> Result<usize, Error> {
-        let mut count = 0;
+        let handle = self.handle(Inside(())).at();
         // SAFETY: as above.
-        done(unsafe { sys::smmuq_count(self.handle(Inside(())).at(), &mut count) })?;
-        Ok(count)
+        counted(|count| unsafe { sys::smmuq_count(handle, count) })
     }
 
     /// All entries, in the order of their tags. `CachesNoMemory`.
     fn entries(&mut self) -> Result<Vec<(Tag, Held)>, Error> {
-        let mut buffer = vec![sys::Entry::default(); self.count()?];
-        let mut count = 0;
-        // SAFETY: the buffer has the length that is passed.
-        done(unsafe {
-            sys::smmuq_entries(
-                self.handle(Inside(())).at(),
-                buffer.as_mut_ptr(),
-                buffer.len(),
-                &mut count,
-            )
+        let handle = self.handle(Inside(())).at();
+        // SAFETY: a live handle, a buffer of the length that is passed, and a live answer.
+        let found: Vec<sys::Entry> = listed(|buffer, length, count| unsafe {
+            sys::smmuq_entries(handle, buffer, length, count)
         })?;
-        Ok(buffer[..count]
-            .iter()
-            .filter_map(|entry| Some((Tag::of(&entry.tag)?, entry.held)))
-            .collect())
+        Ok(entries_of(&found))
     }
 
     /// Software writes SMMU_GERRORN, of which only bit 0 counts.
@@ -251,6 +314,14 @@ pub trait Caches: sealed::HasHandle {
         }
     }
 
+    /// How many commands were taken, and how many entries they removed.
+    fn tallies(&mut self) -> Result<Tallies, Error> {
+        let (mut errors, mut tallies) = (Registers::default(), Tallies::default());
+        // SAFETY: a live handle, and both answers are live.
+        done(unsafe { sys::smmuq_state(self.handle(Inside(())).at(), &mut errors, &mut tallies) })?;
+        Ok(tallies)
+    }
+
     /// The error registers.
     fn registers(&mut self) -> Result<Registers, Error> {
         let (mut errors, mut tallies) = (Registers::default(), sys::Tallies::default());
@@ -262,7 +333,20 @@ pub trait Caches: sealed::HasHandle {
 
 fn found(status: u32, held: Held) -> Result<Option<Held>, Error> {
     match status {
-        0x65 => Ok(None),
+        sys::NOT_HELD => Ok(None),
         other => done(other).map(|()| Some(held)),
     }
+}
+
+fn counted(call: impl FnOnce(&mut usize) -> u32) -> Result<usize, Error> {
+    let mut count = 0;
+    done(call(&mut count))?;
+    Ok(count)
+}
+
+fn entries_of(found: &[sys::Entry]) -> Vec<(Tag, Held)> {
+    found
+        .iter()
+        .filter_map(|entry| Some((Tag::of(&entry.tag)?, entry.held)))
+        .collect()
 }

@@ -81,6 +81,8 @@ errors! {
     BatchFull = 0x21,
     /// B2: a CMD_SYNC among the commands.
     SyncInside = 0x22,
+    /// B4: bytes past the last one, of 2^64 or at stage 2 of 2^52.
+    PastEnd = 0x24,
     /// B5: no command.
     BatchEmpty = 0x25,
     /// Q1: nothing more is reserved in this ring.
@@ -111,6 +113,8 @@ errors! {
     BadField = 0x62,
     /// There is no memory.
     NoMemory = 0x64,
+    /// The SMMU lacks the stage, the granule or ATS.
+    Unsupported = 0x68,
     /// A reservation of this sender was forgotten (`std::mem::forget`) instead of published.
     OpenReservation = 0x66,
     /// Acknowledge the error first.
@@ -119,6 +123,24 @@ errors! {
     OtherCommand = 0x71,
     /// 2^46 commands were taken.
     Exhausted = 0x72,
+    /// A command that covers the tag was taken since the walk began: walk again.
+    Overtaken = 0x78,
+    /// More than 64 invalidations were taken since the walk began: walk again.
+    TooOld = 0x79,
+    /// The walk isn't one of this unit since its last reset: walk again.
+    OtherWalk = 0x7a,
+    /// No room: end a transaction first, or access memory under the lock.
+    TransactionsFull = 0x7b,
+    /// A reset ended the transaction, or it is of another unit.
+    NotOutstanding = 0x7c,
+    /// V1: the host's SMMU doesn't have this stream.
+    BadStream = 0x81,
+    /// V2: a stream of the guest is it already.
+    StreamInUse = 0x82,
+    /// V3: the guest's stream is 63 of the host's already.
+    TooManyStreams = 0x83,
+    /// V4: there is no memory for another stream.
+    GuestNoMemory = 0x84,
 }
 
 impl fmt::Display for Error {
@@ -155,5 +177,22 @@ pub(crate) fn done(status: u32) -> Result<(), Error> {
     match status {
         0 => Ok(()),
         other => Err(Error::of(other)),
+    }
+}
+
+/// What a call puts into a buffer of any length: it is told too short first, with the count.
+pub(crate) fn listed<T: Clone + Default>(
+    mut call: impl FnMut(*mut T, usize, &mut usize) -> u32,
+) -> Result<Vec<T>, Error> {
+    let (mut buffer, mut count) = (Vec::new(), 0);
+    loop {
+        match call(buffer.as_mut_ptr(), buffer.len(), &mut count) {
+            sys::SHORT_BUFFER => buffer.resize(count, T::default()),
+            status => {
+                done(status)?;
+                buffer.truncate(count);
+                return Ok(buffer);
+            }
+        }
     }
 }

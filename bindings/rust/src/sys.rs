@@ -1,7 +1,8 @@
 // SPDX-License-Identifier: MIT OR Apache-2.0
 //! The types and calls of smmuq.h that are wrapped here. Every handle is one pointer, so one type serves for all of them.
 
-/// `smmuq_handle`, and the `smmuq_unit`, `smmuq_sender`, `smmuq_engine`, `smmuq_consumer` and `smmuq_forwarder` round it.
+/// `smmuq_handle`, and the `smmuq_unit`, `smmuq_sender`, `smmuq_engine`, `smmuq_consumer`, `smmuq_guest` and
+/// `smmuq_forwarder` round it.
 #[repr(C)]
 pub struct Handle {
     at: *mut core::ffi::c_void,
@@ -70,13 +71,87 @@ pub struct Registers {
 
 /// `smmuq_tallies`.
 #[repr(C)]
-#[derive(Default)]
+#[derive(Clone, Copy, Debug, Default, PartialEq, Eq)]
 pub struct Tallies {
+    /// The commands that were applied.
     pub applied: u64,
+    /// Those that were taken without effect.
     pub replaced: u64,
+    /// The CMD_SYNCs among the applied ones.
     pub syncs: u64,
+    /// The entries that commands removed.
     pub removed: u64,
 }
+
+/// `smmuq_reached`.
+#[repr(C)]
+#[derive(Default)]
+pub struct Reached {
+    pub kind: u32,
+    pub sid: u32,
+    pub last_sid: u32,
+    pub substreams: u32,
+    pub ssid: u32,
+    pub vmid: u32,
+    pub asids: u32,
+    pub asid: u32,
+    pub first: u64,
+    pub last: u64,
+}
+
+/// `smmuq_change`.
+#[repr(C)]
+#[derive(Default)]
+pub struct Change {
+    pub kind: u32,
+    pub sid: u32,
+    pub substreams: u32,
+    pub ssid: u32,
+    pub vmid: u32,
+    pub asids: u32,
+    pub asid: u32,
+    pub tg: u32,
+    pub leaf: u32,
+    pub ttl: u32,
+    pub everything: u32,
+    pub most_commands: u32,
+    pub nested: u32,
+    pub unused: u32,
+    pub first: u64,
+    pub length: u64,
+}
+
+/// `smmuq_transactions`.
+#[repr(C)]
+#[derive(Default)]
+pub struct Transactions {
+    pub outstanding: u32,
+    pub covered: u32,
+}
+
+/// `smmuq_guest_stream`.
+#[repr(C)]
+#[derive(Clone, Copy, Default)]
+pub struct GuestStream {
+    pub sid: u32,
+    pub host: u32,
+    pub ats: u32,
+}
+
+/// `smmuq_converted`.
+#[repr(C)]
+#[derive(Default)]
+pub struct Converted {
+    pub taken: u32,
+    pub made: u32,
+    pub ended: u32,
+    pub ill: u32,
+}
+
+/// SMMUQ_SHORT_BUFFER.
+pub const SHORT_BUFFER: u32 = 0x63;
+/// SMMUQ_NOT_HELD.
+pub const NOT_HELD: u32 = 0x65;
 
 /// `smmuq_run_answer`.
 #[repr(C)]
@@ -138,6 +213,19 @@ pub struct BatchOutcome {
 unsafe extern "C" {
     pub fn smmuq_version() -> u32;
     pub fn smmuq_check(lo: u64, hi: u64) -> u32;
+    pub fn smmuq_check_for(idr0: u32, idr1: u32, idr3: u32, idr5: u32, lo: u64, hi: u64) -> u32;
+    pub fn smmuq_region(lo: u64, hi: u64, reached: *mut Reached) -> u32;
+    pub fn smmuq_invalidation(
+        idr0: u32,
+        idr1: u32,
+        idr3: u32,
+        idr5: u32,
+        change: *const Change,
+        buffer: *mut Command,
+        length: usize,
+        count: *mut usize,
+    ) -> u32;
+    pub fn smmuq_detach(sid: u32, buffer: *mut Command, length: usize, count: *mut usize) -> u32;
     pub fn smmuq_text(lo: u64, hi: u64, buffer: *mut u8, length: usize, written: *mut usize)
         -> u32;
     pub fn smmuq_status_text(
@@ -151,10 +239,63 @@ unsafe extern "C" {
     pub fn smmuq_unit_new(capacity: u32, unit: *mut Handle) -> u32;
     pub fn smmuq_unit_judge(unit: *mut Handle, lo: u64, hi: u64, verdict: *mut Verdict) -> u32;
     pub fn smmuq_unit_reset(unit: *mut Handle) -> u32;
+    pub fn smmuq_unit_stop(unit: *mut Handle, err: u32) -> u32;
+    pub fn smmuq_unit_restore(unit: *mut Handle, err: u32, gerror: u32, gerrorn: u32) -> u32;
+
+    pub fn smmuq_unit_new_tracking(
+        number: u32,
+        capacity: u32,
+        transactions: u32,
+        unit: *mut Handle,
+    ) -> u32;
+    pub fn smmuq_begin_walk(unit: *mut Handle, walk: *mut u64) -> u32;
+    pub fn smmuq_begin_outstanding_walk(
+        unit: *mut Handle,
+        walk: *mut u64,
+        transaction: *mut u64,
+    ) -> u32;
+    pub fn smmuq_fill_walked(unit: *mut Handle, walk: u64, tag: *const Tag, value: u64) -> u32;
+    pub fn smmuq_begin(
+        unit: *mut Handle,
+        tag: *const Tag,
+        held: *mut Held,
+        transaction: *mut u64,
+    ) -> u32;
+    pub fn smmuq_begin_walked(
+        unit: *mut Handle,
+        walk: u64,
+        tag: *const Tag,
+        transaction: *mut u64,
+    ) -> u32;
+    pub fn smmuq_end(unit: *mut Handle, transaction: u64, last: *mut u32) -> u32;
+    pub fn smmuq_outstanding(unit: *mut Handle, transactions: *mut Transactions) -> u32;
 
     pub fn smmuq_fill(handle: *mut Handle, tag: *const Tag, value: u64) -> u32;
     pub fn smmuq_lookup(handle: *mut Handle, tag: *const Tag, held: *mut Held) -> u32;
     pub fn smmuq_evict(handle: *mut Handle, tag: *const Tag, held: *mut Held) -> u32;
+    pub fn smmuq_evict_all(handle: *mut Handle, kinds: u32, count: *mut usize) -> u32;
+    pub fn smmuq_evict_stream(handle: *mut Handle, sid: u32, count: *mut usize) -> u32;
+    pub fn smmuq_evict_machine(handle: *mut Handle, vmid: u32, count: *mut usize) -> u32;
+    pub fn smmuq_evict_older(handle: *mut Handle, born: u64, count: *mut usize) -> u32;
+    pub fn smmuq_invalidate(handle: *mut Handle, lo: u64, hi: u64, count: *mut usize) -> u32;
+    pub fn smmuq_covered(
+        handle: *mut Handle,
+        lo: u64,
+        hi: u64,
+        buffer: *mut Entry,
+        length: usize,
+        count: *mut usize,
+    ) -> u32;
+    pub fn smmuq_find(
+        handle: *mut Handle,
+        kind: u32,
+        owner: u32,
+        space: u32,
+        address: u64,
+        spans: u64,
+        tag: *mut Tag,
+        held: *mut Held,
+    ) -> u32;
     pub fn smmuq_count(handle: *mut Handle, count: *mut usize) -> u32;
     pub fn smmuq_entries(
         handle: *mut Handle,
@@ -207,6 +348,33 @@ unsafe extern "C" {
         count: *mut usize,
     ) -> u32;
     pub fn smmuq_complete(consumer: *mut Handle, count: usize) -> u32;
+
+    pub fn smmuq_guest_new(
+        vmid: u32,
+        idr0: u32,
+        idr1: u32,
+        idr3: u32,
+        idr5: u32,
+        guest: *mut Handle,
+    ) -> u32;
+    pub fn smmuq_guest_attach(guest: *mut Handle, sid: u32, host: u32, ats: u32) -> u32;
+    pub fn smmuq_guest_detach(guest: *mut Handle, sid: u32) -> u32;
+    pub fn smmuq_guest_convert(
+        guest: *mut Handle,
+        commands: *const Command,
+        count: usize,
+        buffer: *mut Command,
+        length: usize,
+        converted: *mut Converted,
+    ) -> u32;
+    pub fn smmuq_guest_streams(
+        guest: *mut Handle,
+        lo: u64,
+        hi: u64,
+        buffer: *mut GuestStream,
+        length: usize,
+        count: *mut usize,
+    ) -> u32;
 
     pub fn smmuq_forwarder_ring_new(
         log2: u32,

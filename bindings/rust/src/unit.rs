@@ -13,6 +13,20 @@ pub enum Judged {
     Stopped(Illegal),
     /// It was taken without effect, as software said.
     Replaced(Illegal),
+    /// A CMD_SYNC that has to wait for so many transactions. Nothing changed: it stays in the queue, and comes again once
+    /// [`Unit::end`] told that the last of them is over.
+    Waiting { transactions: u32 },
+}
+
+/// SMMU_CMDQ_CONS.ERR.
+#[derive(Clone, Copy, Debug, PartialEq, Eq)]
+pub enum QueueError {
+    /// CERROR_ILL: an illegal command, as one that the model's ID registers don't have.
+    Illegal = 1,
+    /// CERROR_ABT: the queue couldn't be read.
+    Abort,
+    /// CERROR_ATC_INV_SYNC: an endpoint didn't answer an ATC_INV.
+    AtcInvSync,
 }
 
 /// The caches and the error stop of one SMMU, for a device model that reads the commands from a queue of its own.
@@ -31,7 +45,7 @@ pub enum Judged {
 /// unit.count()?; // it is freed
 /// # Ok::<(), smmuq::Error>(())
 /// ```
-pub struct Unit(Owned);
+pub struct Unit(pub(crate) Owned);
 
 impl sealed::HasHandle for Unit {
     fn handle(&mut self, _: sealed::Inside) -> &mut Owned {
@@ -61,11 +75,27 @@ impl Unit {
                 removed: verdict.removed,
             }),
             (0x76, Some(illegal)) => Ok(Judged::Replaced(illegal)),
+            (0x77, _) => Ok(Judged::Waiting {
+                transactions: verdict.waiting,
+            }),
             (other, _) => match Illegal::of(other) {
                 Some(illegal) => Ok(Judged::Stopped(illegal)),
                 None => Err(Error::of(other)),
             },
         }
+    }
+
+    /// Stops it for an error that the model found itself. `acknowledge` goes on, whatever the remedy. `StillStopped`.
+    pub fn stop(&mut self, error: QueueError) -> Result<(), Error> {
+        // SAFETY: a live handle.
+        done(unsafe { sys::smmuq_unit_stop(self.0.at(), error as u32) })
+    }
+
+    /// For migration: sets CMDQ_ERR of SMMU_GERROR and SMMU_GERRORN, of which only bit 0 counts. If they differ it is stopped
+    /// with that error until `acknowledge`, whatever the remedy. `StillStopped`.
+    pub fn restore(&mut self, error: QueueError, gerror: u32, gerrorn: u32) -> Result<(), Error> {
+        // SAFETY: a live handle.
+        done(unsafe { sys::smmuq_unit_restore(self.0.at(), error as u32, gerror, gerrorn) })
     }
 
     /// Empties the caches, and takes counts, registers and the stop back to the start.

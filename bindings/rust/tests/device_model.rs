@@ -24,6 +24,7 @@ impl Model {
         while let Some(&command) = self.queue.get(self.cons) {
             match self.unit.judge(command)? {
                 Judged::Stopped(illegal) => return Ok(Some(illegal)),
+                Judged::Waiting { .. } => return Ok(None),
                 Judged::Applied { .. } | Judged::Replaced(_) => self.cons += 1,
             }
         }
