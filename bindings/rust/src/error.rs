@@ -95,6 +95,8 @@ errors! {
     BatchTooLong = 0x34,
     /// Q5: no batch left in this ring.
     SenderExhausted = 0x35,
+    /// Q6: a command is reserved that isn't taken yet: take it first.
+    CommandWaits = 0x36,
     /// N1: a log2 that isn't 1 to 19.
     BadSize = 0x41,
     /// N2: not 1 to 256 senders.

@@ -48,7 +48,7 @@ pub use forwarder::{forwarder_ring, Forwarded, Forwarder, Hardware, Outcome, Pol
 pub use guest::{ConversionEnd, Converted, Guest, GuestStream};
 pub use kinds::Kinds;
 pub use region::{Asids, Region, Substreams};
-pub use ring::{ring, Control, Engine, Reservation, Run, Sender};
+pub use ring::{ring, Completion, Control, Engine, QueueRegisters, Reservation, Run, Sender};
 pub use space::{Space, Spans};
 pub use tracking::{Ended, Outstanding, Transaction, Walk};
 pub use unit::{Judged, QueueError, Unit};

@@ -2,7 +2,7 @@
 use crate::caches::{sealed, Caches};
 use crate::error::{done, Error, Illegal};
 use crate::handle::Owned;
-pub use crate::sys::Control;
+pub use crate::sys::{Completion, Control, QueueRegisters};
 use crate::{sys, Batch};
 
 /// A ring of 2^`log2` slots for `senders` threads, each of which may send `max_batches` batches, and an engine whose caches
@@ -55,6 +55,13 @@ impl Sender {
             )
         })?;
         Ok(number)
+    }
+
+    /// The same without a CMD_SYNC, and without a number.
+    pub fn send_bare(&mut self, batch: &Batch, tries: u32) -> Result<(), Error> {
+        let commands = batch.commands();
+        // SAFETY: a live handle, and as many commands as are passed.
+        done(unsafe { sys::smmuq_send_bare(self.0.at(), commands.as_ptr(), commands.len(), tries) })
     }
 
     /// Reserves the slots of the batch and of a CMD_SYNC behind it. Others go on, but commands are taken only up to here until
@@ -185,11 +192,72 @@ impl sealed::HasHandle for Engine {
 impl Caches for Engine {}
 
 impl Engine {
+    /// The most commands that one run takes.
+    pub const MOST: usize = 64;
+
     /// Takes up to `most` commands, clamped to 1 to 64. `Exhausted`.
     pub fn run(&mut self, most: u32) -> Result<Run, Error> {
         let mut answer = sys::RunAnswer::default();
         // SAFETY: a live handle, and a live answer.
         let status = unsafe { sys::smmuq_run(self.0.at(), most, &mut answer) };
+        Run::of(status, &answer)
+    }
+
+    /// The same, and tells the CMD_SYNCs that completed, in order, so that just their senders are woken. `Exhausted`.
+    pub fn run_completions(&mut self, most: u32) -> Result<(Run, Vec<Completion>), Error> {
+        let mut answer = sys::RunAnswer::default();
+        let (mut completions, mut count) = ([Completion::default(); Engine::MOST], 0);
+        // SAFETY: a live handle, a buffer of the length that is passed, and live answers.
+        let status = unsafe {
+            sys::smmuq_run_completions(
+                self.0.at(),
+                most,
+                &mut answer,
+                completions.as_mut_ptr(),
+                completions.len(),
+                &mut count,
+            )
+        };
+        Ok((Run::of(status, &answer)?, completions[..count].to_vec()))
+    }
+
+    /// The queue's registers at this moment.
+    pub fn queue_registers(&mut self) -> Result<QueueRegisters, Error> {
+        let mut told = QueueRegisters::default();
+        // SAFETY: a live handle, and a live answer.
+        done(unsafe { sys::smmuq_registers(self.0.at(), &mut told) })?;
+        Ok(told)
+    }
+
+    /// If nothing waits in its ring, it goes on in a new one, as [`ring`] makes it, whose senders are returned: with the
+    /// entries that it held, each older than whatever comes, and with registers and counts as at the start. In the old ring
+    /// nothing is taken any more: close it first, so that its senders learn of that by `RingClosed`. `CommandWaits`; those of
+    /// `ring`; `CachesFull`, `CachesNoMemory`: then it goes on in the old one.
+    pub fn renew(
+        &mut self,
+        log2: u32,
+        max_batches: u32,
+        senders: usize,
+        capacity: u32,
+    ) -> Result<Vec<Sender>, Error> {
+        let mut handles = Owned::several(senders);
+        // SAFETY: as many handles as are passed, one after another (`Owned` is a handle), and a live one.
+        done(unsafe {
+            sys::smmuq_renew(
+                log2,
+                max_batches,
+                capacity,
+                handles.as_mut_ptr().cast(),
+                handles.len(),
+                self.0.at(),
+            )
+        })?;
+        Ok(handles.into_iter().map(Sender).collect())
+    }
+}
+
+impl Run {
+    fn of(status: u32, answer: &sys::RunAnswer) -> Result<Run, Error> {
         let (count, removed) = (answer.count, answer.removed);
         match (status, Illegal::of(answer.ill)) {
             (0, _) => Ok(Run::Applied { count, removed }),

@@ -162,6 +162,30 @@ pub struct RunAnswer {
     pub ill: u32,
 }
 
+/// `smmuq_completion`.
+#[repr(C)]
+#[derive(Clone, Copy, Debug, Default, PartialEq, Eq)]
+pub struct Completion {
+    /// The sender, by its place among those of the ring, from 0.
+    pub sender: u64,
+    /// The number of its CMD_SYNC.
+    pub number: u64,
+}
+
+/// `smmuq_queue_registers`.
+#[repr(C)]
+#[derive(Clone, Copy, Debug, Default, PartialEq, Eq)]
+pub struct QueueRegisters {
+    /// SMMU_CMDQ_PROD.
+    pub prod: u32,
+    /// SMMU_CMDQ_CONS with ERR.
+    pub cons: u32,
+    /// Bit 0, CMDQ_ERR, of SMMU_GERROR.
+    pub gerror: u32,
+    /// Bit 0, CMDQ_ERR, of SMMU_GERRORN.
+    pub gerrorn: u32,
+}
+
 /// `smmuq_queue_control`.
 #[repr(C)]
 #[derive(Clone, Copy, Debug, Default, PartialEq, Eq)]
@@ -321,6 +345,12 @@ unsafe extern "C" {
         tries: u32,
         number: *mut u32,
     ) -> u32;
+    pub fn smmuq_send_bare(
+        sender: *mut Handle,
+        commands: *const Command,
+        count: usize,
+        tries: u32,
+    ) -> u32;
     pub fn smmuq_reserve(
         sender: *mut Handle,
         commands: *const Command,
@@ -333,6 +363,23 @@ unsafe extern "C" {
     pub fn smmuq_look(sender: *mut Handle, found: *mut Control) -> u32;
     pub fn smmuq_close(sender: *mut Handle) -> u32;
     pub fn smmuq_run(engine: *mut Handle, most: u32, answer: *mut RunAnswer) -> u32;
+    pub fn smmuq_run_completions(
+        engine: *mut Handle,
+        most: u32,
+        answer: *mut RunAnswer,
+        buffer: *mut Completion,
+        length: usize,
+        count: *mut usize,
+    ) -> u32;
+    pub fn smmuq_registers(engine: *mut Handle, told: *mut QueueRegisters) -> u32;
+    pub fn smmuq_renew(
+        log2: u32,
+        max_batches: u32,
+        capacity: u32,
+        senders: *mut Handle,
+        count: usize,
+        engine: *mut Handle,
+    ) -> u32;
 
     pub fn smmuq_consumer_ring_new(
         log2: u32,

@@ -2,7 +2,7 @@
 //! Senders and an engine, a thread each, and an error stop while they run.
 use smmuq::{
     consumer_ring, ring, Acknowledged, Batch, Caches, Command, Completed, Engine, Error, Illegal,
-    Ready, Remedy, Run, Sender,
+    Ready, Remedy, Run, Sender, Tag,
 };
 use std::thread;
 
@@ -184,4 +184,48 @@ fn what_is_out_of_range_is_refused() {
     assert_eq!(Batch::new([CFGI_STE; 64]), Err(Error::BatchFull));
     assert_eq!(Batch::new([Command::SYNC]), Err(Error::SyncInside));
     assert_eq!(Error::RingFull.to_string(), "Q2: too little room");
+}
+
+#[test]
+fn a_run_tells_whose_syncs_completed() -> Result<(), Error> {
+    let (mut senders, mut engine) = ring(4, 10, 2, 64)?;
+    let batch = Batch::new([CFGI_STE])?;
+    senders[1].send(&batch, 1)?;
+    senders[0].send_bare(&batch, 1)?;
+    senders[0].send(&batch, 1)?;
+    let (run, completions) = engine.run_completions(64)?;
+    assert_eq!(
+        run,
+        Run::Applied {
+            count: 5,
+            removed: 0
+        }
+    );
+    let told: Vec<_> = completions
+        .iter()
+        .map(|it| (it.sender, it.number))
+        .collect();
+    assert_eq!(told, [(1, 1), (0, 1)]);
+    let registers = engine.queue_registers()?;
+    assert_eq!((registers.prod, registers.cons), (5, 5));
+    Ok(())
+}
+
+#[test]
+fn a_ring_is_renewed() -> Result<(), Error> {
+    let (mut senders, mut engine) = ring(4, 1, 2, 64)?;
+    let batch = Batch::new([CFGI_STE])?;
+    let entry = Tag::StreamTableEntry { sid: 9 };
+    engine.fill(entry, 1)?;
+    senders[0].send(&batch, 1)?;
+    assert_eq!(engine.renew(4, 1, 2, 64).err(), Some(Error::CommandWaits));
+    senders[0].close()?;
+    engine.run(64)?;
+    let mut renewed = engine.renew(4, 1, 2, 64)?;
+    assert_eq!(senders[1].send(&batch, 1), Err(Error::RingClosed));
+    assert_eq!(renewed[1].send(&batch, 1)?, 1);
+    assert_eq!(engine.lookup(entry)?.map(|held| held.value), Some(1));
+    engine.run(64)?;
+    assert_eq!(renewed[1].done_up_to()?, 1);
+    Ok(())
 }
