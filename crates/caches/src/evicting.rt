@@ -10,6 +10,9 @@ use std::collections::BTreeMap;
 use std::ops::Bound;
 
 /// Finds the first entry with a key from `from` on that passes a test.
+///
+/// Not inlined: who removes what it finds needs no stack for the walk.
+#[inline(never)]
 fn next_passing<T: EntryTest>(
     map: &BTreeMap<Rank, Entry>,
     from: Bound<Rank>,

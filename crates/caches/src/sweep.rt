@@ -22,6 +22,9 @@ struct Covered {
 }
 
 /// Finds the first covered entry with a key from `from` on and below `end`, by a walk along the map.
+///
+/// Not inlined: who removes what it finds needs no stack for the walk.
+#[inline(never)]
 fn next_covered(
     map: &BTreeMap<Rank, Entry>,
     from: Bound<Rank>,

@@ -28,6 +28,9 @@ enum Walked {
 ///
 /// It stops at a block that lies wholly before that page: few others further down reach it, and `sweep_before` knows
 /// where they begin.
+///
+/// Not inlined: who removes what it finds needs no stack for the walk.
+#[inline(never)]
 fn last_covered(
     map: &BTreeMap<Rank, Entry>,
     owner: Owner,
