@@ -16,7 +16,7 @@ use Rattle.engine.specs.declared.queue_unit.QueueError.{QueueError}
 use Rattle.engine.specs.declared.queue_unit.QueueError.TheVariants.{Illegal, Abort, AtcInvSync}
 use Rattle.engine.specs.declared.queue_unit.JudgeFault.{JudgeFault}
 use Rattle.engine.specs.declared.queue_unit.JudgeFault.TheVariants.{StillStopped, OtherCommand, Exhausted}
-use Rattle.engine.specs.Stops.{IsStopped, MayComeNext, told, err_of, command_queue_bit}
+use Rattle.engine.specs.Stops.{IsStopped, MayComeNext, acknowledged_by, err_of, command_queue_bit}
 use Rattle.engine.specs.Counting.{taken}
 use Rattle.engine.specs.Units.{UnitValue, new_unit, HasJudgedWords, HasReplacedAwaited, StaysSettled, took_words, took_awaited}
 
@@ -81,7 +81,7 @@ rereads_by other = false
 abbrev pub acknowledged_with : StopRemedy → QueueUnit → QueueUnit
 acknowledged_with remedy q =
     cond (is_some q.found) (record q { found = None; turned = not q.turned })
-    (record q { unit = record q.unit { stop = told (remedy_until_then remedy) q.unit.stop }; rereads = rereads_by remedy })
+    (record q { unit = record q.unit { stop = acknowledged_by (remedy_until_then remedy) q.unit.stop }; rereads = rereads_by remedy })
 
 -- ---- judging
 

@@ -46,8 +46,8 @@ mode_after Retry = Running
 mode_after Replace = Replacing
 
 -- The error is acknowledged: CMDQ_ERR of GERRORN becomes that of GERROR.
-abbrev pub told : Remedy → StopValue → StopValue
-told remedy s = record s { mode = mode_after remedy; acknowledged = s.error }
+abbrev pub acknowledged_by : Remedy → StopValue → StopValue
+acknowledged_by remedy s = record s { mode = mode_after remedy; acknowledged = s.error }
 
 -- ---- registers
 

@@ -13,7 +13,7 @@ ghost use Rattle.ring.specs.table.Histories.{IsHistory};
 ghost use Rattle.ring.specs.Finishing.{AreAll};
 ghost use Rattle.ring.specs.consumer.Completing.{taken_of};
 ghost use Rattle.engine.specs.Settled.{IsSettled};
-ghost use Rattle.engine.specs.Stops.{IsStopped, IsAcknowledgementAnswer, told, err_of, word_of};
+ghost use Rattle.engine.specs.Stops.{IsStopped, IsAcknowledgementAnswer, acknowledged_by, err_of, word_of};
 ghost use Rattle.engine.specs.Counting.{taken, AreCountsOf};
 ghost use Rattle.engine.specs.Units.{HasLost, HasLostOlder, new_unit, filled, with_entries, OnlyRemoves};
 ghost use Rattle.engine.specs.Engines.{HasGrown, HasStepped, HasRun, HasLooked, IsExhausted, IsSettledEngine, control_after};
@@ -274,7 +274,7 @@ impl Engine {
     /// isn't that of SMMU_GERROR.
     pub fn acknowledge(&mut self, gerrorn: u32, remedy: Remedy) -> Result<(), AckFault>
         ensures answer { IsAcknowledgementAnswer self.old.unit.stop gerrorn result }
-        ensures ok { OnOk result (self.new ≡ record self.old { unit = record self.old.unit { stop = told remedy self.old.unit.stop } }) }
+        ensures ok { OnOk result (self.new ≡ record self.old { unit = record self.old.unit { stop = acknowledged_by remedy self.old.unit.stop } }) }
         ensures err { OnErr result (self.new ≡ self.old) }
         ensures consumer { self.new.consumer ≡ self.old.consumer }
         ensures settled { IsSettledEngine self.new }

@@ -1,7 +1,7 @@
 //! The stop at an illegal command.
 ghost use Rattle.std.specs.Prelude.{◌≡◌, ◌↔◌, IsTrue, OnOk, OnErr, Some};
 ghost use Rattle.cmdcodec.specs.Legality.{first_ill};
-ghost use Rattle.engine.specs.Stops.{unstopped, IsStopped, IsAcknowledgementAnswer, stopped_at, gone_on, told, mode_after, err_of, word_of, IsKept, IsActive};
+ghost use Rattle.engine.specs.Stops.{unstopped, IsStopped, IsAcknowledgementAnswer, stopped_at, gone_on, acknowledged_by, mode_after, err_of, word_of, IsKept, IsActive};
 
 use crate::global_errors::{command_queue_bit, word_of};
 use crate::remedy::{AckFault, Remedy};
@@ -109,7 +109,7 @@ impl Stop {
     /// Software writes SMMU_GERRORN and chooses what happens to the command.
     pub(crate) fn acknowledge(&mut self, gerrorn: u32, remedy: Remedy) -> Result<(), AckFault>
         ensures answer { IsAcknowledgementAnswer self.old gerrorn result }
-        ensures ok { OnOk result (self.new ≡ told remedy self.old) }
+        ensures ok { OnOk result (self.new ≡ acknowledged_by remedy self.old) }
         ensures err { OnErr result (self.new ≡ self.old) }
     {
         if !self.is_stopped() {
@@ -125,7 +125,7 @@ impl Stop {
     /// Acknowledges the error.
     pub(crate) fn go_on_with(&mut self, remedy: Remedy)
         requires stopped { IsStopped self.old.mode }
-        ensures { self.new ≡ told remedy self.old }
+        ensures { self.new ≡ acknowledged_by remedy self.old }
     {
         self.acknowledged = self.error;
         self.mode = Mode::from(remedy);

@@ -13,7 +13,7 @@ ghost use Rattle.caches.specs.Limits.{most_entries};
 ghost use Rattle.caches.specs.Stored.{IsFillAnswer, IsListAnswer};
 ghost use Rattle.caches.specs.Told.{AreTold, IsCoveredIn, only_covered};
 ghost use Rattle.engine.specs.Settled.{IsSettled, StaysSettledWith};
-ghost use Rattle.engine.specs.Stops.{IsStopped, MayComeNext, IsAcknowledgementAnswer, IsActive, told, err_of, word_of};
+ghost use Rattle.engine.specs.Stops.{IsStopped, MayComeNext, IsAcknowledgementAnswer, IsActive, acknowledged_by, err_of, word_of};
 ghost use Rattle.engine.specs.Counting.{taken};
 ghost use Rattle.engine.specs.Units.{HasJudged, HasJudgedWords, HasReplacedAwaited, HasLost, HasLostOlder, StaysSettled, IsSettledUnit, IsLegal, IsApplied, took, took_words, took_awaited, new_unit, emptied, filled, with_entry, with_entries};
 
@@ -240,7 +240,7 @@ impl Unit {
     /// Acknowledges the error with this remedy.
     pub(crate) fn go_on_with(&mut self, remedy: Remedy)
         requires stopped { IsStopped self.old.stop.mode }
-        ensures { self.new ≡ record self.old { stop = told remedy self.old.stop } }
+        ensures { self.new ≡ record self.old { stop = acknowledged_by remedy self.old.stop } }
     {
         self.stop.go_on_with(remedy)
     }
@@ -252,7 +252,7 @@ impl Unit {
     /// isn't that of SMMU_GERROR.
     pub fn acknowledge(&mut self, gerrorn: u32, remedy: Remedy) -> Result<(), AckFault>
         ensures answer { IsAcknowledgementAnswer self.old.stop gerrorn result }
-        ensures ok { OnOk result (self.new ≡ record self.old { stop = told remedy self.old.stop }) }
+        ensures ok { OnOk result (self.new ≡ record self.old { stop = acknowledged_by remedy self.old.stop }) }
         ensures err { OnErr result (self.new ≡ self.old) }
         ensures settled { StaysSettled self.old self.new [] }
     {

@@ -148,7 +148,8 @@ impl ShadowQueue {
     /// was shown.
     pub fn words_told(&self, message: u32) -> Option<RegisterWords>
         ensures told { IfSome result (AreToldBy message self.now) }
-        ensures untold { IfNone result ((position : ℕ) → ¬ IsToldUpTo position message self.now) }
+        ensures untold { IfNone result
+            ((position : ℕ) → ¬ IsToldUpTo position message self.now) }
     {
         indexes_tell_the_queue();
         let known = self.consumed % STRIDE;

@@ -21,7 +21,7 @@ use Rattle.engine.specs.declared.remedy.Remedy.{Remedy}
 use Rattle.engine.specs.declared.remedy.AckFault.{AckFault}
 use Rattle.engine.specs.declared.remedy.AckFault.TheVariants.{NoError, OtherBit}
 use Rattle.engine.specs.Settled.{IsSettled}
-use Rattle.engine.specs.Stops.{IsStopped, IsAcknowledgementAnswer, told, command_queue_bit}
+use Rattle.engine.specs.Stops.{IsStopped, IsAcknowledgementAnswer, acknowledged_by, command_queue_bit}
 use Rattle.engine.specs.Counting.{CountsValue, taken, AreCountsOf}
 use Rattle.engine.specs.Units.{UnitValue, StaysSettled, with_entries, filled as filled_in_unit}
 use Rattle.simulator.specs.queue.{QueueValue}
@@ -58,7 +58,7 @@ after_unit queue consumer old new state same keeps is stands =
 
 -- ---- an acknowledgement
 
-module _ (keeper : KeeperValue) (unit new : UnitValue) (remedy : Remedy) (r : Result ⊤ AckFault) (ok : OnOk r (new ≡ record unit { stop = told remedy unit.stop })) (err : OnErr r (new ≡ unit))
+module _ (keeper : KeeperValue) (unit new : UnitValue) (remedy : Remedy) (r : Result ⊤ AckFault) (ok : OnOk r (new ≡ record unit { stop = acknowledged_by remedy unit.stop })) (err : OnErr r (new ≡ unit))
     (state : State) (s : StandFor keeper unit state) where
   abbrev IsDone : Answered (Result ⊤ AckFault) → Type 0
   IsDone done = (r ≡ done.answer) × StandFor keeper new done.state
@@ -72,7 +72,7 @@ module _ (keeper : KeeperValue) (unit new : UnitValue) (remedy : Remedy) (r : Re
     record {
       ring = s.ring;
       run = s.run;
-      unit_is = subst (λ (q : Result ⊤ AckFault). OnOk q (new ≡ record unit { stop = told remedy unit.stop })) e ok ∙ ap (λ (u : UnitValue). record u { stop = told remedy u.stop }) s.unit_is;
+      unit_is = subst (λ (q : Result ⊤ AckFault). OnOk q (new ≡ record unit { stop = acknowledged_by remedy unit.stop })) e ok ∙ ap (λ (u : UnitValue). record u { stop = acknowledged_by remedy u.stop }) s.unit_is;
     },
   )
     where

@@ -13,7 +13,7 @@ use Rattle.engine.specs.declared.stop.Mode.TheVariants as mode
 use Rattle.engine.specs.declared.remedy.Remedy.{Remedy}
 use Rattle.engine.specs.declared.remedy.AckFault.{AckFault}
 use Rattle.engine.specs.declared.remedy.AckFault.TheVariants.{NoError, OtherBit}
-use Rattle.engine.specs.Stops.{stopped_at, gone_on, told, command_queue_bit}
+use Rattle.engine.specs.Stops.{stopped_at, gone_on, acknowledged_by, command_queue_bit}
 use Rattle.simulator.specs.queue.Heads as head
 use Rattle.simulator.specs.queue.{Head, head_of, head_taken, completed}
 use Rattle.simulator.specs.State.{State, Answered, entries, taken_so_far, removed_from}
@@ -76,7 +76,7 @@ same_bit false b = not b
 abbrev pub acknowledged_if : Bool → Bool → Remedy → State → Answered (Result ⊤ AckFault)
 acknowledged_if false same remedy state = record { answer = Err NoError; state = state }
 acknowledged_if true false remedy state = record { answer = Err OtherBit; state = state }
-acknowledged_if true true remedy state = record { answer = Ok tt; state = record state { stop = told remedy state.stop } }
+acknowledged_if true true remedy state = record { answer = Ok tt; state = record state { stop = acknowledged_by remedy state.stop } }
 
 -- It is refused if no error is active, or if CMDQ_ERR of the word isn't that of SMMU_GERROR.
 unfoldable pub acknowledged : ℕ → Remedy → State → Answered (Result ⊤ AckFault)

@@ -7,7 +7,7 @@ use Rattle.engine.specs.declared.queue_unit.QueueError.{QueueError}
 use Rattle.engine.specs.declared.queue_unit.StopRemedy.{StopRemedy}
 use Rattle.engine.specs.declared.queue_unit.StopRemedy.TheVariants.{Retry, Replace, Reread}
 use Rattle.engine.specs.QueueUnits.{error_number, IsStoppedQueue, OnlyRegistersChanged, queue_err_of, error_bit, acknowledged_bit, IsQueueAcknowledgement, acknowledged_with}
-use Rattle.engine.specs.Stops.{StopValue, IsAcknowledgementAnswer, told, err_of, word_of, command_queue_bit}
+use Rattle.engine.specs.Stops.{StopValue, IsAcknowledgementAnswer, acknowledged_by, err_of, word_of, command_queue_bit}
 use Rattle.engine.specs.Counting.{CountsValue}
 use Rattle.engine.specs.Units.{UnitValue}
 use Rattle.transactions.specs.Tracking.{IsTracked}
@@ -44,7 +44,7 @@ acknowledgement_status (Err fault) = Acknowledgement fault
 pub record HasAcknowledged (gerrorn : ℕ) (remedy : Remedy) (old new : UnitValue) (status : Status) : Type 0 where
   pub answer : Result ⊤ AckFault
   pub answered : IsAcknowledgementAnswer old.stop gerrorn answer
-  pub ok : OnOk answer (new ≡ record old { stop = told remedy old.stop })
+  pub ok : OnOk answer (new ≡ record old { stop = acknowledged_by remedy old.stop })
   pub err : OnErr answer (new ≡ old)
   pub status_is : status ≡ acknowledgement_status answer
 

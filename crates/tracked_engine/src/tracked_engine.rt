@@ -4,7 +4,7 @@ ghost use Rattle.std.specs.Prelude.{IfSome, IsTrue, OnOk, OnErr};
 ghost use Rattle.std.specs.FinMap as finite;
 ghost use Rattle.caches.specs.Covers.{covers};
 ghost use Rattle.caches.specs.Stored.{IsFillAnswer};
-ghost use Rattle.engine.specs.Units.{HasLost};
+ghost use Rattle.engine.specs.Units.{HasLost, HasLostOlder};
 ghost use Rattle.ring.specs.Runs.{raws_by};
 ghost use Rattle.ring.specs.Finishing.{AreAll};
 ghost use Rattle.engine.specs.Completions.{AreToCells};
@@ -27,7 +27,7 @@ ghost use Rattle.tracked_engine.specs.TrackedEngines.{ConsumerWentOn, HasLooked}
 ghost use Rattle.tracked_engine.specs.TrackedEnds.{IsTrackedEnd};
 
 use crate::finished::TrackedFinished;
-use caches::{CacheFault, Entry, Tag};
+use caches::{CacheFault, Entry, Tag, TagTest};
 use cmdcodec::Command;
 use engine::{AckFault, Completion, Counts, Registers, Remedy, RunAnswer, StepAnswer, Unit};
 use ring::{Consumer, Ring, Sender};
@@ -315,6 +315,29 @@ impl TrackedEngine {
         ensures tracked { AreTracked self.new.consumer self.new.tracked }
     {
         self.tracked.invalidate(command)
+    }
+
+    /// Removes all entries whose tags pass `test` and returns how many there were, as
+    /// `TrackedUnit::evict_all` does.
+    pub fn evict_all<T: TagTest>(&mut self, test: &T) -> u32
+        ensures lost { HasLost (T.passing test.now) result self.old.tracked.unit
+            self.new.tracked.unit }
+        ensures rest { self.new.tracked ≡ with_unit self.new.tracked.unit self.old.tracked }
+        ensures consumer { self.new.consumer ≡ self.old.consumer }
+        ensures tracked { AreTracked self.new.consumer self.new.tracked }
+    {
+        self.tracked.evict_all(test)
+    }
+
+    /// Removes all entries that were filled before `born` commands were taken and returns how many
+    /// there were, as `TrackedUnit::evict_older` does.
+    pub fn evict_older(&mut self, born: u64) -> u32
+        ensures lost { HasLostOlder born result self.old.tracked.unit self.new.tracked.unit }
+        ensures rest { self.new.tracked ≡ with_unit self.new.tracked.unit self.old.tracked }
+        ensures consumer { self.new.consumer ≡ self.old.consumer }
+        ensures tracked { AreTracked self.new.consumer self.new.tracked }
+    {
+        self.tracked.evict_older(born)
     }
 }
 

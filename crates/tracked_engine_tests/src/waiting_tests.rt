@@ -3,7 +3,7 @@ ghost use Rattle.std.specs.Prelude.{◌≡◌, []};
 
 use crate::calls::{STE, begin, end, stream};
 use batch::Batch;
-use caches::Caches;
+use caches::{Caches, Kind};
 use engine::StepAnswer;
 use ring::{Receipt, Ring, RingFault, Sender};
 use std::process::Abort;
@@ -118,6 +118,13 @@ fn a_walk_that_a_command_overtakes(rt: HostRuntime) -> Result<(), RingFault> {
     let transaction = begin(&rt, &mut engine, &six);
     expect_applied(&rt, &ring, &mut engine, 0);
     assert!(rt; engine.evict(&six).is_some());
+    assert_eq!(rt; engine.fill(five, 72), Ok(None));
+    assert_eq!(rt; engine.fill(six, 73), Ok(None));
+    assert_eq!(rt; engine.evict_older(2), 0);
+    assert_eq!(rt; engine.evict_older(3), 2);
+    assert_eq!(rt; engine.fill(five, 74), Ok(None));
+    assert_eq!(rt; engine.evict_all(&Kind::Cd), 0);
+    assert_eq!(rt; engine.evict_all(&Kind::Ste), 1);
     assert_eq!(rt; engine.counts().taken(), 2);
     // It is outstanding at the end, and ends on the unit that is left.
     let mut left = finish(&rt, ring, senders, sender, engine);

@@ -5,7 +5,7 @@ use Rattle.engine.specs.Settled.{IsSettled}
 use Rattle.engine.specs.Counting.{taken}
 use Rattle.caches.specs.Stored.{Stored}
 use Rattle.engine.specs.Units.{UnitValue, new_unit, filled, with_entries}
-use Rattle.engine.specs.Stops.{told}
+use Rattle.engine.specs.Stops.{acknowledged_by}
 use Rattle.engine.specs.declared.remedy.Remedy.{Remedy}
 use Rattle.caches.specs.declared.tag.Tag.{Tag}
 use Rattle.std.specs.FinMap as finite
@@ -104,4 +104,4 @@ with_evicted tag t =
 -- the same once software acknowledged an error with a remedy
 abbrev pub with_acknowledged : Remedy → TrackedValue → TrackedValue
 with_acknowledged remedy t =
-    with_unit (record t.unit { stop = told remedy t.unit.stop }) t
+    with_unit (record t.unit { stop = acknowledged_by remedy t.unit.stop }) t

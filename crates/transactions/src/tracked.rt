@@ -13,7 +13,7 @@ ghost use Rattle.caches.specs.Held.{held};
 ghost use Rattle.caches.specs.Stored.{IsFillAnswer};
 ghost use Rattle.engine.specs.Stops.{IsStopped, MayComeNext, IsAcknowledgementAnswer};
 ghost use Rattle.engine.specs.Counting.{taken};
-ghost use Rattle.engine.specs.Units.{HasJudged, HasLost, took};
+ghost use Rattle.engine.specs.Units.{HasJudged, HasLost, HasLostOlder, took};
 ghost use Rattle.transactions.specs.Between.{TakesTracked, IsApplyAnswer};
 ghost use Rattle.transactions.specs.Outstanding.{covered_by, AreCountsOf};
 ghost use Rattle.transactions.specs.Completed.{IsCompletedAt, IsComplete};
@@ -31,7 +31,7 @@ use crate::tracked_verdict::TrackedVerdict;
 use crate::tracking::Tracking;
 use crate::transaction::{BeginFault, Ended, OutstandingCounts, Transaction};
 use crate::walk::{Walk, WalkFault};
-use caches::{CacheFault, Caches, Entry, Tag};
+use caches::{CacheFault, Caches, Entry, Tag, TagTest};
 use cmdcodec::{Command, Raw, first_ill};
 use engine::{AckFault, Remedy, Unit, Verdict};
 use ring::Device;
@@ -294,6 +294,28 @@ impl TrackedUnit {
         ensures together { StaysTogether self.old self.new }
     {
         self.unit.invalidate(command)
+    }
+
+    /// Removes all entries whose tags pass `test` and returns how many there were, as
+    /// `Unit::evict_all` does. Transactions that began with one stay outstanding.
+    pub fn evict_all<T: TagTest>(&mut self, test: &T) -> u32
+        ensures lost { HasLost (T.passing test.now) result self.old.unit self.new.unit }
+        ensures rest { self.new ≡ with_unit self.new.unit self.old }
+        ensures tracked { StaysTracked self.old self.new [] }
+        ensures together { StaysTogether self.old self.new }
+    {
+        self.unit.evict_all(test)
+    }
+
+    /// Removes all entries that were filled before `born` commands were taken and returns how many
+    /// there were, as `Unit::evict_older` does. Transactions that began with one stay outstanding.
+    pub fn evict_older(&mut self, born: u64) -> u32
+        ensures lost { HasLostOlder born result self.old.unit self.new.unit }
+        ensures rest { self.new ≡ with_unit self.new.unit self.old }
+        ensures tracked { StaysTracked self.old self.new [] }
+        ensures together { StaysTogether self.old self.new }
+    {
+        self.unit.evict_older(born)
     }
 
     /// Software writes SMMU_GERRORN and chooses what happens to the command, as

@@ -63,7 +63,7 @@ abbrev pub StandsAt : World → ℕ → Batch → Type 0
 StandsAt w start b =
     (place : ℕ) (item : Item) → slice_get (items b.sender b.number b.body) place ≡ Some item → slice_get w.reserved (start + place) ≡ Some item
 
--- Each batch is in one piece, after all that was reserved before it.
+-- Each batch is in one piece, with no other sender's command between, after all that was reserved before it.
 abbrev pub BatchesAreUnbroken : Run → Type 0
 BatchesAreUnbroken run =
     (ahead behind : List Batch) (b : Batch) → batches run ≡ ahead ++ b ∷ behind → StandsAt (world run) (length (joined ahead)) b

@@ -1,5 +1,5 @@
 use Rattle.std.proofs.Common.{refl, sym, subst}
-use Rattle.engine.specs.Stops.{told}
+use Rattle.engine.specs.Stops.{acknowledged_by}
 use Rattle.simulator.specs.{acknowledged, SimulatorValue, Stands, Does}
 use Rattle.simulator.proofs.UnitCalls.{stays, after_unit, acknowledged_is}
 use Rattle.simulator.proofs.simulator.Simulator.acknowledge.Goals as goal
@@ -14,7 +14,7 @@ invariant_of-self c =
     let is = c.self.invariant in
     let old = c.self.inside.unit in
     after_unit c.self.inside.queue c.self.inside.consumer old c.acknowledge.new.self _
-    (stays c.acknowledge.result old (record old { stop = told c.args.remedy old.stop }) c.acknowledge.new.self refl c.acknowledge.ensures.ok c.acknowledge.ensures.err)
+    (stays c.acknowledge.result old (record old { stop = acknowledged_by c.args.remedy old.stop }) c.acknowledge.new.self refl c.acknowledge.ensures.ok c.acknowledge.ensures.err)
     c.acknowledge.ensures.settled is (done c is.state is.stands).1
 
 pub returns : goal.returns
