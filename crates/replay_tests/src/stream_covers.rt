@@ -127,33 +127,10 @@ applied CFGI_STE_RANGE sid=0 range=31 removed=2",
 }
 
 #[test]
-fn commands_for_two_streams_and_for_all_of_one(rt: HostRuntime) {
+fn commands_for_all_of_one_stream(rt: HostRuntime) {
     expect_transcripts(
         &rt,
-        "# good: a range covers the two streams that differ in their lowest bit
-> ring 4 1 4 8
-ring size 16
-> fill ste 4 1
-filled
-> fill ste 5 2
-filled
-> fill ste 6 3
-filled
-> send 0 04000000050000000000000000000000
-sent 0 number 1
-> step 9
-applied CFGI_STE_RANGE sid=5 range=0 removed=2
-applied CMD_SYNC cs=1 msh=0 attr=0 data=1 addr=0x40000000 removed=0
-empty
-> dump
-prod 0x00000002
-cons 0x00000002
-gerror 0 gerrorn 0
-taken 2 applied 2 replaced 0 syncs 1 removed 2
-entry ste sid=6 value=3 born=0
-end
-
-# good: a page of one address space, and all that is cached for a stream
+        "# good: a page of one address space, and all that is cached for a stream
 > ring 3 1 4 9
 ring size 8
 > fill s1 1 2 0x10 0 1

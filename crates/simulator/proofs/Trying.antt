@@ -1,8 +1,8 @@
 -- What a try by the sender of the ring comes to, by the run that it left.
-use Rattle.std.proofs.Common.{◌≡◌, refl, ap, sym, ◌∙◌, subst, arith, eq-eqb, ℕ, suc, ◌+◌, ◌<◌, ◌≤◌, Bool, true, false, cond, List, [], ◌∷◌, ◌++◌, length, Option, Some, None, Result, Ok}
+use Rattle.std.proofs.Common.{◌≡◌, refl, ap, ap₂, append_assoc, sym, ◌∙◌, subst, arith, eq-eqb, ℕ, suc, ◌+◌, ◌<◌, ◌≤◌, Bool, true, false, cond, List, [], ◌∷◌, ◌++◌, length, Option, Some, None, Result, Ok, Err}
 use Rattle.std.specs.Prelude.{nat_lt}
 use Rattle.std.proofs.lemmas.Bool.{lt-leb, lt-ltb, le-leb}
-use Rattle.ring.specs.Runs.{Raw, Control, Sender, Look, Won, Lost, Trail, Run, trail_of, batches_made, start_index, World, tail, head, world, Ring, IsRun, length_with, NeverMoreThanFull}
+use Rattle.ring.specs.Runs.{Raw, Control, Event, control, Sender, Look, Won, Lost, Trail, Run, trail_of, batches_made, start_index, World, tail, head, world, Ring, IsRun, length_with, NeverMoreThanFull}
 use Rattle.qindex.specs.Positions.{size, index_of}
 use Rattle.qindex.specs.Indexes.{IsGeometry, distance}
 use Rattle.qindex.specs.Laws.{IndexesTellTheQueue}
@@ -15,9 +15,10 @@ use Rattle.ring.specs.declared.sender.cause.Cause.{Cause}
 use Rattle.ring.specs.declared.sender.cause.Cause.TheVariants.{TooLong, Exhausted, Closed, Full, Contended}
 use Rattle.ring.specs.sender.Senders.{SenderValue}
 use Rattle.ring.specs.sender.Reservations.{ReservationValue, reserved_number, number_when}
+use Rattle.ring.specs.sender.Publishing.{handing_over}
 use Rattle.ring.specs.sender.Reserving.{IsReserved, IsRefused}
 use Rattle.simulator.specs.declared.queue.reserved.Reserved.{Reserved}
-use Rattle.simulator.specs.queue.{looked_by, cause_ahead, cause_seen, Try, refused_for, won, unless_seen, unless_ahead, try_to_reserve, tried_by, IsTriedWell, IsTriedInVain}
+use Rattle.simulator.specs.queue.{looked_by, cause_ahead, cause_seen, Try, refused_for, won, unless_seen, unless_ahead, try_to_reserve, tried_by, Ran, handed_over, published, sent_by, IsTriedWell, IsTriedInVain}
 use Rattle.simulator.proofs.SeatLemmas.{IsCall, last_is, some_is}
 use Rattle.simulator.proofs.Looks.{behind, closed_is, far_is}
 
@@ -141,25 +142,26 @@ module _ (tells : IndexesTellTheQueue) (within : NeverMoreThanFull) (old new : K
           seat = record { sender_is = sender_is; idle = idle };
         }
 
-  module _ (r : ReservationValue) (call : IsCall s r.trail old new) (is : IsReserved body closes (own_sender s old) r) where
+  module _ (r : ReservationValue) (is : IsReserved body closes (own_sender s old) r) where
     abbrev number : Option ℕ
     number = next_number mine closes
 
     won_is : r.trail ≡ Won body number ∷ Look is.seen ∷ mine
     won_is = ap (λ (q : ReservationValue). q.trail) is.won.trail_is ∙ ap (λ (u : SenderValue). let y : Trail = Won body (next_number u.trail closes) ∷ u.trail in y) is.looked.trail_is
 
+    all_is : IsGeometry made.geometry → IsRun made ((Sender s, Look is.seen) ∷ old.run) → Comes (won made s body closes old.run (looked_by (Sender s) made.geometry old.run))
+    all_is geometry_is looks = has_looked None is.fits is.left (sees_room geometry_is is.seen looks is.room.unclosed is.room.room)
+
+  module _ (r : ReservationValue) (call : IsCall s r.trail old new) (is : IsReserved body closes (own_sender s old) r) where
     looks : IsRun made ((Sender s, Look is.seen) ∷ old.run)
-    looks = (allowed r.trail call (Won body number ∷ Look is.seen ∷ []) won_is).0
+    looks = (allowed r.trail call (Won body (number r is) ∷ Look is.seen ∷ []) (won_is r is)).0
 
-    won_trail : trail_of (Sender s) new.run ≡ Won body number ∷ Look is.seen ∷ mine
-    won_trail = (call.adds (Won body number ∷ Look is.seen ∷ []) won_is).trail_is
-
-    all_is : Comes (won made s body closes old.run (looked_by (Sender s) made.geometry old.run))
-    all_is = has_looked None is.fits is.left (sees_room call.stands.after.geometry_is is.seen looks is.room.unclosed is.room.room)
+    won_trail : trail_of (Sender s) new.run ≡ Won body (number r is) ∷ Look is.seen ∷ mine
+    won_trail = (call.adds (Won body (number r is) ∷ Look is.seen ∷ []) (won_is r is)).trail_is
 
     -- The first slot is that of the tail.
     answers : (idle : IdleReservationValue) → idle.tally.sender ≡ s → IsIdleReservation new body idle
-        → (idle.start ≡ index_of made.geometry (tail w)) × (number_when idle.closes idle.tally.numbers ≡ number)
+        → (idle.start ≡ index_of made.geometry (tail w)) × (number_when idle.closes idle.tally.numbers ≡ number r is)
     answers idle sender_is there = (
       there.start_is ∙ (λ k. start_index (call.back.ring_is k).made_with.geometry (trail_of (Sender (sender_is k)) new.run)) ∙ ap (start_index made.geometry) won_trail ∙ ap (λ (c : Control). c.prod) looks.1,
       last_is new s body idle sender_is there ∙ ap reserved_number won_trail,
@@ -171,9 +173,9 @@ module _ (tells : IndexesTellTheQueue) (within : NeverMoreThanFull) (old new : K
       let own : IsReserved body closes (own_sender s old) r = subst (λ (u : SenderValue). IsReserved body closes u r) lent_is is in
       let opened = own.won.trail_is in
       let now : IsIdleReservation new body idle = subst (λ (b : List Raw). IsIdleReservation new b idle) (ap (λ (q : ReservationValue). q.body) opened) there in
-      let all = all_is r call own in
+      let all = all_is r own call.stands.after.geometry_is (looks r call own) in
       let told = answers r call own idle sender_is now in record {
-        run_is = ran r.trail call (Won body (next_number mine closes) ∷ Look own.seen ∷ []) (won_is r call own)
+        run_is = ran r.trail call (Won body (next_number mine closes) ∷ Look own.seen ∷ []) (won_is r own)
             ∙ (λ k. let q : Run = (Sender s, Won body (next_number mine closes)) ∷ (Sender s, Look ((looks r call own).1 k)) ∷ old.run in q) ∙ ap (λ (q : Try). q.run) (sym all);
         answer_is = ap (λ (q : Try). q.answer) all ∙ (λ k. let q : Result Reserved Cause = Ok (record { first = sym told.0 k; number = sym told.1 k }) in q);
         closes_is = left.closes_is ∙ ap (λ (q : ReservationValue). q.closes) opened;
@@ -184,3 +186,57 @@ module _ (tells : IndexesTellTheQueue) (within : NeverMoreThanFull) (old new : K
           unflipped = left.flipped_is ∙ ap (λ (q : ReservationValue). q.flipped) opened;
         };
       }
+
+  -- The steps before some others of a run that is allowed are allowed.
+  earlier : (more : Trail) (run : Run) → IsRun made (run_by (Sender s) more ++ run) → IsRun made run
+  earlier [] run is = is
+  earlier (e ∷ more) run is = earlier more run is.0
+
+  run_by_both : (more less : Trail) (run : Run) → run_by (Sender s) (more ++ less) ++ run ≡ run_by (Sender s) more ++ (run_by (Sender s) less ++ run)
+  run_by_both [] less run = refl
+  run_by_both (e ∷ more) less run = ap (λ q. (Sender s, e) ∷ q) (run_by_both more less run)
+
+  -- its own newest event
+  own_event : (e : Event) (run : Run) → trail_of (Sender s) ((Sender s, e) ∷ run) ≡ e ∷ trail_of (Sender s) run
+  own_event e run = ap (λ own. cond own (e ∷ trail_of (Sender s) run) (trail_of (Sender s) run)) (eq-eqb s s refl)
+
+  -- What is reserved is handed over before the seat is back.
+  module _ (r : ReservationValue) (is : IsReserved body closes lent r) (t : SenderValue) (call : IsCall s t.trail old new) (handed : t.trail ≡ handing_over made.geometry r.trail 0 0 ++ r.trail) where
+    own : IsReserved body closes (own_sender s old) r
+    own = subst (λ (u : SenderValue). IsReserved body closes u r) lent_is is
+
+    abbrev reserving : Trail
+    reserving = Won body (number r own) ∷ Look own.seen ∷ []
+
+    abbrev handing : Trail
+    handing = handing_over made.geometry r.trail 0 0
+
+    ran_is : new.run ≡ run_by (Sender s) handing ++ (run_by (Sender s) reserving ++ old.run)
+    ran_is = ran t.trail call (handing ++ reserving) (handed ∙ ap (λ x. handing ++ x) (won_is r own) ∙ sym (append_assoc handing reserving mine)) ∙ run_by_both handing reserving old.run
+
+    looks_ahead : IsRun made ((Sender s, Look own.seen) ∷ old.run)
+    looks_ahead = (earlier handing (run_by (Sender s) reserving ++ old.run) (subst (IsRun made) ran_is call.stands.after.run_is)).0
+
+    abbrev reserved_run : Run
+    reserved_run = (Sender s, Won body (number r own)) ∷ looked_by (Sender s) made.geometry old.run
+
+    reserves : run_by (Sender s) reserving ++ old.run ≡ reserved_run
+    reserves = λ k. let q : Run = (Sender s, Won body (number r own)) ∷ (Sender s, Look (looks_ahead.1 k)) ∷ old.run in q
+
+    trail_is : trail_of (Sender s) reserved_run ≡ r.trail
+    trail_is =
+        own_event (Won body (number r own)) (looked_by (Sender s) made.geometry old.run)
+        ∙ ap (λ x. Won body (number r own) ∷ x) (own_event (Look (control made.geometry w)) old.run ∙ (λ k. let x : Trail = Look (sym looks_ahead.1 k) ∷ mine in x))
+        ∙ sym (won_is r own)
+
+    pub sent_well : sent_by made s body closes old.run ≡ record { answer = Ok (reserved_number r.trail); run = new.run }
+    unfolding published
+    sent_well =
+        let told : (x : Trail) (run : Run) → Ran (Result (Option ℕ) Cause) = λ x run. record { answer = Ok (reserved_number x); run = run } in
+        ap (λ (q : Try). handed_over made s q.answer q.run) (all_is r own call.stands.after.geometry_is looks_ahead)
+        ∙ ap (λ x. told x (run_by (Sender s) (handing_over made.geometry x 0 0) ++ reserved_run)) trail_is
+        ∙ ap (told r.trail) (ap (λ q. run_by (Sender s) handing ++ q) (sym reserves) ∙ sym ran_is)
+
+  -- What is refused is sent in vain.
+  pub sent_in_vain : (tally : Tally) (cause : Cause) → IsTriedInVain old new s body closes tally cause → sent_by made s body closes old.run ≡ record { answer = Err cause; run = new.run }
+  sent_in_vain tally cause is = ap₂ (λ answer run. handed_over made s answer run) is.answer_is (sym is.run_is)

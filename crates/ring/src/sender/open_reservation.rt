@@ -4,7 +4,7 @@ ghost use Rattle.qindex.specs.Positions.{size};
 ghost use Rattle.ring.specs.Runs.{reserved_length, IsSettled};
 ghost use Rattle.ringcore.specs.memory.StepLaws.{reserved_commands};
 ghost use Rattle.ring.specs.sender.GoingOn.{ReservationGrew, GrewHandingOver};
-ghost use Rattle.ring.specs.sender.Reservations.{IsWrittenUpTo, IsFlippedUpTo, IsReceiptOf};
+ghost use Rattle.ring.specs.sender.Reservations.{IsWrittenUpTo, IsFlippedUpTo, IsReceiptOf, reserved_number};
 ghost use Rattle.ring.specs.sender.Publishing.{wrote_one, flipped_one, flipped_left, published, sender_of, ReservesNone};
 
 use crate::ring::Ring;
@@ -146,6 +146,17 @@ impl<'b, K: BatchKind> OpenReservation<'b, K> {
             kind: _,
         } = self;
         Sender { port, tally }
+    }
+
+    /// Returns the number of its batch, or `None` if no CMD_SYNC closes it.
+    pub fn number(&self) -> Option<u32>
+        ensures { result ≡ reserved_number self.now.trail }
+    {
+        if K::closes() {
+            Some(self.tally.numbers)
+        } else {
+            None
+        }
     }
 
     /// Returns how many slots it has.

@@ -1,0 +1,85 @@
+use Rattle.std.proofs.Common.{◌≡◌, ℕ, [], ◌++◌, ap, ap₂, ◌∙◌, sym, Option, Result, Ok, Err}
+use Rattle.ring.specs.Runs.{Run}
+use Rattle.ring.specs.declared.sender.cause.Cause.{Cause}
+use Rattle.ring.specs.sender.Senders.{SenderValue}
+use Rattle.ring.specs.sender.Reservations.{ReservationValue, reserved_number}
+use Rattle.ring.specs.sender.Publishing.{handing_over}
+use Rattle.simulator.specs.queue.{Ran, IsTriedInVain, sent_by}
+use Rattle.simulator.proofs.SeatLemmas.{IsCall, is_call}
+use Rattle.simulator.proofs.Trying.{in_vain, sent_well, sent_in_vain}
+use Rattle.simulator.proofs.queue.sending.send_as.Given.{Over}
+use Rattle.simulator.proofs.queue.sending.send_as.Goals as goal
+
+abbrev Sent : Type 0
+Sent = Ran (Result (Option ℕ) Cause)
+
+-- ---- it is reserved and handed over
+
+reserved_his : (g : Over) (c : goal.After-run_stands g) → c.in-Ok.reservation.sender ≡ c.args.idle.sender
+reserved_his g c = c.in-Ok.ensures.opened.number_is ∙ ap (λ (u : SenderValue). u.number) c.lend_sender-sender.ensures.sender
+
+its_own : (g : Over) (c : goal.After-run_stands g) → c.hand_over-sender.result.number ≡ c.args.idle.sender
+its_own g c = c.hand_over-sender.ensures.id ∙ reserved_his g c
+
+known : (g : Over) (c : goal.After-run_stands g) → IsCall c.args.idle.sender c.hand_over-sender.result.trail c.args.keeper.now c.take_sender-idle.new.self
+known g c = is_call c.args.idle.sender c.hand_over-sender.result.number c.hand_over-sender.result.trail c.args.keeper.now c.lend_sender-sender.new.self c.take_sender-idle.new.self
+    c.lend_sender-sender.ensures.keeper (its_own g c) c.take_sender-idle.ensures.keeper c.take_sender-idle.ensures.adds c.run_stands.ensures c.take_sender-idle.ensures.others
+
+-- From nothing written on, all of it is.
+handed : (g : Over) (c : goal.After-run_stands g)
+    → c.hand_over-sender.result.trail ≡ handing_over c.args.keeper.now.ring.made_with.geometry c.in-Ok.reservation.trail 0 0 ++ c.in-Ok.reservation.trail
+handed g c =
+    let opened = c.in-Ok.ensures.reserved.won.trail_is in
+    let r = c.in-Ok.reservation in
+    ap (λ (t : SenderValue). t.trail) c.hand_over-sender.ensures.sender
+    ∙ ap₂ (λ (w f : ℕ). handing_over r.ring.made_with.geometry r.trail w f ++ r.trail) (ap (λ (q : ReservationValue). q.written) opened) (ap (λ (q : ReservationValue). q.flipped) opened)
+    ∙ ap (λ ring. handing_over ring.made_with.geometry r.trail 0 0 ++ r.trail) (c.in-Ok.ensures.opened.ring_is ∙ ap (λ (u : SenderValue). u.ring) c.lend_sender-sender.ensures.sender)
+
+sent : (g : Over) (c : goal.After-run_stands g)
+    → sent_by c.args.keeper.now.ring.made_with c.args.idle.sender c.args.batch g.K.BatchKind.closes c.args.keeper.now.run ≡ record { answer = Ok (reserved_number c.in-Ok.reservation.trail); run = c.take_sender-idle.new.self.run }
+sent g c = sent_well c.indexes_tell_the_queue.ensures.queue c.world_law.ensures.within c.args.keeper.now c.take_sender-idle.new.self c.args.idle.sender c.args.batch g.K.BatchKind.closes
+    c.lend_sender-sender.result c.lend_sender-sender.ensures.sender c.in-Ok.reservation c.in-Ok.ensures.reserved c.hand_over-sender.result (known g c) (handed g c)
+
+pub returns-in-Ok-clause-run : goal.returns-in-Ok-clause-run
+returns-in-Ok-clause-run g c = ap (λ (sent : Sent). sent.run) (sym (sent g c))
+
+pub returns-in-Ok-clause-answer : goal.returns-in-Ok-clause-answer
+returns-in-Ok-clause-answer g c = ap Ok c.number-number.ensures ∙ ap (λ (sent : Sent). sent.answer) (sym (sent g c))
+
+pub returns-in-Ok-clause-back : goal.returns-in-Ok-clause-back
+returns-in-Ok-clause-back g c = (known g c).back
+
+pub returns-in-Ok-clause-seat : goal.returns-in-Ok-clause-seat
+returns-in-Ok-clause-seat g c = record { sender_is = c.take_sender-idle.ensures.number ∙ its_own g c; idle = c.take_sender-idle.ensures.idle }
+
+-- ---- it is refused
+
+still_its_own : (g : Over) (c : goal.After-run_stands-in-Err g) → c.in-Err.refused.sender.number ≡ c.args.idle.sender
+still_its_own g c = c.in-Err.ensures.given_back.number_is ∙ ap (λ (u : SenderValue). u.number) c.lend_sender-sender.ensures.sender
+
+known_refused : (g : Over) (c : goal.After-run_stands-in-Err g) → IsCall c.args.idle.sender c.in-Err.refused.sender.trail c.args.keeper.now c.take_sender-idle-in-Err.new.self
+known_refused g c = is_call c.args.idle.sender c.in-Err.refused.sender.number c.in-Err.refused.sender.trail c.args.keeper.now c.lend_sender-sender.new.self c.take_sender-idle-in-Err.new.self
+    c.lend_sender-sender.ensures.keeper (still_its_own g c) c.take_sender-idle-in-Err.ensures.keeper c.take_sender-idle-in-Err.ensures.adds c.run_stands-in-Err.ensures c.take_sender-idle-in-Err.ensures.others
+
+tried : (g : Over) (c : goal.After-run_stands-in-Err g)
+    → IsTriedInVain c.args.keeper.now c.take_sender-idle-in-Err.new.self c.args.idle.sender c.args.batch g.K.BatchKind.closes c.take_sender-idle-in-Err.result c.in-Err.refused.cause
+tried g c = in_vain c.indexes_tell_the_queue.ensures.queue c.world_law.ensures.within c.args.keeper.now c.take_sender-idle-in-Err.new.self c.args.idle.sender c.args.batch g.K.BatchKind.closes
+    c.lend_sender-sender.result c.lend_sender-sender.ensures.sender c.in-Err.refused.sender (known_refused g c) c.in-Err.refused.cause c.take_sender-idle-in-Err.result c.in-Err.ensures.refused
+    (c.take_sender-idle-in-Err.ensures.number ∙ still_its_own g c) c.take_sender-idle-in-Err.ensures.idle
+
+refused_so : (g : Over) (c : goal.After-run_stands-in-Err g)
+    → sent_by c.args.keeper.now.ring.made_with c.args.idle.sender c.args.batch g.K.BatchKind.closes c.args.keeper.now.run ≡ record { answer = Err c.in-Err.refused.cause; run = c.take_sender-idle-in-Err.new.self.run }
+refused_so g c = sent_in_vain c.indexes_tell_the_queue.ensures.queue c.world_law.ensures.within c.args.keeper.now c.take_sender-idle-in-Err.new.self c.args.idle.sender c.args.batch g.K.BatchKind.closes
+    c.lend_sender-sender.result c.lend_sender-sender.ensures.sender c.take_sender-idle-in-Err.result c.in-Err.refused.cause (tried g c)
+
+pub returns-in-Err-clause-run : goal.returns-in-Err-clause-run
+returns-in-Err-clause-run g c = ap (λ (sent : Sent). sent.run) (sym (refused_so g c))
+
+pub returns-in-Err-clause-answer : goal.returns-in-Err-clause-answer
+returns-in-Err-clause-answer g c = ap (λ (sent : Sent). sent.answer) (sym (refused_so g c))
+
+pub returns-in-Err-clause-back : goal.returns-in-Err-clause-back
+returns-in-Err-clause-back g c = (known_refused g c).back
+
+pub returns-in-Err-clause-seat : goal.returns-in-Err-clause-seat
+returns-in-Err-clause-seat g c = (tried g c).seat
