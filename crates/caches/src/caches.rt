@@ -53,7 +53,8 @@ impl Caches {
     ///
     /// Errors: only C4, if the capacity is out of this range.
     pub fn new(alloc: Global, capacity: u32) -> Result<Caches, CacheFault>
-        ensures ok { IfOk result (λ caches. (caches.capacity ≡ capacity) × (caches.entries ≡ held [])) }
+        ensures ok { IfOk result (λ caches. (caches.capacity ≡ capacity)
+            × (caches.entries ≡ held [])) }
         ensures err { OnErr result (result ≡ Err CacheFault.BadCapacity) }
         ensures when { (result ≡ Err CacheFault.BadCapacity) ↔ ¬ IsCapacity capacity }
     {
@@ -133,7 +134,8 @@ impl Caches {
         ensures capacity { self.new.capacity ≡ self.old.capacity }
         ensures removed { result + finite.len self.new.entries ≡ finite.len self.old.entries }
         ensures few { result ≤ most_entries }
-        ensures held { (h : History) → self.old.entries ≡ held h → self.new.entries ≡ held (Take command.now ∷ h) }
+        ensures held { (h : History) → self.old.entries ≡ held h
+            → self.new.entries ≡ held (Take command.now ∷ h) }
     {
         let before = self.len();
         self.held.remove_covered(command);
@@ -145,7 +147,8 @@ impl Caches {
         ensures was { result ≡ finite.get self.old.entries tag.now }
         ensures after { self.new.entries ≡ finite.remove self.old.entries tag.now }
         ensures capacity { self.new.capacity ≡ self.old.capacity }
-        ensures held { (h : History) → self.old.entries ≡ held h → self.new.entries ≡ held (Evict tag.now ∷ h) }
+        ensures held { (h : History) → self.old.entries ≡ held h
+            → self.new.entries ≡ held (Evict tag.now ∷ h) }
     {
         let was = self.held.get(tag);
         self.held.remove(Rank::of(tag));
@@ -197,10 +200,12 @@ impl Caches {
     /// if the tag is new and the caches are full; C3 if the tag is new and memory runs out.
     pub fn fill(&mut self, entry: Entry) -> Result<Option<Entry>, CacheFault>
         ensures answer { IsFillAnswer self.old entry.tag result }
-        ensures after { OnOk result (self.new.entries ≡ finite.insert self.old.entries entry.tag entry) }
+        ensures after { OnOk result (self.new.entries
+            ≡ finite.insert self.old.entries entry.tag entry) }
         ensures err { OnErr result (self.new.entries ≡ self.old.entries) }
         ensures capacity { self.new.capacity ≡ self.old.capacity }
-        ensures held { OnOk result ((h : History) → self.old.entries ≡ held h → self.new.entries ≡ held (Fill entry ∷ h)) }
+        ensures held { OnOk result ((h : History) → self.old.entries ≡ held h
+            → self.new.entries ≡ held (Fill entry ∷ h)) }
     {
         if !entry.tag.is_block() {
             return Err(CacheFault::BadBlock);
@@ -214,7 +219,8 @@ impl Caches {
     /// Puts in an entry for which there is room.
     fn put(&mut self, entry: Entry) -> Result<Option<Entry>, CacheFault>
         requires block { IsBlock entry.tag }
-        requires room { finite.get self.old.entries entry.tag ≡ None → finite.len self.old.entries < self.old.capacity }
+        requires room { finite.get self.old.entries entry.tag ≡ None
+            → finite.len self.old.entries < self.old.capacity }
         ensures put { IsFilled self.old.entries entry self.new.entries result }
         ensures capacity { self.new.capacity ≡ self.old.capacity }
     {

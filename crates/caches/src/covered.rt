@@ -19,7 +19,8 @@ pub(crate) fn tell_covered(
     room: &mut [Entry],
 ) -> usize
     requires keeping { IsKeeping ⟦<Rank as Ord>⟧.cmp map.now }
-    ensures { AreTold (only_covered command.now (unlisted map.now removed.now)) room.old room.new result }
+    ensures { AreTold (only_covered command.now (unlisted map.now removed.now)) room.old room.new
+        result }
 {
     let mut count = 0;
     for entry in map.values() {

@@ -244,7 +244,8 @@ impl EntryMap {
 
     /// Removes the blocks that hold a page.
     fn remove_on(&mut self, one: OnePage)
-        ensures { (tag : Tag) → finite.get self.new tag ≡ cond (is_on one tag) None (finite.get self.old tag) }
+        ensures { (tag : Tag)
+            → finite.get self.new tag ≡ cond (is_on one tag) None (finite.get self.old tag) }
     {
         self.remove_blocks(one.own, one.page);
         if let Some(shared) = one.shared {
@@ -254,7 +255,8 @@ impl EntryMap {
 
     /// Removes what is held of a stream's configuration under the keys that are given.
     fn remove_in(&mut self, one: OneStream)
-        ensures { (tag : Tag) → finite.get self.new tag ≡ cond (is_in one tag) None (finite.get self.old tag) }
+        ensures { (tag : Tag)
+            → finite.get self.new tag ≡ cond (is_in one tag) None (finite.get self.old tag) }
     {
         self.remove_if_some(one.ste);
         self.remove_if_some(one.cd);
@@ -262,7 +264,8 @@ impl EntryMap {
 
     /// Removes the entry of a rank, if one is given and held.
     fn remove_if_some(&mut self, rank: Option<Rank>)
-        ensures { (tag : Tag) → finite.get self.new tag ≡ cond (is_of rank tag) None (finite.get self.old tag) }
+        ensures { (tag : Tag)
+            → finite.get self.new tag ≡ cond (is_of rank tag) None (finite.get self.old tag) }
     {
         if let Some(rank) = rank {
             self.remove(rank);
@@ -271,7 +274,9 @@ impl EntryMap {
 
     /// Removes the blocks of a holder that hold a page.
     fn remove_blocks(&mut self, holder: Holder, page: u64)
-        ensures { (tag : Tag) → finite.get self.new tag ≡ cond (is_block_at holder page tag) None (finite.get self.old tag) }
+        ensures { (tag : Tag)
+            → finite.get self.new tag
+            ≡ cond (is_block_at holder page tag) None (finite.get self.old tag) }
     {
         for span in 0..self.spans.end() {
             if self.spans.has(span) {
@@ -293,7 +298,8 @@ pub(crate) fn is_among(ranks: &[Rank], rank: Rank) -> bool
 
 /// Takes what is listed out of the map.
 fn take_out(map: &mut IndexedMap, removed: &mut ArrayVec<Rank, MOST_REMOVED>)
-    ensures same { unlisted map.new.ordered removed.new.items ≡ unlisted map.old.ordered removed.old.items }
+    ensures same { unlisted map.new.ordered removed.new.items
+        ≡ unlisted map.old.ordered removed.old.items }
     ensures pruned { IsPartOf ⟦<Rank as Ord>⟧.cmp map.new.ordered map.old.ordered }
     ensures none { removed.new.items ≡ [] }
 {
@@ -312,7 +318,9 @@ fn unless_removed(was: Option<Entry>, was_removed: bool) -> Option<Entry>
 /// Takes a rank off the list, and tells whether it was on it.
 fn take_off(removed: &mut ArrayVec<Rank, MOST_REMOVED>, rank: Rank) -> bool
     ensures was { result ≡ is_listed removed.old.items (tag_of rank) }
-    ensures rest { (tag : Tag) → is_listed removed.new.items tag ≡ (is_listed removed.old.items tag && not (eq_by_cmp tag_cmp tag (tag_of rank))) }
+    ensures rest { (tag : Tag)
+        → is_listed removed.new.items tag
+        ≡ (is_listed removed.old.items tag && not (eq_by_cmp tag_cmp tag (tag_of rank))) }
 {
     let was = is_among(removed, rank);
     if was {
@@ -323,7 +331,8 @@ fn take_off(removed: &mut ArrayVec<Rank, MOST_REMOVED>, rank: Rank) -> bool
 
 /// Takes what is listed out of the map if no more can be listed.
 fn make_room(map: &mut IndexedMap, removed: &mut ArrayVec<Rank, MOST_REMOVED>)
-    ensures same { unlisted map.new.ordered removed.new.items ≡ unlisted map.old.ordered removed.old.items }
+    ensures same { unlisted map.new.ordered removed.new.items
+        ≡ unlisted map.old.ordered removed.old.items }
     ensures pruned { IsPartOf ⟦<Rank as Ord>⟧.cmp map.new.ordered map.old.ordered }
     ensures room { array_vec_len removed.new < most_removed }
 {
@@ -337,7 +346,8 @@ fn make_room(map: &mut IndexedMap, removed: &mut ArrayVec<Rank, MOST_REMOVED>)
 /// Stays a call, since few walks need it.
 #[inline(never)]
 fn recount(map: &IndexedMap, removed: &mut ArrayVec<Rank, MOST_REMOVED>) -> usize
-    ensures same { unlisted map.now.ordered removed.new.items ≡ unlisted map.now.ordered removed.old.items }
+    ensures same { unlisted map.now.ordered removed.new.items
+        ≡ unlisted map.now.ordered removed.old.items }
     ensures len { result ≡ finite.len (unlisted map.now.ordered removed.new.items) }
 {
     let mut len = map.ordered.len();
@@ -353,7 +363,8 @@ fn recount(map: &IndexedMap, removed: &mut ArrayVec<Rank, MOST_REMOVED>) -> usiz
 
 /// Drops from a list the entries whose ranks are listed.
 fn drop_listed(list: &mut Vec<Entry>, ranks: &[Rank])
-    ensures { list.new.items ≡ filter (λ (entry : Entry). not (is_listed ranks.now entry.tag)) list.old.items }
+    ensures { list.new.items
+        ≡ filter (λ (entry : Entry). not (is_listed ranks.now entry.tag)) list.old.items }
 {
     list.retain(
         |entry: &Entry| -> bool

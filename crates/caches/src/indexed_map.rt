@@ -117,8 +117,10 @@ impl IndexedMap {
     pub(crate) fn remove(&mut self, rank: Rank) -> Option<Entry>
         ensures value { result ≡ tree.get ⟦<Rank as Ord>⟧.cmp self.old.ordered rank }
         ensures updates { Updates ⟦<Rank as Ord>⟧.cmp self.old.ordered self.new.ordered rank None }
-        ensures len { btree_map_len self.new.ordered + (if is_some result then 1 else 0) ≡ btree_map_len self.old.ordered }
-        ensures entries { self.new.ordered.entries ≡ remove_entry (is_at (⟦<Rank as Ord>⟧.cmp rank)) self.old.ordered.entries }
+        ensures len { btree_map_len self.new.ordered + (if is_some result then 1 else 0)
+            ≡ btree_map_len self.old.ordered }
+        ensures entries { self.new.ordered.entries
+            ≡ remove_entry (is_at (⟦<Rank as Ord>⟧.cmp rank)) self.old.ordered.entries }
     {
         let removed = self.ordered.remove(&rank);
         let place = rank.slot(self.shift);

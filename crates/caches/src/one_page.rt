@@ -69,7 +69,8 @@ impl OnePage {
     #[inline(always)]
     pub(crate) fn of(command: &Command) -> Option<OnePage>
         ensures when { is_some result ≡ is_for_page command.now }
-        ensures covered { IfSome result (λ one. (tag : Tag) → IsBlock tag → covers command.now tag ≡ is_on one tag) }
+        ensures covered { IfSome result (λ one. (tag : Tag) → IsBlock tag
+            → covers command.now tag ≡ is_on one tag) }
     {
         match *command {
             Command::TlbiNhVa {
@@ -107,7 +108,8 @@ impl OnePage {
     /// The blocks that hold a page, if it alone is reached.
     fn at(page: u64, reach: Reach, own: Holder, shared: Option<Holder>) -> Option<OnePage>
         ensures when { is_some result ≡ is_page reach }
-        ensures one { IfSome result (λ one. (reach ≡ Reach.Page) × (one ≡ record { page = page; own = own; shared = shared })) }
+        ensures one { IfSome result (λ one. (reach ≡ Reach.Page)
+            × (one ≡ record { page = page; own = own; shared = shared })) }
     {
         match reach {
             Reach::Page => Some(OnePage { page, own, shared }),

@@ -23,7 +23,9 @@ impl OneStream {
     /// other substreams than 0; then only a command that names its substream is answered.
     pub(crate) fn of(command: &Command, substreams: bool) -> Option<OneStream>
         ensures when { is_some result ≡ is_for_stream substreams command.now }
-        ensures covered { IfSome result (λ one. (tag : Tag) → (substreams ≡ false → is_of_substream tag ≡ false) → covers command.now tag ≡ is_in one tag) }
+        ensures covered { IfSome result (λ one. (tag : Tag)
+            → (substreams ≡ false → is_of_substream tag ≡ false)
+            → covers command.now tag ≡ is_in one tag) }
     {
         match *command {
             Command::CfgiCd { sid, ssid, .. } => Some(OneStream {
@@ -41,7 +43,8 @@ impl OneStream {
     /// The stream's entry, if given, and its descriptor of substream 0; None if others may have any.
     fn of_substream_0(substreams: bool, ste: Option<Rank>, sid: Sid) -> Option<OneStream>
         ensures when { is_some result ≡ not substreams }
-        ensures one { IfSome result (λ one. (substreams ≡ false) × (one ≡ record { ste = ste; cd = Some (Configuration sid (Some 0)) })) }
+        ensures one { IfSome result (λ one. (substreams ≡ false)
+            × (one ≡ record { ste = ste; cd = Some (Configuration sid (Some 0)) })) }
     {
         if substreams {
             None

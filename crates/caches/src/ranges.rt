@@ -24,7 +24,8 @@ fn sweep_streams(map: &mut IndexedMap, streams: PageRun, command: &Command)
     requires begins { streams.first < 2 ^ 32 }
     requires forward { streams.first < streams.end }
     requires reach { (q : Key) → covers_key command.now q ≡ true → IsOfStreams streams q }
-    ensures after { IsWithout ⟦<Rank as Ord>⟧.cmp (covers_key command.now) map.old.ordered map.new.ordered }
+    ensures after { IsWithout ⟦<Rank as Ord>⟧.cmp (covers_key command.now) map.old.ordered
+        map.new.ordered }
 {
     let first = Rank::at(Key::Configuration {
         sid: streams.first as u32,
@@ -41,7 +42,8 @@ fn sweep_streams(map: &mut IndexedMap, streams: PageRun, command: &Command)
 fn sweep_owner(map: &mut IndexedMap, owner: Owner, command: &Command)
     requires keeping { IsKeeping ⟦<Rank as Ord>⟧.cmp map.old.ordered }
     requires reach { (q : Key) → covers_key command.now q ≡ true → owner_of q ≡ Some owner }
-    ensures after { IsWithout ⟦<Rank as Ord>⟧.cmp (covers_key command.now) map.old.ordered map.new.ordered }
+    ensures after { IsWithout ⟦<Rank as Ord>⟧.cmp (covers_key command.now) map.old.ordered
+        map.new.ordered }
 {
     remove_covered(map, owner.least(0, 0), owner.least(1 << 52, 0), command);
 }
@@ -50,7 +52,8 @@ fn sweep_owner(map: &mut IndexedMap, owner: Owner, command: &Command)
 fn sweep_machines(map: &mut IndexedMap, command: &Command)
     requires keeping { IsKeeping ⟦<Rank as Ord>⟧.cmp map.old.ordered }
     requires reach { (q : Key) → covers_key command.now q ≡ true → IsOfMachines q }
-    ensures after { IsWithout ⟦<Rank as Ord>⟧.cmp (covers_key command.now) map.old.ordered map.new.ordered }
+    ensures after { IsWithout ⟦<Rank as Ord>⟧.cmp (covers_key command.now) map.old.ordered
+        map.new.ordered }
 {
     remove_covered(
         map,
@@ -84,10 +87,14 @@ fn sweep_before(
 )
     requires keeping { IsKeeping ⟦<Rank as Ord>⟧.cmp map.old.ordered }
     requires spans { AreSpansOf spans.now ⟦<Rank as Ord>⟧.cmp map.old.ordered }
-    requires bound { (q : Key) → covers_key command.now q ≡ true → page_of q < first → bound ≤ page_of q → tree.get ⟦<Rank as Ord>⟧.cmp map.old.ordered q ≡ None }
-    requires reach { (q : Key) → covers_key command.now q ≡ true → (owner_of q ≡ Some owner) × (first < page_of q + 2 ^ span_of q) }
-    ensures pruned { IsPruned ⟦<Rank as Ord>⟧.cmp (covers_key command.now) map.old.ordered map.new.ordered }
-    ensures clean { (q : Key) → covers_key command.now q ≡ true → page_of q < first → tree.get ⟦<Rank as Ord>⟧.cmp map.new.ordered q ≡ None }
+    requires bound { (q : Key) → covers_key command.now q ≡ true → page_of q < first
+        → bound ≤ page_of q → tree.get ⟦<Rank as Ord>⟧.cmp map.old.ordered q ≡ None }
+    requires reach { (q : Key) → covers_key command.now q ≡ true
+        → (owner_of q ≡ Some owner) × (first < page_of q + 2 ^ span_of q) }
+    ensures pruned { IsPruned ⟦<Rank as Ord>⟧.cmp (covers_key command.now) map.old.ordered
+        map.new.ordered }
+    ensures clean { (q : Key) → covers_key command.now q ≡ true → page_of q < first
+        → tree.get ⟦<Rank as Ord>⟧.cmp map.new.ordered q ≡ None }
 {
     let mut bound = bound;
     for span in 0..spans.end() {
@@ -108,8 +115,11 @@ fn sweep_before(
 fn sweep_run(map: &mut IndexedMap, spans: &Spans, owner: Owner, run: PageRun, command: &Command)
     requires keeping { IsKeeping ⟦<Rank as Ord>⟧.cmp map.old.ordered }
     requires spans { AreSpansOf spans.now ⟦<Rank as Ord>⟧.cmp map.old.ordered }
-    requires reach { (q : Key) → covers_key command.now q ≡ true → (owner_of q ≡ Some owner) × (run.first < page_of q + 2 ^ span_of q) × (page_of q < run.end) }
-    ensures after { IsWithout ⟦<Rank as Ord>⟧.cmp (covers_key command.now) map.old.ordered map.new.ordered }
+    requires reach { (q : Key) → covers_key command.now q ≡ true
+        → (owner_of q ≡ Some owner) × (run.first < page_of q + 2 ^ span_of q)
+        × (page_of q < run.end) }
+    ensures after { IsWithout ⟦<Rank as Ord>⟧.cmp (covers_key command.now) map.old.ordered
+        map.new.ordered }
 {
     let bound = sweep_back(map, owner, run.first, run.end, command);
     sweep_before(map, spans, owner, run.first, bound, command);
@@ -119,8 +129,11 @@ fn sweep_run(map: &mut IndexedMap, spans: &Spans, owner: Owner, run: PageRun, co
 fn sweep_address(map: &mut IndexedMap, spans: &Spans, owner: Owner, command: &Command)
     requires keeping { IsKeeping ⟦<Rank as Ord>⟧.cmp map.old.ordered }
     requires spans { AreSpansOf spans.now ⟦<Rank as Ord>⟧.cmp map.old.ordered }
-    requires reach { (q : Key) → covers_key command.now q ≡ true → (owner_of q ≡ Some owner) × (meets_run (block (page_of q) (span_of q)) (run_of command.now) ≡ true) }
-    ensures after { IsWithout ⟦<Rank as Ord>⟧.cmp (covers_key command.now) map.old.ordered map.new.ordered }
+    requires reach { (q : Key) → covers_key command.now q ≡ true
+        → (owner_of q ≡ Some owner)
+        × (meets_run (block (page_of q) (span_of q)) (run_of command.now) ≡ true) }
+    ensures after { IsWithout ⟦<Rank as Ord>⟧.cmp (covers_key command.now) map.old.ordered
+        map.new.ordered }
 {
     if let Some(run) = command.pages() {
         sweep_run(map, spans, owner, run, command);
@@ -147,7 +160,8 @@ fn one_stream(sid: Sid) -> PageRun
 pub(crate) fn remove_all_covered(map: &mut IndexedMap, spans: &Spans, command: &Command)
     requires keeping { IsKeeping ⟦<Rank as Ord>⟧.cmp map.old.ordered }
     requires spans { AreSpansOf spans.now ⟦<Rank as Ord>⟧.cmp map.old.ordered }
-    ensures after { IsWithout ⟦<Rank as Ord>⟧.cmp (covers_key command.now) map.old.ordered map.new.ordered }
+    ensures after { IsWithout ⟦<Rank as Ord>⟧.cmp (covers_key command.now) map.old.ordered
+        map.new.ordered }
 {
     if !map.ordered.is_empty() {
         sweep_covered(map, spans, command);
@@ -159,7 +173,8 @@ pub(crate) fn remove_all_covered(map: &mut IndexedMap, spans: &Spans, command: &
 fn sweep_covered(map: &mut IndexedMap, spans: &Spans, command: &Command)
     requires keeping { IsKeeping ⟦<Rank as Ord>⟧.cmp map.old.ordered }
     requires spans { AreSpansOf spans.now ⟦<Rank as Ord>⟧.cmp map.old.ordered }
-    ensures after { IsWithout ⟦<Rank as Ord>⟧.cmp (covers_key command.now) map.old.ordered map.new.ordered }
+    ensures after { IsWithout ⟦<Rank as Ord>⟧.cmp (covers_key command.now) map.old.ordered
+        map.new.ordered }
 {
     match *command {
         Command::CfgiSte { sid, .. } | Command::CfgiCd { sid, .. } | Command::CfgiCdAll { sid } =>

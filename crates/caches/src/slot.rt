@@ -32,7 +32,9 @@ impl Noted {
     #[inline(always)]
     pub(crate) fn entry_at(&self, rank: Rank, tag: Tag) -> Option<Entry>
         requires { tag ≡ tag_of rank }
-        ensures { result ≡ cond (eq_by_cmp ⟦<Rank as Ord>⟧.cmp self.now.rank rank) (Some (entry_of self.now)) None }
+        ensures { result
+            ≡ cond (eq_by_cmp ⟦<Rank as Ord>⟧.cmp self.now.rank rank) (Some (entry_of self.now))
+            None }
     {
         if self.rank == rank {
             Some(Entry {
@@ -65,9 +67,13 @@ impl Slot {
     /// Returns what is known once the entry of this rank is taken out of the map.
     pub(crate) fn taken_out(self, rank: Rank) -> Slot
         requires counted { 0 < size_of self }
-        requires others { IfSome (noted_in self) (λ noted. eq_by_cmp ⟦<Rank as Ord>⟧.cmp noted.rank rank ≡ false → 1 < size_of self) }
+        requires others { IfSome (noted_in self) (λ noted.
+            eq_by_cmp ⟦<Rank as Ord>⟧.cmp noted.rank rank ≡ false → 1 < size_of self) }
         ensures size { size_of result + 1 ≡ size_of self }
-        ensures noted { noted_in result ≡ option_and_then (λ noted. cond (eq_by_cmp ⟦<Rank as Ord>⟧.cmp noted.rank rank) None (Some noted)) (noted_in self) }
+        ensures noted { noted_in result
+            ≡ option_and_then (λ noted.
+            cond (eq_by_cmp ⟦<Rank as Ord>⟧.cmp noted.rank rank) None (Some noted))
+            (noted_in self) }
     {
         match self {
             Slot::Unnoted { all } => Slot::Unnoted { all: all - 1 },

@@ -32,9 +32,11 @@ fn next_covered(
     command: &Command,
 ) -> Option<Covered>
     requires keeping { IsKeeping ⟦<Rank as Ord>⟧.cmp map.now }
-    ensures next { IsNext ⟦<Rank as Ord>⟧.cmp (covers_key command.now) map.now from (Bound.Excluded end) (option_map (λ found. found.key) result) }
+    ensures next { IsNext ⟦<Rank as Ord>⟧.cmp (covers_key command.now) map.now from
+        (Bound.Excluded end) (option_map (λ found. found.key) result) }
     ensures last { IfSome result (λ found. found.is_last ≡ true
-        → IsNext ⟦<Rank as Ord>⟧.cmp (covers_key command.now) map.now (Bound.Excluded found.key) (Bound.Excluded end) None) }
+        → IsNext ⟦<Rank as Ord>⟧.cmp (covers_key command.now) map.now (Bound.Excluded found.key)
+        (Bound.Excluded end) None) }
 {
     // The loop tests for the end: a range with an end would search for that too.
     let mut entries = map.range((from, Bound::Unbounded));
@@ -58,7 +60,10 @@ fn next_covered(
 /// After each it searches the rest of the range, unless that is empty.
 pub(crate) fn remove_covered(map: &mut IndexedMap, first: Rank, end: Rank, command: &Command)
     requires keeping { IsKeeping ⟦<Rank as Ord>⟧.cmp map.old.ordered }
-    ensures after { (q : Key) → tree.get ⟦<Rank as Ord>⟧.cmp map.new.ordered q ≡ cond (is_swept ⟦<Rank as Ord>⟧.cmp (covers_key command.now) (Bound.Included first) (Bound.Excluded end) q) None (tree.get ⟦<Rank as Ord>⟧.cmp map.old.ordered q) }
+    ensures after { (q : Key)
+        → tree.get ⟦<Rank as Ord>⟧.cmp map.new.ordered q
+        ≡ cond (is_swept ⟦<Rank as Ord>⟧.cmp (covers_key command.now) (Bound.Included first)
+        (Bound.Excluded end) q) None (tree.get ⟦<Rank as Ord>⟧.cmp map.old.ordered q) }
 {
     let mut from = Bound::Included(first);
     while let Some(covered) = next_covered(&map.ordered, from, end, command) {

@@ -40,7 +40,8 @@ fn last_covered(
 ) -> Walked
     requires keeping { IsKeeping ⟦<Rank as Ord>⟧.cmp map.now }
     requires own { owner_of end ≡ Some owner }
-    requires reach { (q : Key) → covers_key command.now q ≡ true → (owner_of q ≡ Some owner) × (first < page_of q + 2 ^ span_of q) }
+    requires reach { (q : Key) → covers_key command.now q ≡ true
+        → (owner_of q ≡ Some owner) × (first < page_of q + 2 ^ span_of q) }
     ensures { IsWalked ⟦<Rank as Ord>⟧.cmp (covers_key command.now) map.now end owner first result }
 {
     let least = owner.least(0, 0);
@@ -72,9 +73,12 @@ pub(crate) fn sweep_back(
     command: &Command,
 ) -> u64
     requires keeping { IsKeeping ⟦<Rank as Ord>⟧.cmp map.old.ordered }
-    requires reach { (q : Key) → covers_key command.now q ≡ true → (owner_of q ≡ Some owner) × (first < page_of q + 2 ^ span_of q) }
-    ensures pruned { IsPruned ⟦<Rank as Ord>⟧.cmp (covers_key command.now) map.old.ordered map.new.ordered }
-    ensures clean { (q : Key) → covers_key command.now q ≡ true → page_of q < end → result ≤ page_of q → tree.get ⟦<Rank as Ord>⟧.cmp map.new.ordered q ≡ None }
+    requires reach { (q : Key) → covers_key command.now q ≡ true
+        → (owner_of q ≡ Some owner) × (first < page_of q + 2 ^ span_of q) }
+    ensures pruned { IsPruned ⟦<Rank as Ord>⟧.cmp (covers_key command.now) map.old.ordered
+        map.new.ordered }
+    ensures clean { (q : Key) → covers_key command.now q ≡ true → page_of q < end
+        → result ≤ page_of q → tree.get ⟦<Rank as Ord>⟧.cmp map.new.ordered q ≡ None }
     ensures low { result ≤ first }
     ensures under { 0 < end → result < end }
 {

@@ -104,7 +104,8 @@ fn texts_in<'a>(
     matches: &ArgMatches<'a>,
     name: &str,
 ) -> Result<Vec<&'a str>, AllocError>
-    ensures { IfOk result (λ texts. spec.ReadsTexts (rows_of (found_of matches.now)) name.now texts.items) }
+    ensures { IfOk result (λ texts.
+        spec.ReadsTexts (rows_of (found_of matches.now)) name.now texts.items) }
 {
     match matches.get_strs(name) {
         Some(texts) => Vec::from_slice(alloc, texts),

@@ -52,7 +52,8 @@ impl Misunderstood {
 
     /// Whether no help was asked for: the words aren't understood, or memory ran out.
     pub fn is_fault(&self) -> bool
-        ensures { IsTrue result ↔ ((self.now.kind ≢ DisplayHelp) × (self.now.kind ≢ DisplayVersion)) }
+        ensures { IsTrue result
+            ↔ ((self.now.kind ≢ DisplayHelp) × (self.now.kind ≢ DisplayVersion)) }
     {
         !matches!(
             self.kind,

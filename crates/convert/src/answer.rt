@@ -17,7 +17,8 @@ fn say_stop(
     stop: Stop,
     reply: &mut String,
 ) -> Result<(), AllocError>
-    ensures { OnOk result (string_bytes reply.new ≡ string_bytes reply.old ++ stop_text guest.now raw stop) }
+    ensures { OnOk result (string_bytes reply.new
+        ≡ string_bytes reply.old ++ stop_text guest.now raw stop) }
 {
     match stop {
         Stop::Sync => reply.push_str("sync"),
@@ -51,7 +52,8 @@ pub(crate) fn say_answer(
     raw: Raw,
     reply: &mut String,
 ) -> Result<bool, AllocError>
-    ensures text { OnOk result (string_bytes reply.new ≡ string_bytes reply.old ++ (command_answer guest.now raw).0) }
+    ensures text { OnOk result (string_bytes reply.new
+        ≡ string_bytes reply.old ++ (command_answer guest.now raw).0) }
     ensures good { IfOk result (λ goes_on. goes_on ≡ (command_answer guest.now raw).1) }
 {
     let converted = guest.convert_all(&[raw]);

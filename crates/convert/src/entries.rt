@@ -12,7 +12,8 @@ fn say_all_later(
     streams: &mut Configuration<'_>,
     reply: &mut String,
 ) -> Result<(), AllocError>
-    ensures { OnOk result (string_bytes reply.new ≡ string_bytes reply.old ++ later_texts (entry_words streams.old)) }
+    ensures { OnOk result (string_bytes reply.new
+        ≡ string_bytes reply.old ++ later_texts (entry_words streams.old)) }
 {
     'streams: while let Some(stream) = streams.next() {
         say_later(alloc, stream.host.invalidate_entry(), reply)?;
@@ -26,7 +27,8 @@ pub(crate) fn say_entries(
     streams: &mut Configuration<'_>,
     reply: &mut String,
 ) -> Result<(), AllocError>
-    ensures { OnOk result (string_bytes reply.new ≡ string_bytes reply.old ++ commands_text (entry_words streams.old)) }
+    ensures { OnOk result (string_bytes reply.new
+        ≡ string_bytes reply.old ++ commands_text (entry_words streams.old)) }
 {
     match streams.next() {
         None => say_nothing(reply),

@@ -13,7 +13,9 @@ use std::alloc::Global;
 
 /// Returns the guest before its streams are attached.
 fn without_streams(alloc: Global, asked: &Asked<'_>) -> Result<Guest, GuestFault>
-    ensures { result ≡ without_attachments (smmu_of asked.now) (vmid_named (smmu_of asked.now) asked.now.vmid.now) }
+    ensures { result
+        ≡ without_attachments (smmu_of asked.now) (vmid_named (smmu_of asked.now)
+        asked.now.vmid.now) }
 {
     let Some(vmid) = clear_number(asked.vmid).and_then(Vmid::new) else {
         return Err(GuestFault::BadVmid);
@@ -27,7 +29,8 @@ fn without_streams(alloc: Global, asked: &Asked<'_>) -> Result<Guest, GuestFault
 /// Attaches the stream that a text names.
 fn attach(guest: &mut Guest, text: &str) -> Result<(), GuestFault>
     ensures ok { OnOk result (with_stream guest.old text.now ≡ Ok guest.new) }
-    ensures err { IfErr result (λ fault. (with_stream guest.old text.now ≡ Err fault) ⊎ (fault ≡ NoMemory)) }
+    ensures err { IfErr result (λ fault. (with_stream guest.old text.now ≡ Err fault)
+        ⊎ (fault ≡ NoMemory)) }
 {
     let Some(stream) = attachment(text) else {
         return Err(GuestFault::BadStream);

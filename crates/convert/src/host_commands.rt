@@ -9,7 +9,8 @@ use std::alloc::{AllocError, Global};
 
 /// Appends bytes as digits.
 fn say_digits(alloc: Global, bytes: &[u8], reply: &mut String) -> Result<(), AllocError>
-    ensures { OnOk result (string_bytes reply.new ≡ string_bytes reply.old ++ encode_lower bytes.now) }
+    ensures { OnOk result (string_bytes reply.new
+        ≡ string_bytes reply.old ++ encode_lower bytes.now) }
 {
     let digits = hex::encode(alloc, bytes)?;
     reply.push_str(digits.as_str())
@@ -42,7 +43,8 @@ pub(crate) fn say_nothing(reply: &mut String) -> Result<(), AllocError>
 
 /// Appends commands of the host behind another.
 fn say_all_later(alloc: Global, raws: &[Raw], reply: &mut String) -> Result<(), AllocError>
-    ensures { OnOk result (string_bytes reply.new ≡ string_bytes reply.old ++ later_texts raws.now) }
+    ensures { OnOk result (string_bytes reply.new
+        ≡ string_bytes reply.old ++ later_texts raws.now) }
 {
     for raw in raws.iter() {
         say_later(alloc, *raw, reply)?;
@@ -56,7 +58,8 @@ pub(crate) fn say_commands(
     raws: &[Raw],
     reply: &mut String,
 ) -> Result<(), AllocError>
-    ensures { OnOk result (string_bytes reply.new ≡ string_bytes reply.old ++ commands_text raws.now) }
+    ensures { OnOk result (string_bytes reply.new
+        ≡ string_bytes reply.old ++ commands_text raws.now) }
 {
     match raws {
         [] => say_nothing(reply),

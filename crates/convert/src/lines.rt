@@ -81,7 +81,8 @@ pub fn convert_with_notes<R: Read, W: Write>(
     input: &mut R,
     output: &mut W,
 ) -> (Status, Notes)
-    ensures { TellsOfGuest guest result.0 (R.remaining input.old) (R.remaining input.new) (W.contents output.old) (W.contents output.new) }
+    ensures { TellsOfGuest guest result.0 (R.remaining input.old) (R.remaining input.new)
+        (W.contents output.old) (W.contents output.new) }
 {
     answer_lines_with_notes(alloc, GuestLines { alloc, guest }, input, output)
 }

@@ -8,14 +8,16 @@ use guest_commands::{Attachment, HostStream};
 
 /// Parts a text at its first `=`.
 fn at_equals(text: &str) -> Option<(&str, &str)>
-    ensures { MatchOption result (parted_at 61 text.now ≡ None) (λ parts. parted_at 61 text.now ≡ Some (parts.0.now, parts.1.now)) }
+    ensures { MatchOption result (parted_at 61 text.now ≡ None) (λ parts. parted_at 61 text.now
+        ≡ Some (parts.0.now, parts.1.now)) }
 {
     text.split_once('=')
 }
 
 /// Parts a text at its first comma.
 fn at_comma(text: &str) -> Option<(&str, &str)>
-    ensures { MatchOption result (parted_at 44 text.now ≡ None) (λ parts. parted_at 44 text.now ≡ Some (parts.0.now, parts.1.now)) }
+    ensures { MatchOption result (parted_at 44 text.now ≡ None) (λ parts. parted_at 44 text.now
+        ≡ Some (parts.0.now, parts.1.now)) }
 {
     text.split_once(',')
 }

@@ -8,7 +8,8 @@ use hex::FromHexError;
 use std::alloc::{AllocError, Global};
 
 fn command_text(alloc: Global, decoded: Result<Command, Ill>) -> Result<(String, bool), AllocError>
-    ensures { IfOk result (λ told. (string_bytes told.0 ≡ (command_text decoded).0) × (told.1 ≡ (command_text decoded).1)) }
+    ensures { IfOk result (λ told. (string_bytes told.0 ≡ (command_text decoded).0)
+        × (told.1 ≡ (command_text decoded).1)) }
 {
     match decoded {
         Ok(command) => Ok((text(alloc, &command)?, true)),
@@ -20,7 +21,8 @@ fn command_text(alloc: Global, decoded: Result<Command, Ill>) -> Result<(String,
 }
 
 fn bytes_text(alloc: Global, bytes: &[u8]) -> Result<(String, bool), AllocError>
-    ensures { IfOk result (λ told. (string_bytes told.0 ≡ (bytes_text bytes.now).0) × (told.1 ≡ (bytes_text bytes.now).1)) }
+    ensures { IfOk result (λ told. (string_bytes told.0 ≡ (bytes_text bytes.now).0)
+        × (told.1 ≡ (bytes_text bytes.now).1)) }
 {
     match <&[u8; 16]>::try_from(bytes) {
         Ok(bytes) => command_text(alloc, decode(from_bytes(bytes))),
@@ -33,7 +35,8 @@ fn bytes_text(alloc: Global, bytes: &[u8]) -> Result<(String, bool), AllocError>
 
 /// Returns what a word of hexadecimal digits means as a command, and whether it is a legal one.
 pub fn decode_text(alloc: Global, word: &str) -> Result<(String, bool), AllocError>
-    ensures { IfOk result (λ told. (string_bytes told.0 ≡ (decode_text word.now).0) × (told.1 ≡ (decode_text word.now).1)) }
+    ensures { IfOk result (λ told. (string_bytes told.0 ≡ (decode_text word.now).0)
+        × (told.1 ≡ (decode_text word.now).1)) }
 {
     decode_bytes(alloc, word.as_bytes())
 }
@@ -41,7 +44,8 @@ pub fn decode_text(alloc: Global, word: &str) -> Result<(String, bool), AllocErr
 /// The same as `decode_text` for a word whose bytes may be no text.
 #[tactic(auto, unfolding(crate::specs::DecodeText::decode_text))]
 pub fn decode_bytes(alloc: Global, word: &[u8]) -> Result<(String, bool), AllocError>
-    ensures { IfOk result (λ told. (string_bytes told.0 ≡ (decode_text word.now).0) × (told.1 ≡ (decode_text word.now).1)) }
+    ensures { IfOk result (λ told. (string_bytes told.0 ≡ (decode_text word.now).0)
+        × (told.1 ≡ (decode_text word.now).1)) }
 {
     match hex::decode(alloc, word) {
         Ok(bytes) => bytes_text(alloc, bytes.as_slice()),

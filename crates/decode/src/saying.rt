@@ -22,7 +22,8 @@ fn displayed(ill: Ill) -> &'static str
 /// whether they are legal.
 #[tactic(auto, unfolding(crate::specs::CommandText::words_text))]
 pub fn say_command(raw: Raw, text: &mut String) -> Result<bool, AllocError>
-    ensures text { OnOk result (string_bytes text.new ≡ string_bytes text.old ++ (words_text raw).0) }
+    ensures text { OnOk result (string_bytes text.new
+        ≡ string_bytes text.old ++ (words_text raw).0) }
     ensures legal { IfOk result (λ is_legal. is_legal ≡ (words_text raw).1) }
 {
     match decode(raw) {

@@ -17,7 +17,8 @@ fn end_line(reply: &mut String) -> Result<(), AllocError>
 
 /// Appends bytes as digits, on their own line.
 fn say_digits(alloc: Global, bytes: &[u8], reply: &mut String) -> Result<(), AllocError>
-    ensures { OnOk result (string_bytes reply.new ≡ string_bytes reply.old ++ (encode_lower bytes.now ++ codes "\n")) }
+    ensures { OnOk result (string_bytes reply.new
+        ≡ string_bytes reply.old ++ (encode_lower bytes.now ++ codes "\n")) }
 {
     let digits = hex::encode(alloc, bytes)?;
     reply.push_str(digits.as_str())?;
@@ -26,7 +27,8 @@ fn say_digits(alloc: Global, bytes: &[u8], reply: &mut String) -> Result<(), All
 
 /// Appends the bytes of a command as a line.
 fn say_raw(alloc: Global, raw: Raw, reply: &mut String) -> Result<bool, AllocError>
-    ensures text { OnOk result (string_bytes reply.new ≡ string_bytes reply.old ++ (raw_answer raw).text) }
+    ensures text { OnOk result (string_bytes reply.new
+        ≡ string_bytes reply.old ++ (raw_answer raw).text) }
     ensures good { IfOk result (λ is_good. is_good ≡ (raw_answer raw).is_good) }
 {
     say_digits(alloc, to_bytes(raw).as_slice(), reply)?;
@@ -34,7 +36,8 @@ fn say_raw(alloc: Global, raw: Raw, reply: &mut String) -> Result<bool, AllocErr
 }
 
 fn say_bad_command(reply: &mut String) -> Result<bool, AllocError>
-    ensures text { OnOk result (string_bytes reply.new ≡ string_bytes reply.old ++ bad_command.text) }
+    ensures text { OnOk result (string_bytes reply.new
+        ≡ string_bytes reply.old ++ bad_command.text) }
     ensures good { IfOk result (λ is_good. is_good ≡ bad_command.is_good) }
 {
     reply.push_str("bad command\n")?;

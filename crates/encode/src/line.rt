@@ -15,8 +15,10 @@ use line_answers::next_word;
 use script::is_comment;
 
 fn encode_named<'a>(name: &'a [u8], rest: &'a [u8]) -> Result<Option<Raw>, EncodeFault<'a>>
-    ensures value { as_told result ≡ named_encoding (opcode_called name.now) name.now (words_of rest.now) }
-    ensures legal { IfOk result (λ found. IfSome found (λ raw. (command : Command) × (decoding raw ≡ Ok command))) }
+    ensures value { as_told result
+        ≡ named_encoding (opcode_called name.now) name.now (words_of rest.now) }
+    ensures legal { IfOk result (λ found.
+        IfSome found (λ raw. (command : Command) × (decoding raw ≡ Ok command))) }
 {
     let Some(opcode) = opcode_called(name) else {
         return Err(EncodeFault::UnknownCommand(name));
@@ -38,7 +40,8 @@ fn encode_named<'a>(name: &'a [u8], rest: &'a [u8]) -> Result<Option<Raw>, Encod
 #[tactic(auto, unfolding(crate::specs::LineEncodings::line_encoding))]
 pub fn encode_line(line: &[u8]) -> Result<Option<Raw>, EncodeFault<'_>>
     ensures value { as_told result ≡ line_encoding line.now }
-    ensures legal { IfOk result (λ found. IfSome found (λ raw. (command : Command) × (decoding raw ≡ Ok command))) }
+    ensures legal { IfOk result (λ found.
+        IfSome found (λ raw. (command : Command) × (decoding raw ≡ Ok command))) }
 {
     match next_word(line) {
         Some((name, rest)) if !is_comment(name) => encode_named(name, rest),

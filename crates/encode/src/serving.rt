@@ -17,14 +17,16 @@ pub fn encode_with_notes<R: Read, W: Write>(
     input: &mut R,
     output: &mut W,
 ) -> (Status, Notes)
-    ensures { TellsOfEncode result.0 (R.remaining input.old) (R.remaining input.new) (W.contents output.old) (W.contents output.new) }
+    ensures { TellsOfEncode result.0 (R.remaining input.old) (R.remaining input.new)
+        (W.contents output.old) (W.contents output.new) }
 {
     answer_lines_with_notes(alloc, TextLines::new(alloc), input, output)
 }
 
 /// The same without the notes.
 pub fn encode<R: Read, W: Write>(alloc: Global, input: &mut R, output: &mut W) -> Status
-    ensures { TellsOfEncode result (R.remaining input.old) (R.remaining input.new) (W.contents output.old) (W.contents output.new) }
+    ensures { TellsOfEncode result (R.remaining input.old) (R.remaining input.new)
+        (W.contents output.old) (W.contents output.new) }
 {
     encode_with_notes(alloc, input, output).0
 }

@@ -11,7 +11,8 @@ use script::number;
 
 /// Returns what follows the key in the first word that begins with it, and the text after that word.
 fn next_behind<'a>(text: &'a [u8], key: &[u8]) -> Option<(&'a [u8], &'a [u8])>
-    ensures { MatchOption result (behind key.now (words_of text.now) ≡ []) (λ found. behind key.now (words_of text.now) ≡ found.0.now ∷ behind key.now (words_of found.1.now)) }
+    ensures { MatchOption result (behind key.now (words_of text.now) ≡ []) (λ found.
+        behind key.now (words_of text.now) ≡ found.0.now ∷ behind key.now (words_of found.1.now)) }
 {
     let mut left = text;
     'words: while let Some((word, rest)) = next_word(left) {
@@ -78,7 +79,8 @@ fn is_of(fields: &[Field], word: &[u8]) -> bool
 
 /// Returns the first word that begins with the key of none of these fields.
 pub(crate) fn unknown_word<'a>(fields: &[Field], text: &'a [u8]) -> Option<&'a [u8]>
-    ensures { MatchOption result (unknown_word fields.now (words_of text.now) ≡ None) (λ word. unknown_word fields.now (words_of text.now) ≡ Some word.now) }
+    ensures { MatchOption result (unknown_word fields.now (words_of text.now) ≡ None) (λ word.
+        unknown_word fields.now (words_of text.now) ≡ Some word.now) }
 {
     let mut left = text;
     'words: while let Some((word, rest)) = next_word(left) {

@@ -175,16 +175,23 @@ impl Engine {
     pub fn told(&mut self, ring: &Ring, sender: &mut Sender) -> Control
         requires ring { self.old.consumer.ring ≡ ring.now }
         requires sender { sender.old.ring ≡ ring.now }
-        ensures told { WasToldAllTruly self.new.consumer.history self.new.unit.caches.entries sender.old.number sender.old.trail }
-        ensures settled { IsSettled self.new.unit.caches.entries (world self.new.consumer.history).taken }
+        ensures told { WasToldAllTruly self.new.consumer.history self.new.unit.caches.entries
+            sender.old.number sender.old.trail }
+        ensures settled { IsSettled self.new.unit.caches.entries
+            (world self.new.consumer.history).taken }
         ensures unit { self.new.unit ≡ self.old.unit }
-        ensures consumer { record self.new.consumer { history = [] } ≡ record self.old.consumer { history = [] } }
+        ensures consumer { record self.new.consumer { history = [] }
+            ≡ record self.old.consumer { history = [] } }
         ensures sender { record sender.new { history = [] } ≡ record sender.old { history = [] } }
         ensures one { sender.new.history ≡ self.new.consumer.history }
-        ensures of_consumer { IsHistory self.old.consumer.ring.made_with ConsumerOf self.old.consumer.trail self.new.consumer.history }
-        ensures of_sender { IsHistory sender.old.ring.made_with (SenderOf sender.old.number) sender.old.trail self.new.consumer.history }
-        ensures known_to_consumer { WentOn ConsumerOf self.old.consumer.history self.new.consumer.history }
-        ensures known_to_sender { WentOn (SenderOf sender.old.number) sender.old.history self.new.consumer.history }
+        ensures of_consumer { IsHistory self.old.consumer.ring.made_with ConsumerOf
+            self.old.consumer.trail self.new.consumer.history }
+        ensures of_sender { IsHistory sender.old.ring.made_with (SenderOf sender.old.number)
+            sender.old.trail self.new.consumer.history }
+        ensures known_to_consumer { WentOn ConsumerOf self.old.consumer.history
+            self.new.consumer.history }
+        ensures known_to_sender { WentOn (SenderOf sender.old.number) sender.old.history
+            self.new.consumer.history }
         ensures control { IsControl self.old.consumer.ring.made_with.geometry result }
         ensures current { result ≡ control_after self.old.consumer.ring self.new.consumer.history }
     {
@@ -212,7 +219,8 @@ impl Engine {
     pub fn finish(self, ring: Ring, senders: Vec<Sender>) -> Finished
         requires senders { AreAll ring senders.items }
         requires ring { self.consumer.ring ≡ ring }
-        ensures end { IsEngineEnd ring senders.items self result.summary result.counts result.caches.entries }
+        ensures end { IsEngineEnd ring senders.items self result.summary result.counts
+            result.caches.entries }
         ensures counts { result.counts ≡ self.unit.counts }
         ensures caches { result.caches ≡ self.unit.caches }
     {
@@ -231,7 +239,8 @@ impl Engine {
     /// A witness that it is settled for all it took, with no entry older than a command that covers it, and
     /// that its counts are those of all it took. It does nothing.
     pub fn is_settled(&self)
-        ensures settled { IsSettled self.now.unit.caches.entries (taken_of self.now.consumer.trail) }
+        ensures settled { IsSettled self.now.unit.caches.entries
+            (taken_of self.now.consumer.trail) }
         ensures many { taken self.now.unit.counts ≡ length (taken_of self.now.consumer.trail) }
         ensures counted { AreCountsOf (taken_of self.now.consumer.trail) self.now.unit.counts }
     {
@@ -274,7 +283,11 @@ impl Engine {
     /// isn't that of SMMU_GERROR.
     pub fn acknowledge(&mut self, gerrorn: u32, remedy: Remedy) -> Result<(), AckFault>
         ensures answer { IsAcknowledgementAnswer self.old.unit.stop gerrorn result }
-        ensures ok { OnOk result (self.new ≡ record self.old { unit = record self.old.unit { stop = acknowledged_by remedy self.old.unit.stop } }) }
+        ensures ok { OnOk result (self.new
+            ≡ record self.old {
+              unit = record self.old.unit
+                  { stop = acknowledged_by remedy self.old.unit.stop };
+            }) }
         ensures err { OnErr result (self.new ≡ self.old) }
         ensures consumer { self.new.consumer ≡ self.old.consumer }
         ensures settled { IsSettledEngine self.new }
@@ -288,7 +301,11 @@ impl Engine {
     /// if the tag is new and the caches are full; C3 if the tag is new and memory runs out.
     pub fn fill(&mut self, tag: Tag, value: u64) -> Result<Option<Entry>, CacheFault>
         ensures answer { IsFillAnswer self.old.unit.caches tag result }
-        ensures ok { OnOk result (self.new ≡ record self.old { unit = with_entries self.old.unit (filled tag value self.old.unit) }) }
+        ensures ok { OnOk result (self.new
+            ≡ record self.old {
+              unit = with_entries self.old.unit
+                  (filled tag value self.old.unit);
+            }) }
         ensures err { OnErr result (self.new ≡ self.old) }
         ensures consumer { self.new.consumer ≡ self.old.consumer }
         ensures settled { IsSettledEngine self.new }
@@ -299,7 +316,11 @@ impl Engine {
     /// Removes and returns the entry held under `tag`, if any.
     pub fn evict(&mut self, tag: &Tag) -> Option<Entry>
         ensures was { result ≡ finite.get self.old.unit.caches.entries tag.now }
-        ensures new { self.new ≡ record self.old { unit = with_entries self.old.unit (finite.remove self.old.unit.caches.entries tag.now) } }
+        ensures new { self.new
+            ≡ record self.old {
+              unit = with_entries self.old.unit
+                  (finite.remove self.old.unit.caches.entries tag.now);
+            } }
         ensures consumer { self.new.consumer ≡ self.old.consumer }
         ensures settled { IsSettledEngine self.new }
     {

@@ -204,7 +204,8 @@ impl Unit {
         requires running { ¬ IsStopped self.old.stop.mode }
         requires next { MayComeNext raw self.old.stop }
         requires few { taken self.old.counts < most_reserved }
-        ensures applied { IfSome result (λ removed. (command : CommandOf) × IsApplied raw command removed self.old self.new) }
+        ensures applied { IfSome result (λ removed. (command : CommandOf)
+            × IsApplied raw command removed self.old self.new) }
         ensures illegal { result ≡ None → (ill : IllOf) × (first_ill raw ≡ Some ill) }
         ensures kept { result ≡ None → self.new ≡ self.old }
     {
@@ -232,7 +233,8 @@ impl Unit {
     pub(crate) fn error_bits(&self) -> (bool, bool)
         ensures error { result.0 ≡ self.now.stop.error }
         ensures acknowledged { result.1 ≡ self.now.stop.acknowledged }
-        ensures active { IsActive self.now.stop.mode self.now.stop.error self.now.stop.acknowledged }
+        ensures active { IsActive self.now.stop.mode self.now.stop.error
+            self.now.stop.acknowledged }
     {
         self.stop.bits()
     }
@@ -252,7 +254,8 @@ impl Unit {
     /// isn't that of SMMU_GERROR.
     pub fn acknowledge(&mut self, gerrorn: u32, remedy: Remedy) -> Result<(), AckFault>
         ensures answer { IsAcknowledgementAnswer self.old.stop gerrorn result }
-        ensures ok { OnOk result (self.new ≡ record self.old { stop = acknowledged_by remedy self.old.stop }) }
+        ensures ok { OnOk result (self.new
+            ≡ record self.old { stop = acknowledged_by remedy self.old.stop }) }
         ensures err { OnErr result (self.new ≡ self.old) }
         ensures settled { StaysSettled self.old self.new [] }
     {
@@ -264,7 +267,8 @@ impl Unit {
     /// A witness of what a ring asks of a unit that is its device: that it counted all that was taken, and
     /// that its entries are settled for it. It does nothing.
     pub fn is_settled_as_a_device(&self)
-        ensures { (list : List Taken) → ⟦<Unit as Device>⟧.settled self.now list ↔ IsSettledUnit self.now list }
+        ensures { (list : List Taken) → ⟦<Unit as Device>⟧.settled self.now list
+            ↔ IsSettledUnit self.now list }
     {
         let _ = &self.caches;
     }
@@ -300,7 +304,8 @@ impl Unit {
     /// Removes and returns the entry held under `tag`, if any.
     pub fn evict(&mut self, tag: &Tag) -> Option<Entry>
         ensures was { result ≡ finite.get self.old.caches.entries tag.now }
-        ensures new { self.new ≡ with_entries self.old (finite.remove self.old.caches.entries tag.now) }
+        ensures new { self.new
+            ≡ with_entries self.old (finite.remove self.old.caches.entries tag.now) }
         ensures settled { StaysSettled self.old self.new [] }
     {
         self.caches.evict(tag)
@@ -329,7 +334,8 @@ impl Unit {
     pub fn covered(&self, command: &Command, entries: &mut [Entry]) -> usize
         ensures told { AreTold (only_covered command.now self.now.caches.entries)
             entries.old entries.new result }
-        ensures own { All (IsCoveredIn self.now.caches.entries command.now) (take result entries.new) }
+        ensures own { All (IsCoveredIn self.now.caches.entries command.now)
+            (take result entries.new) }
         ensures counted { result + finite.len (without_covered command.now self.now.caches.entries)
             ≡ finite.len self.now.caches.entries }
         ensures few { result ≤ most_entries }

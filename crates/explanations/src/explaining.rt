@@ -122,7 +122,8 @@ fn said(alloc: Global, number: u64, why: &Why<'_>) -> Result<String, AllocError>
 /// Explains the line that ended the run of a script: its number, which of its words is wrong and what was expected
 /// there, or what is wrong with all of it. One line of text without its end, or None if the answer is no fault.
 pub fn explain(alloc: Global, script: Script, last: &LastLine) -> Result<Option<String>, AllocError>
-    ensures line { IfOk result (λ told. IfSome told (λ said. IsSaidOf last.now.number (string_bytes said))) }
+    ensures line { IfOk result (λ told.
+        IfSome told (λ said. IsSaidOf last.now.number (string_bytes said))) }
 {
     let Some(fault) = fault_in(last.answer.as_slice()) else {
         return Ok(None);

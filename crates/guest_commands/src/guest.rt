@@ -82,7 +82,8 @@ impl Guest {
         ensures ok { OnOk result (self.new ≡ attached self.old sid host) }
         ensures err { OnErr result (self.new ≡ self.old) }
         ensures fault { IfSome (refusal self.old sid host.sid) (λ fault. result ≡ Err fault) }
-        ensures memory { IfNone (refusal self.old sid host.sid) (IsOkUnless result AttachFault.NoMemory) }
+        ensures memory { IfNone (refusal self.old sid host.sid)
+            (IsOkUnless result AttachFault.NoMemory) }
     {
         if !has_stream(&self.smmu, host.sid) {
             return Err(AttachFault::OutOfRange);

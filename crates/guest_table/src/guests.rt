@@ -18,7 +18,8 @@ fn position(guests: &[Guest], vmid: Vmid) -> Option<usize>
 
 /// The place of the guest with this VMID.
 pub(crate) fn place(guests: &[Guest], vmid: Vmid) -> Option<usize>
-    ensures { MatchOption result (find (λ guest. guest.vmid == vmid) guests.now ≡ None) (IsPlace guests.now vmid) }
+    ensures { MatchOption result (find (λ guest. guest.vmid == vmid) guests.now
+        ≡ None) (IsPlace guests.now vmid) }
 {
     position(guests, vmid)
 }
@@ -39,7 +40,8 @@ pub(crate) fn is_used(guests: &[Guest], host: Sid) -> bool
 
 /// The streams of the host that this stream of the guest is.
 pub(crate) fn hosts(alloc: Global, guest: &Guest, sid: Sid) -> Result<Vec<Sid>, AllocError>
-    ensures { IfOk result (λ hosts. hosts.items ≡ map host_sid (attached_to guest.now.streams sid)) }
+    ensures { IfOk result (λ hosts. hosts.items
+        ≡ map host_sid (attached_to guest.now.streams sid)) }
 {
     guest
         .streams()

@@ -87,7 +87,8 @@ impl GuestTable {
         ensures ok { OnOk result (self.new ≡ attached_in self.old vmid sid host) }
         ensures err { OnErr result (self.new ≡ self.old) }
         ensures fault { IfSome (refusal self.old vmid sid host.sid) (λ fault. result ≡ Err fault) }
-        ensures memory { IfNone (refusal self.old vmid sid host.sid) (IsOkUnless result TableFault.NoMemory) }
+        ensures memory { IfNone (refusal self.old vmid sid host.sid)
+            (IsOkUnless result TableFault.NoMemory) }
     {
         let Some(at) = place(&self.guests, vmid) else {
             return Err(TableFault::NoGuest);

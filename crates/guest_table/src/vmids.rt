@@ -34,7 +34,8 @@ fn is_free(guests: &[Guest], leaving: &[Vmid], vmid: Vmid) -> bool
 
 /// The least free VMID above 0.
 pub(crate) fn first_free(guests: &[Guest], leaving: &[Vmid]) -> Option<Vmid>
-    ensures { MatchOption result (NoneIsFreeBelow guests.now leaving.now 65536) (IsFirstFree guests.now leaving.now) }
+    ensures { MatchOption result (NoneIsFreeBelow guests.now leaving.now 65536)
+        (IsFirstFree guests.now leaving.now) }
 {
     for number in 1..VMIDS {
         let vmid = Vmid::new(number).unwrap();

@@ -88,7 +88,9 @@ impl Flight {
         requires count { count ≤ length consumer.now.raws }
         requires room { length self.old.items + count ≤ self.old.capacity }
         requires legal { HasOutcome Applied (take count consumer.now.raws) }
-        ensures { self.new ≡ buffer (self.old.items ++ map in_flight (take count consumer.now.raws)) self.old.capacity }
+        ensures { self.new
+            ≡ buffer (self.old.items ++ map in_flight (take count consumer.now.raws))
+            self.old.capacity }
     {
         for place in 0..count {
             let raw = consumer.get(place).unwrap();

@@ -96,14 +96,17 @@ impl<Q: CommandQueue> Forwarder<Q> {
     pub fn forward(&mut self, ring: &Ring) -> Forwarded
         requires { self.old.consumer.consumer.ring ≡ ring.now }
         ensures forwarded { HasForwarded Q.queue self.old self.new result }
-        ensures broken { (word : ℕ) → self.old.owner.state ≡ Broken word → result ≡ Forwarded.Broken word }
+        ensures broken { (word : ℕ) → self.old.owner.state ≡ Broken word
+            → result ≡ Forwarded.Broken word }
         ensures state { self.new.owner.state ≡ self.old.owner.state }
         ensures settled { settled_raws self.new.consumer ≡ settled_raws self.old.consumer }
         ensures consumed { HasConsumedAll (Q.queue self.new.owner.queue)
             (map taken_as (settled_raws self.new.consumer)) }
-        ensures order { IsInOrder (Q.queue self.new.owner.queue) self.new.consumer.consumer.history }
+        ensures order { IsInOrder (Q.queue self.new.owner.queue)
+            self.new.consumer.consumer.history }
         ensures lost { (Q.queue self.new.owner.queue).lost ≡ (Q.queue self.old.owner.queue).lost }
-        ensures repeated { (Q.queue self.new.owner.queue).repeated ≡ (Q.queue self.old.owner.queue).repeated }
+        ensures repeated { (Q.queue self.new.owner.queue).repeated
+            ≡ (Q.queue self.old.owner.queue).repeated }
         ensures history { Grew ConsumerOf
             self.old.consumer.consumer.trail self.new.consumer.consumer.trail
             self.old.consumer.consumer.history self.new.consumer.consumer.history }
@@ -123,16 +126,19 @@ impl<Q: CommandQueue> Forwarder<Q> {
         requires { self.old.consumer.consumer.ring ≡ ring.now }
         ensures polled { ¬ IsBroken self.old.owner.state
             → HasPolled (Q.queue self.old.owner.queue) (Q.queue self.new.owner.queue) result }
-        ensures state { ¬ IsBroken self.old.owner.state → self.new.owner.state ≡ state_after result }
+        ensures state { ¬ IsBroken self.old.owner.state
+            → self.new.owner.state ≡ state_after result }
         ensures broken { (word : ℕ) → self.old.owner.state ≡ Broken word
             → (result ≡ Progress.Broken word) × (self.new ≡ self.old) }
         ensures settled { HasSettledAt result (Q.queue self.new.owner.queue)
             self.old.consumer self.new.consumer }
         ensures consumed { HasConsumedAll (Q.queue self.new.owner.queue)
             (map taken_as (settled_raws self.new.consumer)) }
-        ensures order { IsInOrder (Q.queue self.new.owner.queue) self.new.consumer.consumer.history }
+        ensures order { IsInOrder (Q.queue self.new.owner.queue)
+            self.new.consumer.consumer.history }
         ensures lost { (Q.queue self.new.owner.queue).lost ≡ (Q.queue self.old.owner.queue).lost }
-        ensures repeated { (Q.queue self.new.owner.queue).repeated ≡ (Q.queue self.old.owner.queue).repeated }
+        ensures repeated { (Q.queue self.new.owner.queue).repeated
+            ≡ (Q.queue self.old.owner.queue).repeated }
         ensures history { Grew ConsumerOf
             self.old.consumer.consumer.trail self.new.consumer.consumer.trail
             self.old.consumer.consumer.history self.new.consumer.consumer.history }
@@ -160,7 +166,8 @@ impl<Q: CommandQueue> Forwarder<Q> {
 
     /// Returns at which command the last look found the hardware stopped, and why, until that is acknowledged.
     pub fn stopped(&self) -> Option<Stopped>
-        ensures some { IfSome result (IsStoppedAt (Q.queue self.now.owner.queue) self.now.owner.state) }
+        ensures some { IfSome result (IsStoppedAt (Q.queue self.now.owner.queue)
+            self.now.owner.state) }
         ensures none { IfNone result (¬ IsStoppedState self.now.owner.state) }
     {
         let QueueState::Stopped(error) = self.owner.state() else {
@@ -181,7 +188,8 @@ impl<Q: CommandQueue> Forwarder<Q> {
         ensures done { IfOk result (HasRemedied remedy self.old.owner.state
             (Q.queue self.old.owner.queue) (Q.queue self.new.owner.queue)) }
         ensures running { OnOk result (self.new.owner.state ≡ Running) }
-        ensures refused { IfErr result (IsRefused remedy self.old.owner.state (Q.queue self.old.owner.queue)) }
+        ensures refused { IfErr result (IsRefused remedy self.old.owner.state
+            (Q.queue self.old.owner.queue)) }
         ensures kept { OnErr result (self.new ≡ self.old) }
         ensures consumer { self.new.consumer ≡ self.old.consumer }
     {
@@ -227,8 +235,8 @@ impl<Q: CommandQueue> Forwarder<Q> {
     /// a CMD_ATC_INV isn't asked.
     pub fn outcome(&self, receipt: &Receipt) -> BatchOutcome
         requires { receipt.now.sender < self.now.consumer.consumer.ring.made_with.senders }
-        ensures outcome { IsOutcomeOf (Q.queue self.now.owner.queue).lost (settled_raws self.now.consumer)
-            receipt.now.sender receipt.now.number result }
+        ensures outcome { IsOutcomeOf (Q.queue self.now.owner.queue).lost
+            (settled_raws self.now.consumer) receipt.now.sender receipt.now.number result }
         ensures whole { result ≡ Complete → IsWhole (Q.queue self.now.owner.queue).lost
             (settled_raws self.now.consumer) receipt.now.sender receipt.now.number }
     {
@@ -254,9 +262,11 @@ impl<Q: CommandQueue> Forwarder<Q> {
     pub fn told(&mut self, ring: &Ring, sender: &mut Sender)
         requires ring { self.old.consumer.consumer.ring ≡ ring.now }
         requires sender { sender.old.ring ≡ ring.now }
-        ensures told { WasToldAllTruly (Q.has_effect self.new.owner.queue) (Q.queue self.new.owner.queue)
-            self.new.consumer.consumer.history sender.old.number sender.old.trail }
-        ensures order { IsInOrder (Q.queue self.new.owner.queue) self.new.consumer.consumer.history }
+        ensures told { WasToldAllTruly (Q.has_effect self.new.owner.queue)
+            (Q.queue self.new.owner.queue) self.new.consumer.consumer.history sender.old.number
+            sender.old.trail }
+        ensures order { IsInOrder (Q.queue self.new.owner.queue)
+            self.new.consumer.consumer.history }
         ensures owner { self.new.owner ≡ self.old.owner }
         ensures consumer { record self.new.consumer.consumer { history = [] }
             ≡ record self.old.consumer.consumer { history = [] } }
@@ -268,8 +278,10 @@ impl<Q: CommandQueue> Forwarder<Q> {
             self.old.consumer.consumer.trail self.new.consumer.consumer.history }
         ensures of_sender { IsHistory sender.old.ring.made_with (SenderOf sender.old.number)
             sender.old.trail self.new.consumer.consumer.history }
-        ensures known_to_consumer { WentOn ConsumerOf self.old.consumer.consumer.history self.new.consumer.consumer.history }
-        ensures known_to_sender { WentOn (SenderOf sender.old.number) sender.old.history self.new.consumer.consumer.history }
+        ensures known_to_consumer { WentOn ConsumerOf self.old.consumer.consumer.history
+            self.new.consumer.consumer.history }
+        ensures known_to_sender { WentOn (SenderOf sender.old.number) sender.old.history
+            self.new.consumer.consumer.history }
     {
         laws::world_law();
         laws::consumer_trail();

@@ -34,7 +34,8 @@ fn take_in<Q: CommandQueue>(
     ensures flight { IsInFlight (Q.queue owner.new.queue) owner.new.state consumer.new flight.new }
     ensures lost { (Q.queue owner.new.queue).lost ≡ (Q.queue owner.old.queue).lost }
     ensures repeated { (Q.queue owner.new.queue).repeated ≡ (Q.queue owner.old.queue).repeated }
-    ensures syncs { NoSyncIsLost (Q.queue owner.old.queue) → NoSyncIsLost (Q.queue owner.new.queue) }
+    ensures syncs { NoSyncIsLost (Q.queue owner.old.queue)
+        → NoSyncIsLost (Q.queue owner.new.queue) }
     ensures state { owner.new.state ≡ owner.old.state }
     ensures settled { settled_raws consumer.new ≡ settled_raws consumer.old }
     ensures history { Grew ConsumerOf consumer.old.consumer.trail consumer.new.consumer.trail
@@ -72,7 +73,8 @@ pub fn forward_with<Q: CommandQueue>(
     ensures flight { IsInFlight (Q.queue owner.new.queue) owner.new.state consumer.new flight.new }
     ensures lost { (Q.queue owner.new.queue).lost ≡ (Q.queue owner.old.queue).lost }
     ensures repeated { (Q.queue owner.new.queue).repeated ≡ (Q.queue owner.old.queue).repeated }
-    ensures syncs { NoSyncIsLost (Q.queue owner.old.queue) → NoSyncIsLost (Q.queue owner.new.queue) }
+    ensures syncs { NoSyncIsLost (Q.queue owner.old.queue)
+        → NoSyncIsLost (Q.queue owner.new.queue) }
     ensures state { owner.new.state ≡ owner.old.state }
     ensures settled { settled_raws consumer.new ≡ settled_raws consumer.old }
     ensures history { Grew ConsumerOf consumer.old.consumer.trail consumer.new.consumer.trail

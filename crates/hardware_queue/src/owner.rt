@@ -97,7 +97,8 @@ impl<Q: CommandQueue> Owner<Q> {
     /// Copies as many of these commands as fit into the queue, and then shows them all by one write of PROD.
     /// Returns how many.
     pub fn push(&mut self, raws: &[Raw]) -> u32
-        ensures pushed { HasPushed raws.now (Q.queue self.old.queue) (Q.queue self.new.queue) result }
+        ensures pushed { HasPushed raws.now (Q.queue self.old.queue) (Q.queue self.new.queue)
+            result }
         ensures state { self.new.state ≡ self.old.state }
     {
         let room = self.room();

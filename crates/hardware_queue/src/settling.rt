@@ -44,10 +44,12 @@ fn settle_first<Q: CommandQueue>(
         consumer.old.consumer.ring.made_with.senders fates.old }
     requires order { (Q.queue owner.now.queue).consumed ≤ length (Q.queue owner.now.queue).shown }
     requires flight { IsBeingSettled (Q.queue owner.now.queue) consumer.old flight.old left }
-    ensures fates { IfSome result (λ rest. IsKnown (Q.queue owner.now.queue).lost (settled_raws consumer.new)
+    ensures fates { IfSome result (λ rest.
+        IsKnown (Q.queue owner.now.queue).lost (settled_raws consumer.new)
         consumer.new.consumer.ring.made_with.senders fates.new) }
     ensures fates_kept { IfNone result (fates.new ≡ fates.old) }
-    ensures flight { IfSome result (IsBeingSettled (Q.queue owner.now.queue) consumer.new flight.new) }
+    ensures flight { IfSome result (IsBeingSettled (Q.queue owner.now.queue) consumer.new
+        flight.new) }
     ensures settled { IfSome result (λ rest. HasSettledOne consumer.old consumer.new) }
     ensures history { IfSome result (λ rest. Grew ConsumerOf
         consumer.old.consumer.trail consumer.new.consumer.trail
@@ -125,7 +127,8 @@ pub fn poll_with<Q: CommandQueue>(
     ensures flight { IsInFlight (Q.queue owner.new.queue) owner.new.state consumer.new flight.new }
     ensures lost { (Q.queue owner.new.queue).lost ≡ (Q.queue owner.old.queue).lost }
     ensures repeated { (Q.queue owner.new.queue).repeated ≡ (Q.queue owner.old.queue).repeated }
-    ensures syncs { NoSyncIsLost (Q.queue owner.old.queue) → NoSyncIsLost (Q.queue owner.new.queue) }
+    ensures syncs { NoSyncIsLost (Q.queue owner.old.queue)
+        → NoSyncIsLost (Q.queue owner.new.queue) }
     ensures history { Grew ConsumerOf consumer.old.consumer.trail consumer.new.consumer.trail
         consumer.old.consumer.history consumer.new.consumer.history }
     ensures ring { consumer.new.consumer.ring ≡ consumer.old.consumer.ring }

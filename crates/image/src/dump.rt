@@ -68,7 +68,8 @@ fn add_line(
     last: Option<u64>,
     image: &mut Vec<u8>,
 ) -> Result<Option<u64>, DumpError>
-    ensures { AddsLine number last (dumped (words_of line.now)) image.old.items image.new.items result }
+    ensures { AddsLine number last (dumped (words_of line.now)) image.old.items image.new.items
+        result }
 {
     match dump_line(line) {
         Dumped::Nothing => Ok(last),

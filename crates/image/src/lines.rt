@@ -28,14 +28,16 @@ pub(crate) fn raw_at(image: &[u8], slot: u32) -> Raw
 /// Appends what a slot means as a command, and ends the line.
 fn say_slot_text(image: &[u8], slot: u32, text: &mut String) -> Result<(), AllocError>
     requires { 16 * slot + 16 ≤ length image.now }
-    ensures { OnOk result (string_bytes text.new ≡ string_bytes text.old ++ slot_text image.now slot) }
+    ensures { OnOk result (string_bytes text.new
+        ≡ string_bytes text.old ++ slot_text image.now slot) }
 {
     say_command(raw_at(image, slot), text)?;
     text.push_str("\n")
 }
 
 fn say_registers(queue: &Queue, text: &mut String) -> Result<(), AllocError>
-    ensures { OnOk result (string_bytes text.new ≡ string_bytes text.old ++ registers_text queue.now) }
+    ensures { OnOk result (string_bytes text.new
+        ≡ string_bytes text.old ++ registers_text queue.now) }
 {
     let (size, cons) = (queue.cons.geometry().size(), queue.register);
     let prod = queue.prod.get();
@@ -67,7 +69,8 @@ fn say_place(place: u32, wrap: u8, text: &mut String) -> Result<(), AllocError>
 
 /// The wrap bit of the index of a position.
 fn wrap_bit(index: Index) -> u8
-    ensures { (geometry position : ℕ) → index ≡ index_of geometry position → result ≡ wrap_bit geometry position }
+    ensures { (geometry position : ℕ) → index ≡ index_of geometry position
+        → result ≡ wrap_bit geometry position }
 {
     u8::from(index.wrap())
 }
@@ -81,7 +84,8 @@ pub(crate) fn say_waiting(
 ) -> Result<(), AllocError>
     requires image { length image.now ≡ 16 * size cons.geometry }
     requires steps { steps < size cons.geometry }
-    ensures { OnOk result (string_bytes text.new ≡ string_bytes text.old ++ waiting_line image.now cons.geometry (cons.number + steps)) }
+    ensures { OnOk result (string_bytes text.new
+        ≡ string_bytes text.old ++ waiting_line image.now cons.geometry (cons.number + steps)) }
 {
     let index = cons.forward(steps);
     let place = index.place();
@@ -105,7 +109,8 @@ fn standing(waiting: bool) -> &'static str
 }
 
 fn say_standing(slot: u32, waiting: bool, text: &mut String) -> Result<(), AllocError>
-    ensures { OnOk result (string_bytes text.new ≡ string_bytes text.old ++ standing_text slot waiting) }
+    ensures { OnOk result (string_bytes text.new
+        ≡ string_bytes text.old ++ standing_text slot waiting) }
 {
     let standing = standing(waiting);
     write!(text, "slot {slot} {standing} ")
@@ -141,7 +146,8 @@ fn say_held(image: &[u8], queue: &Queue, slot: u32, text: &mut String) -> Result
     requires shown { IsShown queue.now }
     requires image { length image.now ≡ 16 * size queue.now.cons.geometry }
     requires slot { slot < size queue.now.cons.geometry }
-    ensures { OnOk result (string_bytes text.new ≡ string_bytes text.old ++ held_text image.now queue.now slot) }
+    ensures { OnOk result (string_bytes text.new
+        ≡ string_bytes text.old ++ held_text image.now queue.now slot) }
 {
     if is_completed(image, queue, slot) {
         say_completed(text)
@@ -160,7 +166,8 @@ pub(crate) fn say_slot(
     requires shown { IsShown queue.now }
     requires image { length image.now ≡ 16 * size queue.now.cons.geometry }
     requires slot { slot < size queue.now.cons.geometry }
-    ensures { OnOk result (string_bytes text.new ≡ string_bytes text.old ++ slot_line image.now queue.now slot) }
+    ensures { OnOk result (string_bytes text.new
+        ≡ string_bytes text.old ++ slot_line image.now queue.now slot) }
 {
     say_standing(slot, is_waiting(queue, slot), text)?;
     say_held(image, queue, slot, text)

@@ -14,10 +14,12 @@ const PIECE: usize = 65_536;
 /// Reads all that a reader has left, in pieces of at most the length of `piece`.
 fn read_by<R: Read>(alloc: Global, input: &mut R, piece: &mut [u8]) -> Result<Vec<u8>, ServeError>
     requires { 0 < length piece.old }
-    ensures read { IfOk result (λ bytes. Consumes (R.remaining input.old) (R.remaining input.new) bytes.items) }
+    ensures read { IfOk result (λ bytes.
+        Consumes (R.remaining input.old) (R.remaining input.new) bytes.items) }
     ensures end { IfOk result (λ bytes. IsAtEnd (R.remaining input.new)) }
     ensures error { IfErr result (λ e. is_write e ≡ false) }
-    ensures endless { IfErr result (λ e. is_endless e ≡ true → ReadsAtLeast (2 ^ 63) (R.remaining input.old) (R.remaining input.new)) }
+    ensures endless { IfErr result (λ e. is_endless e ≡ true
+        → ReadsAtLeast (2 ^ 63) (R.remaining input.old) (R.remaining input.new)) }
 {
     let mut bytes = Vec::new(alloc);
     'reads: for turn in 0..u64::MAX {
@@ -37,10 +39,12 @@ fn read_by<R: Read>(alloc: Global, input: &mut R, piece: &mut [u8]) -> Result<Ve
 
 /// Reads all that a reader has left.
 pub(crate) fn read_image<R: Read>(alloc: Global, input: &mut R) -> Result<Vec<u8>, ServeError>
-    ensures read { IfOk result (λ bytes. Consumes (R.remaining input.old) (R.remaining input.new) bytes.items) }
+    ensures read { IfOk result (λ bytes.
+        Consumes (R.remaining input.old) (R.remaining input.new) bytes.items) }
     ensures end { IfOk result (λ bytes. IsAtEnd (R.remaining input.new)) }
     ensures error { IfErr result (λ e. is_write e ≡ false) }
-    ensures endless { IfErr result (λ e. is_endless e ≡ true → ReadsAtLeast (2 ^ 63) (R.remaining input.old) (R.remaining input.new)) }
+    ensures endless { IfErr result (λ e. is_endless e ≡ true
+        → ReadsAtLeast (2 ^ 63) (R.remaining input.old) (R.remaining input.new)) }
 {
     match vec![in alloc; 0; PIECE] {
         Ok(mut piece) => read_by(alloc, input, piece.as_mut_slice()),

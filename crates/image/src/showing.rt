@@ -17,8 +17,10 @@ const LONG_TEXT: usize = 65_536;
 
 /// Writes the text and clears it, if it is longer than `LONG_TEXT`.
 fn drain<W: Write>(output: &mut W, text: &mut String) -> Result<(), ServeError>
-    ensures ok { OnOk result (Drained (W.contents output.old) (W.contents output.new) (string_bytes text.old) (string_bytes text.new)) }
-    ensures err { OnErr result (WritesFront (W.contents output.old) (W.contents output.new) (string_bytes text.old)) }
+    ensures ok { OnOk result (Drained (W.contents output.old) (W.contents output.new)
+        (string_bytes text.old) (string_bytes text.new)) }
+    ensures err { OnErr result (WritesFront (W.contents output.old) (W.contents output.new)
+        (string_bytes text.old)) }
     ensures error { IfErr result (λ e. is_write e ≡ true) }
 {
     if text.len() > LONG_TEXT {
@@ -37,8 +39,10 @@ pub(crate) fn show_waiting<W: Write>(
 ) -> Result<(), ServeError>
     requires shown { IsShown queue.now }
     requires image { length image.now ≡ 16 * size queue.now.cons.geometry }
-    ensures ok { OnOk result (Moved (W.contents output.old) (W.contents output.new) (string_bytes text.old) (string_bytes text.new) (waiting_lines image.now queue.now)) }
-    ensures err { OnErr result (WritesFront (W.contents output.old) (W.contents output.new) (string_bytes text.old ++ waiting_lines image.now queue.now)) }
+    ensures ok { OnOk result (Moved (W.contents output.old) (W.contents output.new)
+        (string_bytes text.old) (string_bytes text.new) (waiting_lines image.now queue.now)) }
+    ensures err { OnErr result (WritesFront (W.contents output.old) (W.contents output.new)
+        (string_bytes text.old ++ waiting_lines image.now queue.now)) }
     ensures read { IfErr result (λ e. is_read e ≡ false) }
     ensures endless { IfErr result (λ e. is_endless e ≡ false) }
 {
@@ -60,8 +64,10 @@ pub(crate) fn show_slots<W: Write>(
 ) -> Result<(), ServeError>
     requires shown { IsShown queue.now }
     requires image { length image.now ≡ 16 * size queue.now.cons.geometry }
-    ensures ok { OnOk result (Moved (W.contents output.old) (W.contents output.new) (string_bytes text.old) (string_bytes text.new) (slot_lines image.now queue.now)) }
-    ensures err { OnErr result (WritesFront (W.contents output.old) (W.contents output.new) (string_bytes text.old ++ slot_lines image.now queue.now)) }
+    ensures ok { OnOk result (Moved (W.contents output.old) (W.contents output.new)
+        (string_bytes text.old) (string_bytes text.new) (slot_lines image.now queue.now)) }
+    ensures err { OnErr result (WritesFront (W.contents output.old) (W.contents output.new)
+        (string_bytes text.old ++ slot_lines image.now queue.now)) }
     ensures read { IfErr result (λ e. is_read e ≡ false) }
     ensures endless { IfErr result (λ e. is_endless e ≡ false) }
 {

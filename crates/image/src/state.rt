@@ -39,7 +39,8 @@ fn or_none(streams: &str) -> &str
 }
 
 fn say_unanswered(streams: &str, text: &mut String) -> Result<(), AllocError>
-    ensures { OnOk result (string_bytes text.new ≡ string_bytes text.old ++ unanswered_text streams.now) }
+    ensures { OnOk result (string_bytes text.new
+        ≡ string_bytes text.old ++ unanswered_text streams.now) }
 {
     let streams = or_none(streams);
     write!(
@@ -58,7 +59,8 @@ fn say_cause(
 ) -> Result<(), AllocError>
     requires shown { IsShown queue.now }
     requires image { length image.now ≡ 16 * size queue.now.cons.geometry }
-    ensures { OnOk result (string_bytes text.new ≡ string_bytes text.old ++ cause_text image.now queue.now err) }
+    ensures { OnOk result (string_bytes text.new
+        ≡ string_bytes text.old ++ cause_text image.now queue.now err) }
 {
     match err {
         1 => say_illegal(raw_at(image, queue.cons.place()), text),
@@ -82,7 +84,8 @@ fn say_stopped(
 ) -> Result<(), AllocError>
     requires shown { IsShown queue.now }
     requires image { length image.now ≡ 16 * size queue.now.cons.geometry }
-    ensures { OnOk result (string_bytes text.new ≡ string_bytes text.old ++ stopped_text image.now queue.now) }
+    ensures { OnOk result (string_bytes text.new
+        ≡ string_bytes text.old ++ stopped_text image.now queue.now) }
 {
     say_stop(queue.cons.place(), text)?;
     say_cause(alloc, image, queue, err_of(queue.register), text)?;
@@ -90,7 +93,8 @@ fn say_stopped(
 }
 
 fn say_behind(streams: &str, text: &mut String) -> Result<(), AllocError>
-    ensures { OnOk result (string_bytes text.new ≡ string_bytes text.old ++ behind_text streams.now) }
+    ensures { OnOk result (string_bytes text.new
+        ≡ string_bytes text.old ++ behind_text streams.now) }
 {
     if streams.is_empty() {
         text.push_str("running\n")
@@ -110,7 +114,8 @@ fn say_running(
 ) -> Result<(), AllocError>
     requires shown { IsShown queue.now }
     requires image { length image.now ≡ 16 * size queue.now.cons.geometry }
-    ensures { OnOk result (string_bytes text.new ≡ string_bytes text.old ++ running_text image.now queue.now) }
+    ensures { OnOk result (string_bytes text.new
+        ≡ string_bytes text.old ++ running_text image.now queue.now) }
 {
     if is_sync(raw_at(image, queue.cons.place())) {
         say_behind(streams_of(alloc, image, queue)?.as_str(), text)
@@ -127,7 +132,8 @@ fn say_going(
 ) -> Result<(), AllocError>
     requires shown { IsShown queue.now }
     requires image { length image.now ≡ 16 * size queue.now.cons.geometry }
-    ensures { OnOk result (string_bytes text.new ≡ string_bytes text.old ++ going_text image.now queue.now) }
+    ensures { OnOk result (string_bytes text.new
+        ≡ string_bytes text.old ++ going_text image.now queue.now) }
 {
     if queue.waiting() == 0 {
         text.push_str("empty\n")
@@ -146,7 +152,8 @@ pub(crate) fn say_state(
 ) -> Result<(), AllocError>
     requires shown { IsShown queue.now }
     requires image { length image.now ≡ 16 * size queue.now.cons.geometry }
-    ensures { OnOk result (string_bytes text.new ≡ string_bytes text.old ++ state_text image.now queue.now error) }
+    ensures { OnOk result (string_bytes text.new
+        ≡ string_bytes text.old ++ state_text image.now queue.now error) }
 {
     match error {
         CmdqErr::NotGiven => Ok(()),

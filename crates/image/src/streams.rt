@@ -33,7 +33,8 @@ fn is_sync_at(image: &[u8], queue: &Queue, slot: u32) -> bool
 
 /// Appends the stream of an ATC_INV behind a space, and nothing for any other command.
 fn say_command_stream(command: &Command, text: &mut String) -> Result<(), AllocError>
-    ensures { OnOk result (string_bytes text.new ≡ string_bytes text.old ++ command_stream command.now) }
+    ensures { OnOk result (string_bytes text.new
+        ≡ string_bytes text.old ++ command_stream command.now) }
 {
     match *command {
         Command::AtcInv { sid, .. } => {
@@ -46,7 +47,8 @@ fn say_command_stream(command: &Command, text: &mut String) -> Result<(), AllocE
 
 /// The same of the words of a command.
 fn say_stream(raw: Raw, text: &mut String) -> Result<(), AllocError>
-    ensures { OnOk result (string_bytes text.new ≡ string_bytes text.old ++ stream_text (decoding raw)) }
+    ensures { OnOk result (string_bytes text.new
+        ≡ string_bytes text.old ++ stream_text (decoding raw)) }
 {
     match decode(raw) {
         Ok(command) => say_command_stream(&command, text),
@@ -59,7 +61,8 @@ fn add_slot(image: &[u8], queue: &Queue, slot: u32, text: &mut String) -> Result
     requires shown { IsShown queue.now }
     requires image { length image.now ≡ 16 * size queue.now.cons.geometry }
     requires slot { slot < size queue.now.cons.geometry }
-    ensures { OnOk result (string_bytes text.new ≡ streams_at image.now queue.now slot (string_bytes text.old)) }
+    ensures { OnOk result (string_bytes text.new
+        ≡ streams_at image.now queue.now slot (string_bytes text.old)) }
 {
     if is_sync_at(image, queue, slot) {
         text.clear();

@@ -36,8 +36,10 @@ fn show_lines<W: Write>(
 ) -> Result<(), ServeError>
     requires shown { IsShown queue.now }
     requires image { length image.now ≡ 16 * size queue.now.cons.geometry }
-    ensures ok { OnOk result (Moved (W.contents output.old) (W.contents output.new) (string_bytes text.old) (string_bytes text.new) (lines_shown image.now queue.now all)) }
-    ensures err { OnErr result (WritesFront (W.contents output.old) (W.contents output.new) (string_bytes text.old ++ lines_shown image.now queue.now all)) }
+    ensures ok { OnOk result (Moved (W.contents output.old) (W.contents output.new)
+        (string_bytes text.old) (string_bytes text.new) (lines_shown image.now queue.now all)) }
+    ensures err { OnErr result (WritesFront (W.contents output.old) (W.contents output.new)
+        (string_bytes text.old ++ lines_shown image.now queue.now all)) }
     ensures read { IfErr result (λ e. is_read e ≡ false) }
     ensures endless { IfErr result (λ e. is_endless e ≡ false) }
 {
@@ -58,8 +60,10 @@ fn show<W: Write>(
 ) -> Result<(), ServeError>
     requires shown { IsShown queue.now }
     requires image { length image.now ≡ 16 * size queue.now.cons.geometry }
-    ensures ok { OnOk result (Appends (W.contents output.old) (W.contents output.new) (view image.now queue.now shown)) }
-    ensures err { OnErr result (WritesFront (W.contents output.old) (W.contents output.new) (view image.now queue.now shown)) }
+    ensures ok { OnOk result (Appends (W.contents output.old) (W.contents output.new)
+        (view image.now queue.now shown)) }
+    ensures err { OnErr result (WritesFront (W.contents output.old) (W.contents output.new)
+        (view image.now queue.now shown)) }
     ensures read { IfErr result (λ e. is_read e ≡ false) }
     ensures endless { IfErr result (λ e. is_endless e ≡ false) }
 {
@@ -76,8 +80,10 @@ fn show<W: Write>(
 
 /// Writes the one line of a fault.
 fn refuse<W: Write>(alloc: Global, fault: ImageFault, output: &mut W) -> Result<(), ServeError>
-    ensures ok { OnOk result (Appends (W.contents output.old) (W.contents output.new) (fault_text fault)) }
-    ensures err { OnErr result (WritesFront (W.contents output.old) (W.contents output.new) (fault_text fault)) }
+    ensures ok { OnOk result (Appends (W.contents output.old) (W.contents output.new)
+        (fault_text fault)) }
+    ensures err { OnErr result (WritesFront (W.contents output.old) (W.contents output.new)
+        (fault_text fault)) }
     ensures read { IfErr result (λ e. is_read e ≡ false) }
     ensures endless { IfErr result (λ e. is_endless e ≡ false) }
 {
@@ -95,7 +101,8 @@ fn answer_fault<W: Write>(
     fault: ImageFault,
     output: &mut W,
 ) -> Result<Answered, ServeError>
-    ensures answer { Serves result (refusal asked.now.cons fault) (W.contents output.old) (W.contents output.new) }
+    ensures answer { Serves result (refusal asked.now.cons fault) (W.contents output.old)
+        (W.contents output.new) }
     ensures read { IfErr result (λ e. is_read e ≡ false) }
     ensures endless { IfErr result (λ e. is_endless e ≡ false) }
 {
@@ -118,7 +125,8 @@ fn answer_view<W: Write>(
 ) -> Result<Answered, ServeError>
     requires shown { IsShown queue.now }
     requires image { length image.now ≡ 16 * size queue.now.cons.geometry }
-    ensures answer { Serves result (shown_as image.now queue.now shown) (W.contents output.old) (W.contents output.new) }
+    ensures answer { Serves result (shown_as image.now queue.now shown) (W.contents output.old)
+        (W.contents output.new) }
     ensures endless { IfErr result (λ e. is_endless e ≡ false) }
 {
     match show(alloc, image, queue, shown, output) {
@@ -139,7 +147,8 @@ fn answer<W: Write>(
     output: &mut W,
 ) -> Result<Answered, ServeError>
     requires { IsKnown request.now.known }
-    ensures answer { Serves result (answer_in asked.now.cons (Ok request.now) (Ok image.now)) (W.contents output.old) (W.contents output.new) }
+    ensures answer { Serves result (answer_in asked.now.cons (Ok request.now) (Ok image.now))
+        (W.contents output.old) (W.contents output.new) }
     ensures endless { IfErr result (λ e. is_endless e ≡ false) }
 {
     match request.known.queue_in(image.len()) {
@@ -157,7 +166,8 @@ fn answer_dump<W: Write>(
     output: &mut W,
 ) -> Result<Answered, ServeError>
     requires { IsKnown request.now.known }
-    ensures answer { Serves result (answer_in asked.now.cons (Ok request.now) (dump_image text.now)) (W.contents output.old) (W.contents output.new) }
+    ensures answer { Serves result (answer_in asked.now.cons (Ok request.now) (dump_image text.now))
+        (W.contents output.old) (W.contents output.new) }
     ensures endless { IfErr result (λ e. is_endless e ≡ false) }
 {
     match read_dump(alloc, text) {
@@ -178,7 +188,8 @@ fn answer_input<W: Write>(
     output: &mut W,
 ) -> Result<Answered, ServeError>
     requires { IsKnown request.now.known }
-    ensures answer { Serves result (answer_in asked.now.cons (Ok request.now) (image_of asked.now.hex input.now)) (W.contents output.old) (W.contents output.new) }
+    ensures answer { Serves result (answer_in asked.now.cons (Ok request.now)
+        (image_of asked.now.hex input.now)) (W.contents output.old) (W.contents output.new) }
     ensures endless { IfErr result (λ e. is_endless e ≡ false) }
 {
     if asked.hex {
@@ -195,10 +206,13 @@ fn serve<R: Read, W: Write>(
     input: &mut R,
     output: &mut W,
 ) -> Result<Answered, ServeError>
-    ensures answer { IfSome (R.remaining input.old) (λ bytes. Serves result (answer_to asked.now bytes) (W.contents output.old) (W.contents output.new)) }
-    ensures endless { IfErr result (λ e. is_endless e ≡ true → ReadsAtLeast (2 ^ 63) (R.remaining input.old) (R.remaining input.new)) }
+    ensures answer { IfSome (R.remaining input.old) (λ bytes.
+        Serves result (answer_to asked.now bytes) (W.contents output.old) (W.contents output.new)) }
+    ensures endless { IfErr result (λ e. is_endless e ≡ true
+        → ReadsAtLeast (2 ^ 63) (R.remaining input.old) (R.remaining input.new)) }
     ensures unread { HasFault asked.now → R.remaining input.new ≡ R.remaining input.old }
-    ensures judged { HasFault asked.now → IfErr result (λ e. (is_read e ≡ false) × (is_endless e ≡ false)) }
+    ensures judged { HasFault asked.now
+        → IfErr result (λ e. (is_read e ≡ false) × (is_endless e ≡ false)) }
 {
     match Request::of(asked) {
         Ok(request) => match read_image(alloc, input) {
@@ -212,7 +226,9 @@ fn serve<R: Read, W: Write>(
 /// Tells that memory ran out, after a beginning of an answer was written.
 fn tell<W: Write>(output: &mut W, e: AllocError) -> Status
     ensures memory { (result ≡ Status.NoMemory) ⊎ (result ≡ Status.WriteFailed) }
-    ensures told { (answer : Answer) (before : Option (List ℕ)) → WritesFront before (W.contents output.old) answer.text → TellsOfBytes result answer before (W.contents output.new) }
+    ensures told { (answer : Answer) (before : Option (List ℕ))
+        → WritesFront before (W.contents output.old) answer.text
+        → TellsOfBytes result answer before (W.contents output.new) }
 {
     match tell_of_memory(output, e) {
         ServeError::Memory(_) => Status::NoMemory,
@@ -224,8 +240,11 @@ fn tell<W: Write>(output: &mut W, e: AllocError) -> Status
 fn finish<W: Write>(served: Result<Answered, ServeError>, output: &mut W) -> (Status, Option<Hint>)
     ensures endless { result.0 ≡ Status.Endless → IsErrAnd served (λ e. is_endless e ≡ true) }
     ensures read { result.0 ≡ Status.ReadFailed → IsErrAnd served (λ e. is_read e ≡ true) }
-    ensures told { (answer : Answer) (before : Option (List ℕ)) → Serves served answer before (W.contents output.old) → TellsOfBytes result.0 answer before (W.contents output.new) }
-    ensures hint { (answer : Answer) (before : Option (List ℕ)) → Serves served answer before (W.contents output.old) → IsHint result.0 result.1 answer }
+    ensures told { (answer : Answer) (before : Option (List ℕ))
+        → Serves served answer before (W.contents output.old)
+        → TellsOfBytes result.0 answer before (W.contents output.new) }
+    ensures hint { (answer : Answer) (before : Option (List ℕ))
+        → Serves served answer before (W.contents output.old) → IsHint result.0 result.1 answer }
     ensures none { result.0 ≢ Status.Good → result.0 ≢ Status.Refused → result.1 ≡ None }
 {
     match served {
@@ -251,7 +270,8 @@ pub fn image_with_hint<R: Read, W: Write>(
     input: &mut R,
     output: &mut W,
 ) -> (Status, Option<Hint>)
-    ensures told { TellsOfImage asked.now result.0 (R.remaining input.old) (R.remaining input.new) (W.contents output.old) (W.contents output.new) }
+    ensures told { TellsOfImage asked.now result.0 (R.remaining input.old) (R.remaining input.new)
+        (W.contents output.old) (W.contents output.new) }
     ensures hint { HasHint asked.now result.0 result.1 (R.remaining input.old) }
 {
     finish(serve(alloc, asked, input, output), output)
@@ -264,7 +284,8 @@ pub fn image<R: Read, W: Write>(
     input: &mut R,
     output: &mut W,
 ) -> Status
-    ensures { TellsOfImage asked.now result (R.remaining input.old) (R.remaining input.new) (W.contents output.old) (W.contents output.new) }
+    ensures { TellsOfImage asked.now result (R.remaining input.old) (R.remaining input.new)
+        (W.contents output.old) (W.contents output.new) }
 {
     image_with_hint(alloc, asked, input, output).0
 }

@@ -41,7 +41,8 @@ impl CommandsByAddress {
     /// Takes the next command.
     #[tactic(auto, using(crate::proofs::ByAddressLemmas::none_left, crate::proofs::ByAddressLemmas::next_one, crate::proofs::ByAddressLemmas::begins_inside, crate::proofs::ByAddressLemmas::next_fits, crate::proofs::HintLemmas::said))]
     pub(crate) fn take(&mut self) -> Option<Command>
-        ensures commands { commands_by_address self.old ≡ preceded_by result (commands_by_address self.new) }
+        ensures commands { commands_by_address self.old
+            ≡ preceded_by result (commands_by_address self.new) }
         ensures target { self.new.target ≡ self.old.target }
         ensures ended { result ≡ None → self.new ≡ self.old }
         ensures said { IfSome result (IsSaid (ttl_of self.old.target)) }

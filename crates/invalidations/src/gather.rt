@@ -87,7 +87,8 @@ impl Gather {
     /// The interval of some bytes.
     fn interval(&self, range: ByteRange) -> Result<Interval, InvalidationFault>
         requires { 0 < range.length }
-        ensures made { OkIff result (goes_past self.now.space (Range range) ≡ false) (interval_of range) }
+        ensures made { OkIff result (goes_past self.now.space (Range range)
+            ≡ false) (interval_of range) }
         ensures fault { IfErr result (λ fault. fault ≡ PastEnd) }
     {
         match range.first.checked_add(range.length - 1) {

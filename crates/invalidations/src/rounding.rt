@@ -17,7 +17,8 @@ impl Target {
     /// is past the end of the space.
     #[tactic(auto, using(crate::proofs::RoundingLemmas::none_fits, crate::proofs::RoundingLemmas::rounded_fits))]
     pub(crate) fn request(&self, bytes: ByteRange) -> Option<Request>
-        ensures found { SomeIff result (goes_past self.now.space (Range bytes) ≡ false) (request_of self.now bytes) }
+        ensures found { SomeIff result (goes_past self.now.space (Range bytes)
+            ≡ false) (request_of self.now bytes) }
         ensures fits { OnSome result (Fits (request_of self.now bytes)) }
     {
         if bytes.length == 0 {
@@ -47,7 +48,8 @@ impl Target {
     /// The granules of the leaves from that of the first byte to that of the last.
     fn granules(&self, first: u64, last: u64) -> GranuleRange
         requires order { first ≤ last }
-        ensures { result ≡ granules_of self.now (record { first = first; length = last + 1 - first }) }
+        ensures { result
+            ≡ granules_of self.now (record { first = first; length = last + 1 - first }) }
     {
         let bytes = self.leaf_bytes();
         let granules = 1 << self.leaf_bits();

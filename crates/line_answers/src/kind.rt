@@ -14,7 +14,8 @@ pub trait AnswersLines: Drop {
 
     /// Appends the answer to a line, and returns whether the line is good. After an `Err` `reply` is of no use.
     fn say_line(&self, line: &[u8], reply: &mut String) -> Result<bool, AllocError>
-        ensures text { OnOk result (string_bytes reply.new ≡ string_bytes reply.old ++ (answer_of self.now line.now).text) }
+        ensures text { OnOk result (string_bytes reply.new
+            ≡ string_bytes reply.old ++ (answer_of self.now line.now).text) }
         ensures good { IfOk result (λ is_good. is_good ≡ (answer_of self.now line.now).is_good) };
 
     /// Appends why a line isn't good, as an engineer would say it, or nothing if its answer says so. No clause says

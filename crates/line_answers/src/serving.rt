@@ -19,7 +19,8 @@ pub fn answer_lines_with_notes<K: AnswersLines, R: Read, W: Write>(
     input: &mut R,
     output: &mut W,
 ) -> (Status, Notes)
-    ensures { TellsOfLines (K.answer_of kind) result.0 (R.remaining input.old) (R.remaining input.new) (W.contents output.old) (W.contents output.new) }
+    ensures { TellsOfLines (K.answer_of kind) result.0 (R.remaining input.old)
+        (R.remaining input.new) (W.contents output.old) (W.contents output.new) }
 {
     let mut answering = Answering::new(alloc, kind);
     let served = serve(alloc, &mut answering, input, output);
@@ -34,7 +35,8 @@ pub fn answer_lines<K: AnswersLines, R: Read, W: Write>(
     input: &mut R,
     output: &mut W,
 ) -> Status
-    ensures { TellsOfLines (K.answer_of kind) result (R.remaining input.old) (R.remaining input.new) (W.contents output.old) (W.contents output.new) }
+    ensures { TellsOfLines (K.answer_of kind) result (R.remaining input.old) (R.remaining input.new)
+        (W.contents output.old) (W.contents output.new) }
 {
     answer_lines_with_notes(alloc, kind, input, output).0
 }

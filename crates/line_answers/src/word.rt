@@ -13,7 +13,8 @@ fn is_blank(byte: u8) -> bool
 ///
 /// Spaces, tabs and carriage returns separate words. That is this project's choice.
 pub fn next_word(text: &[u8]) -> Option<(&[u8], &[u8])>
-    ensures words { MatchOption result (words_of text.now ≡ []) (λ found. words_of text.now ≡ found.0.now ∷ words_of found.1.now) }
+    ensures words { MatchOption result (words_of text.now ≡ []) (λ found. words_of text.now
+        ≡ found.0.now ∷ words_of found.1.now) }
     ensures shorter { IfSome result (λ found. length found.1.now < length text.now) }
 {
     let text = without_leading_blanks(text);

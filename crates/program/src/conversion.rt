@@ -48,7 +48,8 @@ pub(crate) fn convert_to_exit<I: Read, O: Write, F: Write>(
     output: &mut Watched<O>,
     faults: &mut Watched<F>,
 ) -> u8
-    ensures done { ExitsAsConvert (guest_asked_of arguments.now) result (I.remaining input.old) (I.remaining input.new) output.old output.new }
+    ensures done { ExitsAsConvert (guest_asked_of arguments.now) result (I.remaining input.old)
+        (I.remaining input.new) output.old output.new }
     ensures explained { TellsOfRefusal result faults.old faults.new }
 {
     match asked(arguments).guest(alloc) {

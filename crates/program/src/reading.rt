@@ -22,7 +22,8 @@ pub(crate) fn words_to_exit<I: Read, O: Write, F: Write>(
     output: &mut O,
     faults: &mut Watched<F>,
 ) -> u8
-    ensures done { ExitsInForm asked.log asked.hex result (I.remaining input.old) (I.remaining input.new) (O.contents output.old) (O.contents output.new) }
+    ensures done { ExitsInForm asked.log asked.hex result (I.remaining input.old)
+        (I.remaining input.new) (O.contents output.old) (O.contents output.new) }
     ensures explained { TellsOfRefusal result faults.old faults.new }
 {
     let (status, notes) = if asked.log {
@@ -76,8 +77,10 @@ pub(crate) fn image_to_exit<I: Read, O: Write, F: Write>(
     output: &mut O,
     faults: &mut Watched<F>,
 ) -> u8
-    ensures explained { TellsOfHint (asked_of arguments.now) result (I.remaining input.old) faults.old faults.new }
-    ensures done { ExitsAsImage (asked_of arguments.now) result (I.remaining input.old) (I.remaining input.new) (O.contents output.old) (O.contents output.new) }
+    ensures explained { TellsOfHint (asked_of arguments.now) result (I.remaining input.old)
+        faults.old faults.new }
+    ensures done { ExitsAsImage (asked_of arguments.now) result (I.remaining input.old)
+        (I.remaining input.new) (O.contents output.old) (O.contents output.new) }
 {
     let asked = asked(arguments);
     let (status, hint) = image_with_hint(alloc, &asked, input, output);

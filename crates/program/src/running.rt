@@ -55,8 +55,10 @@ fn serve<'a, A: Threads + AllocGlobal + Sync, I: Read, O: Write, F: Write>(
     faults: &mut Watched<F>,
 ) -> u8
     requires { HasPlan subcommand }
-    ensures explained { Explains subcommand.entry result (I.remaining input.old) output.old output.new faults.old faults.new }
-    ensures done { ExitsAs subcommand.entry result (I.remaining input.old) (I.remaining input.new) output.old output.new }
+    ensures explained { Explains subcommand.entry result (I.remaining input.old) output.old
+        output.new faults.old faults.new }
+    ensures done { ExitsAs subcommand.entry result (I.remaining input.old) (I.remaining input.new)
+        output.old output.new }
 {
     match subcommand {
         Subcommand::Replay => {
@@ -107,7 +109,8 @@ pub fn program<'a, A: Threads + AllocGlobal + Sync, I: Read, O: Write, F: Write>
     faults: &mut Watched<F>,
 ) -> u8
     // Either the words have no fault, and what they ask for was done; or it was told why they ask for nothing.
-    ensures { ExitsAsProgram (texts words.entry.now) result (I.remaining input.old) (I.remaining input.new) output.old output.new faults.old faults.new }
+    ensures { ExitsAsProgram (texts words.entry.now) result (I.remaining input.old)
+        (I.remaining input.new) output.old output.new faults.old faults.new }
 {
     match understand(rt.alloc(), words) {
         Ok(subcommand) => {

@@ -135,7 +135,8 @@ pub fn tell_without_words<O: Write, F: Write>(
     output: &mut Watched<O>,
     faults: &mut Watched<F>,
 ) -> u8
-    ensures { ExitsWithoutWords (error_kind why.now) result output.old output.new faults.old faults.new }
+    ensures { ExitsWithoutWords (error_kind why.now) result output.old output.new faults.old
+        faults.new }
 {
     if why.kind() == ErrorKind::OutOfMemory {
         return tell_both_of_memory(alloc, output, faults);

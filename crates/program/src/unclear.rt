@@ -104,7 +104,9 @@ fn has_unclear_number(arguments: &RangeArguments<'_>) -> bool
 
 /// Whether it is said whose translations a range is of.
 fn is_whose_clear(arguments: &RangeArguments<'_>) -> bool
-    ensures { result ≡ is_whose_clear arguments.now.el2 arguments.now.stage2 arguments.now.vmid arguments.now.asid }
+    ensures { result
+        ≡ is_whose_clear arguments.now.el2 arguments.now.stage2 arguments.now.vmid
+        arguments.now.asid }
 {
     match (arguments.el2, arguments.stage2) {
         (true, true) => false,

@@ -63,7 +63,14 @@ impl<W: Write> Write for Watched<W> {
 impl<W: Write> Watched<W> {
     /// Watches a writer from now on.
     pub fn new(inner: W) -> Watched<W>
-        ensures { result ≡ record { bytes = W.contents inner; has_failed = false; is_closed = false; is_flushed = true } }
+        ensures { result
+            ≡ record {
+              bytes = W.contents inner;
+              has_failed = false;
+              is_closed = false;
+              is_flushed =
+                  true;
+            } }
     {
         Watched {
             inner,

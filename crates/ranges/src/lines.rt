@@ -28,7 +28,8 @@ fn next_hinted(commands: &mut Commands) -> Option<(Command, Ttl)>
 
 /// Appends bytes as digits.
 fn say_digits(alloc: Global, bytes: &[u8], text: &mut String) -> Result<(), AllocError>
-    ensures { OnOk result (string_bytes text.new ≡ string_bytes text.old ++ encode_lower bytes.now) }
+    ensures { OnOk result (string_bytes text.new
+        ≡ string_bytes text.old ++ encode_lower bytes.now) }
 {
     let digits = hex::encode(alloc, bytes)?;
     text.push_str(digits.as_str())
@@ -36,14 +37,16 @@ fn say_digits(alloc: Global, bytes: &[u8], text: &mut String) -> Result<(), Allo
 
 /// Appends a command's text behind a space, and ends the line.
 fn say_text(command: &Command, text: &mut String) -> Result<(), AllocError>
-    ensures { OnOk result (string_bytes text.new ≡ string_bytes text.old ++ (codes " " ++ text_of command.now ++ codes "\n")) }
+    ensures { OnOk result (string_bytes text.new
+        ≡ string_bytes text.old ++ (codes " " ++ text_of command.now ++ codes "\n")) }
 {
     write!(text, " {command}\n")
 }
 
 /// Appends the line of a command: its words as 32 digits, and its text.
 fn say_line(alloc: Global, command: &Command, ttl: Ttl, text: &mut String) -> Result<(), AllocError>
-    ensures { OnOk result (string_bytes text.new ≡ string_bytes text.old ++ line_of command.now ttl) }
+    ensures { OnOk result (string_bytes text.new
+        ≡ string_bytes text.old ++ line_of command.now ttl) }
 {
     let bytes = to_bytes(encode_with_hint(command, ttl));
     say_digits(alloc, bytes.as_slice(), text)?;
@@ -56,7 +59,8 @@ pub(crate) fn say_lines(
     mut commands: Commands,
     text: &mut String,
 ) -> Result<(), AllocError>
-    ensures { OnOk result (string_bytes text.new ≡ string_bytes text.old ++ lines_of commands.request.target (commands_of commands)) }
+    ensures { OnOk result (string_bytes text.new
+        ≡ string_bytes text.old ++ lines_of commands.request.target (commands_of commands)) }
 {
     'commands: while let Some((command, ttl)) = next_hinted(&mut commands) {
         say_line(alloc, &command, ttl, text)?;

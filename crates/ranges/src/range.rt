@@ -10,7 +10,8 @@ use std::alloc::{AllocError, Global};
 /// Returns the lines of the commands that are asked for, or the one of a fault, and whether there is no fault. A line has
 /// the words of a command with their level hint, as 32 digits, and its text.
 pub fn range_text(alloc: Global, asked: &Asked<'_>) -> Result<(String, bool), AllocError>
-    ensures { IfOk result (λ told. (string_bytes told.0 ≡ (range_text asked.now).0) × (told.1 ≡ (range_text asked.now).1)) }
+    ensures { IfOk result (λ told. (string_bytes told.0 ≡ (range_text asked.now).0)
+        × (told.1 ≡ (range_text asked.now).1)) }
 {
     match commands(asked) {
         Ok(commands) => {

@@ -15,7 +15,8 @@ pub fn join(queue: Queue) -> Finished
     requires senders { AreAll queue.ring queue.senders.items }
     requires ring { queue.engine.consumer.ring ≡ queue.ring }
     requires none { KnowsNoneWaits queue }
-    ensures end { IsEngineEnd queue.ring queue.senders.items queue.engine result.summary result.counts result.caches.entries }
+    ensures end { IsEngineEnd queue.ring queue.senders.items queue.engine result.summary
+        result.counts result.caches.entries }
     ensures counts { result.counts ≡ queue.engine.unit.counts }
     ensures caches { result.caches ≡ queue.engine.unit.caches }
     ensures taken { result.summary.taken ≡ result.summary.reserved }

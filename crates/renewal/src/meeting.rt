@@ -18,7 +18,9 @@ pub fn is_waiting(queue: &mut Queue) -> bool
     requires ring { queue.old.engine.consumer.ring ≡ queue.old.ring }
     ensures looked { HasLooked queue.old queue.new }
     ensures waiting { IsTrue result ↔ SawWaiting queue.new.engine.consumer.trail }
-    ensures none { result ≡ false → AreAtOnePlace (control_of queue.old.ring.made_with.geometry (world queue.new.engine.consumer.history)) }
+    ensures none { result ≡ false
+        → AreAtOnePlace (control_of queue.old.ring.made_with.geometry
+        (world queue.new.engine.consumer.history)) }
     ensures size { 1 ≤ length queue.old.senders.items → IsOfSize queue.old.ring }
 {
     meet_all(&queue.ring, &mut queue.senders, &mut queue.engine);
@@ -31,7 +33,9 @@ pub fn sees_waiting(engine: &mut Engine, ring: &Ring) -> bool
     requires { engine.old.consumer.ring ≡ ring.now }
     ensures looked { EngineHasLooked engine.old engine.new }
     ensures waiting { IsTrue result ↔ SawWaiting engine.new.consumer.trail }
-    ensures none { result ≡ false → AreAtOnePlace (control_of ring.now.made_with.geometry (world engine.new.consumer.history)) }
+    ensures none { result ≡ false
+        → AreAtOnePlace (control_of ring.now.made_with.geometry
+        (world engine.new.consumer.history)) }
     ensures ring { engine.new.consumer.ring ≡ engine.old.consumer.ring }
 {
     let found = engine.registers(ring);

@@ -27,12 +27,17 @@ pub fn renew(alloc: Global, queue: Queue, sizes: Sizes) -> Result<Renewed, Refus
     requires ring { queue.engine.consumer.ring ≡ queue.ring }
     ensures ended { IfOk result (λ r. HasEnded queue r.old) }
     ensures taken { IfOk result (λ r. r.old.summary.taken ≡ r.old.summary.reserved) }
-    ensures unused { IfOk result (λ r. IsNewRing sizes.log2 (length queue.senders.items) sizes.max_batches r.queue.ring r.queue.senders.items r.queue.engine.consumer) }
-    ensures entries { IfOk result (λ r. IsCarried sizes.capacity queue.engine.unit r.queue.engine.unit) }
+    ensures unused { IfOk result (λ r.
+        IsNewRing sizes.log2 (length queue.senders.items) sizes.max_batches r.queue.ring
+        r.queue.senders.items r.queue.engine.consumer) }
+    ensures entries { IfOk result (λ r.
+        IsCarried sizes.capacity queue.engine.unit r.queue.engine.unit) }
     ensures refused { IfErr result (λ e. HasLooked queue e.queue) }
-    ensures waiting { IfErr result (λ e. (e.fault ≡ RenewalFault.Waiting) ↔ SawWaiting e.queue.engine.consumer.trail) }
+    ensures waiting { IfErr result (λ e. (e.fault ≡ RenewalFault.Waiting)
+        ↔ SawWaiting e.queue.engine.consumer.trail) }
     ensures sizes { OnOk result (IsCapacity sizes.capacity) }
-    ensures unmade { IfErr result (λ e. ¬ (e.fault ≡ RenewalFault.Waiting) → IsUnmade sizes (length queue.senders.items) queue.engine.unit.caches.entries e.fault) }
+    ensures unmade { IfErr result (λ e. ¬ (e.fault ≡ RenewalFault.Waiting)
+        → IsUnmade sizes (length queue.senders.items) queue.engine.unit.caches.entries e.fault) }
     ensures whole { MatchResult result (λ r. IsWhole r.queue) (λ e. IsWhole e.queue) }
 {
     let mut queue = queue;

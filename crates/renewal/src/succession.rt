@@ -27,10 +27,12 @@ pub fn successor(
     senders: u32,
     sizes: Sizes,
 ) -> Result<Queue, RenewalFault>
-    ensures unused { IfOk result (λ q. IsNewRing sizes.log2 senders sizes.max_batches q.ring q.senders.items q.engine.consumer) }
+    ensures unused { IfOk result (λ q.
+        IsNewRing sizes.log2 senders sizes.max_batches q.ring q.senders.items q.engine.consumer) }
     ensures entries { IfOk result (λ q. IsCarried sizes.capacity old.now.unit q.engine.unit) }
     ensures sizes { OnOk result (IsCapacity sizes.capacity) }
-    ensures unmade { IfErr result (λ fault. IsUnmade sizes senders old.now.unit.caches.entries fault) }
+    ensures unmade { IfErr result (λ fault.
+        IsUnmade sizes senders old.now.unit.caches.entries fault) }
     ensures whole { IfOk result IsWhole }
 {
     let caches = match Caches::new(alloc, sizes.capacity) {
@@ -57,7 +59,8 @@ pub fn successor(
 fn carry(old: &Engine, new: &mut Engine, capacity: u32) -> Result<(), CacheFault>
     requires { new.old.unit ≡ new_unit (record { capacity = capacity; entries = held [] }) }
     ensures carried { OnOk result (IsCarried capacity old.now.unit new.new.unit) }
-    ensures uncarried { IfErr result (λ fault. IsUncarried capacity old.now.unit.caches.entries fault) }
+    ensures uncarried { IfErr result (λ fault.
+        IsUncarried capacity old.now.unit.caches.entries fault) }
     ensures consumer { new.new.consumer ≡ new.old.consumer }
 {
     let list = match old.entries() {

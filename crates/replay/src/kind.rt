@@ -15,7 +15,8 @@ use std::alloc::{AllocError, Global};
 
 /// Makes a ring and its unit, if the numbers are in range.
 fn first_ring(alloc: Global, shape: &Shape) -> Result<First<Simulator>, AllocError>
-    ensures { IfOk result (λ first. Begins Stands first (λ number. ring_or_fault number shape.now (shape_fault shape.now))) }
+    ensures { IfOk result (λ first.
+        Begins Stands first (λ number. ring_or_fault number shape.now (shape_fault shape.now))) }
 {
     match Simulator::new(alloc, shape) {
         Ok(simulator) => Ok(First::Made {

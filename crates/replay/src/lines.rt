@@ -26,7 +26,10 @@ pub(crate) fn serve_made(
     request: &Request,
     reply: &mut String,
 ) -> Result<bool, AllocError>
-    ensures { IfOk result (λ goes_on. Acts Stands (λ wanting. served number wanting request.now) simulator.old simulator.new (string_bytes reply.old) (string_bytes reply.new) goes_on) }
+    ensures { IfOk result (λ goes_on.
+        Acts Stands (λ wanting.
+        served number wanting request.now) simulator.old simulator.new (string_bytes reply.old)
+        (string_bytes reply.new) goes_on) }
 {
     match request {
         Request::Nothing => Ok(true),

@@ -20,7 +20,8 @@ pub fn serve<R: Read, W: Write>(
     input: &mut R,
     output: &mut W,
 ) -> Result<Ending, ServeError>
-    ensures { Serves (MayAnswer replays) result (R.remaining input.old) (R.remaining input.new) (W.contents output.old) (W.contents output.new) }
+    ensures { Serves (MayAnswer replays) result (R.remaining input.old) (R.remaining input.new)
+        (W.contents output.old) (W.contents output.new) }
 {
     serve_script::<Replay, R, W>(alloc, input, output)
 }
@@ -32,9 +33,12 @@ pub fn replay_to_last_line<R: Read, W: Write>(
     input: &mut R,
     output: &mut W,
 ) -> (Status, Option<LastLine>)
-    ensures replays { Replays result.0 (R.remaining input.old) (R.remaining input.new) (W.contents output.old) (W.contents output.new) }
+    ensures replays { Replays result.0 (R.remaining input.old) (R.remaining input.new)
+        (W.contents output.old) (W.contents output.new) }
     ensures last { result.0 ≡ Status.Refused
-        → IfSome result.1 (λ last. EndedBy (MayAnswer replays) last (R.remaining input.old) (W.contents output.old) (W.contents output.new)) }
+        → IfSome result.1 (λ last.
+        EndedBy (MayAnswer replays) last (R.remaining input.old) (W.contents output.old)
+        (W.contents output.new)) }
 {
     let (served, last) = serve_to_last_line::<Replay, R, W>(alloc, input, output);
     (status_of(&served), last)
@@ -42,7 +46,8 @@ pub fn replay_to_last_line<R: Read, W: Write>(
 
 /// Reads a script and writes its answers, the line `no memory` among them, and returns how it went.
 pub fn replay<R: Read, W: Write>(alloc: Global, input: &mut R, output: &mut W) -> Status
-    ensures { Replays result (R.remaining input.old) (R.remaining input.new) (W.contents output.old) (W.contents output.new) }
+    ensures { Replays result (R.remaining input.old) (R.remaining input.new) (W.contents output.old)
+        (W.contents output.new) }
 {
     replay_to_last_line(alloc, input, output).0
 }

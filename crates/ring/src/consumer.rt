@@ -61,7 +61,8 @@ impl<D: Device> Consumer<D> {
     /// A witness that all its steps are steps of one run of the ring. It does nothing.
     pub fn trail_stands_in_a_run(&self)
         ensures trail { StandsInARun self.now.ring.made_with ConsumerOf self.now.trail }
-        ensures history { IsHistory self.now.ring.made_with ConsumerOf self.now.trail self.now.history }
+        ensures history { IsHistory self.now.ring.made_with ConsumerOf self.now.trail
+            self.now.history }
     {
         self.port.port.trail_stands_in_a_run();
     }
@@ -77,10 +78,12 @@ impl<D: Device> Consumer<D> {
     /// ring is closed.
     pub fn look(&mut self, ring: &Ring) -> Control
         requires { self.old.ring ≡ ring.now }
-        ensures trail { record self.new { history = [] } ≡ record self.old { trail = Look result ∷ self.old.trail; history = [] } }
+        ensures trail { record self.new { history = [] }
+            ≡ record self.old { trail = Look result ∷ self.old.trail; history = [] } }
         ensures control { IsControl self.old.ring.made_with.geometry result }
         ensures history { GrewBy ConsumerOf (Look result) self.old.history self.new.history }
-        ensures current { result ≡ control_of self.old.ring.made_with.geometry (world self.new.history) }
+        ensures current { result
+            ≡ control_of self.old.ring.made_with.geometry (world self.new.history) }
     {
         self.port.look(ring)
     }
@@ -96,13 +99,17 @@ impl<D: Device> Consumer<D> {
         ensures consumer { record self.new { history = [] } ≡ record self.old { history = [] } }
         ensures sender { record sender.new { history = [] } ≡ record sender.old { history = [] } }
         ensures one { sender.new.history ≡ self.new.history }
-        ensures of_consumer { IsHistory self.old.ring.made_with ConsumerOf self.old.trail self.new.history }
-        ensures of_sender { IsHistory self.old.ring.made_with (SenderOf sender.old.number) sender.old.trail self.new.history }
+        ensures of_consumer { IsHistory self.old.ring.made_with ConsumerOf self.old.trail
+            self.new.history }
+        ensures of_sender { IsHistory self.old.ring.made_with (SenderOf sender.old.number)
+            sender.old.trail self.new.history }
         ensures known_to_consumer { WentOn ConsumerOf self.old.history self.new.history }
-        ensures known_to_sender { WentOn (SenderOf sender.old.number) sender.old.history self.new.history }
+        ensures known_to_sender { WentOn (SenderOf sender.old.number) sender.old.history
+            self.new.history }
         ensures told { WasToldAll self.new.history sender.old.number sender.old.trail }
         ensures control { IsControl self.old.ring.made_with.geometry result }
-        ensures current { result ≡ control_of self.old.ring.made_with.geometry (world self.new.history) }
+        ensures current { result
+            ≡ control_of self.old.ring.made_with.geometry (world self.new.history) }
     {
         world_law();
         let control = self.port.port.meet(ring, &mut sender.port);

@@ -84,7 +84,8 @@ impl Keeper {
         requires lent { self.old.lent ≡ Some port.who }
         ensures keeper { self.new ≡ has_back port.who port.trail self.old }
         ensures adds { Adds port.who port.trail self.old.run self.new.run }
-        ensures grew { Grew port.who (trail_of port.who self.old.run) port.trail self.old.run self.new.run }
+        ensures grew { Grew port.who (trail_of port.who self.old.run) port.trail self.old.run
+            self.new.run }
         ensures news { IsNews port.who port.trail port.history self.old.run self.new.run }
         ensures others { KeepsOthers port.who self.old self.new }
     {

@@ -52,7 +52,8 @@ impl Ring {
         max_batches: u32,
     ) -> Result<(Ring, Vec<Sender>, Consumer<D>), RingFault>
         ensures made { IfOk result (λ r. IsNewRing log2 senders max_batches r.0 r.1.items r.2) }
-        ensures refused { IfErr result (λ fault. IsNotMade (number_fault log2 senders max_batches) fault) }
+        ensures refused { IfErr result (λ fault.
+            IsNotMade (number_fault log2 senders max_batches) fault) }
     {
         let geometry = ring_geometry(log2, senders, max_batches)?;
         match Ring::open(alloc, geometry, senders, max_batches) {
@@ -172,9 +173,12 @@ fn deal(
     requires limits { IsWithinLimits words.now.key }
     requires geometry { IsGeometry words.now.key.geometry }
     requires flags { words.now.key.flags ≡ 64 }
-    requires words { words.now.table_id.words ≡ words_of words.now.key.geometry words.now.key.senders }
-    ensures senders { IfOk result (λ r. r.0.items ≡ new_senders (record { table = words.now.table_id; made_with = words.now.key }) senders) }
-    ensures consumer { IfOk result (λ r. (r.1.table_id ≡ words.now.table_id) × (r.1.me ≡ (participants_from words.now.key senders 0, []))) }
+    requires words { words.now.table_id.words
+        ≡ words_of words.now.key.geometry words.now.key.senders }
+    ensures senders { IfOk result (λ r. r.0.items
+        ≡ new_senders (record { table = words.now.table_id; made_with = words.now.key }) senders) }
+    ensures consumer { IfOk result (λ r. (r.1.table_id ≡ words.now.table_id)
+        × (r.1.me ≡ (participants_from words.now.key senders 0, []))) }
 {
     laws::begin();
     let mut all = Vec::with_capacity(alloc, senders as usize)?;

@@ -61,7 +61,8 @@ impl Sender {
     }
 
     pub(crate) fn into_seat(self) -> Seat<(), Participants>
-        ensures { SitsFor result.table_id result.me self.ring (SenderOf self.number) self.trail self.history }
+        ensures { SitsFor result.table_id result.me self.ring (SenderOf self.number) self.trail
+            self.history }
     {
         let Sender { port, tally: _ } = self;
         port.into_seat()
@@ -69,8 +70,10 @@ impl Sender {
 
     /// A witness that all its steps are steps of one run of the ring. It does nothing.
     pub fn trail_stands_in_a_run(&self)
-        ensures trail { StandsInARun self.now.ring.made_with (SenderOf self.now.number) self.now.trail }
-        ensures history { IsHistory self.now.ring.made_with (SenderOf self.now.number) self.now.trail self.now.history }
+        ensures trail { StandsInARun self.now.ring.made_with (SenderOf self.now.number)
+            self.now.trail }
+        ensures history { IsHistory self.now.ring.made_with (SenderOf self.now.number)
+            self.now.trail self.now.history }
     {
         self.port.trail_stands_in_a_run();
     }
@@ -79,10 +82,13 @@ impl Sender {
     /// ring is closed.
     pub fn look(&mut self, ring: &Ring) -> Control
         requires { self.old.ring ≡ ring.now }
-        ensures trail { record self.new { history = [] } ≡ record self.old { trail = Look result ∷ self.old.trail; history = [] } }
+        ensures trail { record self.new { history = [] }
+            ≡ record self.old { trail = Look result ∷ self.old.trail; history = [] } }
         ensures control { IsControl self.old.ring.made_with.geometry result }
-        ensures history { GrewBy (SenderOf self.old.number) (Look result) self.old.history self.new.history }
-        ensures current { result ≡ control_of self.old.ring.made_with.geometry (world self.new.history) }
+        ensures history { GrewBy (SenderOf self.old.number) (Look result) self.old.history
+            self.new.history }
+        ensures current { result
+            ≡ control_of self.old.ring.made_with.geometry (world self.new.history) }
     {
         self.port.look(ring)
     }
@@ -90,8 +96,10 @@ impl Sender {
     /// Closes the ring: from now on no sender can reserve (own).
     pub fn close(&mut self, ring: &Ring)
         requires { self.old.ring ≡ ring.now }
-        ensures trail { record self.new { history = [] } ≡ record self.old { trail = Close ∷ self.old.trail; history = [] } }
-        ensures history { GrewBy (SenderOf self.old.number) Close self.old.history self.new.history }
+        ensures trail { record self.new { history = [] }
+            ≡ record self.old { trail = Close ∷ self.old.trail; history = [] } }
+        ensures history { GrewBy (SenderOf self.old.number) Close self.old.history
+            self.new.history }
     {
         self.port.close(ring, self.tally.sender);
     }
@@ -99,9 +107,11 @@ impl Sender {
     /// Returns the number in its completion cell: that of its last CMD_SYNC that completed, or 0 if none has.
     pub fn done_up_to(&mut self, ring: &Ring) -> u32
         requires { self.old.ring ≡ ring.now }
-        ensures asked { record self.new { history = [] } ≡ record self.old { trail = Ask result ∷ self.old.trail; history = [] } }
+        ensures asked { record self.new { history = [] }
+            ≡ record self.old { trail = Ask result ∷ self.old.trail; history = [] } }
         ensures few { result ≤ self.old.ring.made_with.max_batches }
-        ensures history { GrewBy (SenderOf self.old.number) (Ask result) self.old.history self.new.history }
+        ensures history { GrewBy (SenderOf self.old.number) (Ask result) self.old.history
+            self.new.history }
         ensures told { AreApplied self.new.history self.old.number result }
     {
         newest_event();
@@ -116,8 +126,10 @@ impl Sender {
         requires ring { self.old.ring ≡ ring.now }
         requires receipt { receipt.now.sender ≡ self.old.number }
         ensures asked { HasAsked receipt.now.number self.old self.new result }
-        ensures history { Grew (SenderOf self.old.number) self.old.trail self.new.trail self.old.history self.new.history }
-        ensures told { result ≡ true → AreApplied self.new.history self.old.number receipt.now.number }
+        ensures history { Grew (SenderOf self.old.number) self.old.trail self.new.trail
+            self.old.history self.new.history }
+        ensures told { result ≡ true
+            → AreApplied self.new.history self.old.number receipt.now.number }
         ensures ring { self.new.ring ≡ self.old.ring }
         ensures id { self.new.number ≡ self.old.number }
     {
@@ -245,9 +257,12 @@ impl Sender {
         requires fits { Fits batch K.closes self }
         requires control { IsControl self.ring.made_with.geometry seen }
         ensures won { IfOk result (λ r. IsWon batch.entry K.closes seen self r) }
-        ensures lost { IfErr result (λ e. (e.cause ≡ Cause.Contended) × IsLost batch.entry K.closes seen self e.sender) }
-        ensures ring { MatchResult result (λ r. r.ring ≡ self.ring) (λ e. e.sender.ring ≡ self.ring) }
-        ensures id { MatchResult result (λ r. r.sender ≡ self.number) (λ e. e.sender.number ≡ self.number) }
+        ensures lost { IfErr result (λ e. (e.cause ≡ Cause.Contended)
+            × IsLost batch.entry K.closes seen self e.sender) }
+        ensures ring { MatchResult result (λ r. r.ring ≡ self.ring) (λ e. e.sender.ring
+            ≡ self.ring) }
+        ensures id { MatchResult result (λ r. r.sender ≡ self.number) (λ e. e.sender.number
+            ≡ self.number) }
     {
         let Sender { mut port, tally } = self;
         if port.exchange::<Brand>(ring, tally.sender, &batch, K::closes(), many, &seen) {

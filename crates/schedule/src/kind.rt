@@ -15,7 +15,9 @@ use std::alloc::{AllocError, Global};
 
 /// Makes a ring, if its numbers are in range.
 fn first_ring(alloc: Global, log2: u32, senders: u32) -> Result<First<Core>, AllocError>
-    ensures { IfOk result (λ first. Begins Stands first (λ number. ring_or_fault number log2 senders (core_fault log2 senders))) }
+    ensures { IfOk result (λ first.
+        Begins Stands first (λ number.
+        ring_or_fault number log2 senders (core_fault log2 senders))) }
 {
     match Core::new(alloc, log2, senders) {
         Ok(core) => Ok(First::Made { log2, kept: core }),
@@ -58,7 +60,10 @@ fn serve_step(
     is_counted: bool,
     reply: &mut String,
 ) -> Result<bool, AllocError>
-    ensures { IfOk result (λ goes_on. Acts Stands (λ wanting. step_effect number (step_of asked.now) is_counted) core.old core.new (string_bytes reply.old) (string_bytes reply.new) goes_on) }
+    ensures { IfOk result (λ goes_on.
+        Acts Stands (λ wanting.
+        step_effect number (step_of asked.now) is_counted) core.old core.new
+        (string_bytes reply.old) (string_bytes reply.new) goes_on) }
 {
     match take(core, asked) {
         Ok(seen) => {

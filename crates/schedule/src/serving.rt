@@ -17,9 +17,12 @@ fn play<R: Read, W: Write>(
     input: &mut R,
     output: &mut W,
 ) -> (Result<Ending, ServeError>, Option<LastLine>)
-    ensures serves { Serves (Answers schedules) result.0 (R.remaining input.old) (R.remaining input.new) (W.contents output.old) (W.contents output.new) }
+    ensures serves { Serves (Answers schedules) result.0 (R.remaining input.old)
+        (R.remaining input.new) (W.contents output.old) (W.contents output.new) }
     ensures last { IfOk result.0 (λ ending. ending ≡ Ending.Refused
-        → IfSome result.1 (λ last. EndedBy (Answers schedules) last (R.remaining input.old) (W.contents output.old) (W.contents output.new))) }
+        → IfSome result.1 (λ last.
+        EndedBy (Answers schedules) last (R.remaining input.old) (W.contents output.old)
+        (W.contents output.new))) }
 {
     serve_to_last_line::<Schedule, R, W>(alloc, input, output)
 }
@@ -33,7 +36,8 @@ pub fn serve<R: Read, W: Write>(
     input: &mut R,
     output: &mut W,
 ) -> Result<Ending, ServeError>
-    ensures { Serves (Answers schedules) result (R.remaining input.old) (R.remaining input.new) (W.contents output.old) (W.contents output.new) }
+    ensures { Serves (Answers schedules) result (R.remaining input.old) (R.remaining input.new)
+        (W.contents output.old) (W.contents output.new) }
 {
     play(alloc, input, output).0
 }
@@ -45,9 +49,12 @@ pub fn schedule_to_last_line<R: Read, W: Write>(
     input: &mut R,
     output: &mut W,
 ) -> (Status, Option<LastLine>)
-    ensures schedules { Schedules result.0 (R.remaining input.old) (R.remaining input.new) (W.contents output.old) (W.contents output.new) }
+    ensures schedules { Schedules result.0 (R.remaining input.old) (R.remaining input.new)
+        (W.contents output.old) (W.contents output.new) }
     ensures last { result.0 ≡ Status.Refused
-        → IfSome result.1 (λ last. EndedBy (Answers schedules) last (R.remaining input.old) (W.contents output.old) (W.contents output.new)) }
+        → IfSome result.1 (λ last.
+        EndedBy (Answers schedules) last (R.remaining input.old) (W.contents output.old)
+        (W.contents output.new)) }
 {
     let (served, last) = play(alloc, input, output);
     (status_of(&served), last)
@@ -56,7 +63,8 @@ pub fn schedule_to_last_line<R: Read, W: Write>(
 /// Reads a script, plays it as a schedule of a ring's steps, and writes its answers, the line `no memory` among them.
 /// Returns how it went.
 pub fn schedule<R: Read, W: Write>(alloc: Global, input: &mut R, output: &mut W) -> Status
-    ensures { Schedules result (R.remaining input.old) (R.remaining input.new) (W.contents output.old) (W.contents output.new) }
+    ensures { Schedules result (R.remaining input.old) (R.remaining input.new)
+        (W.contents output.old) (W.contents output.new) }
 {
     schedule_to_last_line(alloc, input, output).0
 }

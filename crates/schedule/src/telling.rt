@@ -12,7 +12,8 @@ use std::alloc::AllocError;
 use std::fmt::Write;
 
 fn say_control(control: &Control, reply: &mut String) -> Result<(), AllocError>
-    ensures { OnOk result (string_bytes reply.new ≡ string_bytes reply.old ++ control_text control.now) }
+    ensures { OnOk result (string_bytes reply.new
+        ≡ string_bytes reply.old ++ control_text control.now) }
 {
     let (prod, cons) = (control.prod.get(), control.cons.get());
     if control.closed {
@@ -23,7 +24,8 @@ fn say_control(control: &Control, reply: &mut String) -> Result<(), AllocError>
 }
 
 fn say_flags(count: u32, flags: u64, reply: &mut String) -> Result<(), AllocError>
-    ensures { OnOk result (string_bytes reply.new ≡ string_bytes reply.old ++ flags_text count flags) }
+    ensures { OnOk result (string_bytes reply.new
+        ≡ string_bytes reply.old ++ flags_text count flags) }
 {
     let mut rest = flags;
     'flags: for _ in 0..count {
@@ -35,7 +37,9 @@ fn say_flags(count: u32, flags: u64, reply: &mut String) -> Result<(), AllocErro
 }
 
 fn say_reserved(first: Index, number: Option<u32>, reply: &mut String) -> Result<(), AllocError>
-    ensures { OnOk result (string_bytes reply.new ≡ string_bytes reply.old ++ (codes "reserved " ++ decimal first.number ++ number_text number)) }
+    ensures { OnOk result (string_bytes reply.new
+        ≡ string_bytes reply.old ++ (codes "reserved " ++ decimal first.number
+        ++ number_text number)) }
 {
     let first = first.get();
     match number {
@@ -45,7 +49,8 @@ fn say_reserved(first: Index, number: Option<u32>, reply: &mut String) -> Result
 }
 
 fn say_ready(is_counted: bool, found: u32, reply: &mut String) -> Result<(), AllocError>
-    ensures { OnOk result (string_bytes reply.new ≡ string_bytes reply.old ++ ready_text is_counted found) }
+    ensures { OnOk result (string_bytes reply.new
+        ≡ string_bytes reply.old ++ ready_text is_counted found) }
 {
     if found == 0 {
         reply.push_str("not ready")
@@ -84,7 +89,8 @@ fn say_seen(
     seen: Seen,
     reply: &mut String,
 ) -> Result<(), AllocError>
-    ensures { OnOk result (string_bytes reply.new ≡ string_bytes reply.old ++ seen_text name.now flags is_counted seen) }
+    ensures { OnOk result (string_bytes reply.new
+        ≡ string_bytes reply.old ++ seen_text name.now flags is_counted seen) }
 {
     match seen {
         Seen::Word(control) => {
@@ -115,7 +121,8 @@ pub(crate) fn say_answer(
     seen: Seen,
     reply: &mut String,
 ) -> Result<(), AllocError>
-    ensures { OnOk result (string_bytes reply.new ≡ string_bytes reply.old ++ answer_line (step_of asked.now) is_counted seen) }
+    ensures { OnOk result (string_bytes reply.new
+        ≡ string_bytes reply.old ++ answer_line (step_of asked.now) is_counted seen) }
 {
     say_seen(word_name(asked), flags_of(asked), is_counted, seen, reply)?;
     reply.push_str("\n")
@@ -127,7 +134,8 @@ pub(crate) fn say_step_fault(
     fault: StepFault,
     reply: &mut String,
 ) -> Result<(), AllocError>
-    ensures { OnOk result (string_bytes reply.new ≡ string_bytes reply.old ++ fault_line number (label_of fault)) }
+    ensures { OnOk result (string_bytes reply.new
+        ≡ string_bytes reply.old ++ fault_line number (label_of fault)) }
 {
     let label = fault.label();
     write!(reply, "line {number}: {label}\n")

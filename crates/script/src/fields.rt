@@ -11,7 +11,8 @@ use cmdcodec::{Raw, from_bytes};
 /// left or it is no such number.
 #[tactic(auto, unfolding(crate::specs::Fields::next_below))]
 pub fn next_u64(text: &[u8]) -> Option<(u64, &[u8])>
-    ensures { option_map (λ found. (found.0, words_of found.1.now)) result ≡ next_below (2 ^ 64) (words_of text.now) }
+    ensures { option_map (λ found. (found.0, words_of found.1.now)) result
+        ≡ next_below (2 ^ 64) (words_of text.now) }
 {
     let (word, rest) = next_word(text)?;
     Some((number(word)?, rest))
@@ -21,7 +22,8 @@ pub fn next_u64(text: &[u8]) -> Option<(u64, &[u8])>
 /// left or it is no such number.
 #[tactic(auto, unfolding(crate::specs::Fields::next_below))]
 pub fn next_u32(text: &[u8]) -> Option<(u32, &[u8])>
-    ensures { option_map (λ found. (found.0, words_of found.1.now)) result ≡ next_below (2 ^ 32) (words_of text.now) }
+    ensures { option_map (λ found. (found.0, words_of found.1.now)) result
+        ≡ next_below (2 ^ 32) (words_of text.now) }
 {
     let (word, rest) = next_word(text)?;
     let number = u32::try_from(number(word)?).ok()?;
@@ -32,7 +34,8 @@ pub fn next_u32(text: &[u8]) -> Option<(u32, &[u8])>
 /// left or it is no such number.
 #[tactic(auto, unfolding(crate::specs::Fields::next_below))]
 pub fn next_u8(text: &[u8]) -> Option<(u8, &[u8])>
-    ensures { option_map (λ found. (found.0, words_of found.1.now)) result ≡ next_below (2 ^ 8) (words_of text.now) }
+    ensures { option_map (λ found. (found.0, words_of found.1.now)) result
+        ≡ next_below (2 ^ 8) (words_of text.now) }
 {
     let (word, rest) = next_word(text)?;
     let number = u8::try_from(number(word)?).ok()?;
@@ -43,7 +46,8 @@ pub fn next_u8(text: &[u8]) -> Option<(u8, &[u8])>
 /// left or it is no such number.
 #[tactic(auto, unfolding(crate::specs::Fields::next_below))]
 pub fn next_below(limit: u64, text: &[u8]) -> Option<(u64, &[u8])>
-    ensures { option_map (λ found. (found.0, words_of found.1.now)) result ≡ next_below limit (words_of text.now) }
+    ensures { option_map (λ found. (found.0, words_of found.1.now)) result
+        ≡ next_below limit (words_of text.now) }
 {
     let (word, rest) = next_word(text)?;
     let number = number(word)?;
@@ -58,7 +62,8 @@ pub fn next_below(limit: u64, text: &[u8]) -> Option<(u64, &[u8])>
 /// text. Returns None if no word is left or it is neither.
 #[tactic(auto, unfolding(crate::specs::Fields::next_below_or))]
 pub fn next_below_or<'a>(mark: &[u8], limit: u64, text: &'a [u8]) -> Option<(Option<u64>, &'a [u8])>
-    ensures { option_map (λ found. (found.0, words_of found.1.now)) result ≡ next_below_or mark.now limit (words_of text.now) }
+    ensures { option_map (λ found. (found.0, words_of found.1.now)) result
+        ≡ next_below_or mark.now limit (words_of text.now) }
 {
     let (word, rest) = next_word(text)?;
     if word == mark {

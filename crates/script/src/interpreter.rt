@@ -33,11 +33,15 @@ pub trait Interpreter {
     ) -> Result<bool, AllocError>
         requires { length line.now ≤ 4096 }
         ensures goes_on { IfOk result (λ goes_on. goes_on ≡ true
-            → Continues (gives self.old) (gives self.new) number line.now (string_bytes reply.old) (string_bytes reply.new)) }
+            → Continues (gives self.old) (gives self.new) number line.now (string_bytes reply.old)
+            (string_bytes reply.new)) }
         ensures ends { IfOk result (λ goes_on. goes_on ≡ false
-            → Ends (gives self.old) number line.now (string_bytes reply.old) (string_bytes reply.new)) }
-        ensures last { IfOk result (λ goes_on. goes_on ≡ false → ended_at self.new number line.now) }
-        ensures learns { IfOk result (λ goes_on. goes_on ≡ true → Learns knows self.old self.new (line.now ∷ [])) };
+            → Ends (gives self.old) number line.now (string_bytes reply.old)
+            (string_bytes reply.new)) }
+        ensures last { IfOk result (λ goes_on. goes_on ≡ false
+            → ended_at self.new number line.now) }
+        ensures learns { IfOk result (λ goes_on. goes_on ≡ true
+            → Learns knows self.old self.new (line.now ∷ [])) };
 
     /// Takes note that the line of this number is too long, which ends the run, and of the line's answer.
     fn hear_of_long_line(&mut self, number: u64, reply: &str)

@@ -38,7 +38,8 @@ pub trait ScriptKind {
 
     /// Serves a request before the ring is made.
     fn first(alloc: Global, request: &Self::Request) -> Result<First<Self::Kept>, AllocError>
-        ensures { IfOk result (λ first. Begins stands first (λ number. kind.first_served number request.now)) };
+        ensures { IfOk result (λ first.
+            Begins stands first (λ number. kind.first_served number request.now)) };
 
     /// Serves a request once the ring is made, and returns whether the run goes on.
     fn serve_made(
@@ -47,7 +48,10 @@ pub trait ScriptKind {
         request: &Self::Request,
         reply: &mut String,
     ) -> Result<bool, AllocError>
-        ensures { IfOk result (λ goes_on. Acts stands (λ wanting. kind.served number wanting request.now) kept.old kept.new (string_bytes reply.old) (string_bytes reply.new) goes_on) };
+        ensures { IfOk result (λ goes_on.
+            Acts stands (λ wanting.
+            kind.served number wanting request.now) kept.old kept.new (string_bytes reply.old)
+            (string_bytes reply.new) goes_on) };
 
     /// Shows that the kind's `holds` holds of each state that `kept` stands for. It does nothing.
     fn holds(kept: &Self::Kept)

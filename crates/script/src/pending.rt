@@ -57,10 +57,13 @@ impl Pending {
     /// Reads once and appends the bytes. Returns false at the end of the input.
     pub(crate) fn fill<R: Read>(&mut self, reader: &mut R) -> io::Result<bool>
         requires { length self.old ≤ 4096 }
-        ensures part { OnOk result ((part : List ℕ) × (self.new ≡ self.old ++ part) × Consumes (R.remaining reader.old) (R.remaining reader.new) part) }
+        ensures part { OnOk result ((part : List ℕ) × (self.new ≡ self.old ++ part)
+            × Consumes (R.remaining reader.old) (R.remaining reader.new) part) }
         ensures more { IfOk result (λ more. more ≡ true → length self.old < length self.new) }
-        ensures end { IfOk result (λ more. more ≡ false → (self.new ≡ self.old) × IsAtEnd (R.remaining reader.new)) }
-        ensures err { OnErr result ((self.new ≡ self.old) × Keeps (R.remaining reader.old) (R.remaining reader.new)) }
+        ensures end { IfOk result (λ more. more ≡ false
+            → (self.new ≡ self.old) × IsAtEnd (R.remaining reader.new)) }
+        ensures err { OnErr result ((self.new ≡ self.old)
+            × Keeps (R.remaining reader.old) (R.remaining reader.new)) }
     {
         self.buffer.copy_within(self.at..self.filled, 0);
         self.filled -= self.at;
@@ -76,7 +79,9 @@ fn read_behind<R: Read>(reader: &mut R, buffer: &mut [u8], held: usize) -> io::R
     requires { held < length buffer.old }
     ensures front { take held buffer.new ≡ take held buffer.old }
     ensures bound { IfOk result (λ count. held + count ≤ length buffer.new) }
-    ensures ok { IfOk result (λ count. Consumes (R.remaining reader.old) (R.remaining reader.new) (take count (drop held buffer.new))) }
+    ensures ok { IfOk result (λ count.
+        Consumes (R.remaining reader.old) (R.remaining reader.new)
+        (take count (drop held buffer.new))) }
     ensures end { IfOk result (λ count. count ≡ 0 → IsAtEnd (R.remaining reader.new)) }
     ensures err { OnErr result (Keeps (R.remaining reader.old) (R.remaining reader.new)) }
 {
@@ -86,8 +91,10 @@ fn read_behind<R: Read>(reader: &mut R, buffer: &mut [u8], held: usize) -> io::R
 /// Reads once, and again if a signal interrupts the read.
 pub fn read_once<R: Read>(reader: &mut R, buffer: &mut [u8]) -> io::Result<usize>
     ensures bound { IfOk result (λ count. count ≤ length buffer.new) }
-    ensures ok { IfOk result (λ count. Consumes (R.remaining reader.old) (R.remaining reader.new) (take count buffer.new)) }
-    ensures end { IfOk result (λ count. count ≡ 0 → 0 < length buffer.old → IsAtEnd (R.remaining reader.new)) }
+    ensures ok { IfOk result (λ count.
+        Consumes (R.remaining reader.old) (R.remaining reader.new) (take count buffer.new)) }
+    ensures end { IfOk result (λ count. count ≡ 0 → 0 < length buffer.old
+        → IsAtEnd (R.remaining reader.new)) }
     ensures err { OnErr result (Keeps (R.remaining reader.old) (R.remaining reader.new)) }
 {
     'tries: for _ in 0..u64::MAX {

@@ -48,7 +48,8 @@ impl Run {
     ghost use Rattle.script.specs.Serving.{Advances, Stops, Halts, Closes, TakesBytes, SameButText, SameButPending, WritesFront, KeepsWay, GivesAnswer, GivesNoMemory, GivesBeginning};
 
     pub(crate) fn new(alloc: Global) -> Result<Run, AllocError>
-        ensures { IfOk result (λ run. (run.pending ≡ []) × (run.lines ≡ 0) × (string_bytes run.text ≡ [])) }
+        ensures { IfOk result (λ run. (run.pending ≡ []) × (run.lines ≡ 0)
+            × (string_bytes run.text ≡ [])) }
     {
         let pending = Pending::new(alloc)?;
         Ok(Run {
@@ -62,7 +63,8 @@ impl Run {
     // Adds the reply to the text.
     fn gather(&mut self) -> Result<(), ServeError>
         ensures same { SameButText self.old self.new }
-        ensures text { OnOk result (string_bytes self.new.text ≡ string_bytes self.old.text ++ string_bytes self.old.reply) }
+        ensures text { OnOk result (string_bytes self.new.text
+            ≡ string_bytes self.old.text ++ string_bytes self.old.reply) }
         ensures err { OnErr result (string_bytes self.new.text ≡ string_bytes self.old.text) }
         ensures error { IfErr result (λ e. is_memory e ≡ true) }
     {
@@ -83,11 +85,15 @@ impl Run {
         ensures pending { self.new.pending ≡ self.old.pending }
         ensures lines { OnOk result (self.new.lines ≡ self.old.lines + 1) }
         ensures goes_on { IfOk result (λ goes_on. goes_on ≡ true
-            → Continues (I.gives interpreter.old) (I.gives interpreter.new) (self.old.lines + 1) (take end self.old.pending) (string_bytes self.old.text) (string_bytes self.new.text)) }
+            → Continues (I.gives interpreter.old) (I.gives interpreter.new) (self.old.lines + 1)
+            (take end self.old.pending) (string_bytes self.old.text) (string_bytes self.new.text)) }
         ensures ends { IfOk result (λ goes_on. goes_on ≡ false
-            → Ends (I.gives interpreter.old) (self.old.lines + 1) (take end self.old.pending) (string_bytes self.old.text) (string_bytes self.new.text)) }
-        ensures last { IfOk result (λ goes_on. goes_on ≡ false → I.ended_at interpreter.new (self.old.lines + 1) (take end self.old.pending)) }
-        ensures learns { IfOk result (λ goes_on. goes_on ≡ true → Learns I.knows interpreter.old interpreter.new (take end self.old.pending ∷ [])) }
+            → Ends (I.gives interpreter.old) (self.old.lines + 1) (take end self.old.pending)
+            (string_bytes self.old.text) (string_bytes self.new.text)) }
+        ensures last { IfOk result (λ goes_on. goes_on ≡ false
+            → I.ended_at interpreter.new (self.old.lines + 1) (take end self.old.pending)) }
+        ensures learns { IfOk result (λ goes_on. goes_on ≡ true
+            → Learns I.knows interpreter.old interpreter.new (take end self.old.pending ∷ [])) }
         ensures err { OnErr result (string_bytes self.new.text ≡ string_bytes self.old.text) }
         ensures error { IfErr result (λ e. WantsMemoryOrNumber e (self.old.lines + 1)) }
     {
@@ -107,9 +113,11 @@ impl Run {
 
     // Answers a line that is too long, whatever it says.
     fn refuse_long_line<I: Interpreter>(&mut self, interpreter: &mut I) -> Result<(), ServeError>
-        ensures last { OnOk result ((line : List ℕ) → 4096 < length line → I.ended_at interpreter.new (self.old.lines + 1) line) }
+        ensures last { OnOk result ((line : List ℕ) → 4096 < length line
+            → I.ended_at interpreter.new (self.old.lines + 1) line) }
         ensures same { SameButText self.old self.new }
-        ensures text { OnOk result (string_bytes self.new.text ≡ string_bytes self.old.text ++ fault_line (self.old.lines + 1) (codes "long line")) }
+        ensures text { OnOk result (string_bytes self.new.text
+            ≡ string_bytes self.old.text ++ fault_line (self.old.lines + 1) (codes "long line")) }
         ensures err { OnErr result (string_bytes self.new.text ≡ string_bytes self.old.text) }
         ensures error { IfErr result (λ e. WantsMemoryOrNumber e (self.old.lines + 1)) }
     {
@@ -131,16 +139,23 @@ impl Run {
         end: usize,
     ) -> Result<bool, ServeError>
         requires { IsFirstByte (is_byte 10) self.old.pending (Some end) }
-        ensures goes_on { IfOk result (λ goes_on. goes_on ≡ true → Advances (I.gives interpreter.old) (I.gives interpreter.new) self.old self.new) }
+        ensures goes_on { IfOk result (λ goes_on. goes_on ≡ true
+            → Advances (I.gives interpreter.old) (I.gives interpreter.new) self.old self.new) }
         ensures learns { IfOk result (λ goes_on. goes_on ≡ true → (last : I)
-            → Advances (Leads I.knows last interpreter.old) (Leads I.knows last interpreter.new) self.old self.new) }
-        ensures lines { IfOk result (λ goes_on. goes_on ≡ true → self.new.lines ≡ self.old.lines + 1) }
-        ensures shorter { IfOk result (λ goes_on. goes_on ≡ true → length self.new.pending < length self.old.pending) }
+            → Advances (Leads I.knows last interpreter.old) (Leads I.knows last interpreter.new)
+            self.old self.new) }
+        ensures lines { IfOk result (λ goes_on. goes_on ≡ true
+            → self.new.lines ≡ self.old.lines + 1) }
+        ensures shorter { IfOk result (λ goes_on. goes_on ≡ true
+            → length self.new.pending < length self.old.pending) }
         ensures passes { IfOk result (λ goes_on. goes_on ≡ true → (last : I)
-            → Advances (EndsKnown (I.gives interpreter.old) (I.ended_at last)) (EndsKnown (I.gives interpreter.new) (I.ended_at last)) self.old self.new) }
-        ensures stops { IfOk result (λ goes_on. goes_on ≡ false → Stops (I.gives interpreter.old) self.old self.new) }
+            → Advances (EndsKnown (I.gives interpreter.old) (I.ended_at last))
+            (EndsKnown (I.gives interpreter.new) (I.ended_at last)) self.old self.new) }
+        ensures stops { IfOk result (λ goes_on. goes_on ≡ false
+            → Stops (I.gives interpreter.old) self.old self.new) }
         ensures last { IfOk result (λ goes_on. goes_on ≡ false
-            → Stops (EndsKnown (I.gives interpreter.old) (I.ended_at interpreter.new)) self.old self.new) }
+            → Stops (EndsKnown (I.gives interpreter.old) (I.ended_at interpreter.new)) self.old
+            self.new) }
         ensures err { OnErr result (string_bytes self.new.text ≡ string_bytes self.old.text) }
         ensures error { IfErr result (λ e. WantsMemoryOrNumber e (self.old.lines + 1)) }
     {
@@ -157,19 +172,27 @@ impl Run {
 
     /// Serves pending whole lines until much text is gathered, and returns why it stopped.
     fn serve_lines<I: Interpreter>(&mut self, interpreter: &mut I) -> Result<Pause, ServeError>
-        ensures goes_on { IfOk result (λ pause. pause ≢ Pause.Ended → Advances (I.gives interpreter.old) (I.gives interpreter.new) self.old self.new) }
+        ensures goes_on { IfOk result (λ pause. pause ≢ Pause.Ended
+            → Advances (I.gives interpreter.old) (I.gives interpreter.new) self.old self.new) }
         ensures learns { IfOk result (λ pause. pause ≢ Pause.Ended → (last : I)
-            → Advances (Leads I.knows last interpreter.old) (Leads I.knows last interpreter.new) self.old self.new) }
+            → Advances (Leads I.knows last interpreter.old) (Leads I.knows last interpreter.new)
+            self.old self.new) }
         ensures takes { IfOk result (λ pause. pause ≢ Pause.Ended → TakesBytes self.old self.new) }
-        ensures full { IfOk result (λ pause. pause ≡ Pause.Full → length self.new.pending < length self.old.pending) }
-        ensures drained { IfOk result (λ pause. pause ≡ Pause.Drained → HasNoEnd self.new.pending × (length self.new.pending ≤ 4096)) }
+        ensures full { IfOk result (λ pause. pause ≡ Pause.Full
+            → length self.new.pending < length self.old.pending) }
+        ensures drained { IfOk result (λ pause. pause ≡ Pause.Drained
+            → HasNoEnd self.new.pending × (length self.new.pending ≤ 4096)) }
         ensures passes { IfOk result (λ pause. pause ≢ Pause.Ended → (last : I)
-            → Advances (EndsKnown (I.gives interpreter.old) (I.ended_at last)) (EndsKnown (I.gives interpreter.new) (I.ended_at last)) self.old self.new) }
-        ensures stops { IfOk result (λ pause. pause ≡ Pause.Ended → Stops (I.gives interpreter.old) self.old self.new) }
+            → Advances (EndsKnown (I.gives interpreter.old) (I.ended_at last))
+            (EndsKnown (I.gives interpreter.new) (I.ended_at last)) self.old self.new) }
+        ensures stops { IfOk result (λ pause. pause ≡ Pause.Ended
+            → Stops (I.gives interpreter.old) self.old self.new) }
         ensures last { IfOk result (λ pause. pause ≡ Pause.Ended
-            → Stops (EndsKnown (I.gives interpreter.old) (I.ended_at interpreter.new)) self.old self.new) }
+            → Stops (EndsKnown (I.gives interpreter.old) (I.ended_at interpreter.new)) self.old
+            self.new) }
         ensures halts { OnErr result (Halts (I.gives interpreter.old) self.old self.new) }
-        ensures error { IfErr result (λ e. WantsMemoryOrNumber e (self.old.lines + length self.old.pending + 1)) }
+        ensures error { IfErr result (λ e.
+            WantsMemoryOrNumber e (self.old.lines + length self.old.pending + 1)) }
     {
         'lines: while let Some(end) = memchr(b'\n', self.pending.as_slice()) {
             if !self.serve_next(interpreter, end)? {
@@ -192,8 +215,11 @@ impl Run {
         requires no_end { HasNoEnd self.old.pending }
         requires short { length self.old.pending ≤ 4096 }
         ensures closes { IfOk result (Closes (I.gives interpreter.old) self.old self.new) }
-        ensures last { IfOk result (Closes (EndsKnown (I.gives interpreter.old) (I.ended_at interpreter.new)) self.old self.new) }
-        ensures learns { IfOk result (λ ending. ending ≡ Ending.Finished → Learns I.knows interpreter.old interpreter.new (lines_of self.old.pending)) }
+        ensures last { IfOk result
+            (Closes (EndsKnown (I.gives interpreter.old) (I.ended_at interpreter.new)) self.old
+            self.new) }
+        ensures learns { IfOk result (λ ending. ending ≡ Ending.Finished
+            → Learns I.knows interpreter.old interpreter.new (lines_of self.old.pending)) }
         ensures halts { OnErr result (Halts (I.gives interpreter.old) self.old self.new) }
         ensures error { IfErr result (λ e. WantsMemoryOrNumber e (self.old.lines + 1)) }
     {
@@ -213,9 +239,12 @@ impl Run {
         requires short { length self.old.pending ≤ 4096 }
         requires written { string_bytes self.old.text ≡ [] }
         ensures same { SameButPending self.old self.new }
-        ensures part { OnOk result ((part : List ℕ) × (self.new.pending ≡ self.old.pending ++ part) × Consumes (R.remaining input.old) (R.remaining input.new) part) }
-        ensures more { IfOk result (λ more. more ≡ true → length self.old.pending < length self.new.pending) }
-        ensures end { IfOk result (λ more. more ≡ false → (self.new.pending ≡ self.old.pending) × IsAtEnd (R.remaining input.new)) }
+        ensures part { OnOk result ((part : List ℕ) × (self.new.pending ≡ self.old.pending ++ part)
+            × Consumes (R.remaining input.old) (R.remaining input.new) part) }
+        ensures more { IfOk result (λ more. more ≡ true
+            → length self.old.pending < length self.new.pending) }
+        ensures end { IfOk result (λ more. more ≡ false
+            → (self.new.pending ≡ self.old.pending) × IsAtEnd (R.remaining input.new)) }
         ensures err { OnErr result (Keeps (R.remaining input.old) (R.remaining input.new)) }
         ensures error { IfErr result (λ e. is_read e ≡ true) }
     {
@@ -228,8 +257,11 @@ impl Run {
     // Writes the text and clears it. After an `Err` a front of it was written.
     fn send_text<W: Write>(&mut self, output: &mut W) -> Result<(), ServeError>
         ensures same { SameButText self.old self.new }
-        ensures ok { OnOk result ((string_bytes self.new.text ≡ []) × Appends (W.contents output.old) (W.contents output.new) (string_bytes self.old.text)) }
-        ensures err { OnErr result (WritesFront (W.contents output.old) (W.contents output.new) (string_bytes self.old.text)) }
+        ensures ok { OnOk result ((string_bytes self.new.text ≡ [])
+            × Appends (W.contents output.old) (W.contents output.new)
+            (string_bytes self.old.text)) }
+        ensures err { OnErr result (WritesFront (W.contents output.old) (W.contents output.new)
+            (string_bytes self.old.text)) }
         ensures error { IfErr result (λ e. is_write e ≡ true) }
     {
         write_whole(output, self.text.as_bytes())?;
@@ -240,8 +272,11 @@ impl Run {
     // Writes the text, and then `no memory` if memory ran out. Returns the error that ends the run.
     fn give_up<W: Write>(&mut self, output: &mut W, e: ServeError) -> ServeError
         ensures same { SameButText self.old self.new }
-        ensures told { is_memory result ≡ true → Appends (W.contents output.old) (W.contents output.new) (string_bytes self.old.text ++ no_memory_line) }
-        ensures part { WritesFront (W.contents output.old) (W.contents output.new) (string_bytes self.old.text ++ no_memory_line) }
+        ensures told { is_memory result ≡ true
+            → Appends (W.contents output.old) (W.contents output.new)
+            (string_bytes self.old.text ++ no_memory_line) }
+        ensures part { WritesFront (W.contents output.old) (W.contents output.new)
+            (string_bytes self.old.text ++ no_memory_line) }
         ensures error { (result ≡ e) ⊎ (is_write result ≡ true) }
     {
         if let Err(failed) = self.send_text(output) {
@@ -259,27 +294,45 @@ impl Run {
         interpreter: &mut I,
         output: &mut W,
     ) -> Result<Pause, ServeError>
-        ensures goes_on { IfOk result (λ pause. pause ≢ Pause.Ended → (first : I) (rest : Option (List ℕ))
-            → KeepsWay (I.gives first) (I.gives interpreter.old) (I.gives interpreter.new) rest rest (W.contents output.old) (W.contents output.new) self.old self.new) }
-        ensures learns { IfOk result (λ pause. pause ≢ Pause.Ended → (first : I) (last : I) (rest : Option (List ℕ))
-            → KeepsWay (Leads I.knows last first) (Leads I.knows last interpreter.old) (Leads I.knows last interpreter.new) rest rest (W.contents output.old) (W.contents output.new) self.old self.new) }
-        ensures passes { IfOk result (λ pause. pause ≢ Pause.Ended → (first : I) (last : I) (rest : Option (List ℕ))
-            → KeepsWay (EndsKnown (I.gives first) (I.ended_at last)) (EndsKnown (I.gives interpreter.old) (I.ended_at last)) (EndsKnown (I.gives interpreter.new) (I.ended_at last))
-            rest rest (W.contents output.old) (W.contents output.new) self.old self.new) }
+        ensures goes_on { IfOk result (λ pause. pause ≢ Pause.Ended
+            → (first : I) (rest : Option (List ℕ))
+            → KeepsWay (I.gives first) (I.gives interpreter.old) (I.gives interpreter.new) rest rest
+            (W.contents output.old) (W.contents output.new) self.old self.new) }
+        ensures learns { IfOk result (λ pause. pause ≢ Pause.Ended
+            → (first : I) (last : I) (rest : Option (List ℕ))
+            → KeepsWay (Leads I.knows last first) (Leads I.knows last interpreter.old)
+            (Leads I.knows last interpreter.new) rest rest (W.contents output.old)
+            (W.contents output.new) self.old self.new) }
+        ensures passes { IfOk result (λ pause. pause ≢ Pause.Ended
+            → (first : I) (last : I) (rest : Option (List ℕ))
+            → KeepsWay (EndsKnown (I.gives first) (I.ended_at last))
+            (EndsKnown (I.gives interpreter.old) (I.ended_at last))
+            (EndsKnown (I.gives interpreter.new) (I.ended_at last)) rest rest
+            (W.contents output.old) (W.contents output.new) self.old self.new) }
         ensures takes { IfOk result (λ pause. pause ≢ Pause.Ended → TakesBytes self.old self.new) }
-        ensures full { IfOk result (λ pause. pause ≡ Pause.Full → length self.new.pending < length self.old.pending) }
+        ensures full { IfOk result (λ pause. pause ≡ Pause.Full
+            → length self.new.pending < length self.old.pending) }
         ensures drained { IfOk result (λ pause. pause ≡ Pause.Drained
-            → HasNoEnd self.new.pending × (length self.new.pending ≤ 4096) × (string_bytes self.new.text ≡ [])) }
-        ensures ended { IfOk result (λ pause. pause ≡ Pause.Ended → (first : I) (rest : Option (List ℕ))
-            → GivesAnswer (I.gives first) (I.gives interpreter.old) rest (W.contents output.old) (W.contents output.new) self.old Ending.Refused) }
-        ensures last { IfOk result (λ pause. pause ≡ Pause.Ended → (first : I) (rest : Option (List ℕ))
-            → GivesAnswer (EndsKnown (I.gives first) (I.ended_at interpreter.new)) (EndsKnown (I.gives interpreter.old) (I.ended_at interpreter.new))
-            rest (W.contents output.old) (W.contents output.new) self.old Ending.Refused) }
-        ensures memory { IfErr result (λ e. is_memory e ≡ true → (first : I) (rest : Option (List ℕ))
-            → GivesNoMemory (I.gives first) (I.gives interpreter.old) rest (W.contents output.old) (W.contents output.new) self.old) }
+            → HasNoEnd self.new.pending × (length self.new.pending ≤ 4096)
+            × (string_bytes self.new.text ≡ [])) }
+        ensures ended { IfOk result (λ pause. pause ≡ Pause.Ended
+            → (first : I) (rest : Option (List ℕ))
+            → GivesAnswer (I.gives first) (I.gives interpreter.old) rest (W.contents output.old)
+            (W.contents output.new) self.old Ending.Refused) }
+        ensures last { IfOk result (λ pause. pause ≡ Pause.Ended
+            → (first : I) (rest : Option (List ℕ))
+            → GivesAnswer (EndsKnown (I.gives first) (I.ended_at interpreter.new))
+            (EndsKnown (I.gives interpreter.old) (I.ended_at interpreter.new)) rest
+            (W.contents output.old) (W.contents output.new) self.old Ending.Refused) }
+        ensures memory { IfErr result (λ e. is_memory e ≡ true
+            → (first : I) (rest : Option (List ℕ))
+            → GivesNoMemory (I.gives first) (I.gives interpreter.old) rest (W.contents output.old)
+            (W.contents output.new) self.old) }
         ensures err { OnErr result ((first : I) (rest : Option (List ℕ))
-            → GivesBeginning (I.gives first) (I.gives interpreter.old) rest (W.contents output.old) (W.contents output.new) self.old) }
-        ensures error { IfErr result (λ e. (is_write e ≡ true) ⊎ WantsMemoryOrNumber e (self.old.lines + length self.old.pending + 1)) }
+            → GivesBeginning (I.gives first) (I.gives interpreter.old) rest (W.contents output.old)
+            (W.contents output.new) self.old) }
+        ensures error { IfErr result (λ e. (is_write e ≡ true)
+            ⊎ WantsMemoryOrNumber e (self.old.lines + length self.old.pending + 1)) }
     {
         match self.serve_lines(interpreter) {
             Ok(pause) => {
@@ -299,16 +352,23 @@ impl Run {
         requires no_end { HasNoEnd self.old.pending }
         requires short { length self.old.pending ≤ 4096 }
         ensures answer { IfOk result (λ ending. (first : I) (rest : Option (List ℕ)) → IsAtEnd rest
-            → GivesAnswer (I.gives first) (I.gives interpreter.old) rest (W.contents output.old) (W.contents output.new) self.old ending) }
+            → GivesAnswer (I.gives first) (I.gives interpreter.old) rest (W.contents output.old)
+            (W.contents output.new) self.old ending) }
         ensures last { IfOk result (λ ending. (first : I) (rest : Option (List ℕ)) → IsAtEnd rest
-            → GivesAnswer (EndsKnown (I.gives first) (I.ended_at interpreter.new)) (EndsKnown (I.gives interpreter.old) (I.ended_at interpreter.new))
-            rest (W.contents output.old) (W.contents output.new) self.old ending) }
-        ensures learns { IfOk result (λ ending. ending ≡ Ending.Finished → Learns I.knows interpreter.old interpreter.new (lines_of self.old.pending)) }
-        ensures memory { IfErr result (λ e. is_memory e ≡ true → (first : I) (rest : Option (List ℕ))
-            → GivesNoMemory (I.gives first) (I.gives interpreter.old) rest (W.contents output.old) (W.contents output.new) self.old) }
+            → GivesAnswer (EndsKnown (I.gives first) (I.ended_at interpreter.new))
+            (EndsKnown (I.gives interpreter.old) (I.ended_at interpreter.new)) rest
+            (W.contents output.old) (W.contents output.new) self.old ending) }
+        ensures learns { IfOk result (λ ending. ending ≡ Ending.Finished
+            → Learns I.knows interpreter.old interpreter.new (lines_of self.old.pending)) }
+        ensures memory { IfErr result (λ e. is_memory e ≡ true
+            → (first : I) (rest : Option (List ℕ))
+            → GivesNoMemory (I.gives first) (I.gives interpreter.old) rest (W.contents output.old)
+            (W.contents output.new) self.old) }
         ensures err { OnErr result ((first : I) (rest : Option (List ℕ)) → IsAtEnd rest
-            → GivesBeginning (I.gives first) (I.gives interpreter.old) rest (W.contents output.old) (W.contents output.new) self.old) }
-        ensures error { IfErr result (λ e. (is_write e ≡ true) ⊎ WantsMemoryOrNumber e (self.old.lines + 1)) }
+            → GivesBeginning (I.gives first) (I.gives interpreter.old) rest (W.contents output.old)
+            (W.contents output.new) self.old) }
+        ensures error { IfErr result (λ e. (is_write e ≡ true)
+            ⊎ WantsMemoryOrNumber e (self.old.lines + 1)) }
     {
         match self.serve_last(interpreter) {
             Ok(ending) => {

@@ -12,7 +12,8 @@ use std::io::{ErrorKind, Write};
 
 /// Writes the line `no memory`, and takes no memory for it. Returns the error that ends the run.
 pub fn tell_of_memory<W: Write>(output: &mut W, e: AllocError) -> ServeError
-    ensures told { is_memory result ≡ true → Appends (W.contents output.old) (W.contents output.new) no_memory_line }
+    ensures told { is_memory result ≡ true
+        → Appends (W.contents output.old) (W.contents output.new) no_memory_line }
     ensures part { WritesFront (W.contents output.old) (W.contents output.new) no_memory_line }
     ensures error { (result ≡ ServeError.Memory e) ⊎ (is_write result ≡ true) }
 {
@@ -25,7 +26,8 @@ pub fn tell_of_memory<W: Write>(output: &mut W, e: AllocError) -> ServeError
 /// Writes all of the bytes, and flushes. After an `Err` a front of them was written.
 pub fn write_whole<W: Write>(output: &mut W, bytes: &[u8]) -> Result<(), ServeError>
     ensures ok { OnOk result (Appends (W.contents output.old) (W.contents output.new) bytes.now) }
-    ensures err { OnErr result (WritesFront (W.contents output.old) (W.contents output.new) bytes.now) }
+    ensures err { OnErr result (WritesFront (W.contents output.old) (W.contents output.new)
+        bytes.now) }
     ensures error { IfErr result (λ e. is_write e ≡ true) }
 {
     let (_, sent) = send(output, bytes);
@@ -41,7 +43,8 @@ pub fn write_whole<W: Write>(output: &mut W, bytes: &[u8]) -> Result<(), ServeEr
 // Writes all of the bytes, and returns how many were taken: on an error, those before it.
 fn send<W: Write>(output: &mut W, bytes: &[u8]) -> (usize, io::Result<()>)
     ensures bound { result.0 ≤ length bytes.now }
-    ensures taken { Appends (W.contents output.old) (W.contents output.new) (take result.0 bytes.now) }
+    ensures taken { Appends (W.contents output.old) (W.contents output.new)
+        (take result.0 bytes.now) }
     ensures all { OnOk result.1 (result.0 ≡ length bytes.now) }
 {
     let mut taken = 0;

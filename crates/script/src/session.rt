@@ -74,7 +74,10 @@ impl<K: ScriptKind> Session<K> {
         reply: &mut String,
     ) -> Result<bool, AllocError>
         requires { self.old.kept ≡ None }
-        ensures { IfOk result (λ goes_on. ActsAt K.stands (λ wanting state. K.kind.first_served number request.now) None self.new.kept (string_bytes reply.old) (string_bytes reply.new) goes_on) }
+        ensures { IfOk result (λ goes_on.
+            ActsAt K.stands (λ wanting state.
+            K.kind.first_served number request.now) None self.new.kept (string_bytes reply.old)
+            (string_bytes reply.new) goes_on) }
     {
         match K::first(self.alloc, request)? {
             First::Nothing => Ok(true),
@@ -96,7 +99,10 @@ impl<K: ScriptKind> Session<K> {
         request: &K::Request,
         reply: &mut String,
     ) -> Result<bool, AllocError>
-        ensures { IfOk result (λ goes_on. ActsAt K.stands (λ wanting state. request_effect K.kind number wanting request.now state) self.old.kept self.new.kept (string_bytes reply.old) (string_bytes reply.new) goes_on) }
+        ensures { IfOk result (λ goes_on.
+            ActsAt K.stands (λ wanting state.
+            request_effect K.kind number wanting request.now state) self.old.kept self.new.kept
+            (string_bytes reply.old) (string_bytes reply.new) goes_on) }
     {
         match &mut self.kept {
             Some(kept) => K::serve_made(kept, number, request, reply),
@@ -111,7 +117,10 @@ impl<K: ScriptKind> Session<K> {
         reply: &mut String,
     ) -> Result<bool, AllocError>
         requires { length line.now ≤ 4096 }
-        ensures { IfOk result (λ goes_on. ActsAt K.stands (λ wanting state. line_effect K.kind number wanting line.now state) self.old.kept self.new.kept (string_bytes reply.old) (string_bytes reply.new) goes_on) }
+        ensures { IfOk result (λ goes_on.
+            ActsAt K.stands (λ wanting state.
+            line_effect K.kind number wanting line.now state) self.old.kept self.new.kept
+            (string_bytes reply.old) (string_bytes reply.new) goes_on) }
     {
         match parse::<K>(self.alloc, line)? {
             Some(request) => self.serve_request(number, &request, reply),
@@ -140,8 +149,12 @@ impl<K: ScriptKind> Session<K> {
         reply: &mut String,
     ) -> Result<bool, AllocError>
         requires { length line.now ≤ 4096 }
-        ensures acts { IfOk result (λ goes_on. ActsAt K.stands (λ wanting state. line_effect K.kind number wanting line.now state) self.old.kept self.new.kept (string_bytes reply.old) (string_bytes reply.new) goes_on) }
-        ensures last { IfOk result (λ goes_on. goes_on ≡ false → IfSome self.new.last (λ last. IsLine last number line.now)) }
+        ensures acts { IfOk result (λ goes_on.
+            ActsAt K.stands (λ wanting state.
+            line_effect K.kind number wanting line.now state) self.old.kept self.new.kept
+            (string_bytes reply.old) (string_bytes reply.new) goes_on) }
+        ensures last { IfOk result (λ goes_on. goes_on ≡ false
+            → IfSome self.new.last (λ last. IsLine last number line.now)) }
     {
         let from = reply.len();
         let goes_on = self.serve_text(number, line, reply)?;
@@ -207,9 +220,12 @@ pub fn serve_to_last_line<K: ScriptKind, R: Read, W: Write>(
     input: &mut R,
     output: &mut W,
 ) -> (Result<Ending, ServeError>, Option<LastLine>)
-    ensures serves { Serves (MayAnswer K.kind) result.0 (R.remaining input.old) (R.remaining input.new) (W.contents output.old) (W.contents output.new) }
+    ensures serves { Serves (MayAnswer K.kind) result.0 (R.remaining input.old)
+        (R.remaining input.new) (W.contents output.old) (W.contents output.new) }
     ensures last { IfOk result.0 (λ ending. ending ≡ Ending.Refused
-        → IfSome result.1 (λ last. EndedBy (MayAnswer K.kind) last (R.remaining input.old) (W.contents output.old) (W.contents output.new))) }
+        → IfSome result.1 (λ last.
+        EndedBy (MayAnswer K.kind) last (R.remaining input.old) (W.contents output.old)
+        (W.contents output.new))) }
 {
     let mut session = Session::<K>::new(alloc);
     let served = serve(alloc, &mut session, input, output);
@@ -222,7 +238,8 @@ pub fn serve_script<K: ScriptKind, R: Read, W: Write>(
     input: &mut R,
     output: &mut W,
 ) -> Result<Ending, ServeError>
-    ensures { Serves (MayAnswer K.kind) result (R.remaining input.old) (R.remaining input.new) (W.contents output.old) (W.contents output.new) }
+    ensures { Serves (MayAnswer K.kind) result (R.remaining input.old) (R.remaining input.new)
+        (W.contents output.old) (W.contents output.new) }
 {
     serve_to_last_line::<K, R, W>(alloc, input, output).0
 }

@@ -8,7 +8,8 @@ use std::fmt::Write;
 
 /// Appends the fault of the line of this number, which ends the run.
 pub fn say_fault(number: u64, name: &str, reply: &mut String) -> Result<(), AllocError>
-    ensures { OnOk result (string_bytes reply.new ≡ string_bytes reply.old ++ fault_line number name.now) }
+    ensures { OnOk result (string_bytes reply.new
+        ≡ string_bytes reply.old ++ fault_line number name.now) }
 {
     write!(reply, "line {number}: {name}\n")
 }

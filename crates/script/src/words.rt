@@ -7,7 +7,8 @@ use memchr::memchr;
 
 /// Returns the first word of a text and the rest after it, or None if there is no word.
 pub fn next_word(text: &[u8]) -> Option<(&[u8], &[u8])>
-    ensures { MatchOption result (words_of text.now ≡ []) (λ found. words_of text.now ≡ found.0.now ∷ words_of found.1.now) }
+    ensures { MatchOption result (words_of text.now ≡ []) (λ found. words_of text.now
+        ≡ found.0.now ∷ words_of found.1.now) }
 {
     let text = without_leading_spaces(text);
     if text.is_empty() {

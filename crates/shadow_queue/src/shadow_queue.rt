@@ -123,7 +123,8 @@ impl ShadowQueue {
         requires room { count ≤ length buffer.old }
         requires shown { self.now.consumed + count ≤ length self.now.shown }
         ensures { IsUnlostFrom (length self.now.shown - count) self.now
-            → buffer.new ≡ drop (length self.now.shown - count) self.now.shown ++ drop count buffer.old }
+            → buffer.new
+            ≡ drop (length self.now.shown - count) self.now.shown ++ drop count buffer.old }
     {
         let start = self.cons.forward(self.in_flight() - count);
         copy_from(self.memory.as_slice(), start, count, buffer);

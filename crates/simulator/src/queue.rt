@@ -70,7 +70,8 @@ impl Queue {
         ensures run { IfOk result (λ r. r.0.keeper.run ≡ []) }
         ensures consumer { IfOk result (λ r. IsIdleConsumer r.0.keeper r.1.head r.1.taken) }
         ensures nothing_lent { IfOk result (λ r. r.1.lent ≡ None) }
-        ensures refused { IfErr result (λ fault. IsNotMade (number_fault log2 senders max_batches) fault) }
+        ensures refused { IfErr result (λ fault.
+            IsNotMade (number_fault log2 senders max_batches) fault) }
     {
         let (ring, keeper, consumer) = Keeper::new(alloc, log2, senders, max_batches)?;
         match new_seats(alloc, senders) {
@@ -159,8 +160,10 @@ impl Queue {
     ) -> Result<Option<u32>, Cause>
         requires known { sender < (ring_in self.old).senders }
         requires settled { is_open (trail_of (Sender sender) self.old.keeper.run) ≡ false }
-        ensures run { self.new.keeper.run ≡ (sent_by (ring_in self.old) sender batch.entry closes self.old.keeper.run).run }
-        ensures answer { result ≡ (sent_by (ring_in self.old) sender batch.entry closes self.old.keeper.run).answer }
+        ensures run { self.new.keeper.run
+            ≡ (sent_by (ring_in self.old) sender batch.entry closes self.old.keeper.run).run }
+        ensures answer { result
+            ≡ (sent_by (ring_in self.old) sender batch.entry closes self.old.keeper.run).answer }
         ensures consumer { LeavesConsumer self.old.keeper self.new.keeper }
     {
         let Queue {
@@ -182,7 +185,8 @@ impl Queue {
     pub(crate) fn publish(&mut self, sender: u32) -> Option<u32>
         requires known { sender < (ring_in self.old).senders }
         requires opened { is_open (trail_of (Sender sender) self.old.keeper.run) ≡ true }
-        ensures run { self.new.keeper.run ≡ published (ring_in self.old).geometry sender self.old.keeper.run }
+        ensures run { self.new.keeper.run
+            ≡ published (ring_in self.old).geometry sender self.old.keeper.run }
         ensures number { result ≡ reserved_number (trail_of (Sender sender) self.old.keeper.run) }
         ensures consumer { LeavesConsumer self.old.keeper self.new.keeper }
     {

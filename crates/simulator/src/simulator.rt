@@ -186,7 +186,8 @@ impl Simulator {
     ///
     /// Errors: C3 if memory runs out, and no other.
     pub fn entries(&self) -> Result<Vec<Entry>, CacheFault>
-        ensures ok { IfOk result (λ list. Tells self.now (λ state. list.items ≡ finite.values (entries state))) }
+        ensures ok { IfOk result (λ list.
+            Tells self.now (λ state. list.items ≡ finite.values (entries state))) }
         ensures err { OnErr result (result ≡ Err CacheFault.NoMemory) }
     {
         self.unit.entries()

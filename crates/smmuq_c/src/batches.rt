@@ -33,7 +33,8 @@ pub extern "C" fn smmuq_range(
     buffer: &mut [Raw],
     count: &mut usize,
 ) -> u32
-    ensures answered { Answers (HasRange vmid asid address pages buffer.old buffer.new count.new) result }
+    ensures answered { Answers (HasRange vmid asid address pages buffer.old buffer.new count.new)
+        result }
     ensures buffer { KeptUnlessDone result buffer.old buffer.new }
     ensures count { CountKept result count.old count.new }
 {

@@ -132,7 +132,8 @@ pub extern "C" fn smmuq_text(
     buffer: &mut [u8],
     written: &mut usize,
 ) -> u32
-    ensures answered { Answers (HasTold (decoding (record { lo = lo; hi = hi })) buffer.old buffer.new written.new) result }
+    ensures answered { Answers (HasTold (decoding (record { lo = lo; hi = hi })) buffer.old
+        buffer.new written.new) result }
     ensures buffer { KeptUnlessDone result buffer.old buffer.new }
     ensures written { CountKept result written.old written.new }
 {

@@ -19,7 +19,8 @@ pub extern "C" fn smmuq_take_run(
     buffer: &mut [Raw],
     count: &mut usize,
 ) -> u32
-    ensures called { HasCalled (TakesRun buffer.old buffer.new count.new) consumer.old consumer.new result }
+    ensures called { HasCalled (TakesRun buffer.old buffer.new count.new) consumer.old consumer.new
+        result }
     ensures buffer { KeptOfOthers is_consumer consumer.old.object buffer.old buffer.new }
     ensures count { KeptOfOthers is_consumer consumer.old.object count.old count.new }
 {

@@ -134,7 +134,8 @@ fn evict_older(object: &mut Object, born: u64, count: &mut usize) -> Status
 
 /// Evicts all entries of a unit or an engine whose tags pass a test, and tells how many they were.
 fn evict_passing<T: TagTest>(object: &mut Object, test: &T, count: &mut usize) -> Status
-    ensures called { OfAnyUnit (HasEvictedAll (T.passing test.now) count.new) object.old object.new result }
+    ensures called { OfAnyUnit (HasEvictedAll (T.passing test.now) count.new) object.old object.new
+        result }
     ensures kept { IsKept result count.old count.new }
 {
     match object {

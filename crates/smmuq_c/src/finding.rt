@@ -118,7 +118,8 @@ pub extern "C" fn smmuq_find(
     tag: &mut TagWords,
     held: &mut Held,
 ) -> u32
-    ensures called { HasCalled (Finds kind owner space address spans tag.new held.new) handle.old handle.new result }
+    ensures called { HasCalled (Finds kind owner space address spans tag.new held.new) handle.old
+        handle.new result }
     ensures tag { KeptUnlessDone result tag.old tag.new }
     ensures held { KeptUnlessDone result held.old held.new }
 {
@@ -136,7 +137,8 @@ pub extern "C" fn smmuq_find(
 }
 
 fn find(object: &Object, sought: Sought, tag: &mut TagWords, held: &mut Held) -> Status
-    ensures called { Finds sought.kind sought.owner sought.space sought.address sought.spans tag.new held.new object.now object.now result }
+    ensures called { Finds sought.kind sought.owner sought.space sought.address sought.spans tag.new
+        held.new object.now object.now result }
     ensures tag { IsKept result tag.old tag.new }
     ensures held { IsKept result held.old held.new }
 {

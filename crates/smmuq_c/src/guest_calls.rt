@@ -32,8 +32,8 @@ pub extern "C" fn smmuq_guest_new(
     idr5: u32,
     guest: &mut Handle,
 ) -> u32
-    ensures { Answers (HasMadeGuest vmid (smmu_of idr0 idr1 idr3 idr5) guest.old.object guest.new.object)
-        result }
+    ensures { Answers (HasMadeGuest vmid (smmu_of idr0 idr1 idr3 idr5) guest.old.object
+        guest.new.object) result }
 {
     let smmu = Smmu::from_registers(idr0, idr1, idr3, idr5);
     make_guest(alloc, vmid, smmu, guest).number()
@@ -138,8 +138,9 @@ pub extern "C" fn smmuq_guest_convert(
     buffer: &mut [Raw],
     converted: &mut Converted,
 ) -> u32
-    ensures called { HasCalled (OfGuest (HasConverted commands.now buffer.old buffer.new converted.new))
-        guest.old guest.new result }
+    ensures called { HasCalled
+        (OfGuest (HasConverted commands.now buffer.old buffer.new converted.new)) guest.old
+        guest.new result }
     ensures buffer { KeptUnlessDone result buffer.old buffer.new }
     ensures converted { KeptUnlessDone result converted.old converted.new }
 {
@@ -177,7 +178,8 @@ fn convert_for(
     buffer: &mut [Raw],
     converted: &mut Converted,
 ) -> Status
-    ensures called { HasConverted commands.now buffer.old buffer.new converted.new guest.now guest.now result }
+    ensures called { HasConverted commands.now buffer.old buffer.new converted.new guest.now
+        guest.now result }
     ensures buffer { IsKept result buffer.old buffer.new }
     ensures converted { IsKept result converted.old converted.new }
 {
@@ -291,7 +293,8 @@ fn tell(object: &Object, raw: Raw, buffer: &mut [StreamWords], count: &mut usize
 }
 
 fn tell_of(guest: &Guest, raw: Raw, buffer: &mut [StreamWords], count: &mut usize) -> Status
-    ensures called { HasToldFor (decoding raw) buffer.old buffer.new count.new guest.now guest.now result }
+    ensures called { HasToldFor (decoding raw) buffer.old buffer.new count.new guest.now guest.now
+        result }
     ensures buffer { IsKept result buffer.old buffer.new }
     ensures count { IsCountKept result count.old count.new }
 {

@@ -172,7 +172,8 @@ pub extern "C" fn smmuq_entries(
     buffer: &mut [EntryWords],
     count: &mut usize,
 ) -> u32
-    ensures called { HasCalled (Lists buffer.old buffer.new count.new) handle.old handle.new result }
+    ensures called { HasCalled (Lists buffer.old buffer.new count.new) handle.old handle.new
+        result }
     ensures buffer { KeptUnlessDone result buffer.old buffer.new }
     ensures count { CountKept result count.old count.new }
 {
@@ -194,7 +195,8 @@ fn list(object: &Object, buffer: &mut [EntryWords], count: &mut usize) -> Status
 }
 
 fn list_of(unit: &Unit, buffer: &mut [EntryWords], count: &mut usize) -> Status
-    ensures listed { IsListed (finite.values unit.now.caches.entries) buffer.old buffer.new count.new result }
+    ensures listed { IsListed (finite.values unit.now.caches.entries) buffer.old buffer.new
+        count.new result }
     ensures buffer { IsKept result buffer.old buffer.new }
     ensures count { IsCountKept result count.old count.new }
 {

@@ -41,7 +41,8 @@ impl Object {
 
     /// The unit of a unit or an engine, to read it.
     pub(crate) fn unit(&self) -> Option<&Unit>
-        ensures unit { MatchOption result (has_unit self.now ≡ false) (λ unit. unit_in self.now ≡ Some unit.now) }
+        ensures unit { MatchOption result (has_unit self.now ≡ false) (λ unit. unit_in self.now
+            ≡ Some unit.now) }
         ensures settled { IsSettledObject self.now }
     {
         match self {

@@ -60,7 +60,8 @@ pub extern "C" fn smmuq_publish(sender: &mut Handle, number: &mut u32) -> u32
 
 fn publish(object: Object, _nothing: ()) -> (Object, Result<u32, Status>)
     ensures published { IfOk result.1 (λ told. HasPublished told object result.0 Done) }
-    ensures refused { IfErr result.1 (λ status. (told : ℕ) → HasPublished told object result.0 status) }
+    ensures refused { IfErr result.1 (λ status. (told : ℕ)
+        → HasPublished told object result.0 status) }
 {
     match object {
         Object::Reservation(seat) => {

@@ -86,7 +86,8 @@ pub struct Errors {
 impl Errors {
     /// Of CONS.ERR, GERROR and GERRORN.
     pub(crate) fn of(registers: (u32, u32, u32)) -> Errors
-        ensures { result ≡ record { err = registers.0; gerror = registers.1; gerrorn = registers.2 } }
+        ensures { result
+            ≡ record { err = registers.0; gerror = registers.1; gerrorn = registers.2 } }
     {
         let (err, gerror, gerrorn) = registers;
         Errors {

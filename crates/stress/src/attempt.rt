@@ -29,7 +29,8 @@ impl Attempt {
 
     /// The receipt of a batch that was sent with its CMD_SYNC, if it was.
     pub(crate) fn receipt(&self) -> Option<&Receipt>
-        ensures { MatchOption result ((receipt : ReceiptValue) → self.now ≢ Attempt.Sent receipt) (λ r. self.now ≡ Attempt.Sent r.now) }
+        ensures { MatchOption result ((receipt : ReceiptValue)
+            → self.now ≢ Attempt.Sent receipt) (λ r. self.now ≡ Attempt.Sent r.now) }
     {
         match self {
             Attempt::Sent(receipt) => Some(receipt),

@@ -148,10 +148,12 @@ pub(crate) fn send_and_drain(
 ) -> Result<Vec<Sender>, StressFault>
     requires plan { IsPlan plan }
     requires ring { ring.now.made_with.senders ≡ plan.senders }
-    requires workers { assignments workers.items ≡ assignments_of plan (new_senders ring.now plan.senders) }
+    requires workers { assignments workers.items
+        ≡ assignments_of plan (new_senders ring.now plan.senders) }
     requires engine { engine.old.consumer.ring ≡ ring.now }
     requires room { (room.items ≡ []) × (plan.senders ≤ vec_capacity room) }
-    ensures senders { IfOk result (λ v. assignments_of plan v.items ≡ assignments_of plan (new_senders ring.now plan.senders)) }
+    ensures senders { IfOk result (λ v. assignments_of plan v.items
+        ≡ assignments_of plan (new_senders ring.now plan.senders)) }
     ensures sent { IfOk result (λ v. All (HasSent plan) v.items) }
     ensures engine { OnOk result (GoesOn 0 engine.old engine.new) }
     ensures drained { OnOk result (SawDrained engine.new.consumer.trail) }
@@ -180,7 +182,8 @@ pub(crate) fn ask_all(
     ensures sent { All (HasSent plan) result.0.items }
     ensures asked { HaveAsked ring.now.made_with.max_batches result.0.items result.1.items }
     ensures many { (vec_len result.0 ≡ vec_len senders) × (vec_len result.1 ≡ vec_len senders) }
-    ensures capacity { (vec_capacity result.0 ≡ vec_capacity senders) × (vec_capacity result.1 ≡ vec_capacity room) }
+    ensures capacity { (vec_capacity result.0 ≡ vec_capacity senders)
+        × (vec_capacity result.1 ≡ vec_capacity room) }
 {
     let Some(mut sender) = senders.pop() else {
         return (senders, room);

@@ -37,7 +37,24 @@ impl Plan {
     /// Returns a plan in which each batch closes with a CMD_SYNC, or None if a number is out of range: log2 1 to 19, 1
     /// to 64 senders, 1 to 100,000 batches for each, 1 to 10,000,000 turns for each worker.
     pub fn new(log2: u32, senders: u32, batches: u32, turns: u32) -> Option<Plan>
-        ensures { SomeIff result (IsPlan (record { log2 = log2; senders = senders; batches = batches; turns = turns; every = 0 })) (record { log2 = log2; senders = senders; batches = batches; turns = turns; every = 0 }) }
+        ensures { SomeIff result
+            (IsPlan
+            (record {
+              log2 = log2;
+              senders = senders;
+              batches = batches;
+              turns = turns;
+              every =
+                  0;
+            }))
+            (record {
+              log2 = log2;
+              senders = senders;
+              batches = batches;
+              turns = turns;
+              every =
+                  0;
+            }) }
     {
         Plan::with_bare(log2, senders, batches, turns, 0)
     }
@@ -45,7 +62,24 @@ impl Plan {
     /// The same, but the last of each `every` batches of a sender has no CMD_SYNC; 0 to 100,000, and with 0 each batch
     /// has one.
     pub fn with_bare(log2: u32, senders: u32, batches: u32, turns: u32, every: u32) -> Option<Plan>
-        ensures { SomeIff result (IsPlan (record { log2 = log2; senders = senders; batches = batches; turns = turns; every = every })) (record { log2 = log2; senders = senders; batches = batches; turns = turns; every = every }) }
+        ensures { SomeIff result
+            (IsPlan
+            (record {
+              log2 = log2;
+              senders = senders;
+              batches = batches;
+              turns = turns;
+              every =
+                  every;
+            }))
+            (record {
+              log2 = log2;
+              senders = senders;
+              batches = batches;
+              turns = turns;
+              every =
+                  every;
+            }) }
     {
         let ring = 1 <= log2 && log2 <= 19 && 1 <= senders && senders <= 64;
         let work = 1 <= batches && batches <= 100_000 && 1 <= turns && turns <= 10_000_000;

@@ -34,7 +34,15 @@ impl Model for Report {
 impl Report {
     /// Returns the report of a plan, given what is left of its engine and its ring.
     pub(crate) fn new(plan: Plan, finished: Finished, done: Vec<u32>) -> Report
-        ensures { result ≡ record { plan = plan; summary = finished.summary; counts = finished.counts; entries = finite.len finished.caches.entries; done = done.items } }
+        ensures { result
+            ≡ record {
+              plan = plan;
+              summary = finished.summary;
+              counts = finished.counts;
+              entries =
+                  finite.len finished.caches.entries;
+              done = done.items;
+            } }
     {
         let entries = finished.caches.len();
         Report {

@@ -16,8 +16,10 @@ pub(crate) struct Room {
 impl Room {
     /// Errors: S1.
     pub(crate) fn new(alloc: Global, many: u32) -> Result<Room, StressFault>
-        ensures senders { IfOk result (λ room. (room.senders.items ≡ []) × (many ≤ vec_capacity room.senders)) }
-        ensures done { IfOk result (λ room. (room.done.items ≡ []) × (many ≤ vec_capacity room.done)) }
+        ensures senders { IfOk result (λ room. (room.senders.items ≡ [])
+            × (many ≤ vec_capacity room.senders)) }
+        ensures done { IfOk result (λ room. (room.done.items ≡ [])
+            × (many ≤ vec_capacity room.done)) }
         ensures err { OnErr result (result ≡ Err StressFault.NoMemory) }
     {
         let Ok(senders) = Vec::with_capacity(alloc, many as usize) else {

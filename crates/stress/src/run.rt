@@ -60,12 +60,16 @@ struct Start {
 impl Start {
     /// Errors: S1.
     fn new(alloc: Global, plan: Plan) -> Result<Start, StressFault>
-        ensures ring { IfOk result (λ start. start.ring.made_with ≡ made_with plan.log2 plan.senders plan.batches) }
-        ensures workers { IfOk result (λ start. assignments start.workers.items ≡ assignments_of plan (new_senders start.ring plan.senders)) }
+        ensures ring { IfOk result (λ start. start.ring.made_with
+            ≡ made_with plan.log2 plan.senders plan.batches) }
+        ensures workers { IfOk result (λ start. assignments start.workers.items
+            ≡ assignments_of plan (new_senders start.ring plan.senders)) }
         ensures filled { IfOk result (λ start. IsFilled plan.senders start.engine.unit) }
         ensures engine { IfOk result (λ start. start.engine.consumer.ring ≡ start.ring) }
-        ensures senders { IfOk result (λ start. (start.room.senders.items ≡ []) × (plan.senders ≤ vec_capacity start.room.senders)) }
-        ensures done { IfOk result (λ start. (start.room.done.items ≡ []) × (plan.senders ≤ vec_capacity start.room.done)) }
+        ensures senders { IfOk result (λ start. (start.room.senders.items ≡ [])
+            × (plan.senders ≤ vec_capacity start.room.senders)) }
+        ensures done { IfOk result (λ start. (start.room.done.items ≡ [])
+            × (plan.senders ≤ vec_capacity start.room.done)) }
         ensures err { OnErr result (result ≡ Err StressFault.NoMemory) }
     {
         let Ok(room) = Room::new(alloc, plan.senders()) else {
@@ -106,7 +110,8 @@ fn finish(
 ) -> Result<Report, StressFault>
     requires plan { IsPlan plan }
     requires ring { ring.made_with ≡ made_with plan.log2 plan.senders plan.batches }
-    requires workers { assignments workers.items ≡ assignments_of plan (new_senders ring plan.senders) }
+    requires workers { assignments workers.items
+        ≡ assignments_of plan (new_senders ring plan.senders) }
     requires engine { IsStarted plan.senders plan.turns ring engine }
     requires senders { (room.senders.items ≡ []) × (plan.senders ≤ vec_capacity room.senders) }
     requires done { (room.done.items ≡ []) × (plan.senders ≤ vec_capacity room.done) }

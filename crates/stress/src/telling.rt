@@ -7,7 +7,8 @@ use std::alloc::AllocError;
 use std::fmt::Write;
 
 fn say_number(name: &str, number: u64, text: &mut String) -> Result<(), AllocError>
-    ensures { OnOk result (string_bytes text.new ≡ string_bytes text.old ++ number_line name.now number) }
+    ensures { OnOk result (string_bytes text.new
+        ≡ string_bytes text.old ++ number_line name.now number) }
 {
     write!(text, "{name} {number}\n")
 }
@@ -22,7 +23,8 @@ fn say_plan(report: &Report, text: &mut String) -> Result<(), AllocError>
 }
 
 fn say_counts(report: &Report, text: &mut String) -> Result<(), AllocError>
-    ensures { OnOk result (string_bytes text.new ≡ string_bytes text.old ++ count_lines report.now) }
+    ensures { OnOk result (string_bytes text.new
+        ≡ string_bytes text.old ++ count_lines report.now) }
 {
     let counts = report.counts();
     say_number("commands", report.summary().reserved(), text)?;
@@ -53,13 +55,15 @@ fn say_end(report: &Report, text: &mut String) -> Result<(), AllocError>
 }
 
 fn say_sender(batches: u32, number: usize, found: u32, text: &mut String) -> Result<(), AllocError>
-    ensures { OnOk result (string_bytes text.new ≡ string_bytes text.old ++ sender_line batches number found) }
+    ensures { OnOk result (string_bytes text.new
+        ≡ string_bytes text.old ++ sender_line batches number found) }
 {
     write!(text, "sender {number} batches {batches} done {found}\n")
 }
 
 fn say_senders(report: &Report, text: &mut String) -> Result<(), AllocError>
-    ensures { OnOk result (string_bytes text.new ≡ string_bytes text.old ++ sender_lines report.now.plan.batches 0 report.now.done) }
+    ensures { OnOk result (string_bytes text.new
+        ≡ string_bytes text.old ++ sender_lines report.now.plan.batches 0 report.now.done) }
 {
     let batches = report.plan().batches();
     let done = report.done();
@@ -71,7 +75,8 @@ fn say_senders(report: &Report, text: &mut String) -> Result<(), AllocError>
 
 /// Appends the plan's numbers, what was counted, how it ended, and a line for each sender.
 pub(crate) fn say_report(report: &Report, text: &mut String) -> Result<(), AllocError>
-    ensures { OnOk result (string_bytes text.new ≡ string_bytes text.old ++ report_text report.now) }
+    ensures { OnOk result (string_bytes text.new
+        ≡ string_bytes text.old ++ report_text report.now) }
 {
     say_plan(report, text)?;
     say_counts(report, text)?;

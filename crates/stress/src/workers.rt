@@ -33,8 +33,10 @@ fn run_senders<R: Threads + Sync, G: Gate + Sync>(
             ensures { assignment result ≡ assignment worker }
         { worker.run(ring, gate) },
         move || -> Vec<Worker>
-            requires { IsSync R.row × IsSync G.row × All (λ w. w.sender.ring ≡ ring.now) workers.items }
-            ensures { (assignments result.items ≡ assignments workers.items) × (vec_capacity result ≡ vec_capacity workers) }
+            requires { IsSync R.row × IsSync G.row
+                × All (λ w. w.sender.ring ≡ ring.now) workers.items }
+            ensures { (assignments result.items ≡ assignments workers.items)
+                × (vec_capacity result ≡ vec_capacity workers) }
         { run_senders(rt, ring, gate, workers) },
     );
     workers.push_reserved(worker);
@@ -62,7 +64,8 @@ pub(crate) fn run_at_once<R: Threads + Sync, G: Gate + Sync>(
             ensures { GoesOn turns engine result }
         { run_engine(ring, gate, turns, engine) },
         move || -> Vec<Worker>
-            requires { IsSync R.row × IsSync G.row × All (λ w. w.sender.ring ≡ ring.now) workers.items }
+            requires { IsSync R.row × IsSync G.row
+                × All (λ w. w.sender.ring ≡ ring.now) workers.items }
             ensures { assignments result.items ≡ assignments workers.items }
         { run_senders(rt, ring, gate, workers) },
     )

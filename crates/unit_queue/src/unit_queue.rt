@@ -120,7 +120,11 @@ impl UnitQueue {
     /// Errors: those of a unit's `fill`, each leaving the queue as it was.
     pub fn fill(&mut self, tag: Tag, value: u64) -> Result<Option<Entry>, CacheFault>
         ensures answer { IsFillAnswer self.old.unit.caches tag result }
-        ensures ok { OnOk result (self.new ≡ record self.old { unit = with_entries self.old.unit (filled tag value self.old.unit) }) }
+        ensures ok { OnOk result (self.new
+            ≡ record self.old {
+              unit = with_entries self.old.unit
+                  (filled tag value self.old.unit);
+            }) }
         ensures err { OnErr result (self.new ≡ self.old) }
     {
         self.unit.fill(tag, value)

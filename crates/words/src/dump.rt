@@ -17,7 +17,8 @@ pub fn hex_dump_with_notes<R: Read, W: Write>(
     input: &mut R,
     output: &mut W,
 ) -> (Status, Notes)
-    ensures { TellsOfDump result.0 (R.remaining input.old) (R.remaining input.new) (W.contents output.old) (W.contents output.new) }
+    ensures { TellsOfDump result.0 (R.remaining input.old) (R.remaining input.new)
+        (W.contents output.old) (W.contents output.new) }
 {
     answer_lines_with_notes(alloc, DumpLines, input, output)
 }

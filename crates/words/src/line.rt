@@ -20,7 +20,8 @@ fn end_line(reply: &mut String) -> Result<(), AllocError>
 
 /// Appends what the words of a command mean, as a line.
 pub(crate) fn say_raw(raw: Raw, reply: &mut String) -> Result<bool, AllocError>
-    ensures text { OnOk result (string_bytes reply.new ≡ string_bytes reply.old ++ (told (words_text raw)).text) }
+    ensures text { OnOk result (string_bytes reply.new
+        ≡ string_bytes reply.old ++ (told (words_text raw)).text) }
     ensures good { IfOk result (λ is_good. is_good ≡ (told (words_text raw)).is_good) }
 {
     let is_legal = say_command(raw, reply)?;
@@ -37,7 +38,8 @@ pub(crate) fn say_bad_line(reply: &mut String) -> Result<bool, AllocError>
 }
 
 fn say_bad_word(alloc: Global, word: &[u8], reply: &mut String) -> Result<bool, AllocError>
-    ensures text { OnOk result (string_bytes reply.new ≡ string_bytes reply.old ++ (told (decode_text word.now)).text) }
+    ensures text { OnOk result (string_bytes reply.new
+        ≡ string_bytes reply.old ++ (told (decode_text word.now)).text) }
     ensures good { IfOk result (λ is_good. is_good ≡ (told (decode_text word.now)).is_good) }
 {
     let (text, is_legal) = decode_bytes(alloc, word)?;
@@ -49,7 +51,8 @@ fn say_bad_word(alloc: Global, word: &[u8], reply: &mut String) -> Result<bool, 
 /// Answers the only word of a line.
 #[tactic(auto, unfolding(crate::specs::LineAnswers::one_word))]
 fn say_word(alloc: Global, word: &[u8], reply: &mut String) -> Result<bool, AllocError>
-    ensures text { OnOk result (string_bytes reply.new ≡ string_bytes reply.old ++ (one_word word.now).text) }
+    ensures text { OnOk result (string_bytes reply.new
+        ≡ string_bytes reply.old ++ (one_word word.now).text) }
     ensures good { IfOk result (λ is_good. is_good ≡ (one_word word.now).is_good) }
 {
     match raw(word) {
@@ -75,7 +78,8 @@ pub fn hex_number(word: &[u8]) -> Option<u64>
 /// Answers the two words of a line: lo, then hi.
 #[tactic(auto, unfolding(crate::specs::LineAnswers::two_words))]
 fn say_pair(lo: &[u8], hi: &[u8], reply: &mut String) -> Result<bool, AllocError>
-    ensures text { OnOk result (string_bytes reply.new ≡ string_bytes reply.old ++ (two_words lo.now hi.now).text) }
+    ensures text { OnOk result (string_bytes reply.new
+        ≡ string_bytes reply.old ++ (two_words lo.now hi.now).text) }
     ensures good { IfOk result (λ is_good. is_good ≡ (two_words lo.now hi.now).is_good) }
 {
     match (hex_number(lo), hex_number(hi)) {
@@ -91,8 +95,10 @@ fn say_named(
     rest: &[u8],
     reply: &mut String,
 ) -> Result<bool, AllocError>
-    ensures text { OnOk result (string_bytes reply.new ≡ string_bytes reply.old ++ (command_answer word.now (words_of rest.now)).text) }
-    ensures good { IfOk result (λ is_good. is_good ≡ (command_answer word.now (words_of rest.now)).is_good) }
+    ensures text { OnOk result (string_bytes reply.new
+        ≡ string_bytes reply.old ++ (command_answer word.now (words_of rest.now)).text) }
+    ensures good { IfOk result (λ is_good. is_good
+        ≡ (command_answer word.now (words_of rest.now)).is_good) }
 {
     match next_word(rest) {
         None => say_word(alloc, word, reply),
@@ -106,7 +112,8 @@ fn say_named(
 /// Answers a line, and returns whether it is a legal command or skipped.
 #[tactic(auto, unfolding(crate::specs::LineAnswers::answer_of))]
 pub(crate) fn say_line(alloc: Global, line: &[u8], reply: &mut String) -> Result<bool, AllocError>
-    ensures text { OnOk result (string_bytes reply.new ≡ string_bytes reply.old ++ (answer_of line.now).text) }
+    ensures text { OnOk result (string_bytes reply.new
+        ≡ string_bytes reply.old ++ (answer_of line.now).text) }
     ensures good { IfOk result (λ is_good. is_good ≡ (answer_of line.now).is_good) }
 {
     match next_word(line) {

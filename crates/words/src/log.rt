@@ -21,7 +21,8 @@ pub fn log_with_notes<R: Read, W: Write>(
     input: &mut R,
     output: &mut W,
 ) -> (Status, Notes)
-    ensures { TellsOfLog result.0 (R.remaining input.old) (R.remaining input.new) (W.contents output.old) (W.contents output.new) }
+    ensures { TellsOfLog result.0 (R.remaining input.old) (R.remaining input.new)
+        (W.contents output.old) (W.contents output.new) }
 {
     let mut answering = LogAnswering::new(alloc);
     let served = serve(alloc, &mut answering, input, output);

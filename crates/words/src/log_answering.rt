@@ -61,7 +61,8 @@ impl LogAnswering {
 
 /// Appends what is written at a line of a log, given the line before it, and returns whether that is good.
 fn say_behind(before: LogLine, line: LogLine, reply: &mut String) -> Result<bool, AllocError>
-    ensures text { OnOk result (string_bytes reply.new ≡ string_bytes reply.old ++ (answer_behind before line).text) }
+    ensures text { OnOk result (string_bytes reply.new
+        ≡ string_bytes reply.old ++ (answer_behind before line).text) }
     ensures good { IfOk result (λ is_good. is_good ≡ (answer_behind before line).is_good) }
 {
     match (before, line) {

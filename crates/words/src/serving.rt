@@ -17,14 +17,16 @@ pub fn words_with_notes<R: Read, W: Write>(
     input: &mut R,
     output: &mut W,
 ) -> (Status, Notes)
-    ensures { TellsOfWords result.0 (R.remaining input.old) (R.remaining input.new) (W.contents output.old) (W.contents output.new) }
+    ensures { TellsOfWords result.0 (R.remaining input.old) (R.remaining input.new)
+        (W.contents output.old) (W.contents output.new) }
 {
     answer_lines_with_notes(alloc, WordLines::new(alloc), input, output)
 }
 
 /// The same without the notes.
 pub fn words<R: Read, W: Write>(alloc: Global, input: &mut R, output: &mut W) -> Status
-    ensures { TellsOfWords result (R.remaining input.old) (R.remaining input.new) (W.contents output.old) (W.contents output.new) }
+    ensures { TellsOfWords result (R.remaining input.old) (R.remaining input.new)
+        (W.contents output.old) (W.contents output.new) }
 {
     words_with_notes(alloc, input, output).0
 }

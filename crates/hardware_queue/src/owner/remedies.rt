@@ -23,7 +23,8 @@ pub fn refusal(remedy: Remedy, state: QueueState) -> Option<RemedyFault>
 /// Leaves the command at which the hardware stopped, or writes over it.
 pub fn apply<Q: CommandQueue>(remedy: Remedy, queue: &mut Q, slot: u32)
     requires { remedy ≡ Remedy.Replace → IsOfIllegal (Q.queue queue.old) slot }
-    ensures new { without_memory (Q.queue queue.new) ≡ after_remedy remedy (without_memory (Q.queue queue.old)) }
+    ensures new { without_memory (Q.queue queue.new)
+        ≡ after_remedy remedy (without_memory (Q.queue queue.old)) }
     ensures memory { length (Q.queue queue.new).memory ≡ length (Q.queue queue.old).memory }
 {
     match remedy {

@@ -15,7 +15,10 @@ pub(super) fn fill(
     value: u64,
     reply: &mut String,
 ) -> Result<bool, AllocError>
-    ensures { IfOk result (λ goes_on. Acts Stands (λ wanting. fill_effect wanting tag value) simulator.old simulator.new (string_bytes reply.old) (string_bytes reply.new) goes_on) }
+    ensures { IfOk result (λ goes_on.
+        Acts Stands (λ wanting.
+        fill_effect wanting tag value) simulator.old simulator.new (string_bytes reply.old)
+        (string_bytes reply.new) goes_on) }
 {
     match simulator.fill(tag, value) {
         Ok(was) => say_filled(was, reply)?,
@@ -29,7 +32,10 @@ pub(super) fn evict(
     tag: &Tag,
     reply: &mut String,
 ) -> Result<bool, AllocError>
-    ensures { IfOk result (λ goes_on. Acts Stands (λ wanting. evict_effect tag.now) simulator.old simulator.new (string_bytes reply.old) (string_bytes reply.new) goes_on) }
+    ensures { IfOk result (λ goes_on.
+        Acts Stands (λ wanting.
+        evict_effect tag.now) simulator.old simulator.new (string_bytes reply.old)
+        (string_bytes reply.new) goes_on) }
 {
     let was = simulator.evict(tag);
     say_evicted(was, reply)?;
@@ -41,7 +47,10 @@ pub(super) fn lookup(
     tag: &Tag,
     reply: &mut String,
 ) -> Result<bool, AllocError>
-    ensures { IfOk result (λ goes_on. Acts Stands (λ wanting. lookup_effect tag.now) simulator.old simulator.new (string_bytes reply.old) (string_bytes reply.new) goes_on) }
+    ensures { IfOk result (λ goes_on.
+        Acts Stands (λ wanting.
+        lookup_effect tag.now) simulator.old simulator.new (string_bytes reply.old)
+        (string_bytes reply.new) goes_on) }
 {
     let found = simulator.lookup(tag);
     say_found(found, reply)?;

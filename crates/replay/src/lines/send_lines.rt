@@ -23,7 +23,9 @@ fn send_now(
     requires sender { sending.now.sender < (ring_in simulator.old.queue).senders }
     requires settled { HasOpen simulator.old sending.now.sender false }
     requires publishes { sending.now.publishes ≡ true }
-    ensures { OnOk result (Acts Stands (λ wanting. body_effect sending.now (Ok batch.entry)) simulator.old simulator.new (string_bytes reply.old) (string_bytes reply.new) true) }
+    ensures { OnOk result (Acts Stands (λ wanting.
+        body_effect sending.now (Ok batch.entry)) simulator.old simulator.new
+        (string_bytes reply.old) (string_bytes reply.new) true) }
 {
     match simulator.send(sending.sender, batch, sending.closes) {
         Ok(number) => say_sent(sending.sender, number, reply),
@@ -41,7 +43,9 @@ fn open(
     requires sender { sending.now.sender < (ring_in simulator.old.queue).senders }
     requires settled { HasOpen simulator.old sending.now.sender false }
     requires stays { sending.now.publishes ≡ false }
-    ensures { OnOk result (Acts Stands (λ wanting. body_effect sending.now (Ok batch)) simulator.old simulator.new (string_bytes reply.old) (string_bytes reply.new) true) }
+    ensures { OnOk result (Acts Stands (λ wanting.
+        body_effect sending.now (Ok batch)) simulator.old simulator.new (string_bytes reply.old)
+        (string_bytes reply.new) true) }
 {
     match simulator.reserve(sending.sender, batch, sending.closes) {
         Ok(reserved) => say_opened(sending.sender, reserved.number, reserved.first, reply),
@@ -79,7 +83,9 @@ fn send_made(
 ) -> Result<(), AllocError>
     requires sender { sending.now.sender < (ring_in simulator.old.queue).senders }
     requires settled { HasOpen simulator.old sending.now.sender false }
-    ensures { OnOk result (Acts Stands (λ wanting. body_effect sending.now (body_of sending.now.content)) simulator.old simulator.new (string_bytes reply.old) (string_bytes reply.new) true) }
+    ensures { OnOk result (Acts Stands (λ wanting.
+        body_effect sending.now (body_of sending.now.content)) simulator.old simulator.new
+        (string_bytes reply.old) (string_bytes reply.new) true) }
 {
     let mut buffer = BatchBuffer::new();
     match made_in(&mut buffer, &sending.content) {
@@ -97,7 +103,9 @@ fn send_content(
 ) -> Result<(), AllocError>
     requires sender { sending.now.sender < (ring_in simulator.old.queue).senders }
     requires settled { HasOpen simulator.old sending.now.sender false }
-    ensures { OnOk result (Acts Stands (λ wanting. body_effect sending.now (body_of sending.now.content)) simulator.old simulator.new (string_bytes reply.old) (string_bytes reply.new) true) }
+    ensures { OnOk result (Acts Stands (λ wanting.
+        body_effect sending.now (body_of sending.now.content)) simulator.old simulator.new
+        (string_bytes reply.old) (string_bytes reply.new) true) }
 {
     match &sending.content {
         // Needs no buffer: each command is copied only into its slot.
@@ -117,7 +125,10 @@ pub(super) fn send(
     sending: &Sending,
     reply: &mut String,
 ) -> Result<bool, AllocError>
-    ensures { IfOk result (λ goes_on. Acts Stands (λ wanting. send_effect number sending.now) simulator.old simulator.new (string_bytes reply.old) (string_bytes reply.new) goes_on) }
+    ensures { IfOk result (λ goes_on.
+        Acts Stands (λ wanting.
+        send_effect number sending.now) simulator.old simulator.new (string_bytes reply.old)
+        (string_bytes reply.new) goes_on) }
 {
     if let Some(fault) = settled_fault(simulator, sending.sender) {
         say_fault(number, fault.label(), reply)?;

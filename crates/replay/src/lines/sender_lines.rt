@@ -16,7 +16,10 @@ pub(super) fn look(
     sender: u32,
     reply: &mut String,
 ) -> Result<bool, AllocError>
-    ensures { IfOk result (λ goes_on. Acts Stands (λ wanting. look_effect number sender) simulator.old simulator.new (string_bytes reply.old) (string_bytes reply.new) goes_on) }
+    ensures { IfOk result (λ goes_on.
+        Acts Stands (λ wanting.
+        look_effect number sender) simulator.old simulator.new (string_bytes reply.old)
+        (string_bytes reply.new) goes_on) }
 {
     if let Some(fault) = settled_fault(simulator, sender) {
         say_fault(number, fault.label(), reply)?;
@@ -33,7 +36,10 @@ pub(super) fn close(
     sender: u32,
     reply: &mut String,
 ) -> Result<bool, AllocError>
-    ensures { IfOk result (λ goes_on. Acts Stands (λ wanting. close_effect number sender) simulator.old simulator.new (string_bytes reply.old) (string_bytes reply.new) goes_on) }
+    ensures { IfOk result (λ goes_on.
+        Acts Stands (λ wanting.
+        close_effect number sender) simulator.old simulator.new (string_bytes reply.old)
+        (string_bytes reply.new) goes_on) }
 {
     if let Some(fault) = settled_fault(simulator, sender) {
         say_fault(number, fault.label(), reply)?;
@@ -50,7 +56,10 @@ pub(super) fn done(
     sender: u32,
     reply: &mut String,
 ) -> Result<bool, AllocError>
-    ensures { IfOk result (λ goes_on. Acts Stands (λ wanting. done_effect number sender) simulator.old simulator.new (string_bytes reply.old) (string_bytes reply.new) goes_on) }
+    ensures { IfOk result (λ goes_on.
+        Acts Stands (λ wanting.
+        done_effect number sender) simulator.old simulator.new (string_bytes reply.old)
+        (string_bytes reply.new) goes_on) }
 {
     if let Some(fault) = settled_fault(simulator, sender) {
         say_fault(number, fault.label(), reply)?;
@@ -67,7 +76,10 @@ pub(super) fn publish(
     sender: u32,
     reply: &mut String,
 ) -> Result<bool, AllocError>
-    ensures { IfOk result (λ goes_on. Acts Stands (λ wanting. publish_effect number sender) simulator.old simulator.new (string_bytes reply.old) (string_bytes reply.new) goes_on) }
+    ensures { IfOk result (λ goes_on.
+        Acts Stands (λ wanting.
+        publish_effect number sender) simulator.old simulator.new (string_bytes reply.old)
+        (string_bytes reply.new) goes_on) }
 {
     if let Some(fault) = reserved_fault(simulator, sender) {
         say_fault(number, fault.label(), reply)?;

@@ -19,7 +19,9 @@ fn completes(answer: &StepAnswer) -> bool
 
 /// Takes at most one command, and returns whether another step may follow.
 fn step(simulator: &mut Simulator, reply: &mut String) -> Result<bool, AllocError>
-    ensures { IfOk result (λ may_follow. Steps step_of simulator.old simulator.new (string_bytes reply.old) (string_bytes reply.new) may_follow) }
+    ensures { IfOk result (λ may_follow.
+        Steps step_of simulator.old simulator.new (string_bytes reply.old) (string_bytes reply.new)
+        may_follow) }
 {
     let answer = simulator.step();
     say_step(&answer, reply)?;
@@ -32,7 +34,10 @@ pub(super) fn steps(
     count: u64,
     reply: &mut String,
 ) -> Result<bool, AllocError>
-    ensures { IfOk result (λ goes_on. Acts Stands (λ wanting. step_effect count) simulator.old simulator.new (string_bytes reply.old) (string_bytes reply.new) goes_on) }
+    ensures { IfOk result (λ goes_on.
+        Acts Stands (λ wanting.
+        step_effect count) simulator.old simulator.new (string_bytes reply.old)
+        (string_bytes reply.new) goes_on) }
 {
     'steps: for _ in 0..count {
         if !step(simulator, reply)? {
@@ -48,7 +53,10 @@ pub(super) fn acknowledge(
     remedy: Remedy,
     reply: &mut String,
 ) -> Result<bool, AllocError>
-    ensures { IfOk result (λ goes_on. Acts Stands (λ wanting. acknowledge_effect gerrorn remedy) simulator.old simulator.new (string_bytes reply.old) (string_bytes reply.new) goes_on) }
+    ensures { IfOk result (λ goes_on.
+        Acts Stands (λ wanting.
+        acknowledge_effect gerrorn remedy) simulator.old simulator.new (string_bytes reply.old)
+        (string_bytes reply.new) goes_on) }
 {
     match simulator.acknowledge(gerrorn, remedy) {
         Ok(()) => say_acknowledged(reply)?,
@@ -58,7 +66,10 @@ pub(super) fn acknowledge(
 }
 
 pub(super) fn dump(simulator: &mut Simulator, reply: &mut String) -> Result<bool, AllocError>
-    ensures { IfOk result (λ goes_on. Acts Stands (λ wanting. dump_effect) simulator.old simulator.new (string_bytes reply.old) (string_bytes reply.new) goes_on) }
+    ensures { IfOk result (λ goes_on.
+        Acts Stands (λ wanting.
+        dump_effect) simulator.old simulator.new (string_bytes reply.old) (string_bytes reply.new)
+        goes_on) }
 {
     let Ok(entries) = simulator.entries() else {
         return Err(AllocError);

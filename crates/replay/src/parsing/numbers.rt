@@ -10,7 +10,8 @@ use script::{next_u64, next_word};
 
 #[tactic(auto, unfolding(script::specs::Fields::next_below))]
 pub(super) fn next_sid(text: &[u8]) -> Option<(Sid, &[u8])>
-    ensures { option_map (λ found. (found.0, words_of found.1.now)) result ≡ next_below (2 ^ 32) (words_of text.now) }
+    ensures { option_map (λ found. (found.0, words_of found.1.now)) result
+        ≡ next_below (2 ^ 32) (words_of text.now) }
 {
     let Some((value, rest)) = next_u64(text) else {
         return None;
@@ -23,7 +24,8 @@ pub(super) fn next_sid(text: &[u8]) -> Option<(Sid, &[u8])>
 
 #[tactic(auto, unfolding(script::specs::Fields::next_below))]
 pub(super) fn next_ssid(text: &[u8]) -> Option<(Ssid, &[u8])>
-    ensures { option_map (λ found. (found.0, words_of found.1.now)) result ≡ next_below (2 ^ 20) (words_of text.now) }
+    ensures { option_map (λ found. (found.0, words_of found.1.now)) result
+        ≡ next_below (2 ^ 20) (words_of text.now) }
 {
     let Some((value, rest)) = next_u64(text) else {
         return None;
@@ -36,7 +38,8 @@ pub(super) fn next_ssid(text: &[u8]) -> Option<(Ssid, &[u8])>
 
 #[tactic(auto, unfolding(script::specs::Fields::next_below))]
 pub(super) fn next_vmid(text: &[u8]) -> Option<(Vmid, &[u8])>
-    ensures { option_map (λ found. (found.0, words_of found.1.now)) result ≡ next_below (2 ^ 16) (words_of text.now) }
+    ensures { option_map (λ found. (found.0, words_of found.1.now)) result
+        ≡ next_below (2 ^ 16) (words_of text.now) }
 {
     let Some((value, rest)) = next_u64(text) else {
         return None;
@@ -49,7 +52,8 @@ pub(super) fn next_vmid(text: &[u8]) -> Option<(Vmid, &[u8])>
 
 #[tactic(auto, unfolding(script::specs::Fields::next_below))]
 pub(super) fn next_asid(text: &[u8]) -> Option<(Asid, &[u8])>
-    ensures { option_map (λ found. (found.0, words_of found.1.now)) result ≡ next_below (2 ^ 16) (words_of text.now) }
+    ensures { option_map (λ found. (found.0, words_of found.1.now)) result
+        ≡ next_below (2 ^ 16) (words_of text.now) }
 {
     let Some((value, rest)) = next_u64(text) else {
         return None;
@@ -62,7 +66,8 @@ pub(super) fn next_asid(text: &[u8]) -> Option<(Asid, &[u8])>
 
 #[tactic(auto, unfolding(script::specs::Fields::next_below))]
 pub(super) fn next_page(text: &[u8]) -> Option<(Page, &[u8])>
-    ensures { option_map (λ found. (found.0, words_of found.1.now)) result ≡ next_below (2 ^ 52) (words_of text.now) }
+    ensures { option_map (λ found. (found.0, words_of found.1.now)) result
+        ≡ next_below (2 ^ 52) (words_of text.now) }
 {
     let Some((value, rest)) = next_u64(text) else {
         return None;
@@ -76,7 +81,8 @@ pub(super) fn next_page(text: &[u8]) -> Option<(Page, &[u8])>
 /// Parses the scope of a translation: `g` for all address spaces, or one ASID.
 #[tactic(auto, unfolding(crate::specs::requests::Numbers::scope_of, script::specs::Fields::next_below_or))]
 pub(super) fn next_scope(text: &[u8]) -> Option<(Scope, &[u8])>
-    ensures { option_map (λ found. (found.0, words_of found.1.now)) result ≡ scope_of (words_of text.now) }
+    ensures { option_map (λ found. (found.0, words_of found.1.now)) result
+        ≡ scope_of (words_of text.now) }
 {
     let Some((word, rest)) = next_word(text) else {
         return None;
@@ -93,7 +99,8 @@ pub(super) fn next_scope(text: &[u8]) -> Option<(Scope, &[u8])>
 /// Parses a substream: `-` for none, or its number.
 #[tactic(auto, unfolding(crate::specs::requests::Numbers::substream_of, script::specs::Fields::next_below_or))]
 pub(super) fn next_substream(text: &[u8]) -> Option<(Option<Ssid>, &[u8])>
-    ensures { option_map (λ found. (found.0, words_of found.1.now)) result ≡ substream_of (words_of text.now) }
+    ensures { option_map (λ found. (found.0, words_of found.1.now)) result
+        ≡ substream_of (words_of text.now) }
 {
     let Some((word, rest)) = next_word(text) else {
         return None;

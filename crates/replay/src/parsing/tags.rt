@@ -9,7 +9,8 @@ use script::{next_u8, next_word};
 
 #[tactic(auto, unfolding(crate::specs::requests::Tags::ste_of))]
 fn next_ste(text: &[u8]) -> Option<(Tag, &[u8])>
-    ensures { option_map (λ found. (found.0, words_of found.1.now)) result ≡ ste_of (words_of text.now) }
+    ensures { option_map (λ found. (found.0, words_of found.1.now)) result
+        ≡ ste_of (words_of text.now) }
 {
     let Some((sid, rest)) = next_sid(text) else {
         return None;
@@ -19,7 +20,8 @@ fn next_ste(text: &[u8]) -> Option<(Tag, &[u8])>
 
 #[tactic(auto, unfolding(crate::specs::requests::Tags::cd_of))]
 fn next_cd(text: &[u8]) -> Option<(Tag, &[u8])>
-    ensures { option_map (λ found. (found.0, words_of found.1.now)) result ≡ cd_of (words_of text.now) }
+    ensures { option_map (λ found. (found.0, words_of found.1.now)) result
+        ≡ cd_of (words_of text.now) }
 {
     let Some((sid, rest)) = next_sid(text) else {
         return None;
@@ -32,7 +34,8 @@ fn next_cd(text: &[u8]) -> Option<(Tag, &[u8])>
 
 #[tactic(auto, unfolding(crate::specs::requests::Tags::s1_of))]
 fn next_s1(text: &[u8]) -> Option<(Tag, &[u8])>
-    ensures { option_map (λ found. (found.0, words_of found.1.now)) result ≡ s1_of (words_of text.now) }
+    ensures { option_map (λ found. (found.0, words_of found.1.now)) result
+        ≡ s1_of (words_of text.now) }
 {
     let Some((vmid, rest)) = next_vmid(text) else {
         return None;
@@ -57,7 +60,8 @@ fn next_s1(text: &[u8]) -> Option<(Tag, &[u8])>
 
 #[tactic(auto, unfolding(crate::specs::requests::Tags::s2_of))]
 fn next_s2(text: &[u8]) -> Option<(Tag, &[u8])>
-    ensures { option_map (λ found. (found.0, words_of found.1.now)) result ≡ s2_of (words_of text.now) }
+    ensures { option_map (λ found. (found.0, words_of found.1.now)) result
+        ≡ s2_of (words_of text.now) }
 {
     let Some((vmid, rest)) = next_vmid(text) else {
         return None;
@@ -73,7 +77,8 @@ fn next_s2(text: &[u8]) -> Option<(Tag, &[u8])>
 
 #[tactic(auto, unfolding(crate::specs::requests::Tags::el2_of))]
 fn next_el2(text: &[u8]) -> Option<(Tag, &[u8])>
-    ensures { option_map (λ found. (found.0, words_of found.1.now)) result ≡ el2_of (words_of text.now) }
+    ensures { option_map (λ found. (found.0, words_of found.1.now)) result
+        ≡ el2_of (words_of text.now) }
 {
     let Some((scope, rest)) = next_scope(text) else {
         return None;
@@ -89,7 +94,8 @@ fn next_el2(text: &[u8]) -> Option<(Tag, &[u8])>
 
 #[tactic(auto, unfolding(crate::specs::requests::Tags::atc_of))]
 fn next_atc(text: &[u8]) -> Option<(Tag, &[u8])>
-    ensures { option_map (λ found. (found.0, words_of found.1.now)) result ≡ atc_of (words_of text.now) }
+    ensures { option_map (λ found. (found.0, words_of found.1.now)) result
+        ≡ atc_of (words_of text.now) }
 {
     let Some((sid, rest)) = next_sid(text) else {
         return None;
@@ -115,7 +121,8 @@ fn next_atc(text: &[u8]) -> Option<(Tag, &[u8])>
 /// Parses a tag, and returns it with the rest of the text. Returns None if the text doesn't begin with one.
 #[tactic(auto, unfolding(crate::specs::requests::Tags::tag_of))]
 pub fn next_tag(text: &[u8]) -> Option<(Tag, &[u8])>
-    ensures { option_map (λ found. (found.0, words_of found.1.now)) result ≡ tag_of (words_of text.now) }
+    ensures { option_map (λ found. (found.0, words_of found.1.now)) result
+        ≡ tag_of (words_of text.now) }
 {
     let Some((kind, rest)) = next_word(text) else {
         return None;

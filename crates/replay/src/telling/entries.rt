@@ -97,7 +97,8 @@ impl fmt::Display for TagText {
 
 /// Appends a name and the value of an entry.
 pub(super) fn say_value(name: &str, entry: &Entry, reply: &mut String) -> Result<(), AllocError>
-    ensures { OnOk result (string_bytes reply.new ≡ string_bytes reply.old ++ (name.now ++ value_text entry.now)) }
+    ensures { OnOk result (string_bytes reply.new
+        ≡ string_bytes reply.old ++ (name.now ++ value_text entry.now)) }
 {
     let (value, born) = (entry.value, entry.born);
     write!(reply, "{name} value={value} born={born}\n")
@@ -105,7 +106,8 @@ pub(super) fn say_value(name: &str, entry: &Entry, reply: &mut String) -> Result
 
 /// Appends an entry as a line of a dump.
 pub(crate) fn say_entry(entry: &Entry, reply: &mut String) -> Result<(), AllocError>
-    ensures { OnOk result (string_bytes reply.new ≡ string_bytes reply.old ++ entry_line entry.now) }
+    ensures { OnOk result (string_bytes reply.new
+        ≡ string_bytes reply.old ++ entry_line entry.now) }
 {
     let tag = TagText(entry.tag);
     write!(reply, "entry {tag}")?;

@@ -14,21 +14,24 @@ use std::alloc::AllocError;
 use std::fmt::Write;
 
 pub(crate) fn say_batch_refused(fault: BatchFault, reply: &mut String) -> Result<(), AllocError>
-    ensures { OnOk result (string_bytes reply.new ≡ string_bytes reply.old ++ refused_text (batch_label fault)) }
+    ensures { OnOk result (string_bytes reply.new
+        ≡ string_bytes reply.old ++ refused_text (batch_label fault)) }
 {
     let label = fault.label();
     write!(reply, "refused {label}\n")
 }
 
 pub(crate) fn say_reserving_refused(cause: Cause, reply: &mut String) -> Result<(), AllocError>
-    ensures { OnOk result (string_bytes reply.new ≡ string_bytes reply.old ++ refused_text (cause_label cause)) }
+    ensures { OnOk result (string_bytes reply.new
+        ≡ string_bytes reply.old ++ refused_text (cause_label cause)) }
 {
     let label = cause.label();
     write!(reply, "refused {label}\n")
 }
 
 pub(crate) fn say_fill_refused(fault: CacheFault, reply: &mut String) -> Result<(), AllocError>
-    ensures { OnOk result (string_bytes reply.new ≡ string_bytes reply.old ++ refused_text (cache_label fault)) }
+    ensures { OnOk result (string_bytes reply.new
+        ≡ string_bytes reply.old ++ refused_text (cache_label fault)) }
 {
     let label = fault.label();
     write!(reply, "refused {label}\n")
@@ -38,7 +41,8 @@ pub(crate) fn say_acknowledgement_refused(
     fault: AckFault,
     reply: &mut String,
 ) -> Result<(), AllocError>
-    ensures { OnOk result (string_bytes reply.new ≡ string_bytes reply.old ++ refused_text (acknowledgement_label fault)) }
+    ensures { OnOk result (string_bytes reply.new
+        ≡ string_bytes reply.old ++ refused_text (acknowledgement_label fault)) }
 {
     let label = fault.label();
     write!(reply, "refused {label}\n")

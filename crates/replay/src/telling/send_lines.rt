@@ -33,7 +33,8 @@ pub(crate) fn say_sent(
     number: Option<u32>,
     reply: &mut String,
 ) -> Result<(), AllocError>
-    ensures { OnOk result (string_bytes reply.new ≡ string_bytes reply.old ++ sent_text sender number) }
+    ensures { OnOk result (string_bytes reply.new
+        ≡ string_bytes reply.old ++ sent_text sender number) }
 {
     reply.push_str("sent ")?;
     say_number(sender, reply)?;
@@ -48,7 +49,8 @@ pub(crate) fn say_opened(
     first: Index,
     reply: &mut String,
 ) -> Result<(), AllocError>
-    ensures { OnOk result (string_bytes reply.new ≡ string_bytes reply.old ++ opened_text sender number first.number) }
+    ensures { OnOk result (string_bytes reply.new
+        ≡ string_bytes reply.old ++ opened_text sender number first.number) }
 {
     reply.push_str("opened ")?;
     say_number(sender, reply)?;

@@ -8,7 +8,8 @@ use std::fmt::Write;
 
 /// Appends what the control word says.
 pub(crate) fn say_control(control: &Control, reply: &mut String) -> Result<(), AllocError>
-    ensures { OnOk result (string_bytes reply.new ≡ string_bytes reply.old ++ control_text control.now) }
+    ensures { OnOk result (string_bytes reply.new
+        ≡ string_bytes reply.old ++ control_text control.now) }
 {
     let (prod, cons) = (control.prod.get(), control.cons.get());
     if control.closed {
@@ -20,7 +21,8 @@ pub(crate) fn say_control(control: &Control, reply: &mut String) -> Result<(), A
 
 /// Appends the number up to which a sender's batches are done.
 pub(crate) fn say_done(sender: u32, number: u32, reply: &mut String) -> Result<(), AllocError>
-    ensures { OnOk result (string_bytes reply.new ≡ string_bytes reply.old ++ done_text sender number) }
+    ensures { OnOk result (string_bytes reply.new
+        ≡ string_bytes reply.old ++ done_text sender number) }
 {
     write!(reply, "done {sender} up to {number}\n")
 }
@@ -38,7 +40,8 @@ pub(crate) fn say_published(
     number: Option<u32>,
     reply: &mut String,
 ) -> Result<(), AllocError>
-    ensures { OnOk result (string_bytes reply.new ≡ string_bytes reply.old ++ published_text sender number) }
+    ensures { OnOk result (string_bytes reply.new
+        ≡ string_bytes reply.old ++ published_text sender number) }
 {
     match number {
         Some(number) => write!(reply, "published {sender} number {number}\n"),

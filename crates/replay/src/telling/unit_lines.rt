@@ -20,7 +20,8 @@ fn none_removed_text() -> &'static str
 
 /// Appends that a command was applied.
 fn say_applied(command: &Command, removed: u32, reply: &mut String) -> Result<(), AllocError>
-    ensures { OnOk result (string_bytes reply.new ≡ string_bytes reply.old ++ step_text (Applied command.now removed)) }
+    ensures { OnOk result (string_bytes reply.new
+        ≡ string_bytes reply.old ++ step_text (Applied command.now removed)) }
 {
     if removed == 0 {
         write!(reply, "applied {command}")?;
@@ -32,7 +33,8 @@ fn say_applied(command: &Command, removed: u32, reply: &mut String) -> Result<()
 
 /// Appends what a step did, as a line.
 pub fn say_step(answer: &StepAnswer, reply: &mut String) -> Result<(), AllocError>
-    ensures { OnOk result (string_bytes reply.new ≡ string_bytes reply.old ++ step_text answer.now) }
+    ensures { OnOk result (string_bytes reply.new
+        ≡ string_bytes reply.old ++ step_text answer.now) }
 {
     match answer {
         StepAnswer::Empty => reply.push_str("empty\n"),
@@ -60,20 +62,23 @@ pub(crate) fn say_acknowledged(reply: &mut String) -> Result<(), AllocError>
 }
 
 fn say_register(name: &str, value: u32, reply: &mut String) -> Result<(), AllocError>
-    ensures { OnOk result (string_bytes reply.new ≡ string_bytes reply.old ++ register_line name.now value) }
+    ensures { OnOk result (string_bytes reply.new
+        ≡ string_bytes reply.old ++ register_line name.now value) }
 {
     write!(reply, "{name} 0x{value:08x}\n")
 }
 
 fn say_errors(registers: &Registers, reply: &mut String) -> Result<(), AllocError>
-    ensures { OnOk result (string_bytes reply.new ≡ string_bytes reply.old ++ errors_line registers.now) }
+    ensures { OnOk result (string_bytes reply.new
+        ≡ string_bytes reply.old ++ errors_line registers.now) }
 {
     let (gerror, gerrorn) = (registers.gerror, registers.gerrorn);
     write!(reply, "gerror {gerror} gerrorn {gerrorn}\n")
 }
 
 fn say_registers(registers: &Registers, reply: &mut String) -> Result<(), AllocError>
-    ensures { OnOk result (string_bytes reply.new ≡ string_bytes reply.old ++ registers_text registers.now) }
+    ensures { OnOk result (string_bytes reply.new
+        ≡ string_bytes reply.old ++ registers_text registers.now) }
 {
     say_register("prod", registers.prod, reply)?;
     say_register("cons", registers.cons, reply)?;
@@ -81,7 +86,8 @@ fn say_registers(registers: &Registers, reply: &mut String) -> Result<(), AllocE
 }
 
 fn say_totals(counts: &Counts, reply: &mut String) -> Result<(), AllocError>
-    ensures { OnOk result (string_bytes reply.new ≡ string_bytes reply.old ++ totals_line counts.now) }
+    ensures { OnOk result (string_bytes reply.new
+        ≡ string_bytes reply.old ++ totals_line counts.now) }
 {
     let (taken, applied, replaced) = (counts.taken(), counts.applied(), counts.replaced());
     write!(reply, "taken {taken} applied {applied} replaced {replaced}")?;
@@ -90,7 +96,8 @@ fn say_totals(counts: &Counts, reply: &mut String) -> Result<(), AllocError>
 }
 
 fn say_entries(entries: &[Entry], reply: &mut String) -> Result<(), AllocError>
-    ensures { OnOk result (string_bytes reply.new ≡ string_bytes reply.old ++ flat_map entry_line entries.now) }
+    ensures { OnOk result (string_bytes reply.new
+        ≡ string_bytes reply.old ++ flat_map entry_line entries.now) }
 {
     'entries: for entry in entries {
         say_entry(entry, reply)?;
@@ -105,7 +112,8 @@ pub(crate) fn say_dump(
     entries: &[Entry],
     reply: &mut String,
 ) -> Result<(), AllocError>
-    ensures { OnOk result (string_bytes reply.new ≡ string_bytes reply.old ++ dump_text registers.now counts.now entries.now) }
+    ensures { OnOk result (string_bytes reply.new
+        ≡ string_bytes reply.old ++ dump_text registers.now counts.now entries.now) }
 {
     say_registers(registers, reply)?;
     say_totals(counts, reply)?;

@@ -49,10 +49,12 @@ impl ConsumerPort {
 
     pub(crate) fn look(&mut self, ring: &Ring) -> Control
         requires { self.old.ring ≡ ring.now }
-        ensures trail { record self.new { history = [] } ≡ record self.old { trail = Look result ∷ self.old.trail; history = [] } }
+        ensures trail { record self.new { history = [] }
+            ≡ record self.old { trail = Look result ∷ self.old.trail; history = [] } }
         ensures control { IsControl self.old.ring.made_with.geometry result }
         ensures history { GrewBy Consumer (Look result) self.old.history self.new.history }
-        ensures current { result ≡ control_of self.old.ring.made_with.geometry (world self.new.history) }
+        ensures current { result
+            ≡ control_of self.old.ring.made_with.geometry (world self.new.history) }
     {
         self.port.look(ring)
     }
@@ -98,9 +100,11 @@ impl ConsumerPort {
         requires ring { self.old.ring ≡ ring.now }
         requires some { 1 ≤ limit }
         requires most { limit ≤ 64 }
-        ensures trail { record self.new { history = [] } ≡ record self.old { trail = Test limit result ∷ self.old.trail; history = [] } }
+        ensures trail { record self.new { history = [] }
+            ≡ record self.old { trail = Test limit result ∷ self.old.trail; history = [] } }
         ensures history { GrewBy Consumer (Test limit result) self.old.history self.new.history }
-        ensures unturned { result ≡ 0 → (world self.new.history).flipped (head (world self.new.history)) ≡ false }
+        ensures unturned { result ≡ 0
+            → (world self.new.history).flipped (head (world self.new.history)) ≡ false }
         ensures limit { result ≤ limit }
         ensures within { result ≤ size self.old.ring.made_with.geometry }
     {
@@ -113,8 +117,10 @@ impl ConsumerPort {
         requires ring { self.old.ring ≡ ring.now }
         requires ready { offset < found_ready self.old.trail }
         requires fits { offset ≤ size self.old.ring.made_with.geometry }
-        ensures trail { record self.new { history = [] } ≡ record self.old { trail = Read offset half result ∷ self.old.trail; history = [] } }
-        ensures history { GrewBy Consumer (Read offset half result) self.old.history self.new.history }
+        ensures trail { record self.new { history = [] }
+            ≡ record self.old { trail = Read offset half result ∷ self.old.trail; history = [] } }
+        ensures history { GrewBy Consumer (Read offset half result) self.old.history
+            self.new.history }
     {
         self.port
             .read::<Brand>(ring, self.head.forward(offset), offset, half)
@@ -127,10 +133,12 @@ impl ConsumerPort {
         requires some { 1 ≤ count }
         requires most { count ≤ 64 }
         requires fits { count ≤ size self.old.ring.made_with.geometry }
-        ensures trail { record self.new { history = [] } ≡ record self.old { trail = reads_from 0 commands.new self.old.trail; history = [] } }
+        ensures trail { record self.new { history = [] }
+            ≡ record self.old { trail = reads_from 0 commands.new self.old.trail; history = [] } }
         ensures count { length commands.new ≡ count }
         ensures read { HasReadRun self.new.trail commands.new }
-        ensures history { Grew Consumer self.old.trail self.new.trail self.old.history self.new.history }
+        ensures history { Grew Consumer self.old.trail self.new.trail self.old.history
+            self.new.history }
     {
         commands.clear();
         for offset in 0..count {
@@ -148,7 +156,12 @@ impl ConsumerPort {
         requires may { MayAdvance self.trail (take count commands.now) }
         requires current { IsCurrent self.trail }
         ensures current { IsCurrent result.trail }
-        ensures trail { record result { history = [] } ≡ record self { trail = completed_trail (take count commands.now) self.trail; history = [] } }
+        ensures trail { record result { history = [] }
+            ≡ record self {
+              trail = completed_trail (take count commands.now) self.trail;
+              history =
+                  [];
+            } }
         ensures history { Grew Consumer self.trail result.trail self.history result.history }
     {
         let mut port = self;
@@ -165,7 +178,8 @@ impl ConsumerPort {
         requires may { MayAdvance self.old.trail (take count commands.now) }
         ensures trail { record self.new { history = [] } ≡ record self.old
             { trail = Advance (take count commands.now) ∷ self.old.trail; history = [] } }
-        ensures history { GrewBy Consumer (Advance (take count commands.now)) self.old.history self.new.history }
+        ensures history { GrewBy Consumer (Advance (take count commands.now)) self.old.history
+            self.new.history }
     {
         self.port.advance::<Brand>(ring, self.head, commands, count);
         self.port.knows_its_steps();
@@ -180,7 +194,8 @@ impl ConsumerPort {
         requires due { is_sync raw ≡ true → IsDue ring.now.made_with.senders self.old.trail raw }
         ensures trail { record self.new { history = [] } ≡ record self.old
             { trail = acknowledged raw self.old.trail; history = [] } }
-        ensures history { Grew Consumer self.old.trail self.new.trail self.old.history self.new.history }
+        ensures history { Grew Consumer self.old.trail self.new.trail self.old.history
+            self.new.history }
     {
         if raw.is_sync() {
             self.port.acknowledge_sync(ring, raw);

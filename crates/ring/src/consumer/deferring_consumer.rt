@@ -87,7 +87,8 @@ impl<D: Device> DeferringConsumer<D> {
 
     /// A witness that all its steps are steps of one run of the ring. It does nothing.
     pub fn trail_stands_in_a_run(&self)
-        ensures trail { StandsInARun self.now.consumer.ring.made_with ConsumerOf self.now.consumer.trail }
+        ensures trail { StandsInARun self.now.consumer.ring.made_with ConsumerOf
+            self.now.consumer.trail }
         ensures history { IsHistory self.now.consumer.ring.made_with ConsumerOf
             self.now.consumer.trail self.now.consumer.history }
     {
@@ -167,7 +168,8 @@ impl<D: Device> DeferringConsumer<D> {
         ensures raws { self.new.raws ≡ [] }
         ensures settled { self.new.settled ≡ self.old.settled }
         ensures settled_raws { settled_raws self.new ≡ settled_raws self.old }
-        ensures unsettled { unsettled_raws self.new ≡ unsettled_raws self.old ++ take count self.old.raws }
+        ensures unsettled { unsettled_raws self.new
+            ≡ unsettled_raws self.old ++ take count self.old.raws }
     {
         laws::consumer_trail();
         self.port.advance(ring, &self.commands, count);
@@ -180,8 +182,13 @@ impl<D: Device> DeferringConsumer<D> {
         requires ring { self.old.consumer.ring ≡ ring.now }
         requires next { IsFirst raw (unsettled_raws self.old) }
         requires settled { D.settled device.now (map taken_as (settled_raws self.old ++ raw ∷ [])) }
-        ensures consumer { record self.new.consumer { history = [] } ≡ record self.old.consumer
-            { trail = acknowledged raw self.old.consumer.trail; history = []; lent = Some device.now } }
+        ensures consumer { record self.new.consumer { history = [] }
+            ≡ record self.old.consumer {
+              trail = acknowledged raw self.old.consumer.trail;
+              history =
+                  [];
+              lent = Some device.now;
+            } }
         ensures history { Grew ConsumerOf self.old.consumer.trail self.new.consumer.trail
             self.old.consumer.history self.new.consumer.history }
         ensures raws { self.new.raws ≡ [] }
@@ -207,7 +214,8 @@ impl<D: Device> DeferringConsumer<D> {
     pub fn meet(&mut self, ring: &Ring, sender: &mut Sender) -> Control
         requires ring { self.old.consumer.ring ≡ ring.now }
         requires sender { sender.old.ring ≡ ring.now }
-        ensures consumer { record self.new.consumer { history = [] } ≡ record self.old.consumer { history = [] } }
+        ensures consumer { record self.new.consumer { history = [] }
+            ≡ record self.old.consumer { history = [] } }
         ensures sender { record sender.new { history = [] } ≡ record sender.old { history = [] } }
         ensures raws { self.new.raws ≡ self.old.raws }
         ensures settled { self.new.settled ≡ self.old.settled }
@@ -216,8 +224,10 @@ impl<D: Device> DeferringConsumer<D> {
             self.old.consumer.trail self.new.consumer.history }
         ensures of_sender { IsHistory self.old.consumer.ring.made_with (SenderOf sender.old.number)
             sender.old.trail self.new.consumer.history }
-        ensures known_to_consumer { WentOn ConsumerOf self.old.consumer.history self.new.consumer.history }
-        ensures known_to_sender { WentOn (SenderOf sender.old.number) sender.old.history self.new.consumer.history }
+        ensures known_to_consumer { WentOn ConsumerOf self.old.consumer.history
+            self.new.consumer.history }
+        ensures known_to_sender { WentOn (SenderOf sender.old.number) sender.old.history
+            self.new.consumer.history }
         ensures told { AllToldOfSettled (settled_raws self.old) self.new.consumer.history
             sender.old.number sender.old.trail }
         ensures control { IsControl self.old.consumer.ring.made_with.geometry result }

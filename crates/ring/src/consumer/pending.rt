@@ -50,11 +50,15 @@ impl<D: Device> Pending<D> {
     pub fn complete(self, ring: &Ring, outcome: Outcome, device: &D) -> Consumer<D>
         requires ring { self.consumer.ring ≡ ring.now }
         requires outcome { outcome ≡ outcome_of self.raw }
-        requires settled { D.settled device.now (taken_of self.consumer.trail ++ record { raw = self.raw; outcome = outcome } ∷ []) }
-        ensures consumer { record result { history = [] } ≡ completed 1 device.now (unknowing (run_of self)) }
-        ensures history { Grew ConsumerOf self.consumer.trail result.trail self.consumer.history result.history }
+        requires settled { D.settled device.now (taken_of self.consumer.trail
+            ++ record { raw = self.raw; outcome = outcome } ∷ []) }
+        ensures consumer { record result { history = [] }
+            ≡ completed 1 device.now (unknowing (run_of self)) }
+        ensures history { Grew ConsumerOf self.consumer.trail result.trail self.consumer.history
+            result.history }
         ensures ring { result.ring ≡ self.consumer.ring }
-        ensures taken { taken_of result.trail ≡ taken_of self.consumer.trail ++ record { raw = self.raw; outcome = outcome } ∷ [] }
+        ensures taken { taken_of result.trail
+            ≡ taken_of self.consumer.trail ++ record { raw = self.raw; outcome = outcome } ∷ [] }
     {
         let Pending { run } = self;
         run.complete_run(ring, 1, outcome, device)

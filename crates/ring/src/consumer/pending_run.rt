@@ -55,7 +55,8 @@ impl<D: Device> PendingRun<D> {
     /// Leaves the commands in the ring: the next take finds the first of them again.
     pub fn put_back(self) -> Consumer<D>
         ensures consumer { result ≡ self.consumer }
-        ensures seen { (raw : RawOf) (rest : List RawOf) → self.raws ≡ raw ∷ rest → HasSeen result.trail raw }
+        ensures seen { (raw : RawOf) (rest : List RawOf) → self.raws ≡ raw ∷ rest
+            → HasSeen result.trail raw }
     {
         let PendingRun {
             port,
@@ -77,11 +78,15 @@ impl<D: Device> PendingRun<D> {
         requires most { count ≤ length self.raws }
         requires outcome { HasOutcome outcome (take count self.raws) }
         requires one { outcome ≡ Replaced → count ≡ 1 }
-        requires settled { D.settled device.now (taken_of self.consumer.trail ++ map (with_outcome outcome) (take count self.raws)) }
-        ensures consumer { record result { history = [] } ≡ completed count device.now (unknowing self) }
-        ensures history { Grew ConsumerOf self.consumer.trail result.trail self.consumer.history result.history }
+        requires settled { D.settled device.now (taken_of self.consumer.trail
+            ++ map (with_outcome outcome) (take count self.raws)) }
+        ensures consumer { record result { history = [] }
+            ≡ completed count device.now (unknowing self) }
+        ensures history { Grew ConsumerOf self.consumer.trail result.trail self.consumer.history
+            result.history }
         ensures ring { result.ring ≡ self.consumer.ring }
-        ensures taken { taken_of result.trail ≡ taken_of self.consumer.trail ++ map (with_outcome outcome) (take count self.raws) }
+        ensures taken { taken_of result.trail
+            ≡ taken_of self.consumer.trail ++ map (with_outcome outcome) (take count self.raws) }
     {
         let _ = outcome;
         let PendingRun {

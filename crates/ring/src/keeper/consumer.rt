@@ -64,7 +64,8 @@ impl Keeper {
         requires lent { self.old.lent ≡ Some ConsumerOf }
         ensures keeper { self.new ≡ has_back ConsumerOf consumer.trail self.old }
         ensures adds { Adds ConsumerOf consumer.trail self.old.run self.new.run }
-        ensures grew { Grew ConsumerOf (trail_of ConsumerOf self.old.run) consumer.trail self.old.run self.new.run }
+        ensures grew { Grew ConsumerOf (trail_of ConsumerOf self.old.run) consumer.trail
+            self.old.run self.new.run }
         ensures news { IsNews ConsumerOf consumer.trail consumer.history self.old.run self.new.run }
         ensures others { KeepsOthers ConsumerOf self.old self.new }
         ensures idle { IsIdleConsumer self.new result.head result.taken }

@@ -28,7 +28,8 @@ impl Keeper {
     ) -> Result<(Ring, Keeper, IdleConsumer<D>), RingFault>
         ensures numbers { OnOk result (number_fault log2 senders max_batches ≡ None) }
         ensures made { IfOk result (λ r. IsKept log2 senders max_batches r.0 r.1 r.2) }
-        ensures refused { IfErr result (λ fault. IsNotMade (number_fault log2 senders max_batches) fault) }
+        ensures refused { IfErr result (λ fault.
+            IsNotMade (number_fault log2 senders max_batches) fault) }
     {
         let geometry = ring_geometry(log2, senders, max_batches)?;
         match Keeper::open(alloc, geometry, senders, max_batches) {

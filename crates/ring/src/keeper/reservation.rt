@@ -114,10 +114,15 @@ impl Keeper {
         requires ring { self.old.ring ≡ ring.now }
         requires own { reservation.ring ≡ ring.now }
         requires lent { self.old.lent ≡ Some (SenderOf reservation.sender) }
-        ensures keeper { self.new ≡ has_back (SenderOf reservation.entry.sender) reservation.entry.trail self.old }
-        ensures adds { Adds (SenderOf reservation.entry.sender) reservation.entry.trail self.old.run self.new.run }
-        ensures grew { Grew (SenderOf reservation.entry.sender) (trail_of (SenderOf reservation.entry.sender) self.old.run) reservation.entry.trail self.old.run self.new.run }
-        ensures news { IsNews (SenderOf reservation.entry.sender) reservation.entry.trail reservation.entry.history self.old.run self.new.run }
+        ensures keeper { self.new
+            ≡ has_back (SenderOf reservation.entry.sender) reservation.entry.trail self.old }
+        ensures adds { Adds (SenderOf reservation.entry.sender) reservation.entry.trail self.old.run
+            self.new.run }
+        ensures grew { Grew (SenderOf reservation.entry.sender)
+            (trail_of (SenderOf reservation.entry.sender) self.old.run) reservation.entry.trail
+            self.old.run self.new.run }
+        ensures news { IsNews (SenderOf reservation.entry.sender) reservation.entry.trail
+            reservation.entry.history self.old.run self.new.run }
         ensures others { KeepsOthers (SenderOf reservation.entry.sender) self.old self.new }
         ensures left { IsLeftOf reservation.entry result }
         ensures closes { result.closes ≡ K.closes }

@@ -69,8 +69,10 @@ impl Keeper {
         requires lent { self.old.lent ≡ Some (SenderOf sender.number) }
         ensures keeper { self.new ≡ has_back (SenderOf sender.number) sender.trail self.old }
         ensures adds { Adds (SenderOf sender.number) sender.trail self.old.run self.new.run }
-        ensures grew { Grew (SenderOf sender.number) (trail_of (SenderOf sender.number) self.old.run) sender.trail self.old.run self.new.run }
-        ensures news { IsNews (SenderOf sender.number) sender.trail sender.history self.old.run self.new.run }
+        ensures grew { Grew (SenderOf sender.number) (trail_of (SenderOf sender.number)
+            self.old.run) sender.trail self.old.run self.new.run }
+        ensures news { IsNews (SenderOf sender.number) sender.trail sender.history self.old.run
+            self.new.run }
         ensures others { KeepsOthers (SenderOf sender.number) self.old self.new }
         ensures number { result.sender ≡ sender.number }
         ensures idle { IsIdleSender self.new result }

@@ -56,7 +56,8 @@ impl<'b, K: BatchKind> OpenReservation<'b, K> {
     pub fn write_next(&mut self, ring: &Ring)
         requires ring { self.old.ring ≡ ring.now }
         requires left { self.old.written < reserved_length self.old.trail }
-        ensures new { record self.new { history = [] } ≡ wrote_one (record self.old { history = [] }) }
+        ensures new { record self.new { history = [] }
+            ≡ wrote_one (record self.old { history = [] }) }
         ensures history { ReservationGrew self.old self.new }
     {
         let raw = self.next_command();
@@ -71,7 +72,8 @@ impl<'b, K: BatchKind> OpenReservation<'b, K> {
     /// The command for the next slot: one of the body, or the closing CMD_SYNC after it.
     fn next_command(&self) -> Raw
         requires { self.now.written < reserved_length self.now.trail }
-        ensures { slice_get (reserved_commands self.now.sender self.now.trail) self.now.written ≡ Some result }
+        ensures { slice_get (reserved_commands self.now.sender self.now.trail) self.now.written
+            ≡ Some result }
     {
         match self.batch.get(self.written as usize) {
             Some(raw) => raw,
@@ -83,7 +85,8 @@ impl<'b, K: BatchKind> OpenReservation<'b, K> {
     pub fn flip_next(&mut self, ring: &Ring)
         requires ring { self.old.ring ≡ ring.now }
         requires left { self.old.flipped < self.old.written }
-        ensures new { record self.new { history = [] } ≡ flipped_one (record self.old { history = [] }) }
+        ensures new { record self.new { history = [] }
+            ≡ flipped_one (record self.old { history = [] }) }
         ensures history { ReservationGrew self.old self.new }
     {
         let slot = self.start.forward(self.flipped);
@@ -95,7 +98,8 @@ impl<'b, K: BatchKind> OpenReservation<'b, K> {
     /// Flips the slots that are written and not flipped, as far as their flags are in one word.
     fn flip_left(&mut self, ring: &Ring)
         requires { self.old.ring ≡ ring.now }
-        ensures new { record self.new { history = [] } ≡ flipped_left (record self.old { history = [] }) }
+        ensures new { record self.new { history = [] }
+            ≡ flipped_left (record self.old { history = [] }) }
         ensures history { ReservationGrew self.old self.new }
     {
         if self.flipped < self.written {
@@ -111,7 +115,8 @@ impl<'b, K: BatchKind> OpenReservation<'b, K> {
     /// kind it returns the sender, and no receipt.
     pub fn hand_over(self, ring: &Ring) -> Sender
         requires { self.ring ≡ ring.now }
-        ensures sender { record result { history = [] } ≡ sender_of (published (record self.entry { history = [] })) }
+        ensures sender { record result { history = [] }
+            ≡ sender_of (published (record self.entry { history = [] })) }
         ensures settled { IsSettled result.trail }
         ensures history { GrewHandingOver self.entry result }
         ensures ring { result.ring ≡ self.entry.ring }
@@ -193,7 +198,8 @@ impl<'b> OpenReservation<'b, Closing> {
     /// names its CMD_SYNC.
     pub fn publish(self, ring: &Ring) -> (Sender, Receipt)
         requires { self.ring ≡ ring.now }
-        ensures sender { record result.0 { history = [] } ≡ sender_of (published (record self.entry { history = [] })) }
+        ensures sender { record result.0 { history = [] }
+            ≡ sender_of (published (record self.entry { history = [] })) }
         ensures settled { IsSettled result.0.trail }
         ensures history { GrewHandingOver self.entry result.0 }
         ensures ring { result.0.ring ≡ self.entry.ring }
@@ -213,7 +219,8 @@ impl<'b> OpenReservation<'b, Bare> {
     /// Writes and flips what is left, in order, so that the consumer may take the whole batch.
     pub fn publish(self, ring: &Ring) -> Sender
         requires { self.ring ≡ ring.now }
-        ensures sender { record result { history = [] } ≡ sender_of (published (record self.entry { history = [] })) }
+        ensures sender { record result { history = [] }
+            ≡ sender_of (published (record self.entry { history = [] })) }
         ensures settled { IsSettled result.trail }
         ensures history { GrewHandingOver self.entry result }
         ensures ring { result.ring ≡ self.entry.ring }

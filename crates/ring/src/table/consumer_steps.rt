@@ -25,7 +25,8 @@ impl Port {
     /// A witness of what the consumer knows of its own steps, by the laws of every run, so that no count of
     /// what it took wraps. It does nothing.
     pub(crate) fn knows_its_steps(&self)
-        ensures steps { self.now.who ≡ Consumer → KnowsItsSteps self.now.ring.made_with self.now.trail }
+        ensures steps { self.now.who ≡ Consumer
+            → KnowsItsSteps self.now.ring.made_with self.now.trail }
         ensures limits { IsWithinLimits self.now.ring.made_with }
     {
         counts_law();
@@ -42,7 +43,8 @@ impl Port {
         requires some { 1 ≤ limit }
         requires most { limit ≤ 64 }
         requires intent { I.intent ≡ tests limit }
-        ensures trail { record self.new { history = [] } ≡ record self.old { trail = Test limit result ∷ self.old.trail; history = [] } }
+        ensures trail { record self.new { history = [] }
+            ≡ record self.old { trail = Test limit result ∷ self.old.trail; history = [] } }
         ensures history { GrewBy Consumer (Test limit result) self.old.history self.new.history }
         ensures limit { result ≤ limit }
         ensures within { result ≤ size head.geometry }
@@ -64,11 +66,14 @@ impl Port {
     ) -> u64
         requires ring { self.old.ring ≡ ring.now }
         requires who { self.old.who ≡ Consumer }
-        requires slot { slot ≡ index_of self.old.ring.made_with.geometry (taken_by self.old.trail + offset) }
+        requires slot { slot
+            ≡ index_of self.old.ring.made_with.geometry (taken_by self.old.trail + offset) }
         requires ready { offset < found_ready self.old.trail }
         requires intent { I.intent ≡ reads offset half }
-        ensures trail { record self.new { history = [] } ≡ record self.old { trail = Read offset half result ∷ self.old.trail; history = [] } }
-        ensures history { GrewBy Consumer (Read offset half result) self.old.history self.new.history }
+        ensures trail { record self.new { history = [] }
+            ≡ record self.old { trail = Read offset half result ∷ self.old.trail; history = [] } }
+        ensures history { GrewBy Consumer (Read offset half result) self.old.history
+            self.new.history }
     {
         laws::read();
         laws::consumer_trail();
@@ -91,8 +96,14 @@ impl Port {
         requires count { count ≤ length commands.now }
         requires few { count ≤ size head.geometry }
         requires intent { I.intent ≡ advances (take count commands.now) }
-        ensures trail { record self.new { history = [] } ≡ record self.old { trail = Advance (take count commands.now) ∷ self.old.trail; history = [] } }
-        ensures history { GrewBy Consumer (Advance (take count commands.now)) self.old.history self.new.history }
+        ensures trail { record self.new { history = [] }
+            ≡ record self.old {
+              trail = Advance (take count commands.now)
+                  ∷ self.old.trail;
+              history = [];
+            } }
+        ensures history { GrewBy Consumer (Advance (take count commands.now)) self.old.history
+            self.new.history }
     {
         laws::advance();
         laws::consumer_trail();
@@ -110,8 +121,10 @@ impl Port {
         requires next { number ≡ suc (acknowledged_by sender self.old.trail) }
         requires taken { number ≤ syncs_taken sender self.old.trail }
         requires intent { I.intent ≡ acknowledges sender number }
-        ensures trail { record self.new { history = [] } ≡ record self.old { trail = Acknowledge sender number ∷ self.old.trail; history = [] } }
-        ensures history { GrewBy Consumer (Acknowledge sender number) self.old.history self.new.history }
+        ensures trail { record self.new { history = [] }
+            ≡ record self.old { trail = Acknowledge sender number ∷ self.old.trail; history = [] } }
+        ensures history { GrewBy Consumer (Acknowledge sender number) self.old.history
+            self.new.history }
     {
         laws::acknowledge();
         laws::consumer_trail();
@@ -126,9 +139,14 @@ impl Port {
         requires who { self.old.who ≡ Consumer }
         requires count { count ≤ length commands.now }
         requires advanced { HasAdvanced self.old.trail (take count commands.now) }
-        ensures trail { record self.new { history = [] } ≡ record self.old { trail = all_acknowledged (take count commands.now) self.old.trail; history = [] } }
+        ensures trail { record self.new { history = [] }
+            ≡ record self.old {
+              trail = all_acknowledged (take count commands.now) self.old.trail;
+              history = [];
+            } }
         ensures current { IsCurrent self.new.trail }
-        ensures history { Grew Consumer self.old.trail self.new.trail self.old.history self.new.history }
+        ensures history { Grew Consumer self.old.trail self.new.trail self.old.history
+            self.new.history }
     {
         self.knows_its_steps();
         counts_law();
@@ -146,8 +164,12 @@ impl Port {
         requires ring { self.old.ring ≡ ring.now }
         requires who { self.old.who ≡ Consumer }
         requires due { IsDue ring.now.made_with.senders self.old.trail raw }
-        ensures trail { record self.new { history = [] } ≡ record self.old
-            { trail = Acknowledge (sync_sender raw) (sync_number raw) ∷ self.old.trail; history = [] } }
+        ensures trail { record self.new { history = [] }
+            ≡ record self.old {
+              trail = Acknowledge (sync_sender raw) (sync_number raw)
+                  ∷ self.old.trail;
+              history = [];
+            } }
         ensures history { GrewBy Consumer (Acknowledge (sync_sender raw) (sync_number raw))
             self.old.history self.new.history }
     {

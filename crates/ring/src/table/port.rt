@@ -43,7 +43,8 @@ impl Port {
     /// A witness that its trail stands in some run of the ring. It does nothing.
     pub(crate) fn trail_stands_in_a_run(&self)
         ensures trail { StandsInARun self.now.ring.made_with self.now.who self.now.trail }
-        ensures history { IsHistory self.now.ring.made_with self.now.who self.now.trail self.now.history }
+        ensures history { IsHistory self.now.ring.made_with self.now.who self.now.trail
+            self.now.history }
     {
         let _ = &self.seat;
     }
@@ -79,7 +80,8 @@ impl Port {
         ensures i_knew { WentOn self.old.who self.old.history self.new.history }
         ensures they_knew { WentOn other.old.who other.old.history self.new.history }
         ensures control { IsControl self.old.ring.made_with.geometry result }
-        ensures current { result ≡ control_of self.old.ring.made_with.geometry (world self.new.history) }
+        ensures current { result
+            ≡ control_of self.old.ring.made_with.geometry (world self.new.history) }
     {
         laws::look();
         let words = &ring.table.shared;
@@ -93,10 +95,12 @@ impl Port {
     /// A load of the control word.
     pub(crate) fn look(&mut self, ring: &Ring) -> Control
         requires { self.old.ring ≡ ring.now }
-        ensures trail { record self.new { history = [] } ≡ record self.old { trail = Look result ∷ self.old.trail; history = [] } }
+        ensures trail { record self.new { history = [] }
+            ≡ record self.old { trail = Look result ∷ self.old.trail; history = [] } }
         ensures control { IsControl self.old.ring.made_with.geometry result }
         ensures history { GrewBy self.old.who (Look result) self.old.history self.new.history }
-        ensures current { result ≡ control_of self.old.ring.made_with.geometry (world self.new.history) }
+        ensures current { result
+            ≡ control_of self.old.ring.made_with.geometry (world self.new.history) }
     {
         laws::look();
         let words = &ring.table.shared;
@@ -108,7 +112,8 @@ impl Port {
     pub(crate) fn close(&mut self, ring: &Ring, sender: u32)
         requires ring { self.old.ring ≡ ring.now }
         requires who { self.old.who ≡ Sender sender }
-        ensures trail { record self.new { history = [] } ≡ record self.old { trail = Close ∷ self.old.trail; history = [] } }
+        ensures trail { record self.new { history = [] }
+            ≡ record self.old { trail = Close ∷ self.old.trail; history = [] } }
         ensures history { GrewBy self.old.who Close self.old.history self.new.history }
     {
         laws::close();
@@ -170,8 +175,10 @@ impl Port {
         requires geometry { slot.geometry ≡ self.old.ring.made_with.geometry }
         requires slot { IsSlotAt self.old slot offset }
         requires intent { I.intent ≡ writes offset half }
-        ensures trail { record self.new { history = [] } ≡ record self.old { trail = Write offset half ∷ self.old.trail; history = [] } }
-        ensures history { GrewBy self.old.who (Write offset half) self.old.history self.new.history }
+        ensures trail { record self.new { history = [] }
+            ≡ record self.old { trail = Write offset half ∷ self.old.trail; history = [] } }
+        ensures history { GrewBy self.old.who (Write offset half) self.old.history
+            self.new.history }
     {
         laws::write();
         laws::start();
@@ -196,10 +203,13 @@ impl Port {
         requires may { MayFlipAt self.old.trail offset count }
         requires within { count ≤ size slot.geometry }
         requires share { ShareAWord 64 slot.geometry slot.number count }
-        requires share_at_position { (geometry position : ℕ) → slot ≡ index_of geometry position → ShareAWord 64 geometry position count }
+        requires share_at_position { (geometry position : ℕ) → slot ≡ index_of geometry position
+            → ShareAWord 64 geometry position count }
         requires intent { I.intent ≡ flips offset count }
-        ensures trail { record self.new { history = [] } ≡ record self.old { trail = Flip offset count ∷ self.old.trail; history = [] } }
-        ensures history { GrewBy self.old.who (Flip offset count) self.old.history self.new.history }
+        ensures trail { record self.new { history = [] }
+            ≡ record self.old { trail = Flip offset count ∷ self.old.trail; history = [] } }
+        ensures history { GrewBy self.old.who (Flip offset count) self.old.history
+            self.new.history }
     {
         laws::flip();
         laws::start();
@@ -211,7 +221,8 @@ impl Port {
     pub(crate) fn ask(&mut self, ring: &Ring, sender: u32) -> u32
         requires ring { self.old.ring ≡ ring.now }
         requires who { self.old.who ≡ Sender sender }
-        ensures trail { record self.new { history = [] } ≡ record self.old { trail = Ask result ∷ self.old.trail; history = [] } }
+        ensures trail { record self.new { history = [] }
+            ≡ record self.old { trail = Ask result ∷ self.old.trail; history = [] } }
         ensures history { GrewBy self.old.who (Ask result) self.old.history self.new.history }
     {
         laws::ask();

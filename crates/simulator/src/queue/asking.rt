@@ -20,7 +20,8 @@ impl Queue {
     /// Looks as a sender, which may have an open reservation.
     pub(crate) fn look(&mut self, sender: u32) -> Control
         requires { sender < (ring_in self.old).senders }
-        ensures run { self.new.keeper.run ≡ looked_by (Sender sender) (ring_in self.old).geometry self.old.keeper.run }
+        ensures run { self.new.keeper.run
+            ≡ looked_by (Sender sender) (ring_in self.old).geometry self.old.keeper.run }
         ensures found { result ≡ control (ring_in self.old).geometry (world self.old.keeper.run) }
         ensures geometry { IsControl (ring_in self.old).geometry result }
         ensures consumer { LeavesConsumer self.old.keeper self.new.keeper }

@@ -16,7 +16,8 @@ pub(super) fn hand_over(
     requires whole { keeper.old.lent ≡ None }
     requires known { idle.tally.sender < keeper.old.ring.made_with.senders }
     requires open { IsOpenSeat keeper.old idle.tally.sender batch idle }
-    ensures run { keeper.new.run ≡ published keeper.old.ring.made_with.geometry idle.tally.sender keeper.old.run }
+    ensures run { keeper.new.run
+        ≡ published keeper.old.ring.made_with.geometry idle.tally.sender keeper.old.run }
     ensures back { IsBack idle.tally.sender keeper.old keeper.new }
     ensures idle { IsIdleSeat keeper.new idle.tally.sender result }
 {
@@ -39,7 +40,8 @@ fn publish_as<K: BatchKind>(
     requires known { idle.tally.sender < keeper.old.ring.made_with.senders }
     requires closes { idle.closes ≡ K.closes }
     requires open { IsOpenSeat keeper.old idle.tally.sender batch idle }
-    ensures run { keeper.new.run ≡ published keeper.old.ring.made_with.geometry idle.tally.sender keeper.old.run }
+    ensures run { keeper.new.run
+        ≡ published keeper.old.ring.made_with.geometry idle.tally.sender keeper.old.run }
     ensures back { IsBack idle.tally.sender keeper.old keeper.new }
     ensures idle { IsIdleSeat keeper.new idle.tally.sender result }
 {

@@ -21,8 +21,10 @@ pub(super) fn send_once(
     requires whole { keeper.old.lent ≡ None }
     requires known { idle.sender < keeper.old.ring.made_with.senders }
     requires idle { IsIdleSender keeper.old idle }
-    ensures run { keeper.new.run ≡ (sent_by keeper.old.ring.made_with idle.sender batch.entry closes keeper.old.run).run }
-    ensures answer { result.1 ≡ (sent_by keeper.old.ring.made_with idle.sender batch.entry closes keeper.old.run).answer }
+    ensures run { keeper.new.run
+        ≡ (sent_by keeper.old.ring.made_with idle.sender batch.entry closes keeper.old.run).run }
+    ensures answer { result.1
+        ≡ (sent_by keeper.old.ring.made_with idle.sender batch.entry closes keeper.old.run).answer }
     ensures back { IsBack idle.sender keeper.old keeper.new }
     ensures seat { IsIdleSeat keeper.new idle.sender result.0 }
 {
@@ -44,8 +46,11 @@ fn send_as<K: BatchKind>(
     requires whole { keeper.old.lent ≡ None }
     requires known { idle.sender < keeper.old.ring.made_with.senders }
     requires idle { IsIdleSender keeper.old idle }
-    ensures run { keeper.new.run ≡ (sent_by keeper.old.ring.made_with idle.sender batch.entry K.closes keeper.old.run).run }
-    ensures answer { result.1 ≡ (sent_by keeper.old.ring.made_with idle.sender batch.entry K.closes keeper.old.run).answer }
+    ensures run { keeper.new.run
+        ≡ (sent_by keeper.old.ring.made_with idle.sender batch.entry K.closes keeper.old.run).run }
+    ensures answer { result.1
+        ≡ (sent_by keeper.old.ring.made_with idle.sender batch.entry K.closes
+        keeper.old.run).answer }
     ensures back { IsBack idle.sender keeper.old keeper.new }
     ensures seat { IsIdleSeat keeper.new idle.sender result.0 }
 {

@@ -30,7 +30,8 @@ fn stream(sid: u32) -> Sid
 }
 
 fn machine(fields: &Fields) -> Option<Vmid>
-    ensures { MatchOption result ((vmid : ℕ) → ¬ SaysMachine fields.now vmid) (SaysMachine fields.now) }
+    ensures { MatchOption result ((vmid : ℕ)
+        → ¬ SaysMachine fields.now vmid) (SaysMachine fields.now) }
 {
     Vmid::new(u64::from(fields.vmid))
 }
@@ -42,13 +43,15 @@ fn space(fields: &Fields) -> Option<Asid>
 }
 
 fn substream(fields: &Fields) -> Option<Ssid>
-    ensures { MatchOption result ((ssid : ℕ) → ¬ SaysSubstream fields.now ssid) (SaysSubstream fields.now) }
+    ensures { MatchOption result ((ssid : ℕ)
+        → ¬ SaysSubstream fields.now ssid) (SaysSubstream fields.now) }
 {
     Ssid::new(u64::from(fields.ssid))
 }
 
 fn page(fields: &Fields) -> Option<Page>
-    ensures { MatchOption result ((page : ℕ) → ¬ SaysPage fields.now (2 ^ 52) page) (SaysPage fields.now (2 ^ 52)) }
+    ensures { MatchOption result ((page : ℕ)
+        → ¬ SaysPage fields.now (2 ^ 52) page) (SaysPage fields.now (2 ^ 52)) }
 {
     if fields.address % 4096 != 0 {
         return None;
@@ -57,7 +60,8 @@ fn page(fields: &Fields) -> Option<Page>
 }
 
 fn ipa_page(fields: &Fields) -> Option<IpaPage>
-    ensures { MatchOption result ((page : ℕ) → ¬ SaysPage fields.now (2 ^ 40) page) (SaysPage fields.now (2 ^ 40)) }
+    ensures { MatchOption result ((page : ℕ)
+        → ¬ SaysPage fields.now (2 ^ 40) page) (SaysPage fields.now (2 ^ 40)) }
 {
     if fields.address % 4096 != 0 {
         return None;
@@ -66,7 +70,8 @@ fn ipa_page(fields: &Fields) -> Option<IpaPage>
 }
 
 fn reach(fields: &Fields) -> Option<Reach>
-    ensures { MatchOption result ((reach : ReachOf) → ¬ SaysReach fields.now reach) (SaysReach fields.now) }
+    ensures { MatchOption result ((reach : ReachOf)
+        → ¬ SaysReach fields.now reach) (SaysReach fields.now) }
 {
     if fields.tg == 0 {
         return Some(Reach::Page);
