@@ -81,6 +81,8 @@ errors! {
     BatchFull = 0x21,
     /// B2: a CMD_SYNC among the commands.
     SyncInside = 0x22,
+    /// B3: no page.
+    NoPages = 0x23,
     /// B4: bytes past the last one, of 2^64 or at stage 2 of 2^52.
     PastEnd = 0x24,
     /// B5: no command.
