@@ -1,6 +1,7 @@
 // SPDX-License-Identifier: MIT OR Apache-2.0
 use crate::sys;
-use std::fmt;
+use alloc::vec::Vec;
+use core::fmt;
 
 /// Why words are no legal command.
 #[derive(Clone, Copy, Debug, PartialEq, Eq)]
@@ -119,7 +120,7 @@ errors! {
     NoMemory = 0x64,
     /// The SMMU lacks the stage, the granule or ATS.
     Unsupported = 0x68,
-    /// A reservation of this sender was forgotten (`std::mem::forget`) instead of published.
+    /// A reservation of this sender was forgotten (`core::mem::forget`) instead of published.
     OpenReservation = 0x66,
     /// Acknowledge the error first.
     StillStopped = 0x70,
@@ -160,7 +161,7 @@ impl fmt::Display for Error {
                 &mut length,
             )
         };
-        match std::str::from_utf8(&buffer[..length]) {
+        match core::str::from_utf8(&buffer[..length]) {
             Ok(text) if status == 0 => f.write_str(text),
             _ => write!(f, "status {:#x}", self.status()),
         }
@@ -173,8 +174,8 @@ impl fmt::Display for Illegal {
     }
 }
 
-impl std::error::Error for Error {}
-impl std::error::Error for Illegal {}
+impl core::error::Error for Error {}
+impl core::error::Error for Illegal {}
 
 /// `Ok` for the status 0.
 pub(crate) fn done(status: u32) -> Result<(), Error> {

@@ -1,6 +1,8 @@
 // SPDX-License-Identifier: MIT OR Apache-2.0
 use crate::error::{done, Error, Illegal};
 use crate::{sys, Command};
+use alloc::vec;
+use alloc::vec::Vec;
 
 /// The fields of a command, by its kind, as the standard's chapter on commands has them. Addresses are in bytes.
 #[derive(Clone, Copy, Debug, PartialEq, Eq)]

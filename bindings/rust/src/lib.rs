@@ -23,6 +23,10 @@
 //! assert_eq!(unit.lookup(page)?, None);
 //! # Ok::<(), smmuq::Error>(())
 //! ```
+#![no_std]
+
+extern crate alloc;
+
 mod caches;
 mod change;
 mod command;
