@@ -1,4 +1,4 @@
-use Rattle.std.proofs.Common.{◌≡◌, ℕ, [], ◌++◌, ap, ap₂, ◌∙◌, sym, Option, Result, Ok, Err}
+use Rattle.std.proofs.Common.{◌≡◌, ℕ, ◌++◌, ap, ◌∙◌, sym, Option, Result, Ok, Err}
 use Rattle.ring.specs.Runs.{Ring}
 use Rattle.ring.specs.Rings.{RingValue}
 use Rattle.ring.specs.declared.sender.cause.Cause.{Cause}
