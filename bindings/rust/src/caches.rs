@@ -3,6 +3,7 @@ use self::sealed::Inside;
 use crate::error::{done, listed, Error};
 pub use crate::sys::{Held, Registers, Tallies};
 use crate::{sys, Command, Kinds, Space, Spans};
+use alloc::vec::Vec;
 
 /// A block of 2^`span` pages of 4,096 bytes. The span is 0 to 52, and the address a multiple of the block's size.
 #[derive(Clone, Copy, Debug, PartialEq, Eq)]

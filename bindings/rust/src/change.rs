@@ -2,6 +2,7 @@
 use crate::error::{done, listed, Error, Illegal};
 use crate::region::{Asids, Substreams};
 use crate::{sys, Command};
+use alloc::vec::Vec;
 
 /// Bytes of an address space, at any alignment.
 #[derive(Clone, Copy, Debug, PartialEq, Eq)]

@@ -1,6 +1,9 @@
 // SPDX-License-Identifier: MIT OR Apache-2.0
 use crate::error::{done, Error, Illegal};
 use crate::sys;
+use alloc::string::String;
+use alloc::vec;
+use alloc::vec::Vec;
 
 /// A command, as its 16 bytes lie in the queue on a little-endian processor. It need not be a legal one.
 #[repr(C)]

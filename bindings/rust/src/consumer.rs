@@ -2,6 +2,7 @@
 use crate::error::{done, Error, Illegal};
 use crate::handle::Owned;
 use crate::{sys, Command, Sender};
+use alloc::vec::Vec;
 
 /// A ring as [`crate::ring`] makes it, without an engine: its consumer carries out the commands itself.
 pub fn consumer_ring(

@@ -1,6 +1,7 @@
 // SPDX-License-Identifier: MIT OR Apache-2.0
 use crate::sys;
-use std::fmt;
+use alloc::vec::Vec;
+use core::fmt;
 
 /// Why words are no legal command.
 #[derive(Clone, Copy, Debug, PartialEq, Eq)]
@@ -81,6 +82,8 @@ errors! {
     BatchFull = 0x21,
     /// B2: a CMD_SYNC among the commands.
     SyncInside = 0x22,
+    /// B3: no page.
+    NoPages = 0x23,
     /// B4: bytes past the last one, of 2^64 or at stage 2 of 2^52.
     PastEnd = 0x24,
     /// B5: no command.
@@ -117,7 +120,7 @@ errors! {
     NoMemory = 0x64,
     /// The SMMU lacks the stage, the granule or ATS.
     Unsupported = 0x68,
-    /// A reservation of this sender was forgotten (`std::mem::forget`) instead of published.
+    /// A reservation of this sender was forgotten (`core::mem::forget`) instead of published.
     OpenReservation = 0x66,
     /// Acknowledge the error first.
     StillStopped = 0x70,
@@ -158,7 +161,7 @@ impl fmt::Display for Error {
                 &mut length,
             )
         };
-        match std::str::from_utf8(&buffer[..length]) {
+        match core::str::from_utf8(&buffer[..length]) {
             Ok(text) if status == 0 => f.write_str(text),
             _ => write!(f, "status {:#x}", self.status()),
         }
@@ -171,8 +174,8 @@ impl fmt::Display for Illegal {
     }
 }
 
-impl std::error::Error for Error {}
-impl std::error::Error for Illegal {}
+impl core::error::Error for Error {}
+impl core::error::Error for Illegal {}
 
 /// `Ok` for the status 0.
 pub(crate) fn done(status: u32) -> Result<(), Error> {

@@ -2,6 +2,7 @@
 use crate::error::{done, Error};
 use crate::handle::Owned;
 use crate::{sys, Command, Remedy, Sender};
+use alloc::vec::Vec;
 
 /// A ring as [`crate::ring`] makes it, with a forwarder in place of the engine, for a hardware queue of `2^queue_log2` slots
 /// that is new: SMMU_CMDQ_PROD and SMMU_CMDQ_CONS are 0, and CMDQ_ERR of SMMU_GERROR and SMMU_GERRORN too. `BadField` if

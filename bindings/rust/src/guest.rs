@@ -2,6 +2,8 @@
 use crate::error::{done, listed, Error, Illegal};
 use crate::handle::Owned;
 use crate::{sys, Command, IdRegisters};
+use alloc::vec;
+use alloc::vec::Vec;
 
 /// A stream of a guest that is this one of the host.
 #[derive(Clone, Copy, Debug, PartialEq, Eq)]

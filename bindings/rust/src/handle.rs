@@ -1,5 +1,6 @@
 // SPDX-License-Identifier: MIT OR Apache-2.0
 use crate::sys::{self, Handle};
+use alloc::vec::Vec;
 
 /// A handle of the library, freed at its end. It is moved and never copied, and every call takes `&mut`: so there is one
 /// handle of each object and one call at a time on it, which is what the header asks of a C caller.

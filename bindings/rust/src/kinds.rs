@@ -1,5 +1,5 @@
 // SPDX-License-Identifier: MIT OR Apache-2.0
-use std::ops::BitOr;
+use core::ops::BitOr;
 
 /// Kinds of entries, as `Kinds::STAGE1 | Kinds::STAGE2`.
 #[derive(Clone, Copy, Debug, PartialEq, Eq)]

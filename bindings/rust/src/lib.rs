@@ -9,7 +9,7 @@
 //!   and [`forwarder_ring`] one whose commands a hardware queue gets.
 //! - [`IdRegisters::invalidation`] makes the commands for what a driver changed, and [`Guest`] those for what its guest sends.
 //!
-//! The contracts are those of the header, which has more calls than are wrapped here. No call may be made from a signal
+//! The contracts are those of the header. No call may be made from a signal
 //! handler, nor from the forked child of a process with threads: no type can keep that.
 //!
 //! ```
@@ -23,11 +23,16 @@
 //! assert_eq!(unit.lookup(page)?, None);
 //! # Ok::<(), smmuq::Error>(())
 //! ```
+#![no_std]
+
+extern crate alloc;
+
 mod caches;
 mod change;
 mod command;
 mod consumer;
 mod error;
+mod fields;
 mod forwarder;
 mod guest;
 mod handle;
@@ -44,6 +49,7 @@ pub use change::{Bytes, Change, Changed, Granule, IdRegisters, Pages};
 pub use command::{Batch, Command};
 pub use consumer::{consumer_ring, Completed, Consumer, Ready, Taken};
 pub use error::{Error, Illegal};
+pub use fields::{ByAddress, Fields, Range};
 pub use forwarder::{forwarder_ring, Forwarded, Forwarder, Hardware, Outcome, Polled};
 pub use guest::{ConversionEnd, Converted, Guest, GuestStream};
 pub use kinds::Kinds;

@@ -1,7 +1,7 @@
 // SPDX-License-Identifier: MIT OR Apache-2.0
 use crate::error::Illegal;
 use crate::{sys, Command};
-use std::ops::RangeInclusive;
+use core::ops::RangeInclusive;
 
 /// Whose stage 1 translations, or whose of the hypervisor.
 #[derive(Clone, Copy, Debug, PartialEq, Eq)]

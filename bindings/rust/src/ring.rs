@@ -4,6 +4,7 @@ use crate::error::{done, Error, Illegal};
 use crate::handle::Owned;
 pub use crate::sys::{Completion, Control, QueueRegisters};
 use crate::{sys, Batch};
+use alloc::vec::Vec;
 
 /// A ring of 2^`log2` slots for `senders` threads, each of which may send `max_batches` batches, and an engine whose caches
 /// hold `capacity` entries. `BadCapacity`, `BadSize`, `BadSenders`, `BadBatches`, `RingNoMemory`, `NoMemory`.
@@ -132,7 +133,7 @@ pub struct Reservation<'a> {
 impl Reservation<'_> {
     /// Writes the commands, hands them over, and tells the number of the CMD_SYNC.
     pub fn publish(self) -> Result<u32, Error> {
-        let mut reservation = std::mem::ManuallyDrop::new(self);
+        let mut reservation = core::mem::ManuallyDrop::new(self);
         reservation.hand_over()
     }
 

@@ -1,5 +1,5 @@
 // SPDX-License-Identifier: MIT OR Apache-2.0
-use std::ops::BitOr;
+use core::ops::BitOr;
 
 /// Whose translations an address is looked up in.
 #[derive(Clone, Copy, Debug, PartialEq, Eq)]

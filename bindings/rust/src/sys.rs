@@ -15,6 +15,33 @@ impl Handle {
     };
 }
 
+/// `smmuq_fields`.
+#[repr(C)]
+#[derive(Clone, Copy, Default)]
+pub struct Fields {
+    pub opcode: u32,
+    pub sid: u32,
+    pub ssid: u32,
+    pub vmid: u32,
+    pub asid: u32,
+    pub leaf: u32,
+    pub tg: u32,
+    pub num: u32,
+    pub scale: u32,
+    pub ttl: u32,
+    pub ssv: u32,
+    pub global: u32,
+    pub size: u32,
+    pub cs: u32,
+    pub msh: u32,
+    pub attr: u32,
+    pub data: u32,
+    pub unused: u32,
+    pub address: u64,
+    pub lo: u64,
+    pub hi: u64,
+}
+
 /// `smmuq_tag`.
 #[repr(C)]
 #[derive(Clone, Copy, Default)]
@@ -238,6 +265,17 @@ unsafe extern "C" {
     pub fn smmuq_version() -> u32;
     pub fn smmuq_check(lo: u64, hi: u64) -> u32;
     pub fn smmuq_check_for(idr0: u32, idr1: u32, idr3: u32, idr5: u32, lo: u64, hi: u64) -> u32;
+    pub fn smmuq_decode(lo: u64, hi: u64, fields: *mut Fields) -> u32;
+    pub fn smmuq_encode(fields: *const Fields, command: *mut Command) -> u32;
+    pub fn smmuq_range(
+        vmid: u32,
+        asid: u32,
+        address: u64,
+        pages: u64,
+        buffer: *mut Command,
+        length: usize,
+        count: *mut usize,
+    ) -> u32;
     pub fn smmuq_region(lo: u64, hi: u64, reached: *mut Reached) -> u32;
     pub fn smmuq_invalidation(
         idr0: u32,

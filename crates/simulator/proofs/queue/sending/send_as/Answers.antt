@@ -1,9 +1,10 @@
 use Rattle.std.proofs.Common.{◌≡◌, ℕ, [], ◌++◌, ap, ap₂, ◌∙◌, sym, Option, Result, Ok, Err}
-use Rattle.ring.specs.Runs.{Run}
+use Rattle.ring.specs.Runs.{Ring}
+use Rattle.ring.specs.Rings.{RingValue}
 use Rattle.ring.specs.declared.sender.cause.Cause.{Cause}
 use Rattle.ring.specs.sender.Senders.{SenderValue}
 use Rattle.ring.specs.sender.Reservations.{ReservationValue, reserved_number}
-use Rattle.ring.specs.sender.Publishing.{handing_over}
+use Rattle.ring.specs.sender.Publishing.{handing_over, published}
 use Rattle.simulator.specs.queue.{Ran, IsTriedInVain, sent_by}
 use Rattle.simulator.proofs.SeatLemmas.{IsCall, is_call}
 use Rattle.simulator.proofs.Trying.{in_vain, sent_well, sent_in_vain}
@@ -26,14 +27,17 @@ known g c = is_call c.args.idle.sender c.hand_over-sender.result.number c.hand_o
     c.lend_sender-sender.ensures.keeper (its_own g c) c.take_sender-idle.ensures.keeper c.take_sender-idle.ensures.adds c.run_stands.ensures c.take_sender-idle.ensures.others
 
 -- From nothing written on, all of it is.
+from_nothing : (r : ReservationValue) (made : Ring) → r.ring.made_with ≡ made → r.written ≡ 0 → r.flipped ≡ 0 → (published r).trail ≡ handing_over made.geometry r.trail 0 0 ++ r.trail
+from_nothing r made of_ring unwritten unflipped = λ k. handing_over (of_ring k).geometry r.trail (unwritten k) (unflipped k) ++ r.trail
+
 handed : (g : Over) (c : goal.After-run_stands g)
     → c.hand_over-sender.result.trail ≡ handing_over c.args.keeper.now.ring.made_with.geometry c.in-Ok.reservation.trail 0 0 ++ c.in-Ok.reservation.trail
 handed g c =
     let opened = c.in-Ok.ensures.reserved.won.trail_is in
-    let r = c.in-Ok.reservation in
     ap (λ (t : SenderValue). t.trail) c.hand_over-sender.ensures.sender
-    ∙ ap₂ (λ (w f : ℕ). handing_over r.ring.made_with.geometry r.trail w f ++ r.trail) (ap (λ (q : ReservationValue). q.written) opened) (ap (λ (q : ReservationValue). q.flipped) opened)
-    ∙ ap (λ ring. handing_over ring.made_with.geometry r.trail 0 0 ++ r.trail) (c.in-Ok.ensures.opened.ring_is ∙ ap (λ (u : SenderValue). u.ring) c.lend_sender-sender.ensures.sender)
+    ∙ from_nothing c.in-Ok.reservation c.args.keeper.now.ring.made_with
+        (ap (λ (ring : RingValue). ring.made_with) (c.in-Ok.ensures.opened.ring_is ∙ ap (λ (u : SenderValue). u.ring) c.lend_sender-sender.ensures.sender))
+        (ap (λ (q : ReservationValue). q.written) opened) (ap (λ (q : ReservationValue). q.flipped) opened)
 
 sent : (g : Over) (c : goal.After-run_stands g)
     → sent_by c.args.keeper.now.ring.made_with c.args.idle.sender c.args.batch g.K.BatchKind.closes c.args.keeper.now.run ≡ record { answer = Ok (reserved_number c.in-Ok.reservation.trail); run = c.take_sender-idle.new.self.run }
