@@ -1,6 +1,6 @@
 /* SPDX-License-Identifier: MIT OR Apache-2.0 */
 /* What a caller can do wrong, and what it is told: each call here is refused, and nothing is changed by it. What nothing
- * tells of, a copied handle or two threads on one handle, docs/C.md lists; smmuq_enter makes the second a refusal.
+ * tells of, a copied handle or two threads on one handle, the head of smmuq.h lists; smmuq_enter makes the second a refusal.
  */
 #include "smmuq.h"
 

@@ -70,7 +70,7 @@ fn a_driver_unmaps_pages(rt: HostRuntime) -> Result<(), RingFault> {
     assert!(rt; sender.is_done(&ring, &receipt));
     assert!(rt; engine.lookup(&tag).is_none());
 
-    // Both go on. Of all that this sender was ever told the witness says that it is true of the caches as they are now.
+    // Both go on. Every completion that this sender saw holds of the caches as they are now.
     engine.told(&ring, &mut sender);
 
     // At the end all parts come together.

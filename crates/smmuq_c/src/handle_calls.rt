@@ -30,7 +30,8 @@ fn is_reservation(object: &Object) -> bool
     matches!(object, Object::Reservation(_))
 }
 
-/// Returns 0 for an empty handle, 1 for a unit, 2 for a sender, 3 for an engine, 4 for a consumer, 5 for a guest.
+/// Returns 0 for an empty handle, 1 for a unit, 2 for a sender, 3 for an engine, 4 for a consumer, 5 for a guest,
+/// 6 for a forwarder.
 #[unsafe(no_mangle)]
 pub extern "C" fn smmuq_kind(handle: &mut Handle) -> u32
     ensures kind { result ≡ kind_in handle.old.object }

@@ -36,8 +36,8 @@ handed g c =
     let opened = c.in-Ok.ensures.reserved.won.trail_is in
     ap (λ (t : SenderValue). t.trail) c.hand_over-sender.ensures.sender
     ∙ from_nothing c.in-Ok.reservation c.args.keeper.now.ring.made_with
-        (ap (λ (ring : RingValue). ring.made_with) (c.in-Ok.ensures.opened.ring_is ∙ ap (λ (u : SenderValue). u.ring) c.lend_sender-sender.ensures.sender))
-        (ap (λ (q : ReservationValue). q.written) opened) (ap (λ (q : ReservationValue). q.flipped) opened)
+    (ap (λ (ring : RingValue). ring.made_with) (c.in-Ok.ensures.opened.ring_is ∙ ap (λ (u : SenderValue). u.ring) c.lend_sender-sender.ensures.sender))
+    (ap (λ (q : ReservationValue). q.written) opened) (ap (λ (q : ReservationValue). q.flipped) opened)
 
 sent : (g : Over) (c : goal.After-run_stands g)
     → sent_by c.args.keeper.now.ring.made_with c.args.idle.sender c.args.batch g.K.BatchKind.closes c.args.keeper.now.run ≡ record { answer = Ok (reserved_number c.in-Ok.reservation.trail); run = c.take_sender-idle.new.self.run }
