@@ -131,7 +131,7 @@ fn what_is_no_command() {
         assert_eq!(refused, Err(Error::BadField), "{at:?}");
     }
     let other = Fields::Other(Command::new(0x03, 0));
-    assert_eq!(Command::try_from(other).map(|command| command.lo), Ok(0x03));
+    assert_eq!(Command::try_from(other), Err(Error::BadField));
     assert_eq!(Command::new(0xff, 0).fields(), Err(Illegal::Opcode));
 }
 
