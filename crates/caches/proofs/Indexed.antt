@@ -110,10 +110,10 @@ module _ (shift : ℕ) where
     unset_indexed slots is past = λ j within. stays j _ (λ same. absurd (omega (arith, past, within, same))) (is j within)
 
   -- ---- an entry is put in
-  module _ (m n : BTreeMap Key Entry) (noted : Noted) (was : Option Entry) (found : was ≡ get key_cmp m noted.rank) (put : n.entries ≡ insert_entry key_cmp m.entries noted.rank (entry_of noted)) (stay : IsSome was → keys n ≡ keys m) where
+  module _ (m n : BTreeMap Key Entry) (noted : Noted) (was : Option Entry) (found : was ≡ get key_cmp m noted.rank) (put : was ≡ None → n.entries ≡ insert_entry key_cmp m.entries noted.rank (entry_of noted)) (stay : IsSome was → keys n ≡ keys m) where
     put_counts : (j : ℕ) → sharing key_cmp shift n j ≡ sharing key_cmp shift m j + cond (is_none was) (one_if (slot_of shift noted.rank == j)) 0
     put_counts j = elim was as (λ o. was ≡ o → sharing key_cmp shift n j ≡ sharing key_cmp shift m j + cond (is_none o) (one_if (slot_of shift noted.rank == j)) 0) [
-      | None ↦ λ none. ap (λ es. count_by (λ (key : Key). slot_of shift key == j) (map {A = Key × Entry} (λ e. e.0) es)) put ∙ count_inserted (λ key. slot_of shift key == j) m.entries noted.rank (entry_of noted) (ap is_some (sym found ∙ none))
+      | None ↦ λ none. ap (λ es. count_by (λ (key : Key). slot_of shift key == j) (map {A = Key × Entry} (λ e. e.0) es)) (put none) ∙ count_inserted (λ key. slot_of shift key == j) m.entries noted.rank (entry_of noted) (ap is_some (sym found ∙ none))
       | Some x ↦ λ some. ap (count_by (λ (key : Key). slot_of shift key == j)) (stay (ap is_some some)) ∙ omega arith
     ] refl
 

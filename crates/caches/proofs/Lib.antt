@@ -1,6 +1,7 @@
 pub mod Ahead
 pub mod Aligned
 pub mod Back
+pub mod Begun
 pub mod Crossing
 pub mod EntryMaps
 pub mod EntryTests

@@ -42,7 +42,7 @@ before_is Less e = refl
 before_is Equal e = cc
 before_is Greater e = cc
 
-none_some : {X : Type 0} (o : Option X) → o ≡ None → IsSome o → ⊥
+pub none_some : {X : Type 0} (o : Option X) → o ≡ None → IsSome o → ⊥
 none_some None e s = cc
 none_some (Some x) e s = cc
 

@@ -2,8 +2,8 @@
 use Rattle.std.specs.Prelude.{◌==◌, Bool, false}
 use Rattle.caches.specs.declared.tag.Tag.{Tag}
 use Rattle.caches.specs.declared.tag.Tag.TheVariants.{Ste, Cd, S1, S2, Atc}
-use Rattle.caches.specs.declared.owner_tests.OfStream.{OfStream}
-use Rattle.caches.specs.declared.owner_tests.OfMachine.{OfMachine}
+use Rattle.caches.specs.declared.tag_owner.OfStream.{OfStream}
+use Rattle.caches.specs.declared.tag_owner.OfMachine.{OfMachine}
 
 -- its stream table entry, its context descriptors, and its endpoint's translations of any substream or none
 abbrev pub is_of_stream : OfStream → Tag → Bool

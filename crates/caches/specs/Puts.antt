@@ -1,8 +1,9 @@
--- Putting an entry into the ordered map.
-use Rattle.std.specs.Prelude.{◌≡◌, Option, Some, None, Result}
+-- Putting an entry into the ordered map, and taking one out.
+use Rattle.std.specs.Prelude.{◌≡◌, ◌+◌, if◌then◌else◌, Option, Some, None, is_some, Result}
 use Rattle.std.specs.Result.{MatchResult}
 use Rattle.std.specs.declared.cmp.Ordering.{Ordering}
-use Rattle.std.specs.BTreeMap.{BTreeMap, get, Updates, IsUnchanged}
+use Rattle.std.specs.BTreeMap.{BTreeMap, get, is_at, btree_map_len, Updates, IsUnchanged}
+use Rattle.std.specs.Map.{remove_entry}
 use Rattle.caches.specs.declared.tag.Entry.{Entry}
 use Rattle.caches.specs.declared.key.Key.{Key}
 use Rattle.caches.specs.declared.fault.CacheFault.{CacheFault}
@@ -13,3 +14,9 @@ abbrev pub IsPut : (Key → Key → Ordering) → BTreeMap Key Entry → Key →
 IsPut cmp m key entry n result = MatchResult result
     (λ was. (was ≡ get cmp m key) × Updates cmp m n key (Some entry))
     (λ fault. (fault ≡ NoMemory) × IsUnchanged m n × (get cmp m key ≡ None))
+
+-- n is m without the key's entry, if it has one.
+pub record IsTakenOut (cmp : Key → Key → Ordering) (m : BTreeMap Key Entry) (key : Key) (n : BTreeMap Key Entry) : Type 0 where
+  pub updates : Updates cmp m n key None
+  pub entries : n.entries ≡ remove_entry (is_at (cmp key)) m.entries
+  pub len : btree_map_len n + (if is_some (get cmp m key) then 1 else 0) ≡ btree_map_len m

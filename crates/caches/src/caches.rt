@@ -224,6 +224,6 @@ impl Caches {
         ensures put { IsFilled self.old.entries entry self.new.entries result }
         ensures capacity { self.new.capacity ≡ self.old.capacity }
     {
-        self.held.put(entry)
+        self.held.put(self.alloc, entry)
     }
 }

@@ -5,6 +5,7 @@ ghost use Rattle.caches.specs.Unlisted.{unlisted};
 
 use crate::covering::covers;
 use crate::entry_map::is_among;
+use crate::held_entry::HeldEntry;
 use crate::rank::Rank;
 use crate::tag::Entry;
 use cmdcodec::Command;
@@ -13,7 +14,7 @@ use std::collections::BTreeMap;
 /// Writes the entries that `command` covers, but the listed ones, to the beginning of `room` as far as it reaches, and
 /// returns how many they are. One walk along the map; takes no memory.
 pub(crate) fn tell_covered(
-    map: &BTreeMap<Rank, Entry>,
+    map: &BTreeMap<Rank, HeldEntry>,
     removed: &[Rank],
     command: &Command,
     room: &mut [Entry],
@@ -23,7 +24,8 @@ pub(crate) fn tell_covered(
         result }
 {
     let mut count = 0;
-    for entry in map.values() {
+    for held in map.values() {
+        let entry = held.get();
         if covers(command, &entry.tag) && !is_among(removed, Rank::of(&entry.tag)) {
             if count < room.len() {
                 room[count] = *entry;

@@ -26,6 +26,7 @@ use crate::covered::tell_covered;
 use crate::entry_test::EntryTest;
 use crate::evicting::remove_passing;
 use crate::fault::CacheFault;
+use crate::held_entry::HeldEntry;
 use crate::indexed_map::IndexedMap;
 use crate::key::Key;
 use crate::one_page::{Holder, OnePage};
@@ -129,7 +130,11 @@ impl EntryMap {
             .map
             .ordered
             .values()
-            .copied()
+            .map(
+                |held: &HeldEntry| -> Entry
+                    ensures { result ≡ held.now }
+                { *held.get() },
+            )
             .collect::<Vec<Entry>>(alloc)
         {
             Ok(mut list) => {
@@ -142,7 +147,7 @@ impl EntryMap {
     }
 
     /// Puts an entry in under its tag, and returns the one that was there; C3 if memory runs out.
-    pub(crate) fn put(&mut self, entry: Entry) -> Result<Option<Entry>, CacheFault>
+    pub(crate) fn put(&mut self, alloc: Global, entry: Entry) -> Result<Option<Entry>, CacheFault>
         requires block { IsBlock entry.tag }
         requires room { finite.get self.old entry.tag ≡ None → finite.len self.old < most_entries }
         ensures { IsFilled self.old entry self.new result }
@@ -151,7 +156,7 @@ impl EntryMap {
         self.substreams = self.substreams || entry.tag.is_of_substream();
         let rank = Rank::of(&entry.tag);
         let was_removed = take_off(&mut self.removed, rank);
-        match self.map.put(rank, entry) {
+        match self.map.put(alloc, rank, entry) {
             Ok(was) => {
                 let held = unless_removed(was, was_removed);
                 if held.is_none() {

@@ -3,9 +3,9 @@ ghost use Rattle.std.specs.BTreeMap as tree;
 ghost use Rattle.caches.specs.Sweep.{IsNextPassing, IsRidOf};
 
 use crate::entry_test::EntryTest;
+use crate::held_entry::HeldEntry;
 use crate::indexed_map::IndexedMap;
 use crate::rank::Rank;
-use crate::tag::Entry;
 use std::collections::BTreeMap;
 use std::ops::Bound;
 
@@ -14,7 +14,7 @@ use std::ops::Bound;
 /// Not inlined: who removes what it finds needs no stack for the walk.
 #[inline(never)]
 fn next_passing<T: EntryTest>(
-    map: &BTreeMap<Rank, Entry>,
+    map: &BTreeMap<Rank, HeldEntry>,
     from: Bound<Rank>,
     test: &T,
 ) -> Option<Rank>
@@ -22,7 +22,7 @@ fn next_passing<T: EntryTest>(
 {
     let mut entries = map.range((from, Bound::Unbounded));
     while let Some((key, entry)) = entries.next() {
-        if test.evicts(entry) {
+        if test.evicts(entry.get()) {
             return Some(*key);
         }
     }

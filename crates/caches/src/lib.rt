@@ -31,19 +31,20 @@ mod entry_test;
 mod evicting;
 mod fault;
 mod finding;
+mod held_entry;
 mod indexed_map;
 mod key;
 mod kinds;
 mod laws;
 mod one_page;
 mod one_stream;
-mod owner_tests;
 mod ranges;
 mod rank;
 mod slot;
 mod spans;
 mod sweep;
 mod tag;
+mod tag_owner;
 mod tag_test;
 mod walk;
 
@@ -56,6 +57,6 @@ pub use laws::{
     held_is_what_stands, held_speaks_of_each_tag_once, meeting_is_to_share_a_page,
     ranges_cover_their_pages, uncovered_entries_stay, whole_spaces_are_covered,
 };
-pub use owner_tests::{OfMachine, OfStream};
 pub use tag::{Entry, Scope, Tag};
+pub use tag_owner::{OfMachine, OfStream};
 pub use tag_test::{Kind, TagTest};

@@ -49,42 +49,40 @@ impl Noted {
 }
 
 impl Slot {
-    /// Returns what is known once this entry is put into the map, as a new one or in place of one of the same rank.
-    pub(crate) fn put_in(self, noted: Noted, is_new: bool) -> Slot
-        requires counted { is_new ≡ false → 0 < size_of self }
-        requires few { size_of self < 2 ^ 63 }
-        ensures size { size_of result ≡ size_of self + (if is_new then 1 else 0) }
-        ensures noted { noted_in result ≡ Some noted }
+    /// Notes that this entry is put into the map, as a new one or in place of one of the same rank.
+    pub(crate) fn put_in(&mut self, noted: Noted, is_new: bool)
+        requires counted { is_new ≡ false → 0 < size_of self.old }
+        requires few { size_of self.old < 2 ^ 63 }
+        ensures size { size_of self.new ≡ size_of self.old + (if is_new then 1 else 0) }
+        ensures noted { noted_in self.new ≡ Some noted }
     {
         let before = match self {
-            Slot::Unnoted { all } => all,
-            Slot::Newest { others, .. } => others + 1,
+            Slot::Unnoted { all } => *all,
+            Slot::Newest { others, .. } => *others + 1,
         };
         let others = if is_new { before } else { before - 1 };
-        Slot::Newest { others, noted }
+        *self = Slot::Newest { others, noted };
     }
 
-    /// Returns what is known once the entry of this rank is taken out of the map.
-    pub(crate) fn taken_out(self, rank: Rank) -> Slot
-        requires counted { 0 < size_of self }
-        requires others { IfSome (noted_in self) (λ noted.
-            eq_by_cmp ⟦<Rank as Ord>⟧.cmp noted.rank rank ≡ false → 1 < size_of self) }
-        ensures size { size_of result + 1 ≡ size_of self }
-        ensures noted { noted_in result
+    /// Notes that the entry of this rank is taken out of the map.
+    pub(crate) fn take_out(&mut self, rank: Rank)
+        requires counted { 0 < size_of self.old }
+        requires others { IfSome (noted_in self.old) (λ noted.
+            eq_by_cmp ⟦<Rank as Ord>⟧.cmp noted.rank rank ≡ false → 1 < size_of self.old) }
+        ensures size { size_of self.new + 1 ≡ size_of self.old }
+        ensures noted { noted_in self.new
             ≡ option_and_then (λ noted.
             cond (eq_by_cmp ⟦<Rank as Ord>⟧.cmp noted.rank rank) None (Some noted))
-            (noted_in self) }
+            (noted_in self.old) }
     {
         match self {
-            Slot::Unnoted { all } => Slot::Unnoted { all: all - 1 },
+            Slot::Unnoted { all } => *all -= 1,
             Slot::Newest { others, noted } => {
                 if noted.rank == rank {
-                    Slot::Unnoted { all: others }
+                    let all = *others;
+                    *self = Slot::Unnoted { all };
                 } else {
-                    Slot::Newest {
-                        others: others - 1,
-                        noted,
-                    }
+                    *others -= 1;
                 }
             }
         }

@@ -6,9 +6,9 @@ ghost use Rattle.caches.specs.Keys.{covers_key};
 ghost use Rattle.caches.specs.Sweep.{IsNext, IsKeeping, is_swept};
 
 use crate::covering::covers;
+use crate::held_entry::HeldEntry;
 use crate::indexed_map::IndexedMap;
 use crate::rank::Rank;
-use crate::tag::Entry;
 use cmdcodec::Command;
 use std::collections::BTreeMap;
 use std::ops::Bound;
@@ -26,25 +26,25 @@ struct Covered {
 /// Not inlined: who removes what it finds needs no stack for the walk.
 #[inline(never)]
 fn next_covered(
-    map: &BTreeMap<Rank, Entry>,
-    from: Bound<Rank>,
+    map: &BTreeMap<Rank, HeldEntry>,
+    from: Rank,
     end: Rank,
     command: &Command,
 ) -> Option<Covered>
     requires keeping { IsKeeping ⟦<Rank as Ord>⟧.cmp map.now }
-    ensures next { IsNext ⟦<Rank as Ord>⟧.cmp (covers_key command.now) map.now from
-        (Bound.Excluded end) (option_map (λ found. found.key) result) }
+    ensures next { IsNext ⟦<Rank as Ord>⟧.cmp (covers_key command.now) map.now
+        (Bound.Included from) (Bound.Excluded end) (option_map (λ found. found.key) result) }
     ensures last { IfSome result (λ found. found.is_last ≡ true
         → IsNext ⟦<Rank as Ord>⟧.cmp (covers_key command.now) map.now (Bound.Excluded found.key)
         (Bound.Excluded end) None) }
 {
     // The loop tests for the end: a range with an end would search for that too.
-    let mut entries = map.range((from, Bound::Unbounded));
+    let mut entries = map.range(from..);
     while let Some((key, entry)) = entries.next() {
         if key.cmp(&end).is_ge() {
             return None;
         }
-        if covers(command, &entry.tag) {
+        if covers(command, &entry.get().tag) {
             let is_last = match entries.next() {
                 Some((next, _)) => next.cmp(&end).is_ge(),
                 None => true,
@@ -58,6 +58,9 @@ fn next_covered(
 /// Removes the covered entries with keys from `first` up to, but not including, `end`. Takes no memory.
 ///
 /// After each it searches the rest of the range, unless that is empty.
+///
+/// Not inlined: the other walks that `sweep_covered` calls need no stack for this one.
+#[inline(never)]
 pub(crate) fn remove_covered(map: &mut IndexedMap, first: Rank, end: Rank, command: &Command)
     requires keeping { IsKeeping ⟦<Rank as Ord>⟧.cmp map.old.ordered }
     ensures after { (q : Key)
@@ -65,12 +68,12 @@ pub(crate) fn remove_covered(map: &mut IndexedMap, first: Rank, end: Rank, comma
         ≡ cond (is_swept ⟦<Rank as Ord>⟧.cmp (covers_key command.now) (Bound.Included first)
         (Bound.Excluded end) q) None (tree.get ⟦<Rank as Ord>⟧.cmp map.old.ordered q) }
 {
-    let mut from = Bound::Included(first);
+    let mut from = first;
     while let Some(covered) = next_covered(&map.ordered, from, end, command) {
         map.remove(covered.key);
         if covered.is_last {
             return;
         }
-        from = Bound::Excluded(covered.key);
+        from = covered.key;
     }
 }

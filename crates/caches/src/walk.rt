@@ -7,10 +7,10 @@ ghost use Rattle.caches.specs.Sweep.{IsKeeping, IsPruned};
 ghost use Rattle.caches.specs.Walks.{IsWalked};
 
 use crate::covering::covers;
+use crate::held_entry::HeldEntry;
 use crate::indexed_map::IndexedMap;
 use crate::key::Owner;
 use crate::rank::Rank;
-use crate::tag::Entry;
 use cmdcodec::Command;
 use std::collections::BTreeMap;
 
@@ -32,7 +32,7 @@ enum Walked {
 /// Not inlined: who removes what it finds needs no stack for the walk.
 #[inline(never)]
 fn last_covered(
-    map: &BTreeMap<Rank, Entry>,
+    map: &BTreeMap<Rank, HeldEntry>,
     owner: Owner,
     first: u64,
     end: Rank,
@@ -53,7 +53,7 @@ fn last_covered(
         if key.block_end() <= first {
             return Walked::NoneFrom(key.page());
         }
-        if covers(command, &entry.tag) {
+        if covers(command, &entry.get().tag) {
             return Walked::Covered(*key);
         }
     }

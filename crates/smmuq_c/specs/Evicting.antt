@@ -1,7 +1,7 @@
 -- Evicting all entries whose tags are of some kinds, of a stream, or of a virtual machine.
 use Rattle.std.specs.Prelude.{◌≡◌, ◌<◌, ◌^◌, ℕ, Bool, Option, None, Some}
 use Rattle.caches.specs.declared.tag.Tag.{Tag}
-use Rattle.caches.specs.declared.owner_tests.OfMachine.{OfMachine}
+use Rattle.caches.specs.declared.tag_owner.OfMachine.{OfMachine}
 use Rattle.caches.specs.Kinds.{AreKindsOf, is_of_kinds}
 use Rattle.engine.specs.Units.{UnitValue, HasLost, HasLostOlder}
 use Rattle.caches.specs.OwnerTests.{is_of_stream, is_of_machine}

@@ -1,5 +1,6 @@
 -- What a stress run sends.
 use Rattle.std.specs.Prelude.{ℕ, zero, suc, ◌+◌, ◌-◌, ◌%◌, ◌≤◌, Bool, true, false, cond, not, min, ◌==◌, List, [], ◌∷◌, ◌++◌, Option, Some, None}
+use Rattle.std.specs.Option.{SomeIff}
 use Rattle.cmdcodec.specs.declared.raw.Raw.{Raw}
 use Rattle.cmdcodec.specs.declared.command.Command.{Command}
 use Rattle.cmdcodec.specs.declared.command.Command.TheVariants.{TlbiNhVa}
@@ -27,6 +28,14 @@ pub record IsPlan (plan : PlanValue) : Type 0 where
   pub some_turn : 1 ≤ plan.turns
   pub few_turns : plan.turns ≤ 10000000
   pub few_bare : plan.every ≤ 100000
+
+-- the plan of these numbers
+abbrev pub plan_of : ℕ → ℕ → ℕ → ℕ → ℕ → PlanValue
+plan_of log2 senders batches turns every = record { log2 = log2; senders = senders; batches = batches; turns = turns; every = every }
+
+-- It is this plan if its numbers are within their ranges, else none.
+abbrev pub PlansWithin : PlanValue → Option PlanValue → Type 0
+PlansWithin plan result = SomeIff result (IsPlan plan) plan
 
 -- ---- the batches
 

@@ -1,9 +1,8 @@
 //! What a run sends.
 ghost use Rattle.std.specs.Prelude.{◌≡◌, ◌<◌, ◌≤◌};
-ghost use Rattle.std.specs.Option.{SomeIff};
 ghost use Rattle.cmdcodec.specs.Words.{encoding};
 ghost use Rattle.qindex.specs.Positions.{size};
-ghost use Rattle.stress.specs.Plans.{PlanValue, IsPlan, body, body_length, closes, command, commands_to};
+ghost use Rattle.stress.specs.Plans.{PlanValue, IsPlan, PlansWithin, plan_of, body, body_length, closes, command, commands_to};
 
 use batch::Batch;
 use cmdcodec::{Asid, Command, Page, Reach, Vmid, encode};
@@ -37,24 +36,7 @@ impl Plan {
     /// Returns a plan in which each batch closes with a CMD_SYNC, or None if a number is out of range: log2 1 to 19, 1
     /// to 64 senders, 1 to 100,000 batches for each, 1 to 10,000,000 turns for each worker.
     pub fn new(log2: u32, senders: u32, batches: u32, turns: u32) -> Option<Plan>
-        ensures { SomeIff result
-            (IsPlan
-            (record {
-              log2 = log2;
-              senders = senders;
-              batches = batches;
-              turns = turns;
-              every =
-                  0;
-            }))
-            (record {
-              log2 = log2;
-              senders = senders;
-              batches = batches;
-              turns = turns;
-              every =
-                  0;
-            }) }
+        ensures { PlansWithin (plan_of log2 senders batches turns 0) result }
     {
         Plan::with_bare(log2, senders, batches, turns, 0)
     }
@@ -62,24 +44,7 @@ impl Plan {
     /// The same, but the last of each `every` batches of a sender has no CMD_SYNC; 0 to 100,000, and with 0 each batch
     /// has one.
     pub fn with_bare(log2: u32, senders: u32, batches: u32, turns: u32, every: u32) -> Option<Plan>
-        ensures { SomeIff result
-            (IsPlan
-            (record {
-              log2 = log2;
-              senders = senders;
-              batches = batches;
-              turns = turns;
-              every =
-                  every;
-            }))
-            (record {
-              log2 = log2;
-              senders = senders;
-              batches = batches;
-              turns = turns;
-              every =
-                  every;
-            }) }
+        ensures { PlansWithin (plan_of log2 senders batches turns every) result }
     {
         let ring = 1 <= log2 && log2 <= 19 && 1 <= senders && senders <= 64;
         let work = 1 <= batches && batches <= 100_000 && 1 <= turns && turns <= 10_000_000;

@@ -98,6 +98,9 @@ impl Tracking {
 
     /// A command was applied, behind so many that were taken: if it is an invalidation its words
     /// are kept, and those transactions are covered from now on that it concerns.
+    ///
+    /// Not inlined: who judges a command needs no stack for its fields meanwhile.
+    #[inline(never)]
     pub(crate) fn note(&mut self, place: u64, raw: Raw)
         requires legal { first_ill raw ≡ None }
         ensures noted { HasNoted place raw self.old self.new }

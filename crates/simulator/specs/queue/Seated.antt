@@ -1,5 +1,5 @@
 -- The queue by a keeper: what is left of each sender between two calls, and the result of a try to reserve.
-use Rattle.std.specs.Prelude.{◌≡◌, ℕ, ◌<◌, Bool, List, [], length, slice_index_or, None, Result, Ok, Err}
+use Rattle.std.specs.Prelude.{◌≡◌, ℕ, ◌<◌, Bool, List, [], length, slice_index_or, Option, None, Result, Ok, Err}
 use Rattle.ring.specs.Runs.{Raw, trail_of, Ring, Consumer, Sender}
 use Rattle.qindex.specs.Positions.{IndexValue}
 use Rattle.ring.specs.declared.sender.cause.Cause.{Cause}
@@ -10,7 +10,7 @@ use Rattle.ring.specs.Keepers.{KeeperValue, IdleReservationValue, KeepsOthers, I
 use Rattle.simulator.specs.declared.queue.reserved.Reserved.{Reserved}
 use Rattle.simulator.specs.declared.queue.Seat.{Seat}
 use Rattle.simulator.specs.declared.queue.Seat.TheVariants.{Idle, Open}
-use Rattle.simulator.specs.queue.Reserving.{Try, try_to_reserve}
+use Rattle.simulator.specs.queue.Reserving.{Try, try_to_reserve, sent_by}
 
 -- ---- one seat
 
@@ -61,6 +61,12 @@ pub record AreNew (senders : ℕ) (seats : List Seat) : Type 0 where
 
 -- ---- around a call
 
+-- A sender's seat may be lent: the keeper is the ring's and has all seats, and the sender is one of the ring's.
+pub record MayLend (ring : RingValue) (keeper : KeeperValue) (s : ℕ) : Type 0 where
+  pub ring_is : keeper.ring ≡ ring
+  pub whole : keeper.lent ≡ None
+  pub known : s < keeper.ring.made_with.senders
+
 -- A sender's seat was lent and is back: the ring stays, and so does what is left of the others.
 pub record IsBack (s : ℕ) (old new : KeeperValue) : Type 0 where
   pub ring_is : new.ring ≡ old.ring
@@ -99,3 +105,12 @@ pub record IsTriedInVain (old new : KeeperValue) (s : ℕ) (body : List Raw) (cl
 abbrev pub HasTried : KeeperValue → KeeperValue → ℕ → List Raw → Bool → Result IdleReservationValue (Tally × Cause) → Type 0
 HasTried old new s body closes (Ok idle) = IsTriedWell old new s body closes idle
 HasTried old new s body closes (Err refused) = IsTriedInVain old new s body closes refused.0 refused.1
+
+-- ---- the result of a try that is published at once
+
+-- The answer and the run are those of a try that is published at once, and the seat is back.
+pub record HasSent (old new : KeeperValue) (s : ℕ) (body : List Raw) (closes : Bool) (tally : Tally) (answer : Result (Option ℕ) Cause) : Type 0 where
+  pub run_is : new.run ≡ (sent_by old.ring.made_with s body closes old.run).run
+  pub answer_is : answer ≡ (sent_by old.ring.made_with s body closes old.run).answer
+  pub back : IsBack s old new
+  pub seat : IsIdleSeat new s tally

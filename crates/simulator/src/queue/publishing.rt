@@ -1,6 +1,6 @@
 //! Publishing an open reservation, by a sender whose seat the keeper lends.
-ghost use Rattle.std.specs.Prelude.{◌≡◌, ◌<◌, None};
-ghost use Rattle.simulator.specs.queue.{published, IsBack, IsIdleSeat, IsOpenSeat};
+ghost use Rattle.std.specs.Prelude.{◌≡◌};
+ghost use Rattle.simulator.specs.queue.{published, IsBack, IsIdleSeat, IsOpenSeat, MayLend};
 
 use batch::BorrowedBatch;
 use ring::{Bare, BatchKind, Closing, IdleReservation, IdleSender, Keeper, Ring};
@@ -12,9 +12,7 @@ pub(super) fn hand_over(
     idle: IdleReservation,
     batch: BorrowedBatch<'_>,
 ) -> IdleSender
-    requires ring { keeper.old.ring ≡ ring.now }
-    requires whole { keeper.old.lent ≡ None }
-    requires known { idle.tally.sender < keeper.old.ring.made_with.senders }
+    requires lends { MayLend ring.now keeper.old idle.tally.sender }
     requires open { IsOpenSeat keeper.old idle.tally.sender batch idle }
     ensures run { keeper.new.run
         ≡ published keeper.old.ring.made_with.geometry idle.tally.sender keeper.old.run }
@@ -35,9 +33,7 @@ fn publish_as<K: BatchKind>(
     idle: IdleReservation,
     batch: BorrowedBatch<'_>,
 ) -> IdleSender
-    requires ring { keeper.old.ring ≡ ring.now }
-    requires whole { keeper.old.lent ≡ None }
-    requires known { idle.tally.sender < keeper.old.ring.made_with.senders }
+    requires lends { MayLend ring.now keeper.old idle.tally.sender }
     requires closes { idle.closes ≡ K.closes }
     requires open { IsOpenSeat keeper.old idle.tally.sender batch idle }
     ensures run { keeper.new.run

@@ -1,7 +1,6 @@
 //! Trying to reserve a batch and publishing it, by a sender whose seat the keeper lends once.
-ghost use Rattle.std.specs.Prelude.{◌≡◌, ◌<◌, None};
 ghost use Rattle.ring.specs.Keepers.{IsIdleSender};
-ghost use Rattle.simulator.specs.queue.{IsBack, IsIdleSeat, sent_by};
+ghost use Rattle.simulator.specs.queue.{HasSent, MayLend};
 
 use batch::BorrowedBatch;
 use qindex::indexes_tell_the_queue;
@@ -17,16 +16,9 @@ pub(super) fn send_once(
     batch: BorrowedBatch<'_>,
     closes: bool,
 ) -> (IdleSender, Result<Option<u32>, Cause>)
-    requires ring { keeper.old.ring ≡ ring.now }
-    requires whole { keeper.old.lent ≡ None }
-    requires known { idle.sender < keeper.old.ring.made_with.senders }
+    requires lends { MayLend ring.now keeper.old idle.sender }
     requires idle { IsIdleSender keeper.old idle }
-    ensures run { keeper.new.run
-        ≡ (sent_by keeper.old.ring.made_with idle.sender batch.entry closes keeper.old.run).run }
-    ensures answer { result.1
-        ≡ (sent_by keeper.old.ring.made_with idle.sender batch.entry closes keeper.old.run).answer }
-    ensures back { IsBack idle.sender keeper.old keeper.new }
-    ensures seat { IsIdleSeat keeper.new idle.sender result.0 }
+    ensures { HasSent keeper.old keeper.new idle.sender batch.entry closes result.0 result.1 }
 {
     if closes {
         send_as::<Closing>(keeper, ring, idle, batch)
@@ -42,17 +34,9 @@ fn send_as<K: BatchKind>(
     idle: IdleSender,
     batch: BorrowedBatch<'_>,
 ) -> (IdleSender, Result<Option<u32>, Cause>)
-    requires ring { keeper.old.ring ≡ ring.now }
-    requires whole { keeper.old.lent ≡ None }
-    requires known { idle.sender < keeper.old.ring.made_with.senders }
+    requires lends { MayLend ring.now keeper.old idle.sender }
     requires idle { IsIdleSender keeper.old idle }
-    ensures run { keeper.new.run
-        ≡ (sent_by keeper.old.ring.made_with idle.sender batch.entry K.closes keeper.old.run).run }
-    ensures answer { result.1
-        ≡ (sent_by keeper.old.ring.made_with idle.sender batch.entry K.closes
-        keeper.old.run).answer }
-    ensures back { IsBack idle.sender keeper.old keeper.new }
-    ensures seat { IsIdleSeat keeper.new idle.sender result.0 }
+    ensures { HasSent keeper.old keeper.new idle.sender batch.entry K.closes result.0 result.1 }
 {
     world_law();
     indexes_tell_the_queue();

@@ -1,7 +1,6 @@
 //! Trying to reserve, by a sender whose seat the keeper lends.
-ghost use Rattle.std.specs.Prelude.{◌≡◌, ◌<◌, None};
 ghost use Rattle.ring.specs.Keepers.{IsIdleSender};
-ghost use Rattle.simulator.specs.queue.{IsBack, HasTried};
+ghost use Rattle.simulator.specs.queue.{HasTried, IsBack, MayLend};
 
 use batch::BorrowedBatch;
 use qindex::indexes_tell_the_queue;
@@ -16,9 +15,7 @@ pub(super) fn try_once(
     batch: BorrowedBatch<'_>,
     closes: bool,
 ) -> Result<IdleReservation, (IdleSender, Cause)>
-    requires ring { keeper.old.ring ≡ ring.now }
-    requires whole { keeper.old.lent ≡ None }
-    requires known { idle.sender < keeper.old.ring.made_with.senders }
+    requires lends { MayLend ring.now keeper.old idle.sender }
     requires idle { IsIdleSender keeper.old idle }
     ensures tried { HasTried keeper.old keeper.new idle.sender batch.entry closes result }
     ensures back { IsBack idle.sender keeper.old keeper.new }
@@ -37,9 +34,7 @@ fn try_as<K: BatchKind>(
     idle: IdleSender,
     batch: BorrowedBatch<'_>,
 ) -> Result<IdleReservation, (IdleSender, Cause)>
-    requires ring { keeper.old.ring ≡ ring.now }
-    requires whole { keeper.old.lent ≡ None }
-    requires known { idle.sender < keeper.old.ring.made_with.senders }
+    requires lends { MayLend ring.now keeper.old idle.sender }
     requires idle { IsIdleSender keeper.old idle }
     ensures tried { HasTried keeper.old keeper.new idle.sender batch.entry K.closes result }
     ensures back { IsBack idle.sender keeper.old keeper.new }

@@ -6,9 +6,9 @@ use Rattle.caches.proofs.Shuffled.{is_told}
 use Rattle.caches.proofs.Telling.{IsTelling}
 use Rattle.caches.proofs.covered.tell_covered.Given as goal
 
-abbrev pub invariant-loop-entry : goal.invariant-loop-entry
-invariant-loop-entry l = record {
-  telling : IsTelling (is_told l.command l.removed) (values l.map) l.fn.room l.entry-iterator l.room l.count;
-  well_formed : All (λ (e : Entry). IsBlock e.tag) l.entry-iterator;
-  few : l.count + length l.entry-iterator ≤ btree_map_len l.map;
+abbrev pub invariant-loop-held : goal.invariant-loop-held
+invariant-loop-held l = record {
+  telling : IsTelling (is_told l.command l.removed) (values l.map) l.fn.room l.held-iterator l.room l.count;
+  well_formed : All (λ (e : Entry). IsBlock e.tag) l.held-iterator;
+  few : l.count + length l.held-iterator ≤ btree_map_len l.map;
 }

@@ -27,14 +27,14 @@ loop-key-preserved g c =
     let p = g.T.EntryTest.evicted c.args.test.now in
     rest_more key_cmp (has_passing key_cmp p c.args.map.now) c.args.map.now c.args.from Unbounded key_total key_exact (c.in-Some.key.now, c.in-Some.entry.now) c.next.new.self
     (here p c.args.map.now c.args.from c.in-Some.key.now c.in-Some.entry.now c.next.new.self c.loop-key.entries c.in-Some.ensures.steps c.loop-key.invariant)
-    (by_key p c.args.map.now c.args.from c.in-Some.key.now c.in-Some.entry.now c.next.new.self c.loop-key.entries c.in-Some.ensures.steps c.loop-key.invariant ∙ sym c.evicts.ensures ∙ c.if-evicts.false)
+    (by_key p c.args.map.now c.args.from c.in-Some.key.now c.in-Some.entry.now c.next.new.self c.loop-key.entries c.in-Some.ensures.steps c.loop-key.invariant ∙ ap p (sym c.get.ensures) ∙ sym c.evicts.ensures ∙ c.if-evicts.false)
 
 pub returns-then-evicts : goal.returns-then-evicts
 returns-then-evicts g c =
     let p = g.T.EntryTest.evicted c.args.test.now in
     rest_found key_cmp (has_passing key_cmp p c.args.map.now) c.args.map.now c.args.from Unbounded key_total key_exact (c.in-Some.key.now, c.in-Some.entry.now) c.next.new.self
     (here p c.args.map.now c.args.from c.in-Some.key.now c.in-Some.entry.now c.next.new.self c.loop-key.entries c.in-Some.ensures.steps c.loop-key.invariant)
-    (by_key p c.args.map.now c.args.from c.in-Some.key.now c.in-Some.entry.now c.next.new.self c.loop-key.entries c.in-Some.ensures.steps c.loop-key.invariant ∙ sym c.evicts.ensures ∙ c.if-evicts.true)
+    (by_key p c.args.map.now c.args.from c.in-Some.key.now c.in-Some.entry.now c.next.new.self c.loop-key.entries c.in-Some.ensures.steps c.loop-key.invariant ∙ ap p (sym c.get.ensures) ∙ sym c.evicts.ensures ∙ c.if-evicts.true)
 
 pub returns : goal.returns
 returns g c =

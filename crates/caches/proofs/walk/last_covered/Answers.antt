@@ -98,17 +98,17 @@ returns-then-block_end-first c = rw c.page.ensures (ends_before c.args.command.n
 pub covers-requires : goal.covers-requires
 covers-requires c =
     let k = kept c.args.command.now c.args.map.now c.args.end c.args.owner c.args.first c.requires.keeping c.requires.own c.requires.reach c.in-Some.key.now c.in-Some.entry.now c.next_back.new.self c.loop-key.entries c.in-Some.ensures.steps c.loop-key.invariant in
-    subst IsBlock (sym k.own) k.well_formed
+    subst (λ (e : Entry). IsBlock e.tag) (sym c.get.ensures) (subst IsBlock (sym k.own) k.well_formed)
 
 pub returns-then-covers : goal.returns-then-covers
 returns-then-covers c = is_last c.args.command.now c.args.map.now c.args.end c.args.owner c.args.first c.requires.keeping c.requires.own c.requires.reach c.in-Some.key.now c.in-Some.entry.now c.next_back.new.self c.loop-key.entries c.in-Some.ensures.steps c.loop-key.invariant
-    (is_covered c.args.command.now c.args.map.now c.args.end c.args.owner c.args.first c.requires.keeping c.requires.own c.requires.reach c.in-Some.key.now c.in-Some.entry.now c.next_back.new.self c.loop-key.entries c.in-Some.ensures.steps c.loop-key.invariant ∙ sym c.covers.ensures ∙ c.if-covers.true)
+    (is_covered c.args.command.now c.args.map.now c.args.end c.args.owner c.args.first c.requires.keeping c.requires.own c.requires.reach c.in-Some.key.now c.in-Some.entry.now c.next_back.new.self c.loop-key.entries c.in-Some.ensures.steps c.loop-key.invariant ∙ ap (λ (e : Entry). covers c.args.command.now e.tag) (sym c.get.ensures) ∙ sym c.covers.ensures ∙ c.if-covers.true)
 
 pub loop-key-preserved : goal.loop-key-preserved
 loop-key-preserved c =
     front_more key_cmp (covers_key c.args.command.now) c.args.map.now c.args.end key_total key_exact c.next_back.new.self (c.in-Some.key.now, c.in-Some.entry.now)
     (here c.args.command.now c.args.map.now c.args.end c.args.owner c.args.first c.requires.keeping c.requires.own c.requires.reach c.in-Some.key.now c.in-Some.entry.now c.next_back.new.self c.loop-key.entries c.in-Some.ensures.steps c.loop-key.invariant)
-    (is_covered c.args.command.now c.args.map.now c.args.end c.args.owner c.args.first c.requires.keeping c.requires.own c.requires.reach c.in-Some.key.now c.in-Some.entry.now c.next_back.new.self c.loop-key.entries c.in-Some.ensures.steps c.loop-key.invariant ∙ sym c.covers.ensures ∙ c.if-covers.false)
+    (is_covered c.args.command.now c.args.map.now c.args.end c.args.owner c.args.first c.requires.keeping c.requires.own c.requires.reach c.in-Some.key.now c.in-Some.entry.now c.next_back.new.self c.loop-key.entries c.in-Some.ensures.steps c.loop-key.invariant ∙ ap (λ (e : Entry). covers c.args.command.now e.tag) (sym c.get.ensures) ∙ sym c.covers.ensures ∙ c.if-covers.false)
 
 pub returns : goal.returns
 returns c = all_looked_at c.args.command.now c.args.map.now c.args.end c.args.owner c.args.first c.requires.keeping c.requires.own c.requires.reach

@@ -1,5 +1,5 @@
 use Rattle.std.proofs.Common.{subst}
-use Rattle.caches.specs.declared.owner_tests.OfStream.{OfStream}
+use Rattle.caches.specs.declared.tag_owner.OfStream.{OfStream}
 use Rattle.caches.specs.OwnerTests.{is_of_stream}
 use Rattle.smmuq_c.specs.Calls.{OfAnyUnit}
 use Rattle.smmuq_c.specs.Evicting.{HasEvictedAll}

@@ -1,4 +1,4 @@
-use Rattle.std.proofs.Common.{◌≡◌, ◌∙◌, ◌<◌, ◌≤◌, ◌^◌, Bool, not, true, false, refl, sym, ap, subst, Some, is_some, length}
+use Rattle.std.proofs.Common.{◌≡◌, ◌∙◌, ◌<◌, ◌≤◌, ◌^◌, Bool, not, true, false, refl, sym, ap, subst, Some, None, is_some, length}
 use Rattle.std.specs.BTreeMap.{Updates, insert_entry}
 use Rattle.caches.specs.declared.slot.Noted.{Noted}
 use Rattle.caches.specs.Slots.{entry_of}
@@ -12,28 +12,28 @@ twice false = refl
 
 pub put_in-requires-clause-counted : goal.put_in-requires-clause-counted
 put_in-requires-clause-counted c = λ old.
-    let slot = slot_at c.args.self.now.shift c.args.self.now.ordered c.args.self.now.slots.items c.args.rank c.slot-place.result c.index.result.now c.args.self.now.indexed c.slot-place.ensures
-    (subst (λ n. c.slot-place.result < n) (c.len-in-Ok.ensures ∙ c.args.self.now.slots.ok.0) c.if-place-len.true) c.index.ensures in
-    counted c.args.self.now.shift c.args.self.now.ordered c.args.rank c.index.result.now slot (ap is_some (sym c.in-Ok.ensures.old) ∙ c.is_none.ensures ∙ ap not old)
+    let slot = slot_at c.args.self.now.shift c.args.self.now.ordered c.args.self.now.slots.items c.args.rank c.slot-place.result c.index_mut.result.now c.args.self.now.indexed c.slot-place.ensures
+    (subst (λ n. c.slot-place.result < n) (c.len-in-Ok.ensures ∙ c.args.self.now.slots.ok.0) c.if-place-len.true) c.index_mut.ensures.value in
+    counted c.args.self.now.shift c.args.self.now.ordered c.args.rank c.index_mut.result.now slot (ap is_some (sym c.in-Ok.ensures.put.0) ∙ c.is_none.ensures ∙ ap not old)
 
 pub put_in-requires-clause-few : goal.put_in-requires-clause-few
 put_in-requires-clause-few c =
-    let slot = slot_at c.args.self.now.shift c.args.self.now.ordered c.args.self.now.slots.items c.args.rank c.slot-place.result c.index.result.now c.args.self.now.indexed c.slot-place.ensures
-    (subst (λ n. c.slot-place.result < n) (c.len-in-Ok.ensures ∙ c.args.self.now.slots.ok.0) c.if-place-len.true) c.index.ensures in
-    few c.args.self.now.shift c.args.self.now.ordered c.args.rank c.index.result.now slot (subst (λ n. n < 2 ^ 63) c.len.ensures.len c.len.ensures.small)
+    let slot = slot_at c.args.self.now.shift c.args.self.now.ordered c.args.self.now.slots.items c.args.rank c.slot-place.result c.index_mut.result.now c.args.self.now.indexed c.slot-place.ensures
+    (subst (λ n. c.slot-place.result < n) (c.len-in-Ok.ensures ∙ c.args.self.now.slots.ok.0) c.if-place-len.true) c.index_mut.ensures.value in
+    few c.args.self.now.shift c.args.self.now.ordered c.args.rank c.index_mut.result.now slot (subst (λ n. n < 2 ^ 63) c.len.ensures.len c.len.ensures.small)
 
 pub invariant_of-self-clause-indexed : goal.invariant_of-self-clause-indexed
 invariant_of-self-clause-indexed c =
     let noted : Noted = record { rank = c.args.rank; value = c.args.entry.value; born = c.args.entry.born } in
     let same : c.args.entry ≡ entry_of noted = ap (λ tag. record { tag = tag; value = c.args.entry.value; born = c.args.entry.born }) c.requires in
-    put_at c.args.self.now.shift c.args.self.now.ordered c.insert.new.self noted c.in-Ok.was c.in-Ok.ensures.old (subst (λ e. c.insert.new.self.entries ≡ insert_entry key_cmp c.args.self.now.ordered.entries c.args.rank e) same c.in-Ok.ensures.entries) c.in-Ok.ensures.keys_stay
-    (subst (λ e. Updates key_cmp c.args.self.now.ordered c.insert.new.self c.args.rank (Some e)) same c.in-Ok.ensures.updates) c.args.self.now.slots.items c.slot-place.result c.index.result.now c.put_in.result c.is_none.result c.args.self.now.indexed c.slot-place.ensures
-    (subst (λ n. c.slot-place.result < n) (c.len-in-Ok.ensures ∙ c.args.self.now.slots.ok.0) c.if-place-len.true) c.index.ensures (twice c.is_none.result ∙ ap not (sym c.is_none.ensures)) c.put_in.ensures.size c.put_in.ensures.noted
+    put_at c.args.self.now.shift c.args.self.now.ordered c.put_in_order.new.ordered noted c.in-Ok.was c.in-Ok.ensures.put.0 (subst (λ e. c.in-Ok.was ≡ None → c.put_in_order.new.ordered.entries ≡ insert_entry key_cmp c.args.self.now.ordered.entries c.args.rank e) same c.in-Ok.ensures.entries) c.in-Ok.ensures.keys_stay
+    (subst (λ e. Updates key_cmp c.args.self.now.ordered c.put_in_order.new.ordered c.args.rank (Some e)) same c.in-Ok.ensures.put.1) c.args.self.now.slots.items c.slot-place.result c.index_mut.result.now c.put_in.new.self c.is_none.result c.args.self.now.indexed c.slot-place.ensures
+    (subst (λ n. c.slot-place.result < n) (c.len-in-Ok.ensures ∙ c.args.self.now.slots.ok.0) c.if-place-len.true) c.index_mut.ensures.value (twice c.is_none.result ∙ ap not (sym c.is_none.ensures)) c.put_in.ensures.size c.put_in.ensures.noted
 
 pub invariant_of-self-else-place-len-clause-indexed : goal.invariant_of-self-else-place-len-clause-indexed
 invariant_of-self-else-place-len-clause-indexed c =
     let noted : Noted = record { rank = c.args.rank; value = c.args.entry.value; born = c.args.entry.born } in
     let same : c.args.entry ≡ entry_of noted = ap (λ tag. record { tag = tag; value = c.args.entry.value; born = c.args.entry.born }) c.requires in
-    put_unset c.args.self.now.shift c.args.self.now.ordered c.insert.new.self noted c.in-Ok.was c.in-Ok.ensures.old (subst (λ e. c.insert.new.self.entries ≡ insert_entry key_cmp c.args.self.now.ordered.entries c.args.rank e) same c.in-Ok.ensures.entries) c.in-Ok.ensures.keys_stay
-    (subst (λ e. Updates key_cmp c.args.self.now.ordered c.insert.new.self c.args.rank (Some e)) same c.in-Ok.ensures.updates) c.args.self.now.slots.items c.args.self.now.indexed
+    put_unset c.args.self.now.shift c.args.self.now.ordered c.put_in_order.new.ordered noted c.in-Ok.was c.in-Ok.ensures.put.0 (subst (λ e. c.in-Ok.was ≡ None → c.put_in_order.new.ordered.entries ≡ insert_entry key_cmp c.args.self.now.ordered.entries c.args.rank e) same c.in-Ok.ensures.entries) c.in-Ok.ensures.keys_stay
+    (subst (λ e. Updates key_cmp c.args.self.now.ordered c.put_in_order.new.ordered c.args.rank (Some e)) same c.in-Ok.ensures.put.1) c.args.self.now.slots.items c.args.self.now.indexed
     (subst (λ i. length c.args.self.now.slots.items ≤ i) c.slot-place.ensures (subst (λ n. n ≤ c.slot-place.result) (c.len-in-Ok.ensures ∙ c.args.self.now.slots.ok.0) c.if-place-len.false))

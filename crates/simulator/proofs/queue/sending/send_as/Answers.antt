@@ -44,17 +44,13 @@ sent : (g : Over) (c : goal.After-run_stands g)
 sent g c = sent_well c.indexes_tell_the_queue.ensures.queue c.world_law.ensures.within c.args.keeper.now c.take_sender-idle.new.self c.args.idle.sender c.args.batch g.K.BatchKind.closes
     c.lend_sender-sender.result c.lend_sender-sender.ensures.sender c.in-Ok.reservation c.in-Ok.ensures.reserved c.hand_over-sender.result (known g c) (handed g c)
 
-pub returns-in-Ok-clause-run : goal.returns-in-Ok-clause-run
-returns-in-Ok-clause-run g c = ap (λ (sent : Sent). sent.run) (sym (sent g c))
-
-pub returns-in-Ok-clause-answer : goal.returns-in-Ok-clause-answer
-returns-in-Ok-clause-answer g c = ap Ok c.number-number.ensures ∙ ap (λ (sent : Sent). sent.answer) (sym (sent g c))
-
-pub returns-in-Ok-clause-back : goal.returns-in-Ok-clause-back
-returns-in-Ok-clause-back g c = (known g c).back
-
-pub returns-in-Ok-clause-seat : goal.returns-in-Ok-clause-seat
-returns-in-Ok-clause-seat g c = record { sender_is = c.take_sender-idle.ensures.number ∙ its_own g c; idle = c.take_sender-idle.ensures.idle }
+pub returns-in-Ok : goal.returns-in-Ok
+returns-in-Ok g c = record {
+  run_is = ap (λ (sent : Sent). sent.run) (sym (sent g c));
+  answer_is = ap Ok c.number-number.ensures ∙ ap (λ (sent : Sent). sent.answer) (sym (sent g c));
+  back = (known g c).back;
+  seat = record { sender_is = c.take_sender-idle.ensures.number ∙ its_own g c; idle = c.take_sender-idle.ensures.idle };
+}
 
 -- ---- it is refused
 
@@ -76,14 +72,10 @@ refused_so : (g : Over) (c : goal.After-run_stands-in-Err g)
 refused_so g c = sent_in_vain c.indexes_tell_the_queue.ensures.queue c.world_law.ensures.within c.args.keeper.now c.take_sender-idle-in-Err.new.self c.args.idle.sender c.args.batch g.K.BatchKind.closes
     c.lend_sender-sender.result c.lend_sender-sender.ensures.sender c.take_sender-idle-in-Err.result c.in-Err.refused.cause (tried g c)
 
-pub returns-in-Err-clause-run : goal.returns-in-Err-clause-run
-returns-in-Err-clause-run g c = ap (λ (sent : Sent). sent.run) (sym (refused_so g c))
-
-pub returns-in-Err-clause-answer : goal.returns-in-Err-clause-answer
-returns-in-Err-clause-answer g c = ap (λ (sent : Sent). sent.answer) (sym (refused_so g c))
-
-pub returns-in-Err-clause-back : goal.returns-in-Err-clause-back
-returns-in-Err-clause-back g c = (known_refused g c).back
-
-pub returns-in-Err-clause-seat : goal.returns-in-Err-clause-seat
-returns-in-Err-clause-seat g c = (tried g c).seat
+pub returns-in-Err : goal.returns-in-Err
+returns-in-Err g c = record {
+  run_is = ap (λ (sent : Sent). sent.run) (sym (refused_so g c));
+  answer_is = ap (λ (sent : Sent). sent.answer) (sym (refused_so g c));
+  back = (known_refused g c).back;
+  seat = (tried g c).seat;
+}
